@@ -1,0 +1,143 @@
+-- Points at which a path turns back or stands still, and points at which it goes straight on.
+use Rattle.std.proofs.Common.{◌≡◌, zero, suc, [], ◌∷◌, ℤ, pos, negsuc, ◌+ℤ◌, ◌-ℤ◌, ◌*ℤ◌, neg_ℤ, ◌<ℤ◌, ◌≤ℤ◌, refl, sym, ap, subst, ◌∙◌, arith, ◌⊎◌, inl, inr}
+use Rattle.std.proofs.lemmas.Int.{ints}
+use Rattle.i_shape_core.specs.Point.{Point, cross, dot, IsBack}
+use Rattle.i_shape_core.proofs.Polynomials.{Term, number, plus, times, minus, ring}
+use Rattle.i_shape_core.proofs.WholeNumbers.{zero_product, equal_of_difference, squares_not_negative, squares_zero, zero_of_positive, not_positive_of, add_zero}
+use Rattle.i_shape_core.proofs.Turns.{Place, coordinates, cross_term, dot_term, A, B, C, D, triangle, cross_reversed, dot_reversed, same_point, cross-same}
+
+-- the square of the way from a to b
+pub square : Point → Point → ℤ
+square a b = (b.x -ℤ a.x) *ℤ (b.x -ℤ a.x) +ℤ (b.y -ℤ a.y) *ℤ (b.y -ℤ a.y)
+
+abbrev square_term : Place → Place → Term
+square_term a b = plus (times (plus b.x (minus a.x)) (plus b.x (minus a.x))) (times (plus b.y (minus a.y)) (plus b.y (minus a.y)))
+
+pub square_at_least : (a b : Point) → pos 0 ≤ℤ square a b
+unfolding square
+square_at_least a b = squares_not_negative (b.x -ℤ a.x) (b.y -ℤ a.y)
+
+pub no_way : (a b : Point) → square a b ≡ pos 0 → a ≡ b
+unfolding square
+no_way a b e = let z = squares_zero (b.x -ℤ a.x) (b.y -ℤ a.y) e in
+    sym (same_point b a (equal_of_difference b.x a.x z.0) (equal_of_difference b.y a.y z.1))
+
+-- the two turn numbers of two ways, by their squares
+squares : (a b c : Point) → square a b *ℤ square b c ≡ cross a b c *ℤ cross a b c +ℤ dot a b c *ℤ dot a b c
+unfolding square cross dot
+squares a b c = ring (coordinates (a ∷ b ∷ c ∷ [])) (times (square_term A B) (square_term B C)) (plus (times (cross_term A B C) (cross_term A B C)) (times (dot_term A B C) (dot_term A B C))) refl
+
+dot-same : (a p : Point) → dot a p p ≡ pos 0
+unfolding dot
+dot-same a p = ring (coordinates (a ∷ p ∷ [])) (dot_term A B B) (number (pos 0)) refl
+
+dot_same-first : (a p : Point) → dot a a p ≡ pos 0
+unfolding dot
+dot_same-first a p = ring (coordinates (a ∷ p ∷ [])) (dot_term A A B) (number (pos 0)) refl
+
+pub cross_same-first : (a p : Point) → cross a a p ≡ pos 0
+unfolding cross
+cross_same-first a p = ring (coordinates (a ∷ p ∷ [])) (cross_term A A B) (number (pos 0)) refl
+
+sign : (d : ℤ) → d ≤ℤ pos 0 → (d ≡ pos 0) ⊎ (d <ℤ pos 0)
+sign (pos zero) h = inl refl
+sign (pos (suc n)) h = absurd (omega (arith, ints))
+sign (negsuc n) h = inr (omega (arith, ints))
+
+zeros_squared : (x y : ℤ) → x ≡ pos 0 → y ≡ pos 0 → x *ℤ x +ℤ y *ℤ y ≡ pos 0
+zeros_squared x y e f = rw (e, f) refl
+
+-- a path turns back where two points are one, or it reverses
+pub back_cases : (a b c : Point) → IsBack a b c → (a ≡ b) ⊎ ((b ≡ c) ⊎ ((cross a b c ≡ pos 0) × (dot a b c <ℤ pos 0)))
+back_cases a b c h = go (sign (dot a b c) h.1)
+  where
+    points : (square a b ≡ pos 0) ⊎ (square b c ≡ pos 0) → (a ≡ b) ⊎ ((b ≡ c) ⊎ ((cross a b c ≡ pos 0) × (dot a b c <ℤ pos 0)))
+    points (inl e) = inl (no_way a b e)
+    points (inr e) = inr (inl (no_way b c e))
+
+    go : (dot a b c ≡ pos 0) ⊎ (dot a b c <ℤ pos 0) → (a ≡ b) ⊎ ((b ≡ c) ⊎ ((cross a b c ≡ pos 0) × (dot a b c <ℤ pos 0)))
+    go (inr l) = inr (inr (h.0, l))
+    go (inl e) = points (zero_product (square a b) (square b c) (squares a b c ∙ zeros_squared (cross a b c) (dot a b c) h.0 e))
+
+pub back_from_cases : (a b c : Point) → (a ≡ b) ⊎ ((b ≡ c) ⊎ ((cross a b c ≡ pos 0) × (dot a b c <ℤ pos 0))) → IsBack a b c
+back_from_cases a b c (inl e) = subst (λ (q : Point). IsBack a q c) e (cross_same-first a c, at_most (dot a a c) (dot_same-first a c))
+  where
+    at_most : (d : ℤ) → d ≡ pos 0 → d ≤ℤ pos 0
+    at_most d e = omega (arith, ints)
+back_from_cases a b c (inr (inl e)) = subst (λ (q : Point). IsBack a b q) e (cross-same a b, at_most (dot a b b) (dot-same a b))
+  where
+    at_most : (d : ℤ) → d ≡ pos 0 → d ≤ℤ pos 0
+    at_most d e = omega (arith, ints)
+back_from_cases a b c (inr (inr h)) = (h.0, omega (arith, ints, h.1))
+
+-- ---- a straight point
+pub back_reversed : (a b c : Point) → IsBack c b a → IsBack a b c
+back_reversed a b c h = (zero_neg (cross a b c) (cross c b a) (cross_reversed a b c) h.0, subst (λ (d : ℤ). d ≤ℤ pos 0) (dot_reversed a b c) h.1)
+  where
+    zero_neg : (x y : ℤ) → y ≡ neg_ℤ x → y ≡ pos 0 → x ≡ pos 0
+    zero_neg x y e f = omega (arith, ints)
+
+pub straight_cross : (x a p b : Point) → square a p *ℤ cross x a b ≡ (square a p +ℤ dot a p b) *ℤ cross x a p +ℤ dot x a p *ℤ cross a p b
+unfolding square cross dot
+straight_cross x a p b = ring (coordinates (x ∷ a ∷ p ∷ b ∷ []))
+    (times (square_term B C) (cross_term A B D))
+    (plus (times (plus (square_term B C) (dot_term B C D)) (cross_term A B C)) (times (dot_term A B C) (cross_term B C D))) refl
+
+straight_dot : (x a p b : Point) → square a p *ℤ dot x a b ≡ (square a p +ℤ dot a p b) *ℤ dot x a p +ℤ neg_ℤ (cross x a p) *ℤ cross a p b
+unfolding square cross dot
+straight_dot x a p b = ring (coordinates (x ∷ a ∷ p ∷ b ∷ []))
+    (times (square_term B C) (dot_term A B D))
+    (plus (times (plus (square_term B C) (dot_term B C D)) (dot_term A B C)) (times (minus (cross_term A B C)) (cross_term B C D))) refl
+
+-- where a path goes straight on at p, and turns back at a without p, it turns back at a with p
+pub back_before_straight : (x a p b : Point) → cross a p b ≡ pos 0 → pos 0 <ℤ dot a p b → IsBack x a b → IsBack x a p
+back_before_straight x a p b e l h = (
+  zero_of_positive s (cross x a p) above (sym (drop_last (square a p *ℤ cross x a b) (s *ℤ cross x a p) (dot x a p) (cross a p b) (straight_cross x a p b) e) ∙ ap (λ (z : ℤ). square a p *ℤ z) h.0 ∙ times_zero (square a p)),
+  not_positive_of (square a p) s (dot x a b) (dot x a p) (square_at_least a p) above (drop_last (square a p *ℤ dot x a b) (s *ℤ dot x a p) (neg_ℤ (cross x a p)) (cross a p b) (straight_dot x a p b) e) h.1,
+)
+  where
+    s : ℤ
+    s = square a p +ℤ dot a p b
+
+    sum_above : (q d : ℤ) → pos 0 ≤ℤ q → pos 0 <ℤ d → pos 0 <ℤ (q +ℤ d)
+    sum_above q d f g = omega (arith, ints)
+
+    above : pos 0 <ℤ (square a p +ℤ dot a p b)
+    above = sum_above (square a p) (dot a p b) (square_at_least a p) l
+
+    times_zero : (a : ℤ) → a *ℤ pos 0 ≡ pos 0
+    times_zero a = omega (arith, ints)
+
+    drop_last : (u v w z : ℤ) → u ≡ v +ℤ w *ℤ z → z ≡ pos 0 → u ≡ v
+    drop_last u v w z f g = f ∙ ap (λ (t : ℤ). v +ℤ w *ℤ t) g ∙ ap (λ (t : ℤ). v +ℤ t) (times_zero w) ∙ add_zero v
+
+pub back_after_straight : (a p b y : Point) → cross a p b ≡ pos 0 → pos 0 <ℤ dot a p b → IsBack a b y → IsBack p b y
+back_after_straight a p b y e l h =
+    back_reversed p b y (back_before_straight y b p a (neg_zero (cross a p b) (cross b p a) (cross_reversed a p b) e) (subst (λ (d : ℤ). pos 0 <ℤ d) (sym (dot_reversed a p b)) l) (back_reversed y b a h))
+  where
+    neg_zero : (x y : ℤ) → y ≡ neg_ℤ x → x ≡ pos 0 → y ≡ pos 0
+    neg_zero x y e f = omega (arith, ints)
+
+-- ---- a triangle without area
+three_dots : (a b c : Point) → (dot a b c +ℤ dot b c a) +ℤ dot c a b +ℤ ((dot a b c +ℤ dot b c a) +ℤ dot c a b) ≡ neg_ℤ ((square a b +ℤ square b c) +ℤ square c a)
+unfolding square dot
+three_dots a b c = ring (coordinates (a ∷ b ∷ c ∷ []))
+    (plus (plus (plus (dot_term A B C) (dot_term B C A)) (dot_term C A B)) (plus (plus (dot_term A B C) (dot_term B C A)) (dot_term C A B)))
+    (minus (plus (plus (square_term A B) (square_term B C)) (square_term C A))) refl
+
+pub low_or_above : (d : ℤ) → (d ≤ℤ pos 0) ⊎ (pos 0 <ℤ d)
+low_or_above (pos zero) = inl (omega (arith, ints))
+low_or_above (pos (suc n)) = inr (omega (arith, ints))
+low_or_above (negsuc n) = inl (omega (arith, ints))
+
+pub flat_triangle : (a b c : Point) → cross a b c ≡ pos 0 → IsBack a b c ⊎ (IsBack b c a ⊎ IsBack c a b)
+flat_triangle a b c e = go (low_or_above (dot a b c)) (low_or_above (dot b c a)) (low_or_above (dot c a b))
+  where
+    none : (d f g p q r : ℤ) → pos 0 <ℤ d → pos 0 <ℤ f → pos 0 <ℤ g → pos 0 ≤ℤ p → pos 0 ≤ℤ q → pos 0 ≤ℤ r → (d +ℤ f) +ℤ g +ℤ ((d +ℤ f) +ℤ g) ≡ neg_ℤ ((p +ℤ q) +ℤ r) → ⊥
+    none d f g p q r h₁ h₂ h₃ h₄ h₅ h₆ e = omega (arith, ints)
+
+    go : (dot a b c ≤ℤ pos 0) ⊎ (pos 0 <ℤ dot a b c) → (dot b c a ≤ℤ pos 0) ⊎ (pos 0 <ℤ dot b c a) → (dot c a b ≤ℤ pos 0) ⊎ (pos 0 <ℤ dot c a b) → IsBack a b c ⊎ (IsBack b c a ⊎ IsBack c a b)
+    go (inl h) s t = inl (e, h)
+    go (inr h) (inl k) t = inr (inl (sym (triangle a b c) ∙ e, k))
+    go (inr h) (inr k) (inl m) = inr (inr (triangle c a b ∙ e, m))
+    go (inr h) (inr k) (inr m) = absurd (none _ _ _ _ _ _ h k m (square_at_least a b) (square_at_least b c) (square_at_least c a) (three_dots a b c))

@@ -1,0 +1,50 @@
+-- What a walk finds, and the answer that it gives.
+use Rattle.std.proofs.Common.{◌≡◌, ℕ, ◌-◌, ◌*◌, ◌<◌, ◌≤◌, ◌↔◌, List, [], ◌∷◌, length, Option, Some, None, sym, ◌∙◌, pos, ℤ, refl, arith}
+use Rattle.i_shape_core.specs.Point.{Point, IsZeroTurn}
+use Rattle.i_shape_core.specs.Contour.{Test, Reach, stay, IsCollapsed}
+use Rattle.i_shape_core.specs.Walk.{WalkAnswer}
+use Rattle.i_shape_core.specs.Edges.{shoelace, area_of_edge, Inside}
+use Rattle.i_shape_core.specs.Laws.{EveryOrder}
+use Rattle.i_shape_core.specs.Answers.{SimpleAnswer, KeptAnswer, VisitsAnswer, IsKept, IsFlat}
+use Rattle.i_shape_core.proofs.CycleLaws.{every_order}
+use Rattle.i_shape_core.proofs.Edges as edges
+use Rattle.i_shape_core.proofs.Inside.{inside_laws}
+use Rattle.i_shape_core.proofs.Polynomials.{ring, plus, number}
+use Rattle.i_shape_core.proofs.Turns.{coordinates, area_term, A, B}
+
+-- what is reached has the same double area and the same points inside
+pub kept : (c e : List Point) → Reach IsZeroTurn c e → IsKept c e
+kept c e r = record {
+  area = sym (edges.area_kept c e r);
+  inside = λ p. let same = (inside_laws c e).kept r p in (same.1, same.0);
+}
+
+-- fewer than three points have no area
+pub no_area : (d : List Point) → IsCollapsed d → shoelace d ≡ pos 0
+unfolding shoelace area_of_edge
+no_area [] h = refl
+no_area (a ∷ []) h = ring (coordinates (a ∷ [])) (plus (area_term A A) (number (pos 0))) (number (pos 0)) refl
+no_area (a ∷ b ∷ []) h = ring (coordinates (a ∷ b ∷ [])) (plus (area_term A B) (plus (area_term B A) (number (pos 0)))) (number (pos 0)) refl
+no_area (a ∷ b ∷ d ∷ ds) h = absurd (omega arith)
+
+pub flat : (c d : List Point) → Reach IsZeroTurn c d → IsCollapsed d → IsFlat c
+flat c d r h = record {
+  area = edges.area_kept c d r ∙ no_area d h;
+  inside = λ p i. (inside_laws d d).none h p (((inside_laws c d).kept r p).0 i);
+}
+
+pub simple_answer : (c : List Point) (r : Option (List Point)) (visits : ℕ) → WalkAnswer IsZeroTurn c r visits → SimpleAnswer c r
+simple_answer c None visits w = λ e f. (every_order c).none w.rest e w.reached w.few f
+simple_answer c (Some e) visits w = record { ended = w.ended; enough = w.enough; alone = λ f g. ((every_order c).some e f w.ended w.enough g).1 }
+
+pub kept_answer : (c : List Point) (r : Option (List Point)) (visits : ℕ) → WalkAnswer IsZeroTurn c r visits → KeptAnswer c r
+kept_answer c None visits w = flat c w.rest w.reached w.few
+kept_answer c (Some e) visits w = kept c e w.ended.reached
+
+pub visits_answer : (P : Test) (c : List Point) (r : Option (List Point)) (visits : ℕ) → WalkAnswer P c r visits → VisitsAnswer c r visits
+visits_answer P c None visits w = record { least = w.least; most = w.most }
+visits_answer P c (Some e) visits w = record { least = w.least; most = w.most }
+
+-- fewer than three points have collapsed before the first visit
+pub short_answer : (P : Test) (c : List Point) → length c < 3 → WalkAnswer P c None 0
+short_answer P c h = record { rest = c; reached = stay; few = h; least = omega arith; most = omega arith }

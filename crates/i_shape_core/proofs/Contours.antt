@@ -1,0 +1,54 @@
+-- Reading a contour of the program's points as a contour of points.
+use Rattle.std.proofs.Common.{◌≡◌, ◌↔◌, Bool, false, IsTrue, ℕ, suc, ◌+◌, ◌<◌, ◌≤◌, ℤ, List, [], ◌∷◌, length, drop, get_or, ap, subst, sym, ◌∙◌, arith, add-one}
+use Rattle.std.proofs.Math.Seq.{drop-cons}
+use Rattle.std.proofs.lemmas.List.{get_or-map, length-map, drop_all}
+use Rattle.std.proofs.lemmas.List.Elements.{All-get_or}
+use Rattle.std.specs.List.{All}
+use Rattle.std.specs.Int.{Width}
+use Rattle.i_shape_core.specs.Contour.{point_at}
+use Rattle.i_shape_core.specs.IntPoint.{point_of, contour_of, IsSafe}
+use Rattle.i_shape_core.specs.Point.{Point, origin}
+use Rattle.i_shape_core.specs.declared.point.IntPoint.{IntPoint}
+
+-- what reading place k of a slice gives
+pub read-point : {I : Type 0} (value : I → ℤ) (xs : List (IntPoint I)) (k : ℕ) (p : IntPoint I) → k < length xs → p ≡ get_or xs k p
+    → point_of value p ≡ point_at (contour_of value xs) k
+read-point value xs k p within read =
+    ap (point_of value) read ∙ sym (get_or-map (point_of value) xs k p origin within)
+
+pub length-contour : {I : Type 0} (value : I → ℤ) (xs : List (IntPoint I)) → length (contour_of value xs) ≡ length xs
+length-contour value xs = length-map xs (point_of value)
+
+pub safe-at : {I : Type 0} (w : Width) (value : I → ℤ) (xs : List (IntPoint I)) (k : ℕ) (d : IntPoint I) → All (IsSafe w) (contour_of value xs)
+    → k < length xs → IsSafe w (point_of value (get_or xs k d))
+safe-at w value xs k d safe within =
+    let e : get_or (contour_of value xs) k origin ≡ point_of value (get_or xs k d) = get_or-map (point_of value) xs k d origin within in
+    let long : k < length (contour_of value xs) = omega (arith, length-contour value xs) in
+    subst (IsSafe w) e (All-get_or (IsSafe w) (contour_of value xs) k origin long safe)
+
+pub read-safe : {I : Type 0} (w : Width) (value : I → ℤ) (xs : List (IntPoint I)) (k : ℕ) (p : IntPoint I) → All (IsSafe w) (contour_of value xs)
+    → k < length xs → p ≡ get_or xs k p → IsSafe w (point_of value p)
+read-safe w value xs k p safe within read =
+    let long : k < length (contour_of value xs) = omega (arith, length-contour value xs) in
+    subst (IsSafe w) (sym (read-point value xs k p within read)) (All-get_or (IsSafe w) (contour_of value xs) k origin long safe)
+
+-- a test that said no
+pub refuted : {P Q : Type 0} (b : Bool) → IsTrue b ↔ P → P ↔ Q → b ≡ false → ¬ Q
+refuted b tells same never q = let t : IsTrue b = tells.1 (same.1 q) in absurd (cc)
+
+-- equal coordinates are equal values
+pub points-same : {I : Type 0} (value : I → ℤ) → ((a b : I) → value a ≡ value b → a ≡ b) → (p q : IntPoint I)
+    → value p.x ≡ value q.x → value p.y ≡ value q.y → p ≡ q
+points-same {I} value one p q e f =
+    let in_x : (i : I) → IntPoint I = λ i. record { x = i; y = p.y } in
+    let in_y : (j : I) → IntPoint I = λ j. record { x = q.x; y = j } in
+    ap in_x (one p.x q.x e) ∙ ap in_y (one p.y q.y f)
+
+-- what is left of a contour at a place is the point there and the rest
+pub rest-read : {I : Type 0} (value : I → ℤ) (xs : List (IntPoint I)) (k : ℕ) (p : IntPoint I) → k < length xs → p ≡ get_or xs k p
+    → contour_of value (drop k xs) ≡ point_of value p ∷ contour_of value (drop (k + 1) xs)
+rest-read {I} value xs k p within read = rw (add-one k) (ap (contour_of value) (drop-cons xs k p within ∙ ap (λ (q : IntPoint I). q ∷ drop (suc k) xs) (sym read)))
+
+-- and nothing past the end
+pub rest-none : {I : Type 0} (value : I → ℤ) (xs : List (IntPoint I)) (k : ℕ) → length xs ≤ k → contour_of value (drop k xs) ≡ []
+rest-none value xs k past = ap (contour_of value) (drop_all k xs past)

@@ -1,0 +1,219 @@
+-- The removal of straight points keeps which way a contour turns.
+use Rattle.std.proofs.Common.{◌≡◌, ◌≢◌, ℕ, zero, suc, ◌+◌, ◌-◌, ◌<◌, List, length, remove, ℤ, pos, negsuc, ◌+ℤ◌, ◌*ℤ◌, neg_ℤ, ◌≤ℤ◌, ◌<ℤ◌, int_lt, T, refl, sym, ap, subst, ◌∙◌, arith, ◌⊎◌, inl, inr, ◌↔◌, true, false}
+use Rattle.std.proofs.lemmas.Int.{ints}
+use Rattle.std.proofs.lemmas.List.Edits.{length-remove}
+use Rattle.i_shape_core.specs.Point.{Point, cross, dot, IsZeroTurn}
+use Rattle.i_shape_core.specs.Contour.{point_at, place_before, place_after, IsRemovable, Step, Reach, stay, step}
+use Rattle.i_shape_core.specs.Convex.{turn_at, TurnsOneWay}
+use Rattle.i_shape_core.proofs.Turns.{cross_reversed, dot_reversed}
+use Rattle.i_shape_core.proofs.Back.{straight_cross, square, square_at_least, no_way, back_from_cases}
+use Rattle.i_shape_core.proofs.Survive.{HasNoBack, Follows, after_is, before_is, Stood, stood, stood_point, stood_within, follows_over, same_before, same_after, before_within, none_in_a_row, straight, one_neighbour, no_back_after_step}
+
+-- both are below 0 or none is, and both are above 0 or none is
+pub record Alike (x y : ℤ) : Type 0 where
+  pub below : int_lt x (pos 0) ≡ int_lt y (pos 0)
+  pub above : int_lt (pos 0) x ≡ int_lt (pos 0) y
+
+alike_same : (x y : ℤ) → x ≡ y → Alike x y
+alike_same x y e = record { below = ap (λ (z : ℤ). int_lt z (pos 0)) e; above = ap (λ (z : ℤ). int_lt (pos 0) z) e }
+
+alike_scaled : (u v x y : ℤ) → pos 0 <ℤ u → pos 0 <ℤ v → v *ℤ x ≡ u *ℤ y → Alike x y
+alike_scaled (pos zero) v x y h k e = absurd (omega (arith, ints))
+alike_scaled (negsuc u) v x y h k e = absurd (omega (arith, ints))
+alike_scaled (pos (suc u)) (pos zero) x y h k e = absurd (omega (arith, ints))
+alike_scaled (pos (suc u)) (negsuc v) x y h k e = absurd (omega (arith, ints))
+alike_scaled (pos (suc u)) (pos (suc v)) (pos zero) (pos zero) h k e = alike_same (pos 0) (pos 0) refl
+alike_scaled (pos (suc u)) (pos (suc v)) (pos zero) (pos (suc n)) h k e = absurd (omega (arith, ints))
+alike_scaled (pos (suc u)) (pos (suc v)) (pos (suc m)) (pos zero) h k e = absurd (omega (arith, ints))
+alike_scaled (pos (suc u)) (pos (suc v)) (pos (suc m)) (pos (suc n)) h k e = record { below = sym (f (suc m)) ∙ f (suc n); above = sym (t m) ∙ t n }
+  where
+    f : (n : ℕ) → false ≡ int_lt (pos n) (pos 0)
+    f n = omega (arith, ints)
+
+    t : (n : ℕ) → true ≡ int_lt (pos 0) (pos (suc n))
+    t n = omega (arith, ints)
+alike_scaled (pos (suc u)) (pos (suc v)) (pos m) (negsuc n) h k e = absurd (omega (arith, ints))
+alike_scaled (pos (suc u)) (pos (suc v)) (negsuc m) (pos n) h k e = absurd (omega (arith, ints))
+alike_scaled (pos (suc u)) (pos (suc v)) (negsuc m) (negsuc n) h k e = record { below = refl; above = refl }
+
+below_negated : (x : ℤ) → int_lt (neg_ℤ x) (pos 0) ≡ int_lt (pos 0) x
+below_negated (pos zero) = refl
+below_negated (pos (suc n)) = omega (arith, ints)
+below_negated (negsuc n) = sym (omega (arith, ints))
+
+above_negated : (x : ℤ) → int_lt (pos 0) (neg_ℤ x) ≡ int_lt x (pos 0)
+above_negated (pos zero) = refl
+above_negated (pos (suc n)) = omega (arith, ints)
+above_negated (negsuc n) = sym (omega (arith, ints))
+
+alike_negated : (x y x' y' : ℤ) → x' ≡ neg_ℤ x → y' ≡ neg_ℤ y → Alike x y → Alike x' y'
+alike_negated x y x' y' e f a = record {
+  below = ap (λ (z : ℤ). int_lt z (pos 0)) e ∙ below_negated x ∙ a.above ∙ sym (below_negated y) ∙ ap (λ (z : ℤ). int_lt z (pos 0)) (sym f);
+  above = ap (λ (z : ℤ). int_lt (pos 0) z) e ∙ above_negated x ∙ a.below ∙ sym (above_negated y) ∙ ap (λ (z : ℤ). int_lt (pos 0) z) (sym f);
+}
+
+-- without a straight point p after it, a turns the same way
+turn_before_straight : (x a p b : Point) → cross a p b ≡ pos 0 → pos 0 <ℤ dot a p b → (a ≡ p → ⊥) → Alike (cross x a b) (cross x a p)
+turn_before_straight x a p b e l apart = alike_scaled (square a p +ℤ dot a p b) (square a p) (cross x a b) (cross x a p)
+    (sum_above (square a p) (dot a p b) (square_at_least a p) l) (above (square a p) (square_at_least a p) (λ z. apart (no_way a p z)))
+    (drop_last (square a p *ℤ cross x a b) ((square a p +ℤ dot a p b) *ℤ cross x a p) (dot x a p) (cross a p b) (straight_cross x a p b) e)
+  where
+    sum_above : (q d : ℤ) → pos 0 ≤ℤ q → pos 0 <ℤ d → pos 0 <ℤ (q +ℤ d)
+    sum_above q d f g = omega (arith, ints)
+
+    above : (q : ℤ) → pos 0 ≤ℤ q → (q ≡ pos 0 → ⊥) → pos 0 <ℤ q
+    above q f g = omega (arith, ints)
+
+    times_zero : (v a : ℤ) → v +ℤ a *ℤ pos 0 ≡ v
+    times_zero v a = omega (arith, ints)
+
+    drop_last : (u v w z : ℤ) → u ≡ v +ℤ w *ℤ z → z ≡ pos 0 → u ≡ v
+    drop_last u v w z f g = f ∙ ap (λ (t : ℤ). v +ℤ w *ℤ t) g ∙ times_zero v w
+
+turn_after_straight : (a p b y : Point) → cross a p b ≡ pos 0 → pos 0 <ℤ dot a p b → (b ≡ p → ⊥) → Alike (cross a b y) (cross p b y)
+turn_after_straight a p b y e l apart = alike_negated (cross y b a) (cross y b p) (cross a b y) (cross p b y) (cross_reversed y b a) (cross_reversed y b p)
+    (turn_before_straight y b p a (neg_zero (cross a p b) (cross b p a) (cross_reversed a p b) e) (subst (λ (d : ℤ). pos 0 <ℤ d) (sym (dot_reversed a p b)) l) apart)
+  where
+    neg_zero : (x y : ℤ) → y ≡ neg_ℤ x → x ≡ pos 0 → y ≡ pos 0
+    neg_zero x y e f = omega (arith, ints)
+
+turn_in_a_row : (c : List Point) (q m s : ℕ) → q < length c → m < length c → Follows (length c) q m → Follows (length c) m s
+    → turn_at c m ≡ cross (point_at c q) (point_at c m) (point_at c s)
+unfolding turn_at
+turn_in_a_row c q m s i l Q S = rw (before, after) refl
+  where
+    before : place_before (length c) m ≡ q
+    before = same_before (length c) (place_before (length c) m) m q (before_within (length c) m l) i (before_is (length c) m l) Q
+
+    after : place_after (length c) m ≡ s
+    after = same_after (length c) m (place_after (length c) m) s (after_is (length c) m l) S
+
+-- with q, m, g, s and t as in `unblocked`
+turn_alike : (c : List Point) (k a m g q s t : ℕ) → HasNoBack c → IsRemovable IsZeroTurn c k → m < length c → q < length c
+    → Follows (length c) k a → Follows (length c) m s → Follows (length c) q t
+    → ((s ≡ k) × (g ≡ a)) ⊎ ((s ≢ k) × (g ≡ s)) → ((t ≡ k) × (m ≡ a)) ⊎ ((t ≢ k) × (m ≡ t))
+    → Alike (cross (point_at c q) (point_at c m) (point_at c g)) (turn_at c m)
+turn_alike c k a m g q s t h r in_m in_q A S R (inr x) (inr y) =
+    alike_same (cross (point_at c q) (point_at c m) (point_at c g)) (turn_at c m)
+    (ap (λ (i : ℕ). cross (point_at c q) (point_at c m) (point_at c i)) x.1
+    ∙ sym (turn_in_a_row c q m s in_q in_m (subst (λ (i : ℕ). Follows (length c) q i) (sym y.1) R) S))
+turn_alike c k a m g q s t h r in_m in_q A S R (inl x) (inr y) =
+    let K : Follows (length c) m k = subst (λ (i : ℕ). Follows (length c) m i) x.0 S in
+    let Q : Follows (length c) q m = subst (λ (i : ℕ). Follows (length c) q i) (sym y.1) R in
+    let z = straight c k m a h r in_m K A in
+    let w = turn_before_straight (point_at c q) (point_at c m) (point_at c k) (point_at c a) z.0 z.1
+    (λ e. none_in_a_row c h q m k in_q in_m Q K (back_from_cases (point_at c q) (point_at c m) (point_at c k) (inr (inl e)))) in
+    subst (λ (i : ℕ). Alike (cross (point_at c q) (point_at c m) (point_at c i)) (turn_at c m)) (sym x.1)
+    (subst (λ (v : ℤ). Alike (cross (point_at c q) (point_at c m) (point_at c a)) v) (sym (turn_in_a_row c q m k in_q in_m Q K)) w)
+turn_alike c k a m g q s t h r in_m in_q A S R (inr x) (inl y) =
+    let K : Follows (length c) q k = subst (λ (i : ℕ). Follows (length c) q i) y.0 R in
+    let L : Follows (length c) k m = subst (λ (i : ℕ). Follows (length c) k i) (sym y.1) A in
+    let z = straight c k q m h r in_q K L in
+    let w = turn_after_straight (point_at c q) (point_at c k) (point_at c m) (point_at c s) z.0 z.1
+    (λ e. none_in_a_row c h k m s r.within in_m L S (back_from_cases (point_at c k) (point_at c m) (point_at c s) (inl (sym e)))) in
+    subst (λ (i : ℕ). Alike (cross (point_at c q) (point_at c m) (point_at c i)) (turn_at c m)) (sym x.1)
+    (subst (λ (v : ℤ). Alike (cross (point_at c q) (point_at c m) (point_at c s)) v) (sym (turn_in_a_row c k m s r.within in_m L S)) w)
+turn_alike c k a m g q s t h r in_m in_q A S R (inl x) (inl y) =
+    absurd (one_neighbour (length c) k a m s q h.enough r.within in_m in_q A S (subst (λ (i : ℕ). Follows (length c) q i) y.0 R) x.0 y.1)
+
+-- a place that stays turns the same way
+turn_stays : (c : List Point) (k l j m : ℕ) → HasNoBack c → IsRemovable IsZeroTurn c k → l + 1 ≡ length c → j < l → Stood k j m
+    → Alike (cross (point_at (remove c k) (place_before l j)) (point_at (remove c k) j) (point_at (remove c k) (place_after l j))) (turn_at c m)
+turn_stays c k l j m h r e i M = go (stood k b) (stood k f)
+  where
+    b : ℕ
+    b = place_before l j
+
+    f : ℕ
+    f = place_after l j
+
+    go : (q : ℕ) × Stood k b q → (g : ℕ) × Stood k f g
+        → Alike (cross (point_at (remove c k) b) (point_at (remove c k) j) (point_at (remove c k) f)) (turn_at c m)
+    go (q, Q) (g, G) =
+        let in_m : m < length c = stood_within (length c) l k j m e i M in
+        let in_q : q < length c = stood_within (length c) l k b q e (before_within l j i) Q in
+        let A : Follows (length c) k (place_after (length c) k) = after_is (length c) k r.within in
+        let S : Follows (length c) m (place_after (length c) m) = after_is (length c) m in_m in
+        let R : Follows (length c) q (place_after (length c) q) = after_is (length c) q in_q in
+        rw (stood_point c k b q r.within Q, stood_point c k j m r.within M, stood_point c k f g r.within G)
+        (turn_alike c k (place_after (length c) k) m g q (place_after (length c) m) (place_after (length c) q) h r in_m in_q A S R
+        (follows_over (length c) l k (place_after (length c) k) j f m g (place_after (length c) m) e r.within i A (after_is l j i) M G S)
+        (follows_over (length c) l k (place_after (length c) k) b j q m (place_after (length c) q) e r.within (before_within l j i) A (before_is l j i) Q M R))
+
+turn_of_rest : (c : List Point) (k j m : ℕ) → HasNoBack c → IsRemovable IsZeroTurn c k → j < length (remove c k) → Stood k j m → Alike (turn_at (remove c k) j) (turn_at c m)
+unfolding turn_at
+turn_of_rest c k j m h r i M = turn_stays c k (length (remove c k)) j m h r (length-remove c k r.within) i M
+
+left_of : (x y : ℤ) → Alike x y → pos 0 <ℤ x → pos 0 <ℤ y
+left_of x y a h = record { lt = subst T a.above h.lt }
+
+right_of : (x y : ℤ) → Alike x y → x <ℤ pos 0 → y <ℤ pos 0
+right_of x y a h = record { lt = subst T a.below h.lt }
+
+alike_back : (x y : ℤ) → Alike x y → Alike y x
+alike_back x y a = record { below = sym a.below; above = sym a.above }
+
+one_way_of_rest : (c : List Point) (k : ℕ) → HasNoBack c → IsRemovable IsZeroTurn c k → TurnsOneWay c → TurnsOneWay (remove c k)
+one_way_of_rest c k h r w = record { one_way = λ i j in_i in_j left right. go i j in_i in_j left right (stood k i) (stood k j) }
+  where
+    shorter : length (remove c k) + 1 ≡ length c
+    shorter = length-remove c k r.within
+
+    go : (i j : ℕ) → i < length (remove c k) → j < length (remove c k) → pos 0 <ℤ turn_at (remove c k) i → turn_at (remove c k) j <ℤ pos 0
+        → (m : ℕ) × Stood k i m → (n : ℕ) × Stood k j n → ⊥
+    go i j in_i in_j left right (m, M) (n, N) = w.one_way m n (stood_within (length c) (length (remove c k)) k i m shorter in_i M) (stood_within (length c) (length (remove c k)) k j n shorter in_j N)
+        (left_of (turn_at (remove c k) i) (turn_at c m) (turn_of_rest c k i m h r in_i M) left)
+        (right_of (turn_at (remove c k) j) (turn_at c n) (turn_of_rest c k j n h r in_j N) right)
+
+-- where a place other than k stands without k
+stands : (n l k m : ℕ) → l + 1 ≡ n → k < n → m < n → m ≢ k → (j : ℕ) × (j < l) × Stood k j m
+stands n l k m e h i apart = go (cases m k apart)
+  where
+    cases : (m k : ℕ) → m ≢ k → (m < k) ⊎ (k < m)
+    cases m k h = grind arith
+
+    go : (m < k) ⊎ (k < m) → (j : ℕ) × (j < l) × Stood k j m
+    go (inl b) = (m, omega arith, inl (b, refl))
+    go (inr b) = (m - 1, omega arith, inr (omega arith, omega arith))
+
+zero_at : (c : List Point) (k : ℕ) → IsRemovable IsZeroTurn c k → turn_at c k ≡ pos 0
+unfolding turn_at
+zero_at c k r = r.passes
+
+one_way_before : (c : List Point) (k : ℕ) → HasNoBack c → IsRemovable IsZeroTurn c k → TurnsOneWay (remove c k) → TurnsOneWay c
+one_way_before c k h r w = record {
+  one_way = λ m n in_m in_n left right.
+      go m n left right
+      (stands (length c) (length (remove c k)) k m shorter r.within in_m (λ e. zero_not_above (turn_at c m) (zero m e) left))
+      (stands (length c) (length (remove c k)) k n shorter r.within in_n (λ e. zero_not_below (turn_at c n) (zero n e) right));
+}
+  where
+    shorter : length (remove c k) + 1 ≡ length c
+    shorter = length-remove c k r.within
+
+    zero : (m : ℕ) → m ≡ k → turn_at c m ≡ pos 0
+    zero m e = ap (turn_at c) e ∙ zero_at c k r
+
+    zero_not_above : (x : ℤ) → x ≡ pos 0 → pos 0 <ℤ x → ⊥
+    zero_not_above x e h = omega (arith, ints)
+
+    zero_not_below : (x : ℤ) → x ≡ pos 0 → x <ℤ pos 0 → ⊥
+    zero_not_below x e h = omega (arith, ints)
+
+    go : (m n : ℕ) → pos 0 <ℤ turn_at c m → turn_at c n <ℤ pos 0
+        → (i : ℕ) × (i < length (remove c k)) × Stood k i m → (j : ℕ) × (j < length (remove c k)) × Stood k j n → ⊥
+    go m n left right (i, in_i, M) (j, in_j, N) = w.one_way i j in_i in_j
+        (left_of (turn_at c m) (turn_at (remove c k) i) (alike_back (turn_at (remove c k) i) (turn_at c m) (turn_of_rest c k i m h r in_i M)) left)
+        (right_of (turn_at c n) (turn_at (remove c k) j) (alike_back (turn_at (remove c k) j) (turn_at c n) (turn_of_rest c k j n h r in_j N)) right)
+
+one_way_after_step : (c d : List Point) → HasNoBack c → Step IsZeroTurn c d → TurnsOneWay c ↔ TurnsOneWay d
+one_way_after_step c d h s = subst (λ (e : List Point). TurnsOneWay c ↔ TurnsOneWay e) (sym s.left)
+    (one_way_of_rest c s.place h s.removable, one_way_before c s.place h s.removable)
+
+-- from a contour where no point goes back, the removal of zero turns keeps that it turns one way
+pub one_way_kept : (c d : List Point) → HasNoBack c → Reach IsZeroTurn c d → TurnsOneWay c ↔ TurnsOneWay d
+one_way_kept c d h stay = (λ w. w, λ w. w)
+one_way_kept c d h (step {d = m} s r) =
+    let a = one_way_after_step c m h s in
+    let b = one_way_kept m d (no_back_after_step c m h s) r in
+    (λ w. b.0 (a.0 w), λ w. a.1 (b.1 w))

@@ -1,0 +1,144 @@
+-- A step read on the cycle: the contour is turned until the removable point stands first.
+use Rattle.std.proofs.Common.{◌≡◌, ℕ, suc, ◌+◌, ◌-◌, ◌%◌, ◌<◌, ◌≤◌, List, [], ◌∷◌, ◌++◌, length, get_or, take, drop, refl, sym, ap, ◌∙◌, subst, arith, append_assoc, append-nil, length-append, get_or-append-add, mod-eq_of_lt, take_at, drop_at, length-take-le, subst₂, remove}
+use Rattle.std.proofs.lemmas.List.{get_or_append_left, get_or_at}
+use native.Mathlib.Nat.{add-mod_right, mod_self}
+use lib.Seq.{split_at}
+use Rattle.i_shape_core.specs.Point.{Point, origin}
+use Rattle.i_shape_core.specs.Contour.{point_at, place_before, place_after, Test, IsRemovable, Step, Rotation}
+use Rattle.i_shape_core.proofs.Rotations.{rotation_sym, rotation_trans, Cut, cut_from_rotation, rotation_from_cut}
+
+abbrev pub first : List Point → Point
+first c = get_or c 0 origin
+
+unfoldable pub last : List Point → Point
+last c = get_or c (length c - 1) origin
+
+pub last-append : (x y : List Point) → 0 < length y → last (x ++ y) ≡ last y
+unfolding last
+last-append x y h =
+    let e : length (x ++ y) - 1 ≡ length x + (length y - 1) = omega (arith, length-append x y) in
+    ap (λ (n : ℕ). get_or (x ++ y) n origin) e ∙ get_or-append-add x y (length y - 1) origin
+
+pub first-append : (x y : List Point) → 0 < length x → first (x ++ y) ≡ first x
+first-append [] y h = absurd (omega arith)
+first-append (p ∷ x) y h = refl
+
+-- turned so that the point stands first, c is the point and the rest; d is the rest, turned
+pub record Turn (P : Test) (c d : List Point) : Type 0 where
+  pub point : Point
+  pub rest : List Point
+  pub start : Rotation c (point ∷ rest)
+  pub two : 2 ≤ length rest
+  pub passes : P (last rest) point (first rest)
+  pub finish : Rotation d rest
+
+place_before_first : (n : ℕ) → place_before (suc n) 0 ≡ n
+place_before_first n =
+    let e : 0 + (suc n - 1) ≡ n = omega arith in
+    ap (λ (m : ℕ). m % suc n) e ∙ mod-eq_of_lt (omega arith)
+
+place_before_later : (n k : ℕ) → suc k < n → place_before n (suc k) ≡ k
+place_before_later n k h =
+    let e : suc k + (n - 1) ≡ k + n = omega arith in
+    ap (λ (m : ℕ). m % n) e ∙ (add-mod_right k n ∙ mod-eq_of_lt (omega arith))
+
+place_after_last : (n k : ℕ) → n ≡ k + 1 → place_after n k ≡ 0
+place_after_last n k h = ap (λ (m : ℕ). m % n) (sym h) ∙ mod_self n
+
+place_after_earlier : (n k : ℕ) → k + 1 < n → place_after n k ≡ k + 1
+place_after_earlier n k h = mod-eq_of_lt h
+
+-- what stands at the three places round the seam
+pub at_seam : (u : List Point) (p : Point) (t : List Point) → point_at (u ++ p ∷ t) (length u) ≡ p
+at_seam u p t = get_or_at u p t origin (length u) refl
+
+pub before_seam : (u : List Point) (p : Point) (t : List Point) → 0 < length (t ++ u) → point_at (u ++ p ∷ t) (place_before (length (u ++ p ∷ t)) (length u)) ≡ last (t ++ u)
+unfolding last
+before_seam [] p [] h = absurd (omega arith)
+before_seam [] p (q ∷ t) h =
+    let e : place_before (suc (suc (length t))) 0 ≡ suc (length t) = place_before_first (suc (length t)) in
+    let l : suc (length (t ++ [])) - 1 ≡ length t = omega (arith, length-append t []) in
+    ap (λ (m : ℕ). get_or (p ∷ q ∷ t) m origin) e ∙ (ap (λ (z : List Point). get_or (q ∷ z) (length t) origin) (sym (append-nil t)) ∙ ap (λ (m : ℕ). get_or (q ∷ (t ++ [])) m origin) (sym l))
+before_seam (a ∷ u) p t h =
+    let e : place_before (length ((a ∷ u) ++ p ∷ t)) (suc (length u)) ≡ length u = place_before_later (length ((a ∷ u) ++ p ∷ t)) (length u) (omega (arith, length-append u (p ∷ t))) in
+    let l : length (t ++ a ∷ u) - 1 ≡ length t + length u = omega (arith, length-append t (a ∷ u)) in
+    ap (λ (m : ℕ). get_or ((a ∷ u) ++ p ∷ t) m origin) e ∙ (get_or_append_left (a ∷ u) (p ∷ t) origin (length u) (omega arith) ∙ (sym (get_or-append-add t (a ∷ u) (length u) origin) ∙ ap (λ (m : ℕ). get_or (t ++ a ∷ u) m origin) (sym l)))
+
+pub after_seam : (u : List Point) (p : Point) (t : List Point) → 0 < length (t ++ u) → point_at (u ++ p ∷ t) (place_after (length (u ++ p ∷ t)) (length u)) ≡ first (t ++ u)
+after_seam [] p [] h = absurd (omega arith)
+after_seam (a ∷ u) p [] h =
+    ap (λ (m : ℕ). get_or (a ∷ (u ++ p ∷ [])) m origin) (place_after_last (length ((a ∷ u) ++ p ∷ [])) (length (a ∷ u)) (omega (arith, length-append u (p ∷ []))))
+after_seam u p (q ∷ t) h =
+    let e : place_after (length (u ++ p ∷ q ∷ t)) (length u) ≡ length u + 1 = place_after_earlier (length (u ++ p ∷ q ∷ t)) (length u) (omega (arith, length-append u (p ∷ q ∷ t))) in
+    ap (λ (m : ℕ). get_or (u ++ p ∷ q ∷ t) m origin) e ∙ (get_or-append-add u (p ∷ q ∷ t) 1 origin)
+
+-- the three points round place k of a contour that is cut there
+pub record Around (c u : List Point) (p : Point) (t : List Point) (k : ℕ) : Type 0 where
+  pub before : point_at c (place_before (length c) k) ≡ last (t ++ u)
+  pub at : point_at c k ≡ p
+  pub after : point_at c (place_after (length c) k) ≡ first (t ++ u)
+
+pub around : (c u : List Point) (p : Point) (t : List Point) (k : ℕ) → c ≡ u ++ p ∷ t → k ≡ length u → 0 < length (t ++ u) → Around c u p t k
+around c u p t k w e h = record {
+  before = cc (before_seam u p t h);
+  at = cc (at_seam u p t);
+  after = cc (after_seam u p t h);
+}
+
+-- a removable place by its parts: the points ahead of it, itself, and the points behind it
+pub passes_from_removable : {P : Test} (c u : List Point) (p : Point) (t : List Point) (k : ℕ) → c ≡ u ++ p ∷ t → k ≡ length u → IsRemovable P c k → P (last (t ++ u)) p (first (t ++ u))
+passes_from_removable {P} c u p t k w e r =
+    let h : 0 < length (t ++ u) = omega (arith, r.enough, ap length w, length-append u (p ∷ t), length-append t u) in
+    let a = around c u p t k w e h in
+    subst (λ (x : Point). P (last (t ++ u)) x (first (t ++ u))) a.at (subst₂ (λ (x y : Point). P x (point_at c k) y) a.before a.after r.passes)
+
+pub removable_from_passes : {P : Test} (c u : List Point) (p : Point) (t : List Point) → c ≡ u ++ p ∷ t → 2 ≤ length (t ++ u) → P (last (t ++ u)) p (first (t ++ u)) → IsRemovable P c (length u)
+removable_from_passes {P} c u p t w two h =
+    let a = around c u p t (length u) w refl (omega arith) in
+    record {
+      enough = omega (arith, two, ap length w, length-append u (p ∷ t), length-append t u);
+      within = omega (arith, ap length w, length-append u (p ∷ t));
+      passes = subst (λ (x : Point). P (point_at c (place_before (length c) (length u))) x (point_at c (place_after (length c) (length u)))) (sym a.at) (subst₂ (λ (x y : Point). P x p y) (sym a.before) (sym a.after) h);
+    }
+
+pub remove_at_seam : (c u : List Point) (p : Point) (t : List Point) → c ≡ u ++ p ∷ t → remove c (length u) ≡ u ++ t
+remove_at_seam c u p t w =
+    let a : take (length u) (u ++ p ∷ t) ≡ u = take_at u (p ∷ t) (length u) refl in
+    let b : drop (length (u ++ p ∷ [])) ((u ++ p ∷ []) ++ t) ≡ t = drop_at (u ++ p ∷ []) t (length (u ++ p ∷ [])) refl in
+    let n : length (u ++ p ∷ []) ≡ suc (length u) = omega (arith, length-append u (p ∷ [])) in
+    cc (append_assoc u (p ∷ []) t)
+
+pub turn_from_step : {P : Test} {c d : List Point} → Step P c d → Turn P c d
+turn_from_step {P} {c} {d} s = record {
+  point = p;
+  rest = t ++ u;
+  start = rotation_from_cut (record { ahead = u; behind = t; whole = whole; others = refl });
+  two = omega (arith, ap length whole, length-append u (p ∷ t), length-append t u, s.removable.enough);
+  passes = passes_from_removable c u p t s.place whole (sym (length-take-le s.place c (omega (arith, s.removable.within)))) s.removable;
+  finish = record { front = u; back = t; before = s.left; after = refl };
+}
+  where
+    u : List Point
+    u = take s.place c
+
+    t : List Point
+    t = drop (suc s.place) c
+
+    p : Point
+    p = point_at c s.place
+
+    whole : c ≡ u ++ p ∷ t
+    whole = split_at c s.place origin s.removable.within
+
+pub step_from_turn : {P : Test} {c d : List Point} → Turn P c d → (e : List Point) × Step P c e × Rotation d e
+step_from_turn {P} {c} {d} t = go (cut_from_rotation t.start)
+  where
+    go : Cut c t.point t.rest → (e : List Point) × Step P c e × Rotation d e
+    go k = (k.ahead ++ k.behind, record { place = length k.ahead; removable = removable_from_passes c k.ahead t.point k.behind k.whole (omega (arith, t.two, ap length k.others)) (subst (λ (x : List Point). P (last x) t.point (first x)) k.others t.passes); left = sym (remove_at_seam c k.ahead t.point k.behind k.whole) }, rotation_trans t.finish (record { front = k.behind; back = k.ahead; before = k.others; after = refl }))
+
+pub turn_of_rotated : {P : Test} {c d e : List Point} → Rotation c d → Turn P c e → Turn P d e
+turn_of_rotated r t = record { point = t.point; rest = t.rest; start = rotation_trans (rotation_sym r) t.start; two = t.two; passes = t.passes; finish = t.finish }
+
+-- what a contour steps to, each rotation of it steps to, up to rotation
+pub step_of_rotated : {P : Test} {c d e : List Point} → Rotation c d → Step P c e → (f : List Point) × Step P d f × Rotation e f
+step_of_rotated r s = step_from_turn (turn_of_rotated r (turn_from_step s))

@@ -1,0 +1,115 @@
+-- The laws of contours, with what the plane says.
+use Rattle.std.proofs.Common.{◌≡◌, ℕ, ◌<◌, ◌≤◌, List, length, ℤ, pos, ◌<ℤ◌, ◌≤ℤ◌, neg_ℤ, refl, arith, ◌⊎◌, inl, inr}
+use Rattle.std.proofs.lemmas.Int.{ints}
+use Rattle.std.proofs.Math.IntN.{ℤ_discrete}
+use Rattle.i_shape_core.specs.Point.{Point, cross, dot, IsZeroTurn, IsBack}
+use Rattle.i_shape_core.specs.Contour.{Test, IsRemovable, Reach, stay, step, End, Rotation, SameEnd, collapsed, turned, IsCollapsed}
+use Rattle.i_shape_core.proofs.TestLaws.{Decided, Slides, BothWays, Straightens}
+use Rattle.i_shape_core.proofs.Turns.{slide, cross_reversed}
+use Rattle.i_shape_core.proofs.Back.{low_or_above, back_before_straight, back_after_straight, flat_triangle}
+use native.Mathlib.Decide.{dec_lt}
+use Rattle.i_shape_core.specs.Laws.{RotatedEnds, ReversedEnds, Twice, Agreed, EveryOrder, OneCertainEnd}
+use Rattle.i_shape_core.proofs.Certain as certain
+use Rattle.i_shape_core.proofs.Reversal.{reversed_alike}
+use Rattle.i_shape_core.proofs.Ends.{ends_alike, has_end, no_step}
+use Rattle.i_shape_core.proofs.Rotations.{rotation_refl}
+use Rattle.i_shape_core.proofs.Straight.{end_by_weaker, keeps_three, reach_by_weaker}
+
+pub zero_turn_decided : Decided IsZeroTurn
+zero_turn_decided a b c = ℤ_discrete (cross a b c) (pos 0)
+
+pub zero_turn_slides : Slides IsZeroTurn
+zero_turn_slides = slide
+
+pub zero_turn_both_ways : BothWays IsZeroTurn
+zero_turn_both_ways a b c e = back (cross a b c) (cross c b a) (cross_reversed a b c) e
+  where
+    back : (x y : ℤ) → y ≡ neg_ℤ x → x ≡ pos 0 → y ≡ pos 0
+    back x y e f = omega (arith, ints)
+
+onward : (a p q : Point) → IsZeroTurn a p q → (IsBack a p q → ⊥) → pos 0 <ℤ dot a p q
+onward a p q z n = go (low_or_above (dot a p q))
+  where
+    go : (dot a p q ≤ℤ pos 0) ⊎ (pos 0 <ℤ dot a p q) → pos 0 <ℤ dot a p q
+    go (inl d) = absurd (n (z, d))
+    go (inr d) = d
+
+pub straightens : Straightens IsBack IsZeroTurn
+straightens = record {
+  weaker = λ a p q b. b.0;
+  keeps_ahead = λ x a p q z n m b. m (back_before_straight x a p q z (onward a p q z n) b);
+  keeps_behind = λ a p q b z n m k. m (back_after_straight a p q b z (onward a p q z n) k);
+  flat_triangle = λ a p q z n m k. triangle n m k (flat_triangle a p q z);
+}
+  where
+    triangle : {A B C : Type 0} → (A → ⊥) → (B → ⊥) → (C → ⊥) → A ⊎ (B ⊎ C) → ⊥
+    triangle f g h (inl x) = f x
+    triangle f g h (inr (inl x)) = g x
+    triangle f g h (inr (inr x)) = h x
+
+-- two ends are one cycle, or have both collapsed
+pub one_end : (c e f : List Point) → End IsZeroTurn c e → End IsZeroTurn c f → SameEnd e f
+one_end c e f a b = ends_alike zero_turn_slides zero_turn_decided (rotation_refl c) a b
+
+pub rotated_ends : (c d : List Point) → RotatedEnds c d
+rotated_ends c d r e f a b = ends_alike zero_turn_slides zero_turn_decided r a b
+
+pub reversed_ends : (c : List Point) → ReversedEnds c
+reversed_ends c e f a b = reversed_alike zero_turn_slides zero_turn_decided zero_turn_both_ways a b
+
+-- from a contour with nothing to remove no other is reached
+reach_from_done : {P : Test} (c d : List Point) → ((k : ℕ) → IsRemovable P c k → ⊥) → Reach P c d → d ≡ c
+reach_from_done c d n stay = refl
+reach_from_done c d n (step s r) = absurd (no_step n s)
+
+pub twice : (c : List Point) → Twice c
+twice c = record {
+  again = λ e f a b. reach_from_done e f a.none_left b.reached;
+  simple = λ s d r. reach_from_done c d s.none r;
+}
+
+is_alone : {e f : List Point} → SameEnd e f → IsCollapsed e → IsCollapsed f
+is_alone (collapsed a b) h = b
+is_alone (turned a b r) h = absurd (omega arith)
+
+turned_by : {e f : List Point} → SameEnd e f → 3 ≤ length f → Rotation e f
+turned_by (collapsed a b) h = absurd (omega arith)
+turned_by (turned a b r) h = r
+
+-- a collapsed list is an end
+end_of_collapsed : {P : Test} {c d : List Point} → Reach P c d → IsCollapsed d → End P c d
+end_of_collapsed r h = record { reached = r; none_left = λ k m. absurd (omega (arith, m.enough)) }
+
+pub agreed : (c d : List Point) → Agreed c d
+agreed c d = record {
+  alike = λ e w a. (collapses e w a, stands e w a);
+  ends = λ e f w h a b. turned_by (one_end c e f a (end_by_weaker straightens w.reached b)) (keeps_three straightens w h b);
+}
+  where
+    collapses : (e : List Point) → End IsBack c d → End IsZeroTurn c e → IsCollapsed d → IsCollapsed e
+    collapses e w a h = is_alone (one_end c d e (end_of_collapsed (reach_by_weaker straightens w.reached) h) a) h
+
+    stands : (e : List Point) → End IsBack c d → End IsZeroTurn c e → IsCollapsed e → IsCollapsed d
+    stands e w a h = go (dec_lt (length d) 3)
+      where
+        go : Dec (IsCollapsed d) → IsCollapsed d
+        go (yes x) = x
+        go (no x) =
+            let f = has_end zero_turn_decided d in
+            let l : 3 ≤ length f.0 = keeps_three straightens w (omega arith) f.1 in
+            let m : length f.0 < 3 = is_alone (one_end c e f.0 a (end_by_weaker straightens w.reached f.1)) h in
+            absurd (omega arith)
+
+is_turned : {e f : List Point} → SameEnd e f → 3 ≤ length e → (3 ≤ length f) × Rotation e f
+is_turned (collapsed a b) h = absurd (omega arith)
+is_turned (turned a b r) h = (b, r)
+
+pub every_order : (c : List Point) → EveryOrder c
+every_order c = record {
+  some = λ e f a h b. is_turned (one_end c e f a b) h;
+  none = λ d f r h b. is_alone (one_end c d f (end_of_collapsed r h) b) h;
+  exists = has_end zero_turn_decided c;
+}
+
+pub one_certain_end : (c : List Point) → OneCertainEnd c
+one_certain_end c n e f a h b = certain.one_certain_end zero_turn_slides zero_turn_decided n a h b

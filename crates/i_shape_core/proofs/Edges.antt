@@ -1,0 +1,83 @@
+-- What a sum over the edges of a contour becomes where a point is taken out.
+use Rattle.std.proofs.Common.{◌≡◌, ℕ, zero, suc, ◌+◌, ◌-◌, ◌%◌, ◌<◌, ◌≤◌, List, [], ◌∷◌, length, get_or, remove, ℤ, pos, ◌+ℤ◌, refl, sym, ap, ◌∙◌, arith, ◌⊎◌, inl, inr}
+use Rattle.std.proofs.Math.Nat.{mod-eq_of_lt, add-mod_right, mod_self}
+use Rattle.std.proofs.lemmas.List.{get_or_default, get_or_past}
+use Rattle.std.proofs.lemmas.Int.{ints}
+use Rattle.i_shape_core.specs.Point.{Point, origin, IsZeroTurn}
+use Rattle.i_shape_core.specs.Contour.{point_at, place_before, place_after, Step, Reach, stay, step}
+use Rattle.i_shape_core.specs.Edges.{Edge, edges_between, edges, sum_of_edges, area_of_edge, shoelace}
+use Rattle.i_shape_core.proofs.Turns.{edge, area_of_two}
+
+abbrev along : (Edge → ℤ) → Point → List Point → Point → ℤ
+along f a bs z = sum_of_edges f (edges_between a bs z)
+
+-- a point between the two ends of a path is taken out
+path_without : (f : Edge → ℤ) (a : Point) (bs : List Point) (z : Point) (j : ℕ) → j < length bs
+    → along f a bs z +ℤ f (edge (get_or (a ∷ bs) j origin) (get_or bs (suc j) z))
+    ≡ along f a (remove bs j) z +ℤ (f (edge (get_or (a ∷ bs) j origin) (get_or bs j origin)) +ℤ f (edge (get_or bs j origin) (get_or bs (suc j) z)))
+path_without f a [] z j h = absurd (omega arith)
+path_without f a (b ∷ []) z zero h = omega (arith, ints)
+path_without f a (b ∷ c ∷ bs) z zero h = omega (arith, ints)
+path_without f a (b ∷ bs) z (suc j) h = let e = path_without f b bs z j (omega arith) in omega (arith, ints)
+
+-- the end of a path is another point
+path_to : (f : Edge → ℤ) (a : Point) (bs : List Point) (y z : Point)
+    → along f a bs y +ℤ f (edge (get_or (a ∷ bs) (length bs) origin) z) ≡ along f a bs z +ℤ f (edge (get_or (a ∷ bs) (length bs) origin) y)
+path_to f a [] y z = omega (arith, ints)
+path_to f a (b ∷ bs) y z = let e = path_to f b bs y z in omega (arith, ints)
+
+pub before_first : (n : ℕ) → 0 < n → place_before n 0 ≡ n - 1
+before_first n h = mod-eq_of_lt (omega arith) ∙ omega arith
+
+pub before_later : (n j : ℕ) → suc j < n → place_before n (suc j) ≡ j
+before_later n j h = ap (λ (m : ℕ). m % n) (sum n j h) ∙ add-mod_right j n ∙ mod-eq_of_lt (omega arith)
+  where
+    sum : (n j : ℕ) → suc j < n → suc j + (n - 1) ≡ j + n
+    sum n j h = omega arith
+
+pub after_earlier : (n k : ℕ) → k + 1 < n → place_after n k ≡ suc k
+after_earlier n k h = mod-eq_of_lt h ∙ omega arith
+
+pub after_last : (n k : ℕ) → k + 1 ≡ n → place_after n k ≡ 0
+after_last n k e = ap (λ (m : ℕ). m % n) e ∙ mod_self n
+
+-- the place after a later one, as `path_without` reads it
+later_point : (x : Point) (bs : List Point) (j : ℕ) → j < length bs → point_at (x ∷ bs) (place_after (suc (length bs)) (suc j)) ≡ get_or bs (suc j) x
+later_point x bs j h = go (cases (suc j) (length bs) h)
+  where
+    cases : (m n : ℕ) → m ≤ n → (m < n) ⊎ (m ≡ n)
+    cases m n h = grind arith
+
+    go : (suc j < length bs) ⊎ (suc j ≡ length bs) → point_at (x ∷ bs) (place_after (suc (length bs)) (suc j)) ≡ get_or bs (suc j) x
+    go (inl l) = ap (λ (k : ℕ). point_at (x ∷ bs) k) (after_earlier (suc (length bs)) (suc j) (omega arith)) ∙ get_or_default bs (suc j) origin x l
+    go (inr e) = ap (λ (k : ℕ). point_at (x ∷ bs) k) (after_last (suc (length bs)) (suc j) (omega arith)) ∙ sym (get_or_past bs (suc j) x (omega arith))
+
+-- the sums over the edges of a contour and of what is left without its point at place k differ by the edges at that point and the one that comes in their place
+pub sum_without : (f : Edge → ℤ) (c : List Point) (k : ℕ) → 2 ≤ length c → k < length c
+    → sum_of_edges f (edges c) +ℤ f (edge (point_at c (place_before (length c) k)) (point_at c (place_after (length c) k)))
+    ≡ sum_of_edges f (edges (remove c k)) +ℤ (f (edge (point_at c (place_before (length c) k)) (point_at c k)) +ℤ f (edge (point_at c k) (point_at c (place_after (length c) k))))
+sum_without f [] k h l = absurd (omega arith)
+sum_without f (x ∷ []) k h l = absurd (omega arith)
+sum_without f (x ∷ y ∷ ys) zero h l =
+    let e = path_to f y ys x y in
+    let before : place_before (suc (suc (length ys))) 0 ≡ suc (length ys) = before_first (suc (suc (length ys))) (omega arith) ∙ omega arith in
+    let after : place_after (suc (suc (length ys))) 0 ≡ 1 = after_earlier (suc (suc (length ys))) 0 (omega arith) in
+    rw (before, after) (omega (arith, ints))
+sum_without f (x ∷ y ∷ ys) (suc j) h l =
+    let e = path_without f x (y ∷ ys) x j (omega arith) in
+    let before : place_before (suc (suc (length ys))) (suc j) ≡ j = before_later (suc (suc (length ys))) j (omega arith) in
+    rw (before, later_point x (y ∷ ys) j (omega arith)) e
+
+area_after : (s t e p : ℤ) (x : ℤ) → s +ℤ e ≡ t +ℤ p → p ≡ e +ℤ x → x ≡ pos 0 → s ≡ t
+area_after s t e p x f g h = omega (arith, ints)
+
+-- a step of zero turns keeps twice the area
+pub area_after_step : (c d : List Point) → Step IsZeroTurn c d → shoelace c ≡ shoelace d
+unfolding shoelace
+area_after_step c d s = let r = s.removable in
+    area_after _ _ _ _ _ (sum_without area_of_edge c s.place (omega (arith, r.enough)) r.within) (area_of_two _ _ _) r.passes
+    ∙ ap (λ (e : List Point). sum_of_edges area_of_edge (edges e)) (sym s.left)
+
+pub area_kept : (c d : List Point) → Reach IsZeroTurn c d → shoelace c ≡ shoelace d
+area_kept c d stay = refl
+area_kept c d (step {d = m} s r) = area_after_step c m s ∙ area_kept m d r

@@ -1,0 +1,41 @@
+-- numbers
+pub mod WholeNumbers
+pub mod Polynomials
+pub mod Products
+pub mod Coordinates
+-- points of the plane
+pub mod Turns
+pub mod Back
+pub mod Contours
+-- removals, for any test of three points
+pub mod TestLaws
+pub mod Lists
+pub mod Rotations
+pub mod Cycle
+pub mod Meets
+pub mod Ends
+pub mod Reversal
+pub mod Straight
+-- what removals keep
+pub mod Edges
+pub mod Inside
+pub mod Survive
+pub mod Convex
+pub mod Dedup
+pub mod Kept
+pub mod Repeats
+-- the laws
+pub mod Certain
+pub mod CycleLaws
+pub mod ConvexLaws
+-- walks
+pub mod Stacks
+pub mod Walks
+pub mod Cleaned
+pub mod Walked
+pub mod Around
+pub mod Spikes
+pub mod Areas
+pub mod LastEdge
+-- the definitions at contours that are written out
+pub mod Examples

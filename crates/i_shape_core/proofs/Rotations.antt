@@ -1,0 +1,38 @@
+-- Being a rotation is an equivalence.
+use Rattle.std.proofs.Common.{◌≡◌, List, [], ◌∷◌, ◌++◌, length, inl, inr, refl, sym, ap, ◌∙◌, arith, append_assoc, append-nil, length-append}
+use Rattle.i_shape_core.specs.Point.{Point}
+use Rattle.i_shape_core.specs.Contour.{Rotation}
+use Rattle.i_shape_core.proofs.Lists.{two_seams, Seams}
+
+pub rotation_refl : (c : List Point) → Rotation c c
+rotation_refl c = record { front = []; back = c; before = refl; after = sym (append-nil c) }
+
+pub rotation_sym : {c d : List Point} → Rotation c d → Rotation d c
+rotation_sym r = record { front = r.back; back = r.front; before = r.after; after = r.before }
+
+pub rotation_trans : {c d e : List Point} → Rotation c d → Rotation d e → Rotation c e
+rotation_trans {c} {d} {e} r s = go (two_seams r.back r.front s.front s.back (sym r.after ∙ s.before))
+  where
+    go : Seams r.back r.front s.front s.back → Rotation c e
+    go (inl w) = record { front = w.0; back = s.back ++ r.back; before = cc (append_assoc w.0 s.back r.back); after = cc (append_assoc s.back r.back w.0) }
+    go (inr w) = record { front = r.front ++ s.front; back = w.0; before = cc (append_assoc r.front s.front w.0); after = cc (append_assoc w.0 r.front s.front) }
+
+pub rotation_length : {c d : List Point} → Rotation c d → length c ≡ length d
+rotation_length {c} {d} r = omega (arith, ap length r.before, ap length r.after, length-append r.front r.back, length-append r.back r.front)
+
+-- a rotation that starts with p: the list is cut at p
+pub record Cut (c : List Point) (p : Point) (rest : List Point) : Type 0 where
+  pub ahead : List Point
+  pub behind : List Point
+  pub whole : c ≡ ahead ++ p ∷ behind
+  pub others : rest ≡ behind ++ ahead
+
+pub cut_from_rotation : {c : List Point} {p : Point} {rest : List Point} → Rotation c (p ∷ rest) → Cut c p rest
+cut_from_rotation {c} {p} {rest} r = go r.front r.back r.before r.after
+  where
+    go : (u t : List Point) → c ≡ u ++ t → p ∷ rest ≡ t ++ u → Cut c p rest
+    go u [] b a = record { ahead = []; behind = rest; whole = cc (append-nil u); others = sym (append-nil rest) }
+    go u (q ∷ t) b a = record { ahead = u; behind = t; whole = cc; others = cc }
+
+pub rotation_from_cut : {c : List Point} {p : Point} {rest : List Point} → Cut c p rest → Rotation c (p ∷ rest)
+rotation_from_cut {c} {p} {rest} k = record { front = k.ahead; back = p ∷ k.behind; before = k.whole; after = cc }

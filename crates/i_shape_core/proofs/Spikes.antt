@@ -1,0 +1,213 @@
+-- The walk that looks for spikes.
+use Rattle.std.proofs.Common.{◌≡◌, ◌≢◌, ℕ, zero, suc, ◌+◌, ◌-◌, ◌<◌, ◌≤◌, List, [], ◌∷◌, ◌++◌, length, drop, get_or, ℤ, pos, int_lt, ◌<ℤ◌, T, refl, sym, ap, subst, ◌∙◌, arith, ◌⊎◌, inl, inr, ◌↔◌, Bool, true, false, cond, ◌&&◌, IsTrue, add-one}
+use Rattle.std.proofs.lemmas.Int.{ints}
+use Rattle.std.proofs.Math.Seq.{drop-cons}
+use Rattle.std.specs.Ordering.{int_eq}
+use lib.Dec.{leb, leb→le, le→leb}
+use Rattle.std.specs.Cmp.{signed_Decides}
+use Rattle.i_shape_core.specs.Point.{Point, origin, cross, dot}
+use Rattle.i_shape_core.specs.Contour.{point_at}
+use Rattle.i_shape_core.specs.Convex.{is_same, is_reversal, changes_after, last_of, dedup, NoSpikes, turn_at}
+use Rattle.i_shape_core.specs.IntPoint.{point_of, contour_of}
+use Rattle.i_shape_core.specs.declared.point.IntPoint.{IntPoint}
+use Rattle.i_shape_core.proofs.ConvexLaws.{Has, IsReversed}
+use Rattle.i_shape_core.proofs.Walked.{last_item}
+use Rattle.i_shape_core.proofs.Around.{Met, AllSame, has_met, last_but_one, none_change}
+use Rattle.i_shape_core.proofs.Dedup.{same_yes, same_no, last_of_append}
+
+reversal_yes : (a b c : Point) → is_reversal a b c ≡ true → IsReversed a b c
+unfolding is_reversal
+reversal_yes a b c e = go (int_eq (cross a b c) (pos 0)) refl (int_lt (dot a b c) (pos 0)) refl e
+  where
+    go : (s : Bool) → int_eq (cross a b c) (pos 0) ≡ s → (t : Bool) → int_lt (dot a b c) (pos 0) ≡ t → s && t ≡ true → IsReversed a b c
+    go true e true f h = ((signed_Decides (cross a b c) (pos 0)).0 e, omega (arith, ints))
+    go true e false f h = absurd (cc)
+    go false e t f h = absurd (cc)
+
+reversal_no : (a b c : Point) → is_reversal a b c ≡ false → IsReversed a b c → ⊥
+unfolding is_reversal
+reversal_no a b c e h = go (int_eq (cross a b c) (pos 0)) ((signed_Decides (cross a b c) (pos 0)).1 h.0) (int_lt (dot a b c) (pos 0)) (below (dot a b c) h.1) e
+  where
+    below : (d : ℤ) → d <ℤ pos 0 → true ≡ int_lt d (pos 0)
+    below d h = omega (arith, ints)
+
+    go : (s : Bool) → s ≡ true → (t : Bool) → true ≡ t → s && t ≡ false → ⊥
+    go true e true f h = cc
+    go true e false f h = cc
+    go false e t f h = cc
+
+-- the last point that differs from p, or o
+abbrev pub last_differing : Point → Point → List Point → Point
+last_differing p o [] = o
+last_differing p o (q ∷ qs) = cond (is_same p q) (last_differing p o qs) (last_differing p q qs)
+
+-- where it stands
+abbrev Stands : Point → Point → List Point → Point → Type 0
+Stands p o c r = ((r ≡ o) × AllSame p c) ⊎ ((u : List Point) × (v : List Point) × (c ≡ u ++ r ∷ v) × AllSame p v × (r ≢ p))
+
+stands_where : (p o : Point) (c : List Point) → Stands p o c (last_differing p o c)
+stands_where p o [] = inl (refl, tt)
+stands_where p o (q ∷ qs) = go (stands_where p o qs) (stands_where p q qs) (is_same p q) refl
+  where
+    go : Stands p o qs (last_differing p o qs) → Stands p q qs (last_differing p q qs) → (t : Bool) → is_same p q ≡ t → Stands p o (q ∷ qs) (cond t (last_differing p o qs) (last_differing p q qs))
+    go (inl x) y true e = inl (x.0, (sym (same_yes p q e), x.1))
+    go (inr x) y true e = inr (q ∷ x.0, x.1, ap (λ (xs : List Point). q ∷ xs) x.2, x.3, x.4)
+    go x (inl y) false e = inr ([], qs, ap (λ (r : Point). r ∷ qs) (sym y.0), y.1, λ f. same_no p q e (sym f ∙ y.0))
+    go x (inr y) false e = inr (q ∷ y.0, y.1, ap (λ (xs : List Point). q ∷ xs) y.2, y.3, y.4)
+
+all_same : (c : List Point) → AllSame (last_of origin c) c → length (dedup c) ≡ 0
+unfolding dedup
+all_same c a = ap length (none_change (last_of origin c) c a)
+
+at_parts : (u v : List Point) (r : Point) → AllSame (last_of origin (u ++ r ∷ v)) v → r ≢ last_of origin (u ++ r ∷ v) → r ≡ point_at (dedup (u ++ r ∷ v)) (length (dedup (u ++ r ∷ v)) - 2)
+at_parts u [] r a n = absurd (n (sym (last_of_append origin u (r ∷ []))))
+at_parts u (x ∷ v) r a n = (last_but_one u (x ∷ v) r (last_of origin (u ++ r ∷ x ∷ v)) refl (omega arith) a n).1
+
+-- the last but one of the points without repeats is the last that differs from the last
+found : (c : List Point) (o : Point) → 1 ≤ length (dedup c) → last_differing (last_of origin c) o c ≡ point_at (dedup c) (length (dedup c) - 2)
+found c o h = go (last_differing (last_of origin c) o c) (stands_where (last_of origin c) o c)
+  where
+    parts : (r : Point) (d : List Point) (u v : List Point) → d ≡ u ++ r ∷ v → AllSame (last_of origin d) v → r ≢ last_of origin d → r ≡ point_at (dedup d) (length (dedup d) - 2)
+    parts r d u v e a n = subst (λ (x : List Point). r ≡ point_at (dedup x) (length (dedup x) - 2)) (sym e)
+        (at_parts u v r (subst (λ (x : List Point). AllSame (last_of origin x) v) e a) (subst (λ (x : List Point). r ≢ last_of origin x) e n))
+
+    go : (r : Point) → Stands (last_of origin c) o c r → r ≡ point_at (dedup c) (length (dedup c) - 2)
+    go r (inl x) = absurd (omega (arith, all_same c x.1))
+    go r (inr (u, v, e, a, n)) = parts r c u v e a n
+
+-- ---- the walk: n points have changed so far, o and p are the last two that differ, and the rest is still to come
+pub record Walking (c : List Point) (n : ℕ) (o p : Point) (rest : List Point) : Type 0 where
+  pub changes : n + length (changes_after p rest) ≡ length (dedup c)
+  pub met : Met IsReversed (last_differing (last_of origin c) (last_of origin c) c) (last_of origin c) c ↔ Met IsReversed o p rest
+
+pub walking_start : (c : List Point) → Walking c 0 (last_differing (last_of origin c) (last_of origin c) c) (last_of origin c) c
+unfolding dedup
+walking_start c = record { changes = zero_plus (length (changes_after (last_of origin c) c)); met = (λ x. x, λ x. x) }
+  where
+    zero_plus : (n : ℕ) → 0 + n ≡ n
+    zero_plus n = omega arith
+
+pub walking_skip : (c : List Point) (n : ℕ) (o p q : Point) (rest : List Point) → is_same p q ≡ true → Walking c n o p (q ∷ rest) → Walking c n o p rest
+walking_skip c n o p q rest e w = record { changes = count; met = subst (λ (X : Type 0). Met IsReversed (last_differing (last_of origin c) (last_of origin c) c) (last_of origin c) c ↔ X) same w.met }
+  where
+    same : Met IsReversed o p (q ∷ rest) ≡ Met IsReversed o p rest
+    same = ap (λ (t : Bool). cond t (Met IsReversed o p rest) (IsReversed o p q ⊎ Met IsReversed p q rest)) e
+
+    skipped : changes_after p (q ∷ rest) ≡ changes_after p rest
+    skipped = ap (λ (t : Bool). cond t (changes_after q rest) (q ∷ changes_after q rest)) e ∙ ap (λ (x : Point). changes_after x rest) (sym (same_yes p q e))
+
+    count : n + length (changes_after p rest) ≡ length (dedup c)
+    count = ap (λ (xs : List Point). n + length xs) (sym skipped) ∙ w.changes
+
+pub walking_on : (c : List Point) (n : ℕ) (o p q : Point) (rest : List Point) → is_same p q ≡ false → is_reversal o p q ≡ false → Walking c n o p (q ∷ rest) → Walking c (n + 1) p q rest
+walking_on c n o p q rest e f w = record { changes = count; met = (λ x. later (subst (λ (X : Type 0). X) same (w.met.0 x)), λ x. w.met.1 (subst (λ (X : Type 0). X) (sym same) (inr x))) }
+  where
+    same : Met IsReversed o p (q ∷ rest) ≡ (IsReversed o p q ⊎ Met IsReversed p q rest)
+    same = ap (λ (t : Bool). cond t (Met IsReversed o p rest) (IsReversed o p q ⊎ Met IsReversed p q rest)) e
+
+    later : IsReversed o p q ⊎ Met IsReversed p q rest → Met IsReversed p q rest
+    later (inl x) = absurd (reversal_no o p q f x)
+    later (inr x) = x
+
+    kept : changes_after p (q ∷ rest) ≡ q ∷ changes_after q rest
+    kept = ap (λ (t : Bool). cond t (changes_after q rest) (q ∷ changes_after q rest)) e
+
+    one_more : (n m k : ℕ) → n + suc m ≡ k → n + 1 + m ≡ k
+    one_more n m k e = omega arith
+
+    count : n + 1 + length (changes_after q rest) ≡ length (dedup c)
+    count = one_more n (length (changes_after q rest)) (length (dedup c)) (ap (λ (xs : List Point). n + length xs) (sym kept) ∙ w.changes)
+
+-- with a reversal it has spikes
+pub spike_found : (c : List Point) (n : ℕ) (o p q : Point) (rest : List Point) → is_same p q ≡ false → is_reversal o p q ≡ true → Walking c n o p (q ∷ rest) → NoSpikes c → ⊥
+unfolding Has turn_at
+spike_found c n o p q rest e f w h =
+    let m : Met IsReversed (last_differing (last_of origin c) (last_of origin c) c) (last_of origin c) c = w.met.1 (subst (λ (X : Type 0). X) (sym same) (inl (reversal_yes o p q f))) in
+    let k = (has_met IsReversed c (last_differing (last_of origin c) (last_of origin c) c) h.enough (found c (last_of origin c) (omega (arith, h.enough)))).1 m in
+    h.none k.0 (record { within = k.1.within; no_turn = k.1.passes.0; back = k.1.passes.1 })
+  where
+    same : Met IsReversed o p (q ∷ rest) ≡ (IsReversed o p q ⊎ Met IsReversed p q rest)
+    same = ap (λ (t : Bool). cond t (Met IsReversed o p rest) (IsReversed o p q ⊎ Met IsReversed p q rest)) e
+
+-- at the end
+pub no_spike_found : (c : List Point) (n : ℕ) (o p : Point) → Walking c n o p [] → (3 ≤ n) ↔ NoSpikes c
+unfolding Has turn_at
+no_spike_found c n o p w = (λ h. spikeless (subst (λ (m : ℕ). 3 ≤ m) count h), λ s. subst (λ (m : ℕ). 3 ≤ m) (sym count) s.enough)
+  where
+    plus_zero : (n : ℕ) → n + 0 ≡ n
+    plus_zero n = omega arith
+
+    count : n ≡ length (dedup c)
+    count = sym (plus_zero n) ∙ w.changes
+
+    spikeless : 3 ≤ length (dedup c) → NoSpikes c
+    spikeless h = record {
+      enough = h;
+      none = λ k r. w.met.0 ((has_met IsReversed c (last_differing (last_of origin c) (last_of origin c) c) h (found c (last_of origin c) (omega arith))).0
+          (k, record { enough = h; within = r.within; passes = (r.no_turn, r.back) }));
+    }
+
+-- ---- over the points of a program
+pub items : {I : Type 0} (value : I → ℤ) (cs : List (IntPoint I)) (i : ℕ) (x : IntPoint I) → i < length cs → x ≡ get_or cs i x → contour_of value (drop i cs) ≡ point_of value x ∷ contour_of value (drop (i + 1) cs)
+items {I} value cs i x h e = ap (contour_of value) (drop-cons cs i x h ∙ ap (λ (y : IntPoint I). y ∷ drop (suc i) cs) (sym e))
+    ∙ ap (λ (j : ℕ). point_of value x ∷ contour_of value (drop j cs)) (sym (add-one i))
+
+drop_past : {X : Type 0} (xs : List X) (i : ℕ) → length xs ≤ i → drop i xs ≡ []
+drop_past [] zero h = refl
+drop_past [] (suc i) h = refl
+drop_past (x ∷ xs) zero h = absurd (omega arith)
+drop_past (x ∷ xs) (suc i) h = drop_past xs i (omega arith)
+
+last_point : {I : Type 0} (value : I → ℤ) (cs : List (IntPoint I)) (last : IntPoint I) → 0 < length cs → last ≡ get_or cs (length cs - 1) last → point_of value last ≡ last_of origin (contour_of value cs)
+last_point value [] last h e = absurd (omega arith)
+last_point value (x ∷ xs) last h e = ap (point_of value) (e ∙ ap (λ (i : ℕ). get_or (x ∷ xs) i last) (less_one (length xs))) ∙ last_item value x xs last
+  where
+    less_one : (n : ℕ) → suc n - 1 ≡ n
+    less_one n = omega arith
+
+pub walking_first : {I : Type 0} (value : I → ℤ) (cs : List (IntPoint I)) (last behind : IntPoint I) (i : ℕ) → 0 < length cs → last ≡ get_or cs (length cs - 1) last → length cs ≤ i
+    → last_differing (point_of value last) (point_of value last) (contour_of value cs) ≡ last_differing (point_of value last) (point_of value behind) (contour_of value (drop i cs))
+    → Walking (contour_of value cs) 0 (point_of value behind) (point_of value last) (contour_of value cs)
+walking_first {I} value cs last behind i h e k f = subst (λ (o : Point). Walking (contour_of value cs) 0 o (point_of value last) (contour_of value cs))
+    (f ∙ ap (λ (ds : List (IntPoint I)). last_differing (point_of value last) (point_of value behind) (contour_of value ds)) (drop_past cs i k))
+    (subst (λ (p : Point). Walking (contour_of value cs) 0 (last_differing p p (contour_of value cs)) p (contour_of value cs)) (sym (last_point value cs last h e)) (walking_start (contour_of value cs)))
+
+pub walking_over : {I : Type 0} (value : I → ℤ) (cs : List (IntPoint I)) (n i : ℕ) (o p : Point) → length cs ≤ i → Walking (contour_of value cs) n o p (contour_of value (drop i cs)) → (3 ≤ n) ↔ NoSpikes (contour_of value cs)
+walking_over {I} value cs n i o p h w = no_spike_found (contour_of value cs) n o p (subst (λ (ds : List (IntPoint I)). Walking (contour_of value cs) n o p (contour_of value ds)) (drop_past cs i h) w)
+
+pub none_without_points : {I : Type 0} (value : I → ℤ) (cs : List (IntPoint I)) → length cs ≤ 0 → NoSpikes (contour_of value cs) → ⊥
+unfolding dedup
+none_without_points value [] h s = let e = s.enough in omega arith
+none_without_points value (x ∷ xs) h s = omega arith
+
+pub walking_item : {I : Type 0} (value : I → ℤ) (cs : List (IntPoint I)) (n i : ℕ) (o p x : IntPoint I) (n' : ℕ) (o' p' : IntPoint I) → i < length cs → x ≡ get_or cs i x
+    → is_same (point_of value p) (point_of value x) ≡ false → is_reversal (point_of value o) (point_of value p) (point_of value x) ≡ false
+    → n' ≡ n + 1 → o' ≡ p → p' ≡ x
+    → Walking (contour_of value cs) n (point_of value o) (point_of value p) (contour_of value (drop i cs)) → Walking (contour_of value cs) n' (point_of value o') (point_of value p') (contour_of value (drop (i + 1) cs))
+walking_item value cs n i o p x n' o' p' h e a b en eo ep w = rw (en, eo, ep) (walking_on (contour_of value cs) n (point_of value o) (point_of value p) (point_of value x) (contour_of value (drop (i + 1) cs)) a b
+    (subst (λ (r : List Point). Walking (contour_of value cs) n (point_of value o) (point_of value p) r) (items value cs i x h e) w))
+
+pub walking_repeat : {I : Type 0} (value : I → ℤ) (cs : List (IntPoint I)) (n i : ℕ) (o p x : IntPoint I) (n' : ℕ) (o' p' : IntPoint I) → i < length cs → x ≡ get_or cs i x
+    → is_same (point_of value p) (point_of value x) ≡ true → n' ≡ n → o' ≡ o → p' ≡ p
+    → Walking (contour_of value cs) n (point_of value o) (point_of value p) (contour_of value (drop i cs)) → Walking (contour_of value cs) n' (point_of value o') (point_of value p') (contour_of value (drop (i + 1) cs))
+walking_repeat value cs n i o p x n' o' p' h e a en eo ep w = rw (en, eo, ep) (walking_skip (contour_of value cs) n (point_of value o) (point_of value p) (point_of value x) (contour_of value (drop (i + 1) cs)) a
+    (subst (λ (r : List Point). Walking (contour_of value cs) n (point_of value o) (point_of value p) r) (items value cs i x h e) w))
+
+pub spike_item : {I : Type 0} (value : I → ℤ) (cs : List (IntPoint I)) (n i : ℕ) (o p x : IntPoint I) → i < length cs → x ≡ get_or cs i x
+    → is_same (point_of value p) (point_of value x) ≡ false → is_reversal (point_of value o) (point_of value p) (point_of value x) ≡ true
+    → Walking (contour_of value cs) n (point_of value o) (point_of value p) (contour_of value (drop i cs)) → IsTrue false ↔ NoSpikes (contour_of value cs)
+spike_item value cs n i o p x h e a b w = (
+  λ t. absurd (cc),
+  λ s. absurd (spike_found (contour_of value cs) n (point_of value o) (point_of value p) (point_of value x) (contour_of value (drop (i + 1) cs)) a b
+      (subst (λ (r : List Point). Walking (contour_of value cs) n (point_of value o) (point_of value p) r) (items value cs i x h e) w) s),
+)
+
+pub answer : (n : ℕ) {P : Type 0} → (3 ≤ n) ↔ P → IsTrue (leb 3 n) ↔ P
+answer n e = (λ t. e.0 (leb→le 3 n (subst T (sym t) tt)), λ x. is_so (leb 3 n) (le→leb 3 n (e.1 x)))
+  where
+    is_so : (t : Bool) → T t → t ≡ true
+    is_so true h = refl
+    is_so false h = absurd h
+
+pub nothing_told : {I : Type 0} (value : I → ℤ) (cs : List (IntPoint I)) → length cs ≤ 0 → IsTrue false ↔ NoSpikes (contour_of value cs)
+nothing_told value cs h = (λ t. absurd (cc), λ s. absurd (none_without_points value cs h s))

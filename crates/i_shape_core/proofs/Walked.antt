@@ -1,0 +1,113 @@
+-- The walk over a contour that starts from its last point, and counts the edges that pass a point on its right.
+use Rattle.std.proofs.Common.{◌≡◌, ℕ, zero, suc, ◌+◌, ◌%◌, ◌<◌, ◌≤◌, List, [], ◌∷◌, ◌++◌, length, drop, get_or, ℤ, pos, int_lt, refl, sym, ap, subst, ◌∙◌, arith, ◌↔◌, Bool, true, false, not, cond, count_by, IsTrue, add-one, ◌-◌}
+use Rattle.std.proofs.Math.Seq.{drop-cons}
+use Rattle.i_shape_core.specs.IntPoint.{point_of, contour_of}
+use Rattle.i_shape_core.specs.declared.point.IntPoint.{IntPoint}
+use Rattle.std.proofs.lemmas.List.Sums.{sum_by-cons, sum_by_push}
+use mathlib.Core.Bool.{beq}
+use Rattle.i_shape_core.specs.Point.{Point, cross}
+use Rattle.i_shape_core.specs.Edges.{Edge, edges_between, edges, is_right, Inside}
+use Rattle.i_shape_core.specs.Convex.{last_of}
+use Rattle.i_shape_core.proofs.Turns.{edge}
+use Rattle.i_shape_core.proofs.Inside.{bit, tally, right_when}
+
+pub right_flat : (p a b : Point) (s t : Bool) → s ≡ int_lt p.y a.y → t ≡ int_lt p.y b.y → beq s t ≡ true → false ≡ is_right p (edge a b)
+right_flat p a b true true e f h = sym (right_when p a b true true (sym e) (sym f))
+right_flat p a b false false e f h = sym (right_when p a b false false (sym e) (sym f))
+right_flat p a b true false e f h = absurd (cc)
+right_flat p a b false true e f h = absurd (cc)
+
+pub right_down : (p a b : Point) (s t r : Bool) → s ≡ int_lt p.y a.y → t ≡ int_lt p.y b.y → beq s t ≡ false → s ≡ true → r ≡ int_lt (cross b p a) (pos 0) → r ≡ is_right p (edge a b)
+right_down p a b true false r e f h k g = g ∙ sym (right_when p a b true false (sym e) (sym f))
+right_down p a b true true r e f h k g = absurd (cc)
+right_down p a b false t r e f h k g = absurd (cc)
+
+pub right_up : (p a b : Point) (s t r : Bool) → s ≡ int_lt p.y a.y → t ≡ int_lt p.y b.y → beq s t ≡ false → s ≡ false → r ≡ int_lt (cross a p b) (pos 0) → r ≡ is_right p (edge a b)
+right_up p a b false true r e f h k g = g ∙ sym (right_when p a b false true (sym e) (sym f))
+right_up p a b false false r e f h k g = absurd (cc)
+right_up p a b true t r e f h k g = absurd (cc)
+
+-- the edges of a walk from q over the points
+abbrev pub path_over : Point → List Point → List Edge
+path_over q [] = []
+path_over q (p ∷ ps) = edge q p ∷ path_over p ps
+
+pub between_is : (a : Point) (bs : List Point) (z : Point) → edges_between a bs z ≡ path_over a bs ++ edge (last_of a bs) z ∷ []
+between_is a [] z = refl
+between_is a (b ∷ bs) z = ap (λ (es : List Edge). edge a b ∷ es) (between_is b bs z)
+
+-- the walk from the last point has the edges of the contour
+pub walk_counts : (t : Edge → Bool) (x : Point) (ps : List Point) → count_by t (path_over (last_of x ps) (x ∷ ps)) ≡ count_by t (edges (x ∷ ps))
+walk_counts t x ps = cons ∙ swap (cond (t (edge (last_of x ps) x)) 1 0) (count_by t (path_over x ps)) ∙ sym push ∙ ap (count_by t) (sym (between_is x ps x))
+  where
+    cons : count_by t (edge (last_of x ps) x ∷ path_over x ps) ≡ cond (t (edge (last_of x ps) x)) 1 0 + count_by t (path_over x ps)
+    cons = sum_by-cons (λ (e : Edge). cond (t e) 1 0) (edge (last_of x ps) x) (path_over x ps)
+
+    push : count_by t (path_over x ps ++ edge (last_of x ps) x ∷ []) ≡ count_by t (path_over x ps) + cond (t (edge (last_of x ps) x)) 1 0
+    push = sum_by_push (λ (e : Edge). cond (t e) 1 0) (path_over x ps) (edge (last_of x ps) x)
+
+    swap : (a b : ℕ) → a + b ≡ b + a
+    swap a b = omega arith
+
+-- one more edge
+flipped : (s r : Bool) (n m : ℕ) → (bit s + (bit r + n)) % 2 ≡ m → (bit (cond r (not s) s) + n) % 2 ≡ m
+flipped true true n m e = omega arith
+flipped true false n m e = omega arith
+flipped false true n m e = omega arith
+flipped false false n m e = omega arith
+
+pub walk_more : (p q x : Point) (rest : List Point) (s : Bool) (m : ℕ) → (bit s + count_by (is_right p) (path_over q (x ∷ rest))) % 2 ≡ m
+    → (bit (cond (is_right p (edge q x)) (not s) s) + count_by (is_right p) (path_over x rest)) % 2 ≡ m
+walk_more p q x rest s m e = flipped s (is_right p (edge q x)) (count_by (is_right p) (path_over x rest)) m
+    (ap (λ (n : ℕ). (bit s + n) % 2) (sym (sum_by-cons (tally p) (edge q x) (path_over x rest))) ∙ e)
+
+pub walk_done : (c : List Point) (p : Point) (s : Bool) → (bit s + 0) % 2 ≡ count_by (is_right p) (edges c) % 2 → IsTrue s ↔ Inside c p
+unfolding Inside
+walk_done c p true e = (λ h. sym e ∙ refl, λ h. refl)
+walk_done c p false e = (λ h. absurd (cc), λ h. absurd (omega arith))
+
+-- ---- the same over the points of a program
+abbrev pub Counted : {I : Type 0} → (I → ℤ) → Point → List (IntPoint I) → ℕ → IntPoint I → Bool → Type 0
+Counted value p cs i start s = (bit s + count_by (is_right p) (path_over (point_of value start) (contour_of value (drop i cs)))) % 2 ≡ count_by (is_right p) (edges (contour_of value cs)) % 2
+
+pub last_item : {I : Type 0} (value : I → ℤ) (x : IntPoint I) (xs : List (IntPoint I)) (d : IntPoint I) → point_of value (get_or (x ∷ xs) (length xs) d) ≡ last_of (point_of value x) (contour_of value xs)
+last_item value x [] d = refl
+last_item value x (y ∷ xs) d = last_item value y xs d
+
+pub walk_start : {I : Type 0} (value : I → ℤ) (p : Point) (cs : List (IntPoint I)) (last : IntPoint I) → 0 < length cs → last ≡ get_or cs (length cs - 1) last → Counted value p cs 0 last false
+walk_start value p [] last h e = absurd (omega arith)
+walk_start value p (x ∷ xs) last h e = ap (λ (n : ℕ). n % 2) (zero_plus (count_by (is_right p) (path_over (point_of value last) (contour_of value (x ∷ xs)))))
+    ∙ ap (λ (q : Point). count_by (is_right p) (path_over q (contour_of value (x ∷ xs))) % 2) at_last
+    ∙ ap (λ (n : ℕ). n % 2) (walk_counts (is_right p) (point_of value x) (contour_of value xs))
+  where
+    zero_plus : (n : ℕ) → 0 + n ≡ n
+    zero_plus n = omega arith
+
+    less_one : (n : ℕ) → suc n - 1 ≡ n
+    less_one n = omega arith
+
+    at_last : point_of value last ≡ last_of (point_of value x) (contour_of value xs)
+    at_last = ap (point_of value) (e ∙ ap (λ (i : ℕ). get_or (x ∷ xs) i last) (less_one (length xs))) ∙ last_item value x xs last
+
+pub walk_step : {I : Type 0} (value : I → ℤ) (p : Point) (cs : List (IntPoint I)) (i : ℕ) (start x : IntPoint I) (s s' : Bool) → i < length cs → x ≡ get_or cs i x
+    → Counted value p cs i start s → s' ≡ cond (is_right p (edge (point_of value start) (point_of value x))) (not s) s → Counted value p cs (i + 1) x s'
+walk_step {I} value p cs i start x s s' h e k f =
+    rw (f, add-one i) (walk_more p (point_of value start) (point_of value x) (contour_of value (drop (suc i) cs)) s (count_by (is_right p) (edges (contour_of value cs)) % 2)
+    (subst (λ (ds : List (IntPoint I)). (bit s + count_by (is_right p) (path_over (point_of value start) (contour_of value ds))) % 2 ≡ count_by (is_right p) (edges (contour_of value cs)) % 2)
+    (drop-cons cs i x h ∙ ap (λ (y : IntPoint I). y ∷ drop (suc i) cs) (sym e)) k))
+
+pub walk_end : {I : Type 0} (value : I → ℤ) (p : Point) (cs : List (IntPoint I)) (i : ℕ) (start : IntPoint I) (s : Bool) → length cs ≤ i → Counted value p cs i start s → IsTrue s ↔ Inside (contour_of value cs) p
+walk_end {I} value p cs i start s h k = walk_done (contour_of value cs) p s
+    (subst (λ (ds : List (IntPoint I)). (bit s + count_by (is_right p) (path_over (point_of value start) (contour_of value ds))) % 2 ≡ count_by (is_right p) (edges (contour_of value cs)) % 2)
+    (drop_past cs i h) k)
+  where
+    drop_past : {X : Type 0} (xs : List X) (i : ℕ) → length xs ≤ i → drop i xs ≡ []
+    drop_past [] zero h = refl
+    drop_past [] (suc i) h = refl
+    drop_past (x ∷ xs) zero h = absurd (omega arith)
+    drop_past (x ∷ xs) (suc i) h = drop_past xs i (omega arith)
+
+pub nothing_inside : {I : Type 0} (value : I → ℤ) (p : Point) (cs : List (IntPoint I)) → length cs ≤ 0 → IsTrue false ↔ Inside (contour_of value cs) p
+unfolding Inside
+nothing_inside value p [] h = (λ e. absurd (cc), λ e. absurd (omega arith))
+nothing_inside value p (x ∷ xs) h = absurd (omega arith)

@@ -1,0 +1,30 @@
+use Rattle.std.proofs.Common.{◌≡◌, ◌∙◌, List, None, option_map, arith}
+use Rattle.std.proofs.lemmas.Result.{IfOk-weaker}
+use Rattle.i_shape_core.specs.Point.{IsZeroTurn}
+use Rattle.i_shape_core.specs.IntPoint.{contour_of}
+use Rattle.i_shape_core.specs.declared.point.IntPoint.{IntPoint}
+use Rattle.i_shape_core.proofs.Contours.{length-contour}
+use Rattle.i_shape_core.proofs.Cleaned.{simple_answer, kept_answer, visits_answer, short_answer}
+use Rattle.i_shape_core.proofs.simplifier.ContourSimplifier.simplify_counted.Goals as goal
+
+pub returns-then-contour-lt3-clause-answer : goal.returns-then-contour-lt3-clause-answer
+returns-then-contour-lt3-clause-answer g c =
+    let points = contour_of g.I.IntNumber.value c.before.args.contour.now in
+    simple_answer points None 0 (short_answer IsZeroTurn points (omega (arith, length-contour g.I.IntNumber.value c.before.args.contour.now)))
+
+pub returns-then-contour-lt3-clause-kept : goal.returns-then-contour-lt3-clause-kept
+returns-then-contour-lt3-clause-kept g c =
+    let points = contour_of g.I.IntNumber.value c.before.args.contour.now in
+    kept_answer points None 0 (short_answer IsZeroTurn points (omega (arith, length-contour g.I.IntNumber.value c.before.args.contour.now)))
+
+pub returns-clause-answer : goal.returns-clause-answer
+returns-clause-answer g c =
+    let same : c.stack_places-probe.result.contour ≡ c.args.contour.now = c.stack_places-probe.ensures.contour ∙ c.new.ensures.contour in
+    IfOk-weaker c.close.result _ _ (λ r w. simple_answer (contour_of g.I.IntNumber.value c.args.contour.now) (option_map (λ kept. contour_of g.I.IntNumber.value kept.items) r.0) r.1 w)
+    (rw same at c.close.ensures.answer)
+
+pub returns-clause-kept : goal.returns-clause-kept
+returns-clause-kept g c =
+    let same : c.stack_places-probe.result.contour ≡ c.args.contour.now = c.stack_places-probe.ensures.contour ∙ c.new.ensures.contour in
+    IfOk-weaker c.close.result _ _ (λ r w. kept_answer (contour_of g.I.IntNumber.value c.args.contour.now) (option_map (λ kept. contour_of g.I.IntNumber.value kept.items) r.0) r.1 w)
+    (rw same at c.close.ensures.answer)

@@ -1,0 +1,49 @@
+use Rattle.std.proofs.Common.{◌≡◌, ℕ, length, arith, refl, ap, subst, ◌∙◌}
+use Rattle.i_shape_core.specs.IntPoint.{contour_of}
+use Rattle.i_shape_core.specs.Point.{IsZeroTurn}
+use Rattle.i_shape_core.specs.Stack.{IsWalked}
+use Rattle.i_shape_core.proofs.Contours.{length-contour}
+use Rattle.i_shape_core.proofs.Stacks.{stacked-start}
+use Rattle.i_shape_core.proofs.Walks.{push-read}
+use Rattle.i_shape_core.proofs.simplifier.stack_places.Goals as goal
+
+pub loop-place-init : goal.loop-place-init
+loop-place-init g c =
+    let none : length c.args.stack.now.items ≡ 0 = ap length c.requires.empty in
+    record {
+      contour = refl;
+      walked = record {
+        stacked = stacked-start IsZeroTurn _ c.args.stack.now.items c.requires.empty;
+        short = omega arith;
+        most = omega (arith, c.requires.fresh);
+        least = omega arith;
+      };
+      room = c.requires.room;
+    }
+
+pub loop-place-preserved : goal.loop-place-preserved
+loop-place-preserved g c =
+    let popped = c.pop_zero_turns.ensures in
+    let before = c.pop_zero_turns.new.stack.ok.0 in
+    let after = c.push_reserved.new.self.ok.0 in
+    let longer = c.push_reserved.ensures.len in
+    record {
+      contour = popped.contour ∙ c.loop-place.invariant.contour;
+      walked = record {
+        stacked = push-read g.I.IntNumber.value _ _ c.loop-place.invariant.contour _ _ c.loop-place.place popped.stacked
+            (omega (arith, ap length c.loop-place.invariant.contour, c.len-place-end.ensures)) popped.settled c.push_reserved.ensures.items;
+        short = omega (arith, popped.short);
+        most = omega (arith, popped.most);
+        least = omega (arith, popped.least);
+      };
+      room = rw (← popped.room, ← c.push_reserved.ensures.capacity) at c.loop-place.invariant.room;
+    }
+
+pub returns : goal.returns
+returns g c =
+    let walked = c.loop-place.invariant.walked in
+    let all : c.loop-place.place ≡ length (contour_of g.I.IntNumber.value c.args.probe.contour) =
+    omega (arith, length-contour g.I.IntNumber.value c.args.probe.contour, c.len-place-end.ensures) in record {
+      contour = c.loop-place.invariant.contour;
+      walked = subst (λ (k : ℕ). IsWalked IsZeroTurn (contour_of g.I.IntNumber.value c.args.probe.contour) c.loop-place.stack.items k c.loop-place.probe.visits) all walked;
+    }

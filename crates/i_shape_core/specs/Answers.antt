@@ -1,0 +1,44 @@
+-- What a cleaner answers.
+use Rattle.std.specs.Prelude.{◌≡◌, ℕ, ◌-◌, ◌*◌, ◌<◌, ◌≤◌, ◌↔◌, ℤ, pos, List, length, Option, Some, None}
+use Rattle.i_shape_core.specs.Point.{Point, IsZeroTurn}
+use Rattle.i_shape_core.specs.Contour.{End, IsCollapsed, Rotation}
+use Rattle.i_shape_core.specs.Edges.{shoelace, Inside}
+
+-- e is the one end of c up to rotation, and has at least three points; as an end it lists points of c in the order of c
+pub record IsOneEnd (c e : List Point) : Type 0 where
+  pub ended : End IsZeroTurn c e
+  pub enough : 3 ≤ length e
+  pub alone : (f : List Point) → End IsZeroTurn c f → Rotation e f
+
+-- in whatever order zero turns are removed, fewer than three points are left
+abbrev pub EachEndCollapses : List Point → Type 0
+EachEndCollapses c = (e : List Point) → End IsZeroTurn c e → IsCollapsed e
+
+-- what `simplified` answers: the one end, or nothing where each end collapses
+abbrev pub SimpleAnswer : List Point → Option (List Point) → Type 0
+SimpleAnswer c None = EachEndCollapses c
+SimpleAnswer c (Some e) = IsOneEnd c e
+
+-- c and e have the same double area, and the same points inside
+pub record IsKept (c e : List Point) : Type 0 where
+  pub area : shoelace e ≡ shoelace c
+  pub inside : (p : Point) → Inside e p ↔ Inside c p
+
+-- c has no area, and no point inside
+pub record IsFlat (c : List Point) : Type 0 where
+  pub area : shoelace c ≡ pos 0
+  pub inside : (p : Point) → Inside c p → ⊥
+
+-- what each answer of a cleaner keeps
+abbrev pub KeptAnswer : List Point → Option (List Point) → Type 0
+KeptAnswer c None = IsFlat c
+KeptAnswer c (Some e) = IsKept c e
+
+-- how many vertices a cleaner visits at a contour of n points: three for each at the most, and each of them at least once, but for two where it collapses
+pub record IsVisited (n fewest visits : ℕ) : Type 0 where
+  pub least : fewest ≤ visits
+  pub most : visits ≤ 3 * n
+
+abbrev pub VisitsAnswer : List Point → Option (List Point) → ℕ → Type 0
+VisitsAnswer c None visits = IsVisited (length c) (length c - 2) visits
+VisitsAnswer c (Some e) visits = IsVisited (length c) (length c) visits

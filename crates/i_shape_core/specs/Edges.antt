@@ -1,0 +1,45 @@
+-- The edges of a contour, and what is told of a contour by its edges: twice its area, and which points lie inside.
+use Rattle.std.specs.Prelude.{◌≡◌, ◌%◌, ℤ, pos, ◌+ℤ◌, ◌-ℤ◌, ◌*ℤ◌, List, [], ◌∷◌, Bool, int_lt, cond, false}
+use Rattle.std.specs.List.{count_by}
+use Rattle.i_shape_core.specs.Point.{Point, cross}
+
+pub record Edge : Type 0 where
+  pub start : Point
+  pub end : Point
+
+-- the edges of the path that leads from a over the points to z
+abbrev pub edges_between : Point → List Point → Point → List Edge
+edges_between a [] z = record { start = a; end = z } ∷ []
+edges_between a (b ∷ bs) z = record { start = a; end = b } ∷ edges_between b bs z
+
+-- the edges of a contour, from each point to the next and from the last to the first
+abbrev pub edges : List Point → List Edge
+edges [] = []
+edges (a ∷ bs) = edges_between a bs a
+
+-- the sum of a number for each edge
+abbrev pub sum_of_edges : (Edge → ℤ) → List Edge → ℤ
+sum_of_edges f [] = pos 0
+sum_of_edges f (e ∷ es) = f e +ℤ sum_of_edges f es
+
+-- the part of an edge in twice the area
+unfoldable pub area_of_edge : Edge → ℤ
+area_of_edge e = e.start.x *ℤ e.end.y -ℤ e.start.y *ℤ e.end.x
+
+-- twice the area, above 0 where the contour turns to the left
+unfoldable pub shoelace : List Point → ℤ
+shoelace c = sum_of_edges area_of_edge (edges c)
+
+-- p lies below the point
+abbrev pub is_above : Point → Point → Bool
+is_above p a = int_lt p.y a.y
+
+-- where one end of the edge lies above p and the other does not: the edge passes the height of p strictly to the right of p
+unfoldable pub is_right : Point → Edge → Bool
+is_right p e = cond (is_above p e.start)
+    (cond (is_above p e.end) false (int_lt (cross e.end p e.start) (pos 0)))
+    (cond (is_above p e.end) (int_lt (cross e.start p e.end) (pos 0)) false)
+
+-- an odd number of edges lie to the right of p
+unfoldable pub Inside : List Point → Point → Type 0
+Inside c p = count_by (is_right p) (edges c) % 2 ≡ 1

@@ -1,0 +1,27 @@
+-- Points of the program, as points over whole numbers.
+use Rattle.std.specs.Prelude.{ℤ, ◌<ℤ◌, ◌-◌, ◌^◌, pos, neg_ℤ, List, map}
+use Rattle.std.specs.Int.{Width}
+use Rattle.std.specs.List.{All}
+use Rattle.i_shape_core.specs.Point.{Point}
+use Rattle.i_shape_core.specs.Widths.{bits}
+use Rattle.i_shape_core.specs.declared.point.IntPoint.{IntPoint}
+
+-- the point that a program's point stands for, where `value` is what its coordinates stand for
+abbrev pub point_of : {I : Type 0} → (I → ℤ) → IntPoint I → Point
+point_of value p = record { x = value p.x; y = value p.y }
+
+-- the contour that a list of the program's points stands for
+abbrev pub contour_of : {I : Type 0} → (I → ℤ) → List (IntPoint I) → List Point
+contour_of value points = map (point_of value) points
+
+-- a coordinate lies strictly between -2^(B-2) and 2^(B-2), where B is the number of bits
+abbrev pub IsSafeCoordinate : Width → ℤ → Type 0
+IsSafeCoordinate width z = (neg_ℤ (pos (2 ^ (bits width - 2))) <ℤ z) × (z <ℤ pos (2 ^ (bits width - 2)))
+
+-- both coordinates of the point do
+abbrev pub IsSafe : Width → Point → Type 0
+IsSafe width p = IsSafeCoordinate width p.x × IsSafeCoordinate width p.y
+
+-- each point of the contour is safe
+abbrev pub IsSafeContour : Width → List Point → Type 0
+IsSafeContour width c = All (IsSafe width) c

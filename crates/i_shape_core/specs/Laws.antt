@@ -1,0 +1,64 @@
+-- The laws of removal, over whole numbers: what holds of the contours that removals lead to.
+use Rattle.std.specs.Prelude.{◌≡◌, ℕ, ℤ, ◌<◌, ◌≤◌, ◌⊎◌, List, [], ◌∷◌, ◌++◌, reverse, length, ◌↔◌}
+use Rattle.i_shape_core.specs.Point.{Point, IsZeroTurn, IsBack}
+use Rattle.i_shape_core.specs.Contour.{Reach, End, Rotation, SameEnd, IsCollapsed, IsSimple}
+use Rattle.i_shape_core.specs.Edges.{shoelace, Inside}
+use Rattle.i_shape_core.specs.Convex.{NoSpikes, Convex}
+
+-- any two ends of c are one cycle, or both have collapsed
+abbrev pub OneEnd : List Point → Type 0
+OneEnd c = (e f : List Point) → End IsZeroTurn c e → End IsZeroTurn c f → SameEnd e f
+
+-- so are an end of c and one of a rotation of c
+abbrev pub RotatedEnds : List Point → List Point → Type 0
+RotatedEnds c d = Rotation c d → (e f : List Point) → End IsZeroTurn c e → End IsZeroTurn d f → SameEnd e f
+
+-- and an end of c, read backwards, and one of c read backwards
+abbrev pub ReversedEnds : List Point → Type 0
+ReversedEnds c = (e f : List Point) → End IsZeroTurn c e → End IsZeroTurn (reverse c) f → SameEnd (reverse e) f
+
+-- an end has no end but itself, and a simple contour leads nowhere else
+pub record Twice (c : List Point) : Type 0 where
+  pub again : (e f : List Point) → End IsZeroTurn c e → End IsZeroTurn e f → f ≡ e
+  pub simple : IsSimple c → (d : List Point) → Reach IsZeroTurn c d → d ≡ c
+
+-- an end of at least three points is the end of every order up to rotation, a collapsed list is reached by every order or by none, and there is an end
+pub record EveryOrder (c : List Point) : Type 0 where
+  pub some : (e f : List Point) → End IsZeroTurn c e → 3 ≤ length e → End IsZeroTurn c f → (3 ≤ length f) × Rotation e f
+  pub none : (d f : List Point) → Reach IsZeroTurn c d → IsCollapsed d → End IsZeroTurn c f → IsCollapsed f
+  pub exists : (e : List Point) × End IsZeroTurn c e
+
+-- p is one of the points of c
+abbrev pub IsIn : Point → List Point → Type 0
+IsIn p [] = ⊥
+IsIn p (q ∷ c) = (p ≡ q) ⊎ IsIn p c
+
+-- no point stands twice in c
+abbrev pub Distinct : List Point → Type 0
+Distinct [] = Unit {0}
+Distinct (p ∷ c) = (IsIn p c → ⊥) × Distinct c
+
+-- where no point stands twice, every order leaves one certain list
+abbrev pub OneCertainEnd : List Point → Type 0
+OneCertainEnd c = Distinct c → (e f : List Point) → End IsZeroTurn c e → 3 ≤ length e → End IsZeroTurn c f → f ≡ e
+
+-- d is what is left of c where back vertices alone are removed: it has collapsed where the ends of c have, and otherwise has their ends
+pub record Agreed (c d : List Point) : Type 0 where
+  pub alike : (e : List Point) → End IsBack c d → End IsZeroTurn c e → IsCollapsed d ↔ IsCollapsed e
+  pub ends : (e f : List Point) → End IsBack c d → 3 ≤ length d → End IsZeroTurn c e → End IsZeroTurn d f → Rotation e f
+
+-- removals keep the double area
+abbrev pub AreaKept : List Point → List Point → Type 0
+AreaKept c d = Reach IsZeroTurn c d → shoelace c ≡ shoelace d
+
+-- removals keep which points are inside; fewer than three points have none inside
+pub record InsideKept (c d : List Point) : Type 0 where
+  pub kept : Reach IsZeroTurn c d → (p : Point) → Inside c p ↔ Inside d p
+  pub none : length c < 3 → (p : Point) → Inside c p → ⊥
+
+-- without spikes no end collapses, and each is convex where the contour is; rotation, reversal and a point repeated beside itself keep convexity
+pub record ConvexKept (c d : List Point) : Type 0 where
+  pub ends : NoSpikes c → (e : List Point) → End IsZeroTurn c e → (3 ≤ length e) × (Convex c ↔ Convex e)
+  pub turned : Rotation c d → Convex c ↔ Convex d
+  pub backwards : Convex c ↔ Convex (reverse c)
+  pub repeated : (u : List Point) (p : Point) (t : List Point) → c ≡ u ++ p ∷ t → Convex c ↔ Convex (u ++ p ∷ p ∷ t)

@@ -1,0 +1,13 @@
+pub mod Widths
+pub mod Point
+pub mod IntPoint
+pub mod Contour
+pub mod Edges
+pub mod Convex
+pub mod Laws
+pub mod Answers
+pub mod Turn
+pub mod Probe
+pub mod Refusals
+pub mod Walk
+pub mod Stack

@@ -1,0 +1,36 @@
+-- A point of the plane with whole-number coordinates, and the turn of a path at a point.
+use Rattle.std.specs.Prelude.{◌≡◌, ℤ, pos, ◌+ℤ◌, ◌-ℤ◌, ◌*ℤ◌, ◌≤ℤ◌}
+
+-- a point, or the vector from one point to another
+pub record Point : Type 0 where
+  pub x : ℤ
+  pub y : ℤ
+
+abbrev pub origin : Point
+origin = record { x = pos 0; y = pos 0 }
+
+-- the vector from a to b
+abbrev pub vector : Point → Point → Point
+vector a b = record { x = b.x -ℤ a.x; y = b.y -ℤ a.y }
+
+-- the two products of two vectors
+abbrev pub cross_of : Point → Point → ℤ
+cross_of v w = v.x *ℤ w.y -ℤ v.y *ℤ w.x
+
+abbrev pub dot_of : Point → Point → ℤ
+dot_of v w = v.x *ℤ w.x +ℤ v.y *ℤ w.y
+
+-- the turn numbers at b of the path from a over b to c: the products of the vector to b and the vector from b
+unfoldable pub cross : Point → Point → Point → ℤ
+cross a b c = cross_of (vector a b) (vector b c)
+
+unfoldable pub dot : Point → Point → Point → ℤ
+dot a b c = dot_of (vector a b) (vector b c)
+
+-- at b the path goes straight on or turns back
+abbrev pub IsZeroTurn : Point → Point → Point → Type 0
+IsZeroTurn a b c = cross a b c ≡ pos 0
+
+-- at b the path turns back or stands still
+abbrev pub IsBack : Point → Point → Point → Type 0
+IsBack a b c = (cross a b c ≡ pos 0) × (dot a b c ≤ℤ pos 0)

@@ -1,0 +1,72 @@
+//! The laws of cleaning. Each function takes the contours that its law names, as slices, does nothing, and has the law
+//! as its only clause: it speaks of definitions alone, and of every other list and point that it mentions. No safe range is asked.
+
+ghost use Rattle.i_shape_core.specs.IntPoint.{contour_of};
+ghost use Rattle.i_shape_core.specs.Laws.{
+  Agreed,
+  AreaKept,
+  ConvexKept,
+  EveryOrder,
+  InsideKept,
+  OneCertainEnd,
+  OneEnd,
+  ReversedEnds,
+  RotatedEnds,
+  Twice,
+};
+
+use crate::number::IntNumber;
+use crate::point::IntPoint;
+
+/// Two ends of a contour have both collapsed, or neither has and they are rotations of each other.
+pub fn one_end<I: IntNumber>(_c: &[IntPoint<I>])
+    ensures { OneEnd (contour_of I.value _c.now) }
+{}
+
+/// The ends of a rotation of a contour are those of the contour, up to rotation.
+pub fn rotated<I: IntNumber>(_c: &[IntPoint<I>], _d: &[IntPoint<I>])
+    ensures { RotatedEnds (contour_of I.value _c.now) (contour_of I.value _d.now) }
+{}
+
+/// The ends of a contour that is read backwards are its ends, read backwards, up to rotation.
+pub fn reversed<I: IntNumber>(_c: &[IntPoint<I>])
+    ensures { ReversedEnds (contour_of I.value _c.now) }
+{}
+
+/// An end is its own only end, and a simple contour reaches itself alone.
+pub fn twice<I: IntNumber>(_c: &[IntPoint<I>])
+    ensures { Twice (contour_of I.value _c.now) }
+{}
+
+/// Whatever the order of removals: an end that hasn't collapsed is the end of each order up to rotation, a collapsed list
+/// says that each order collapses, and each contour has an end.
+pub fn every_order<I: IntNumber>(_c: &[IntPoint<I>])
+    ensures { EveryOrder (contour_of I.value _c.now) }
+{}
+
+/// Where no point stands twice, every order leaves one and the same list.
+pub fn one_certain_end<I: IntNumber>(_c: &[IntPoint<I>])
+    ensures { OneCertainEnd (contour_of I.value _c.now) }
+{}
+
+/// What is left where back vertices alone are removed has collapsed exactly where the ends of the contour have, and
+/// otherwise it has their ends.
+pub fn agreed<I: IntNumber>(_c: &[IntPoint<I>], _d: &[IntPoint<I>])
+    ensures { Agreed (contour_of I.value _c.now) (contour_of I.value _d.now) }
+{}
+
+/// The removal of zero turns keeps the double area.
+pub fn area_kept<I: IntNumber>(_c: &[IntPoint<I>], _d: &[IntPoint<I>])
+    ensures { AreaKept (contour_of I.value _c.now) (contour_of I.value _d.now) }
+{}
+
+/// The removal of zero turns keeps which points are inside.
+pub fn inside_kept<I: IntNumber>(_c: &[IntPoint<I>], _d: &[IntPoint<I>])
+    ensures { InsideKept (contour_of I.value _c.now) (contour_of I.value _d.now) }
+{}
+
+/// A contour without spikes doesn't collapse, and is convex exactly where its ends are. Convexity stays under rotation,
+/// reversal and a point repeated beside itself.
+pub fn convex_kept<I: IntNumber>(_c: &[IntPoint<I>], _d: &[IntPoint<I>])
+    ensures { ConvexKept (contour_of I.value _c.now) (contour_of I.value _d.now) }
+{}

@@ -1,0 +1,12 @@
+//! Contours over whole numbers: numbers and points, turns, the cleaners of one contour, and the laws that cleaning keeps.
+#![tactic(auto)]
+
+pub mod error;
+pub mod laws;
+pub mod number;
+pub mod point;
+pub mod probe;
+pub mod simple;
+pub mod simplifier;
+pub mod triangle;
+pub mod turn;

@@ -1,0 +1,135 @@
+//! The coordinate types, and the wider types in which their products fit.
+
+ghost use Rattle.std.specs.Prelude.{◌≡◌, ◌≢◌, ◌+◌, ◌-◌, ◌*◌, ◌^◌, ◌≤◌, ◌↔◌, ◌+ℤ◌, ◌-ℤ◌, ◌*ℤ◌, ℕ, ℤ, pos, negsuc, Some, IsTrue, FitsSigned, int_div};
+ghost use Rattle.std.specs.Int.{Width, int_wrap, int_signum};
+ghost use Rattle.std.specs.Ordering.{int_cmp};
+ghost use Rattle.i_shape_core.specs.Widths.{bits, hbits};
+
+mod coordinate;
+mod wide;
+
+/// A signed integer type that holds the products of coordinates.
+pub trait WideIntNumber: Copy + Ord {
+    /// The width of the type.
+    ghost width: { Width };
+
+    /// The whole number that a value stands for.
+    ghost value: { Self → ℤ };
+
+    ghost ZERO: { Self };
+
+    ghost TWO: { Self };
+
+    const ZERO: Self;
+
+    const TWO: Self;
+
+    /// A value of the type lies in the type's range.
+    fn known(self)
+        ensures { FitsSigned width (value self) };
+
+    fn wrapping_add(self, other: Self) -> Self
+        ensures { value result ≡ int_wrap width (value self +ℤ value other) };
+
+    fn wrapping_sub(self, other: Self) -> Self
+        ensures { value result ≡ int_wrap width (value self -ℤ value other) };
+
+    fn wrapping_mul(self, other: Self) -> Self
+        ensures { value result ≡ int_wrap width (value self *ℤ value other) };
+
+    /// -1, 0 or 1, as the value is below, equal to or above zero.
+    fn signum(self) -> Self
+        ensures { value result ≡ int_signum (value self) };
+
+    /// The quotient, rounded towards zero.
+    fn divide(self, divisor: Self) -> Self
+        requires nonzero { value divisor ≢ pos 0 }
+        requires fits { FitsSigned width (int_div (value self) (value divisor)) }
+        ensures { value result ≡ int_div (value self) (value divisor) };
+
+    ghost zero_value: { value ZERO ≡ pos 0 };
+
+    ghost two_value: { value TWO ≡ pos 2 };
+
+    /// Values are ordered and compared as their whole numbers are.
+    ghost order: { (a b : Self) → Self.cmp a b ≡ int_cmp (value a) (value b) };
+
+    ghost partial_order: { (a b : Self) → Self.partial_cmp a b ≡ Some (int_cmp (value a) (value b)) };
+
+    ghost equality: { (a b : Self) → IsTrue (Self.eq a b) ↔ (value a ≡ value b) };
+
+    /// One value stands for each whole number.
+    ghost injective: { (a b : Self) → value a ≡ value b → a ≡ b };
+}
+
+/// A signed integer type of coordinates.
+pub trait IntNumber: Copy + Ord {
+    /// The type in which products of coordinates fit.
+    type Wide: WideIntNumber;
+
+    /// The width of the type.
+    ghost width: { Width };
+
+    /// The whole number that a value stands for.
+    ghost value: { Self → ℤ };
+
+    ghost ZERO: { Self };
+
+    ghost ONE: { Self };
+
+    ghost MIN: { Self };
+
+    ghost MAX: { Self };
+
+    ghost BITS: { ℕ };
+
+    const ZERO: Self;
+
+    const ONE: Self;
+
+    const MIN: Self;
+
+    const MAX: Self;
+
+    const BITS: u32;
+
+    /// A value of the type lies in the type's range.
+    fn known(self)
+        ensures { FitsSigned width (value self) };
+
+    /// The same value in the wider type.
+    fn to_wide(self) -> Self::Wide
+        ensures same { Self.Wide.value result ≡ value self }
+        ensures range { FitsSigned width (value self) };
+
+    /// The difference, which lies in the type.
+    fn minus(self, other: Self) -> Self
+        requires { FitsSigned width (value self -ℤ value other) }
+        ensures { value result ≡ value self -ℤ value other };
+
+    ghost bits_are: { BITS ≡ bits width };
+
+    ghost some_bits: { 2 ≤ hbits width };
+
+    ghost bits_split: { bits width ≡ hbits width + 1 };
+
+    ghost wide_bits: { hbits Self.Wide.width ≡ 2 * hbits width + 1 };
+
+    ghost zero_value: { value ZERO ≡ pos 0 };
+
+    ghost one_value: { value ONE ≡ pos 1 };
+
+    ghost min_value: { value MIN ≡ negsuc (2 ^ hbits width - 1) };
+
+    ghost max_value: { value MAX ≡ pos (2 ^ hbits width - 1) };
+
+    /// Values are ordered and compared as their whole numbers are.
+    ghost order: { (a b : Self) → Self.cmp a b ≡ int_cmp (value a) (value b) };
+
+    ghost partial_order: { (a b : Self) → Self.partial_cmp a b ≡ Some (int_cmp (value a) (value b)) };
+
+    ghost equality: { (a b : Self) → IsTrue (Self.eq a b) ↔ (value a ≡ value b) };
+
+    /// One value stands for each whole number.
+    ghost injective: { (a b : Self) → value a ≡ value b → a ≡ b };
+}

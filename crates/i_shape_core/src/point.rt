@@ -1,0 +1,82 @@
+//! Points and vectors over whole coordinates.
+
+ghost use Rattle.std.specs.Prelude.{◌≡◌, ◌-ℤ◌, ◌↔◌, IsTrue, FitsSigned};
+ghost use Rattle.i_shape_core.specs.IntPoint.{point_of, IsSafe, IsSafeCoordinate};
+ghost use Rattle.i_shape_core.specs.Point.{cross_of, dot_of, vector};
+
+use crate::number::{IntNumber, WideIntNumber};
+use std::ops::Sub;
+
+/// A point, or the vector between two points. Points are ordered by x, then by y.
+#[derive(Clone, Copy, PartialEq, Eq, PartialOrd, Ord, Debug)]
+pub struct IntPoint<I> {
+    pub x: I,
+    pub y: I,
+}
+
+/// A contour: its points in order, read as a cycle.
+pub type IntContour<I> = Vec<IntPoint<I>>;
+
+impl<I: IntNumber> IntPoint<I> {
+    /// The origin.
+    pub const ZERO: IntPoint<I> = IntPoint {
+        x: I::ZERO,
+        y: I::ZERO,
+    };
+
+    pub fn new(x: I, y: I) -> IntPoint<I>
+        ensures { result ≡ record { x = x; y = y } }
+    {
+        IntPoint { x, y }
+    }
+
+    /// The cross product of two vectors. It always fits.
+    pub fn cross_product(self, other: IntPoint<I>) -> I::Wide
+        ensures { I.Wide.value result ≡ cross_of (point_of I.value self) (point_of I.value other) }
+    {
+        let left = self.x.to_wide().wrapping_mul(other.y.to_wide());
+        let right = self.y.to_wide().wrapping_mul(other.x.to_wide());
+        left.wrapping_sub(right)
+    }
+
+    /// The dot product of two vectors. It fits unless all four coordinates are the least number.
+    pub fn dot_product(self, other: IntPoint<I>) -> I::Wide
+        requires { ¬ ((self.x ≡ I.MIN) × (self.y ≡ I.MIN) × (other.x ≡ I.MIN) × (other.y ≡ I.MIN)) }
+        ensures { I.Wide.value result ≡ dot_of (point_of I.value self) (point_of I.value other) }
+    {
+        let left = self.x.to_wide().wrapping_mul(other.x.to_wide());
+        let right = self.y.to_wide().wrapping_mul(other.y.to_wide());
+        left.wrapping_add(right)
+    }
+
+    /// Whether both coordinates lie strictly between -2^(BITS-2) and 2^(BITS-2).
+    pub fn is_in_safe_range(&self) -> bool
+        ensures { IsTrue result ↔ IsSafe I.width (point_of I.value self.now) }
+    {
+        is_safe_coordinate(self.x) && is_safe_coordinate(self.y)
+    }
+}
+
+fn is_safe_coordinate<I: IntNumber>(coordinate: I) -> bool
+    ensures { IsTrue result ↔ IsSafeCoordinate I.width (I.value coordinate) }
+{
+    let low = I::MIN.to_wide().divide(I::Wide::TWO);
+    let high = I::Wide::ZERO.wrapping_sub(low);
+    let wide = coordinate.to_wide();
+    low < wide && wide < high
+}
+
+impl<I: IntNumber> Sub<IntPoint<I>> for IntPoint<I> {
+    type Output = IntPoint<I>;
+
+    ghost can_sub = { λ a b. FitsSigned I.width (I.value a.x -ℤ I.value b.x) × FitsSigned I.width (I.value a.y -ℤ I.value b.y) };
+
+    ghost sub_gives = { λ a b r. point_of I.value r ≡ vector (point_of I.value b) (point_of I.value a) };
+
+    fn sub(self, rhs: IntPoint<I>) -> IntPoint<I> {
+        IntPoint {
+            x: self.x.minus(rhs.x),
+            y: self.y.minus(rhs.y),
+        }
+    }
+}

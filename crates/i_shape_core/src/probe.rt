@@ -1,0 +1,94 @@
+//! The view of a contour that counts visits.
+
+ghost use Rattle.std.specs.Prelude.{◌≡◌, ◌+◌, ◌<◌, ◌^◌, ◌-◌, ℕ, List, map, length, MatchResult};
+ghost use Rattle.std.specs.List.{All};
+ghost use Rattle.i_shape_core.specs.IntPoint.{contour_of, IsSafe};
+ghost use Rattle.i_shape_core.specs.Contour.{point_at};
+ghost use Rattle.i_shape_core.specs.Probe.{Seen};
+ghost use Rattle.i_shape_core.specs.Turn.{IsTurn};
+ghost use Rattle.i_shape_core.specs.declared.error.ShapeError.TheVariants.{OutOfMemory};
+
+use crate::error::ShapeError;
+use crate::number::IntNumber;
+use crate::point::{IntContour, IntPoint};
+use crate::turn::{Turn, turn_of};
+use std::alloc::Global;
+use std::marker::Model;
+
+/// The only view of a contour that a cleaner's walk is given. It counts the vertices visited.
+#[derive(Drop)]
+pub struct Probe<'a, I: IntNumber> {
+    points: &'a [IntPoint<I>],
+    count: u128,
+}
+
+impl<'a, I: IntNumber> Model for Probe<'a, I> {
+    ghost Value = { Seen I };
+
+    ghost view = { λ p. record { contour = p.points.now; visits = p.count } };
+
+    ghost invariant = { λ p. All (IsSafe I.width) (contour_of I.value p.points.now) };
+}
+
+impl<'a, I: IntNumber> Probe<'a, I> {
+    /// A probe of a contour of safe points, with nothing visited.
+    pub fn new(contour: &'a [IntPoint<I>]) -> Probe<'a, I>
+        requires { All (IsSafe I.width) (contour_of I.value contour.now) }
+        ensures contour { result.contour ≡ contour.now }
+        ensures visits { result.visits ≡ 0 }
+    {
+        Probe {
+            points: contour,
+            count: 0,
+        }
+    }
+
+    /// The number of points.
+    pub fn len(&self) -> usize
+        ensures { result ≡ length self.now.contour }
+    {
+        self.points.len()
+    }
+
+    /// How the contour turns at `place`, with these neighbours. Counts one visit.
+    pub fn turn(&mut self, previous: usize, place: usize, next: usize) -> Turn
+        requires previous_within { previous < length self.old.contour }
+        requires place_within { place < length self.old.contour }
+        requires next_within { next < length self.old.contour }
+        requires room { self.old.visits < u128.MAX }
+        ensures turn { let c = contour_of I.value self.old.contour in IsTurn (point_at c previous) (point_at c place) (point_at c next) result }
+        ensures contour { self.new.contour ≡ self.old.contour }
+        ensures visits { self.new.visits ≡ self.old.visits + 1 }
+    {
+        self.count += 1;
+        turn_of(self.points[previous], self.points[place], self.points[next])
+    }
+
+    /// Counts one visit.
+    pub fn skip(&mut self)
+        requires { self.old.visits < u128.MAX }
+        ensures contour { self.new.contour ≡ self.old.contour }
+        ensures visits { self.new.visits ≡ self.old.visits + 1 }
+    {
+        self.count += 1;
+    }
+
+    /// The number of visits so far.
+    pub fn visits(&self) -> u128
+        ensures { result ≡ self.now.visits }
+    {
+        self.count
+    }
+
+    /// The points at these places, in the order given, and the number of visits.
+    pub fn keep(self, alloc: Global, indices: &[usize]) -> Result<(IntContour<I>, u128), ShapeError>
+        requires { All (λ k. k < length self.contour) indices.now }
+        ensures { MatchResult result (λ kept. (contour_of I.value kept.0.items ≡ map (point_at (contour_of I.value self.entry.contour)) indices.now) × (kept.1 ≡ self.entry.visits)) (λ e. e ≡ OutOfMemory) }
+    {
+        let mut kept = Vec::with_capacity(alloc, indices.len())?;
+        for index in indices {
+            kept.push_reserved(self.points[*index]);
+        }
+        Ok((kept, self.count))
+    }
+}

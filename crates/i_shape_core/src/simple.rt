@@ -1,0 +1,63 @@
+//! Contours without zero turns: the test, and the cleaned copy.
+
+ghost use Rattle.std.specs.Prelude.{◌≡◌, ◌↔◌, ◌<◌, List, length, IsTrue, IfOk, IsOkUnless, option_map};
+ghost use Rattle.std.specs.List.{All};
+ghost use Rattle.i_shape_core.specs.IntPoint.{contour_of, IsSafe};
+ghost use Rattle.i_shape_core.specs.Point.{Point};
+ghost use Rattle.i_shape_core.specs.Contour.{IsSimple};
+ghost use Rattle.i_shape_core.specs.Answers.{SimpleAnswer, KeptAnswer};
+
+use crate::error::ShapeError;
+use crate::number::{IntNumber, WideIntNumber};
+use crate::point::{IntContour, IntPoint};
+use crate::simplifier::ContourSimplifier;
+use std::alloc::Global;
+
+/// The test of a contour of safe points for zero turns, and its copy without them.
+pub trait SimpleContour<I: IntNumber> {
+    /// The contour over whole numbers.
+    ghost contour: { Self → List Point };
+
+    /// Whether there are at least three vertices and no zero turn, the closing edge included.
+    /// One pass; it takes no memory.
+    fn is_simple(&self) -> bool
+        requires { All (IsSafe I.width) (contour self.now) }
+        ensures { IsTrue result ↔ IsSimple (contour self.now) };
+
+    /// The contour without zero turns, in the order of the input: the one end up to rotation of removing them in any order.
+    /// `None` exactly where every order leaves fewer than three points. Double area and containment are kept.
+    /// The only error is `OutOfMemory`; below three points no memory is taken.
+    fn simplified(&self, alloc: Global) -> Result<Option<IntContour<I>>, ShapeError>
+        requires { All (IsSafe I.width) (contour self.now) }
+        ensures answer { IfOk result (λ r. SimpleAnswer (contour self.now) (option_map (λ kept. contour_of I.value kept.items) r)) }
+        ensures kept { IfOk result (λ r. KeptAnswer (contour self.now) (option_map (λ kept. contour_of I.value kept.items) r)) }
+        ensures short { length (contour self.now) < 3 → result ≡ Ok None }
+        ensures memory { IsOkUnless result ShapeError.OutOfMemory };
+}
+
+impl<I: IntNumber> SimpleContour<I> for &[IntPoint<I>] {
+    ghost contour = { λ points. contour_of I.value points.now };
+
+    fn is_simple(&self) -> bool {
+        let points: &[IntPoint<I>] = *self;
+        if points.len() < 3 {
+            return false;
+        }
+        let last = points.len() - 1;
+        let mut here = points[last];
+        let mut edge = here - points[last - 1];
+        for point in points {
+            let next = *point - here;
+            if edge.cross_product(next) == I::Wide::ZERO {
+                return false;
+            }
+            here = *point;
+            edge = next;
+        }
+        true
+    }
+
+    fn simplified(&self, alloc: Global) -> Result<Option<IntContour<I>>, ShapeError> {
+        ContourSimplifier::new(alloc).simplify_contour(*self)
+    }
+}

@@ -1,0 +1,163 @@
+//! The cleaner that removes zero turns.
+
+ghost use Rattle.std.specs.Prelude.{◌≡◌, ◌↔◌, ◌+◌, ◌-◌, ◌*◌, ◌^◌, ◌<◌, ◌≤◌, [], take, drop, min, IsTrue, length, vec_len, vec_capacity, IfOk, IsOkUnless, option_map};
+ghost use Rattle.std.specs.List.{All};
+ghost use Rattle.i_shape_core.specs.IntPoint.{contour_of, IsSafe};
+ghost use Rattle.i_shape_core.specs.Point.{IsZeroTurn};
+ghost use Rattle.i_shape_core.specs.Contour.{point_at};
+ghost use Rattle.i_shape_core.specs.Answers.{SimpleAnswer, KeptAnswer, VisitsAnswer};
+ghost use Rattle.i_shape_core.specs.Stack.{IsWalked, IsStacked, IsSettled};
+ghost use Rattle.i_shape_core.specs.Walk.{WalkAnswer};
+
+use crate::error::ShapeError;
+use crate::number::IntNumber;
+use crate::point::{IntContour, IntPoint};
+use crate::probe::Probe;
+use crate::turn::Turn;
+use std::alloc::Global;
+
+/// Removes zero turns. It keeps its memory from one contour to the next.
+#[derive(Drop)]
+pub struct ContourSimplifier {
+    stack: Vec<usize>,
+}
+
+impl ContourSimplifier {
+    /// A simplifier that takes its memory from `alloc`.
+    pub fn new(alloc: Global) -> ContourSimplifier {
+        ContourSimplifier {
+            stack: Vec::new(alloc),
+        }
+    }
+
+    /// The contour without zero turns, as `SimpleContour::simplified` gives it. The answer doesn't depend on earlier use,
+    /// nor on an earlier refusal. The only error is `OutOfMemory`.
+    pub fn simplify_contour<I: IntNumber>(
+        &mut self,
+        contour: &[IntPoint<I>],
+    ) -> Result<Option<IntContour<I>>, ShapeError>
+        requires { All (IsSafe I.width) (contour_of I.value contour.now) }
+        ensures answer { IfOk result (λ r. SimpleAnswer (contour_of I.value contour.now) (option_map (λ kept. contour_of I.value kept.items) r)) }
+        ensures kept { IfOk result (λ r. KeptAnswer (contour_of I.value contour.now) (option_map (λ kept. contour_of I.value kept.items) r)) }
+        ensures short { length contour.now < 3 → result ≡ Ok None }
+        ensures memory { IsOkUnless result ShapeError.OutOfMemory }
+    {
+        let (kept, _visits) = self.simplify_counted(contour)?;
+        Ok(kept)
+    }
+
+    /// The same, with the number of vertices visited: at most three for each vertex of the contour, at least one for each,
+    /// but for two where the contour collapses, and none where it has fewer than three.
+    pub fn simplify_counted<I: IntNumber>(
+        &mut self,
+        contour: &[IntPoint<I>],
+    ) -> Result<(Option<IntContour<I>>, u128), ShapeError>
+        requires { All (IsSafe I.width) (contour_of I.value contour.now) }
+        ensures answer { IfOk result (λ r. SimpleAnswer (contour_of I.value contour.now) (option_map (λ kept. contour_of I.value kept.items) r.0)) }
+        ensures kept { IfOk result (λ r. KeptAnswer (contour_of I.value contour.now) (option_map (λ kept. contour_of I.value kept.items) r.0)) }
+        ensures visits { IfOk result (λ r. VisitsAnswer (contour_of I.value contour.now) (option_map (λ kept. contour_of I.value kept.items) r.0) r.1) }
+        ensures short { length contour.now < 3 → result ≡ Ok (None, 0) }
+        ensures memory { IsOkUnless result ShapeError.OutOfMemory }
+    {
+        if contour.len() < 3 {
+            return Ok((None, 0));
+        }
+        self.stack.clear();
+        self.stack.reserve(contour.len())?;
+        let probe = stack_places(Probe::new(contour), &mut self.stack);
+        close(probe, *self.stack.allocator(), self.stack.as_slice())
+    }
+}
+
+/// Whether the contour has a zero turn at `place`, between these neighbours. Counts one visit.
+fn is_zero_at<I: IntNumber>(
+    probe: &mut Probe<'_, I>,
+    previous: usize,
+    place: usize,
+    next: usize,
+) -> bool
+    requires previous_within { previous < length probe.old.contour }
+    requires place_within { place < length probe.old.contour }
+    requires next_within { next < length probe.old.contour }
+    requires room { probe.old.visits < u128.MAX }
+    ensures test { let c = contour_of I.value probe.old.contour in IsTrue result ↔ IsZeroTurn (point_at c previous) (point_at c place) (point_at c next) }
+    ensures contour { probe.new.contour ≡ probe.old.contour }
+    ensures visits { probe.new.visits ≡ probe.old.visits + 1 }
+{
+    probe.turn(previous, place, next) != Turn::Turning
+}
+
+/// Pops from the stack while its top is a zero turn between the one below it and `place`.
+fn pop_zero_turns<I: IntNumber>(probe: &mut Probe<'_, I>, stack: &mut Vec<usize>, place: usize)
+    requires within { place < length probe.old.contour }
+    requires walked { IsWalked IsZeroTurn (contour_of I.value probe.old.contour) stack.old.items place probe.old.visits }
+    ensures contour { probe.new.contour ≡ probe.old.contour }
+    ensures stacked { IsStacked IsZeroTurn (contour_of I.value probe.old.contour) stack.new.items place }
+    ensures settled { IsSettled IsZeroTurn (contour_of I.value probe.old.contour) stack.new.items place }
+    ensures short { vec_len stack.new ≤ place }
+    ensures room { vec_capacity stack.new ≡ vec_capacity stack.old }
+    ensures most { probe.new.visits + vec_len stack.new ≤ 2 * place + 1 }
+    ensures least { place ≤ probe.new.visits + min (vec_len stack.new) 1 }
+{
+    while stack.len() >= 2 {
+        let top = stack.len() - 1;
+        if !is_zero_at(probe, stack[top - 1], stack[top], place) {
+            return;
+        }
+        stack.pop();
+    }
+}
+
+/// Puts the places of the contour on the stack one by one, and takes zero turns off it.
+fn stack_places<'a, I: IntNumber>(mut probe: Probe<'a, I>, stack: &mut Vec<usize>) -> Probe<'a, I>
+    requires fresh { probe.visits ≡ 0 }
+    requires empty { stack.old.items ≡ [] }
+    requires room { length probe.contour ≤ vec_capacity stack.old }
+    ensures contour { result.contour ≡ probe.entry.contour }
+    ensures walked { let c = contour_of I.value probe.entry.contour in IsWalked IsZeroTurn c stack.new.items (length c) result.visits }
+{
+    for place in 0..probe.len() {
+        pop_zero_turns(&mut probe, stack, place);
+        stack.push_reserved(place);
+    }
+    probe
+}
+
+/// Takes zero turns from both ends of the stack, where it closes to a cycle.
+fn close<I: IntNumber>(
+    mut probe: Probe<'_, I>,
+    alloc: Global,
+    stack: &[usize],
+) -> Result<(Option<IntContour<I>>, u128), ShapeError>
+    requires { let c = contour_of I.value probe.contour in IsWalked IsZeroTurn c stack.now (length c) probe.visits }
+    ensures answer { IfOk result (λ r. WalkAnswer IsZeroTurn (contour_of I.value probe.entry.contour) (option_map (λ kept. contour_of I.value kept.items) r.0) r.1) }
+    ensures memory { IsOkUnless result ShapeError.OutOfMemory }
+{
+    let mut left = stack;
+    while left.len() >= 3 {
+        let last = left.len() - 1;
+        if is_zero_at(&mut probe, left[last], left[0], left[1]) {
+            left = without_first(left);
+        } else if is_zero_at(&mut probe, left[last - 1], left[last], left[0]) {
+            left = without_last(left);
+        } else {
+            let (kept, visits) = probe.keep(alloc, left)?;
+            return Ok((Some(kept), visits));
+        }
+    }
+    Ok((None, probe.visits()))
+}
+
+fn without_first(places: &[usize]) -> &[usize]
+    requires { 0 < length places.now }
+    ensures { result.now ≡ drop 1 places.now }
+{
+    &places[1..]
+}
+
+fn without_last(places: &[usize]) -> &[usize]
+    requires { 0 < length places.now }
+    ensures { result.now ≡ take (length places.now - 1) places.now }
+{
+    &places[..places.len() - 1]
+}
