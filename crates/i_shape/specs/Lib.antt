@@ -1,0 +1,11 @@
+pub use Rattle.i_shape_core.specs.Widths
+pub use Rattle.i_shape_core.specs.Point
+pub use Rattle.i_shape_core.specs.IntPoint
+pub use Rattle.i_shape_core.specs.Contour
+pub use Rattle.i_shape_core.specs.Edges
+pub use Rattle.i_shape_core.specs.Convex
+pub use Rattle.i_shape_core.specs.Laws
+pub use Rattle.i_shape_core.specs.Answers
+pub use Rattle.i_shape_core.specs.Turn
+pub use Rattle.i_shape_core.specs.Probe
+pub use Rattle.i_shape_core.specs.Refusals

@@ -1,0 +1,3 @@
+//! Names for lists of points of any kind.
+
+pub mod data;

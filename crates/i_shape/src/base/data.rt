@@ -1,0 +1,14 @@
+//! Paths, contours, shapes and shape lists of points of any kind.
+
+/// Points in order.
+pub type Path<P> = Vec<P>;
+
+pub type Paths<P> = Vec<Path<P>>;
+
+/// Points in order, read as a cycle.
+pub type Contour<P> = Vec<P>;
+
+/// An outer contour and its holes.
+pub type Shape<P> = Vec<Contour<P>>;
+
+pub type Shapes<P> = Vec<Shape<P>>;

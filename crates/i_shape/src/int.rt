@@ -1,0 +1,7 @@
+//! Contours, shapes and shape lists of whole-number points.
+
+pub mod path;
+pub mod shape;
+pub mod simple;
+
+pub use i_shape_core::point::IntPoint;

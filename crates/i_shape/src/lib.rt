@@ -1,0 +1,8 @@
+//! Contours, shapes and shape lists over whole numbers.
+#![tactic(auto)]
+
+pub mod base;
+pub mod int;
+
+pub use i_shape_core::error::ShapeError;
+pub use i_shape_core::number::IntNumber;

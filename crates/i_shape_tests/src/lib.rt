@@ -1,0 +1,7 @@
+//! Worked contours, as tests of the public calls.
+#![tactic(auto)]
+
+#[cfg(test)]
+mod given;
+#[cfg(test)]
+mod simple;
