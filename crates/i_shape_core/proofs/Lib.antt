@@ -39,3 +39,11 @@ pub mod Areas
 pub mod LastEdge
 -- the definitions at contours that are written out
 pub mod Examples
+-- the canonical form
+pub mod Order
+pub mod Rounds
+pub mod Starts
+pub mod Search
+pub mod Readings
+pub mod RotatedEdges
+pub mod CanonicalForm

@@ -11,3 +11,5 @@ pub mod Probe
 pub mod Refusals
 pub mod Walk
 pub mod Stack
+pub mod Canonical
+pub mod Rounds
