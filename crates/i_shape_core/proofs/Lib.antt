@@ -37,5 +37,9 @@ pub mod Around
 pub mod Spikes
 pub mod Areas
 pub mod LastEdge
+-- measures
+pub mod Compared
+pub mod SummedArea
+pub mod SliceArea
 -- the definitions at contours that are written out
 pub mod Examples

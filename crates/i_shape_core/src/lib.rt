@@ -1,6 +1,8 @@
 //! Contours over whole numbers: numbers and points, turns, the cleaners of one contour, and the laws that cleaning keeps.
 #![tactic(auto)]
 
+pub mod area;
+pub mod contour;
 pub mod error;
 pub mod laws;
 pub mod number;
