@@ -37,6 +37,10 @@ pub mod Around
 pub mod Spikes
 pub mod Areas
 pub mod LastEdge
+-- measures
+pub mod Compared
+pub mod SummedArea
+pub mod SliceArea
 -- the definitions at contours that are written out
 pub mod Examples
 -- the canonical form

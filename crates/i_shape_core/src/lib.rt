@@ -2,6 +2,8 @@
 #![tactic(auto)]
 
 pub mod canonical;
+pub mod area;
+pub mod contour;
 pub mod error;
 pub mod laws;
 pub mod number;
