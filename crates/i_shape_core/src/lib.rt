@@ -1,6 +1,7 @@
 //! Contours over whole numbers: numbers and points, turns, the cleaners of one contour, and the laws that cleaning keeps.
 #![tactic(auto)]
 
+pub mod despike;
 pub mod error;
 pub mod laws;
 pub mod number;
