@@ -4,6 +4,7 @@
 pub mod canonical;
 pub mod area;
 pub mod contour;
+pub mod despike;
 pub mod error;
 pub mod laws;
 pub mod number;
