@@ -1,6 +1,6 @@
 //! The safe-range test of a resource.
 ghost use Rattle.std.specs.Prelude.{◌↔◌, IsTrue};
-ghost use Rattle.i_shape_source.specs.Safe.{IsSafePath, AreSafePaths};
+ghost use Rattle.i_shape_source.specs.SafePaths.{IsSafePath, AreSafePaths};
 
 use crate::int::resource::IntShapeResource;
 use i_shape_core::number::IntNumber;

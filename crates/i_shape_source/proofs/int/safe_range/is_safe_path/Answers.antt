@@ -1,6 +1,6 @@
 use Rattle.std.proofs.Common.{arith, IsTrue, ◌↔◌}
 use Rattle.std.proofs.lemmas.Grind.{common_steps}
-use Rattle.i_shape_source.proofs.SafePaths.{AreSafePoints, safe_from_points, points_from_safe}
+use Rattle.i_shape_source.proofs.SafePoints.{AreSafePoints, safe_from_points, points_from_safe}
 use Rattle.i_shape_source.proofs.int.safe_range.is_safe_path.Goals as goal
 
 pub returns : goal.returns

@@ -5,7 +5,7 @@ use Rattle.std.specs.List.{All}
 use Rattle.std.proofs.lemmas.List.Elements.{All-nil, All-cons, All-tail, All-map}
 use Rattle.i_shape_core.specs.declared.point.IntPoint.{IntPoint}
 use Rattle.i_shape_core.specs.IntPoint.{point_of, contour_of, IsSafe}
-use Rattle.i_shape_source.specs.Safe.{IsSafePath}
+use Rattle.i_shape_source.specs.SafePaths.{IsSafePath}
 
 module _ {I : Type 0} (width : Width) (value : I → ℤ) where
   abbrev pub AreSafePoints : List (IntPoint I) → Type 0
