@@ -10,3 +10,6 @@ pub use Rattle.i_shape_core.specs.Turn
 pub use Rattle.i_shape_core.specs.Probe
 pub use Rattle.i_shape_core.specs.Refusals
 pub use Rattle.i_shape_core.specs.Canonical
+pub use Rattle.i_shape_source.specs.LentPaths
+pub use Rattle.i_shape_source.specs.Paths
+pub use Rattle.i_shape_source.specs.SafePaths

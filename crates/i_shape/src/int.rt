@@ -1,6 +1,7 @@
 //! Contours, shapes and shape lists of whole-number points.
 
 pub mod path;
+pub mod safe_range;
 pub mod shape;
 pub mod simple;
 

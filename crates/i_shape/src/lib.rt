@@ -3,6 +3,7 @@
 
 pub mod base;
 pub mod int;
+pub mod source;
 
 pub use i_shape_core::error::ShapeError;
 pub use i_shape_core::number::IntNumber;

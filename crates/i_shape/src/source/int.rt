@@ -1,0 +1,6 @@
+//! Borrowed paths of whole-number points.
+
+pub mod contour;
+pub mod resource;
+pub mod shape;
+pub mod shapes;
