@@ -1,0 +1,2 @@
+mod EndToEnd
+mod ContoursHeld

@@ -9,3 +9,6 @@ pub use Rattle.i_shape_core.specs.Answers
 pub use Rattle.i_shape_core.specs.Turn
 pub use Rattle.i_shape_core.specs.Probe
 pub use Rattle.i_shape_core.specs.Refusals
+pub mod Flat
+pub mod ContoursBuffer
+pub mod Lending

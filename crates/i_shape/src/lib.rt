@@ -2,6 +2,7 @@
 #![tactic(auto)]
 
 pub mod base;
+pub mod flat;
 pub mod int;
 
 pub use i_shape_core::error::ShapeError;

@@ -1,0 +1,5 @@
+//! Flat buffers of whole-number contours and shapes.
+
+mod contours;
+
+pub use contours::FlatContoursBuffer;
