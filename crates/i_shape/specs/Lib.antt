@@ -12,3 +12,4 @@ pub use Rattle.i_shape_core.specs.Refusals
 pub mod Flat
 pub mod ContoursBuffer
 pub mod Lending
+pub mod ShapesBuffer

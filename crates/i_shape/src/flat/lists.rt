@@ -78,7 +78,7 @@ pub fn copied_ranges(
 }
 
 /// How many points and contours some shapes have.
-#[derive(Clone, Copy, Debug, PartialEq, Eq)]
+#[derive(Clone, Copy)]
 pub struct Counts {
     pub points: usize,
     pub contours: usize,

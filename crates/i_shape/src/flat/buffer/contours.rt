@@ -1,6 +1,6 @@
 //! The flat buffer whose ranges name contours.
 
-ghost use Rattle.std.specs.Prelude.{◌≡◌, ◌+◌, ◌<◌, ◌++◌, ◌∷◌, ◌↔◌, ◌⊎◌, [], length, vec_len, IfOk, OnOk, OnErr, IsOkUnless, IsErrOf, IsTrue};
+ghost use Rattle.std.specs.Prelude.{◌≡◌, ◌+◌, ◌<◌, ◌≤◌, ◌++◌, ◌∷◌, ◌↔◌, ◌⊎◌, [], length, vec_len, vec_capacity, IfOk, OnOk, OnErr, IsOkUnless, IsErrOf, IsTrue};
 ghost use Rattle.std.specs.List.{All};
 ghost use Rattle.std.specs.Borrow.{sem};
 ghost use Rattle.i_shape.specs.Flat.{InOrder, part_of, slices, contours_of, shapes_of, joined};
@@ -102,6 +102,7 @@ impl<T: IntNumber> FlatContoursBuffer<T> {
     pub fn clear_and_reserve(&mut self, points: usize, contours: usize) -> Result<(), ShapeError>
         ensures ok { OnOk result (HoldsContours self.new []) }
         ensures err { OnErr result (SameLists self.old self.new) }
+        ensures room { OnOk result ((points ≤ vec_capacity self.new.points) × (contours ≤ vec_capacity self.new.ranges)) }
         ensures memory { IsOkUnless result ShapeError.OutOfMemory }
     {
         reserve_total(&mut self.points, points)?;
@@ -117,10 +118,7 @@ impl<T: IntNumber> FlatContoursBuffer<T> {
         ensures err { OnErr result (SameLists self.old self.new) }
         ensures memory { IsOkUnless result ShapeError.OutOfMemory }
     {
-        reserve_total(&mut self.points, contour.len())?;
-        reserve_total(&mut self.ranges, 1)?;
-        self.points.clear();
-        self.ranges.clear();
+        self.clear_and_reserve(contour.len(), 1)?;
         append_contour(&mut self.points, &mut self.ranges, contour);
         Ok(())
     }
@@ -132,13 +130,8 @@ impl<T: IntNumber> FlatContoursBuffer<T> {
         ensures err { OnErr result (SameLists self.old self.new) }
         ensures too_many { IsErrOf result ShapeError.TooManyPoints ↔ (usize.MAX < length (joined (contours_of shape.now))) }
     {
-        let Some(count) = checked_points_count(shape) else {
-            return Err(ShapeError::TooManyPoints);
-        };
-        reserve_total(&mut self.points, count)?;
-        reserve_total(&mut self.ranges, shape.len())?;
-        self.points.clear();
-        self.ranges.clear();
+        let count = checked_points_count(shape).ok_or(ShapeError::TooManyPoints)?;
+        self.clear_and_reserve(count, shape.len())?;
         append_contours(&mut self.points, &mut self.ranges, shape);
         Ok(())
     }
@@ -152,13 +145,8 @@ impl<T: IntNumber> FlatContoursBuffer<T> {
             ↔ ((usize.MAX < length (joined (joined (shapes_of shapes.now))))
             ⊎ (usize.MAX < length (joined (shapes_of shapes.now)))) }
     {
-        let Some(counts) = checked_counts(shapes) else {
-            return Err(ShapeError::TooManyPoints);
-        };
-        reserve_total(&mut self.points, counts.points)?;
-        reserve_total(&mut self.ranges, counts.contours)?;
-        self.points.clear();
-        self.ranges.clear();
+        let counts = checked_counts(shapes).ok_or(ShapeError::TooManyPoints)?;
+        self.clear_and_reserve(counts.points, counts.contours)?;
         append_all_contours(&mut self.points, &mut self.ranges, shapes);
         Ok(())
     }

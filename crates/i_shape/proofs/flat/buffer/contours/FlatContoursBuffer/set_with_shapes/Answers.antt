@@ -3,4 +3,4 @@ use Rattle.i_shape.proofs.flat.buffer.contours.FlatContoursBuffer.set_with_shape
 
 pub returns-clause-ok : goal.returns-clause-ok
 returns-clause-ok g c =
-    HoldsContours-appended _ _ _ _ _ c.clear.ensures.items c.clear-2.ensures.items c.clear.ensures.len c.append_all_contours.ensures.points c.append_all_contours.ensures.ranges
+    HoldsContours-appended c.clear_and_reserve.new.self _ _ c.in_ok-clear_and_reserve.ensures.ok c.append_all_contours.ensures.points c.append_all_contours.ensures.ranges
