@@ -13,3 +13,7 @@ pub use Rattle.i_shape_core.specs.Canonical
 pub use Rattle.i_shape_source.specs.LentPaths
 pub use Rattle.i_shape_source.specs.Paths
 pub use Rattle.i_shape_source.specs.SafePaths
+pub mod Flat
+pub mod ContoursBuffer
+pub mod Lending
+pub mod ShapesBuffer
