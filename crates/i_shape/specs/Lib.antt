@@ -9,3 +9,7 @@ pub use Rattle.i_shape_core.specs.Answers
 pub use Rattle.i_shape_core.specs.Turn
 pub use Rattle.i_shape_core.specs.Probe
 pub use Rattle.i_shape_core.specs.Refusals
+pub mod Survivors
+pub mod ShapeLists
+pub mod ShapeAnswers
+pub mod InPlace
