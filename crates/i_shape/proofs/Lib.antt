@@ -2,3 +2,4 @@ mod EndToEnd
 mod ContoursHeld
 mod ShapeRanges
 mod ShapesHeld
+pub mod Surviving

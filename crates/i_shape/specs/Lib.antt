@@ -17,3 +17,7 @@ pub mod Flat
 pub mod ContoursBuffer
 pub mod Lending
 pub mod ShapesBuffer
+pub mod Survivors
+pub mod ShapeLists
+pub mod ShapeAnswers
+pub mod InPlace

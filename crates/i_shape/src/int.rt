@@ -1,5 +1,6 @@
 //! Contours, shapes and shape lists of whole-number points.
 
+mod cleaning;
 pub mod path;
 pub mod safe_range;
 pub mod shape;
