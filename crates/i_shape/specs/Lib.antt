@@ -21,3 +21,4 @@ pub mod Survivors
 pub mod ShapeLists
 pub mod ShapeAnswers
 pub mod InPlace
+pub mod IntPoints
