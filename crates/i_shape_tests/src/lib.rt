@@ -4,4 +4,8 @@
 #[cfg(test)]
 mod given;
 #[cfg(test)]
+mod plain;
+#[cfg(test)]
 mod simple;
+#[cfg(test)]
+mod small_grid;
