@@ -4,7 +4,11 @@
 #[cfg(test)]
 mod given;
 #[cfg(test)]
+mod number;
+#[cfg(test)]
 mod plain;
+#[cfg(test)]
+mod probe;
 #[cfg(test)]
 mod simple;
 #[cfg(test)]

@@ -34,14 +34,22 @@ pub fn is_zero_turn(a: Pair, b: Pair, c: Pair) -> bool {
 fn is_back(a: Pair, b: Pair, c: Pair) -> bool {
     let v = way(a, b);
     let w = way(b, c);
-    is_zero_turn(a, b, c) && v[0].wrapping_mul(w[0]).wrapping_add(v[1].wrapping_mul(w[1])) <= 0
+    is_zero_turn(a, b, c)
+        && v[0]
+            .wrapping_mul(w[0])
+            .wrapping_add(v[1].wrapping_mul(w[1]))
+            <= 0
 }
 
 fn is_zero_at(list: &[Pair], place: usize) -> bool
     requires { place < length list.now }
 {
     let count = list.len();
-    is_zero_turn(list[before(count, place)], list[place], list[after(count, place)])
+    is_zero_turn(
+        list[before(count, place)],
+        list[place],
+        list[after(count, place)],
+    )
 }
 
 fn first_zero_turn(list: &[Pair]) -> Option<usize>
@@ -58,13 +66,13 @@ fn first_zero_turn(list: &[Pair]) -> Option<usize>
 fn last_zero_turn(list: &[Pair]) -> Option<usize>
     ensures { IfSome result (λ place. place < length list.now) }
 {
-    let mut found = None;
-    for place in 0..list.len() {
+    for behind in 0..list.len() {
+        let place = list.len() - 1 - behind;
         if is_zero_at(list, place) {
-            found = Some(place);
+            return Some(place);
         }
     }
-    found
+    None
 }
 
 /// Which of the zero turns goes first.
@@ -101,7 +109,9 @@ pub fn is_rotation(one: &[Pair], other: &[Pair]) -> bool {
         return true;
     }
     for start in 0..one.len() {
-        if one[start..] == other[..one.len() - start] && one[..start] == other[one.len() - start..] {
+        if one[start..] == other[..one.len() - start]
+            && one[..start] == other[one.len() - start..]
+        {
             return true;
         }
     }
@@ -159,7 +169,10 @@ struct Vertex {
 pub fn ring_walk(alloc: Global, list: &[Pair]) -> Result<(Vec<Pair>, u128), AllocError> {
     let mut ring = Vec::new(alloc);
     for point in list {
-        ring.push(Vertex { point: *point, is_tested: false })?;
+        ring.push(Vertex {
+            point: *point,
+            is_tested: false,
+        })?;
     }
     let mut place = 0;
     let mut visits: u128 = 0;

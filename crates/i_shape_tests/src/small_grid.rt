@@ -1,6 +1,5 @@
-use crate::given::contour;
+use crate::given::{contour, pairs};
 use crate::plain::{Order, Pair, deleted, is_rotation, ring_walk, visits_of_stack};
-use i_shape::int::IntPoint;
 use i_shape::int::simple::{ContourSimplifier, SimpleContour};
 use std::alloc::{AllocError, Global};
 use std::process::Abort;
@@ -25,14 +24,6 @@ fn list_of(alloc: Global, count: usize, code: usize) -> Result<Vec<Pair>, AllocE
         rest = rest / GRID;
     }
     Ok(list)
-}
-
-fn pairs(alloc: Global, contour: &[IntPoint<i32>]) -> Result<Vec<Pair>, AllocError> {
-    let mut pairs = Vec::new(alloc);
-    for point in contour {
-        pairs.push([point.x, point.y])?;
-    }
-    Ok(pairs)
 }
 
 /// Both orders of deletion end in rotations of what `simplified` answers, or collapse where it is `None`; the visits are
