@@ -5,7 +5,7 @@ use Rattle.std.specs.List.{All}
 use Rattle.std.proofs.lemmas.List.{get_or-map, length-map}
 use Rattle.std.proofs.lemmas.List.Elements.{All-map, All-get_or, All-from_get_or}
 use Rattle.i_shape.specs.IntPoints.{IntPoint}
-use Rattle.i_shape.specs.Point.{Point, origin}
+use Rattle.i_shape.specs.Point.{origin}
 use Rattle.i_shape_tool.specs.Points.{point_of, contour_of, IsSafePoint, IsSafe}
 
 -- the program's points are safe just where the contour that they stand for is

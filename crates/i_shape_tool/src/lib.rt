@@ -13,3 +13,6 @@ pub use answers::run;
 pub use command::Command;
 pub use fault::ToolFault;
 pub use program::{Complaint, serve};
+
+#[cfg(test)]
+mod tests;

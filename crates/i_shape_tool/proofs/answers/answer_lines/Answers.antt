@@ -4,7 +4,7 @@ use Rattle.std.proofs.lemmas.Str.{encode_ascii}
 use Rattle.i_shape_tool.specs.declared.fault.ToolFault.TheVariants.{OutOfMemory}
 use Rattle.i_shape_tool.specs.Points.{contour_of}
 use Rattle.i_shape_tool.specs.Run.{Answers, AnswersLine}
-use Rattle.i_shape_tool.proofs.Running.{answered_nothing, answer_more, first_fault}
+use Rattle.i_shape_tool.proofs.Running.{answered_nothing, answer_more, fault_after}
 use Rattle.i_shape_tool.proofs.answers.answer_lines.Goals as goal
 
 pub loop-rest-init : goal.loop-rest-init
@@ -14,19 +14,19 @@ pub returns-in_err-read_line-clause-err : goal.returns-in_err-read_line-clause-e
 returns-in_err-read_line-clause-err c =
     let p = err_from_is_err_and c.from_residual.result c.from_residual.ensures.1 in
     rw (p.1, p.2)
-    (first_fault c.args.command c.args.text.now c.loop-rest.rest.now c.first_line.result.1.now (string_bytes c.loop-rest.output) c.first_line.result.0.now c.loop-rest.number c.in_err-read_line.field-0.0 c.loop-rest.invariant.1 c.first_line.ensures.lines c.in_err-read_line.ensures.err)
+    (fault_after c.args.command c.args.text.now c.loop-rest.rest.now c.first_line.result.1.now (string_bytes c.loop-rest.output) c.first_line.result.0.now c.loop-rest.number c.in_err-read_line.field-0.0 c.loop-rest.invariant.1 c.first_line.ensures.lines c.in_err-read_line.ensures.err)
 
 pub returns-in_err-answer_contour-clause-err : goal.returns-in_err-answer_contour-clause-err
 returns-in_err-answer_contour-clause-err c =
     let p = err_from_is_err_and c.from_residual-in_err-answer_contour.result c.from_residual-in_err-answer_contour.ensures.1 in
     rw (p.1, p.2, c.in_err-answer_contour.ensures.memory)
-    (first_fault c.args.command c.args.text.now c.loop-rest.rest.now c.first_line.result.1.now (string_bytes c.loop-rest.output) c.first_line.result.0.now c.loop-rest.number OutOfMemory c.loop-rest.invariant.1 c.first_line.ensures.lines tt)
+    (fault_after c.args.command c.args.text.now c.loop-rest.rest.now c.first_line.result.1.now (string_bytes c.loop-rest.output) c.first_line.result.0.now c.loop-rest.number OutOfMemory c.loop-rest.invariant.1 c.first_line.ensures.lines tt)
 
 pub returns-in_err-push-clause-err : goal.returns-in_err-push-clause-err
 returns-in_err-push-clause-err c =
     let p = err_from_is_err_and c.from_residual-in_err-push.result c.from_residual-in_err-push.ensures.1 in
     rw (p.1, p.2)
-    (first_fault c.args.command c.args.text.now c.loop-rest.rest.now c.first_line.result.1.now (string_bytes c.loop-rest.output) c.first_line.result.0.now c.loop-rest.number OutOfMemory c.loop-rest.invariant.1 c.first_line.ensures.lines tt)
+    (fault_after c.args.command c.args.text.now c.loop-rest.rest.now c.first_line.result.1.now (string_bytes c.loop-rest.output) c.first_line.result.0.now c.loop-rest.number OutOfMemory c.loop-rest.invariant.1 c.first_line.ensures.lines tt)
 
 pub loop-rest-preserved : goal.loop-rest-preserved
 loop-rest-preserved c =
