@@ -6,7 +6,7 @@ ghost use Rattle.std.specs.Ordering.{MatchOrdering};
 ghost use Rattle.i_shape_core.specs.IntPoint.{point_of, contour_of, IsSafe};
 ghost use Rattle.i_shape_core.specs.Answers.{KeptAnswer};
 ghost use Rattle.i_shape_core.specs.Canonical.{IsBefore, IsLeast, CanonicalAnswer, started_at};
-ghost use Rattle.i_shape_core.specs.Rounds.{point_round};
+ghost use Rattle.i_shape_core.specs.Rounds.{point_round, Agree, Precedes};
 
 use crate::error::ShapeError;
 use crate::number::IntNumber;
@@ -59,27 +59,44 @@ pub fn least_start_counted<I: IntNumber>(contour: &[IntPoint<I>]) -> (usize, u12
     let count = contour.len();
     let mut kept = 0;
     let mut challenger = 1;
-    let mut matched = 0;
-    let mut comparisons: u128 = 0;
-    while challenger < count && matched < count {
-        comparisons += 1;
-        match compare_ahead(contour, kept, challenger, matched) {
-            Ordering::Equal => matched += 1,
+    let mut comparisons = 0;
+    while challenger < count {
+        let (compared, order) = compare_starts(contour, kept, challenger);
+        comparisons += compared as u128;
+        match order {
+            Ordering::Equal => break,
             Ordering::Less => {
-                if matched + 1 >= count - challenger {
+                if compared >= count - challenger {
                     break;
                 }
-                challenger += matched + 1;
-                matched = 0;
+                challenger += compared;
             }
             Ordering::Greater => {
-                kept = challenger.max(kept + matched + 1);
+                kept = challenger.max(kept + compared);
                 challenger = kept + 1;
-                matched = 0;
             }
         }
     }
     (kept, comparisons)
+}
+
+/// How many pairs of points were compared to order the rotations that start at `kept` and at `challenger`, and the order.
+fn compare_starts<I: IntNumber>(
+    contour: &[IntPoint<I>],
+    kept: usize,
+    challenger: usize,
+) -> (usize, Ordering)
+    requires kept_within { kept < length contour.now }
+    requires challenger_within { challenger < length contour.now }
+    ensures { let c = contour_of I.value contour.now in MatchOrdering result.1 (Precedes c kept challenger result.0) (Agree c kept challenger (length contour.now) × (result.0 ≡ length contour.now)) (Precedes c challenger kept result.0) }
+{
+    for matched in 0..contour.len() {
+        match compare_ahead(contour, kept, challenger, matched) {
+            Ordering::Equal => {}
+            order => return (matched + 1, order),
+        }
+    }
+    (contour.len(), Ordering::Equal)
 }
 
 /// How the points `matched` places after `kept` and after `challenger` are ordered.
