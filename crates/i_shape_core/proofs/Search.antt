@@ -1,10 +1,11 @@
 -- The search for the start of the least rotation.
-use Rattle.std.proofs.Common.{◌≡◌, ◌⊎◌, ℕ, suc, zero, ◌+◌, ◌-◌, ◌<◌, ◌≤◌, max, List, length, inl, inr, refl, sym, ap, subst, ◌∙◌, arith}
+use Rattle.std.proofs.Common.{◌≡◌, ◌⊎◌, ℕ, suc, zero, ◌+◌, ◌-◌, ◌<◌, ◌≤◌, max, List, length, inl, inr, refl, sym, ap, subst, subst₂, ◌∙◌, arith}
 use Rattle.std.proofs.lemmas.Bool.{cases_lt}
 use Rattle.i_shape_core.specs.Point.{Point}
-use Rattle.i_shape_core.specs.Rounds.{point_round, Agree, Precedes}
+use Rattle.i_shape_core.specs.Contour.{point_at}
+use Rattle.i_shape_core.specs.Rounds.{point_round, Agree, Precedes, AreAfter}
 use Rattle.i_shape_core.specs.Canonical.{IsBefore, IsLeast, started_at}
-use Rattle.i_shape_core.proofs.Rounds.{same-started, round-back}
+use Rattle.i_shape_core.proofs.Rounds.{same-started, round-back, round-low}
 use Rattle.i_shape_core.proofs.Starts.{StartsLeast, has_least_start, beaten}
 
 -- no start before the challenger but the kept one is least, of n starts
@@ -21,6 +22,30 @@ search_start c n long some = record {
   apart = omega arith;
   others = λ s l w least. omega arith;
 }
+
+pub after-more : (c : List Point) (p : Point) (j k : ℕ) → AreAfter c p j k → IsBefore p (point_at c k) → AreAfter c p j (k + 1)
+after-more c p j k before here s above below = elim (cases_lt s k) [
+  | inl l ↦ before s above l
+  | inr l ↦ let e : s ≡ k = omega arith in subst (λ (x : ℕ). IsBefore p (point_at c x)) (sym e) here
+]
+
+-- places whose points come after the first of the kept rotation start none that is least
+pub search_after : (c : List Point) (n i j r : ℕ) → IsSearch c n i j → j ≤ r → r ≤ n → AreAfter c (point_at c i) j r → IsSearch c n i r
+search_after c n i j r s above below h = record {
+  long = s.long;
+  within = s.within;
+  apart = omega (arith, s.apart);
+  others = λ x l w least. elim (cases_lt x j) [
+    | inl b ↦ s.others x b w least
+    | inr b ↦ absurd (beaten c x i 0 x (omega arith) (omega arith) (omega (arith, s.long)) (omega (arith, s.long, s.within)) (omega (arith, s.long)) (λ t m. absurd (omega arith)) (first x b l w) least)
+  ];
+}
+  where
+    start : (k : ℕ) → k < n → point_at c k ≡ point_round c (k + 0)
+    start k w = let e : k + 0 ≡ k = omega arith in sym (ap (point_round c) e ∙ round-low c k (omega (arith, s.long)))
+
+    first : (x : ℕ) → j ≤ x → x < r → x < n → IsBefore (point_round c (i + 0)) (point_round c (x + 0))
+    first x b l w = subst₂ IsBefore (start i s.within) (start x w) (h x b l)
 
 pub search_less : (c : List Point) (n i j m next : ℕ) → IsSearch c n i j → j < n → Precedes c i j m → j < next → next ≤ j + m → IsSearch c n i next
 search_less c n i j m next s wj h above below = record {

@@ -1,6 +1,7 @@
 -- Rotations of a contour, read by places that go round it twice. Private functions alone speak of them.
-use Rattle.std.specs.Prelude.{◌≡◌, ℕ, ◌+◌, ◌<◌, List, ◌++◌, length, get_or}
+use Rattle.std.specs.Prelude.{◌≡◌, ℕ, ◌+◌, ◌<◌, ◌≤◌, List, ◌++◌, length, get_or}
 use Rattle.i_shape_core.specs.Point.{Point, origin}
+use Rattle.i_shape_core.specs.Contour.{point_at}
 use Rattle.i_shape_core.specs.Canonical.{IsBefore}
 
 -- the point at place k of c, where the places go round twice
@@ -18,3 +19,7 @@ pub record Precedes (c : List Point) (i j k : ℕ) : Type 0 where
   pub within : matched < length c
   pub agree : Agree c i j matched
   pub before : IsBefore (point_round c (i + matched)) (point_round c (j + matched))
+
+-- the points of c from place j on and before place k come after p
+abbrev pub AreAfter : List Point → Point → ℕ → ℕ → Type 0
+AreAfter c p j k = (s : ℕ) → j ≤ s → s < k → IsBefore p (point_at c s)
