@@ -1,12 +1,13 @@
 //! The canonical form of a contour: the least rotation of what is left of it without zero turns.
 
-ghost use Rattle.std.specs.Prelude.{◌≡◌, ◌⊎◌, ◌+◌, ◌-◌, ◌*◌, ◌<◌, ◌≤◌, length, vec_len, IfOk, IsOkUnless, option_map};
+ghost use Rattle.std.specs.Prelude.{◌≡◌, ◌⊎◌, ℕ, ◌+◌, ◌-◌, ◌*◌, ◌<◌, ◌≤◌, min, length, vec_len, IfOk, IsOkUnless, option_map};
 ghost use Rattle.std.specs.List.{All};
 ghost use Rattle.std.specs.Ordering.{MatchOrdering};
 ghost use Rattle.i_shape_core.specs.IntPoint.{point_of, contour_of, IsSafe};
+ghost use Rattle.i_shape_core.specs.Contour.{point_at};
 ghost use Rattle.i_shape_core.specs.Answers.{KeptAnswer};
 ghost use Rattle.i_shape_core.specs.Canonical.{IsBefore, IsLeast, CanonicalAnswer, started_at};
-ghost use Rattle.i_shape_core.specs.Rounds.{point_round};
+ghost use Rattle.i_shape_core.specs.Rounds.{Agree, Precedes, AreAfter};
 
 use crate::error::ShapeError;
 use crate::number::IntNumber;
@@ -48,7 +49,8 @@ fn turn_to_least<I: IntNumber>(contour: &mut IntContour<I>)
 /// but one, and fewer than three for each. Lists are compared point by point, points by x and then by y.
 ///
 /// Two starts are compared point by point, and the one that loses takes along each start up to the point where it lost:
-/// the elimination of Shiloach, "Fast Canonization of Circular Strings", 1981. It takes no memory.
+/// the elimination of Shiloach, "Fast Canonization of Circular Strings", 1981. It takes linear time and no memory. The pair
+/// at which a pass over starts ends is read once more to go on from there, and counts once.
 pub fn least_start_counted<I: IntNumber>(contour: &[IntPoint<I>]) -> (usize, u128)
     requires { 0 < length contour.now }
     ensures within { result.0 < length contour.now }
@@ -59,44 +61,91 @@ pub fn least_start_counted<I: IntNumber>(contour: &[IntPoint<I>]) -> (usize, u12
     let count = contour.len();
     let mut kept = 0;
     let mut challenger = 1;
-    let mut matched = 0;
-    let mut comparisons: u128 = 0;
-    while challenger < count && matched < count {
-        comparisons += 1;
-        match compare_ahead(contour, kept, challenger, matched) {
-            Ordering::Equal => matched += 1,
+    let mut comparisons = 0;
+    while challenger < count {
+        let rival = next_rival(contour, kept, challenger);
+        comparisons += (rival - challenger) as u128;
+        if rival == count {
+            break;
+        }
+        let (compared, order) = compare_starts(contour, kept, rival);
+        comparisons += compared as u128;
+        match order {
+            Ordering::Equal => break,
             Ordering::Less => {
-                if matched + 1 >= count - challenger {
+                if compared >= count - rival {
                     break;
                 }
-                challenger += matched + 1;
-                matched = 0;
+                challenger = rival + compared;
             }
             Ordering::Greater => {
-                kept = challenger.max(kept + matched + 1);
+                kept = rival.max(kept + compared);
                 challenger = kept + 1;
-                matched = 0;
             }
         }
     }
     (kept, comparisons)
 }
 
-/// How the points `matched` places after `kept` and after `challenger` are ordered.
-fn compare_ahead<I: IntNumber>(
+/// The first place from `from` on whose point doesn't come after that at `kept`, or the end.
+fn next_rival<I: IntNumber>(contour: &[IntPoint<I>], kept: usize, from: usize) -> usize
+    requires kept_within { kept < length contour.now }
+    requires from_within { from ≤ length contour.now }
+    ensures within { (from ≤ result) × (result ≤ length contour.now) }
+    ensures passed { let c = contour_of I.value contour.now in AreAfter c (point_at c kept) from result }
+{
+    let first = contour[kept];
+    for place in from..contour.len() {
+        match compare_points(&first, &contour[place]) {
+            Ordering::Less => {}
+            Ordering::Equal | Ordering::Greater => return place,
+        }
+    }
+    contour.len()
+}
+
+/// How many pairs of points were compared to order the rotations that start at `kept` and at `rival`, and the order.
+fn compare_starts<I: IntNumber>(
     contour: &[IntPoint<I>],
     kept: usize,
-    challenger: usize,
-    matched: usize,
-) -> Ordering
+    rival: usize,
+) -> (usize, Ordering)
     requires kept_within { kept < length contour.now }
-    requires challenger_within { challenger < length contour.now }
-    requires matched_within { matched < length contour.now }
-    ensures { let c = contour_of I.value contour.now in let p = point_round c (kept + matched) in let q = point_round c (challenger + matched) in MatchOrdering result (IsBefore p q) (p ≡ q) (IsBefore q p) }
+    requires rival_within { rival < length contour.now }
+    ensures { let c = contour_of I.value contour.now in MatchOrdering result.1 (Precedes c kept rival result.0) (Agree c kept rival (length contour.now) × (result.0 ≡ length contour.now)) (Precedes c rival kept result.0) }
 {
-    let ours = contour[place_after(contour.len(), kept, matched)];
-    let theirs = contour[place_after(contour.len(), challenger, matched)];
-    compare_points(&ours, &theirs)
+    let count = contour.len();
+    let mut matched = 0;
+    while matched < count {
+        let ours = place_after(count, kept, matched);
+        let theirs = place_after(count, rival, matched);
+        let (agreed, order) = compare_runs(&contour[ours..], &contour[theirs..], count - matched);
+        match order {
+            Ordering::Equal => matched += agreed,
+            Ordering::Less => return (matched + agreed + 1, Ordering::Less),
+            Ordering::Greater => return (matched + agreed + 1, Ordering::Greater),
+        }
+    }
+    (count, Ordering::Equal)
+}
+
+/// How many of the first `most` points of two lists agree before one of the lists ends, and how the next ones are ordered.
+fn compare_runs<I: IntNumber>(
+    ours: &[IntPoint<I>],
+    theirs: &[IntPoint<I>],
+    most: usize,
+) -> (usize, Ordering)
+    ensures agree { let c = contour_of I.value ours.now in let d = contour_of I.value theirs.now in (t : ℕ) → t < result.0 → point_at c t ≡ point_at d t }
+    ensures told { let c = contour_of I.value ours.now in let d = contour_of I.value theirs.now in let k = result.0 in let room = min (min (length ours.now) (length theirs.now)) most in MatchOrdering result.1 ((k < room) × IsBefore (point_at c k) (point_at d k)) (k ≡ room) ((k < room) × IsBefore (point_at d k) (point_at c k)) }
+{
+    let room = ours.len().min(theirs.len()).min(most);
+    for place in 0..room {
+        match compare_points(&ours[place], &theirs[place]) {
+            Ordering::Equal => {}
+            order => return (place, order),
+        }
+    }
+    (room, Ordering::Equal)
 }
 
 /// How two points are ordered: by x, then by y.
