@@ -9,3 +9,5 @@ pub use Rattle.i_shape_core.specs.Answers
 pub use Rattle.i_shape_core.specs.Turn
 pub use Rattle.i_shape_core.specs.Probe
 pub use Rattle.i_shape_core.specs.Refusals
+pub mod ShapeLists
+pub mod ShapeAreas

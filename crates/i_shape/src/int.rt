@@ -1,5 +1,7 @@
 //! Contours, shapes and shape lists of whole-number points.
 
+pub mod area;
+pub mod count;
 pub mod path;
 pub mod shape;
 pub mod simple;
