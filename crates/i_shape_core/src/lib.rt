@@ -2,6 +2,7 @@
 #![tactic(auto)]
 
 pub mod area;
+mod bend;
 pub mod contour;
 pub mod error;
 pub mod laws;
