@@ -4,6 +4,7 @@
 pub mod area;
 mod bend;
 pub mod contour;
+pub mod despike;
 pub mod error;
 pub mod laws;
 pub mod number;
