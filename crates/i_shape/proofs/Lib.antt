@@ -3,3 +3,4 @@ mod ContoursHeld
 mod ShapeRanges
 mod ShapesHeld
 pub mod Surviving
+pub mod WrappedSums

@@ -22,3 +22,5 @@ pub mod ShapeLists
 pub mod ShapeAnswers
 pub mod InPlace
 pub mod IntPoints
+pub mod ShapeLists
+pub mod ShapeAreas

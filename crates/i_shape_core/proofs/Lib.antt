@@ -39,6 +39,7 @@ pub mod Areas
 pub mod LastEdge
 -- measures
 pub mod Compared
+pub mod Bends
 pub mod SummedArea
 pub mod SliceArea
 -- the definitions at contours that are written out

@@ -72,7 +72,7 @@ at_parts u [] r a n = absurd (n (sym (last_of_append origin u (r ∷ []))))
 at_parts u (x ∷ v) r a n = (last_but_one u (x ∷ v) r (last_of origin (u ++ r ∷ x ∷ v)) refl (omega arith) a n).1
 
 -- the last but one of the points without repeats is the last that differs from the last
-found : (c : List Point) (o : Point) → 1 ≤ length (dedup c) → last_differing (last_of origin c) o c ≡ point_at (dedup c) (length (dedup c) - 2)
+pub found : (c : List Point) (o : Point) → 1 ≤ length (dedup c) → last_differing (last_of origin c) o c ≡ point_at (dedup c) (length (dedup c) - 2)
 found c o h = go (last_differing (last_of origin c) o c) (stands_where (last_of origin c) o c)
   where
     parts : (r : Point) (d : List Point) (u v : List Point) → d ≡ u ++ r ∷ v → AllSame (last_of origin d) v → r ≢ last_of origin d → r ≡ point_at (dedup d) (length (dedup d) - 2)
@@ -160,13 +160,13 @@ pub items : {I : Type 0} (value : I → ℤ) (cs : List (IntPoint I)) (i : ℕ) 
 items {I} value cs i x h e = ap (contour_of value) (drop-cons cs i x h ∙ ap (λ (y : IntPoint I). y ∷ drop (suc i) cs) (sym e))
     ∙ ap (λ (j : ℕ). point_of value x ∷ contour_of value (drop j cs)) (sym (add-one i))
 
-drop_past : {X : Type 0} (xs : List X) (i : ℕ) → length xs ≤ i → drop i xs ≡ []
+pub drop_past : {X : Type 0} (xs : List X) (i : ℕ) → length xs ≤ i → drop i xs ≡ []
 drop_past [] zero h = refl
 drop_past [] (suc i) h = refl
 drop_past (x ∷ xs) zero h = absurd (omega arith)
 drop_past (x ∷ xs) (suc i) h = drop_past xs i (omega arith)
 
-last_point : {I : Type 0} (value : I → ℤ) (cs : List (IntPoint I)) (last : IntPoint I) → 0 < length cs → last ≡ get_or cs (length cs - 1) last → point_of value last ≡ last_of origin (contour_of value cs)
+pub last_point : {I : Type 0} (value : I → ℤ) (cs : List (IntPoint I)) (last : IntPoint I) → 0 < length cs → last ≡ get_or cs (length cs - 1) last → point_of value last ≡ last_of origin (contour_of value cs)
 last_point value [] last h e = absurd (omega arith)
 last_point value (x ∷ xs) last h e = ap (point_of value) (e ∙ ap (λ (i : ℕ). get_or (x ∷ xs) i last) (less_one (length xs))) ∙ last_item value x xs last
   where
@@ -241,7 +241,7 @@ same-told {I} value equal law p q = ap (λ (b : Bool). b && equal p.y q.y) (alik
 abbrev pub found_differing : {I : Type 0} → (I → ℤ) → IntPoint I → List (IntPoint I) → Option (IntPoint I)
 found_differing value p xs = find (λ q. not (is_same (point_of value p) (point_of value q))) (reverse xs)
 
-differing-found : {I : Type 0} (value : I → ℤ) (p : IntPoint I) (o : Point) (xs : List (IntPoint I))
+pub differing-found : {I : Type 0} (value : I → ℤ) (p : IntPoint I) (o : Point) (xs : List (IntPoint I))
     → last_differing (point_of value p) o (contour_of value xs) ≡ unwrap_or (option_map (point_of value) (found_differing value p xs)) o
 differing-found value p o [] = refl
 differing-found {I} value p o (x ∷ xs) =

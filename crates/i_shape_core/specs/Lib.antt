@@ -7,6 +7,7 @@ pub mod Convex
 pub mod Laws
 pub mod Answers
 pub mod Turn
+pub mod Bend
 pub mod Probe
 pub mod Refusals
 pub mod Walk

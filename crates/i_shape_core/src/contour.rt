@@ -6,8 +6,11 @@ ghost use Rattle.std.specs.List.{All};
 ghost use Rattle.i_shape_core.specs.IntPoint.{point_of, contour_of, IsSafe};
 ghost use Rattle.i_shape_core.specs.Point.{Point};
 ghost use Rattle.i_shape_core.specs.Edges.{shoelace, Inside, is_right};
+ghost use Rattle.i_shape_core.specs.Convex.{Convex};
 
 use crate::area::UnsafeArea;
+use crate::bend::{Bend, bend_of};
+use crate::despike::{are_same, last_other};
 use crate::number::{IntNumber, WideIntNumber};
 use crate::point::IntPoint;
 use crate::triangle::Triangle;
@@ -16,6 +19,12 @@ use crate::triangle::Triangle;
 pub trait ContourExtension<I: IntNumber> {
     /// The contour over whole numbers.
     ghost contour: { Self → List Point };
+
+    /// Whether, without the points that equal the one before them on the cycle, at most two are left, or the way over them
+    /// nowhere goes back the way it came and does not bend to the left at one place and to the right at another.
+    fn is_convex(&self) -> bool
+        requires { All (IsSafe I.width) (contour self.now) }
+        ensures { IsTrue result ↔ Convex (contour self.now) };
 
     /// Whether the double area, wrapped as `UnsafeArea::unsafe_area` wraps it, is at most zero. The contour has a point.
     fn is_clockwise_ordered(&self) -> bool
@@ -31,6 +40,32 @@ pub trait ContourExtension<I: IntNumber> {
 
 impl<I: IntNumber> ContourExtension<I> for &[IntPoint<I>] {
     ghost contour = { λ points. contour_of I.value points.now };
+
+    fn is_convex(&self) -> bool {
+        let points: &[IntPoint<I>] = *self;
+        let Some(last) = points.last() else {
+            return true;
+        };
+        let mut here = *last;
+        let Some(mut behind) = last_other(points, here) else {
+            return true;
+        };
+        let mut bend = Bend::Straight;
+        let mut changes: usize = 0;
+        for point in points {
+            if are_same(here, *point) {
+                continue;
+            }
+            let Some(both) = bend.joined_with(bend_of(behind, here, *point)) else {
+                return false;
+            };
+            bend = both;
+            changes += 1;
+            behind = here;
+            here = *point;
+        }
+        changes <= 2 || bend != Bend::Reversal
+    }
 
     fn is_clockwise_ordered(&self) -> bool {
         let points: &[IntPoint<I>] = *self;

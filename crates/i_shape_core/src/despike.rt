@@ -30,7 +30,7 @@ impl<I: IntNumber> DeSpikeContour<I> for IntContour<I> {
     }
 }
 
-fn are_same<I: IntNumber>(a: IntPoint<I>, b: IntPoint<I>) -> bool
+pub(crate) fn are_same<I: IntNumber>(a: IntPoint<I>, b: IntPoint<I>) -> bool
     ensures { result ≡ is_same (point_of I.value a) (point_of I.value b) }
 {
     a == b
@@ -47,7 +47,10 @@ fn goes_back<I: IntNumber>(a: IntPoint<I>, b: IntPoint<I>, c: IntPoint<I>) -> bo
 }
 
 /// The last of the points that isn't `point`.
-fn last_other<I: IntNumber>(points: &[IntPoint<I>], point: IntPoint<I>) -> Option<IntPoint<I>>
+pub(crate) fn last_other<I: IntNumber>(
+    points: &[IntPoint<I>],
+    point: IntPoint<I>,
+) -> Option<IntPoint<I>>
     ensures { result ≡ find (λ other. not (is_same (point_of I.value point) (point_of I.value other))) (reverse points.now) }
 {
     points

@@ -3,6 +3,7 @@
 
 pub mod canonical;
 pub mod area;
+mod bend;
 pub mod contour;
 pub mod despike;
 pub mod error;
