@@ -14,3 +14,4 @@ pub mod Walk
 pub mod Stack
 pub mod Canonical
 pub mod Rounds
+pub mod RingWalk

@@ -1,14 +1,21 @@
 //! Contours without spikes: the test, and the cleaned copy.
 
-ghost use Rattle.std.specs.Prelude.{◌≡◌, ◌↔◌, List, reverse, IsTrue, not};
+ghost use Rattle.std.specs.Prelude.{◌≡◌, ◌↔◌, ◌+◌, ◌-◌, ◌*◌, ◌^◌, ◌<◌, ◌≤◌, List, length, reverse, IsTrue, IfOk, IsOkUnless, not, option_map};
 ghost use Rattle.std.specs.List.{All, find};
 ghost use Rattle.i_shape_core.specs.IntPoint.{contour_of, point_of, IsSafe};
 ghost use Rattle.i_shape_core.specs.Point.{Point, IsBack};
 ghost use Rattle.i_shape_core.specs.Convex.{NoSpikes, is_same};
+ghost use Rattle.i_shape_core.specs.Answers.{SpikelessAnswer, KeptAnswer, VisitsAnswer};
+ghost use Rattle.i_shape_core.specs.Walk.{WalkAnswer};
+ghost use Rattle.i_shape_core.specs.RingWalk.{IsRingState, PassesAtPlace};
 
+use crate::error::ShapeError;
 use crate::number::IntNumber;
 use crate::point::{IntContour, IntPoint};
+use crate::probe::Probe;
+use crate::ring::Ring;
 use crate::turn::{Turn, turn_of};
+use std::alloc::Global;
 
 /// The test of a contour of safe points for spikes, and its copy without them.
 pub trait DeSpikeContour<I: IntNumber> {
@@ -20,6 +27,27 @@ pub trait DeSpikeContour<I: IntNumber> {
     fn has_no_spikes(&self) -> bool
         requires { All (IsSafe I.width) (contour self.now) }
         ensures { IsTrue result ↔ NoSpikes (contour self.now) };
+
+    /// The contour without the points at which the way turns back or stands still, in the order of the input.
+    /// `None` exactly where removing zero turns in any order leaves fewer than three points; otherwise such removals
+    /// lead from the answer to the same contour as from the input. Double area and containment are kept.
+    /// The only error is `OutOfMemory`; below three points no memory is taken.
+    fn despiked_contour(&self, alloc: Global) -> Result<Option<IntContour<I>>, ShapeError>
+        requires { All (IsSafe I.width) (contour self.now) }
+        ensures answer { IfOk result (λ r. SpikelessAnswer (contour self.now) (option_map (λ kept. contour_of I.value kept.items) r)) }
+        ensures kept { IfOk result (λ r. KeptAnswer (contour self.now) (option_map (λ kept. contour_of I.value kept.items) r)) }
+        ensures short { length (contour self.now) < 3 → result ≡ Ok None }
+        ensures memory { IsOkUnless result ShapeError.OutOfMemory };
+
+    /// The same, with the number of vertices visited: at most three for each vertex of the contour, at least one for each,
+    /// but for two where the contour collapses, and none where it has fewer than three.
+    fn despiked_counted(&self, alloc: Global) -> Result<(Option<IntContour<I>>, u128), ShapeError>
+        requires { All (IsSafe I.width) (contour self.now) }
+        ensures answer { IfOk result (λ r. SpikelessAnswer (contour self.now) (option_map (λ kept. contour_of I.value kept.items) r.0)) }
+        ensures kept { IfOk result (λ r. KeptAnswer (contour self.now) (option_map (λ kept. contour_of I.value kept.items) r.0)) }
+        ensures visits { IfOk result (λ r. VisitsAnswer (contour self.now) (option_map (λ kept. contour_of I.value kept.items) r.0) r.1) }
+        ensures short { length (contour self.now) < 3 → result ≡ Ok (None, 0) }
+        ensures memory { IsOkUnless result ShapeError.OutOfMemory };
 }
 
 impl<I: IntNumber> DeSpikeContour<I> for IntContour<I> {
@@ -28,6 +56,54 @@ impl<I: IntNumber> DeSpikeContour<I> for IntContour<I> {
     fn has_no_spikes(&self) -> bool {
         has_no_reversal(self.as_slice())
     }
+
+    fn despiked_contour(&self, alloc: Global) -> Result<Option<IntContour<I>>, ShapeError> {
+        let (kept, _visits) = self.despiked_counted(alloc)?;
+        Ok(kept)
+    }
+
+    fn despiked_counted(&self, alloc: Global) -> Result<(Option<IntContour<I>>, u128), ShapeError> {
+        if self.len() < 3 {
+            return Ok((None, 0));
+        }
+        let ring = Ring::full(alloc, self.len())?;
+        walk(alloc, Probe::new(self.as_slice()), ring)
+    }
+}
+
+/// Whether the contour turns back or stands still at the ring's place. Counts one visit.
+fn is_back_at<I: IntNumber>(probe: &mut Probe<'_, I>, ring: &Ring) -> bool
+    requires enough { 1 < length ring.now.places }
+    requires below { All (λ k. k < length probe.old.contour) ring.now.places }
+    requires room { probe.old.visits < u128.MAX }
+    ensures test { IsTrue result ↔ PassesAtPlace IsBack (contour_of I.value probe.old.contour) ring.now.places }
+    ensures contour { probe.new.contour ≡ probe.old.contour }
+    ensures visits { probe.new.visits ≡ probe.old.visits + 1 }
+{
+    probe.turn(ring.before(), ring.place(), ring.after()) == Turn::Back
+}
+
+/// Walks round the ring until each place of it is tested, and takes out those that turn back.
+fn walk<I: IntNumber>(
+    alloc: Global,
+    mut probe: Probe<'_, I>,
+    mut ring: Ring,
+) -> Result<(Option<IntContour<I>>, u128), ShapeError>
+    requires { IsRingState IsBack (contour_of I.value probe.contour) ring probe.visits }
+    ensures answer { IfOk result (λ r. WalkAnswer IsBack (contour_of I.value probe.entry.contour) (option_map (λ kept. contour_of I.value kept.items) r.0) r.1) }
+    ensures memory { IsOkUnless result ShapeError.OutOfMemory }
+{
+    while ring.untested() > 0 {
+        if !is_back_at(&mut probe, &ring) {
+            ring.keep();
+        } else if ring.len() > 3 {
+            ring.remove();
+        } else {
+            return Ok((None, probe.visits()));
+        }
+    }
+    let (kept, visits) = probe.keep(alloc, ring.into_order().as_slice())?;
+    Ok((Some(kept), visits))
 }
 
 pub(crate) fn are_same<I: IntNumber>(a: IntPoint<I>, b: IntPoint<I>) -> bool

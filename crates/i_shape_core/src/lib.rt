@@ -11,6 +11,7 @@ pub mod laws;
 pub mod number;
 pub mod point;
 pub mod probe;
+mod ring;
 pub mod simple;
 pub mod simplifier;
 pub mod triangle;
