@@ -1,0 +1,4 @@
+mod EndToEnd
+mod ContoursHeld
+mod ShapeRanges
+mod ShapesHeld

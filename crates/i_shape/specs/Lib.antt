@@ -12,3 +12,7 @@ pub use Rattle.i_shape_core.specs.Refusals
 pub use Rattle.i_shape_source.specs.LentPaths
 pub use Rattle.i_shape_source.specs.Paths
 pub use Rattle.i_shape_source.specs.SafePaths
+pub mod Flat
+pub mod ContoursBuffer
+pub mod Lending
+pub mod ShapesBuffer

@@ -2,6 +2,7 @@
 #![tactic(auto)]
 
 pub mod base;
+pub mod flat;
 pub mod int;
 pub mod source;
 

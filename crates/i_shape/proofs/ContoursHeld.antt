@@ -1,0 +1,29 @@
+-- When a buffer holds contours.
+use Rattle.std.proofs.Common.{◌≡◌, ℕ, ◌+◌, ◌≤◌, List, [], ◌∷◌, ◌++◌, length, vec_len, refl, sym, ap, ◌∙◌, arith, append-nil}
+use Rattle.std.specs.List.{All}
+use Rattle.i_shape_core.specs.declared.point.IntPoint.{IntPoint}
+use Rattle.i_shape.specs.declared.flat.buffer.contours.FlatContoursBuffer.{FlatContoursBuffer}
+use Rattle.i_shape.specs.Flat.{InOrder, slices, joined, end_to_end}
+use Rattle.i_shape.specs.ContoursBuffer.{HoldsContours}
+use Rattle.i_shape.proofs.EndToEnd.{slices-end_to_end, InOrder-end_to_end}
+
+-- where its two lists have the points and the ranges of contours end to end
+pub HoldsContours-from_lists : {T : Type 0} (buffer : FlatContoursBuffer T) (contours : List (List (IntPoint T))) →
+    buffer.points.items ≡ joined contours → buffer.ranges.items ≡ end_to_end 0 contours → HoldsContours buffer contours
+HoldsContours-from_lists buffer contours all named =
+    let whole : joined contours ≡ joined contours ++ [] = sym (append-nil (joined contours)) in
+    let fits : 0 + length (joined contours) ≤ length (joined contours) = omega arith in
+    record {
+      points = all;
+      ranges = named;
+      readable = rw (all, named) (InOrder-end_to_end contours 0 (length (joined contours)) fits);
+      slices = rw (all, named) (ap (λ w. slices w (end_to_end 0 contours)) whole ∙ slices-end_to_end [] [] contours 0 refl);
+    }
+
+-- where the contours were appended to an empty buffer
+pub HoldsContours-appended : {T : Type 0} (empty buffer : FlatContoursBuffer T) (contours : List (List (IntPoint T))) → HoldsContours empty [] →
+    buffer.points.items ≡ empty.points.items ++ joined contours → buffer.ranges.items ≡ empty.ranges.items ++ end_to_end (vec_len empty.points) contours →
+    HoldsContours buffer contours
+HoldsContours-appended empty buffer contours none points_are ranges_are =
+    let at_0 : vec_len empty.points ≡ 0 = empty.points.ok.0 ∙ ap length none.points in
+    HoldsContours-from_lists buffer contours (rw (points_are, none.points) refl) (rw (ranges_are, none.ranges, at_0) refl)

@@ -1,0 +1,54 @@
+-- What a list of points beside lists of ranges means.
+use Rattle.std.specs.Prelude.{ℕ, ◌+◌, ◌<◌, ◌≤◌, List, [], ◌∷◌, ◌++◌, length, map, slice_range, Option, Some, None}
+use Rattle.std.specs.List.{All}
+use Rattle.std.specs.declared.ops.Range.{Range}
+use Rattle.std.specs.Global.{Vec}
+
+-- the range lies in a list of n members, and does not run backwards
+abbrev pub InOrder : ℕ → Range ℕ → Type 0
+InOrder n range = (range.start ≤ range.end) × (range.end ≤ n)
+
+-- the part of a list that a range names: none of it where the range is empty or runs backwards
+abbrev pub part_of : {P : Type 0} → List P → Range ℕ → List P
+part_of list range = slice_range list range.start range.end
+
+-- the parts of the points that the ranges name, in order
+abbrev pub slices : {P : Type 0} → List P → List (Range ℕ) → List (List P)
+slices points ranges = map (part_of points) ranges
+
+-- each shape range names some contour ranges, and these the contours of the shape: none where the shape range is empty or runs backwards
+abbrev pub shapes : {P : Type 0} → List P → List (Range ℕ) → List (Range ℕ) → List (List (List P))
+shapes points contour_ranges shape_ranges = map (λ range. slices points (part_of contour_ranges range)) shape_ranges
+
+-- a shape range that is not empty names contour ranges that are there, each of which lies in a list of n points
+abbrev pub IsReadableShape : ℕ → List (Range ℕ) → Range ℕ → Type 0
+IsReadableShape n contour_ranges range =
+    range.start < range.end → (range.end ≤ length contour_ranges) × All (InOrder n) (part_of contour_ranges range)
+
+-- a list of vectors, as a list of lists
+abbrev pub contours_of : {P : Type 0} → List (Vec P) → List (List P)
+contours_of shape = map (λ contour. contour.items) shape
+
+-- a list of shapes, as lists alone
+abbrev pub shapes_of : {P : Type 0} → List (Vec (Vec P)) → List (List (List P))
+shapes_of list = map (λ shape. contours_of shape.items) list
+
+-- lists end to end
+abbrev pub joined : {P : Type 0} → List (List P) → List P
+joined [] = []
+joined (part ∷ parts) = part ++ joined parts
+
+-- the ranges of lists that lie end to end from a place on
+abbrev pub end_to_end : {P : Type 0} → ℕ → List (List P) → List (Range ℕ)
+end_to_end start [] = []
+end_to_end start (part ∷ parts) = record { start = start; end = start + length part } ∷ end_to_end (start + length part) parts
+
+-- the list that a vector has, where there is one
+abbrev pub items_of : {P : Type 0} → Option (Vec P) → Option (List P)
+items_of None = None
+items_of (Some vector) = Some vector.items
+
+-- the contours that a shape has, where there is one
+abbrev pub shape_of : {P : Type 0} → Option (Vec (Vec P)) → Option (List (List P))
+shape_of None = None
+shape_of (Some shape) = Some (contours_of shape.items)

@@ -1,0 +1,7 @@
+//! Flat buffers of whole-number contours and shapes.
+
+mod contours;
+mod shapes;
+
+pub use contours::FlatContoursBuffer;
+pub use shapes::FlatShapesBuffer;
