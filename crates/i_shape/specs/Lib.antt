@@ -16,3 +16,4 @@ pub mod Flat
 pub mod ContoursBuffer
 pub mod Lending
 pub mod ShapesBuffer
+pub mod LentRanges

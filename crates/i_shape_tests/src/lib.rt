@@ -1,7 +1,10 @@
 //! Worked contours, as tests of the public calls.
 #![tactic(auto)]
 
+pub mod consumers;
 #[cfg(test)]
 mod given;
+#[cfg(test)]
+mod resource;
 #[cfg(test)]
 mod simple;
