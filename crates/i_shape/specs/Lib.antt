@@ -24,3 +24,4 @@ pub mod InPlace
 pub mod IntPoints
 pub mod ShapeLists
 pub mod ShapeAreas
+pub mod LentRanges

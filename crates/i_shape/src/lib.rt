@@ -4,6 +4,7 @@
 pub mod base;
 pub mod flat;
 pub mod int;
+mod macros;
 pub mod source;
 
 pub use i_shape_core::error::ShapeError;

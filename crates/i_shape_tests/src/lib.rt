@@ -1,6 +1,7 @@
 //! Worked contours, as tests of the public calls.
 #![tactic(auto)]
 
+pub mod consumers;
 #[cfg(test)]
 mod given;
 #[cfg(test)]
@@ -9,6 +10,7 @@ mod number;
 mod plain;
 #[cfg(test)]
 mod probe;
+mod resource;
 #[cfg(test)]
 mod simple;
 #[cfg(test)]
