@@ -13,3 +13,6 @@ pub mod Flat
 pub mod ContoursBuffer
 pub mod Lending
 pub mod ShapesBuffer
+pub mod Survivors
+pub mod Compact
+pub mod AppendedAnswers
