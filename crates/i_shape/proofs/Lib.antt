@@ -4,3 +4,4 @@ mod ShapeRanges
 mod ShapesHeld
 pub mod Surviving
 pub mod WrappedSums
+mod CompactLaws

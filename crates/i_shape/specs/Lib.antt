@@ -25,3 +25,5 @@ pub mod IntPoints
 pub mod ShapeLists
 pub mod ShapeAreas
 pub mod LentRanges
+pub mod Compact
+pub mod AppendedAnswers
