@@ -4,4 +4,8 @@
 #[cfg(test)]
 mod given;
 #[cfg(test)]
+mod given_shapes;
+#[cfg(test)]
+mod shapes;
+#[cfg(test)]
 mod simple;
