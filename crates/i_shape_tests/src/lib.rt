@@ -11,6 +11,9 @@ mod plain;
 #[cfg(test)]
 mod probe;
 mod resource;
+mod given_shapes;
+#[cfg(test)]
+mod shapes;
 #[cfg(test)]
 mod simple;
 #[cfg(test)]

@@ -1,6 +1,6 @@
 //! Shapes and shape lists without zero turns: the tests, and the cleaned copies.
 
-ghost use Rattle.std.specs.Prelude.{◌≡◌, ◌↔◌, List, IsTrue, IfOk, IsOkUnless, option_map};
+ghost use Rattle.std.specs.Prelude.{◌≡◌, ◌↔◌, List, [], IsTrue, IfOk, IsOkUnless, option_map};
 ghost use Rattle.std.specs.List.{All};
 ghost use Rattle.i_shape_core.specs.Point.{Point, IsZeroTurn};
 ghost use Rattle.i_shape_core.specs.IntPoint.{contour_of, IsSafe};
@@ -8,12 +8,15 @@ ghost use Rattle.i_shape_core.specs.Contour.{IsSimple, End, stay};
 ghost use Rattle.i_shape_core.specs.Answers.{SimpleAnswer};
 ghost use Rattle.i_shape_core.proofs.CycleLaws.{every_order};
 ghost use Rattle.i_shape.specs.ShapeLists.{shape_of, shapes_of, IsSafeShape, IsSafeList};
-ghost use Rattle.i_shape.specs.ShapeAnswers.{ShapeClean, ListClean, EachContour, EachShape};
+ghost use Rattle.i_shape.specs.ShapeAnswers.{ShapeClean, ListClean, ListAnswer, EachContour, EachShape};
+ghost use Rattle.i_shape.specs.InPlace.{CleansInPlace};
 
 use crate::int::cleaning::{
-    ContourCleaner, clean_list, clean_shape, is_clean_list, is_clean_shape,
+    ContourCleaner, clean_list, clean_list_in_place, clean_shape, clean_shape_in_place,
+    is_clean_list, is_clean_shape,
 };
 use crate::int::shape::{IntContour, IntShape, IntShapes};
+use crate::int::simple::Simplify;
 use i_shape_core::error::ShapeError;
 use i_shape_core::number::IntNumber;
 use i_shape_core::simple::SimpleContour;
@@ -99,5 +102,25 @@ impl<I: IntNumber> SimpleShapes<I> for &[IntShape<I>] {
 
     fn simplified(&self, alloc: Global) -> Result<IntShapes<I>, ShapeError> {
         clean_list(&mut ContourSimplifier::new(alloc), alloc, *self)
+    }
+}
+
+impl<I: IntNumber> Simplify for IntShape<I> {
+    ghost can_simplify = { λ shape. IsSafeShape I.width (shape_of I.value shape.items) };
+
+    ghost simplify_gives = { λ old r new. CleansInPlace (λ s. shape_of I.value s.items) (EachContour IsSimple) (ShapeClean SimpleAnswer) [] old new r };
+
+    fn simplify_contour(&mut self) -> Result<bool, ShapeError> {
+        clean_shape_in_place::<I, ContourSimplifier>(self)
+    }
+}
+
+impl<I: IntNumber> Simplify for IntShapes<I> {
+    ghost can_simplify = { λ shapes. IsSafeList I.width (shapes_of I.value shapes.items) };
+
+    ghost simplify_gives = { λ old r new. CleansInPlace (λ s. shapes_of I.value s.items) (EachShape IsSimple) (ListAnswer SimpleAnswer) [] old new r };
+
+    fn simplify_contour(&mut self) -> Result<bool, ShapeError> {
+        clean_list_in_place::<I, ContourSimplifier>(self)
     }
 }
