@@ -22,7 +22,6 @@ pub mod ShapeLists
 pub mod ShapeAnswers
 pub mod InPlace
 pub mod IntPoints
-pub mod ShapeLists
 pub mod ShapeAreas
 pub mod LentRanges
 pub mod Compact

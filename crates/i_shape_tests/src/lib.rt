@@ -1,17 +1,20 @@
-//! Worked contours, as tests of the public calls.
+//! Worked contours, as tests of the public calls, and consumers that are proved from a bound alone.
 #![tactic(auto)]
 
 pub mod consumers;
+
 #[cfg(test)]
 mod given;
+#[cfg(test)]
+mod given_shapes;
 #[cfg(test)]
 mod number;
 #[cfg(test)]
 mod plain;
 #[cfg(test)]
 mod probe;
+#[cfg(test)]
 mod resource;
-mod given_shapes;
 #[cfg(test)]
 mod shapes;
 #[cfg(test)]
