@@ -8,6 +8,7 @@ use Rattle.i_shape_core.specs.Edges.{shoelace, area_of_edge}
 use Rattle.i_shape_core.specs.Answers.{SimpleAnswer, SpikelessAnswer, KeptAnswer, VisitsAnswer, IsKept, IsFlat}
 use Rattle.i_shape_core.proofs.CycleLaws.{every_order, straightens, agreed}
 use Rattle.i_shape_core.proofs.Straight.{reach_by_weaker}
+use Rattle.i_shape_core.proofs.Spikes.{spikeless_end}
 use Rattle.i_shape_core.proofs.Edges as edges
 use Rattle.i_shape_core.proofs.Inside.{inside_laws}
 use Rattle.i_shape_core.proofs.Polynomials.{ring, plus, number}
@@ -56,6 +57,7 @@ spikeless_answer c None visits w = λ e f. (every_order c).none w.rest e (reach_
 spikeless_answer c (Some d) visits w = record {
   ended = w.ended;
   enough = w.enough;
+  spikeless = spikeless_end d w.enough w.ended.none_left;
   stands = stands;
   ends = λ e f a b. (agreed c d).ends e f w.ended w.enough a b;
 }

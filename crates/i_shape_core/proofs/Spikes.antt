@@ -12,15 +12,15 @@ use Rattle.std.specs.Ordering.{int_eq}
 use lib.Dec.{leb, leb→le, le→leb}
 use Rattle.std.specs.Cmp.{signed_Decides}
 use Rattle.i_shape_core.specs.Point.{Point, origin, cross, dot, IsBack}
-use Rattle.i_shape_core.specs.Contour.{point_at}
-use Rattle.i_shape_core.specs.Convex.{is_same, is_reversal, changes_after, last_of, dedup, NoSpikes, turn_at}
+use Rattle.i_shape_core.specs.Contour.{point_at, place_before, place_after, IsRemovable}
+use Rattle.i_shape_core.specs.Convex.{is_same, is_reversal, changes_after, last_of, dedup, NoSpikes, IsReversal, turn_at}
 use Rattle.i_shape_core.specs.IntPoint.{point_of, contour_of, IsSafe}
 use Rattle.i_shape_core.specs.declared.point.IntPoint.{IntPoint}
 use Rattle.i_shape_core.proofs.ConvexLaws.{Has, IsReversed}
 use Rattle.i_shape_core.proofs.Walked.{last_item}
 use Rattle.i_shape_core.proofs.Around.{Met, AllSame, has_met, last_but_one, none_change}
-use Rattle.i_shape_core.proofs.Dedup.{same_yes, same_no, same_self, last_of_append}
-use Rattle.i_shape_core.proofs.Back.{back_cases}
+use Rattle.i_shape_core.proofs.Dedup.{IsApart, same_yes, same_no, same_self, last_of_append, apart_from_places, dedup-same}
+use Rattle.i_shape_core.proofs.Back.{back_cases, back_from_cases}
 use Rattle.i_shape_core.proofs.Contours.{safe-at}
 
 reversal_yes : (a b c : Point) → is_reversal a b c ≡ true → IsReversed a b c
@@ -347,3 +347,25 @@ onward_stays o p q n = go (is_reversal o p q) refl
     go : (b : Bool) → is_reversal o p q ≡ b → b ≡ false
     go false f = refl
     go true f = let r = reversal_yes o p q f in absurd (n (r.0, not_above (dot o p q) r.1))
+
+-- a contour of which no point turns back has no spikes
+pub spikeless_end : (d : List Point) → 3 ≤ length d → ((k : ℕ) → IsRemovable IsBack d k → ⊥) → NoSpikes d
+unfolding turn_at
+spikeless_end d h none = subst (λ (c : List Point). 3 ≤ length c → ((k : ℕ) → IsReversal c k → ⊥) → NoSpikes d) same (λ m n. record { enough = m; none = n }) h reversal
+  where
+    apart : IsApart d
+    apart = apart_from_places d (λ k l e. none k (record {
+      enough = h;
+      within = l;
+      passes = back_from_cases (point_at d (place_before (length d) k)) (point_at d k) (point_at d (place_after (length d) k)) (inl e);
+    }))
+
+    same : dedup d ≡ d
+    same = dedup-same d apart
+
+    reversal : (k : ℕ) → IsReversal d k → ⊥
+    reversal k r = none k (record {
+      enough = h;
+      within = r.within;
+      passes = (r.no_turn, not_above (dot (point_at d (place_before (length d) k)) (point_at d k) (point_at d (place_after (length d) k))) r.back);
+    })

@@ -44,10 +44,11 @@ abbrev pub VisitsAnswer : List Point → Option (List Point) → ℕ → Type 0
 VisitsAnswer c None visits = IsVisited (length c) (length c - 2) visits
 VisitsAnswer c (Some e) visits = IsVisited (length c) (length c) visits
 
--- d is left of c where points at which the way turns back or stands still are removed until none is; no end of c has collapsed, and the ends of d are those of c
+-- d is left of c where points at which the way turns back or stands still are removed until none is; it has no spikes; no end of c has collapsed, and the ends of d are those of c
 pub record IsDespiked (c d : List Point) : Type 0 where
   pub ended : End IsBack c d
   pub enough : 3 ≤ length d
+  pub spikeless : NoSpikes d
   pub stands : (e : List Point) → End IsZeroTurn c e → 3 ≤ length e
   pub ends : (e f : List Point) → End IsZeroTurn c e → End IsZeroTurn d f → Rotation e f
 

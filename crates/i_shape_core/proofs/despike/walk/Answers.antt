@@ -7,7 +7,7 @@ use Rattle.i_shape_core.specs.Contour.{point_at}
 use Rattle.i_shape_core.specs.Walk.{Falls, Finds}
 use Rattle.i_shape_core.specs.RingWalk.{IsRingState, in_order}
 use Rattle.i_shape_core.specs.declared.point.IntPoint.{IntPoint}
-use Rattle.i_shape_core.proofs.Contours.{refuted, length-contour}
+use Rattle.i_shape_core.proofs.Contours.{refuted, length-contour, kept-contour}
 use Rattle.i_shape_core.proofs.RingStates.{state_keeps, state_removes, state_collapses, state_ends, ends_below}
 use Rattle.i_shape_core.proofs.despike.walk.Goals as goal
 
@@ -66,8 +66,8 @@ returns-clause-answer g c =
     let ring = c.loop-probe.ring in
     let listed : c.as_slice.result.now ≡ in_order ring.places ring.lead = c.as_slice.ensures.value ∙ c.into_order.ensures in
     let shown : contour_of g.I.IntNumber.value c.in_ok-kept.kept.items ≡ map (point_at whole) (in_order ring.places ring.lead) =
-    c.in_ok-kept.ensures.0 ∙ (ap (λ (l : List (IntPoint g.row.I.Denot)). map (point_at (contour_of g.I.IntNumber.value l)) c.as_slice.result.now) inv.contour
+    kept-contour g.I.IntNumber.value _ _ _ c.in_ok-kept.ensures.points ∙ (ap (λ (l : List (IntPoint g.row.I.Denot)). map (point_at (contour_of g.I.IntNumber.value l)) c.as_slice.result.now) inv.contour
     ∙ ap (map (point_at whole)) listed) in
-    subst (Finds IsBack whole (contour_of g.I.IntNumber.value c.in_ok-kept.kept.items)) (sym c.in_ok-kept.ensures.1)
+    subst (Finds IsBack whole (contour_of g.I.IntNumber.value c.in_ok-kept.kept.items)) (sym c.in_ok-kept.ensures.visits)
     (state_ends whole (contour_of g.I.IntNumber.value c.in_ok-kept.kept.items) ring.places ring.untested ring.lead c.loop-probe.probe.visits inv.state
     (omega (arith, c.loop-probe-test.false, c.untested.ensures)) shown)
