@@ -32,6 +32,9 @@ pub mod ConvexLaws
 pub mod Stacks
 pub mod Walks
 pub mod Cleaned
+pub mod Gaps
+pub mod RingWalks
+pub mod RingStates
 pub mod Walked
 pub mod Around
 pub mod Spikes

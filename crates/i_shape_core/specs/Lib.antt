@@ -11,3 +11,4 @@ pub mod Probe
 pub mod Refusals
 pub mod Walk
 pub mod Stack
+pub mod RingWalk
