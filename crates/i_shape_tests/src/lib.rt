@@ -4,6 +4,8 @@
 pub mod consumers;
 
 #[cfg(test)]
+mod canonical;
+#[cfg(test)]
 mod given;
 #[cfg(test)]
 mod given_shapes;
