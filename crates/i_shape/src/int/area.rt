@@ -30,7 +30,10 @@ pub trait Area<I: IntNumber> {
     /// Half of `area_two`, rounded towards zero: of the whole sum, and not the sum of halves.
     fn area(&self) -> I::Wide
         requires { has_points self.now }
-        ensures { I.Wide.value result ≡ int_div (int_wrap I.Wide.width (double_area self.now)) (pos 2) };
+        ensures { I.Wide.value result ≡ int_div (int_wrap I.Wide.width (double_area self.now)) (pos 2) }
+    {
+        self.area_two().divide(I::Wide::TWO)
+    }
 }
 
 impl<I: IntNumber> Area<I> for &[IntPoint<I>] {
@@ -41,10 +44,6 @@ impl<I: IntNumber> Area<I> for &[IntPoint<I>] {
     fn area_two(&self) -> I::Wide {
         let points: &[IntPoint<I>] = *self;
         points.iter().copied().unsafe_area()
-    }
-
-    fn area(&self) -> I::Wide {
-        self.area_two().divide(I::Wide::TWO)
     }
 }
 
@@ -61,10 +60,6 @@ impl<I: IntNumber> Area<I> for &[IntContour<I>] {
         }
         sum
     }
-
-    fn area(&self) -> I::Wide {
-        self.area_two().divide(I::Wide::TWO)
-    }
 }
 
 impl<I: IntNumber> Area<I> for &[IntShape<I>] {
@@ -79,9 +74,5 @@ impl<I: IntNumber> Area<I> for &[IntShape<I>] {
             sum = sum.wrapping_add(shape.as_slice().area_two());
         }
         sum
-    }
-
-    fn area(&self) -> I::Wide {
-        self.area_two().divide(I::Wide::TWO)
     }
 }

@@ -1,6 +1,6 @@
 use Rattle.std.proofs.Common.{◌∙◌, ap}
 use Rattle.i_shape_core.proofs.SliceArea.{half-fits}
-use Rattle.i_shape.proofs.int.area.RefSliceIntShapeArea.area.Goals as goal
+use Rattle.i_shape.proofs.int.area.Area.area.Goals as goal
 
 pub divide-requires-clause-fits : goal.divide-requires-clause-fits
 divide-requires-clause-fits g c =
