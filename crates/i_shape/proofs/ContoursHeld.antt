@@ -1,9 +1,8 @@
 -- When a buffer holds contours.
-use Rattle.std.proofs.Common.{◌≡◌, ℕ, ◌+◌, ◌≤◌, List, [], ◌∷◌, ◌++◌, length, vec_len, refl, sym, ap, ◌∙◌, arith, append-nil}
-use Rattle.std.specs.List.{All}
+use Rattle.std.proofs.Common.{◌≡◌, ◌+◌, ◌≤◌, List, [], ◌++◌, length, vec_len, refl, sym, ap, ◌∙◌, arith, append-nil}
 use Rattle.i_shape_core.specs.declared.point.IntPoint.{IntPoint}
 use Rattle.i_shape.specs.declared.flat.buffer.contours.FlatContoursBuffer.{FlatContoursBuffer}
-use Rattle.i_shape.specs.Flat.{InOrder, slices, joined, end_to_end}
+use Rattle.i_shape.specs.Flat.{slices, joined, end_to_end}
 use Rattle.i_shape.specs.ContoursBuffer.{HoldsContours}
 use Rattle.i_shape.proofs.EndToEnd.{slices-end_to_end, InOrder-end_to_end}
 

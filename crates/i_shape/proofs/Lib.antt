@@ -2,3 +2,5 @@ mod EndToEnd
 mod ContoursHeld
 mod ShapeRanges
 mod ShapesHeld
+mod LentPaths
+mod FloatHeld

@@ -1,7 +1,7 @@
 -- Shapes by ranges of contour ranges.
-use Rattle.std.proofs.Common.{◌≡◌, ℕ, suc, ◌+◌, ◌-◌, ◌<◌, ◌≤◌, List, [], ◌∷◌, ◌++◌, length, take, drop, map, refl, sym, ap, ◌∙◌, arith, append-nil, inl, inr, ◌⊎◌, length-append, length-drop}
-use Rattle.std.proofs.lemmas.List.{take-map, drop-map, take-append-le, drop-append-le, take_at, drop_at, map-append, take_all}
-use Rattle.std.proofs.lemmas.List.Elements.{All-head, All-tail, All-cons, All-nil, All-take, All-drop, All-append, All-weaker, All-push}
+use Rattle.std.proofs.Common.{◌≡◌, ℕ, ◌+◌, ◌-◌, ◌≤◌, List, [], ◌∷◌, ◌++◌, length, take, drop, refl, sym, ap, ◌∙◌, arith, append-nil, inl, inr, length-append, length-drop}
+use Rattle.std.proofs.lemmas.List.{take-map, drop-map, take-append-le, drop-append-le, drop_at, map-append, take_all}
+use Rattle.std.proofs.lemmas.List.Elements.{All-head, All-tail, All-take, All-drop, All-weaker, All-push}
 use Rattle.std.proofs.lemmas.Bool.{cases_lt}
 use Rattle.std.specs.List.{All}
 use Rattle.std.specs.declared.ops.Range.{Range}

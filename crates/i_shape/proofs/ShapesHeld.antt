@@ -4,8 +4,8 @@ use Rattle.std.specs.List.{All}
 use Rattle.std.specs.declared.ops.Range.{Range}
 use Rattle.i_shape_core.specs.declared.point.IntPoint.{IntPoint}
 use Rattle.i_shape.specs.declared.flat.buffer.shapes.FlatShapesBuffer.{FlatShapesBuffer}
-use Rattle.i_shape.specs.Flat.{InOrder, slices, shapes, joined, end_to_end}
-use Rattle.i_shape.specs.ShapesBuffer.{HoldsShapes, AddsShape, CanReadShapes, shapes_in}
+use Rattle.i_shape.specs.Flat.{InOrder, slices, joined, end_to_end}
+use Rattle.i_shape.specs.ShapesBuffer.{HoldsShapes, AddsShape}
 use Rattle.i_shape.proofs.EndToEnd.{slices-end_to_end, InOrder-end_to_end, length-end_to_end}
 use Rattle.i_shape.proofs.ShapeRanges.{readable_from_within, shapes-end_to_end, readable-append, shapes-push}
 

@@ -17,3 +17,4 @@ pub mod ContoursBuffer
 pub mod Lending
 pub mod ShapesBuffer
 pub mod LentRanges
+pub mod FloatBuffers

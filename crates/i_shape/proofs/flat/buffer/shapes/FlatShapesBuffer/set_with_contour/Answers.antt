@@ -1,4 +1,3 @@
-use Rattle.std.proofs.Common.{refl, sym, ap, ◌∙◌, ◌++◌, append-nil}
 use Rattle.i_shape.proofs.ShapesHeld.{HoldsShapes-contour}
 use Rattle.i_shape.proofs.flat.buffer.shapes.FlatShapesBuffer.set_with_contour.Goals as goal
 
