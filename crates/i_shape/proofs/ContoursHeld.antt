@@ -4,7 +4,7 @@ use Rattle.i_shape_core.specs.declared.point.IntPoint.{IntPoint}
 use Rattle.i_shape.specs.declared.flat.buffer.contours.FlatContoursBuffer.{FlatContoursBuffer}
 use Rattle.i_shape.specs.Flat.{slices, joined, end_to_end}
 use Rattle.i_shape.specs.ContoursBuffer.{HoldsContours}
-use Rattle.i_shape.proofs.EndToEnd.{slices-end_to_end, InOrder-end_to_end}
+use Rattle.i_shape.proofs.EndToEnd.{joined-append, end_to_end-append, slices-end_to_end, InOrder-end_to_end}
 
 -- where its two lists have the points and the ranges of contours end to end
 pub HoldsContours-from_lists : {T : Type 0} (buffer : FlatContoursBuffer T) (contours : List (List (IntPoint T))) →
@@ -19,10 +19,18 @@ HoldsContours-from_lists buffer contours all named =
       slices = rw (all, named) (ap (λ w. slices w (end_to_end 0 contours)) whole ∙ slices-end_to_end [] [] contours 0 refl);
     }
 
+-- where more contours were appended to a buffer that holds some
+pub HoldsContours-more : {T : Type 0} (old new : FlatContoursBuffer T) (contours more : List (List (IntPoint T))) → HoldsContours old contours →
+    new.points.items ≡ old.points.items ++ joined more → new.ranges.items ≡ old.ranges.items ++ end_to_end (vec_len old.points) more →
+    HoldsContours new (contours ++ more)
+HoldsContours-more old new contours more held points_are ranges_are =
+    let start : vec_len old.points ≡ 0 + length (joined contours) = omega (arith, old.points.ok.0, ap length held.points) in
+    HoldsContours-from_lists new (contours ++ more)
+    (rw (points_are, held.points) (sym (joined-append contours more)))
+    (rw (ranges_are, held.ranges, start) (sym (end_to_end-append 0 contours more)))
+
 -- where the contours were appended to an empty buffer
 pub HoldsContours-appended : {T : Type 0} (empty buffer : FlatContoursBuffer T) (contours : List (List (IntPoint T))) → HoldsContours empty [] →
     buffer.points.items ≡ empty.points.items ++ joined contours → buffer.ranges.items ≡ empty.ranges.items ++ end_to_end (vec_len empty.points) contours →
     HoldsContours buffer contours
-HoldsContours-appended empty buffer contours none points_are ranges_are =
-    let at_0 : vec_len empty.points ≡ 0 = empty.points.ok.0 ∙ ap length none.points in
-    HoldsContours-from_lists buffer contours (rw (points_are, none.points) refl) (rw (ranges_are, none.ranges, at_0) refl)
+HoldsContours-appended empty buffer contours none points_are ranges_are = HoldsContours-more empty buffer [] contours none points_are ranges_are

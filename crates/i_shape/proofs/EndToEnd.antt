@@ -5,7 +5,7 @@ use Rattle.std.specs.declared.ops.Range.{Range}
 use Rattle.std.specs.Global.{Vec}
 use Rattle.std.specs.List.{All}
 use Rattle.std.proofs.lemmas.List.Elements.{All-cons, All-nil}
-use Rattle.i_shape.specs.Flat.{InOrder, part_of, slices, contours_of, joined, end_to_end}
+use Rattle.i_shape.specs.Flat.{InOrder, part_of, slices, contour_lists, joined, end_to_end}
 
 pub joined-append : {P : Type 0} (cs ds : List (List P)) → joined (cs ++ ds) ≡ joined cs ++ joined ds
 joined-append [] ds = refl
@@ -125,5 +125,5 @@ module _ {X P : Type 0} (f : X → List (List P)) (xs : List X) (i : ℕ) (x : X
       )
 
 -- vectors are as many as the lists that they stand for
-pub as_contours : {P : Type 0} (shape now : List (Vec P)) → now ≡ shape → length now ≡ length (contours_of shape)
+pub as_contours : {P : Type 0} (shape now : List (Vec P)) → now ≡ shape → length now ≡ length (contour_lists shape)
 as_contours shape now e = ap length e ∙ sym (length-map shape (λ contour. contour.items))

@@ -4,3 +4,5 @@ mod ShapeRanges
 mod ShapesHeld
 mod LentPaths
 mod FloatHeld
+pub mod Surviving
+mod CompactLaws

@@ -1,5 +1,5 @@
 -- What a list of points beside lists of ranges means.
-use Rattle.std.specs.Prelude.{ℕ, ◌+◌, ◌<◌, ◌≤◌, List, [], ◌∷◌, ◌++◌, length, map, slice_range, Option, Some, None}
+use Rattle.std.specs.Prelude.{ℕ, ◌+◌, ◌<◌, ◌≤◌, List, [], ◌∷◌, ◌++◌, length, map, slice_range}
 use Rattle.std.specs.List.{All}
 use Rattle.std.specs.declared.ops.Range.{Range}
 use Rattle.std.specs.Global.{Vec}
@@ -26,12 +26,12 @@ IsReadableShape n contour_ranges range =
     range.start < range.end → (range.end ≤ length contour_ranges) × All (InOrder n) (part_of contour_ranges range)
 
 -- a list of vectors, as a list of lists
-abbrev pub contours_of : {P : Type 0} → List (Vec P) → List (List P)
-contours_of shape = map (λ contour. contour.items) shape
+abbrev pub contour_lists : {P : Type 0} → List (Vec P) → List (List P)
+contour_lists shape = map (λ contour. contour.items) shape
 
 -- a list of shapes, as lists alone
-abbrev pub shapes_of : {P : Type 0} → List (Vec (Vec P)) → List (List (List P))
-shapes_of list = map (λ shape. contours_of shape.items) list
+abbrev pub shape_lists : {P : Type 0} → List (Vec (Vec P)) → List (List (List P))
+shape_lists list = map (λ shape. contour_lists shape.items) list
 
 -- lists end to end
 abbrev pub joined : {P : Type 0} → List (List P) → List P
@@ -42,13 +42,3 @@ joined (part ∷ parts) = part ++ joined parts
 abbrev pub end_to_end : {P : Type 0} → ℕ → List (List P) → List (Range ℕ)
 end_to_end start [] = []
 end_to_end start (part ∷ parts) = record { start = start; end = start + length part } ∷ end_to_end (start + length part) parts
-
--- the list that a vector has, where there is one
-abbrev pub items_of : {P : Type 0} → Option (Vec P) → Option (List P)
-items_of None = None
-items_of (Some vector) = Some vector.items
-
--- the contours that a shape has, where there is one
-abbrev pub shape_of : {P : Type 0} → Option (Vec (Vec P)) → Option (List (List P))
-shape_of None = None
-shape_of (Some shape) = Some (contours_of shape.items)

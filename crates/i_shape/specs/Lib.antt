@@ -18,3 +18,6 @@ pub mod Lending
 pub mod ShapesBuffer
 pub mod LentRanges
 pub mod FloatBuffers
+pub mod Survivors
+pub mod Compact
+pub mod AppendedAnswers

@@ -1,5 +1,6 @@
 //! Flat buffers of whole-number contours and shapes.
 
+mod cleaning;
 mod contours;
 mod shapes;
 
