@@ -3,7 +3,7 @@
 ghost use Rattle.std.specs.Prelude.{◌≡◌, ◌+◌, ◌<◌, ◌≤◌, ◌++◌, ◌∷◌, ◌↔◌, ◌⊎◌, [], List, length, vec_capacity, IfOk, OnOk, OnErr, IsOkUnless, IsErrOf, IsTrue};
 ghost use Rattle.std.specs.List.{All};
 ghost use Rattle.std.specs.Iterator.{Drains, IsFinite};
-ghost use Rattle.i_shape.specs.Flat.{InOrder, IsReadableShape, contours_of, shapes_of, slices, shapes, joined};
+ghost use Rattle.i_shape.specs.Flat.{InOrder, IsReadableShape, contour_lists, shape_lists, slices, shapes, joined};
 ghost use Rattle.i_shape.specs.FloatBuffers.{HasShapeLists, LieEndToEnd, FormOneShape};
 
 use super::fill::{append_items, append_paths, append_ranges, checked_path_counts, greatest_end};
@@ -99,22 +99,19 @@ impl<P: Copy> FloatFlatShapesBuffer<P> {
     /// A copy of each contour range's points. The only error is `OutOfMemory`.
     pub fn to_contours(&self) -> Result<Vec<Contour<P>>, ShapeError>
         requires { All (InOrder (length self.now.points.items)) self.now.contour_ranges.items }
-        ensures ok { IfOk result (λ contours. contours_of contours.items ≡ slices self.now.points.items self.now.contour_ranges.items) }
+        ensures ok { IfOk result (λ contours. contour_lists contours.items ≡ slices self.now.points.items self.now.contour_ranges.items) }
         ensures memory { IsOkUnless result ShapeError.OutOfMemory }
     {
         let alloc = *self.points.allocator();
-        copied_parts(
-            alloc,
-            self.points.as_slice(),
-            self.contour_ranges.as_slice(),
-        )
+        let ranges = self.contour_ranges.as_slice();
+        copied_parts(alloc, self.points.as_slice(), ranges)
     }
 
     /// A copy of each shape, in the order of the shape ranges; an empty shape where the range is empty or reversed.
     /// The only error is `OutOfMemory`.
     pub fn to_shapes(&self) -> Result<Shapes<P>, ShapeError>
         requires { All (IsReadableShape (length self.now.points.items) self.now.contour_ranges.items) self.now.shape_ranges.items }
-        ensures ok { IfOk result (λ list. shapes_of list.items ≡ shapes self.now.points.items self.now.contour_ranges.items self.now.shape_ranges.items) }
+        ensures ok { IfOk result (λ list. shape_lists list.items ≡ shapes self.now.points.items self.now.contour_ranges.items self.now.shape_ranges.items) }
         ensures memory { IsOkUnless result ShapeError.OutOfMemory }
     {
         copied_shapes(
