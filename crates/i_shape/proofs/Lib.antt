@@ -2,6 +2,8 @@ mod EndToEnd
 mod ContoursHeld
 mod ShapeRanges
 mod ShapesHeld
+mod LentPaths
+mod FloatHeld
 pub mod Surviving
 pub mod WrappedSums
 mod CompactLaws

@@ -17,6 +17,8 @@ pub mod Flat
 pub mod ContoursBuffer
 pub mod Lending
 pub mod ShapesBuffer
+pub mod LentRanges
+pub mod FloatBuffers
 pub mod Survivors
 pub mod ShapeLists
 pub mod ShapeAnswers

@@ -1,4 +1,5 @@
 //! Flat buffers: one list of points beside lists of ranges.
 
 pub mod buffer;
-mod lists;
+pub mod float;
+pub(crate) mod lists;

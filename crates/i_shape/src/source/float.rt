@@ -1,5 +1,6 @@
 //! Borrowed paths of points of any kind.
 
+pub mod buffer;
 pub mod contour;
 pub mod resource;
 pub mod shape;

@@ -1,0 +1,22 @@
+use Rattle.std.proofs.Common.{rules, arith}
+use Rattle.i_shape.proofs.LentPaths.{points_within, points_step, ranges_step, points_push, count_push}
+use Rattle.i_shape.proofs.flat.float.fill.append_paths.Goals as goal
+
+pub append_contour-requires-clause-points_room : goal.append_contour-requires-clause-points_room
+append_contour-requires-clause-points_room g c =
+    omega (arith, points_within c.iter_paths-path-items.ensures.lends c.loop-path.yielded _ c.loop-path.path-iterator _ c.in-Some.path c.into_iter-path-iterator.ensures.into_iter_gives c.loop-path.yielded_by c.in-Some.ensures.steps)
+
+pub loop-path-preserved : goal.loop-path-preserved
+loop-path-preserved g c =
+    let seen = c.loop-path.yielded in
+    let path = c.in-Some.path in
+    record {
+      can_next = search rules;
+      is_finite = search rules;
+      points = points_step seen path _ _ _ c.loop-path.invariant.points c.append_contour.ensures.points;
+      ranges = ranges_step seen path _ _ _ _ _ c.loop-path.invariant.ranges c.loop-path.invariant.points_len c.append_contour.ensures.ranges;
+      points_len = omega (arith, points_push seen path);
+      ranges_len = omega (arith, count_push seen path);
+      points_capacity = omega arith;
+      ranges_capacity = omega arith;
+    }

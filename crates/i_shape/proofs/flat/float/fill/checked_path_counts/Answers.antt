@@ -1,0 +1,21 @@
+use Rattle.std.proofs.Common.{rules, arith, ◌≡◌, ◌+◌, length}
+use Rattle.i_shape.proofs.LentPaths.{points_within, points_push, count_push}
+use Rattle.i_shape.proofs.flat.float.fill.checked_path_counts.Goals as goal
+
+pub returns-in_err-points : goal.returns-in_err-points
+returns-in_err-points g c =
+    let within = points_within c.iter_paths-path-items.ensures.lends c.loop-path.yielded _ c.loop-path.path-iterator _ c.in-Some.path c.into_iter-path-iterator.ensures.into_iter_gives c.loop-path.yielded_by c.in-Some.ensures.steps in
+    search (rules, within)
+
+pub loop-path-preserved : goal.loop-path-preserved
+loop-path-preserved g c =
+    let seen = c.loop-path.yielded in
+    let path = c.in-Some.path in
+    let summed : c.in_ok-points.points ≡ c.loop-path.points + length path.now = search rules in
+    let counted : c.in_ok-contours.contours ≡ c.loop-path.contours + 1 = search rules in
+    record {
+      can_next = search rules;
+      is_finite = search rules;
+      points = omega (arith, points_push seen path);
+      contours = omega (arith, count_push seen path);
+    }

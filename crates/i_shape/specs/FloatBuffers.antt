@@ -1,0 +1,38 @@
+-- What a flat buffer over points of any kind holds.
+use Rattle.std.specs.Prelude.{◌≡◌, ℕ, List, [], ◌∷◌, length}
+use Rattle.std.specs.List.{All}
+use Rattle.std.specs.declared.ops.Range.{Range}
+use Rattle.i_shape.specs.declared.flat.float.contours.FloatFlatContoursBuffer.{FloatFlatContoursBuffer}
+use Rattle.i_shape.specs.declared.flat.float.shapes.FloatFlatShapesBuffer.{FloatFlatShapesBuffer}
+use Rattle.i_shape.specs.Flat.{InOrder, IsReadableShape, slices, shapes, joined, end_to_end}
+use Rattle.i_shape.specs.LentRanges.{readable_slices}
+
+-- the contours form has these points and these ranges
+pub record HasLists {P : Type 0} (buffer : FloatFlatContoursBuffer P) (held : List P) (named : List (Range ℕ)) : Type 0 where
+  pub points : buffer.points.items ≡ held
+  pub ranges : buffer.ranges.items ≡ named
+
+-- the shapes form has these points, these contour ranges and these shape ranges
+pub record HasShapeLists {P : Type 0} (buffer : FloatFlatShapesBuffer P) (held : List P) (named grouped : List (Range ℕ)) : Type 0 where
+  pub points : buffer.points.items ≡ held
+  pub contour_ranges : buffer.contour_ranges.items ≡ named
+  pub shape_ranges : buffer.shape_ranges.items ≡ grouped
+
+-- the points are the paths end to end, and one range names each path
+pub record LieEndToEnd {P : Type 0} (held : List P) (named : List (Range ℕ)) (paths : List (List P)) : Type 0 where
+  pub points : held ≡ joined paths
+  pub ranges : named ≡ end_to_end 0 paths
+  pub readable : All (InOrder (length held)) named
+  pub slices : slices held named ≡ paths
+  pub lent : readable_slices held named ≡ paths
+
+-- all the paths as one shape, and no shape where there are no paths
+abbrev pub in_one_shape : {P : Type 0} → List (List P) → List (List (List P))
+in_one_shape [] = []
+in_one_shape (path ∷ paths) = (path ∷ paths) ∷ []
+
+-- one shape range names all the paths, or there are none
+pub record FormOneShape {P : Type 0} (buffer : FloatFlatShapesBuffer P) (paths : List (List P)) : Type 0 where
+  pub shape_ranges : buffer.shape_ranges.items ≡ end_to_end 0 (in_one_shape paths)
+  pub readable : All (IsReadableShape (length buffer.points.items) buffer.contour_ranges.items) buffer.shape_ranges.items
+  pub shapes : shapes buffer.points.items buffer.contour_ranges.items buffer.shape_ranges.items ≡ in_one_shape paths

@@ -1,0 +1,207 @@
+//! The flat buffer over points of any kind whose ranges name contours.
+
+ghost use Rattle.std.specs.Prelude.{◌≡◌, ◌+◌, ◌<◌, ◌≤◌, ◌++◌, ◌∷◌, ◌↔◌, ◌⊎◌, [], List, length, vec_capacity, IfOk, OnOk, OnErr, IsOkUnless, IsErrOf, IsTrue};
+ghost use Rattle.std.specs.List.{All};
+ghost use Rattle.std.specs.Iterator.{Drains, IsFinite};
+ghost use Rattle.i_shape.specs.Flat.{InOrder, contour_lists, slices, joined};
+ghost use Rattle.i_shape.specs.FloatBuffers.{HasLists, LieEndToEnd};
+
+use super::fill::{append_items, append_paths, append_ranges, checked_path_counts, greatest_end};
+use crate::ShapeError;
+use crate::base::data::Contour;
+use crate::flat::lists::{
+    all_in_order, append_contour, copied_parts, copied_ranges, reserve_total,
+};
+use i_shape_source::float::resource::{ShapePoint, ShapeResource};
+use std::alloc::Global;
+use std::ops::Range;
+
+/// Contours in one list of points: each range names the points of a contour. Ranges may be anything;
+/// `can_read_contours` tests those that a reader needs.
+#[derive(PartialEq, Eq, Debug, Drop)]
+pub struct FloatFlatContoursBuffer<P: Copy> {
+    /// The points of all contours.
+    pub points: Vec<P>,
+    /// The places of each contour's points.
+    pub ranges: Vec<Range<usize>>,
+}
+
+/// Makers and tests.
+impl<P: Copy> FloatFlatContoursBuffer<P> {
+    /// An empty buffer that takes its memory from `alloc`.
+    pub fn new(alloc: Global) -> Self
+        ensures { HasLists result [] [] }
+    {
+        FloatFlatContoursBuffer {
+            points: Vec::new(alloc),
+            ranges: Vec::new(alloc),
+        }
+    }
+
+    /// An empty buffer with room for so many points and contours. The only error is `OutOfMemory`.
+    pub fn with_capacity(alloc: Global, points: usize, contours: usize) -> Result<Self, ShapeError>
+        ensures ok { IfOk result (λ buffer. HasLists buffer [] []) }
+        ensures memory { IsOkUnless result ShapeError.OutOfMemory }
+    {
+        Ok(FloatFlatContoursBuffer {
+            points: Vec::with_capacity(alloc, points)?,
+            ranges: Vec::with_capacity(alloc, contours)?,
+        })
+    }
+
+    /// A buffer with the same points and ranges. The only error is `OutOfMemory`.
+    pub fn clone(&self) -> Result<Self, ShapeError>
+        ensures ok { IfOk result (λ copy. HasLists copy self.now.points.items self.now.ranges.items) }
+        ensures memory { IsOkUnless result ShapeError.OutOfMemory }
+    {
+        let alloc = *self.points.allocator();
+        Ok(FloatFlatContoursBuffer {
+            points: Vec::from_slice(alloc, self.points.as_slice())?,
+            ranges: copied_ranges(alloc, self.ranges.as_slice())?,
+        })
+    }
+
+    /// Whether there are no points. Ranges aren't looked at.
+    pub fn is_empty(&self) -> bool
+        ensures { IsTrue result ↔ (self.now.points.items ≡ []) }
+    {
+        self.points.is_empty()
+    }
+
+    /// Whether `to_contours` may be called: each range is in order and within the points.
+    pub fn can_read_contours(&self) -> bool
+        ensures { IsTrue result ↔ All (InOrder (length self.now.points.items)) self.now.ranges.items }
+    {
+        all_in_order(self.ranges.as_slice(), self.points.len())
+    }
+
+    /// A copy of each range's points. The only error is `OutOfMemory`.
+    pub fn to_contours(&self) -> Result<Vec<Contour<P>>, ShapeError>
+        requires { All (InOrder (length self.now.points.items)) self.now.ranges.items }
+        ensures ok { IfOk result (λ contours. contour_lists contours.items ≡ slices self.now.points.items self.now.ranges.items) }
+        ensures memory { IsOkUnless result ShapeError.OutOfMemory }
+    {
+        let alloc = *self.points.allocator();
+        copied_parts(alloc, self.points.as_slice(), self.ranges.as_slice())
+    }
+}
+
+/// Setters and adders.
+impl<P: Copy> FloatFlatContoursBuffer<P> {
+    fn clear(&mut self)
+        ensures lists { HasLists self.new [] [] }
+        ensures points_room { vec_capacity self.new.points ≡ vec_capacity self.old.points }
+        ensures ranges_room { vec_capacity self.new.ranges ≡ vec_capacity self.old.ranges }
+    {
+        self.points.clear();
+        self.ranges.clear();
+    }
+
+    /// Empties the buffer, with room for so many points and contours. The only error is `OutOfMemory`;
+    /// the lists then stay as they were.
+    pub fn clear_and_reserve(&mut self, points: usize, contours: usize) -> Result<(), ShapeError>
+        ensures ok { OnOk result (HasLists self.new [] []) }
+        ensures err { OnErr result (HasLists self.new self.old.points.items self.old.ranges.items) }
+        ensures room { OnOk result ((points ≤ vec_capacity self.new.points) × (contours ≤ vec_capacity self.new.ranges)) }
+        ensures memory { IsOkUnless result ShapeError.OutOfMemory }
+    {
+        reserve_total(&mut self.points, points)?;
+        reserve_total(&mut self.ranges, contours)?;
+        self.clear();
+        Ok(())
+    }
+
+    /// Appends a contour. `TooManyPoints` where there were more than `usize::MAX` points then, tested first; else `OutOfMemory`.
+    /// After an error the lists are as they were.
+    pub fn add_contour(&mut self, contour: &[P]) -> Result<(), ShapeError>
+        ensures ok { OnOk result (HasLists self.new (self.old.points.items ++ contour.now) (self.old.ranges.items ++ record { start = length self.old.points.items; end = length self.old.points.items + length contour.now } ∷ [])) }
+        ensures err { OnErr result (HasLists self.new self.old.points.items self.old.ranges.items) }
+        ensures too_many { IsErrOf result ShapeError.TooManyPoints ↔ (usize.MAX < length self.old.points.items + length contour.now) }
+    {
+        if self.points.len().checked_add(contour.len()).is_none() {
+            return Err(ShapeError::TooManyPoints);
+        }
+        self.points.reserve(contour.len())?;
+        self.ranges.reserve(1)?;
+        append_contour(&mut self.points, &mut self.ranges, contour);
+        Ok(())
+    }
+
+    /// Appends all the items as one contour. The only error is `OutOfMemory`; the lists then stay as they were.
+    pub fn add_contour_iter<I: Iterator<Item = P> + Drop>(
+        &mut self,
+        iter: I,
+    ) -> Result<(), ShapeError>
+        requires can { I.can_next iter }
+        requires ends { IsFinite (I.remaining iter) }
+        ensures ok { OnOk result ((items : List P) × Drains I.next_gives iter items × HasLists self.new (self.old.points.items ++ items) (self.old.ranges.items ++ record { start = length self.old.points.items; end = length self.old.points.items + length items } ∷ [])) }
+        ensures err { OnErr result (HasLists self.new self.old.points.items self.old.ranges.items) }
+        ensures memory { IsOkUnless result ShapeError.OutOfMemory }
+    {
+        let start = self.points.len();
+        self.ranges.reserve(1)?;
+        append_items(&mut self.points, iter)?;
+        self.ranges.push_reserved(start..self.points.len());
+        Ok(())
+    }
+
+    /// Puts copies of these points and ranges in place of all others. Ranges aren't checked. The only error is `OutOfMemory`;
+    /// the lists then stay as they were.
+    pub fn set_flat(&mut self, points: &[P], ranges: &[Range<usize>]) -> Result<(), ShapeError>
+        ensures ok { OnOk result (HasLists self.new points.now ranges.now) }
+        ensures err { OnErr result (HasLists self.new self.old.points.items self.old.ranges.items) }
+        ensures memory { IsOkUnless result ShapeError.OutOfMemory }
+    {
+        self.clear_and_reserve(points.len(), ranges.len())?;
+        self.points.extend_from_slice(points).unwrap();
+        append_ranges(&mut self.ranges, ranges);
+        Ok(())
+    }
+
+    /// Puts all the items and copies of these ranges in place of all others. Ranges aren't checked.
+    ///
+    /// Before the first item is taken, there is room for as many points as the iterator's upper size hint says, or the lower where
+    /// there is none, and as the greatest end of the ranges. The only error is `OutOfMemory`; the buffer is then empty.
+    pub fn set_with_iter<I: Iterator<Item = P> + Drop>(
+        &mut self,
+        iter: I,
+        ranges: &[Range<usize>],
+    ) -> Result<(), ShapeError>
+        requires can { I.can_next iter }
+        requires ends { IsFinite (I.remaining iter) }
+        ensures ok { OnOk result ((items : List P) × Drains I.next_gives iter items × HasLists self.new items ranges.now) }
+        ensures err { OnErr result (HasLists self.new [] []) }
+        ensures room { OnOk result (All (λ range. range.end ≤ vec_capacity self.new.points) ranges.now) }
+        ensures memory { IsOkUnless result ShapeError.OutOfMemory }
+    {
+        self.clear();
+        let (lower, upper) = iter.size_hint();
+        let room = upper.unwrap_or(lower).max(greatest_end(ranges));
+        self.points.reserve(room)?;
+        self.ranges.reserve(ranges.len())?;
+        append_items(&mut self.points, iter)?;
+        append_ranges(&mut self.ranges, ranges);
+        Ok(())
+    }
+}
+
+impl<P: ShapePoint> FloatFlatContoursBuffer<P> {
+    /// Puts the paths of a resource, end to end, in place of all others. `TooManyPoints` where there are more than `usize::MAX`
+    /// paths or points, tested first; else `OutOfMemory`. After an error the lists are as they were.
+    pub fn set_with_resource<'a, R: ShapeResource<'a, P> + Copy>(
+        &mut self,
+        resource: R,
+    ) -> Result<(), ShapeError>
+    where
+        P: 'a,
+        requires { R.can_read resource }
+        ensures ok { OnOk result (LieEndToEnd self.new.points.items self.new.ranges.items (R.paths resource)) }
+        ensures err { OnErr result (HasLists self.new self.old.points.items self.old.ranges.items) }
+        ensures too_many { IsErrOf result ShapeError.TooManyPoints ↔ ((usize.MAX < length (joined (R.paths resource))) ⊎ (usize.MAX < length (R.paths resource))) }
+    {
+        let counts = checked_path_counts(resource).ok_or(ShapeError::TooManyPoints)?;
+        self.clear_and_reserve(counts.points, counts.contours)?;
+        append_paths(&mut self.points, &mut self.ranges, resource);
+        Ok(())
+    }
+}

@@ -1,0 +1,81 @@
+//! What fills the lists of a flat buffer over points of any kind.
+
+ghost use Rattle.std.specs.Prelude.{◌≡◌, ◌+◌, ◌<◌, ◌≤◌, ◌++◌, ◌⊎◌, List, length, vec_len, vec_capacity, OnOk, OnErr, IsOkUnless, MatchOption};
+ghost use Rattle.std.specs.List.{All, Contains};
+ghost use Rattle.std.specs.Iterator.{Drains, IsFinite};
+ghost use Rattle.i_shape.specs.Flat.{joined, end_to_end};
+
+use crate::ShapeError;
+use crate::flat::lists::{Counts, append_contour};
+use i_shape_source::float::resource::{ShapePoint, ShapeResource};
+use std::ops::Range;
+
+/// The greatest end of some ranges, and 0 where there is none.
+pub fn greatest_end(ranges: &[Range<usize>]) -> usize
+    ensures bound { All (λ range. range.end ≤ result) ranges.now }
+{
+    ranges.iter().map(|range| range.end).max().unwrap_or(0)
+}
+
+/// Appends ranges, where there is room for them.
+pub fn append_ranges(list: &mut Vec<Range<usize>>, ranges: &[Range<usize>])
+    requires { vec_len list.old + length ranges.now ≤ vec_capacity list.old }
+    ensures { list.new.items ≡ list.old.items ++ ranges.now }
+{
+    for range in ranges {
+        list.push_reserved(range.start..range.end);
+    }
+}
+
+/// Appends the items of an iterator. The only error is `OutOfMemory`; the points then stay as they were.
+pub fn append_items<P: Copy, I: Iterator<Item = P> + Drop>(
+    points: &mut Vec<P>,
+    iter: I,
+) -> Result<(), ShapeError>
+    requires can { I.can_next iter }
+    requires ends { IsFinite (I.remaining iter) }
+    ensures ok { OnOk result ((items : List P) × Drains I.next_gives iter items × (points.new.items ≡ points.old.items ++ items)) }
+    ensures err { OnErr result (points.new.items ≡ points.old.items) }
+    ensures room { vec_capacity points.old ≤ vec_capacity points.new }
+    ensures memory { IsOkUnless result ShapeError.OutOfMemory }
+{
+    let start = points.len();
+    if points.extend(iter).is_err() {
+        points.truncate(start);
+        return Err(ShapeError::OutOfMemory);
+    }
+    Ok(())
+}
+
+/// How many points and paths a resource has, and `None` where one of them exceeds `usize::MAX`.
+pub fn checked_path_counts<'a, P: ShapePoint + 'a, R: ShapeResource<'a, P> + Copy>(
+    resource: R,
+) -> Option<Counts>
+    requires { R.can_read resource }
+    ensures { MatchOption result ((usize.MAX < length (joined (R.paths resource))) ⊎ (usize.MAX < length (R.paths resource))) (λ counts. (counts.points ≡ length (joined (R.paths resource))) × (counts.contours ≡ length (R.paths resource))) }
+{
+    let mut points: usize = 0;
+    let mut contours: usize = 0;
+    for path in resource.iter_paths() {
+        points = points.checked_add(path.len())?;
+        contours = contours.checked_add(1)?;
+    }
+    Some(Counts { points, contours })
+}
+
+/// Appends the paths of a resource end to end and their ranges, where there is room for them.
+pub fn append_paths<'a, P: ShapePoint + 'a, R: ShapeResource<'a, P> + Copy>(
+    points: &mut Vec<P>,
+    ranges: &mut Vec<Range<usize>>,
+    resource: R,
+)
+    requires can { R.can_read resource }
+    requires points_room { vec_len points.old + length (joined (R.paths resource)) ≤ vec_capacity points.old }
+    requires ranges_room { vec_len ranges.old + length (R.paths resource) ≤ vec_capacity ranges.old }
+    ensures points { points.new.items ≡ points.old.items ++ joined (R.paths resource) }
+    ensures ranges { ranges.new.items ≡ ranges.old.items ++ end_to_end (vec_len points.old) (R.paths resource) }
+{
+    for path in resource.iter_paths() {
+        append_contour(points, ranges, path);
+    }
+}

@@ -1,0 +1,274 @@
+//! The flat buffer over points of any kind whose shape ranges name contour ranges.
+
+ghost use Rattle.std.specs.Prelude.{◌≡◌, ◌+◌, ◌<◌, ◌≤◌, ◌++◌, ◌∷◌, ◌↔◌, ◌⊎◌, [], List, length, vec_capacity, IfOk, OnOk, OnErr, IsOkUnless, IsErrOf, IsTrue};
+ghost use Rattle.std.specs.List.{All};
+ghost use Rattle.std.specs.Iterator.{Drains, IsFinite};
+ghost use Rattle.i_shape.specs.Flat.{InOrder, IsReadableShape, contour_lists, shape_lists, slices, shapes, joined};
+ghost use Rattle.i_shape.specs.FloatBuffers.{HasShapeLists, LieEndToEnd, FormOneShape};
+
+use super::fill::{append_items, append_paths, append_ranges, checked_path_counts, greatest_end};
+use crate::ShapeError;
+use crate::base::data::{Contour, Shapes};
+use crate::flat::lists::{
+    all_in_order, append_contour, copied_parts, copied_ranges, copied_shapes, reserve_total,
+    shape_in_order,
+};
+use i_shape_source::float::resource::{ShapePoint, ShapeResource};
+use std::alloc::Global;
+use std::ops::Range;
+
+/// Shapes in one list of points: each contour range names the points of a contour, and each shape range the contour ranges
+/// of a shape. Ranges may be anything; `can_read_contours` and `can_read_shapes` test those that a reader needs.
+#[derive(PartialEq, Eq, Debug, Drop)]
+pub struct FloatFlatShapesBuffer<P: Copy> {
+    /// The points of all contours.
+    pub points: Vec<P>,
+    /// The places of each contour's points.
+    pub contour_ranges: Vec<Range<usize>>,
+    /// The places of each shape's contour ranges.
+    pub shape_ranges: Vec<Range<usize>>,
+}
+
+/// Makers and tests.
+impl<P: Copy> FloatFlatShapesBuffer<P> {
+    /// An empty buffer that takes its memory from `alloc`.
+    pub fn new(alloc: Global) -> Self
+        ensures { HasShapeLists result [] [] [] }
+    {
+        FloatFlatShapesBuffer {
+            points: Vec::new(alloc),
+            contour_ranges: Vec::new(alloc),
+            shape_ranges: Vec::new(alloc),
+        }
+    }
+
+    /// An empty buffer with room for so many points, contours and shapes. The only error is `OutOfMemory`.
+    pub fn with_capacity(
+        alloc: Global,
+        points: usize,
+        contours: usize,
+        shapes: usize,
+    ) -> Result<Self, ShapeError>
+        ensures ok { IfOk result (λ buffer. HasShapeLists buffer [] [] []) }
+        ensures memory { IsOkUnless result ShapeError.OutOfMemory }
+    {
+        Ok(FloatFlatShapesBuffer {
+            points: Vec::with_capacity(alloc, points)?,
+            contour_ranges: Vec::with_capacity(alloc, contours)?,
+            shape_ranges: Vec::with_capacity(alloc, shapes)?,
+        })
+    }
+
+    /// A buffer with the same points and ranges. The only error is `OutOfMemory`.
+    pub fn clone(&self) -> Result<Self, ShapeError>
+        ensures ok { IfOk result (λ copy. HasShapeLists copy self.now.points.items self.now.contour_ranges.items self.now.shape_ranges.items) }
+        ensures memory { IsOkUnless result ShapeError.OutOfMemory }
+    {
+        let alloc = *self.points.allocator();
+        Ok(FloatFlatShapesBuffer {
+            points: Vec::from_slice(alloc, self.points.as_slice())?,
+            contour_ranges: copied_ranges(alloc, self.contour_ranges.as_slice())?,
+            shape_ranges: copied_ranges(alloc, self.shape_ranges.as_slice())?,
+        })
+    }
+
+    /// Whether there are no points. Ranges aren't looked at.
+    pub fn is_empty(&self) -> bool
+        ensures { IsTrue result ↔ (self.now.points.items ≡ []) }
+    {
+        self.points.is_empty()
+    }
+
+    /// Whether `to_contours` may be called: each contour range is in order and within the points.
+    pub fn can_read_contours(&self) -> bool
+        ensures { IsTrue result ↔ All (InOrder (length self.now.points.items)) self.now.contour_ranges.items }
+    {
+        all_in_order(self.contour_ranges.as_slice(), self.points.len())
+    }
+
+    /// Whether `to_shapes` may be called: each shape range that isn't empty or reversed ends within the contour ranges,
+    /// and those that it names are in order and within the points.
+    pub fn can_read_shapes(&self) -> bool
+        ensures { IsTrue result ↔ All (IsReadableShape (length self.now.points.items) self.now.contour_ranges.items) self.now.shape_ranges.items }
+    {
+        self.shape_ranges.iter().all(|range| {
+            shape_in_order(range, self.contour_ranges.as_slice(), self.points.len())
+        })
+    }
+
+    /// A copy of each contour range's points. The only error is `OutOfMemory`.
+    pub fn to_contours(&self) -> Result<Vec<Contour<P>>, ShapeError>
+        requires { All (InOrder (length self.now.points.items)) self.now.contour_ranges.items }
+        ensures ok { IfOk result (λ contours. contour_lists contours.items ≡ slices self.now.points.items self.now.contour_ranges.items) }
+        ensures memory { IsOkUnless result ShapeError.OutOfMemory }
+    {
+        let alloc = *self.points.allocator();
+        let ranges = self.contour_ranges.as_slice();
+        copied_parts(alloc, self.points.as_slice(), ranges)
+    }
+
+    /// A copy of each shape, in the order of the shape ranges; an empty shape where the range is empty or reversed.
+    /// The only error is `OutOfMemory`.
+    pub fn to_shapes(&self) -> Result<Shapes<P>, ShapeError>
+        requires { All (IsReadableShape (length self.now.points.items) self.now.contour_ranges.items) self.now.shape_ranges.items }
+        ensures ok { IfOk result (λ list. shape_lists list.items ≡ shapes self.now.points.items self.now.contour_ranges.items self.now.shape_ranges.items) }
+        ensures memory { IsOkUnless result ShapeError.OutOfMemory }
+    {
+        copied_shapes(
+            *self.points.allocator(),
+            self.points.as_slice(),
+            self.contour_ranges.as_slice(),
+            self.shape_ranges.as_slice(),
+        )
+    }
+}
+
+/// Setters and adders.
+impl<P: Copy> FloatFlatShapesBuffer<P> {
+    fn clear(&mut self)
+        ensures lists { HasShapeLists self.new [] [] [] }
+        ensures points_room { vec_capacity self.new.points ≡ vec_capacity self.old.points }
+        ensures contours_room { vec_capacity self.new.contour_ranges ≡ vec_capacity self.old.contour_ranges }
+        ensures shapes_room { vec_capacity self.new.shape_ranges ≡ vec_capacity self.old.shape_ranges }
+    {
+        self.points.clear();
+        self.contour_ranges.clear();
+        self.shape_ranges.clear();
+    }
+
+    /// Empties the buffer, with room for so many points, contours and shapes. The only error is `OutOfMemory`;
+    /// the lists then stay as they were.
+    pub fn clear_and_reserve(
+        &mut self,
+        points: usize,
+        contours: usize,
+        shapes: usize,
+    ) -> Result<(), ShapeError>
+        ensures ok { OnOk result (HasShapeLists self.new [] [] []) }
+        ensures err { OnErr result (HasShapeLists self.new self.old.points.items self.old.contour_ranges.items self.old.shape_ranges.items) }
+        ensures room { OnOk result ((points ≤ vec_capacity self.new.points) × (contours ≤ vec_capacity self.new.contour_ranges) × (shapes ≤ vec_capacity self.new.shape_ranges)) }
+        ensures memory { IsOkUnless result ShapeError.OutOfMemory }
+    {
+        reserve_total(&mut self.points, points)?;
+        reserve_total(&mut self.contour_ranges, contours)?;
+        reserve_total(&mut self.shape_ranges, shapes)?;
+        self.clear();
+        Ok(())
+    }
+
+    /// Appends a shape of this one contour. `TooManyPoints` where there were more than `usize::MAX` points then, tested first;
+    /// else `OutOfMemory`. After an error the lists are as they were.
+    pub fn add_contour(&mut self, contour: &[P]) -> Result<(), ShapeError>
+        ensures ok { OnOk result (HasShapeLists self.new (self.old.points.items ++ contour.now) (self.old.contour_ranges.items ++ record { start = length self.old.points.items; end = length self.old.points.items + length contour.now } ∷ []) (self.old.shape_ranges.items ++ record { start = length self.old.contour_ranges.items; end = length self.old.contour_ranges.items + 1 } ∷ [])) }
+        ensures err { OnErr result (HasShapeLists self.new self.old.points.items self.old.contour_ranges.items self.old.shape_ranges.items) }
+        ensures too_many { IsErrOf result ShapeError.TooManyPoints ↔ (usize.MAX < length self.old.points.items + length contour.now) }
+    {
+        if self.points.len().checked_add(contour.len()).is_none() {
+            return Err(ShapeError::TooManyPoints);
+        }
+        self.points.reserve(contour.len())?;
+        self.contour_ranges.reserve(1)?;
+        self.shape_ranges.reserve(1)?;
+        let first = self.contour_ranges.len();
+        append_contour(&mut self.points, &mut self.contour_ranges, contour);
+        self.shape_ranges
+            .push_reserved(first..self.contour_ranges.len());
+        Ok(())
+    }
+
+    /// Appends a shape of one contour of all the items. The only error is `OutOfMemory`; the lists then stay as they were.
+    pub fn add_contour_iter<I: Iterator<Item = P> + Drop>(
+        &mut self,
+        iter: I,
+    ) -> Result<(), ShapeError>
+        requires can { I.can_next iter }
+        requires ends { IsFinite (I.remaining iter) }
+        ensures ok { OnOk result ((items : List P) × Drains I.next_gives iter items × HasShapeLists self.new (self.old.points.items ++ items) (self.old.contour_ranges.items ++ record { start = length self.old.points.items; end = length self.old.points.items + length items } ∷ []) (self.old.shape_ranges.items ++ record { start = length self.old.contour_ranges.items; end = length self.old.contour_ranges.items + 1 } ∷ [])) }
+        ensures err { OnErr result (HasShapeLists self.new self.old.points.items self.old.contour_ranges.items self.old.shape_ranges.items) }
+        ensures memory { IsOkUnless result ShapeError.OutOfMemory }
+    {
+        let start = self.points.len();
+        let first = self.contour_ranges.len();
+        self.contour_ranges.reserve(1)?;
+        self.shape_ranges.reserve(1)?;
+        append_items(&mut self.points, iter)?;
+        self.contour_ranges.push_reserved(start..self.points.len());
+        self.shape_ranges
+            .push_reserved(first..self.contour_ranges.len());
+        Ok(())
+    }
+
+    /// Puts copies of these points and ranges in place of all others. Ranges aren't checked. The only error is `OutOfMemory`;
+    /// the lists then stay as they were.
+    pub fn set_flat(
+        &mut self,
+        points: &[P],
+        contour_ranges: &[Range<usize>],
+        shape_ranges: &[Range<usize>],
+    ) -> Result<(), ShapeError>
+        ensures ok { OnOk result (HasShapeLists self.new points.now contour_ranges.now shape_ranges.now) }
+        ensures err { OnErr result (HasShapeLists self.new self.old.points.items self.old.contour_ranges.items self.old.shape_ranges.items) }
+        ensures memory { IsOkUnless result ShapeError.OutOfMemory }
+    {
+        self.clear_and_reserve(points.len(), contour_ranges.len(), shape_ranges.len())?;
+        self.points.extend_from_slice(points).unwrap();
+        append_ranges(&mut self.contour_ranges, contour_ranges);
+        append_ranges(&mut self.shape_ranges, shape_ranges);
+        Ok(())
+    }
+
+    /// Puts all the items and copies of these ranges in place of all others. Ranges aren't checked.
+    ///
+    /// Before the first item is taken, there is room for as many points as the iterator's upper size hint says, or the lower where
+    /// there is none, and as the greatest end of the contour ranges. The only error is `OutOfMemory`; the buffer is then empty.
+    pub fn set_with_iter<I: Iterator<Item = P> + Drop>(
+        &mut self,
+        iter: I,
+        contour_ranges: &[Range<usize>],
+        shape_ranges: &[Range<usize>],
+    ) -> Result<(), ShapeError>
+        requires can { I.can_next iter }
+        requires ends { IsFinite (I.remaining iter) }
+        ensures ok { OnOk result ((items : List P) × Drains I.next_gives iter items × HasShapeLists self.new items contour_ranges.now shape_ranges.now) }
+        ensures err { OnErr result (HasShapeLists self.new [] [] []) }
+        ensures room { OnOk result (All (λ range. range.end ≤ vec_capacity self.new.points) contour_ranges.now) }
+        ensures memory { IsOkUnless result ShapeError.OutOfMemory }
+    {
+        self.clear();
+        let (lower, upper) = iter.size_hint();
+        let room = upper.unwrap_or(lower).max(greatest_end(contour_ranges));
+        self.points.reserve(room)?;
+        self.contour_ranges.reserve(contour_ranges.len())?;
+        self.shape_ranges.reserve(shape_ranges.len())?;
+        append_items(&mut self.points, iter)?;
+        append_ranges(&mut self.contour_ranges, contour_ranges);
+        append_ranges(&mut self.shape_ranges, shape_ranges);
+        Ok(())
+    }
+}
+
+impl<P: ShapePoint> FloatFlatShapesBuffer<P> {
+    /// Puts the paths of a resource, end to end, in place of all others: all in one shape, and no shape where there are no paths.
+    /// `TooManyPoints` where there are more than `usize::MAX` paths or points, tested first; else `OutOfMemory`.
+    /// After an error the lists are as they were.
+    pub fn set_with_resource<'a, R: ShapeResource<'a, P> + Copy>(
+        &mut self,
+        resource: R,
+    ) -> Result<(), ShapeError>
+    where
+        P: 'a,
+        requires { R.can_read resource }
+        ensures ok { OnOk result (LieEndToEnd self.new.points.items self.new.contour_ranges.items (R.paths resource)) }
+        ensures one_shape { OnOk result (FormOneShape self.new (R.paths resource)) }
+        ensures err { OnErr result (HasShapeLists self.new self.old.points.items self.old.contour_ranges.items self.old.shape_ranges.items) }
+        ensures too_many { IsErrOf result ShapeError.TooManyPoints ↔ ((usize.MAX < length (joined (R.paths resource))) ⊎ (usize.MAX < length (R.paths resource))) }
+    {
+        let counts = checked_path_counts(resource).ok_or(ShapeError::TooManyPoints)?;
+        self.clear_and_reserve(counts.points, counts.contours, 1)?;
+        append_paths(&mut self.points, &mut self.contour_ranges, resource);
+        if counts.contours > 0 {
+            self.shape_ranges.push_reserved(0..counts.contours);
+        }
+        Ok(())
+    }
+}

@@ -1,0 +1,156 @@
+//! The generic buffers as resources.
+
+ghost use Rattle.std.specs.Prelude.{◌≡◌, ◌∷◌, [], length, MatchOption};
+ghost use Rattle.std.specs.Iterator.{at_most};
+ghost use Rattle.std.specs.Map.Iter.{TakesFirst, deref};
+ghost use Rattle.i_shape_source.specs.LentPaths.{LendsExactly, RunsThrough};
+ghost use Rattle.i_shape.specs.LentRanges.{readable_slices};
+
+use crate::flat::float::{FloatFlatContoursBuffer, FloatFlatShapesBuffer};
+use crate::flat::lists::is_in_order;
+use i_shape_source::float::resource::{ShapePoint, ShapeResource};
+use std::marker::Model;
+use std::ops::Range;
+
+/// The part that the first readable range names, and the ranges after it.
+fn first_readable<'a, P>(
+    points: &'a [P],
+    ranges: &'a [Range<usize>],
+) -> Option<(&'a [P], &'a [Range<usize>])>
+    ensures { MatchOption result (readable_slices points.now ranges.now ≡ []) (λ found. readable_slices points.now ranges.now ≡ found.0.now ∷ readable_slices points.now found.1.now) }
+{
+    let mut left = ranges;
+    while let Some((range, rest)) = left.split_first() {
+        if is_in_order(range, points.len()) {
+            return Some((&points[range.start..range.end], rest));
+        }
+        left = rest;
+    }
+    None
+}
+
+/// Lends the points of each range of a contours buffer that is in order and within the points.
+#[derive(Drop)]
+pub struct FloatContoursBufferResourceIterator<'a, P> {
+    points: &'a [P],
+    ranges: &'a [Range<usize>],
+}
+
+impl<'a, P> Model for FloatContoursBufferResourceIterator<'a, P> {
+    ghost use Rattle.std.specs.Prelude.{List};
+    ghost use Rattle.i_shape.specs.LentRanges.{readable_slices};
+
+    ghost Value = { List (List P) };
+
+    ghost view = { λ s. readable_slices s.points.now s.ranges.now };
+}
+
+impl<'a, P> FloatContoursBufferResourceIterator<'a, P> {
+    pub(crate) fn with_ranges(points: &'a [P], ranges: &'a [Range<usize>]) -> Self
+        ensures left { result ≡ readable_slices points.now ranges.now }
+        ensures lends { LendsExactly (TakesFirst deref) result (readable_slices points.now ranges.now) }
+        ensures runs { RunsThrough (TakesFirst deref) result (readable_slices points.now ranges.now) }
+    {
+        FloatContoursBufferResourceIterator { points, ranges }
+    }
+}
+
+impl<'a, P> Iterator for FloatContoursBufferResourceIterator<'a, P> {
+    type Item = &'a [P];
+
+    ghost next_gives = { TakesFirst deref };
+
+    ghost remaining = { λ s. at_most (length s) };
+
+    fn next(&mut self) -> Option<&'a [P]> {
+        let (path, rest) = first_readable(self.points, self.ranges)?;
+        self.ranges = rest;
+        Some(path)
+    }
+}
+
+/// Lends the points of each contour range of a shapes buffer that is in order and within the points.
+#[derive(Drop)]
+pub struct FloatShapesBufferResourceIterator<'a, P> {
+    points: &'a [P],
+    contour_ranges: &'a [Range<usize>],
+}
+
+impl<'a, P> Model for FloatShapesBufferResourceIterator<'a, P> {
+    ghost use Rattle.std.specs.Prelude.{List};
+    ghost use Rattle.i_shape.specs.LentRanges.{readable_slices};
+
+    ghost Value = { List (List P) };
+
+    ghost view = { λ s. readable_slices s.points.now s.contour_ranges.now };
+}
+
+impl<'a, P> FloatShapesBufferResourceIterator<'a, P> {
+    pub(crate) fn with_ranges(points: &'a [P], contour_ranges: &'a [Range<usize>]) -> Self
+        ensures left { result ≡ readable_slices points.now contour_ranges.now }
+        ensures lends { LendsExactly (TakesFirst deref) result (readable_slices points.now contour_ranges.now) }
+        ensures runs { RunsThrough (TakesFirst deref) result (readable_slices points.now contour_ranges.now) }
+    {
+        FloatShapesBufferResourceIterator {
+            points,
+            contour_ranges,
+        }
+    }
+}
+
+impl<'a, P> Iterator for FloatShapesBufferResourceIterator<'a, P> {
+    type Item = &'a [P];
+
+    ghost next_gives = { TakesFirst deref };
+
+    ghost remaining = { λ s. at_most (length s) };
+
+    fn next(&mut self) -> Option<&'a [P]> {
+        let (path, rest) = first_readable(self.points, self.contour_ranges)?;
+        self.contour_ranges = rest;
+        Some(path)
+    }
+}
+
+impl<'a, P: ShapePoint + 'a> ShapeResource<'a, P> for &'a FloatFlatContoursBuffer<P> {
+    type ResourceIter = FloatContoursBufferResourceIterator<'a, P>;
+
+    ghost paths = { λ buffer. readable_slices buffer.now.points.items buffer.now.ranges.items };
+
+    fn iter_paths(self) -> FloatContoursBufferResourceIterator<'a, P> {
+        let points = self.points.as_slice();
+        FloatContoursBufferResourceIterator::with_ranges(points, self.ranges.as_slice())
+    }
+}
+
+impl<'a, P: ShapePoint + 'a> ShapeResource<'a, P> for &'a &'a FloatFlatContoursBuffer<P> {
+    type ResourceIter = FloatContoursBufferResourceIterator<'a, P>;
+
+    ghost paths = { λ buffer. readable_slices buffer.now.now.points.items buffer.now.now.ranges.items };
+
+    fn iter_paths(self) -> FloatContoursBufferResourceIterator<'a, P> {
+        let buffer = *self;
+        buffer.iter_paths()
+    }
+}
+
+impl<'a, P: ShapePoint + 'a> ShapeResource<'a, P> for &'a FloatFlatShapesBuffer<P> {
+    type ResourceIter = FloatShapesBufferResourceIterator<'a, P>;
+
+    ghost paths = { λ buffer. readable_slices buffer.now.points.items buffer.now.contour_ranges.items };
+
+    fn iter_paths(self) -> FloatShapesBufferResourceIterator<'a, P> {
+        let ranges = self.contour_ranges.as_slice();
+        FloatShapesBufferResourceIterator::with_ranges(self.points.as_slice(), ranges)
+    }
+}
+
+impl<'a, P: ShapePoint + 'a> ShapeResource<'a, P> for &'a &'a FloatFlatShapesBuffer<P> {
+    type ResourceIter = FloatShapesBufferResourceIterator<'a, P>;
+
+    ghost paths = { λ buffer. readable_slices buffer.now.now.points.items buffer.now.now.contour_ranges.items };
+
+    fn iter_paths(self) -> FloatShapesBufferResourceIterator<'a, P> {
+        (*self).iter_paths()
+    }
+}
