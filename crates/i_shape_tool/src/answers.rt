@@ -13,9 +13,15 @@ use i_shape::int::IntPoint;
 use i_shape::int::simple::ContourSimplifier;
 use std::alloc::Global;
 
-/// The answer of a command to a text: for each line of the text, in order, the answer to its contour on a line of its own,
-/// and nothing else. An error tells the first line that is faulty for the command, or that a growth was refused before one
-/// was found.
+/// The answer of a command to a text of contours: for each line, in order, what the command says of its contour on a line
+/// of its own, and nothing else.
+///
+/// Lines end at `\n`, and the last one needs no end. A line holds the coordinates of its points, x and y in turn, as
+/// decimals of 32 bits parted by single spaces; an empty line is the contour without points. `Simplify` says the points of
+/// the contour without zero turns in the same form, or `none` where it collapses.
+///
+/// `NotAContour` and `OutOfRange` tell the first line that is faulty for the command. `OutOfMemory` comes where a growth was
+/// refused before a faulty line was found.
 pub fn run(alloc: Global, command: Command, text: &str) -> Result<String, ToolFault>
     ensures ok { IfOk result (λ output. AnswersText command text.now (string_bytes output)) }
     ensures err { IfErr result (IsFirstFault command text.now) }
