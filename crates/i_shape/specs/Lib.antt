@@ -25,6 +25,5 @@ pub mod ShapeAnswers
 pub mod InPlace
 pub mod IntPoints
 pub mod ShapeAreas
-pub mod LentRanges
 pub mod Compact
 pub mod AppendedAnswers
