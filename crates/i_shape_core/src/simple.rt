@@ -1,4 +1,4 @@
-//! Contours without zero turns: the test, and the cleaned copy.
+//! Contours without zero turns: the test, the cleaned copy and its canonical form.
 
 ghost use Rattle.std.specs.Prelude.{◌≡◌, ◌↔◌, ◌<◌, List, length, IsTrue, IfOk, IsOkUnless, option_map};
 ghost use Rattle.std.specs.List.{All};
