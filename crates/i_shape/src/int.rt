@@ -1,6 +1,7 @@
 //! Contours, shapes and shape lists of whole-number points.
 
 mod cleaning;
+pub mod despike;
 pub mod path;
 pub mod shape;
 pub mod simple;

@@ -31,9 +31,10 @@ pub trait ContourCleaner<I: IntNumber>: Drop {
         requires { All (IsSafe I.width) (contour_of I.value contour.now.items) }
         ensures { IsTrue result ↔ clean (contour_of I.value contour.now.items) };
 
-    /// The cleaned contour. The only error is `OutOfMemory`.
+    /// The cleaned contour, of one that needs cleaning. The only error is `OutOfMemory`.
     fn cleaned(&mut self, contour: &IntContour<I>) -> Result<Option<IntContour<I>>, ShapeError>
-        requires { All (IsSafe I.width) (contour_of I.value contour.now.items) }
+        requires safe { All (IsSafe I.width) (contour_of I.value contour.now.items) }
+        requires unclean { clean (contour_of I.value contour.now.items) → ⊥ }
         ensures answer { IfOk result (λ r. answers (contour_of I.value contour.now.items) (option_map (λ kept. contour_of I.value kept.items) r)) }
         ensures memory { IsOkUnless result ShapeError.OutOfMemory };
 
