@@ -9,3 +9,4 @@ pub use Rattle.i_shape_core.specs.Answers
 pub use Rattle.i_shape_core.specs.Turn
 pub use Rattle.i_shape_core.specs.Probe
 pub use Rattle.i_shape_core.specs.Refusals
+pub mod InPlace

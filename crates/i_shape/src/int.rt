@@ -1,5 +1,6 @@
 //! Contours, shapes and shape lists of whole-number points.
 
+pub mod despike;
 pub mod path;
 pub mod shape;
 pub mod simple;
