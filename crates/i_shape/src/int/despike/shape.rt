@@ -108,20 +108,22 @@ impl<I: IntNumber> DeSpikeShapes<I> for IntShapes<I> {
     }
 }
 
+/// A shape whose first contour collapses is left empty; later contours that collapse are taken out. An empty shape answers false.
 impl<I: IntNumber> DeSpike for IntShape<I> {
     ghost can_despike = { λ shape. IsSafeShape I.width (shape_of I.value shape.items) };
 
-    ghost despike_gives = { λ old r new. CleansInPlace (λ s. shape_of I.value s.items) (EachContour NoSpikes) (ShapeClean DespikeAnswer) [] old new r };
+    ghost despike_gives = { λ old r new. CleansInPlace (EachContour NoSpikes) (ShapeClean DespikeAnswer) [] (shape_of I.value old.items) (shape_of I.value new.items) r };
 
     fn remove_spikes(&mut self) -> Result<bool, ShapeError> {
         clean_shape_in_place::<I, SpikeRemover>(self)
     }
 }
 
+/// A shape whose first contour collapses is taken out; a shape that was empty stays.
 impl<I: IntNumber> DeSpike for IntShapes<I> {
     ghost can_despike = { λ shapes. IsSafeList I.width (shapes_of I.value shapes.items) };
 
-    ghost despike_gives = { λ old r new. CleansInPlace (λ s. shapes_of I.value s.items) (EachShape NoSpikes) (ListAnswer DespikeAnswer) [] old new r };
+    ghost despike_gives = { λ old r new. CleansInPlace (EachShape NoSpikes) (ListAnswer DespikeAnswer) [] (shapes_of I.value old.items) (shapes_of I.value new.items) r };
 
     fn remove_spikes(&mut self) -> Result<bool, ShapeError> {
         clean_list_in_place::<I, SpikeRemover>(self)
