@@ -7,3 +7,4 @@ mod FloatHeld
 pub mod Surviving
 pub mod WrappedSums
 mod CompactLaws
+pub mod SpikesLeft

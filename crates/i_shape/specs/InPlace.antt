@@ -1,16 +1,30 @@
 -- What a call that cleans in place leaves.
-use Rattle.std.specs.Prelude.{◌≡◌, Bool, true, false, Option, Result, Ok, Err, unwrap_or}
+use Rattle.std.specs.Prelude.{◌≡◌, ◌↔◌, ◌<◌, Bool, true, false, Option, Result, Ok, Err, List, [], length, unwrap_or}
+use Rattle.i_shape_core.specs.Point.{Point}
+use Rattle.i_shape_core.specs.Convex.{NoSpikes}
+use Rattle.i_shape_core.specs.Answers.{DespikeAnswer}
 use Rattle.i_shape_core.specs.declared.error.ShapeError.{ShapeError}
 use Rattle.i_shape_core.specs.declared.error.ShapeError.TheVariants.{OutOfMemory}
 
--- A value `old` is `new` after the call answered r; `view` says what a value stands for. `Passes` is its test, and `Answer` relates it to its cleaned one, or to none where it collapses.
-pub record CleansInPlace {V X : Type 0} (view : V → X) (Passes : X → Type 0) (Answer : X → Option X → Type 0) (empty : X) (old new : V) (r : Result Bool ShapeError) : Type 0 where
-  -- where it passes, nothing changes, and no memory is asked for
-  pub passes : Passes (view old) → (r ≡ Ok false) × (new ≡ old)
-  -- the answer is whether it failed its test
-  pub dirty : r ≡ Ok true → Passes (view old) → ⊥
-  pub clean : r ≡ Ok false → Passes (view old)
-  -- a changed value is its cleaned one, and empty where it collapses
-  pub changed : r ≡ Ok true → (answer : Option X) × Answer (view old) answer × (view new ≡ unwrap_or answer empty)
+-- a value was seen as `old`, and is seen as `new` after the call answered r. `Passes` is its test, and `Answer` relates a value to its cleaned one, which is none where it collapses
+pub record CleansInPlace {X : Type 0} (Passes : X → Type 0) (Answer : X → Option X → Type 0) (empty old new : X) (r : Result Bool ShapeError) : Type 0 where
+  -- where it passes nothing changes, and no memory is taken
+  pub passes : Passes old → (r ≡ Ok false) × (new ≡ old)
+  -- it answers so only there
+  pub clean : r ≡ Ok false → Passes old
+  -- a changed value is the cleaned one, or empty where it collapses
+  pub changed : r ≡ Ok true → (answer : Option X) × Answer old answer × (new ≡ unwrap_or answer empty)
   -- after a refusal it is as it was, and only memory is refused
-  pub kept : (e : ShapeError) → r ≡ Err e → (e ≡ OutOfMemory) × (new ≡ old)
+  pub refused : (e : ShapeError) → r ≡ Err e → (e ≡ OutOfMemory) × (new ≡ old)
+
+-- the same of a contour
+pub record CleansContour (Passes : List Point → Type 0) (Answer : List Point → Option (List Point) → Type 0) (old new : List Point) (r : Result Bool ShapeError) : Type 0 where
+  pub cleans : CleansInPlace Passes Answer [] old new r
+  -- of fewer than three points none is left, and no memory is taken
+  pub short : length old < 3 → (r ≡ Ok true) × (new ≡ [])
+
+-- the same where spikes are removed
+pub record DespikesContour (old new : List Point) (r : Result Bool ShapeError) : Type 0 where
+  pub contour : CleansContour NoSpikes DespikeAnswer old new r
+  -- a second call finds the contour clean exactly where it isn't empty
+  pub again : (b : Bool) → r ≡ Ok b → NoSpikes new ↔ (0 < length new)

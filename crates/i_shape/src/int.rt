@@ -3,6 +3,7 @@
 mod cleaning;
 pub mod area;
 pub mod count;
+pub mod despike;
 pub mod path;
 pub mod safe_range;
 pub mod shape;

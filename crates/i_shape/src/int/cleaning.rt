@@ -31,9 +31,10 @@ pub trait ContourCleaner<I: IntNumber>: Drop {
         requires { All (IsSafe I.width) (contour_of I.value contour.now.items) }
         ensures { IsTrue result ↔ clean (contour_of I.value contour.now.items) };
 
-    /// The cleaned contour. The only error is `OutOfMemory`.
+    /// The cleaned contour, of one that needs cleaning. The only error is `OutOfMemory`.
     fn cleaned(&mut self, contour: &IntContour<I>) -> Result<Option<IntContour<I>>, ShapeError>
-        requires { All (IsSafe I.width) (contour_of I.value contour.now.items) }
+        requires safe { All (IsSafe I.width) (contour_of I.value contour.now.items) }
+        requires unclean { clean (contour_of I.value contour.now.items) → ⊥ }
         ensures answer { IfOk result (λ r. answers (contour_of I.value contour.now.items) (option_map (λ kept. contour_of I.value kept.items) r)) }
         ensures memory { IsOkUnless result ShapeError.OutOfMemory };
 
@@ -184,7 +185,7 @@ pub fn clean_shape_in_place<I: IntNumber, C: ContourCleaner<I>>(
     shape: &mut IntShape<I>,
 ) -> Result<bool, ShapeError>
     requires { IsSafeShape I.width (shape_of I.value shape.old.items) }
-    ensures { CleansInPlace (λ s. shape_of I.value s.items) (EachContour C.clean) (ShapeClean C.answers) [] shape.old shape.new result }
+    ensures { CleansInPlace (EachContour C.clean) (ShapeClean C.answers) [] (shape_of I.value shape.old.items) (shape_of I.value shape.new.items) result }
 {
     if is_clean_shape::<I, C>(shape.as_slice()) {
         return Ok(false);
@@ -204,7 +205,7 @@ pub fn clean_list_in_place<I: IntNumber, C: ContourCleaner<I>>(
     shapes: &mut IntShapes<I>,
 ) -> Result<bool, ShapeError>
     requires { IsSafeList I.width (shapes_of I.value shapes.old.items) }
-    ensures { CleansInPlace (λ s. shapes_of I.value s.items) (EachShape C.clean) (ListAnswer C.answers) [] shapes.old shapes.new result }
+    ensures { CleansInPlace (EachShape C.clean) (ListAnswer C.answers) [] (shapes_of I.value shapes.old.items) (shapes_of I.value shapes.new.items) result }
 {
     if is_clean_list::<I, C>(shapes.as_slice()) {
         return Ok(false);

@@ -105,20 +105,22 @@ impl<I: IntNumber> SimpleShapes<I> for &[IntShape<I>] {
     }
 }
 
+/// A shape whose first contour collapses is left empty; later contours that collapse are taken out. An empty shape answers false.
 impl<I: IntNumber> Simplify for IntShape<I> {
     ghost can_simplify = { λ shape. IsSafeShape I.width (shape_of I.value shape.items) };
 
-    ghost simplify_gives = { λ old r new. CleansInPlace (λ s. shape_of I.value s.items) (EachContour IsSimple) (ShapeClean SimpleAnswer) [] old new r };
+    ghost simplify_gives = { λ old r new. CleansInPlace (EachContour IsSimple) (ShapeClean SimpleAnswer) [] (shape_of I.value old.items) (shape_of I.value new.items) r };
 
     fn simplify_contour(&mut self) -> Result<bool, ShapeError> {
         clean_shape_in_place::<I, ContourSimplifier>(self)
     }
 }
 
+/// A shape whose first contour collapses is taken out; a shape that was empty stays.
 impl<I: IntNumber> Simplify for IntShapes<I> {
     ghost can_simplify = { λ shapes. IsSafeList I.width (shapes_of I.value shapes.items) };
 
-    ghost simplify_gives = { λ old r new. CleansInPlace (λ s. shapes_of I.value s.items) (EachShape IsSimple) (ListAnswer SimpleAnswer) [] old new r };
+    ghost simplify_gives = { λ old r new. CleansInPlace (EachShape IsSimple) (ListAnswer SimpleAnswer) [] (shapes_of I.value old.items) (shapes_of I.value new.items) r };
 
     fn simplify_contour(&mut self) -> Result<bool, ShapeError> {
         clean_list_in_place::<I, ContourSimplifier>(self)

@@ -17,8 +17,7 @@ returns g c =
     λ all. false≢true (sym c.if-is_clean_list.false ∙ c.is_clean_list.ensures.1 (subst Passes (sym c.as_slice.ensures.value) all)) in
     record {
       passes = λ all. absurd (failed all);
-      dirty = λ _ all. failed all;
       clean = λ e. cc;
       changed = λ _. (Some kept, subst Answers c.as_slice-2.ensures.value c.in_ok-shapes.ensures.answer, refl);
-      kept = λ e is. cc;
+      refused = λ e is. cc;
     }
