@@ -3,4 +3,4 @@ mod ContoursHeld
 mod ShapeRanges
 mod ShapesHeld
 pub mod Surviving
-mod CompactLaws
+pub mod CompactLaws
