@@ -3,11 +3,11 @@ use Rattle.std.proofs.Common.{◌≡◌, ℕ, ◌+◌, ◌-◌, ◌<◌, ◌≤�
 use Rattle.std.specs.List.{All}
 use Rattle.std.specs.Option.{option_to_list}
 use Rattle.std.specs.declared.ops.Range.{Range}
-use Rattle.std.proofs.lemmas.List.{length-take, get_or_default, take_all, map-append}
-use Rattle.std.proofs.lemmas.List.Elements.{All-head, All-tail}
+use Rattle.std.proofs.lemmas.List.{length-take, get_or_default, take_all, map-append, take-map, drop-map}
+use Rattle.std.proofs.lemmas.List.Elements.{All-nil, All-cons, All-head, All-tail, All-take, All-drop}
 use Rattle.std.proofs.lemmas.Simd.{map-map}
 use Rattle.i_shape_core.specs.Point.{Point}
-use Rattle.i_shape_core.specs.IntPoint.{contour_of}
+use Rattle.i_shape_core.specs.IntPoint.{point_of, contour_of}
 use Rattle.i_shape_core.specs.Contour.{IsSimple, Rotation, stay}
 use Rattle.i_shape_core.specs.Answers.{SimpleAnswer}
 use Rattle.i_shape_core.specs.declared.point.IntPoint.{IntPoint}
@@ -108,3 +108,13 @@ all-kept [] simple = ([], tt, refl)
 all-kept (c ∷ contours) simple =
     let rest = all-kept contours (All-tail IsSimple c contours simple) in
     (Some c ∷ rest.0, (simple-answer c (All-head IsSimple c contours simple), rest.1), ap (λ w. c ∷ w) rest.2)
+
+-- where all points are safe, those of each contour are
+pub safe-slices : {T : Type 0} (value : T → ℤ) (P : Point → Type 0) (points : List (IntPoint T)) (ranges : List (Range ℕ)) → All P (contour_of value points) →
+    All (All P) (map (contour_of value) (slices points ranges))
+safe-slices value P points [] safe = All-nil (All P)
+safe-slices value P points (range ∷ ranges) safe =
+    let part = All-take P (range.end - range.start) (drop range.start (contour_of value points)) (All-drop P range.start (contour_of value points) safe) in
+    let named : take (range.end - range.start) (drop range.start (contour_of value points)) ≡ contour_of value (part_of points range) =
+    ap (take (range.end - range.start)) (drop-map (point_of value) range.start points) ∙ take-map (point_of value) (range.end - range.start) (drop range.start points) in
+    All-cons (All P) (contour_of value (part_of points range)) (map (contour_of value) (slices points ranges)) (rw named at part) (safe-slices value P points ranges safe)

@@ -8,3 +8,4 @@ pub mod Surviving
 pub mod WrappedSums
 mod CompactLaws
 pub mod SpikesLeft
+pub mod CompactLaws
