@@ -8,5 +8,7 @@ pub mod Showing
 -- a text, line by line, and one run of the program
 pub mod Running
 pub mod Serving
+-- the definitions at texts that are written out
+pub mod Examples
 -- the laws
 pub mod LineLaws
