@@ -2,6 +2,12 @@
 #![tactic(auto)]
 
 #[cfg(test)]
+mod area;
+#[cfg(test)]
+mod contour;
+#[cfg(test)]
+mod count;
+#[cfg(test)]
 mod given;
 #[cfg(test)]
 mod simple;
