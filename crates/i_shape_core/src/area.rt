@@ -11,8 +11,8 @@ use crate::point::IntPoint;
 
 /// The double area of the points that an iterator has left.
 pub trait UnsafeArea<I: IntNumber>: Iterator<Item = IntPoint<I>> + Sized {
-    /// The double area of the contour of the points left, above zero where it is wound counter-clockwise. No safe range is asked:
-    /// the sum wraps, which it can only do where the contour is wound more than once. At least one point is left.
+    /// The double area of the contour of the points left, above zero where it is wound counter-clockwise. No safe range is
+    /// asked: a sum that doesn't fit wraps. At least one point is left, and the iterator ends. One pass; it takes no memory.
     fn unsafe_area(self) -> I::Wide
         requires can { Self.can_next self }
         requires ends { IsFinite (Self.remaining self) }
@@ -44,7 +44,7 @@ pub trait IteratorArea<I: IntNumber>: Iterator<Item = IntPoint<I>> + Sized {
         requires more { (rest : Self) → ¬ (Self.next_gives self None rest) }
         ensures { (points : List (IntPoint I)) × Drains Self.next_gives self points × (I.Wide.value result ≡ int_wrap I.Wide.width (shoelace (contour_of I.value points))) };
 
-    /// Half the double area, rounded towards zero.
+    /// Half of `area_two`, rounded towards zero.
     fn area(self) -> I::Wide
         requires can { Self.can_next self }
         requires ends { IsFinite (Self.remaining self) }

@@ -6,6 +6,12 @@ pub mod consumers;
 #[cfg(test)]
 mod canonical;
 #[cfg(test)]
+mod area;
+#[cfg(test)]
+mod contour;
+#[cfg(test)]
+mod count;
+#[cfg(test)]
 mod given;
 #[cfg(test)]
 mod given_shapes;
