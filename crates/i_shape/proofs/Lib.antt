@@ -6,6 +6,5 @@ mod LentPaths
 mod FloatHeld
 pub mod Surviving
 pub mod WrappedSums
-mod CompactLaws
 pub mod SpikesLeft
 pub mod CompactLaws

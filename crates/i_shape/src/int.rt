@@ -1,7 +1,7 @@
 //! Contours, shapes and shape lists of whole-number points.
 
-mod cleaning;
 pub mod area;
+mod cleaning;
 pub mod count;
 pub mod despike;
 pub mod path;

@@ -1,9 +1,10 @@
-//! Contours over whole numbers: numbers and points, turns, the cleaners of one contour, and the laws that cleaning keeps.
+//! Contours over whole numbers: numbers and points, turns, measures, the cleaners of one contour, its canonical form, and the
+//! laws that cleaning keeps.
 #![tactic(auto)]
 
-pub mod canonical;
 pub mod area;
 mod bend;
+pub mod canonical;
 pub mod contour;
 pub mod despike;
 pub mod error;
