@@ -1,5 +1,6 @@
 use crate::given_shapes::{shape, shapes};
 use i_shape::IntNumber;
+use i_shape::int::despike::{DeSpike, DeSpikeShape, DeSpikeShapes};
 use i_shape::int::simple::{SimpleShape, SimpleShapes, Simplify};
 use std::alloc::Global;
 use std::process::Abort;
@@ -39,6 +40,10 @@ const VERTICAL: [[i32; 2]; 3] = [[0, 0], [0, 512], [0, 1]];
 const CLOSED: [[i32; 2]; 7] = [[0, 0], [1, 0], [1, 0], [2, 0], [2, 2], [0, 2], [0, 0]];
 
 const CLOSED_SIMPLIFIED: [[i32; 2]; 4] = [[2, 0], [2, 2], [0, 2], [0, 0]];
+
+const SPIKED: [[i32; 2]; 6] = [[0, 0], [2, 0], [4, 0], [2, 0], [2, 2], [0, 2]];
+
+const BLUNT: [[i32; 2]; 4] = [[0, 0], [2, 0], [2, 2], [0, 2]];
 
 /// The shape of `given` becomes that of `wanted`.
 fn shape_becomes<I: IntNumber>(
@@ -106,6 +111,65 @@ fn list_is_left<I: IntNumber>(
     Ok(())
 }
 
+/// Without spikes the shape of `given` becomes that of `wanted`.
+fn despiked_shape_is<I: IntNumber>(
+    rt: &impl Abort,
+    alloc: Global,
+    given: &[&[[I; 2]]],
+    wanted: &[&[[I; 2]]],
+) -> Result<(), Fail> {
+    let wanted = shape(rt, alloc, wanted)?;
+    let given = shape(rt, alloc, given)?;
+    let kept = given.despiked_shape(alloc)?.ok_or("it collapsed")?;
+    assert!(rt; kept == wanted);
+    Ok(())
+}
+
+/// Without spikes the list of `given` becomes that of `wanted`.
+fn despiked_list_is<I: IntNumber>(
+    rt: &impl Abort,
+    alloc: Global,
+    given: &[&[&[[I; 2]]]],
+    wanted: &[&[&[[I; 2]]]],
+) -> Result<(), Fail> {
+    let wanted = shapes(rt, alloc, wanted)?;
+    let given = shapes(rt, alloc, given)?;
+    assert!(rt; given.despiked_shapes(alloc)? == wanted);
+    Ok(())
+}
+
+/// In place the removal of spikes makes the shape of `wanted` from that of `given`, and `answer` tells whether it had any.
+fn spikes_leave_shape<I: IntNumber>(
+    rt: &impl Abort,
+    alloc: Global,
+    given: &[&[[I; 2]]],
+    answer: bool,
+    wanted: &[&[[I; 2]]],
+) -> Result<(), Fail> {
+    let wanted = shape(rt, alloc, wanted)?;
+    let mut given = shape(rt, alloc, given)?;
+    assert_eq!(rt; given.has_no_spikes(), !answer);
+    assert_eq!(rt; given.remove_spikes()?, answer);
+    assert!(rt; given == wanted);
+    Ok(())
+}
+
+/// In place the removal of spikes makes the list of `wanted` from that of `given`, and `answer` tells whether it had any.
+fn spikes_leave_list<I: IntNumber>(
+    rt: &impl Abort,
+    alloc: Global,
+    given: &[&[&[[I; 2]]]],
+    answer: bool,
+    wanted: &[&[&[[I; 2]]]],
+) -> Result<(), Fail> {
+    let wanted = shapes(rt, alloc, wanted)?;
+    let mut given = shapes(rt, alloc, given)?;
+    assert_eq!(rt; given.has_no_spikes(), !answer);
+    assert_eq!(rt; given.remove_spikes()?, answer);
+    assert!(rt; given == wanted);
+    Ok(())
+}
+
 #[test]
 fn clean_shape_is_its_own_copy(rt: HostRuntime) -> Result<(), Fail> {
     let shape = [CLOCKWISE.as_slice(), HOLE.as_slice()];
@@ -140,7 +204,8 @@ fn thousand_flat_holes_are_left_out(rt: HostRuntime) -> Result<(), Fail> {
         given.push(DIAGONAL.as_slice())?;
     }
     let wanted = [SQUARE.as_slice()];
-    shape_becomes(&rt, alloc, given.as_slice(), wanted.as_slice())
+    shape_becomes(&rt, alloc, given.as_slice(), wanted.as_slice())?;
+    despiked_shape_is(&rt, alloc, given.as_slice(), wanted.as_slice())
 }
 
 #[test]
@@ -261,9 +326,13 @@ fn cleans_at_width<I: IntNumber>(
     for (given, wanted) in given.iter().zip(wanted) {
         shape_becomes(rt, alloc, *given, *wanted)?;
         shape_is_left(rt, alloc, *given, true, *wanted)?;
+        despiked_shape_is(rt, alloc, *given, *wanted)?;
+        spikes_leave_shape(rt, alloc, *given, true, *wanted)?;
     }
     list_becomes(rt, alloc, given, wanted)?;
-    list_is_left(rt, alloc, given, true, wanted)
+    list_is_left(rt, alloc, given, true, wanted)?;
+    despiked_list_is(rt, alloc, given, wanted)?;
+    spikes_leave_list(rt, alloc, given, true, wanted)
 }
 
 #[test]
@@ -284,4 +353,54 @@ fn each_width_is_cleaned(rt: HostRuntime) -> Result<(), Fail> {
     let given = [holed.as_slice()];
     let wanted = [whole.as_slice()];
     cleans_at_width(&rt, alloc, given.as_slice(), wanted.as_slice())
+}
+
+#[test]
+fn spikes_of_a_shape(rt: HostRuntime) -> Result<(), Fail> {
+    let alloc = rt.alloc();
+    despiked_shape_is::<i32>(&rt, alloc, [].as_slice(), [].as_slice())?;
+    spikes_leave_shape::<i32>(&rt, alloc, [].as_slice(), false, [].as_slice())?;
+    let holed = [SQUARE.as_slice(), DIAGONAL.as_slice()];
+    let square = [SQUARE.as_slice()];
+    spikes_leave_shape(&rt, alloc, holed.as_slice(), true, square.as_slice())?;
+    let closed = [CLOSED.as_slice(), HOLE.as_slice()];
+    despiked_shape_is(&rt, alloc, closed.as_slice(), closed.as_slice())?;
+    spikes_leave_shape(&rt, alloc, closed.as_slice(), false, closed.as_slice())?;
+    let spiked = [SPIKED.as_slice(), DIAGONAL.as_slice()];
+    let blunt = [BLUNT.as_slice()];
+    despiked_shape_is(&rt, alloc, spiked.as_slice(), blunt.as_slice())?;
+    spikes_leave_shape(&rt, alloc, spiked.as_slice(), true, blunt.as_slice())?;
+    let flat = [VERTICAL.as_slice(), HOLE.as_slice()];
+    spikes_leave_shape(&rt, alloc, flat.as_slice(), true, [].as_slice())?;
+    let flat = shape::<i32>(&rt, alloc, flat.as_slice())?;
+    assert!(rt; flat.despiked_shape(alloc)?.is_none());
+    Ok(())
+}
+
+#[test]
+fn spikes_of_a_list_and_its_empty_shapes(rt: HostRuntime) -> Result<(), Fail> {
+    let alloc = rt.alloc();
+    let flat = [VERTICAL.as_slice()];
+    let triangle = [TRIANGLE.as_slice()];
+    let given = [[].as_slice(), flat.as_slice(), triangle.as_slice()];
+    let wanted = [[].as_slice(), triangle.as_slice()];
+    despiked_list_is(&rt, alloc, given.as_slice(), wanted.as_slice())?;
+    spikes_leave_list(&rt, alloc, given.as_slice(), true, wanted.as_slice())?;
+    let holed = [SQUARE.as_slice(), DIAGONAL.as_slice()];
+    let square = [SQUARE.as_slice()];
+    let given = [holed.as_slice(), [].as_slice()];
+    let wanted = [square.as_slice(), [].as_slice()];
+    despiked_list_is(&rt, alloc, given.as_slice(), wanted.as_slice())?;
+    spikes_leave_list(&rt, alloc, given.as_slice(), true, wanted.as_slice())
+}
+
+#[test]
+fn spikes_of_a_list_of_one_shape(rt: HostRuntime) -> Result<(), Fail> {
+    let alloc = rt.alloc();
+    let no_point = [[].as_slice()];
+    let given = [no_point.as_slice()];
+    spikes_leave_list::<i32>(&rt, alloc, given.as_slice(), true, [].as_slice())?;
+    let closed = [CLOSED.as_slice()];
+    let given = [closed.as_slice()];
+    spikes_leave_list(&rt, alloc, given.as_slice(), false, given.as_slice())
 }
