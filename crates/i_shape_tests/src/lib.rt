@@ -2,6 +2,10 @@
 #![tactic(auto)]
 
 #[cfg(test)]
+mod despike;
+#[cfg(test)]
 mod given;
+#[cfg(test)]
+mod in_place;
 #[cfg(test)]
 mod simple;
