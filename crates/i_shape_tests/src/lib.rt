@@ -12,6 +12,8 @@ mod contour;
 #[cfg(test)]
 mod count;
 #[cfg(test)]
+mod despike;
+#[cfg(test)]
 mod given;
 #[cfg(test)]
 mod given_shapes;
@@ -25,6 +27,7 @@ mod probe;
 mod resource;
 #[cfg(test)]
 mod shapes;
+mod in_place;
 #[cfg(test)]
 mod simple;
 #[cfg(test)]
