@@ -2,6 +2,10 @@
 #![tactic(auto)]
 
 #[cfg(test)]
+mod buffer;
+#[cfg(test)]
 mod given;
+#[cfg(test)]
+mod macros;
 #[cfg(test)]
 mod simple;
