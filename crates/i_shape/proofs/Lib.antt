@@ -4,3 +4,5 @@ mod ShapeRanges
 mod ShapesHeld
 pub mod Surviving
 pub mod CompactLaws
+pub mod WrappedSums
+mod CompactLaws

@@ -1,6 +1,10 @@
 //! Contours, shapes and shape lists of whole-number points.
 
+mod cleaning;
+pub mod area;
+pub mod count;
 pub mod path;
+pub mod safe_range;
 pub mod shape;
 pub mod simple;
 

@@ -5,6 +5,7 @@ pub mod base;
 pub mod flat;
 pub mod int;
 mod macros;
+pub mod source;
 
 pub use i_shape_core::error::ShapeError;
 pub use i_shape_core::number::IntNumber;

@@ -8,7 +8,7 @@ use Rattle.i_shape_core.specs.Convex.{last_of}
 use Rattle.i_shape_core.proofs.Turns.{edge}
 use Rattle.i_shape_core.proofs.Walked.{path_over, between_is}
 
-sum_push : (f : Edge → ℤ) (es : List Edge) (e : Edge) → sum_of_edges f (es ++ e ∷ []) ≡ f e +ℤ sum_of_edges f es
+pub sum_push : (f : Edge → ℤ) (es : List Edge) (e : Edge) → sum_of_edges f (es ++ e ∷ []) ≡ f e +ℤ sum_of_edges f es
 sum_push f [] e = refl
 sum_push f (d ∷ es) e = let h = sum_push f es e in omega (arith, ints)
 

@@ -111,7 +111,7 @@ met_is P o p (q ∷ qs) = go (met_is P o q qs) (met_is P p q qs) (is_same p q) r
     go skip keep true e = subst (λ (x : Point). Met P o x qs ≡ Passed P o x (changes_after q qs)) (sym (same_yes p q e)) skip
     go skip keep false e = ap (λ (X : Type 0). P o p q ⊎ X) keep
 
-last_of_dedup : (c : List Point) → 1 ≤ length (dedup c) → point_at (dedup c) (length (dedup c) - 1) ≡ last_of origin c
+pub last_of_dedup : (c : List Point) → 1 ≤ length (dedup c) → point_at (dedup c) (length (dedup c) - 1) ≡ last_of origin c
 unfolding dedup
 last_of_dedup c h = last_place (changes_after (last_of origin c) c) h ∙ changes_last (last_of origin c) c ∙ same_last origin c
   where

@@ -1,12 +1,14 @@
 -- What a walk finds, and the answer that it gives.
-use Rattle.std.proofs.Common.{◌≡◌, ℕ, ◌-◌, ◌*◌, ◌<◌, ◌≤◌, ◌↔◌, List, [], ◌∷◌, length, Option, Some, None, sym, ◌∙◌, pos, ℤ, refl, arith}
-use Rattle.i_shape_core.specs.Point.{Point, IsZeroTurn}
-use Rattle.i_shape_core.specs.Contour.{Test, Reach, stay, IsCollapsed}
+use Rattle.std.proofs.Common.{◌≡◌, ℕ, ◌<◌, ◌≤◌, List, [], ◌∷◌, length, Option, Some, None, sym, ◌∙◌, pos, refl, arith, ◌⊎◌, inl, inr}
+use Rattle.std.proofs.lemmas.Bool.{cases_lt}
+use Rattle.i_shape_core.specs.Point.{Point, IsZeroTurn, IsBack}
+use Rattle.i_shape_core.specs.Contour.{Test, Reach, stay, End, IsCollapsed}
 use Rattle.i_shape_core.specs.Walk.{WalkAnswer}
-use Rattle.i_shape_core.specs.Edges.{shoelace, area_of_edge, Inside}
-use Rattle.i_shape_core.specs.Laws.{EveryOrder}
-use Rattle.i_shape_core.specs.Answers.{SimpleAnswer, KeptAnswer, VisitsAnswer, IsKept, IsFlat}
-use Rattle.i_shape_core.proofs.CycleLaws.{every_order}
+use Rattle.i_shape_core.specs.Edges.{shoelace, area_of_edge}
+use Rattle.i_shape_core.specs.Answers.{SimpleAnswer, SpikelessAnswer, KeptAnswer, VisitsAnswer, IsKept, IsFlat}
+use Rattle.i_shape_core.proofs.CycleLaws.{every_order, straightens, agreed}
+use Rattle.i_shape_core.proofs.Straight.{reach_by_weaker}
+use Rattle.i_shape_core.proofs.Spikes.{spikeless_end}
 use Rattle.i_shape_core.proofs.Edges as edges
 use Rattle.i_shape_core.proofs.Inside.{inside_laws}
 use Rattle.i_shape_core.proofs.Polynomials.{ring, plus, number}
@@ -48,3 +50,25 @@ visits_answer P c (Some e) visits w = record { least = w.least; most = w.most }
 -- fewer than three points have collapsed before the first visit
 pub short_answer : (P : Test) (c : List Point) → length c < 3 → WalkAnswer P c None 0
 short_answer P c h = record { rest = c; reached = stay; few = h; least = omega arith; most = omega arith }
+
+-- the same where points are removed at which the way turns back
+pub spikeless_answer : (c : List Point) (r : Option (List Point)) (visits : ℕ) → WalkAnswer IsBack c r visits → SpikelessAnswer c r
+spikeless_answer c None visits w = λ e f. (every_order c).none w.rest e (reach_by_weaker straightens w.reached) w.few f
+spikeless_answer c (Some d) visits w = record {
+  ended = w.ended;
+  enough = w.enough;
+  spikeless = spikeless_end d w.enough w.ended.none_left;
+  stands = stands;
+  ends = λ e f a b. (agreed c d).ends e f w.ended w.enough a b;
+}
+  where
+    stands : (e : List Point) → End IsZeroTurn c e → 3 ≤ length e
+    stands e a = go (cases_lt (length e) 3)
+      where
+        go : IsCollapsed e ⊎ (3 ≤ length e) → 3 ≤ length e
+        go (inl h) = absurd (omega (arith, w.enough, ((agreed c d).alike e w.ended a).1 h))
+        go (inr h) = h
+
+pub kept_spikeless : (c : List Point) (r : Option (List Point)) (visits : ℕ) → WalkAnswer IsBack c r visits → KeptAnswer c r
+kept_spikeless c None visits w = flat c w.rest (reach_by_weaker straightens w.reached) w.few
+kept_spikeless c (Some d) visits w = kept c d (reach_by_weaker straightens w.ended.reached)

@@ -1,7 +1,8 @@
 -- Reading a contour of the program's points as a contour of points.
-use Rattle.std.proofs.Common.{◌≡◌, ◌↔◌, Bool, false, IsTrue, ℕ, suc, ◌+◌, ◌<◌, ◌≤◌, ℤ, List, [], ◌∷◌, length, drop, get_or, ap, subst, sym, ◌∙◌, arith, add-one}
-use Rattle.std.proofs.Math.Seq.{drop-cons}
-use Rattle.std.proofs.lemmas.List.{get_or-map, length-map, drop_all}
+use Rattle.std.proofs.Common.{◌≡◌, ◌↔◌, Bool, false, IsTrue, ℕ, suc, Some, slice_get, map, take, ◌++◌, ◌+◌, ◌<◌, ◌≤◌, ℤ, List, [], ◌∷◌, length, drop, get_or, ap, subst, sym, ◌∙◌, refl, arith, add-one}
+use Rattle.std.proofs.Math.Seq.{drop-cons, take-suc}
+use Rattle.std.proofs.lemmas.List.{get_or-map, length-map, map-append, drop_all}
+use Rattle.std.proofs.lemmas.Option.{slice_get-get_or, slice_get_within, get_or_from_slice_get}
 use Rattle.std.proofs.lemmas.List.Elements.{All-get_or}
 use Rattle.std.specs.List.{All}
 use Rattle.std.specs.Int.{Width}
@@ -52,3 +53,26 @@ rest-read {I} value xs k p within read = rw (add-one k) (ap (contour_of value) (
 -- and nothing past the end
 pub rest-none : {I : Type 0} (value : I → ℤ) (xs : List (IntPoint I)) (k : ℕ) → length xs ≤ k → contour_of value (drop k xs) ≡ []
 rest-none value xs k past = ap (contour_of value) (drop_all k xs past)
+
+-- one more point, which stands at the next of the places
+pub kept-more : {I : Type 0} (xs ps qs : List (IntPoint I)) (places : List ℕ) (i : ℕ) (p : IntPoint I) → map (λ q. Some q) ps ≡ map (slice_get xs) (take i places)
+    → i < length places → get_or places i 0 < length xs → qs ≡ ps ++ get_or xs (get_or places i 0) p ∷ []
+    → map (λ q. Some q) qs ≡ map (slice_get xs) (take (i + 1) places)
+kept-more {I} xs ps qs places i p before within inside e =
+    let at : slice_get xs (get_or places i 0) ≡ Some (get_or xs (get_or places i 0) p) = slice_get-get_or xs (get_or places i 0) p inside in
+    let longer : take (i + 1) places ≡ take i places ++ get_or places i 0 ∷ [] = ap (λ (n : ℕ). take n places) (add-one i) ∙ take-suc places i 0 within in
+    ap (map (λ q. Some q)) e ∙ map-append (λ q. Some q) ps (get_or xs (get_or places i 0) p ∷ [])
+    ∙ cc (map-append (slice_get xs) (take i places) (get_or places i 0 ∷ []))
+
+-- the points kept, over whole numbers
+pub kept-contour : {I : Type 0} (value : I → ℤ) (xs ps : List (IntPoint I)) (places : List ℕ) → map (λ q. Some q) ps ≡ map (slice_get xs) places
+    → contour_of value ps ≡ map (point_at (contour_of value xs)) places
+kept-contour value xs [] [] e = refl
+kept-contour value xs [] (k ∷ places) e = absurd (cc)
+kept-contour value xs (p ∷ ps) [] e = absurd (cc)
+kept-contour {I} value xs (p ∷ ps) (k ∷ places) e =
+    let at : slice_get xs k ≡ Some p = cc in
+    let rest : map (λ q. Some q) ps ≡ map (slice_get xs) places = cc in
+    let point : point_at (contour_of value xs) k ≡ point_of value p =
+    get_or-map (point_of value) xs k p origin (slice_get_within xs k p at) ∙ ap (point_of value) (get_or_from_slice_get xs k p p at) in
+    cc (kept-contour value xs ps places rest)

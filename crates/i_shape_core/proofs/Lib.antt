@@ -32,10 +32,26 @@ pub mod ConvexLaws
 pub mod Stacks
 pub mod Walks
 pub mod Cleaned
+pub mod Gaps
+pub mod RingWalks
+pub mod RingStates
 pub mod Walked
 pub mod Around
 pub mod Spikes
 pub mod Areas
 pub mod LastEdge
+-- measures
+pub mod Compared
+pub mod Bends
+pub mod SummedArea
+pub mod SliceArea
 -- the definitions at contours that are written out
 pub mod Examples
+-- the canonical form
+pub mod Order
+pub mod Rounds
+pub mod Starts
+pub mod Search
+pub mod Readings
+pub mod RotatedEdges
+pub mod CanonicalForm

@@ -1,19 +1,27 @@
 -- The walk that looks for spikes.
-use Rattle.std.proofs.Common.{◌≡◌, ◌≢◌, ℕ, zero, suc, ◌+◌, ◌-◌, ◌<◌, ◌≤◌, List, [], ◌∷◌, ◌++◌, length, drop, get_or, ℤ, pos, int_lt, ◌<ℤ◌, T, refl, sym, ap, subst, ◌∙◌, arith, ◌⊎◌, inl, inr, ◌↔◌, Bool, true, false, cond, ◌&&◌, IsTrue, add-one}
+use Rattle.std.proofs.Common.{◌≡◌, ◌≢◌, ℕ, zero, suc, ◌+◌, ◌-◌, ◌<◌, ◌≤◌, List, [], ◌∷◌, ◌++◌, reverse, length, drop, get_or, Option, Some, None, option_map, unwrap_or, not, ℤ, pos, int_lt, ◌<ℤ◌, ◌≤ℤ◌, T, refl, sym, ap, subst, ◌∙◌, arith, ◌⊎◌, inl, inr, ◌↔◌, Bool, true, false, cond, ◌&&◌, IsTrue, add-one}
 use Rattle.std.proofs.lemmas.Int.{ints}
+use Rattle.std.proofs.lemmas.List.{reverse-append}
+use Rattle.std.proofs.lemmas.List.Elements.{All-head, All-tail, All-push}
+use Rattle.std.proofs.lemmas.List.Folds.{find-append}
+use Rattle.std.specs.List.{All, find}
+use Rattle.std.specs.Int.{Width}
+use Rattle.std.specs.Option.{option_or}
 use Rattle.std.proofs.Math.Seq.{drop-cons}
 use Rattle.std.specs.Ordering.{int_eq}
 use lib.Dec.{leb, leb→le, le→leb}
 use Rattle.std.specs.Cmp.{signed_Decides}
-use Rattle.i_shape_core.specs.Point.{Point, origin, cross, dot}
-use Rattle.i_shape_core.specs.Contour.{point_at}
-use Rattle.i_shape_core.specs.Convex.{is_same, is_reversal, changes_after, last_of, dedup, NoSpikes, turn_at}
-use Rattle.i_shape_core.specs.IntPoint.{point_of, contour_of}
+use Rattle.i_shape_core.specs.Point.{Point, origin, cross, dot, IsBack}
+use Rattle.i_shape_core.specs.Contour.{point_at, place_before, place_after, IsRemovable}
+use Rattle.i_shape_core.specs.Convex.{is_same, is_reversal, changes_after, last_of, dedup, NoSpikes, IsReversal, turn_at}
+use Rattle.i_shape_core.specs.IntPoint.{point_of, contour_of, IsSafe}
 use Rattle.i_shape_core.specs.declared.point.IntPoint.{IntPoint}
 use Rattle.i_shape_core.proofs.ConvexLaws.{Has, IsReversed}
 use Rattle.i_shape_core.proofs.Walked.{last_item}
 use Rattle.i_shape_core.proofs.Around.{Met, AllSame, has_met, last_but_one, none_change}
-use Rattle.i_shape_core.proofs.Dedup.{same_yes, same_no, last_of_append}
+use Rattle.i_shape_core.proofs.Dedup.{IsApart, same_yes, same_no, same_self, last_of_append, apart_from_places, dedup-same}
+use Rattle.i_shape_core.proofs.Back.{back_cases, back_from_cases}
+use Rattle.i_shape_core.proofs.Contours.{safe-at}
 
 reversal_yes : (a b c : Point) → is_reversal a b c ≡ true → IsReversed a b c
 unfolding is_reversal
@@ -64,7 +72,7 @@ at_parts u [] r a n = absurd (n (sym (last_of_append origin u (r ∷ []))))
 at_parts u (x ∷ v) r a n = (last_but_one u (x ∷ v) r (last_of origin (u ++ r ∷ x ∷ v)) refl (omega arith) a n).1
 
 -- the last but one of the points without repeats is the last that differs from the last
-found : (c : List Point) (o : Point) → 1 ≤ length (dedup c) → last_differing (last_of origin c) o c ≡ point_at (dedup c) (length (dedup c) - 2)
+pub found : (c : List Point) (o : Point) → 1 ≤ length (dedup c) → last_differing (last_of origin c) o c ≡ point_at (dedup c) (length (dedup c) - 2)
 found c o h = go (last_differing (last_of origin c) o c) (stands_where (last_of origin c) o c)
   where
     parts : (r : Point) (d : List Point) (u v : List Point) → d ≡ u ++ r ∷ v → AllSame (last_of origin d) v → r ≢ last_of origin d → r ≡ point_at (dedup d) (length (dedup d) - 2)
@@ -152,13 +160,13 @@ pub items : {I : Type 0} (value : I → ℤ) (cs : List (IntPoint I)) (i : ℕ) 
 items {I} value cs i x h e = ap (contour_of value) (drop-cons cs i x h ∙ ap (λ (y : IntPoint I). y ∷ drop (suc i) cs) (sym e))
     ∙ ap (λ (j : ℕ). point_of value x ∷ contour_of value (drop j cs)) (sym (add-one i))
 
-drop_past : {X : Type 0} (xs : List X) (i : ℕ) → length xs ≤ i → drop i xs ≡ []
+pub drop_past : {X : Type 0} (xs : List X) (i : ℕ) → length xs ≤ i → drop i xs ≡ []
 drop_past [] zero h = refl
 drop_past [] (suc i) h = refl
 drop_past (x ∷ xs) zero h = absurd (omega arith)
 drop_past (x ∷ xs) (suc i) h = drop_past xs i (omega arith)
 
-last_point : {I : Type 0} (value : I → ℤ) (cs : List (IntPoint I)) (last : IntPoint I) → 0 < length cs → last ≡ get_or cs (length cs - 1) last → point_of value last ≡ last_of origin (contour_of value cs)
+pub last_point : {I : Type 0} (value : I → ℤ) (cs : List (IntPoint I)) (last : IntPoint I) → 0 < length cs → last ≡ get_or cs (length cs - 1) last → point_of value last ≡ last_of origin (contour_of value cs)
 last_point value [] last h e = absurd (omega arith)
 last_point value (x ∷ xs) last h e = ap (point_of value) (e ∙ ap (λ (i : ℕ). get_or (x ∷ xs) i last) (less_one (length xs))) ∙ last_item value x xs last
   where
@@ -211,3 +219,153 @@ answer n e = (λ t. e.0 (leb→le 3 n (subst T (sym t) tt)), λ x. is_so (leb 3 
 
 pub nothing_told : {I : Type 0} (value : I → ℤ) (cs : List (IntPoint I)) → length cs ≤ 0 → IsTrue false ↔ NoSpikes (contour_of value cs)
 nothing_told value cs h = (λ t. absurd (cc), λ s. absurd (none_without_points value cs h s))
+
+-- points are the same where their coordinates are
+pub same-told : {I : Type 0} (value : I → ℤ) (equal : I → I → Bool) → ((a b : I) → IsTrue (equal a b) ↔ (value a ≡ value b))
+    → (p q : IntPoint I) → equal p.x q.x && equal p.y q.y ≡ is_same (point_of value p) (point_of value q)
+unfolding is_same
+same-told {I} value equal law p q = ap (λ (b : Bool). b && equal p.y q.y) (alike p.x q.x) ∙ ap (λ (b : Bool). int_eq (value p.x) (value q.x) && b) (alike p.y q.y)
+  where
+    alike : (a b : I) → equal a b ≡ int_eq (value a) (value b)
+    alike a b = go (equal a b) (int_eq (value a) (value b)) (law a b) (signed_Decides (value a) (value b))
+      where
+        go : (s t : Bool) → IsTrue s ↔ (value a ≡ value b) → IsTrue t ↔ (value a ≡ value b) → s ≡ t
+        go true true f h = refl
+        go false false f h = refl
+        go true false f h = sym (h.1 (f.0 refl))
+        go false true f h = f.1 (h.0 refl)
+
+-- ---- a search from the end
+
+-- what a search from the end for a point that differs from p finds
+abbrev pub found_differing : {I : Type 0} → (I → ℤ) → IntPoint I → List (IntPoint I) → Option (IntPoint I)
+found_differing value p xs = find (λ q. not (is_same (point_of value p) (point_of value q))) (reverse xs)
+
+pub differing-found : {I : Type 0} (value : I → ℤ) (p : IntPoint I) (o : Point) (xs : List (IntPoint I))
+    → last_differing (point_of value p) o (contour_of value xs) ≡ unwrap_or (option_map (point_of value) (found_differing value p xs)) o
+differing-found value p o [] = refl
+differing-found {I} value p o (x ∷ xs) =
+    go (found_differing value p xs) (differing-found value p o xs) (differing-found value p (point_of value x) xs) (is_same (point_of value p) (point_of value x))
+    ∙ ap (λ (r : Option (IntPoint I)). unwrap_or (option_map (point_of value) r) o) (sym parts)
+  where
+    differs : IntPoint I → Bool
+    differs q = not (is_same (point_of value p) (point_of value q))
+
+    parts : found_differing value p (x ∷ xs) ≡ option_or (found_differing value p xs) (cond (differs x) (Some x) None)
+    parts = ap (find differs) (reverse-append (x ∷ []) xs) ∙ find-append differs (reverse xs) (x ∷ [])
+
+    go : (r : Option (IntPoint I)) → last_differing (point_of value p) o (contour_of value xs) ≡ unwrap_or (option_map (point_of value) r) o
+        → last_differing (point_of value p) (point_of value x) (contour_of value xs) ≡ unwrap_or (option_map (point_of value) r) (point_of value x) → (t : Bool)
+        → cond t (last_differing (point_of value p) o (contour_of value xs)) (last_differing (point_of value p) (point_of value x) (contour_of value xs))
+        ≡ unwrap_or (option_map (point_of value) (option_or r (cond (not t) (Some x) None))) o
+    go None e f true = e
+    go None e f false = f
+    go (Some q) e f true = e
+    go (Some q) e f false = f
+
+pub walking_begins : {I : Type 0} (value : I → ℤ) (cs : List (IntPoint I)) (last behind : IntPoint I) → 0 < length cs → last ≡ get_or cs (length cs - 1) last
+    → Some behind ≡ found_differing value last cs → Walking (contour_of value cs) 0 (point_of value behind) (point_of value last) (contour_of value cs)
+walking_begins {I} value cs last behind h e f =
+    subst (λ (o : Point). Walking (contour_of value cs) 0 o (point_of value last) (contour_of value cs)) at
+    (subst (λ (p : Point). Walking (contour_of value cs) 0 (last_differing p p (contour_of value cs)) p (contour_of value cs)) (sym (last_point value cs last h e)) (walking_start (contour_of value cs)))
+  where
+    at : last_differing (point_of value last) (point_of value last) (contour_of value cs) ≡ point_of value behind
+    at = differing-found value last (point_of value last) cs ∙ ap (λ (r : Option (IntPoint I)). unwrap_or (option_map (point_of value) r) (point_of value last)) (sym f)
+
+two_numbers : pos 0 ≡ pos 1 → ⊥
+two_numbers k = omega (arith, ints)
+
+-- where no point differs from the last there are spikes
+pub none_differs : {I : Type 0} (value : I → ℤ) (cs : List (IntPoint I)) (last : IntPoint I) → 0 < length cs → last ≡ get_or cs (length cs - 1) last
+    → None ≡ found_differing value last cs → IsTrue false ↔ NoSpikes (contour_of value cs)
+none_differs {I} value cs last h e f = (λ t. absurd (cc), λ s. absurd (two s))
+  where
+    same : (o : Point) → last_differing (last_of origin (contour_of value cs)) o (contour_of value cs) ≡ o
+    same o = ap (λ (p : Point). last_differing p o (contour_of value cs)) (sym (last_point value cs last h e))
+        ∙ (differing-found value last o cs ∙ ap (λ (r : Option (IntPoint I)). unwrap_or (option_map (point_of value) r) o) (sym f))
+
+    two : NoSpikes (contour_of value cs) → ⊥
+    two s =
+        let a : Point = record { x = pos 0; y = pos 0 } in
+        let b : Point = record { x = pos 1; y = pos 0 } in
+        let at = λ (o : Point). sym (same o) ∙ found (contour_of value cs) o (omega (arith, s.enough)) in
+        let k : a ≡ b = at a ∙ sym (at b) in
+        two_numbers (ap (λ (p : Point). p.x) k)
+
+found_one : {X : Type 0} (test : X → Bool) (P : X → Type 0) (ys : List X) (r : X) → Some r ≡ find test ys → All P ys → P r × (test r ≡ true)
+found_one test P [] r e a = absurd (cc)
+found_one {X} test P (y ∷ ys) r e a = go (test y) refl (λ f. found_one test P ys r f (All-tail P y ys a)) e
+  where
+    go : (b : Bool) → test y ≡ b → (Some r ≡ find test ys → P r × (test r ≡ true)) → Some r ≡ cond b (Some y) (find test ys) → P r × (test r ≡ true)
+    go true f later g = let h : r ≡ y = cc in (subst P (sym h) (All-head P y ys a), ap test h ∙ f)
+    go false f later g = later g
+
+all_backwards : {X : Type 0} (P : X → Type 0) (xs : List X) → All P xs → All P (reverse xs)
+all_backwards P [] a = a
+all_backwards P (x ∷ xs) a = subst (All P) (sym (reverse-append (x ∷ []) xs)) (All-push P (reverse xs) x (all_backwards P xs (All-tail P x xs a)) (All-head P x xs a))
+
+-- the points of a contour that is safe are safe
+pub points_safe : {I : Type 0} (w : Width) (value : I → ℤ) (cs : List (IntPoint I)) → All (IsSafe w) (contour_of value cs) → All (λ p. IsSafe w (point_of value p)) cs
+points_safe w value cs a = λ k d h. safe-at w value cs k d a h
+
+-- the point that the search finds is safe, and is another
+pub found_safe : {I : Type 0} (w : Width) (value : I → ℤ) (cs : List (IntPoint I)) (last behind : IntPoint I) → All (IsSafe w) (contour_of value cs)
+    → Some behind ≡ found_differing value last cs → IsSafe w (point_of value behind)
+found_safe {I} w value cs last behind safe e =
+    let P : IntPoint I → Type 0 = λ p. IsSafe w (point_of value p) in
+    (found_one (λ q. not (is_same (point_of value last) (point_of value q))) P (reverse cs) behind e (all_backwards P cs (points_safe w value cs safe))).0
+
+pub found_apart : {I : Type 0} (value : I → ℤ) (cs : List (IntPoint I)) (last behind : IntPoint I) → Some behind ≡ found_differing value last cs → point_of value behind ≢ point_of value last
+found_apart {I} value cs last behind e same =
+    let P : IntPoint I → Type 0 = λ p. Unit {0} in
+    let t = (found_one (λ q. not (is_same (point_of value last) (point_of value q))) P (reverse cs) behind e (λ k d h. tt)).1 in
+    clash (is_same (point_of value last) (point_of value behind)) (subst (λ (q : Point). is_same (point_of value last) q ≡ true) (sym same) (same_self (point_of value last))) t
+  where
+    clash : (b : Bool) → b ≡ true → not b ≡ true → ⊥
+    clash true e f = cc
+    clash false e f = cc
+
+-- where neighbours differ, a way that turns back reverses
+pub back_reverses : (o p q : Point) → o ≢ p → is_same p q ≡ false → IsBack o p q → is_reversal o p q ≡ true
+back_reverses o p q n e h = go (is_reversal o p q) refl
+  where
+    reversed : (o ≡ p) ⊎ ((p ≡ q) ⊎ IsReversed o p q) → IsReversed o p q
+    reversed (inl x) = absurd (n x)
+    reversed (inr (inl x)) = absurd (same_no p q e x)
+    reversed (inr (inr x)) = x
+
+    go : (b : Bool) → is_reversal o p q ≡ b → b ≡ true
+    go true f = refl
+    go false f = absurd (reversal_no o p q f (reversed (back_cases o p q h)))
+
+not_above : (d : ℤ) → d <ℤ pos 0 → d ≤ℤ pos 0
+not_above d h = omega (arith, ints)
+
+pub onward_stays : (o p q : Point) → (IsBack o p q → ⊥) → is_reversal o p q ≡ false
+onward_stays o p q n = go (is_reversal o p q) refl
+  where
+    go : (b : Bool) → is_reversal o p q ≡ b → b ≡ false
+    go false f = refl
+    go true f = let r = reversal_yes o p q f in absurd (n (r.0, not_above (dot o p q) r.1))
+
+-- a contour of which no point turns back has no spikes
+pub spikeless_end : (d : List Point) → 3 ≤ length d → ((k : ℕ) → IsRemovable IsBack d k → ⊥) → NoSpikes d
+unfolding turn_at
+spikeless_end d h none = subst (λ (c : List Point). 3 ≤ length c → ((k : ℕ) → IsReversal c k → ⊥) → NoSpikes d) same (λ m n. record { enough = m; none = n }) h reversal
+  where
+    apart : IsApart d
+    apart = apart_from_places d (λ k l e. none k (record {
+      enough = h;
+      within = l;
+      passes = back_from_cases (point_at d (place_before (length d) k)) (point_at d k) (point_at d (place_after (length d) k)) (inl e);
+    }))
+
+    same : dedup d ≡ d
+    same = dedup-same d apart
+
+    reversal : (k : ℕ) → IsReversal d k → ⊥
+    reversal k r = none k (record {
+      enough = h;
+      within = r.within;
+      passes = (r.no_turn, not_above (dot (point_at d (place_before (length d) k)) (point_at d k) (point_at d (place_after (length d) k))) r.back);
+    })

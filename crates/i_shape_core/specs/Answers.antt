@@ -1,6 +1,7 @@
 -- What a cleaner answers.
 use Rattle.std.specs.Prelude.{◌≡◌, ℕ, ◌-◌, ◌*◌, ◌<◌, ◌≤◌, ◌↔◌, ℤ, pos, List, length, Option, Some, None}
-use Rattle.i_shape_core.specs.Point.{Point, IsZeroTurn}
+use Rattle.i_shape_core.specs.Point.{Point, IsZeroTurn, IsBack}
+use Rattle.i_shape_core.specs.Convex.{NoSpikes}
 use Rattle.i_shape_core.specs.Contour.{End, IsCollapsed, Rotation}
 use Rattle.i_shape_core.specs.Edges.{shoelace, Inside}
 
@@ -42,3 +43,21 @@ pub record IsVisited (n fewest visits : ℕ) : Type 0 where
 abbrev pub VisitsAnswer : List Point → Option (List Point) → ℕ → Type 0
 VisitsAnswer c None visits = IsVisited (length c) (length c - 2) visits
 VisitsAnswer c (Some e) visits = IsVisited (length c) (length c) visits
+
+-- d is left of c where points at which the way turns back or stands still are removed until none is; it has no spikes; no end of c has collapsed, and the ends of d are those of c
+pub record IsDespiked (c d : List Point) : Type 0 where
+  pub ended : End IsBack c d
+  pub enough : 3 ≤ length d
+  pub spikeless : NoSpikes d
+  pub stands : (e : List Point) → End IsZeroTurn c e → 3 ≤ length e
+  pub ends : (e f : List Point) → End IsZeroTurn c e → End IsZeroTurn d f → Rotation e f
+
+-- what `despiked_contour` answers: a contour without spikes and repeated points, or nothing where each end collapses
+abbrev pub SpikelessAnswer : List Point → Option (List Point) → Type 0
+SpikelessAnswer c None = EachEndCollapses c
+SpikelessAnswer c (Some d) = IsDespiked c d
+
+-- what the removal of spikes answers where a contour that has none is left as it is
+pub record DespikeAnswer (c : List Point) (r : Option (List Point)) : Type 0 where
+  pub clean : NoSpikes c → r ≡ Some c
+  pub cleaned : (NoSpikes c → ⊥) → SpikelessAnswer c r

@@ -7,7 +7,11 @@ pub mod Convex
 pub mod Laws
 pub mod Answers
 pub mod Turn
+pub mod Bend
 pub mod Probe
 pub mod Refusals
 pub mod Walk
 pub mod Stack
+pub mod Canonical
+pub mod Rounds
+pub mod RingWalk

@@ -1,7 +1,11 @@
-//! The laws of cleaning. Each function takes the contours that its law names, as slices, does nothing, and has the law
-//! as its only clause: it speaks of definitions alone, and of every other list and point that it mentions. No safe range is asked.
+//! The laws of cleaning, and of the comparison of points. Each function takes the contours or points that its law names, does
+//! nothing, and has the law alone for its clauses: they speak of definitions, and of every other list and point that they
+//! mention. No safe range is asked.
 
-ghost use Rattle.i_shape_core.specs.IntPoint.{contour_of};
+ghost use Rattle.std.specs.Prelude.{◌≡◌, ◌↔◌, IsTrue};
+ghost use Rattle.std.specs.Ordering.{MatchOrdering};
+ghost use Rattle.i_shape_core.specs.Canonical.{CanonicalJoined, IsBefore};
+ghost use Rattle.i_shape_core.specs.IntPoint.{contour_of, point_of};
 ghost use Rattle.i_shape_core.specs.Laws.{
   Agreed,
   AreaKept,
@@ -69,4 +73,21 @@ pub fn inside_kept<I: IntNumber>(_c: &[IntPoint<I>], _d: &[IntPoint<I>])
 /// reversal and a point repeated beside itself.
 pub fn convex_kept<I: IntNumber>(_c: &[IntPoint<I>], _d: &[IntPoint<I>])
     ensures { ConvexKept (contour_of I.value _c.now) (contour_of I.value _d.now) }
+{}
+
+/// Two contours that don't collapse have equal least rotations of their ends exactly where a chain joins them, of rotations,
+/// removals and insertions of zero-turn vertices, in which each contour has at least three points.
+pub fn canonical_joined<I: IntNumber>(_c: &[IntPoint<I>], _d: &[IntPoint<I>])
+    ensures { CanonicalJoined (contour_of I.value _c.now) (contour_of I.value _d.now) }
+{}
+
+/// Points are told equal by `==` exactly where they are the same point.
+pub fn points_equal<I: IntNumber>(_a: &IntPoint<I>, _b: &IntPoint<I>)
+    ensures same_value { IsTrue (⟦<IntPoint<I> as PartialEq>⟧.eq _a.now _b.now) ↔ (_a.now ≡ _b.now) }
+    ensures same_point { IsTrue (⟦<IntPoint<I> as PartialEq>⟧.eq _a.now _b.now) ↔ (point_of I.value _a.now ≡ point_of I.value _b.now) }
+{}
+
+/// Points are ordered by `cmp` by x, and then by y, as whole numbers.
+pub fn points_ordered<I: IntNumber>(_a: &IntPoint<I>, _b: &IntPoint<I>)
+    ensures { let a = point_of I.value _a.now in let b = point_of I.value _b.now in MatchOrdering (⟦<IntPoint<I> as Ord>⟧.cmp _a.now _b.now) (IsBefore a b) (a ≡ b) (IsBefore b a) }
 {}

@@ -1,11 +1,17 @@
 //! Contours over whole numbers: numbers and points, turns, the cleaners of one contour, and the laws that cleaning keeps.
 #![tactic(auto)]
 
+pub mod canonical;
+pub mod area;
+mod bend;
+pub mod contour;
+pub mod despike;
 pub mod error;
 pub mod laws;
 pub mod number;
 pub mod point;
 pub mod probe;
+mod ring;
 pub mod simple;
 pub mod simplifier;
 pub mod triangle;

@@ -24,10 +24,6 @@ pub trait WideIntNumber: Copy + Ord {
 
     const TWO: Self;
 
-    /// A value of the type lies in the type's range.
-    fn known(self)
-        ensures { FitsSigned width (value self) };
-
     fn wrapping_add(self, other: Self) -> Self
         ensures { value result ≡ int_wrap width (value self +ℤ value other) };
 
@@ -92,10 +88,6 @@ pub trait IntNumber: Copy + Ord {
     const MAX: Self;
 
     const BITS: u32;
-
-    /// A value of the type lies in the type's range.
-    fn known(self)
-        ensures { FitsSigned width (value self) };
 
     /// The same value in the wider type.
     fn to_wide(self) -> Self::Wide

@@ -1,12 +1,11 @@
-//! The view of a contour that counts visits.
+//! The view of a contour that a cleaner's walk is given, which counts its visits.
 
-ghost use Rattle.std.specs.Prelude.{◌≡◌, ◌+◌, ◌<◌, ◌^◌, ◌-◌, ℕ, List, map, length, MatchResult};
+ghost use Rattle.std.specs.Prelude.{◌≡◌, ◌+◌, ◌<◌, map, length, slice_get, IfOk, IsOkUnless};
 ghost use Rattle.std.specs.List.{All};
 ghost use Rattle.i_shape_core.specs.IntPoint.{contour_of, IsSafe};
 ghost use Rattle.i_shape_core.specs.Contour.{point_at};
 ghost use Rattle.i_shape_core.specs.Probe.{Seen};
 ghost use Rattle.i_shape_core.specs.Turn.{IsTurn};
-ghost use Rattle.i_shape_core.specs.declared.error.ShapeError.TheVariants.{OutOfMemory};
 
 use crate::error::ShapeError;
 use crate::number::IntNumber;
@@ -50,7 +49,7 @@ impl<'a, I: IntNumber> Probe<'a, I> {
         self.points.len()
     }
 
-    /// How the contour turns at `place`, with these neighbours. Counts one visit.
+    /// How the contour turns at `place`, with these neighbours, whichever they are. Counts one visit.
     pub fn turn(&mut self, previous: usize, place: usize, next: usize) -> Turn
         requires previous_within { previous < length self.old.contour }
         requires place_within { place < length self.old.contour }
@@ -80,15 +79,17 @@ impl<'a, I: IntNumber> Probe<'a, I> {
         self.count
     }
 
-    /// The points at these places, in the order given, and the number of visits.
+    /// The points at these places, in the order given, and the number of visits. The only error is `OutOfMemory`.
     pub fn keep(self, alloc: Global, indices: &[usize]) -> Result<(IntContour<I>, u128), ShapeError>
         requires { All (λ k. k < length self.contour) indices.now }
-        ensures { MatchResult result (λ kept. (contour_of I.value kept.0.items ≡ map (point_at (contour_of I.value self.entry.contour)) indices.now) × (kept.1 ≡ self.entry.visits)) (λ e. e ≡ OutOfMemory) }
+        ensures points { IfOk result (λ kept. map (λ p. Some p) kept.0.items ≡ map (slice_get self.entry.contour) indices.now) }
+        ensures visits { IfOk result (λ kept. kept.1 ≡ self.entry.visits) }
+        ensures memory { IsOkUnless result ShapeError.OutOfMemory }
     {
         let mut kept = Vec::with_capacity(alloc, indices.len())?;
         for index in indices {
             kept.push_reserved(self.points[*index]);
         }
-        Ok((kept, self.count))
+        Ok((kept, self.visits()))
     }
 }

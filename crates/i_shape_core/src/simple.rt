@@ -6,6 +6,7 @@ ghost use Rattle.i_shape_core.specs.IntPoint.{contour_of, IsSafe};
 ghost use Rattle.i_shape_core.specs.Point.{Point};
 ghost use Rattle.i_shape_core.specs.Contour.{IsSimple};
 ghost use Rattle.i_shape_core.specs.Answers.{SimpleAnswer, KeptAnswer};
+ghost use Rattle.i_shape_core.specs.Canonical.{CanonicalAnswer};
 
 use crate::error::ShapeError;
 use crate::number::{IntNumber, WideIntNumber};
@@ -30,6 +31,18 @@ pub trait SimpleContour<I: IntNumber> {
     fn simplified(&self, alloc: Global) -> Result<Option<IntContour<I>>, ShapeError>
         requires { All (IsSafe I.width) (contour self.now) }
         ensures answer { IfOk result (λ r. SimpleAnswer (contour self.now) (option_map (λ kept. contour_of I.value kept.items) r)) }
+        ensures kept { IfOk result (λ r. KeptAnswer (contour self.now) (option_map (λ kept. contour_of I.value kept.items) r)) }
+        ensures short { length (contour self.now) < 3 → result ≡ Ok None }
+        ensures memory { IsOkUnless result ShapeError.OutOfMemory };
+
+    /// The canonical form: of the contour without zero turns the rotation that comes first, where lists are compared
+    /// point by point, and points by x and then by y. Two contours that don't collapse have the same canonical form
+    /// exactly where removals and insertions of zero-turn vertices, and rotations, lead from one to the other.
+    /// `None` exactly where `simplified` is. Winding, double area and containment are kept.
+    /// The only error is `OutOfMemory`; below three points no memory is taken.
+    fn canonical(&self, alloc: Global) -> Result<Option<IntContour<I>>, ShapeError>
+        requires { All (IsSafe I.width) (contour self.now) }
+        ensures answer { IfOk result (λ r. CanonicalAnswer (contour self.now) (option_map (λ kept. contour_of I.value kept.items) r)) }
         ensures kept { IfOk result (λ r. KeptAnswer (contour self.now) (option_map (λ kept. contour_of I.value kept.items) r)) }
         ensures short { length (contour self.now) < 3 → result ≡ Ok None }
         ensures memory { IsOkUnless result ShapeError.OutOfMemory };
@@ -59,5 +72,9 @@ impl<I: IntNumber> SimpleContour<I> for &[IntPoint<I>] {
 
     fn simplified(&self, alloc: Global) -> Result<Option<IntContour<I>>, ShapeError> {
         ContourSimplifier::new(alloc).simplify_contour(*self)
+    }
+
+    fn canonical(&self, alloc: Global) -> Result<Option<IntContour<I>>, ShapeError> {
+        ContourSimplifier::new(alloc).canonical(*self)
     }
 }

@@ -1,6 +1,6 @@
 //! Contours that tests are given.
 
-ghost use Rattle.std.specs.Prelude.{IfOk};
+ghost use Rattle.std.specs.Prelude.{◌≤◌, length, IfOk};
 ghost use Rattle.std.specs.List.{All};
 ghost use Rattle.i_shape.specs.IntPoint.{contour_of, IsSafe};
 
@@ -26,3 +26,59 @@ pub fn contour<I: IntNumber>(
     }
     Ok(contour)
 }
+
+/// The points of a contour as pairs.
+pub fn pairs<I: IntNumber>(
+    alloc: Global,
+    contour: &[IntPoint<I>],
+) -> Result<Vec<[I; 2]>, AllocError> {
+    let mut pairs = Vec::new(alloc);
+    for point in contour {
+        pairs.push([point.x, point.y])?;
+    }
+    Ok(pairs)
+}
+
+/// The list from another start.
+pub fn rotated(alloc: Global, list: &[[i32; 2]], start: usize) -> Result<Vec<[i32; 2]>, AllocError>
+    requires { start ≤ length list.now }
+{
+    let mut turned = Vec::from_slice(alloc, &list[start..])?;
+    turned.extend_from_slice(&list[..start])?;
+    Ok(turned)
+}
+
+/// The list read backwards.
+pub fn reversed(alloc: Global, list: &[[i32; 2]]) -> Result<Vec<[i32; 2]>, AllocError> {
+    let mut turned = Vec::from_slice(alloc, list)?;
+    turned.reverse();
+    Ok(turned)
+}
+
+/// Contours with repeated points, reversals and spikes, among them two whose answer depends on where they start.
+pub const HOSTILE: [&[[i32; 2]]; 7] = [
+    &[
+        [0, 0],
+        [0, 1024],
+        [0, 1024],
+        [512, 1024],
+        [1024, 1024],
+        [1024, 1024],
+        [1024, 0],
+    ],
+    &[[6, 0], [0, 0], [2, 0], [1, 0], [1, 5]],
+    &[[0, 0], [4, 0], [4, 4], [0, 4], [0, 0]],
+    &[[0, 0], [1, 0], [1, 0], [2, 0], [2, 2], [0, 2], [0, 0]],
+    &[[0, 0], [8, 0], [4, 0], [6, 0], [6, 4], [0, 4]],
+    &[
+        [0, 0],
+        [10, 0],
+        [2, 0],
+        [8, 0],
+        [4, 0],
+        [6, 0],
+        [6, 6],
+        [0, 6],
+    ],
+    &[[0, 0], [4, 0], [4, 0], [2, 0], [2, 2], [0, 2]],
+];

@@ -1,5 +1,7 @@
-//! Worked contours, as tests of the public calls.
+//! Worked contours, as tests of the public calls, and consumers that are proved from a bound alone.
 #![tactic(auto)]
+
+pub mod consumers;
 
 #[cfg(test)]
 mod buffer;
@@ -7,5 +9,18 @@ mod buffer;
 mod given;
 #[cfg(test)]
 mod macros;
+mod given_shapes;
+#[cfg(test)]
+mod number;
+#[cfg(test)]
+mod plain;
+#[cfg(test)]
+mod probe;
+#[cfg(test)]
+mod resource;
+#[cfg(test)]
+mod shapes;
 #[cfg(test)]
 mod simple;
+#[cfg(test)]
+mod small_grid;

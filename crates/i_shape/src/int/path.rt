@@ -1,6 +1,7 @@
 //! Paths of whole-number points.
 
 use crate::base::data::{Path, Paths};
+pub use i_shape_core::contour::ContourExtension;
 use i_shape_core::point::IntPoint;
 
 /// Points in order.

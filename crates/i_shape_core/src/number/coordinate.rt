@@ -34,8 +34,6 @@ impl IntNumber for i16 {
 
     const BITS: u32 = i16::BITS;
 
-    fn known(self) {}
-
     fn to_wide(self) -> i32 {
         self as i32
     }
@@ -96,8 +94,6 @@ impl IntNumber for i32 {
 
     const BITS: u32 = i32::BITS;
 
-    fn known(self) {}
-
     fn to_wide(self) -> i64 {
         self as i64
     }
@@ -157,8 +153,6 @@ impl IntNumber for i64 {
     const MAX: i64 = i64::MAX;
 
     const BITS: u32 = i64::BITS;
-
-    fn known(self) {}
 
     fn to_wide(self) -> i128 {
         self as i128

@@ -19,8 +19,6 @@ impl WideIntNumber for i32 {
 
     const TWO: i32 = 2;
 
-    fn known(self) {}
-
     fn wrapping_add(self, other: i32) -> i32 {
         i32::wrapping_add(self, other)
     }
@@ -67,8 +65,6 @@ impl WideIntNumber for i64 {
 
     const TWO: i64 = 2;
 
-    fn known(self) {}
-
     fn wrapping_add(self, other: i64) -> i64 {
         i64::wrapping_add(self, other)
     }
@@ -114,8 +110,6 @@ impl WideIntNumber for i128 {
     const ZERO: i128 = 0;
 
     const TWO: i128 = 2;
-
-    fn known(self) {}
 
     fn wrapping_add(self, other: i128) -> i128 {
         i128::wrapping_add(self, other)

@@ -4,6 +4,7 @@ use Rattle.i_shape_core.specs.IntPoint.{contour_of}
 use Rattle.i_shape_core.specs.Contour.{End, point_at}
 use Rattle.i_shape_core.specs.Point.{Point, IsZeroTurn}
 use Rattle.i_shape_core.specs.declared.point.IntPoint.{IntPoint}
+use Rattle.i_shape_core.proofs.Contours.{kept-contour}
 use Rattle.i_shape_core.proofs.Walks.{place-within, each-within, first-read, last-read, end-read}
 use Rattle.i_shape_core.proofs.simplifier.close.Goals as goal
 
@@ -83,9 +84,9 @@ returns-else-is_zero_at-2-clause-answer g c =
     let third = c.is_zero_at-else-is_zero_at.ensures.contour ∙ second in
     let whole : List Point = contour_of g.I.IntNumber.value c.args.probe.contour in
     let shown : contour_of g.I.IntNumber.value c.in_ok-kept.kept.items ≡ map (point_at whole) left =
-    c.in_ok-kept.ensures.0 ∙ ap (λ (l : List (IntPoint g.row.I.Denot)). map (point_at (contour_of g.I.IntNumber.value l)) left) third in
+    kept-contour g.I.IntNumber.value _ _ _ c.in_ok-kept.ensures.points ∙ ap (λ (l : List (IntPoint g.row.I.Denot)). map (point_at (contour_of g.I.IntNumber.value l)) left) third in
     let long : length (contour_of g.I.IntNumber.value c.in_ok-kept.kept.items) ≡ length left = ap length shown ∙ length-map left (point_at whole) in
-    let visits = c.in_ok-kept.ensures.1 in
+    let visits = c.in_ok-kept.ensures.visits in
     record {
       ended = subst (End IsZeroTurn whole) (sym shown)
           (end-read g.I.IntNumber.value c.args.probe.contour c.loop-left.probe.contour inv.contour c.is_zero_at.new.probe.contour second left (length left - 1 - 1) (length left - 1)

@@ -1,0 +1,68 @@
+-- Sums over the items of a list that wrap at each item, and counts.
+use Rattle.std.proofs.Common.{◌≡◌, ℕ, suc, ◌+◌, ◌<◌, ◌≤◌, ℤ, pos, ◌+ℤ◌, ◌-ℤ◌, List, ◌∷◌, map, length, drop, get_or, sym, ap, subst, ◌∙◌, arith, add-one}
+use Rattle.std.proofs.Math.Seq.{drop-cons}
+use Rattle.std.proofs.lemmas.Int.{ints, int_wrap-add_left, int_wrap-add_right}
+use Rattle.std.proofs.lemmas.List.{drop_all, get_or-map, length-map}
+use Rattle.std.proofs.lemmas.List.Elements.{All-get_or}
+use Rattle.std.proofs.lemmas.List.Sums.{sum_by-cons}
+use Rattle.std.specs.Int.{Width, int_wrap}
+use Rattle.std.specs.List.{All, sum_by}
+use Rattle.i_shape.specs.ShapeAreas.{sum_of}
+use Rattle.i_shape_core.proofs.SummedArea.{wrapped-zero}
+
+rest-read : {A X : Type 0} (view : A → X) (xs : List A) (k : ℕ) (a : A) → k < length xs → a ≡ get_or xs k a → map view (drop k xs) ≡ view a ∷ map view (drop (k + 1) xs)
+rest-read {A} view xs k a within read = rw (add-one k) (ap (map view) (drop-cons xs k a within ∙ ap (λ (y : A). y ∷ drop (suc k) xs) (sym read)))
+
+-- what a walk has summed up before place k
+abbrev pub IsSummedUp : {A X : Type 0} → Width → (X → ℤ) → (A → X) → List A → ℕ → ℤ → Type 0
+IsSummedUp w f view xs k s = s ≡ int_wrap w (sum_of f (map view xs) -ℤ sum_of f (map view (drop k xs)))
+
+pub sum-first : {A X : Type 0} (w : Width) (f : X → ℤ) (view : A → X) (xs : List A) (zero : ℤ) → zero ≡ pos 0 → IsSummedUp w f view xs 0 zero
+sum-first w f view xs zero e = wrapped-zero w zero e ∙ ap (int_wrap w) (none (sum_of f (map view xs)))
+  where
+    none : (t : ℤ) → pos 0 ≡ t -ℤ t
+    none t = omega (arith, ints)
+
+pub sum-more : {A X : Type 0} (w : Width) (f : X → ℤ) (view : A → X) (xs : List A) (k : ℕ) (a : A) (before item after : ℤ) → k < length xs → a ≡ get_or xs k a
+    → IsSummedUp w f view xs k before → item ≡ int_wrap w (f (view a)) → after ≡ int_wrap w (before +ℤ item) → IsSummedUp w f view xs (k + 1) after
+sum-more w f view xs k a before item after within read so_far here now =
+    now ∙ ap (λ (z : ℤ). int_wrap w (before +ℤ z)) here ∙ int_wrap-add_right w before (f (view a))
+    ∙ ap (λ (z : ℤ). int_wrap w (z +ℤ f (view a))) so_far ∙ int_wrap-add_left w (total -ℤ sum_of f (map view (drop k xs))) (f (view a))
+    ∙ ap (int_wrap w) (moved total (sum_of f (map view (drop k xs))) (f (view a)) (sum_of f (map view (drop (k + 1) xs))) (ap (sum_of f) (rest-read view xs k a within read)))
+  where
+    total : ℤ
+    total = sum_of f (map view xs)
+
+    moved : (t r x q : ℤ) → r ≡ x +ℤ q → (t -ℤ r) +ℤ x ≡ t -ℤ q
+    moved t r x q e = omega (arith, ints)
+
+pub sum-last : {A X : Type 0} (w : Width) (f : X → ℤ) (view : A → X) (xs : List A) (k : ℕ) (s : ℤ) → length xs ≤ k → IsSummedUp w f view xs k s → s ≡ int_wrap w (sum_of f (map view xs))
+sum-last w f view xs k s past so_far = so_far ∙ ap (int_wrap w) (nothing (sum_of f (map view xs)) (sum_of f (map view (drop k xs))) (ap (λ ys. sum_of f (map view ys)) (drop_all k xs past)))
+  where
+    nothing : (t r : ℤ) → r ≡ pos 0 → t -ℤ r ≡ t
+    nothing t r e = omega (arith, ints)
+
+-- each item passes, so the one at a place does
+pub item-passes : {A X : Type 0} (P : X → Type 0) (view : A → X) (xs : List A) (k : ℕ) (a : A) → All P (map view xs) → k < length xs → a ≡ get_or xs k a → P (view a)
+item-passes P view xs k a all within read =
+    subst P (get_or-map view xs k a (view a) within ∙ ap view (sym read))
+    (All-get_or P (map view xs) k (view a) (omega (arith, length-map xs view)) all)
+
+-- what a walk has counted before place k, with what is still to come
+abbrev pub IsCounted : {A : Type 0} → (A → ℕ) → List A → ℕ → ℕ → Type 0
+IsCounted f xs k n = n + sum_by f (drop k xs) ≡ sum_by f xs
+
+pub count-rest : {A : Type 0} (f : A → ℕ) (xs : List A) (k n : ℕ) (a : A) → k < length xs → a ≡ get_or xs k a → IsCounted f xs k n → n + f a + sum_by f (drop (k + 1) xs) ≡ sum_by f xs
+count-rest {A} f xs k n a within read so_far = regroup n (f a) (sum_by f (drop (k + 1) xs)) (sum_by f xs) (sym (ap (λ (m : ℕ). n + m) rest) ∙ so_far)
+  where
+    rest : sum_by f (drop k xs) ≡ f a + sum_by f (drop (k + 1) xs)
+    rest = rw (add-one k) (ap (sum_by f) (drop-cons xs k a within ∙ ap (λ (y : A). y ∷ drop (suc k) xs) (sym read)) ∙ sum_by-cons f a (drop (suc k) xs))
+
+    regroup : (n x r t : ℕ) → n + (x + r) ≡ t → n + x + r ≡ t
+    regroup n x r t e = omega arith
+
+pub count-last : {A : Type 0} (f : A → ℕ) (xs : List A) (k n : ℕ) → length xs ≤ k → IsCounted f xs k n → n ≡ sum_by f xs
+count-last f xs k n past so_far = plus_zero n ∙ ap (λ ys. n + sum_by f ys) (sym (drop_all k xs past)) ∙ so_far
+  where
+    plus_zero : (n : ℕ) → n ≡ n + 0
+    plus_zero n = omega arith

@@ -1,0 +1,126 @@
+//! Shapes and shape lists without zero turns: the tests, and the cleaned copies.
+
+ghost use Rattle.std.specs.Prelude.{◌≡◌, ◌↔◌, List, [], IsTrue, IfOk, IsOkUnless, option_map};
+ghost use Rattle.std.specs.List.{All};
+ghost use Rattle.i_shape_core.specs.Point.{Point, IsZeroTurn};
+ghost use Rattle.i_shape_core.specs.IntPoint.{contour_of, IsSafe};
+ghost use Rattle.i_shape_core.specs.Contour.{IsSimple, End, stay};
+ghost use Rattle.i_shape_core.specs.Answers.{SimpleAnswer};
+ghost use Rattle.i_shape_core.proofs.CycleLaws.{every_order};
+ghost use Rattle.i_shape.specs.ShapeLists.{shape_of, shapes_of, IsSafeShape, IsSafeList};
+ghost use Rattle.i_shape.specs.ShapeAnswers.{ShapeClean, ListClean, ListAnswer, EachContour, EachShape};
+ghost use Rattle.i_shape.specs.InPlace.{CleansInPlace};
+
+use crate::int::cleaning::{
+    ContourCleaner, clean_list, clean_list_in_place, clean_shape, clean_shape_in_place,
+    is_clean_list, is_clean_shape,
+};
+use crate::int::shape::{IntContour, IntShape, IntShapes};
+use crate::int::simple::Simplify;
+use i_shape_core::error::ShapeError;
+use i_shape_core::number::IntNumber;
+use i_shape_core::simple::SimpleContour;
+use i_shape_core::simplifier::ContourSimplifier;
+use std::alloc::Global;
+
+/// The test of a shape of safe points for zero turns, and its copy without them.
+pub trait SimpleShape<I: IntNumber> {
+    /// The contours over whole numbers.
+    ghost shape: { Self → List (List Point) };
+
+    /// Whether every contour is simple; an empty shape is. It takes no memory.
+    fn is_simple(&self) -> bool
+        requires { IsSafeShape I.width (shape self.now) }
+        ensures { IsTrue result ↔ EachContour IsSimple (shape self.now) };
+
+    /// The shape without zero turns. `None` where the first contour collapses; later contours that collapse are left out.
+    /// A simple contour is copied as it is, and an empty shape stays empty. The only error is `OutOfMemory`.
+    fn simplified(&self, alloc: Global) -> Result<Option<IntShape<I>>, ShapeError>
+        requires { IsSafeShape I.width (shape self.now) }
+        ensures answer { IfOk result (λ r. ShapeClean SimpleAnswer (shape self.now) (option_map (λ kept. shape_of I.value kept.items) r)) }
+        ensures memory { IsOkUnless result ShapeError.OutOfMemory };
+}
+
+/// The test of a list of shapes of safe points for zero turns, and its copy without them.
+pub trait SimpleShapes<I: IntNumber> {
+    /// The shapes over whole numbers.
+    ghost shapes: { Self → List (List (List Point)) };
+
+    /// Whether every contour of every shape is simple. It takes no memory.
+    fn is_simple(&self) -> bool
+        requires { IsSafeList I.width (shapes self.now) }
+        ensures { IsTrue result ↔ EachShape IsSimple (shapes self.now) };
+
+    /// The shapes without zero turns, in order. A shape whose first contour collapses is left out; an empty shape stays.
+    /// The only error is `OutOfMemory`.
+    fn simplified(&self, alloc: Global) -> Result<IntShapes<I>, ShapeError>
+        requires { IsSafeList I.width (shapes self.now) }
+        ensures answer { IfOk result (λ r. ListClean SimpleAnswer (shapes self.now) (shapes_of I.value r.items)) }
+        ensures memory { IsOkUnless result ShapeError.OutOfMemory };
+}
+
+impl<I: IntNumber> ContourCleaner<I> for ContourSimplifier {
+    ghost clean = { IsSimple };
+
+    ghost answers = { SimpleAnswer };
+
+    fn start(alloc: Global) -> ContourSimplifier {
+        ContourSimplifier::new(alloc)
+    }
+
+    fn is_clean(contour: &IntContour<I>) -> bool {
+        contour.as_slice().is_simple()
+    }
+
+    fn cleaned(&mut self, contour: &IntContour<I>) -> Result<Option<IntContour<I>>, ShapeError> {
+        self.simplify_contour(contour.as_slice())
+    }
+
+    ghost stays = { λ c simple.
+        let ended : End IsZeroTurn c c = record { reached = stay; none_left = simple.none } in
+        record { ended = ended; enough = simple.enough; alone = λ e end. ((every_order c).some c e ended simple.enough end).1 } };
+}
+
+impl<I: IntNumber> SimpleShape<I> for &[IntContour<I>] {
+    ghost shape = { λ contours. shape_of I.value contours.now };
+
+    fn is_simple(&self) -> bool {
+        is_clean_shape::<I, ContourSimplifier>(*self)
+    }
+
+    fn simplified(&self, alloc: Global) -> Result<Option<IntShape<I>>, ShapeError> {
+        clean_shape(&mut ContourSimplifier::new(alloc), alloc, *self)
+    }
+}
+
+impl<I: IntNumber> SimpleShapes<I> for &[IntShape<I>] {
+    ghost shapes = { λ list. shapes_of I.value list.now };
+
+    fn is_simple(&self) -> bool {
+        is_clean_list::<I, ContourSimplifier>(*self)
+    }
+
+    fn simplified(&self, alloc: Global) -> Result<IntShapes<I>, ShapeError> {
+        clean_list(&mut ContourSimplifier::new(alloc), alloc, *self)
+    }
+}
+
+impl<I: IntNumber> Simplify for IntShape<I> {
+    ghost can_simplify = { λ shape. IsSafeShape I.width (shape_of I.value shape.items) };
+
+    ghost simplify_gives = { λ old r new. CleansInPlace (λ s. shape_of I.value s.items) (EachContour IsSimple) (ShapeClean SimpleAnswer) [] old new r };
+
+    fn simplify_contour(&mut self) -> Result<bool, ShapeError> {
+        clean_shape_in_place::<I, ContourSimplifier>(self)
+    }
+}
+
+impl<I: IntNumber> Simplify for IntShapes<I> {
+    ghost can_simplify = { λ shapes. IsSafeList I.width (shapes_of I.value shapes.items) };
+
+    ghost simplify_gives = { λ old r new. CleansInPlace (λ s. shapes_of I.value s.items) (EachShape IsSimple) (ListAnswer SimpleAnswer) [] old new r };
+
+    fn simplify_contour(&mut self) -> Result<bool, ShapeError> {
+        clean_list_in_place::<I, ContourSimplifier>(self)
+    }
+}

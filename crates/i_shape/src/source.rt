@@ -1,0 +1,4 @@
+//! Borrowed paths.
+
+pub mod float;
+pub mod int;

@@ -1,0 +1,3 @@
+//! The iterator over the paths of a shape.
+
+pub use i_shape_source::iterators::ShapeResourceIterator;

@@ -1,0 +1,7 @@
+use Rattle.i_shape_core.specs.IntPoint.{contour_of}
+use Rattle.i_shape_core.specs.Contour.{point_at}
+use Rattle.i_shape_core.specs.Rounds.{AreAfter}
+use Rattle.i_shape_core.proofs.canonical.next_rival.Given as goal
+
+abbrev pub invariant-loop-place : goal.invariant-loop-place
+invariant-loop-place g l = let c = contour_of g.I.IntNumber.value l.contour in AreAfter c (point_at c l.kept) l.from l.place

@@ -1,0 +1,12 @@
+use Rattle.std.proofs.Common.{◌≤◌, drop}
+use Rattle.i_shape_core.specs.IntPoint.{point_of, contour_of, IsSafe}
+use Rattle.i_shape_core.proofs.Bends.{Bending}
+use Rattle.i_shape_core.proofs.contour.RefSliceIntPointContourExtension.is_convex.Given as goal
+
+abbrev pub invariant-loop-point : goal.invariant-loop-point
+invariant-loop-point g l = record {
+  few : l.changes ≤ l.point-index;
+  behind_safe : IsSafe g.I.IntNumber.width (point_of g.I.IntNumber.value l.behind);
+  here_safe : IsSafe g.I.IntNumber.width (point_of g.I.IntNumber.value l.here);
+  bending : Bending (contour_of g.I.IntNumber.value l.points) l.bend l.changes (point_of g.I.IntNumber.value l.behind) (point_of g.I.IntNumber.value l.here) (contour_of g.I.IntNumber.value (drop l.point-index l.points));
+}

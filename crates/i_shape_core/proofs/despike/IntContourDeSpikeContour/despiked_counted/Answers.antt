@@ -1,0 +1,40 @@
+use Rattle.std.proofs.Common.{◌≡◌, ◌∙◌, None, option_map, arith}
+use Rattle.std.proofs.lemmas.Result.{IfOk-weaker}
+use Rattle.i_shape_core.specs.Point.{IsBack}
+use Rattle.i_shape_core.specs.IntPoint.{contour_of}
+use Rattle.i_shape_core.proofs.Contours.{length-contour}
+use Rattle.i_shape_core.proofs.Cleaned.{spikeless_answer, kept_spikeless, short_answer}
+use Rattle.i_shape_core.proofs.RingStates.{full_state}
+use Rattle.i_shape_core.proofs.despike.IntContourDeSpikeContour.despiked_counted.Goals as goal
+
+pub returns-then-len-lt3-clause-answer : goal.returns-then-len-lt3-clause-answer
+returns-then-len-lt3-clause-answer g c =
+    let points = contour_of g.I.IntNumber.value c.args.self.now.items in
+    spikeless_answer points None 0 (short_answer IsBack points (omega (arith, length-contour g.I.IntNumber.value c.args.self.now.items, c.if-len-lt3.true, c.len.ensures, c.args.self.now.ok.0)))
+
+pub returns-then-len-lt3-clause-kept : goal.returns-then-len-lt3-clause-kept
+returns-then-len-lt3-clause-kept g c =
+    let points = contour_of g.I.IntNumber.value c.args.self.now.items in
+    kept_spikeless points None 0 (short_answer IsBack points (omega (arith, length-contour g.I.IntNumber.value c.args.self.now.items, c.if-len-lt3.true, c.len.ensures, c.args.self.now.ok.0)))
+
+pub walk-requires : goal.walk-requires
+walk-requires g c =
+    let same : c.new.result.contour ≡ c.args.self.now.items = c.new.ensures.contour ∙ c.as_slice.ensures.value in
+    let long = length-contour g.I.IntNumber.value c.args.self.now.items in
+    let ok = c.args.self.now.ok.0 in
+    rw same (full_state (contour_of g.I.IntNumber.value c.args.self.now.items) c.in_ok-ring.ring c.len-2.result c.new.result.visits
+    (omega (arith, c.if-len-lt3.false, c.len.ensures, ok, long)) (omega (arith, c.len-2.ensures, ok, long)) c.new.ensures.visits c.in_ok-ring.ensures.full)
+
+pub returns-clause-answer : goal.returns-clause-answer
+returns-clause-answer g c =
+    let points = contour_of g.I.IntNumber.value c.args.self.now.items in
+    let same : c.new.result.contour ≡ c.args.self.now.items = c.new.ensures.contour ∙ c.as_slice.ensures.value in
+    IfOk-weaker c.walk.result _ _ (λ r w. spikeless_answer points (option_map (λ kept. contour_of g.I.IntNumber.value kept.items) r.0) r.1 w)
+    (rw same at c.walk.ensures.answer)
+
+pub returns-clause-kept : goal.returns-clause-kept
+returns-clause-kept g c =
+    let points = contour_of g.I.IntNumber.value c.args.self.now.items in
+    let same : c.new.result.contour ≡ c.args.self.now.items = c.new.ensures.contour ∙ c.as_slice.ensures.value in
+    IfOk-weaker c.walk.result _ _ (λ r w. kept_spikeless points (option_map (λ kept. contour_of g.I.IntNumber.value kept.items) r.0) r.1 w)
+    (rw same at c.walk.ensures.answer)

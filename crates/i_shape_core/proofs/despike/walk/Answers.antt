@@ -1,0 +1,73 @@
+use Rattle.std.proofs.Common.{◌≡◌, ◌∙◌, ◌<◌, ℕ, List, map, length, sym, ap, subst, arith}
+use Rattle.std.specs.List.{All}
+use Rattle.std.proofs.lemmas.List.{length-map}
+use Rattle.i_shape_core.specs.IntPoint.{contour_of}
+use Rattle.i_shape_core.specs.Point.{Point, IsBack}
+use Rattle.i_shape_core.specs.Contour.{point_at}
+use Rattle.i_shape_core.specs.Walk.{Falls, Finds}
+use Rattle.i_shape_core.specs.RingWalk.{IsRingState, in_order}
+use Rattle.i_shape_core.specs.declared.point.IntPoint.{IntPoint}
+use Rattle.i_shape_core.proofs.Contours.{refuted, length-contour, kept-contour}
+use Rattle.i_shape_core.proofs.RingStates.{state_keeps, state_removes, state_collapses, state_ends, ends_below}
+use Rattle.i_shape_core.proofs.despike.walk.Goals as goal
+
+pub loop-probe-preserved-then-not-is_back_at : goal.loop-probe-preserved-then-not-is_back_at
+loop-probe-preserved-then-not-is_back_at g c =
+    let whole : List Point = contour_of g.I.IntNumber.value c.args.probe.contour in
+    let inv = c.loop-probe.invariant in
+    let ring = c.loop-probe.ring in
+    let test = rw inv.contour at c.is_back_at.ensures.test in
+    record {
+      contour = c.is_back_at.ensures.contour ∙ inv.contour;
+      state = subst (IsRingState IsBack whole c.keep.new.self) (sym c.is_back_at.ensures.visits)
+          (state_keeps whole ring.places c.keep.new.self.places ring.untested c.keep.new.self.untested ring.lead c.keep.new.self.lead c.loop-probe.probe.visits inv.state
+          (omega (arith, c.loop-probe-test.true, c.untested.ensures)) (refuted c.is_back_at.result test (λ h. h, λ h. h) c.if-not-is_back_at.true)
+          c.keep.ensures.places c.keep.ensures.untested c.keep.ensures.lead);
+    }
+
+pub loop-probe-preserved : goal.loop-probe-preserved
+loop-probe-preserved g c =
+    let whole : List Point = contour_of g.I.IntNumber.value c.args.probe.contour in
+    let inv = c.loop-probe.invariant in
+    let ring = c.loop-probe.ring in
+    let test = rw inv.contour at c.is_back_at.ensures.test in
+    record {
+      contour = c.is_back_at.ensures.contour ∙ inv.contour;
+      state = subst (IsRingState IsBack whole c.remove.new.self) (sym c.is_back_at.ensures.visits)
+          (state_removes whole ring.places c.remove.new.self.places ring.untested c.remove.new.self.untested ring.lead c.remove.new.self.lead c.loop-probe.probe.visits inv.state
+          (omega (arith, c.loop-probe-test.true, c.untested.ensures)) (test.0 c.if-not-is_back_at.false) (omega (arith, c.if-len-gt3.true, c.len.ensures))
+          c.remove.ensures.places c.remove.ensures.untested c.remove.ensures.lead);
+    }
+
+pub returns-else-len-gt3-clause-answer : goal.returns-else-len-gt3-clause-answer
+returns-else-len-gt3-clause-answer g c =
+    let whole : List Point = contour_of g.I.IntNumber.value c.args.probe.contour in
+    let inv = c.loop-probe.invariant in
+    let ring = c.loop-probe.ring in
+    let test = rw inv.contour at c.is_back_at.ensures.test in
+    let three : length ring.places ≡ 3 = omega (arith, c.if-len-gt3.false, c.len.ensures, inv.state.walk.enough, length-map ring.places (point_at whole)) in
+    subst (Falls IsBack whole) (sym (c.visits.ensures ∙ c.is_back_at.ensures.visits))
+    (state_collapses whole ring.places ring.untested ring.lead c.loop-probe.probe.visits inv.state (test.0 c.if-not-is_back_at.false) three)
+
+pub keep-requires-2 : goal.keep-requires-2
+keep-requires-2 g c =
+    let whole : List Point = contour_of g.I.IntNumber.value c.args.probe.contour in
+    let inv = c.loop-probe.invariant in
+    let ring = c.loop-probe.ring in
+    let below = ends_below whole ring.places ring.untested ring.lead c.loop-probe.probe.visits inv.state in
+    let listed : c.as_slice.result.now ≡ in_order ring.places ring.lead = c.as_slice.ensures.value ∙ c.into_order.ensures in
+    let long : length whole ≡ length c.loop-probe.probe.contour = length-contour g.I.IntNumber.value c.args.probe.contour ∙ ap length (sym inv.contour) in
+    subst (λ (n : ℕ). All (λ k. k < n) c.as_slice.result.now) long (subst (All (λ k. k < length whole)) (sym listed) below)
+
+pub returns-clause-answer : goal.returns-clause-answer
+returns-clause-answer g c =
+    let whole : List Point = contour_of g.I.IntNumber.value c.args.probe.contour in
+    let inv = c.loop-probe.invariant in
+    let ring = c.loop-probe.ring in
+    let listed : c.as_slice.result.now ≡ in_order ring.places ring.lead = c.as_slice.ensures.value ∙ c.into_order.ensures in
+    let shown : contour_of g.I.IntNumber.value c.in_ok-kept.kept.items ≡ map (point_at whole) (in_order ring.places ring.lead) =
+    kept-contour g.I.IntNumber.value _ _ _ c.in_ok-kept.ensures.points ∙ (ap (λ (l : List (IntPoint g.row.I.Denot)). map (point_at (contour_of g.I.IntNumber.value l)) c.as_slice.result.now) inv.contour
+    ∙ ap (map (point_at whole)) listed) in
+    subst (Finds IsBack whole (contour_of g.I.IntNumber.value c.in_ok-kept.kept.items)) (sym c.in_ok-kept.ensures.visits)
+    (state_ends whole (contour_of g.I.IntNumber.value c.in_ok-kept.kept.items) ring.places ring.untested ring.lead c.loop-probe.probe.visits inv.state
+    (omega (arith, c.loop-probe-test.false, c.untested.ensures)) shown)

@@ -1,0 +1,14 @@
+use Rattle.std.proofs.Common.{◌≡◌, ◌+◌, ◌*◌, length}
+use Rattle.i_shape_core.specs.IntPoint.{contour_of}
+use Rattle.i_shape_core.specs.Point.{IsBack}
+use Rattle.i_shape_core.specs.RingWalk.{IsRingState}
+use Rattle.i_shape_core.proofs.despike.walk.Given as goal
+
+abbrev pub invariant-loop-probe : goal.invariant-loop-probe
+invariant-loop-probe g l = record {
+  contour : l.probe.contour ≡ l.initial.probe.contour;
+  state : IsRingState IsBack (contour_of g.I.IntNumber.value l.initial.probe.contour) l.ring l.probe.visits;
+}
+
+abbrev pub decreases-loop-probe : goal.decreases-loop-probe
+decreases-loop-probe g l = 2 * length l.ring.places + l.ring.untested

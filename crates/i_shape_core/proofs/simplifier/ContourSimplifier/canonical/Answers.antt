@@ -1,0 +1,5 @@
+use Rattle.i_shape_core.proofs.RotatedEdges.{kept_by_rotation}
+use Rattle.i_shape_core.proofs.simplifier.ContourSimplifier.canonical.Goals as goal
+
+pub returns-clause-kept : goal.returns-clause-kept
+returns-clause-kept g c = kept_by_rotation _ _ _ (rw c.in-Some.is at c.in_ok-kept.ensures.kept) c.turn_to_least.ensures.rotation

@@ -1,0 +1,51 @@
+-- One form for all contours that lead to one another: the least rotation of the end.
+use Rattle.std.specs.Prelude.{◌≡◌, ◌≤◌, ◌⊎◌, ◌↔◌, ◌<ℤ◌, ℕ, List, [], ◌∷◌, ◌++◌, take, drop, length, Option, Some, None}
+use Rattle.i_shape_core.specs.Point.{Point, IsZeroTurn}
+use Rattle.i_shape_core.specs.Contour.{Test, Step, End, Rotation}
+use Rattle.i_shape_core.specs.Answers.{IsOneEnd, EachEndCollapses}
+
+-- p comes before q: by x, and then by y
+abbrev pub IsBefore : Point → Point → Type 0
+IsBefore p q = (p.x <ℤ q.x) ⊎ ((p.x ≡ q.x) × (p.y <ℤ q.y))
+
+-- c is d or comes before it, point by point
+abbrev pub IsAtMost : List Point → List Point → Type 0
+IsAtMost [] d = Unit {0}
+IsAtMost (p ∷ c) [] = ⊥
+IsAtMost (p ∷ c) (q ∷ d) = IsBefore p q ⊎ ((p ≡ q) × IsAtMost c d)
+
+-- l is the first of the rotations of c
+pub record IsLeast (c l : List Point) : Type 0 where
+  pub rotation : Rotation c l
+  pub first : (d : List Point) → Rotation c d → IsAtMost l d
+
+-- the rotation of c that starts at place k
+abbrev pub started_at : List Point → ℕ → List Point
+started_at c k = drop k c ++ take k c
+
+-- l is the least rotation of the one end of c
+pub record IsCanonical (c l : List Point) : Type 0 where
+  pub end : List Point
+  pub ends : IsOneEnd c end
+  pub least : IsLeast end l
+
+-- what `canonical` answers: the least rotation of the one end, or nothing where each end collapses
+abbrev pub CanonicalAnswer : List Point → Option (List Point) → Type 0
+CanonicalAnswer c None = EachEndCollapses c
+CanonicalAnswer c (Some l) = IsCanonical c l
+
+-- one contour is a rotation of the other, or the other without a removable point
+pub data IsLink (P : Test) (c d : List Point) : Type 0 where
+  by_rotation : Rotation c d → IsLink P c d
+  by_removal : Step P c d → IsLink P c d
+  by_insertion : Step P d c → IsLink P c d
+
+-- a chain of contours of at least three points leads from c to d
+pub data Joined (P : Test) : List Point → List Point → Type 0 where
+  alone : {c : List Point} → 3 ≤ length c → Joined P c c
+  link : {c d e : List Point} → 3 ≤ length c → IsLink P c d → Joined P d e → Joined P c e
+
+-- where an end of c and an end of d have not collapsed, their least rotations are one list exactly where c and d are joined
+abbrev pub CanonicalJoined : List Point → List Point → Type 0
+CanonicalJoined c d = (e f l m : List Point) → End IsZeroTurn c e → 3 ≤ length e → End IsZeroTurn d f → 3 ≤ length f
+    → IsLeast e l → IsLeast f m → (l ≡ m) ↔ Joined IsZeroTurn c d

@@ -1,0 +1,63 @@
+//! Twice the area, and the area, of the points that an iterator has left.
+
+ghost use Rattle.std.specs.Prelude.{◌≡◌, pos, None, List, int_div};
+ghost use Rattle.std.specs.Int.{int_wrap};
+ghost use Rattle.std.specs.Iterator.{Drains, IsFinite};
+ghost use Rattle.i_shape_core.specs.IntPoint.{contour_of};
+ghost use Rattle.i_shape_core.specs.Edges.{shoelace};
+
+use crate::number::{IntNumber, WideIntNumber};
+use crate::point::IntPoint;
+
+/// The double area of the points that an iterator has left.
+pub trait UnsafeArea<I: IntNumber>: Iterator<Item = IntPoint<I>> + Sized {
+    /// The double area of the contour of the points left, above zero where it is wound counter-clockwise. No safe range is asked:
+    /// the sum wraps, which it can only do where the contour is wound more than once. At least one point is left.
+    fn unsafe_area(self) -> I::Wide
+        requires can { Self.can_next self }
+        requires ends { IsFinite (Self.remaining self) }
+        requires more { (rest : Self) → ¬ (Self.next_gives self None rest) }
+        ensures { (points : List (IntPoint I)) × Drains Self.next_gives self points × (I.Wide.value result ≡ int_wrap I.Wide.width (shoelace (contour_of I.value points))) };
+}
+
+impl<I: IntNumber, T: Iterator<Item = IntPoint<I>>> UnsafeArea<I> for T {
+    fn unsafe_area(mut self) -> I::Wide {
+        let Some(first) = self.next() else {
+            unreachable!()
+        };
+        let mut area = I::Wide::ZERO;
+        let mut previous = first;
+        for point in self {
+            area = area.wrapping_add(previous.cross_product(point));
+            previous = point;
+        }
+        area.wrapping_add(previous.cross_product(first))
+    }
+}
+
+/// The area of the points that an iterator has left.
+pub trait IteratorArea<I: IntNumber>: Iterator<Item = IntPoint<I>> + Sized {
+    /// The double area, as `UnsafeArea::unsafe_area` gives it.
+    fn area_two(self) -> I::Wide
+        requires can { Self.can_next self }
+        requires ends { IsFinite (Self.remaining self) }
+        requires more { (rest : Self) → ¬ (Self.next_gives self None rest) }
+        ensures { (points : List (IntPoint I)) × Drains Self.next_gives self points × (I.Wide.value result ≡ int_wrap I.Wide.width (shoelace (contour_of I.value points))) };
+
+    /// Half the double area, rounded towards zero.
+    fn area(self) -> I::Wide
+        requires can { Self.can_next self }
+        requires ends { IsFinite (Self.remaining self) }
+        requires more { (rest : Self) → ¬ (Self.next_gives self None rest) }
+        ensures { (points : List (IntPoint I)) × Drains Self.next_gives self points × (I.Wide.value result ≡ int_div (int_wrap I.Wide.width (shoelace (contour_of I.value points))) (pos 2)) };
+}
+
+impl<I: IntNumber, T: Iterator<Item = IntPoint<I>>> IteratorArea<I> for T {
+    fn area_two(self) -> I::Wide {
+        self.unsafe_area()
+    }
+
+    fn area(self) -> I::Wide {
+        self.area_two().divide(I::Wide::TWO)
+    }
+}

@@ -1,0 +1,112 @@
+//! Tests of a contour as a whole: its winding, its convexity, and which points it contains.
+
+ghost use Rattle.std.specs.Prelude.{◌≡◌, ◌<◌, ◌↔◌, ◌≤ℤ◌, pos, List, length, IsTrue};
+ghost use Rattle.std.specs.Int.{int_wrap};
+ghost use Rattle.std.specs.List.{All};
+ghost use Rattle.i_shape_core.specs.IntPoint.{point_of, contour_of, IsSafe};
+ghost use Rattle.i_shape_core.specs.Point.{Point};
+ghost use Rattle.i_shape_core.specs.Edges.{shoelace, Inside, is_right};
+ghost use Rattle.i_shape_core.specs.Convex.{Convex};
+
+use crate::area::UnsafeArea;
+use crate::bend::{Bend, bend_of};
+use crate::despike::{are_same, last_other};
+use crate::number::{IntNumber, WideIntNumber};
+use crate::point::IntPoint;
+use crate::triangle::Triangle;
+
+/// Tests of a contour as a whole. Each is one pass and takes no memory.
+pub trait ContourExtension<I: IntNumber> {
+    /// The contour over whole numbers.
+    ghost contour: { Self → List Point };
+
+    /// Whether, without the points that equal the one before them on the cycle, at most two are left, or the way over them
+    /// nowhere goes back the way it came and does not bend to the left at one place and to the right at another.
+    fn is_convex(&self) -> bool
+        requires { All (IsSafe I.width) (contour self.now) }
+        ensures { IsTrue result ↔ Convex (contour self.now) };
+
+    /// Whether the double area, wrapped as `UnsafeArea::unsafe_area` wraps it, is at most zero. The contour has a point.
+    fn is_clockwise_ordered(&self) -> bool
+        requires { 0 < length (contour self.now) }
+        ensures { IsTrue result ↔ (int_wrap I.Wide.width (shoelace (contour self.now)) ≤ℤ pos 0) };
+
+    /// Whether an odd number of edges pass the height of `point` strictly to the right of it. A contour without points contains none.
+    fn contains_point(&self, point: IntPoint<I>) -> bool
+        requires points_safe { All (IsSafe I.width) (contour self.now) }
+        requires point_safe { IsSafe I.width (point_of I.value point) }
+        ensures { IsTrue result ↔ Inside (contour self.now) (point_of I.value point) };
+}
+
+impl<I: IntNumber> ContourExtension<I> for &[IntPoint<I>] {
+    ghost contour = { λ points. contour_of I.value points.now };
+
+    fn is_convex(&self) -> bool {
+        let points: &[IntPoint<I>] = *self;
+        let Some(last) = points.last() else {
+            return true;
+        };
+        let mut here = *last;
+        let Some(mut behind) = last_other(points, here) else {
+            return true;
+        };
+        let mut bend = Bend::Straight;
+        let mut changes: usize = 0;
+        for point in points {
+            if are_same(here, *point) {
+                continue;
+            }
+            let Some(both) = bend.joined_with(bend_of(behind, here, *point)) else {
+                return false;
+            };
+            bend = both;
+            changes += 1;
+            behind = here;
+            here = *point;
+        }
+        changes <= 2 || bend != Bend::Reversal
+    }
+
+    fn is_clockwise_ordered(&self) -> bool {
+        let points: &[IntPoint<I>] = *self;
+        points.iter().copied().unsafe_area() <= I::Wide::ZERO
+    }
+
+    fn contains_point(&self, point: IntPoint<I>) -> bool
+        requires points_safe { All (IsSafe I.width) (contour_of I.value self.now.now) }
+        requires point_safe { IsSafe I.width (point_of I.value point) }
+        ensures { IsTrue result ↔ Inside (contour_of I.value self.now.now) (point_of I.value point) }
+    {
+        let points: &[IntPoint<I>] = *self;
+        let Some(last) = points.last() else {
+            return false;
+        };
+        let mut is_inside = false;
+        let mut start = *last;
+        for end in points {
+            if passes_right(point, start, *end) {
+                is_inside = !is_inside;
+            }
+            start = *end;
+        }
+        is_inside
+    }
+}
+
+/// Whether the edge from `start` to `end` passes the height of `point` strictly to the right of it.
+fn passes_right<I: IntNumber>(point: IntPoint<I>, start: IntPoint<I>, end: IntPoint<I>) -> bool
+    requires point_safe { IsSafe I.width (point_of I.value point) }
+    requires start_safe { IsSafe I.width (point_of I.value start) }
+    requires end_safe { IsSafe I.width (point_of I.value end) }
+    ensures { result ≡ is_right (point_of I.value point) (record { start = point_of I.value start; end = point_of I.value end }) }
+{
+    let is_start_above = start.y > point.y;
+    let is_end_above = end.y > point.y;
+    if is_start_above == is_end_above {
+        false
+    } else if is_start_above {
+        Triangle::is_clockwise(end, point, start)
+    } else {
+        Triangle::is_clockwise(start, point, end)
+    }
+}

@@ -1,0 +1,164 @@
+//! Contours without spikes: the test, and the cleaned copy.
+
+ghost use Rattle.std.specs.Prelude.{◌≡◌, ◌↔◌, ◌+◌, ◌-◌, ◌*◌, ◌^◌, ◌<◌, ◌≤◌, List, length, reverse, IsTrue, IfOk, IsOkUnless, not, option_map};
+ghost use Rattle.std.specs.List.{All, find};
+ghost use Rattle.i_shape_core.specs.IntPoint.{contour_of, point_of, IsSafe};
+ghost use Rattle.i_shape_core.specs.Point.{Point, IsBack};
+ghost use Rattle.i_shape_core.specs.Convex.{NoSpikes, is_same};
+ghost use Rattle.i_shape_core.specs.Answers.{SpikelessAnswer, KeptAnswer, VisitsAnswer};
+ghost use Rattle.i_shape_core.specs.Walk.{WalkAnswer};
+ghost use Rattle.i_shape_core.specs.RingWalk.{IsRingState, PassesAtPlace};
+
+use crate::error::ShapeError;
+use crate::number::IntNumber;
+use crate::point::{IntContour, IntPoint};
+use crate::probe::Probe;
+use crate::ring::Ring;
+use crate::turn::{Turn, turn_of};
+use std::alloc::Global;
+
+/// The test of a contour of safe points for spikes, and its copy without them.
+pub trait DeSpikeContour<I: IntNumber> {
+    /// The contour over whole numbers.
+    ghost contour: { Self → List Point };
+
+    /// Whether at least three points are left without those that equal the one before them on the cycle,
+    /// and the way over them nowhere goes back the way it came. It takes no memory.
+    fn has_no_spikes(&self) -> bool
+        requires { All (IsSafe I.width) (contour self.now) }
+        ensures { IsTrue result ↔ NoSpikes (contour self.now) };
+
+    /// The contour without the points at which the way turns back or stands still, in the order of the input.
+    /// `None` exactly where removing zero turns in any order leaves fewer than three points; otherwise such removals
+    /// lead from the answer to the same contour as from the input. Double area and containment are kept.
+    /// The only error is `OutOfMemory`; below three points no memory is taken.
+    fn despiked_contour(&self, alloc: Global) -> Result<Option<IntContour<I>>, ShapeError>
+        requires { All (IsSafe I.width) (contour self.now) }
+        ensures answer { IfOk result (λ r. SpikelessAnswer (contour self.now) (option_map (λ kept. contour_of I.value kept.items) r)) }
+        ensures kept { IfOk result (λ r. KeptAnswer (contour self.now) (option_map (λ kept. contour_of I.value kept.items) r)) }
+        ensures short { length (contour self.now) < 3 → result ≡ Ok None }
+        ensures memory { IsOkUnless result ShapeError.OutOfMemory };
+
+    /// The same, with the number of vertices visited: at most three for each vertex of the contour, at least one for each,
+    /// but for two where the contour collapses, and none where it has fewer than three.
+    fn despiked_counted(&self, alloc: Global) -> Result<(Option<IntContour<I>>, u128), ShapeError>
+        requires { All (IsSafe I.width) (contour self.now) }
+        ensures answer { IfOk result (λ r. SpikelessAnswer (contour self.now) (option_map (λ kept. contour_of I.value kept.items) r.0)) }
+        ensures kept { IfOk result (λ r. KeptAnswer (contour self.now) (option_map (λ kept. contour_of I.value kept.items) r.0)) }
+        ensures visits { IfOk result (λ r. VisitsAnswer (contour self.now) (option_map (λ kept. contour_of I.value kept.items) r.0) r.1) }
+        ensures short { length (contour self.now) < 3 → result ≡ Ok (None, 0) }
+        ensures memory { IsOkUnless result ShapeError.OutOfMemory };
+}
+
+impl<I: IntNumber> DeSpikeContour<I> for IntContour<I> {
+    ghost contour = { λ contour. contour_of I.value contour.items };
+
+    fn has_no_spikes(&self) -> bool {
+        has_no_reversal(self.as_slice())
+    }
+
+    fn despiked_contour(&self, alloc: Global) -> Result<Option<IntContour<I>>, ShapeError> {
+        let (kept, _visits) = self.despiked_counted(alloc)?;
+        Ok(kept)
+    }
+
+    fn despiked_counted(&self, alloc: Global) -> Result<(Option<IntContour<I>>, u128), ShapeError> {
+        if self.len() < 3 {
+            return Ok((None, 0));
+        }
+        let ring = Ring::full(alloc, self.len())?;
+        walk(alloc, Probe::new(self.as_slice()), ring)
+    }
+}
+
+/// Whether the contour turns back or stands still at the ring's place. Counts one visit.
+fn is_back_at<I: IntNumber>(probe: &mut Probe<'_, I>, ring: &Ring) -> bool
+    requires enough { 1 < length ring.now.places }
+    requires below { All (λ k. k < length probe.old.contour) ring.now.places }
+    requires room { probe.old.visits < u128.MAX }
+    ensures test { IsTrue result ↔ PassesAtPlace IsBack (contour_of I.value probe.old.contour) ring.now.places }
+    ensures contour { probe.new.contour ≡ probe.old.contour }
+    ensures visits { probe.new.visits ≡ probe.old.visits + 1 }
+{
+    probe.turn(ring.before(), ring.place(), ring.after()) == Turn::Back
+}
+
+/// Walks round the ring until each place of it is tested, and takes out those that turn back.
+fn walk<I: IntNumber>(
+    alloc: Global,
+    mut probe: Probe<'_, I>,
+    mut ring: Ring,
+) -> Result<(Option<IntContour<I>>, u128), ShapeError>
+    requires { IsRingState IsBack (contour_of I.value probe.contour) ring probe.visits }
+    ensures answer { IfOk result (λ r. WalkAnswer IsBack (contour_of I.value probe.entry.contour) (option_map (λ kept. contour_of I.value kept.items) r.0) r.1) }
+    ensures memory { IsOkUnless result ShapeError.OutOfMemory }
+{
+    while ring.untested() > 0 {
+        if !is_back_at(&mut probe, &ring) {
+            ring.keep();
+        } else if ring.len() > 3 {
+            ring.remove();
+        } else {
+            return Ok((None, probe.visits()));
+        }
+    }
+    let (kept, visits) = probe.keep(alloc, ring.into_order().as_slice())?;
+    Ok((Some(kept), visits))
+}
+
+pub(crate) fn are_same<I: IntNumber>(a: IntPoint<I>, b: IntPoint<I>) -> bool
+    ensures { result ≡ is_same (point_of I.value a) (point_of I.value b) }
+{
+    a == b
+}
+
+/// Whether the way from `a` over `b` to `c` turns back at `b`, or stands still there.
+fn goes_back<I: IntNumber>(a: IntPoint<I>, b: IntPoint<I>, c: IntPoint<I>) -> bool
+    requires a_safe { IsSafe I.width (point_of I.value a) }
+    requires b_safe { IsSafe I.width (point_of I.value b) }
+    requires c_safe { IsSafe I.width (point_of I.value c) }
+    ensures { IsTrue result ↔ IsBack (point_of I.value a) (point_of I.value b) (point_of I.value c) }
+{
+    turn_of(a, b, c) == Turn::Back
+}
+
+/// The last of the points that isn't `point`.
+pub(crate) fn last_other<I: IntNumber>(
+    points: &[IntPoint<I>],
+    point: IntPoint<I>,
+) -> Option<IntPoint<I>>
+    ensures { result ≡ find (λ other. not (is_same (point_of I.value point) (point_of I.value other))) (reverse points.now) }
+{
+    points
+        .iter()
+        .rev()
+        .copied()
+        .find(|other| !are_same(point, *other))
+}
+
+/// Whether at least three points are left without repeated ones, and the way over them nowhere goes back.
+fn has_no_reversal<I: IntNumber>(points: &[IntPoint<I>]) -> bool
+    requires { All (IsSafe I.width) (contour_of I.value points.now) }
+    ensures { IsTrue result ↔ NoSpikes (contour_of I.value points.now) }
+{
+    let Some(last) = points.last() else {
+        return false;
+    };
+    let mut here = *last;
+    let Some(mut behind) = last_other(points, here) else {
+        return false;
+    };
+    let mut changes: usize = 0;
+    for point in points {
+        if are_same(here, *point) {
+            continue;
+        }
+        if goes_back(behind, here, *point) {
+            return false;
+        }
+        changes += 1;
+        behind = here;
+        here = *point;
+    }
+    changes >= 3
+}

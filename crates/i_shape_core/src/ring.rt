@@ -1,0 +1,162 @@
+//! The ring of the places that a walk has left.
+
+ghost use Rattle.std.specs.Prelude.{◌≡◌, ◌+◌, ◌-◌, ◌<◌, ◌≤◌, ◌∷◌, ◌++◌, [], min, max, take, drop, length, slice_index, vec_len, vec_capacity, IfOk, IsOkUnless};
+ghost use Rattle.std.specs.List.{range_with_len};
+ghost use Rattle.i_shape_core.specs.RingWalk.{Standing, LeadKept, LeadRemoved, around_gap, lead_over_gap, in_order};
+
+use crate::error::ShapeError;
+use std::alloc::Global;
+use std::marker::Model;
+
+/// The places that are left, as a cycle from the walk's place on. They lie in one list with a gap:
+/// those from `ahead` to `end`, and then those before `behind`.
+#[derive(Drop)]
+pub struct Ring {
+    places: Vec<usize>,
+    behind: usize,
+    ahead: usize,
+    end: usize,
+    /// Where the contour's first of them stands, counted from the start of the list without the gap.
+    first: usize,
+    untested: usize,
+}
+
+impl Model for Ring {
+    ghost Value = { Standing };
+
+    ghost view = { λ r. record { places = around_gap r.places.items r.behind r.ahead r.end; untested = r.untested; lead = lead_over_gap (r.behind + (r.end - r.ahead)) r.first r.behind } };
+
+    ghost invariant = { λ r. record { gap : r.behind ≤ r.ahead; some : r.ahead < r.end; within : r.end ≤ vec_len r.places; start : r.first < r.behind + (r.end - r.ahead) } };
+}
+
+impl Ring {
+    /// The ring of all places below `count`, none of them tested.
+    pub fn full(alloc: Global, count: usize) -> Result<Ring, ShapeError>
+        requires { 0 < count }
+        ensures full { IfOk result (λ r. r ≡ record { places = range_with_len 0 count; untested = count; lead = count }) }
+        ensures memory { IsOkUnless result ShapeError.OutOfMemory }
+    {
+        let mut places = Vec::with_capacity(alloc, count)?;
+        for place in 0..count {
+            places.push_reserved(place);
+        }
+        Ok(Ring {
+            places,
+            behind: 0,
+            ahead: 0,
+            end: count,
+            first: 0,
+            untested: count,
+        })
+    }
+
+    /// How many places are left.
+    pub fn len(&self) -> usize
+        ensures { result ≡ length self.now.places }
+    {
+        self.behind + (self.end - self.ahead)
+    }
+
+    /// How many places, from the walk's on, are still to be tested.
+    pub fn untested(&self) -> usize
+        ensures { result ≡ self.now.untested }
+    {
+        self.untested
+    }
+
+    /// The place before the walk's.
+    pub fn before(&self) -> usize
+        ensures { result ≡ slice_index self.now.places (length self.now.places - 1) }
+    {
+        if self.behind > 0 {
+            self.places[self.behind - 1]
+        } else {
+            self.places[self.end - 1]
+        }
+    }
+
+    /// The walk's place.
+    pub fn place(&self) -> usize
+        ensures { result ≡ slice_index self.now.places 0 }
+    {
+        self.places[self.ahead]
+    }
+
+    /// The place after the walk's.
+    pub fn after(&self) -> usize
+        requires { 1 < length self.now.places }
+        ensures { result ≡ slice_index self.now.places 1 }
+    {
+        if self.ahead + 1 < self.end {
+            self.places[self.ahead + 1]
+        } else {
+            self.places[0]
+        }
+    }
+
+    /// Keeps the walk's place as tested. The walk moves on.
+    pub fn keep(&mut self)
+        requires { 0 < self.old.untested }
+        ensures places { self.new.places ≡ drop 1 self.old.places ++ slice_index self.old.places 0 ∷ [] }
+        ensures untested { self.new.untested + 1 ≡ self.old.untested }
+        ensures lead { LeadKept (length self.old.places) self.old.lead self.new.lead }
+    {
+        self.untested -= 1;
+        self.places[self.behind] = self.places[self.ahead];
+        self.behind += 1;
+        self.ahead += 1;
+        if self.ahead == self.end {
+            self.end = self.behind;
+            self.behind = 0;
+            self.ahead = 0;
+        }
+    }
+
+    /// Takes the walk's place out. The walk moves back, and its new place and the one after it are to be tested.
+    pub fn remove(&mut self)
+        requires { 1 < length self.old.places }
+        ensures places { self.new.places ≡ slice_index self.old.places (length self.old.places - 1) ∷ drop 1 (take (length self.old.places - 1) self.old.places) }
+        ensures untested { self.new.untested ≡ min (length self.old.places - 1) (max self.old.untested 2) }
+        ensures lead { LeadRemoved (length self.old.places) self.old.lead self.new.lead }
+    {
+        let before = self.before();
+        let left = self.len() - 1;
+        self.places[self.ahead] = before;
+        self.first = first_without(self.first, self.behind, left);
+        self.untested = self.untested.max(2).min(left);
+        if self.behind > 0 {
+            self.behind -= 1;
+        } else {
+            self.end -= 1;
+        }
+    }
+
+    /// The places that are left, in the order of the contour.
+    pub fn into_order(self) -> Vec<usize>
+        ensures { result.items ≡ in_order self.places self.lead }
+    {
+        let mut places = self.places;
+        places.copy_within(self.ahead..self.end, self.behind);
+        places.truncate(self.behind + (self.end - self.ahead));
+        places.rotate_left(self.first);
+        places
+    }
+}
+
+/// Where the contour's first stands once the walk's place is taken out, behind which `behind` places stood, and `left` are left.
+fn first_without(first: usize, behind: usize, left: usize) -> usize
+    requires some { 0 < left }
+    requires first { first ≤ left }
+    requires behind { behind ≤ left }
+    ensures within { result < left }
+    ensures lead { LeadRemoved (left + 1) (lead_over_gap (left + 1) first behind) (lead_over_gap left result (behind - 1)) }
+{
+    let moved = if behind == 0 {
+        first.max(1)
+    } else if behind < first {
+        first - 1
+    } else {
+        first
+    };
+    if moved == left { 0 } else { moved }
+}

@@ -1,0 +1,29 @@
+//! Resources of paths over points of any kind.
+ghost use Rattle.std.specs.Prelude.{List, ⊤};
+ghost use Rattle.std.specs.Iterator.{IsFinite};
+ghost use Rattle.i_shape_source.specs.LentPaths.{LendsExactly, RunsThrough};
+
+/// A point of any kind, as its owner names it.
+pub trait ShapePoint: Copy {}
+
+/// A list of paths that lends each of them in storage order. Empty paths are kept, and nested shapes are flattened.
+///
+/// A second traversal of a copy lends the same paths.
+pub trait ShapeResource<'a, P: ShapePoint + 'a>: Sized {
+    /// The iterator over the borrowed paths.
+    type ResourceIter: Iterator<Item = &'a [P]>;
+
+    /// The paths, in storage order.
+    ghost paths: { Self → List (List P) };
+
+    /// Whether the resource can be read.
+    ghost can_read: { Self → Type 0 } = { λ _. ⊤ };
+
+    /// Lends the paths one by one, each a slice of the source, and then ends. Nothing is copied or allocated.
+    fn iter_paths(self) -> Self::ResourceIter
+        requires { can_read self }
+        ensures can { Self.ResourceIter.can_next result }
+        ensures ends { IsFinite (Self.ResourceIter.remaining result) }
+        ensures lends { LendsExactly Self.ResourceIter.next_gives result (paths self) }
+        ensures runs { RunsThrough Self.ResourceIter.next_gives result (paths self) };
+}

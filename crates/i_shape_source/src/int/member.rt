@@ -1,0 +1,70 @@
+//! What a list may hold to be a resource of paths.
+ghost use Rattle.std.specs.Prelude.{List, [], ◌∷◌};
+ghost use Rattle.std.specs.Iterator.{IsFinite};
+ghost use Rattle.i_shape_core.specs.declared.point.IntPoint.{IntPoint};
+ghost use Rattle.i_shape_source.specs.LentPaths.{LendsExactly, RunsThrough};
+ghost use Rattle.i_shape_source.specs.Paths.{paths_of_shape, paths_of_shapes, paths_of_slices};
+
+use crate::iterators::{
+    ContourResourceIterator, ShapeResourceIterator, ShapesResourceIterator, lend_slices,
+};
+use i_shape_core::number::IntNumber;
+use i_shape_core::point::IntPoint;
+use std::iter::Copied;
+use std::slice::Iter;
+
+/// What slices, vectors and arrays hold that are resources: a point, a path, a borrowed path, or a shape.
+pub trait IntResourceMember<'a, I: IntNumber + 'a>: Sized + 'a {
+    /// The iterator over the borrowed paths of a list of members.
+    type MemberIter: Iterator<Item = &'a [IntPoint<I>]>;
+
+    /// The paths of a list of members, in storage order.
+    ghost member_paths: { List Self → List (List (IntPoint I)) };
+
+    /// Lends the paths of the members one by one, and then ends. Nothing is copied or allocated.
+    fn lend(members: &'a [Self]) -> Self::MemberIter
+        ensures can { Self.MemberIter.can_next result }
+        ensures ends { IsFinite (Self.MemberIter.remaining result) }
+        ensures lends { LendsExactly Self.MemberIter.next_gives result (member_paths members.now) }
+        ensures runs { RunsThrough Self.MemberIter.next_gives result (member_paths members.now) };
+}
+
+impl<'a, I: IntNumber + 'a> IntResourceMember<'a, I> for IntPoint<I> {
+    type MemberIter = ContourResourceIterator<'a, IntPoint<I>>;
+
+    ghost member_paths = { λ points. points ∷ [] };
+
+    fn lend(members: &'a [IntPoint<I>]) -> ContourResourceIterator<'a, IntPoint<I>> {
+        ContourResourceIterator::with_slice(members)
+    }
+}
+
+impl<'a, I: IntNumber + 'a> IntResourceMember<'a, I> for Vec<IntPoint<I>> {
+    type MemberIter = ShapeResourceIterator<'a, IntPoint<I>>;
+
+    ghost member_paths = { paths_of_shape };
+
+    fn lend(members: &'a [Vec<IntPoint<I>>]) -> ShapeResourceIterator<'a, IntPoint<I>> {
+        ShapeResourceIterator::with_slice(members)
+    }
+}
+
+impl<'a, I: IntNumber + 'a> IntResourceMember<'a, I> for &'a [IntPoint<I>] {
+    type MemberIter = Copied<Iter<'a, &'a [IntPoint<I>]>>;
+
+    ghost member_paths = { paths_of_slices };
+
+    fn lend(members: &'a [&'a [IntPoint<I>]]) -> Copied<Iter<'a, &'a [IntPoint<I>]>> {
+        lend_slices(members)
+    }
+}
+
+impl<'a, I: IntNumber + 'a> IntResourceMember<'a, I> for Vec<Vec<IntPoint<I>>> {
+    type MemberIter = ShapesResourceIterator<'a, IntPoint<I>>;
+
+    ghost member_paths = { paths_of_shapes };
+
+    fn lend(members: &'a [Vec<Vec<IntPoint<I>>>]) -> ShapesResourceIterator<'a, IntPoint<I>> {
+        ShapesResourceIterator::with_slice(members)
+    }
+}

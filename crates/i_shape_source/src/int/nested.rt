@@ -1,0 +1,69 @@
+//! Slices, vectors and arrays as resources.
+
+use crate::int::member::IntResourceMember;
+use crate::int::resource::IntShapeResource;
+use i_shape_core::number::IntNumber;
+use i_shape_core::point::IntPoint;
+
+impl<'a, I: IntNumber + 'a, T: IntResourceMember<'a, I>> IntShapeResource<'a, I> for &'a [T] {
+    type ResourceIter = T::MemberIter;
+
+    ghost paths = { λ members. T.member_paths members.now };
+
+    fn iter_paths(self) -> T::MemberIter {
+        T::lend(self)
+    }
+}
+
+impl<'a, I: IntNumber + 'a, T: IntResourceMember<'a, I>> IntShapeResource<'a, I> for &'a &'a [T] {
+    type ResourceIter = T::MemberIter;
+
+    ghost paths = { λ members. T.member_paths members.now.now };
+
+    fn iter_paths(self) -> T::MemberIter {
+        T::lend(*self)
+    }
+}
+
+impl<'a, I: IntNumber + 'a, T: IntResourceMember<'a, I>> IntShapeResource<'a, I> for &'a Vec<T> {
+    type ResourceIter = T::MemberIter;
+
+    ghost paths = { λ members. T.member_paths members.now.items };
+
+    fn iter_paths(self) -> T::MemberIter {
+        T::lend(self.as_slice())
+    }
+}
+
+impl<'a, I: IntNumber + 'a, T: IntResourceMember<'a, I>> IntShapeResource<'a, I>
+    for &'a &'a Vec<T> {
+    type ResourceIter = T::MemberIter;
+
+    ghost paths = { λ members. T.member_paths members.now.now.items };
+
+    fn iter_paths(self) -> T::MemberIter {
+        T::lend(self.as_slice())
+    }
+}
+
+impl<'a, I: IntNumber + 'a, T: IntResourceMember<'a, I>, const N: usize> IntShapeResource<'a, I>
+    for &'a [T; N] {
+    type ResourceIter = T::MemberIter;
+
+    ghost paths = { λ members. T.member_paths members.now };
+
+    fn iter_paths(self) -> T::MemberIter {
+        T::lend(self.as_slice())
+    }
+}
+
+impl<'a, I: IntNumber + 'a, T: IntResourceMember<'a, I>, const N: usize> IntShapeResource<'a, I>
+    for &'a &'a [T; N] {
+    type ResourceIter = T::MemberIter;
+
+    ghost paths = { λ members. T.member_paths members.now.now };
+
+    fn iter_paths(self) -> T::MemberIter {
+        T::lend(self.as_slice())
+    }
+}

@@ -1,0 +1,30 @@
+//! Resources of whole-number paths.
+ghost use Rattle.std.specs.Prelude.{List, ⊤};
+ghost use Rattle.std.specs.Iterator.{IsFinite};
+ghost use Rattle.i_shape_core.specs.declared.point.IntPoint.{IntPoint};
+ghost use Rattle.i_shape_source.specs.LentPaths.{LendsExactly, RunsThrough};
+
+use i_shape_core::number::IntNumber;
+use i_shape_core::point::IntPoint;
+
+/// A list of paths that lends each of them in storage order. Empty paths are kept, and nested shapes are flattened.
+///
+/// A second traversal of a copy lends the same paths.
+pub trait IntShapeResource<'a, I: IntNumber + 'a>: Sized {
+    /// The iterator over the borrowed paths.
+    type ResourceIter: Iterator<Item = &'a [IntPoint<I>]>;
+
+    /// The paths, in storage order.
+    ghost paths: { Self → List (List (IntPoint I)) };
+
+    /// Whether the resource can be read.
+    ghost can_read: { Self → Type 0 } = { λ _. ⊤ };
+
+    /// Lends the paths one by one, each a slice of the source, and then ends. Nothing is copied or allocated.
+    fn iter_paths(self) -> Self::ResourceIter
+        requires { can_read self }
+        ensures can { Self.ResourceIter.can_next result }
+        ensures ends { IsFinite (Self.ResourceIter.remaining result) }
+        ensures lends { LendsExactly Self.ResourceIter.next_gives result (paths self) }
+        ensures runs { RunsThrough Self.ResourceIter.next_gives result (paths self) };
+}

@@ -1,0 +1,29 @@
+//! The safe-range test of a resource.
+ghost use Rattle.std.specs.Prelude.{◌↔◌, IsTrue};
+ghost use Rattle.i_shape_source.specs.SafePaths.{IsSafePath, AreSafePaths};
+
+use crate::int::resource::IntShapeResource;
+use i_shape_core::number::IntNumber;
+use i_shape_core::point::IntPoint;
+
+/// The safe-range test, on every resource that is `Copy`.
+pub trait IntSafeRange<'a, I: IntNumber + 'a>: IntShapeResource<'a, I> + Copy {
+    /// Whether every point of every path is safe: both its coordinates lie strictly between -2^(BITS-2) and 2^(BITS-2).
+    ///
+    /// A resource without points is safe.
+    fn is_in_safe_range(self) -> bool
+        requires { Self.can_read self }
+        ensures { IsTrue result ↔ AreSafePaths I.width I.value (Self.paths self) };
+}
+
+impl<'a, I: IntNumber + 'a, R: IntShapeResource<'a, I> + Copy> IntSafeRange<'a, I> for R {
+    fn is_in_safe_range(self) -> bool {
+        self.iter_paths().all(|path| is_safe_path(path))
+    }
+}
+
+fn is_safe_path<I: IntNumber>(path: &[IntPoint<I>]) -> bool
+    ensures { IsTrue result ↔ IsSafePath I.width I.value path.now }
+{
+    path.iter().all(|point| point.is_in_safe_range())
+}

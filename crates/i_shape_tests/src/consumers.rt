@@ -1,0 +1,64 @@
+//! Calls over any resource, proved from the law of resources alone.
+
+ghost use Rattle.std.specs.Prelude.{◌≡◌, ◌≤◌, ◌↔◌, IfOk, IsTrue, length};
+ghost use Rattle.std.specs.List.{flat_map};
+ghost use Rattle.i_shape.specs.SafePaths.{AreSafePaths};
+
+use i_shape::IntNumber;
+use i_shape::int::IntPoint;
+use i_shape::int::safe_range::IntSafeRange;
+use i_shape::int::shape::IntContour;
+use i_shape::source::float::resource::{ShapePoint, ShapeResource};
+use i_shape::source::int::resource::IntShapeResource;
+use std::alloc::{AllocError, Global};
+
+/// The number of paths, by a chain.
+pub fn count_paths<'a, I: IntNumber + 'a, R: IntShapeResource<'a, I> + Copy>(resource: R) -> usize
+    requires can { R.can_read resource }
+    requires few { length (R.paths resource) ≤ usize.MAX }
+    ensures { result ≡ length (R.paths resource) }
+{
+    resource.iter_paths().count()
+}
+
+/// The number of paths, by a chain, of points of any kind.
+pub fn count_shape_paths<'a, P: ShapePoint + 'a, R: ShapeResource<'a, P> + Copy>(
+    resource: R,
+) -> usize
+    requires can { R.can_read resource }
+    requires few { length (R.paths resource) ≤ usize.MAX }
+    ensures { result ≡ length (R.paths resource) }
+{
+    resource.iter_paths().count()
+}
+
+/// All points, end to end, by a loop.
+pub fn all_points<'a, I: IntNumber + 'a, R: IntShapeResource<'a, I> + Copy>(
+    resource: R,
+    alloc: Global,
+) -> Result<IntContour<I>, AllocError>
+    requires { R.can_read resource }
+    ensures { IfOk result (λ points. points.items ≡ flat_map (λ path. path) (R.paths resource)) }
+{
+    let mut points: Vec<IntPoint<I>> = Vec::new(alloc);
+    for path in resource.iter_paths() {
+        points.extend_from_slice(path)?;
+    }
+    Ok(points)
+}
+
+/// Two resources with the same paths, whatever their kinds, are safe together.
+pub fn same_safe_range<
+    'a,
+    I: IntNumber + 'a,
+    R: IntShapeResource<'a, I> + Copy,
+    S: IntShapeResource<'a, I> + Copy,
+>(first: R, second: S) -> (bool, bool)
+    requires first_read { R.can_read first }
+    requires second_read { S.can_read second }
+    requires same { R.paths first ≡ S.paths second }
+    ensures same { result.0 ≡ result.1 }
+    ensures safe { IsTrue result.0 ↔ AreSafePaths I.width I.value (R.paths first) }
+{
+    (first.is_in_safe_range(), second.is_in_safe_range())
+}

@@ -1,0 +1,213 @@
+//! Plain loops over lists of points, which the cleaners are compared with. They follow the definitions, not the library's code.
+
+ghost use Rattle.std.specs.Prelude.{◌<◌, length, IfSome};
+
+use std::alloc::{AllocError, Global};
+
+pub type Pair = [i32; 2];
+
+/// The neighbours of `place` on the cycle.
+fn before(count: usize, place: usize) -> usize
+    requires { place < count }
+    ensures { result < count }
+{
+    if place == 0 { count - 1 } else { place - 1 }
+}
+
+fn after(count: usize, place: usize) -> usize
+    requires { place < count }
+    ensures { result < count }
+{
+    if place + 1 == count { 0 } else { place + 1 }
+}
+
+fn way(a: Pair, b: Pair) -> Pair {
+    [b[0].wrapping_sub(a[0]), b[1].wrapping_sub(a[1])]
+}
+
+pub fn is_zero_turn(a: Pair, b: Pair, c: Pair) -> bool {
+    let v = way(a, b);
+    let w = way(b, c);
+    v[0].wrapping_mul(w[1]) == v[1].wrapping_mul(w[0])
+}
+
+fn is_back(a: Pair, b: Pair, c: Pair) -> bool {
+    let v = way(a, b);
+    let w = way(b, c);
+    is_zero_turn(a, b, c)
+        && v[0]
+            .wrapping_mul(w[0])
+            .wrapping_add(v[1].wrapping_mul(w[1]))
+            <= 0
+}
+
+fn is_zero_at(list: &[Pair], place: usize) -> bool
+    requires { place < length list.now }
+{
+    let count = list.len();
+    is_zero_turn(
+        list[before(count, place)],
+        list[place],
+        list[after(count, place)],
+    )
+}
+
+fn first_zero_turn(list: &[Pair]) -> Option<usize>
+    ensures { IfSome result (λ place. place < length list.now) }
+{
+    for place in 0..list.len() {
+        if is_zero_at(list, place) {
+            return Some(place);
+        }
+    }
+    None
+}
+
+fn last_zero_turn(list: &[Pair]) -> Option<usize>
+    ensures { IfSome result (λ place. place < length list.now) }
+{
+    for behind in 0..list.len() {
+        let place = list.len() - 1 - behind;
+        if is_zero_at(list, place) {
+            return Some(place);
+        }
+    }
+    None
+}
+
+/// Which of the zero turns goes first.
+#[derive(Clone, Copy)]
+pub enum Order {
+    First,
+    Last,
+}
+
+/// What is left where zero turns are deleted one by one, in this order, until none is left, or fewer than three points are.
+pub fn deleted(alloc: Global, list: &[Pair], order: Order) -> Result<Vec<Pair>, AllocError> {
+    let mut left = Vec::from_slice(alloc, list)?;
+    for _ in 0..list.len() {
+        let found = match order {
+            Order::First => first_zero_turn(left.as_slice()),
+            Order::Last => last_zero_turn(left.as_slice()),
+        };
+        if left.len() < 3 {
+            return Ok(left);
+        }
+        if let Some(place) = found {
+            left.remove(place);
+        }
+    }
+    Ok(left)
+}
+
+/// Whether one list is the other from another start.
+pub fn is_rotation(one: &[Pair], other: &[Pair]) -> bool {
+    if one.len() != other.len() {
+        return false;
+    }
+    if one.is_empty() {
+        return true;
+    }
+    for start in 0..one.len() {
+        if one[start..] == other[..one.len() - start]
+            && one[..start] == other[one.len() - start..]
+        {
+            return true;
+        }
+    }
+    false
+}
+
+/// The visits of the walk that keeps points on a stack, and then takes zero turns from both of its ends.
+pub fn visits_of_stack(alloc: Global, list: &[Pair]) -> Result<u128, AllocError> {
+    if list.len() < 3 {
+        return Ok(0);
+    }
+    let mut visits: u128 = 0;
+    let mut stack: Vec<Pair> = Vec::new(alloc);
+    for point in list {
+        for _ in 0..list.len() {
+            let count = stack.len();
+            if count < 2 {
+                break;
+            }
+            visits = visits.wrapping_add(1);
+            if !is_zero_turn(stack[count - 2], stack[count - 1], *point) {
+                break;
+            }
+            stack.pop();
+        }
+        stack.push(*point)?;
+    }
+    for _ in 0..list.len() {
+        let count = stack.len();
+        if count < 3 {
+            break;
+        }
+        visits = visits.wrapping_add(1);
+        if is_zero_turn(stack[count - 1], stack[0], stack[1]) {
+            stack.remove(0);
+            continue;
+        }
+        visits = visits.wrapping_add(1);
+        if !is_zero_turn(stack[count - 2], stack[count - 1], stack[0]) {
+            break;
+        }
+        stack.pop();
+    }
+    Ok(visits)
+}
+
+/// A vertex of the ring walk, and whether it was tested since its neighbours last changed.
+#[derive(Clone, Copy)]
+struct Vertex {
+    point: Pair,
+    is_tested: bool,
+}
+
+/// What the walk round the ring leaves where back vertices are removed, and its visits.
+pub fn ring_walk(alloc: Global, list: &[Pair]) -> Result<(Vec<Pair>, u128), AllocError> {
+    let mut ring = Vec::new(alloc);
+    for point in list {
+        ring.push(Vertex {
+            point: *point,
+            is_tested: false,
+        })?;
+    }
+    let mut place = 0;
+    let mut visits: u128 = 0;
+    for _ in 0..100 {
+        let count = ring.len();
+        if count < 3 || place >= count || ring.iter().all(|vertex| vertex.is_tested) {
+            break;
+        }
+        visits = visits.wrapping_add(1);
+        place = ring_step(&mut ring, place);
+    }
+    let mut left = Vec::new(alloc);
+    for vertex in &ring {
+        left.push(vertex.point)?;
+    }
+    Ok((left, visits))
+}
+
+/// Tests the vertex at the place, and answers the place of the next one.
+fn ring_step(ring: &mut Vec<Vertex>, place: usize) -> usize {
+    let count = ring.len();
+    if count < 3 || place >= count {
+        return place;
+    }
+    let behind = before(count, place);
+    let ahead = after(count, place);
+    if ring[place].is_tested {
+        return ahead;
+    }
+    if !is_back(ring[behind].point, ring[place].point, ring[ahead].point) {
+        ring[place].is_tested = true;
+        return ahead;
+    }
+    ring[behind].is_tested = false;
+    ring[ahead].is_tested = false;
+    ring.remove(place);
+    if place == 0 { count - 2 } else { behind }
+}

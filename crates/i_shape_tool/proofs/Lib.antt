@@ -1,0 +1,12 @@
+-- texts cut at single bytes
+pub mod Words
+-- reading a line
+pub mod Reading
+pub mod Safe
+-- showing a contour
+pub mod Showing
+-- a text, line by line, and one run of the program
+pub mod Running
+pub mod Serving
+-- the laws
+pub mod LineLaws

@@ -1,0 +1,5 @@
+pub mod Points
+pub mod Command
+pub mod Text
+pub mod Run
+pub mod Serve

@@ -1,0 +1,72 @@
+-- What the program answers for a text.
+use Rattle.std.specs.Prelude.{◌≡◌, ℕ, ◌+◌, List, [], ◌∷◌, ◌++◌, length, Option, Some, None, codes}
+use Rattle.std.specs.List.{flat_map, AllByRecursion}
+use Rattle.i_shape.specs.Point.{Point}
+use Rattle.i_shape.specs.Answers.{SimpleAnswer}
+use Rattle.i_shape_tool.specs.declared.command.Command.{Command}
+use Rattle.i_shape_tool.specs.declared.command.Command.TheVariants.{Simplify}
+use Rattle.i_shape_tool.specs.declared.fault.ToolFault.{ToolFault}
+use Rattle.i_shape_tool.specs.declared.fault.ToolFault.TheVariants.{NotAContour, OutOfRange, OutOfMemory}
+use Rattle.i_shape_tool.specs.Points.{IsSafe}
+use Rattle.i_shape_tool.specs.Command.{IsCleaner}
+use Rattle.i_shape_tool.specs.Text.{Reads, ReadsNone, shown, lines_of, newline}
+
+-- the line reads c, which a cleaner wants safe
+abbrev pub Gives : Command → List ℕ → List Point → Type 0
+Gives command line c = Reads line c × (IsCleaner command → IsSafe c)
+
+-- the line isn't faulty for the command
+abbrev pub IsGood : Command → List ℕ → Type 0
+IsGood command line = (c : List Point) × Gives command line c
+
+-- the line reads a contour that isn't safe, and the command wants it safe
+abbrev pub ReadsUnsafe : Command → List ℕ → Type 0
+ReadsUnsafe command line = IsCleaner command × ((c : List Point) × Reads line c × (IsSafe c → ⊥))
+
+-- the fault is what is wrong with the line of this number; memory can always be refused
+abbrev pub IsFaultOfLine : Command → List ℕ → ℕ → ToolFault → Type 0
+IsFaultOfLine command line number (NotAContour n) = (n ≡ number) × ReadsNone line
+IsFaultOfLine command line number (OutOfRange n) = (n ≡ number) × ReadsUnsafe command line
+IsFaultOfLine command line number OutOfMemory = Unit {0}
+
+-- the fault is that of some line, counted from 1, and no line before it is faulty; memory can always be refused
+abbrev pub IsFirstFault : Command → List ℕ → ToolFault → Type 0
+IsFirstFault command text fault =
+    (before : List (List ℕ)) × (line : List ℕ) × (after : List (List ℕ))
+    × (lines_of text ≡ before ++ line ∷ after)
+    × AllByRecursion (IsGood command) before
+    × IsFaultOfLine command line (length before + 1) fault
+
+-- what is printed for a cleaned contour
+abbrev pub shown_or_none : Option (List Point) → List ℕ
+shown_or_none None = codes "none"
+shown_or_none (Some e) = shown e
+
+-- the answer is what the command says of the contour
+abbrev pub Answers : Command → List Point → List ℕ → Type 0
+Answers Simplify c answer = (r : Option (List Point)) × SimpleAnswer c r × (answer ≡ shown_or_none r)
+
+-- the answer is what the command says of the contour that the line reads
+abbrev pub AnswersLine : Command → List ℕ → List ℕ → Type 0
+AnswersLine command line answer = (c : List Point) × Gives command line c × Answers command c answer
+
+-- an answer for each line, in order
+abbrev pub AnswersEach : Command → List (List ℕ) → List (List ℕ) → Type 0
+AnswersEach command [] [] = Unit {0}
+AnswersEach command [] (answer ∷ answers) = ⊥
+AnswersEach command (line ∷ lines) [] = ⊥
+AnswersEach command (line ∷ lines) (answer ∷ answers) =
+    AnswersLine command line answer × AnswersEach command lines answers
+
+-- the answer, on a line of its own
+abbrev pub ended : List ℕ → List ℕ
+ended answer = answer ++ newline ∷ []
+
+-- the output holds one line for each line of the text, in order, and nothing else
+abbrev pub AnswersLines : Command → List ℕ → List ℕ → Type 0
+AnswersLines command text output =
+    (answers : List (List ℕ)) × AnswersEach command (lines_of text) answers × (output ≡ flat_map ended answers)
+
+-- the output is what the command answers for the text; so far each command answers line by line
+abbrev pub AnswersText : Command → List ℕ → List ℕ → Type 0
+AnswersText Simplify text output = AnswersLines Simplify text output

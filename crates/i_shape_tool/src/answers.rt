@@ -1,0 +1,68 @@
+//! What a command answers for a text.
+
+ghost use Rattle.std.specs.Prelude.{◌≡◌, ◌++◌, ℕ, List, IfOk, IfErr, OnOk, IsOkUnless, string_bytes};
+ghost use Rattle.i_shape_tool.specs.Points.{contour_of, IsSafe};
+ghost use Rattle.i_shape_tool.specs.Command.{IsCleaner};
+ghost use Rattle.i_shape_tool.specs.Run.{Answers, AnswersLines, AnswersText, IsFirstFault};
+
+use crate::command::Command;
+use crate::fault::ToolFault;
+use crate::line::{first_line, read_line};
+use crate::show::show_cleaned;
+use i_shape::int::IntPoint;
+use i_shape::int::simple::ContourSimplifier;
+use std::alloc::Global;
+
+/// The answer of a command to a text: for each line of the text, in order, the answer to its contour on a line of its own,
+/// and nothing else. An error tells the first line that is faulty for the command, or that a growth was refused before one
+/// was found.
+pub fn run(alloc: Global, command: Command, text: &str) -> Result<String, ToolFault>
+    ensures ok { IfOk result (λ output. AnswersText command text.now (string_bytes output)) }
+    ensures err { IfErr result (IsFirstFault command text.now) }
+{
+    match command {
+        Command::Simplify => answer_lines(alloc, command, text),
+    }
+}
+
+/// The answers to a text's lines, one by one.
+fn answer_lines(alloc: Global, command: Command, text: &str) -> Result<String, ToolFault>
+    ensures ok { IfOk result (λ output. AnswersLines command text.now (string_bytes output)) }
+    ensures err { IfErr result (IsFirstFault command text.now) }
+{
+    let mut simplifier = ContourSimplifier::new(alloc);
+    let mut contour = Vec::new(alloc);
+    let mut output = String::new(alloc);
+    let mut number = 0;
+    let mut rest = text;
+    while !rest.is_empty() {
+        let (line, after) = first_line(rest);
+        number += 1;
+        read_line(command, line, number, &mut contour)?;
+        answer_contour(command, &mut simplifier, contour.as_slice(), &mut output)?;
+        output.push('\n')?;
+        rest = after;
+    }
+    Ok(output)
+}
+
+/// Appends what the command says of a contour.
+fn answer_contour(
+    command: Command,
+    simplifier: &mut ContourSimplifier,
+    contour: &[IntPoint<i32>],
+    output: &mut String,
+) -> Result<(), ToolFault>
+    requires { IsCleaner command → IsSafe (contour_of contour.now) }
+    ensures ok { OnOk result ((answer : List ℕ) × Answers command (contour_of contour.now) answer
+        × (string_bytes output.new ≡ string_bytes output.old ++ answer)) }
+    ensures memory { IsOkUnless result ToolFault.OutOfMemory }
+{
+    match command {
+        Command::Simplify => {
+            let cleaned = simplifier.simplify_contour(contour)?;
+            show_cleaned(output, &cleaned)?;
+        }
+    }
+    Ok(())
+}

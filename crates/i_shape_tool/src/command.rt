@@ -1,0 +1,34 @@
+//! The commands of the program.
+
+ghost use Rattle.std.specs.Prelude.{◌≡◌, ◌↔◌, IsTrue, IfSome, IfNone};
+
+/// What to do with the contours of a text.
+#[derive(Clone, Copy, Debug, PartialEq, Eq)]
+pub enum Command {
+    /// Remove the zero turns of each contour.
+    Simplify,
+}
+
+impl Command {
+    ghost use Rattle.i_shape_tool.specs.Command.{word_of, IsCleaner};
+
+    /// The command that a word of the command line names.
+    pub fn from_word(word: &str) -> Option<Command>
+        ensures named { IfSome result (λ command. word.now ≡ word_of command) }
+        ensures unnamed { IfNone result ((command : Command) → word.now ≡ word_of command → ⊥) }
+    {
+        match word {
+            "simplify" => Some(Command::Simplify),
+            _ => None,
+        }
+    }
+
+    /// Whether it cleans, and so wants contours of safe points.
+    pub(crate) fn is_cleaner(self) -> bool
+        ensures { IsTrue result ↔ IsCleaner self }
+    {
+        match self {
+            Command::Simplify => true,
+        }
+    }
+}

@@ -1,0 +1,103 @@
+//! Lines of a text, and the contours that they read.
+
+ghost use Rattle.std.specs.Prelude.{◌≡◌, ◌<◌, ◌↔◌, ℤ, List, ◌∷◌, length, IsTrue, MatchBool, IfOk, IfErr, OnOk, IfSome, IfNone, option_copied};
+ghost use Rattle.std.specs.List.{All};
+ghost use Rattle.i_shape.specs.Point.{Point};
+ghost use Rattle.i_shape_tool.specs.Points.{contour_of, point_of, IsSafePoint};
+ghost use Rattle.i_shape_tool.specs.Text.{IsDecimal, Reads, ReadsNone, SayPoint, SayPoints, lines_of, words_of, words_left};
+ghost use Rattle.i_shape_tool.specs.Run.{Gives, IsFaultOfLine};
+
+use crate::command::Command;
+use crate::fault::ToolFault;
+use i_shape::int::IntPoint;
+use i_shape::int::shape::IntContour;
+use std::alloc::AllocError;
+
+/// The first line of a text, and the text after it.
+pub fn first_line(text: &str) -> (&str, &str)
+    requires { 0 < length text.now }
+    ensures lines { lines_of text.now ≡ result.0.now ∷ lines_of result.1.now }
+    ensures shorter { length result.1.now < length text.now }
+{
+    text.split_once('\n').unwrap_or((text, ""))
+}
+
+/// Puts the contour that a line reads in place of what `contour` held. A cleaner is given safe points alone.
+pub fn read_line(
+    command: Command,
+    line: &str,
+    number: usize,
+    contour: &mut IntContour<i32>,
+) -> Result<(), ToolFault>
+    ensures ok { OnOk result (Gives command line.now (contour_of contour.new.items)) }
+    ensures err { IfErr result (IsFaultOfLine command line.now number) }
+{
+    if !read_contour(line, contour)? {
+        return Err(ToolFault::NotAContour(number));
+    }
+    if command.is_cleaner() && !is_safe(contour.as_slice()) {
+        return Err(ToolFault::OutOfRange(number));
+    }
+    Ok(())
+}
+
+/// Whether each point is safe.
+fn is_safe(contour: &[IntPoint<i32>]) -> bool
+    ensures { IsTrue result ↔ All (λ p. IsSafePoint (point_of p)) contour.now }
+{
+    contour.iter().all(|point| point.is_in_safe_range())
+}
+
+/// Puts the contour that a line reads in place of what `contour` held, and tells whether it reads one.
+fn read_contour(line: &str, contour: &mut IntContour<i32>) -> Result<bool, AllocError>
+    ensures { IfOk result (λ reads. MatchBool reads (Reads line.now (contour_of contour.new.items)) (ReadsNone line.now)) }
+{
+    contour.clear();
+    if line.is_empty() {
+        return Ok(true);
+    }
+    let mut rest = Some(line);
+    while let Some(text) = rest {
+        let Some((point, left)) = first_point(text) else {
+            return Ok(false);
+        };
+        contour.push(point)?;
+        rest = left;
+    }
+    Ok(true)
+}
+
+/// The point that the first two words of a text say, and the text after them.
+fn first_point(text: &str) -> Option<(IntPoint<i32>, Option<&str>)>
+    ensures says { IfSome result (λ r.
+        SayPoint (words_of text.now) (point_of r.0) (words_left (option_copied r.1))) }
+    ensures no_point { IfNone result ((c : List Point) → SayPoints (words_of text.now) c → ⊥) }
+    ensures shorter { IfSome result (λ r. IfSome r.1 (λ rest. length rest.now < length text.now)) }
+{
+    let (x, rest) = first_word(text);
+    let (y, rest) = first_word(rest?);
+    let point = IntPoint {
+        x: coordinate(x)?,
+        y: coordinate(y)?,
+    };
+    Some((point, rest))
+}
+
+/// The first word of a text, and the text after the space behind it.
+fn first_word(text: &str) -> (&str, Option<&str>)
+    ensures words { words_of text.now ≡ result.0.now ∷ words_left (option_copied result.1) }
+    ensures shorter { IfSome result.1 (λ rest. length rest.now < length text.now) }
+{
+    match text.split_once(' ') {
+        Some((word, rest)) => (word, Some(rest)),
+        None => (text, None),
+    }
+}
+
+/// The number that a word says.
+fn coordinate(word: &str) -> Option<i32>
+    ensures says { IfSome result (IsDecimal word.now) }
+    ensures no_decimal { IfNone result ((z : ℤ) → IsDecimal word.now z → ⊥) }
+{
+    word.parse::<i32>().ok()
+}

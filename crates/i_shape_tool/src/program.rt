@@ -1,0 +1,142 @@
+//! One run of the program: its words, its input, its two outputs and its exit status.
+
+ghost use Rattle.std.specs.Prelude.{◌≡◌, ◌++◌, ◌∷◌, [], Some, IfErr, OnOk, IfSome, IfNone};
+ghost use Rattle.std.specs.Io.KnownBytes.{Appends, Keeps};
+ghost use Rattle.i_shape_tool.specs.Text.{newline};
+ghost use Rattle.i_shape_tool.specs.declared.program.Complaint.TheVariants.{Fault, InputOrOutput};
+ghost use Rattle.i_shape_tool.specs.Serve.{Asks, status_of, IsServed, IsTrueComplaint, KeepsOutput, EndsWith, told};
+
+use crate::answers::run;
+use crate::command::Command;
+use crate::fault::ToolFault;
+use std::alloc::Global;
+use std::io::{Read, Write};
+use std::{fmt, io};
+
+/// Why the program stops, as it tells on standard error.
+#[derive(Clone, Copy, Debug, PartialEq, Eq)]
+pub enum Complaint {
+    /// The words aren't just one that names a command.
+    Usage,
+    /// The input isn't text.
+    NotUtf8,
+    /// The command has no answer to the input.
+    Fault(ToolFault),
+    /// A read or a write failed.
+    InputOrOutput,
+}
+
+impl Complaint {
+    /// The exit status that goes with it.
+    pub fn status(self) -> u8
+        ensures { result ≡ status_of self }
+    {
+        match self {
+            Complaint::Fault(ToolFault::NotAContour(_) | ToolFault::OutOfRange(_)) => 1,
+            Complaint::NotUtf8 => 1,
+            Complaint::Usage => 2,
+            Complaint::Fault(ToolFault::OutOfMemory) => 3,
+            Complaint::InputOrOutput => 4,
+        }
+    }
+
+    /// Writes it as a line of its own.
+    pub fn tell<W: Write>(self, errors: &mut W) -> io::Result<()>
+        ensures { OnOk result (Appends (W.contents errors.old) (W.contents errors.new) (told self ++ newline ∷ [])) }
+    {
+        writeln!(errors, "{self}")
+    }
+}
+
+impl fmt::Display for Complaint {
+    ghost output = { λ complaint. Some (told complaint) };
+
+    fn fmt<W: fmt::Write>(&self, f: &mut fmt::Formatter<W>) -> fmt::Result {
+        match self {
+            Complaint::Usage => write!(f, "usage: i_shape_tool simplify"),
+            Complaint::NotUtf8 => write!(f, "input is not UTF-8"),
+            Complaint::Fault(ToolFault::NotAContour(number)) => {
+                write!(f, "line {number}: not a contour")
+            }
+            Complaint::Fault(ToolFault::OutOfRange(number)) => {
+                write!(f, "line {number}: out of range")
+            }
+            Complaint::Fault(ToolFault::OutOfMemory) => write!(f, "out of memory"),
+            Complaint::InputOrOutput => write!(f, "input or output failed"),
+        }
+    }
+}
+
+impl From<ToolFault> for Complaint {
+    ghost from_gives = { λ fault complaint. complaint ≡ Fault fault };
+
+    fn from(fault: ToolFault) -> Complaint {
+        Complaint::Fault(fault)
+    }
+}
+
+impl From<io::Error> for Complaint {
+    ghost from_gives = { λ _ complaint. complaint ≡ InputOrOutput };
+
+    fn from(_error: io::Error) -> Complaint {
+        Complaint::InputOrOutput
+    }
+}
+
+/// The command that the words after the program's name ask for.
+fn asked(words: &[String]) -> Option<Command>
+    ensures asks { IfSome result (Asks words.now) }
+    ensures asks_nothing { IfNone result ((command : Command) → Asks words.now command → ⊥) }
+{
+    match words {
+        [word] => Command::from_word(word.as_str()),
+        _ => None,
+    }
+}
+
+/// Reads all input, and writes the answer to it and nothing else.
+fn answer<R: Read, W: Write>(
+    alloc: Global,
+    words: &[String],
+    input: &mut R,
+    output: &mut W,
+) -> Result<(), Complaint>
+    ensures ok { OnOk result (IsServed words.now (R.remaining input.old)
+        (W.contents output.old) (W.contents output.new)) }
+    ensures err { IfErr result (IsTrueComplaint words.now (R.remaining input.old)) }
+    ensures kept { IfErr result (λ complaint.
+        KeepsOutput complaint (W.contents output.old) (W.contents output.new)) }
+{
+    let command = asked(words).ok_or(Complaint::Usage)?;
+    let mut bytes = Vec::new(alloc);
+    input.read_to_end(&mut bytes)?;
+    let Ok(text) = str::from_utf8(bytes.as_slice()) else {
+        return Err(Complaint::NotUtf8);
+    };
+    let answer = run(alloc, command, text)?;
+    output.write_all(answer.as_bytes())?;
+    output.flush()?;
+    Ok(())
+}
+
+/// Serves one run of the program: judges the words after its name, reads all input, writes the answer, or else a line to
+/// `errors`, and answers the exit status. A line that `errors` doesn't take is lost, and changes no status.
+pub fn serve<R: Read, W: Write, E: Write>(
+    alloc: Global,
+    words: &[String],
+    input: &mut R,
+    output: &mut W,
+    errors: &mut E,
+) -> u8
+    ensures ends { EndsWith words.now (R.remaining input.old)
+        (W.contents output.old) (W.contents output.new) result }
+    ensures quiet { result ≡ 0 → Keeps (E.contents errors.old) (E.contents errors.new) }
+{
+    match answer(alloc, words, input, output) {
+        Ok(()) => 0,
+        Err(complaint) => {
+            let _ = complaint.tell(errors);
+            complaint.status()
+        }
+    }
+}

@@ -1,0 +1,45 @@
+//! Contours as text.
+
+ghost use Rattle.std.specs.Prelude.{◌≡◌, ◌++◌, option_map, OnOk, string_bytes};
+ghost use Rattle.i_shape_tool.specs.Points.{contour_of, point_of};
+ghost use Rattle.i_shape_tool.specs.Text.{shown, spaced};
+ghost use Rattle.i_shape_tool.specs.Run.{shown_or_none};
+
+use i_shape::int::IntPoint;
+use i_shape::int::shape::IntContour;
+use std::alloc::AllocError;
+
+/// Appends the coordinates of the points in turn, parted by single spaces.
+pub fn show_contour(output: &mut String, contour: &[IntPoint<i32>]) -> Result<(), AllocError>
+    ensures { OnOk result (string_bytes output.new ≡ string_bytes output.old ++ shown (contour_of contour.now)) }
+{
+    let Some((first, others)) = contour.split_first() else {
+        return Ok(());
+    };
+    write!(output, "{} {}", first.x, first.y)?;
+    for point in others {
+        push_point(output, *point)?;
+    }
+    Ok(())
+}
+
+/// Appends a point's coordinates, with a space before each.
+fn push_point(output: &mut String, point: IntPoint<i32>) -> Result<(), AllocError>
+    ensures { OnOk result (string_bytes output.new ≡ string_bytes output.old ++ spaced (point_of point)) }
+{
+    write!(output, " {} {}", point.x, point.y)
+}
+
+/// Appends a cleaned contour, or a word where it collapsed.
+pub fn show_cleaned(
+    output: &mut String,
+    cleaned: &Option<IntContour<i32>>,
+) -> Result<(), AllocError>
+    ensures { OnOk result (string_bytes output.new ≡ string_bytes output.old
+        ++ shown_or_none (option_map (λ kept. contour_of kept.items) cleaned.now)) }
+{
+    match cleaned {
+        Some(contour) => show_contour(output, contour.as_slice()),
+        None => output.push_str("none"),
+    }
+}
