@@ -5,6 +5,8 @@ mod ShapesHeld
 mod LentPaths
 mod FloatHeld
 pub mod Surviving
+pub mod CompactLaws
 pub mod WrappedSums
 pub mod SpikesLeft
 pub mod CompactLaws
+mod CompactLaws

@@ -13,9 +13,11 @@ mod contour;
 mod count;
 #[cfg(test)]
 mod despike;
+mod buffer;
 #[cfg(test)]
 mod given;
 #[cfg(test)]
+mod macros;
 mod given_shapes;
 #[cfg(test)]
 mod number;
