@@ -4,21 +4,25 @@
 pub mod consumers;
 
 #[cfg(test)]
-mod canonical;
-#[cfg(test)]
 mod area;
+#[cfg(test)]
+mod buffer;
+#[cfg(test)]
+mod canonical;
 #[cfg(test)]
 mod contour;
 #[cfg(test)]
 mod count;
 #[cfg(test)]
 mod despike;
-mod buffer;
 #[cfg(test)]
 mod given;
 #[cfg(test)]
-mod macros;
 mod given_shapes;
+#[cfg(test)]
+mod in_place;
+#[cfg(test)]
+mod macros;
 #[cfg(test)]
 mod number;
 #[cfg(test)]
@@ -29,7 +33,6 @@ mod probe;
 mod resource;
 #[cfg(test)]
 mod shapes;
-mod in_place;
 #[cfg(test)]
 mod simple;
 #[cfg(test)]

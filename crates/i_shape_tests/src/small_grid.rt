@@ -1,6 +1,7 @@
 use crate::given::{contour, pairs};
 use crate::plain::{Order, Pair, deleted, is_rotation, ring_walk, visits_of_stack};
-use i_shape::int::simple::{ContourSimplifier, SimpleContour};
+use i_shape::int::despike::DeSpikeContour;
+use i_shape::int::simple::ContourSimplifier;
 use std::alloc::{AllocError, Global};
 use std::process::Abort;
 use std::test::Fail;
@@ -45,6 +46,50 @@ fn simplifies_as_each_order(
                 assert!(rt; is_rotation(left.as_slice(), kept.as_slice()));
             }
             None => assert!(rt; left.len() < 3),
+        }
+    }
+    Ok(())
+}
+
+/// `despiked_counted` is `None` exactly where `simplified` is, its `Some` is what the plain walk round the ring leaves and is
+/// simplified to the same ring, and its visits are those of the plain walk.
+fn despikes_as_the_ring_walk(
+    rt: &impl Abort,
+    alloc: Global,
+    simplifier: &mut ContourSimplifier,
+    list: &[Pair],
+) -> Result<(), Fail> {
+    let points = contour::<i32>(rt, alloc, list)?;
+    let kept = simplifier.simplify_contour(points.as_slice())?;
+    let (despiked, visits) = points.despiked_counted(alloc)?;
+    let (left, walked) = ring_walk(alloc, list)?;
+    assert_eq!(rt; visits, walked);
+    match despiked {
+        Some(despiked) => {
+            let despiked = pairs(alloc, despiked.as_slice())?;
+            assert!(rt; despiked == left);
+            let again = contour::<i32>(rt, alloc, despiked.as_slice())?;
+            let again = simplifier.simplify_contour(again.as_slice())?.ok_or("it collapsed")?;
+            let kept = kept.ok_or("the contour collapsed")?;
+            let again = pairs(alloc, again.as_slice())?;
+            assert!(rt; is_rotation(again.as_slice(), pairs(alloc, kept.as_slice())?.as_slice()));
+        }
+        None => {
+            assert!(rt; kept.is_none());
+            assert!(rt; left.len() < 3);
+        }
+    }
+    Ok(())
+}
+
+#[test]
+fn every_small_list_is_despiked_as_round_the_ring(rt: HostRuntime) -> Result<(), Fail> {
+    let alloc = rt.alloc();
+    let mut simplifier = ContourSimplifier::new(alloc);
+    for (count, codes) in [(0, 1), (1, 6), (2, 36), (3, 216), (4, 1296), (5, 7776)] {
+        for code in 0..codes {
+            let list = list_of(alloc, count, code)?;
+            despikes_as_the_ring_walk(&rt, alloc, &mut simplifier, list.as_slice())?;
         }
     }
     Ok(())
