@@ -3,6 +3,8 @@
 
 pub mod consumers;
 #[cfg(test)]
+mod generic_buffer;
+#[cfg(test)]
 mod given;
 #[cfg(test)]
 mod resource;
