@@ -16,6 +16,8 @@ mod count;
 #[cfg(test)]
 mod despike;
 #[cfg(test)]
+mod generic_buffer;
+#[cfg(test)]
 mod given;
 #[cfg(test)]
 mod given_shapes;
