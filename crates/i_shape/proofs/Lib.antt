@@ -9,4 +9,3 @@ pub mod CompactLaws
 pub mod WrappedSums
 pub mod SpikesLeft
 pub mod CompactLaws
-mod CompactLaws
