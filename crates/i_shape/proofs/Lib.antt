@@ -5,4 +5,3 @@ mod ShapesHeld
 pub mod Surviving
 pub mod CompactLaws
 pub mod WrappedSums
-mod CompactLaws
