@@ -1,10 +1,14 @@
 -- What the program answers for a text.
 use Rattle.std.specs.Prelude.{◌≡◌, ℕ, ◌+◌, List, [], ◌∷◌, ◌++◌, length, Option, Some, None, codes}
 use Rattle.std.specs.List.{flat_map, AllByRecursion}
+use Rattle.std.specs.Fmt.{signed_decimal}
+use Rattle.std.specs.Int.{w64, int_wrap}
 use Rattle.i_shape.specs.Point.{Point}
-use Rattle.i_shape.specs.Answers.{SimpleAnswer}
+use Rattle.i_shape.specs.Edges.{shoelace}
+use Rattle.i_shape.specs.Answers.{SimpleAnswer, SpikelessAnswer}
+use Rattle.i_shape.specs.Canonical.{CanonicalAnswer}
 use Rattle.i_shape_tool.specs.declared.command.Command.{Command}
-use Rattle.i_shape_tool.specs.declared.command.Command.TheVariants.{Simplify}
+use Rattle.i_shape_tool.specs.declared.command.Command.TheVariants.{Simplify, Despike, Area, Canonical}
 use Rattle.i_shape_tool.specs.declared.fault.ToolFault.{ToolFault}
 use Rattle.i_shape_tool.specs.declared.fault.ToolFault.TheVariants.{NotAContour, OutOfRange, OutOfMemory}
 use Rattle.i_shape_tool.specs.Points.{IsSafe}
@@ -42,9 +46,17 @@ abbrev pub shown_or_none : Option (List Point) → List ℕ
 shown_or_none None = codes "none"
 shown_or_none (Some e) = shown e
 
+-- what is printed for twice the area of a contour, wrapped to 64 bits
+abbrev pub shown_area : List Point → List ℕ
+shown_area [] = codes "empty"
+shown_area (p ∷ c) = signed_decimal (int_wrap w64 (shoelace (p ∷ c)))
+
 -- the answer is what the command says of the contour
 abbrev pub Answers : Command → List Point → List ℕ → Type 0
 Answers Simplify c answer = (r : Option (List Point)) × SimpleAnswer c r × (answer ≡ shown_or_none r)
+Answers Despike c answer = (r : Option (List Point)) × SpikelessAnswer c r × (answer ≡ shown_or_none r)
+Answers Area c answer = answer ≡ shown_area c
+Answers Canonical c answer = (r : Option (List Point)) × CanonicalAnswer c r × (answer ≡ shown_or_none r)
 
 -- the answer is what the command says of the contour that the line reads
 abbrev pub AnswersLine : Command → List ℕ → List ℕ → Type 0
@@ -70,3 +82,6 @@ AnswersLines command text output =
 -- the output is what the command answers for the text; so far each command answers line by line
 abbrev pub AnswersText : Command → List ℕ → List ℕ → Type 0
 AnswersText Simplify text output = AnswersLines Simplify text output
+AnswersText Despike text output = AnswersLines Despike text output
+AnswersText Area text output = AnswersLines Area text output
+AnswersText Canonical text output = AnswersLines Canonical text output

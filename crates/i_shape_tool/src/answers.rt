@@ -8,8 +8,9 @@ ghost use Rattle.i_shape_tool.specs.Run.{Answers, AnswersLines, AnswersText, IsF
 use crate::command::Command;
 use crate::fault::ToolFault;
 use crate::line::{first_line, read_line};
-use crate::show::show_cleaned;
-use i_shape::int::IntPoint;
+use crate::show::{show_area, show_cleaned};
+use i_shape::int::despike::DeSpikeContour;
+use i_shape::int::shape::IntContour;
 use i_shape::int::simple::ContourSimplifier;
 use std::alloc::Global;
 
@@ -18,7 +19,9 @@ use std::alloc::Global;
 ///
 /// Lines end at `\n`, and the last one needs no end. A line holds the coordinates of its points, x and y in turn, as
 /// decimals of 32 bits parted by single spaces; an empty line is the contour without points. `Simplify` says the points of
-/// the contour without zero turns in the same form, or `none` where it collapses.
+/// the contour without zero turns in the same form, or `none` where it collapses; `Despike` says those of the contour without
+/// spikes, and `Canonical` the least rotation of what `Simplify` says. `Area` says twice the area of the contour, wrapped to
+/// 64 bits, or `empty` where it has no points.
 ///
 /// `NotAContour` and `OutOfRange` tell the first line that is faulty for the command. `OutOfMemory` comes where a growth was
 /// refused before a faulty line was found.
@@ -27,7 +30,9 @@ pub fn run(alloc: Global, command: Command, text: &str) -> Result<String, ToolFa
     ensures err { IfErr result (IsFirstFault command text.now) }
 {
     match command {
-        Command::Simplify => answer_lines(alloc, command, text),
+        Command::Simplify | Command::Despike | Command::Area | Command::Canonical => {
+            answer_lines(alloc, command, text)
+        }
     }
 }
 
@@ -45,7 +50,7 @@ fn answer_lines(alloc: Global, command: Command, text: &str) -> Result<String, T
         let (line, after) = first_line(rest);
         number += 1;
         read_line(command, line, number, &mut contour)?;
-        answer_contour(command, &mut simplifier, contour.as_slice(), &mut output)?;
+        answer_contour(command, &mut simplifier, &contour, &mut output)?;
         output.push('\n')?;
         rest = after;
     }
@@ -56,17 +61,26 @@ fn answer_lines(alloc: Global, command: Command, text: &str) -> Result<String, T
 fn answer_contour(
     command: Command,
     simplifier: &mut ContourSimplifier,
-    contour: &[IntPoint<i32>],
+    contour: &IntContour<i32>,
     output: &mut String,
 ) -> Result<(), ToolFault>
-    requires { IsCleaner command → IsSafe (contour_of contour.now) }
-    ensures ok { OnOk result ((answer : List ℕ) × Answers command (contour_of contour.now) answer
+    requires { IsCleaner command → IsSafe (contour_of contour.now.items) }
+    ensures ok { OnOk result ((answer : List ℕ) × Answers command (contour_of contour.now.items) answer
         × (string_bytes output.new ≡ string_bytes output.old ++ answer)) }
     ensures memory { IsOkUnless result ToolFault.OutOfMemory }
 {
     match command {
         Command::Simplify => {
-            let cleaned = simplifier.simplify_contour(contour)?;
+            let cleaned = simplifier.simplify_contour(contour.as_slice())?;
+            show_cleaned(output, &cleaned)?;
+        }
+        Command::Despike => {
+            let cleaned = contour.despiked_contour(*contour.allocator())?;
+            show_cleaned(output, &cleaned)?;
+        }
+        Command::Area => show_area(output, contour.as_slice())?,
+        Command::Canonical => {
+            let cleaned = simplifier.canonical(contour.as_slice())?;
             show_cleaned(output, &cleaned)?;
         }
     }

@@ -7,6 +7,12 @@ ghost use Rattle.std.specs.Prelude.{◌≡◌, ◌↔◌, IsTrue, IfSome, IfNone
 pub enum Command {
     /// Remove the zero turns of each contour.
     Simplify,
+    /// Remove the spikes and repeated points of each contour.
+    Despike,
+    /// Tell twice the area of each contour.
+    Area,
+    /// Remove the zero turns of each contour, and turn it to its least rotation.
+    Canonical,
 }
 
 impl Command {
@@ -19,6 +25,9 @@ impl Command {
     {
         match word {
             "simplify" => Some(Command::Simplify),
+            "despike" => Some(Command::Despike),
+            "area" => Some(Command::Area),
+            "canonical" => Some(Command::Canonical),
             _ => None,
         }
     }
@@ -28,7 +37,8 @@ impl Command {
         ensures { IsTrue result ↔ IsCleaner self }
     {
         match self {
-            Command::Simplify => true,
+            Command::Simplify | Command::Despike | Command::Canonical => true,
+            Command::Area => false,
         }
     }
 }

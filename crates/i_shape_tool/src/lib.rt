@@ -2,6 +2,7 @@
 #![tactic(auto)]
 
 mod answers;
+mod buffers;
 mod command;
 mod fault;
 pub mod laws;
@@ -10,6 +11,7 @@ mod program;
 mod show;
 
 pub use answers::run;
+pub use buffers::{clean_through_buffer, despike_through_buffer};
 pub use command::Command;
 pub use fault::ToolFault;
 pub use program::{Complaint, serve};

@@ -3,9 +3,10 @@
 ghost use Rattle.std.specs.Prelude.{◌≡◌, ◌++◌, option_map, OnOk, string_bytes};
 ghost use Rattle.i_shape_tool.specs.Points.{contour_of, point_of};
 ghost use Rattle.i_shape_tool.specs.Text.{shown, spaced};
-ghost use Rattle.i_shape_tool.specs.Run.{shown_or_none};
+ghost use Rattle.i_shape_tool.specs.Run.{shown_or_none, shown_area};
 
 use i_shape::int::IntPoint;
+use i_shape::int::area::Area;
 use i_shape::int::shape::IntContour;
 use std::alloc::AllocError;
 
@@ -42,4 +43,14 @@ pub fn show_cleaned(
         Some(contour) => show_contour(output, contour.as_slice()),
         None => output.push_str("none"),
     }
+}
+
+/// Appends twice the area of a contour, or a word where it has no points.
+pub fn show_area(output: &mut String, contour: &[IntPoint<i32>]) -> Result<(), AllocError>
+    ensures { OnOk result (string_bytes output.new ≡ string_bytes output.old ++ shown_area (contour_of contour.now)) }
+{
+    if contour.is_empty() {
+        return output.push_str("empty");
+    }
+    write!(output, "{}", contour.area_two())
 }

@@ -26,11 +26,13 @@ fn a_faulty_line_is_told(rt: HostRuntime) -> Result<(), Fail> {
         "2147483648 0",
         "0 -2147483649",
     ] {
-        let left = serve_bytes(rt.alloc(), &["simplify"], line.as_bytes())?;
-        assert_eq!(rt; left.status, 1, "{line:?}");
-        assert_eq!(rt; left.output.as_slice(), b"".as_slice(), "{line:?}");
-        let told = b"line 1: not a contour\n".as_slice();
-        assert_eq!(rt; left.errors.as_slice(), told, "{line:?}");
+        for word in ["simplify", "despike", "area", "canonical"] {
+            let left = serve_bytes(rt.alloc(), &[word], line.as_bytes())?;
+            assert_eq!(rt; left.status, 1, "{word} {line:?}");
+            assert_eq!(rt; left.output.as_slice(), b"".as_slice(), "{word} {line:?}");
+            let told = b"line 1: not a contour\n".as_slice();
+            assert_eq!(rt; left.errors.as_slice(), told, "{word} {line:?}");
+        }
     }
     Ok(())
 }
@@ -43,11 +45,13 @@ fn a_point_that_is_not_safe_is_told(rt: HostRuntime) -> Result<(), Fail> {
         "0 0 0 1 2147483647 0",
         "-2147483648 0",
     ] {
-        let left = serve_bytes(rt.alloc(), &["simplify"], line.as_bytes())?;
-        assert_eq!(rt; left.status, 1, "{line:?}");
-        assert_eq!(rt; left.output.as_slice(), b"".as_slice(), "{line:?}");
-        let told = b"line 1: out of range\n".as_slice();
-        assert_eq!(rt; left.errors.as_slice(), told, "{line:?}");
+        for word in ["simplify", "despike", "canonical"] {
+            let left = serve_bytes(rt.alloc(), &[word], line.as_bytes())?;
+            assert_eq!(rt; left.status, 1, "{word} {line:?}");
+            assert_eq!(rt; left.output.as_slice(), b"".as_slice(), "{word} {line:?}");
+            let told = b"line 1: out of range\n".as_slice();
+            assert_eq!(rt; left.errors.as_slice(), told, "{word} {line:?}");
+        }
     }
     Ok(())
 }
@@ -62,6 +66,18 @@ fn the_first_fault_is_told(rt: HostRuntime) -> Result<(), Fail> {
         ("\n\n\n0 1073741824\n\r\n", ToolFault::OutOfRange(4)),
     ] {
         let got = run(rt.alloc(), Command::Simplify, text).err();
+        assert_eq!(rt; got, Some(fault), "{text:?}");
+    }
+    Ok(())
+}
+
+#[test]
+fn area_is_told_of_lines_that_are_no_contours_alone(rt: HostRuntime) -> Result<(), Fail> {
+    for (text, fault) in [
+        ("1073741824 0\nx\n", ToolFault::NotAContour(2)),
+        ("2147483648 0\n", ToolFault::NotAContour(1)),
+    ] {
+        let got = run(rt.alloc(), Command::Area, text).err();
         assert_eq!(rt; got, Some(fault), "{text:?}");
     }
     Ok(())
@@ -94,7 +110,7 @@ fn other_words_are_told_the_usage(rt: HostRuntime) -> Result<(), Fail> {
         let left = serve_bytes(rt.alloc(), texts, b"x")?;
         assert_eq!(rt; left.status, 2);
         assert_eq!(rt; left.output.as_slice(), b"".as_slice());
-        let told = b"usage: i_shape_tool simplify\n".as_slice();
+        let told = b"usage: i_shape_tool simplify|despike|area|canonical\n".as_slice();
         assert_eq!(rt; left.errors.as_slice(), told);
     }
     Ok(())
@@ -125,7 +141,11 @@ fn each_complaint_has_its_line_and_status(rt: HostRuntime) -> Result<(), Fail> {
             1,
         ),
         (Complaint::NotUtf8, "input is not UTF-8\n", 1),
-        (Complaint::Usage, "usage: i_shape_tool simplify\n", 2),
+        (
+            Complaint::Usage,
+            "usage: i_shape_tool simplify|despike|area|canonical\n",
+            2,
+        ),
         (
             Complaint::Fault(ToolFault::OutOfMemory),
             "out of memory\n",

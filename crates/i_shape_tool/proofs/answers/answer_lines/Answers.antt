@@ -1,9 +1,9 @@
-use Rattle.std.proofs.Common.{◌++◌, ◌∷◌, [], string_bytes, ap, ◌∙◌, subst, arith, rules}
+use Rattle.std.proofs.Common.{◌++◌, ◌∷◌, [], string_bytes, ap, ◌∙◌, arith, rules}
 use Rattle.std.proofs.lemmas.Result.{err_from_is_err_and}
 use Rattle.std.proofs.lemmas.Str.{encode_ascii}
 use Rattle.i_shape_tool.specs.declared.fault.ToolFault.TheVariants.{OutOfMemory}
 use Rattle.i_shape_tool.specs.Points.{contour_of}
-use Rattle.i_shape_tool.specs.Run.{Answers, AnswersLine}
+use Rattle.i_shape_tool.specs.Run.{AnswersLine}
 use Rattle.i_shape_tool.proofs.Running.{answered_nothing, answer_more, fault_after}
 use Rattle.i_shape_tool.proofs.answers.answer_lines.Goals as goal
 
@@ -32,7 +32,7 @@ pub loop-rest-preserved : goal.loop-rest-preserved
 loop-rest-preserved c =
     let (answer, says, answered) = c.in_ok-answer_contour.ensures.ok in
     let contour = contour_of c.read_line.new.contour.items in
-    let line : AnswersLine c.args.command c.first_line.result.0.now answer = (contour, c.in_ok-read_line.ensures.ok, subst (λ l. Answers c.args.command (contour_of l) answer) c.as_slice.ensures.value says) in
+    let line : AnswersLine c.args.command c.first_line.result.0.now answer = (contour, c.in_ok-read_line.ensures.ok, says) in
     let grown = c.in_ok-push.ensures.bytes ∙ ap (λ l. string_bytes c.answer_contour.new.output ++ l) (encode_ascii 10 (omega arith)) ∙ ap (λ l. l ++ 10 ∷ []) answered in (
       search rules,
       answer_more c.args.command c.args.text.now c.loop-rest.rest.now c.first_line.result.1.now (string_bytes c.loop-rest.output) (string_bytes c.push.new.self) c.first_line.result.0.now answer c.loop-rest.number c.loop-rest.invariant.1 c.first_line.ensures.lines c.first_line.ensures.shorter line grown,

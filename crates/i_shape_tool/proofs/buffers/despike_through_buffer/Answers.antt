@@ -1,0 +1,17 @@
+use Rattle.std.proofs.Common.{sym, subst}
+use Rattle.i_shape.specs.Answers.{DespikeAnswer}
+use Rattle.i_shape.specs.ShapeLists.{shapes_of, IsSafeList}
+use Rattle.i_shape.specs.ShapeAnswers.{ListClean}
+use Rattle.i_shape_tool.proofs.Buffered.{same_shapes, despiked_in_place}
+use Rattle.i_shape_tool.proofs.buffers.despike_through_buffer.Goals as goal
+
+pub remove_spikes-requires : goal.remove_spikes-requires
+remove_spikes-requires g c =
+    let same = same_shapes g.I.IntNumber.value c.in_ok-kept.kept.items c.args.shapes.now c.in_ok-kept.ensures.same in
+    subst (IsSafeList g.I.IntNumber.width) (sym same) c.requires
+
+pub returns-clause-clean : goal.returns-clause-clean
+returns-clause-clean g c =
+    let same = same_shapes g.I.IntNumber.value c.in_ok-kept.kept.items c.args.shapes.now c.in_ok-kept.ensures.same in
+    let cleaned = despiked_in_place (shapes_of g.I.IntNumber.value c.in_ok-kept.kept.items) (shapes_of g.I.IntNumber.value c.remove_spikes.new.self.items) c.remove_spikes.result c.in_ok-remove_spikes.field-0 c.remove_spikes.ensures c.in_ok-remove_spikes.was in
+    subst (λ shapes. ListClean DespikeAnswer shapes (shapes_of g.I.IntNumber.value c.remove_spikes.new.self.items)) same cleaned

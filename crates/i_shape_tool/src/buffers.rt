@@ -1,0 +1,62 @@
+//! Shapes that are cleaned after they went through a flat buffer.
+
+ghost use Rattle.std.specs.Prelude.{◌≡◌, ◌<◌, ◌↔◌, ◌⊎◌, length, IfOk, IsErrOf};
+ghost use Rattle.i_shape.specs.Answers.{SimpleAnswer, DespikeAnswer};
+ghost use Rattle.i_shape.specs.Flat.{shape_lists, joined};
+ghost use Rattle.i_shape.specs.ShapeLists.{shapes_of, IsSafeList};
+ghost use Rattle.i_shape.specs.ShapeAnswers.{ListClean};
+
+use i_shape::flat::buffer::FlatShapesBuffer;
+use i_shape::int::despike::DeSpike;
+use i_shape::int::shape::{IntShape, IntShapes};
+use i_shape::int::simple::SimpleShapes;
+use i_shape::{IntNumber, ShapeError};
+use std::alloc::Global;
+
+/// The shapes without zero turns, as they are read back from a flat buffer that was filled with them. Shapes whose first
+/// contour collapses are left out, and later contours that collapse; an empty shape stays. `TooManyPoints` where the shapes have
+/// more than `usize::MAX` points together, or more contours than that; else `OutOfMemory`.
+pub fn clean_through_buffer<I: IntNumber>(
+    alloc: Global,
+    shapes: &[IntShape<I>],
+) -> Result<IntShapes<I>, ShapeError>
+    requires { IsSafeList I.width (shapes_of I.value shapes.now) }
+    ensures clean { IfOk result (λ r. ListClean SimpleAnswer (shapes_of I.value shapes.now) (shapes_of I.value r.items)) }
+    ensures too_many { IsErrOf result ShapeError.TooManyPoints
+        ↔ ((usize.MAX < length (joined (joined (shape_lists shapes.now))))
+        ⊎ (usize.MAX < length (joined (shape_lists shapes.now)))) }
+{
+    let kept = read_back(alloc, shapes)?;
+    kept.as_slice().simplified(alloc)
+}
+
+/// The shapes without spikes, in the same way.
+pub fn despike_through_buffer<I: IntNumber>(
+    alloc: Global,
+    shapes: &[IntShape<I>],
+) -> Result<IntShapes<I>, ShapeError>
+    requires { IsSafeList I.width (shapes_of I.value shapes.now) }
+    ensures clean { IfOk result (λ r. ListClean DespikeAnswer (shapes_of I.value shapes.now) (shapes_of I.value r.items)) }
+    ensures too_many { IsErrOf result ShapeError.TooManyPoints
+        ↔ ((usize.MAX < length (joined (joined (shape_lists shapes.now))))
+        ⊎ (usize.MAX < length (joined (shape_lists shapes.now)))) }
+{
+    let mut kept = read_back(alloc, shapes)?;
+    kept.remove_spikes()?;
+    Ok(kept)
+}
+
+/// The shapes, as they are read back from a flat buffer that was filled with them.
+fn read_back<I: IntNumber>(
+    alloc: Global,
+    shapes: &[IntShape<I>],
+) -> Result<IntShapes<I>, ShapeError>
+    ensures same { IfOk result (λ r. shape_lists r.items ≡ shape_lists shapes.now) }
+    ensures too_many { IsErrOf result ShapeError.TooManyPoints
+        ↔ ((usize.MAX < length (joined (joined (shape_lists shapes.now))))
+        ⊎ (usize.MAX < length (joined (shape_lists shapes.now)))) }
+{
+    let mut buffer = FlatShapesBuffer::new(alloc);
+    buffer.set_with_shapes(shapes)?;
+    buffer.to_shapes()
+}
