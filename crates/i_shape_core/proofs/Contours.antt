@@ -8,7 +8,7 @@ use Rattle.std.specs.List.{All}
 use Rattle.std.specs.Int.{Width}
 use Rattle.i_shape_core.specs.Contour.{point_at}
 use Rattle.i_shape_core.specs.IntPoint.{point_of, contour_of, IsSafe}
-use Rattle.i_shape_core.specs.Point.{Point, origin}
+use Rattle.i_shape_core.specs.Point.{origin}
 use Rattle.i_shape_core.specs.declared.point.IntPoint.{IntPoint}
 
 -- what reading place k of a slice gives

@@ -1,11 +1,10 @@
 -- The walk over a contour that carries the last point and the last edge along.
-use Rattle.std.proofs.Common.{◌≡◌, ℕ, ◌+◌, ◌-◌, ◌<◌, ◌≤◌, List, [], ◌∷◌, length, drop, get_or, ℤ, pos, refl, sym, ap, subst, ◌∙◌, arith, ◌⊎◌, inl, inr, ◌↔◌, Bool, true, false, IsTrue, add-one}
-use Rattle.std.proofs.Math.Seq.{drop-cons}
-use Rattle.i_shape_core.specs.Point.{Point, origin, vector, cross, cross_of, IsZeroTurn}
+use Rattle.std.proofs.Common.{◌≡◌, ℕ, ◌-◌, ◌≤◌, List, [], ◌∷◌, length, get_or, ℤ, pos, sym, ap, subst, ◌∙◌, arith, ◌⊎◌, inl, inr, ◌↔◌, Bool, IsTrue}
+use Rattle.i_shape_core.specs.Point.{Point, vector, cross, cross_of, IsZeroTurn}
 use Rattle.i_shape_core.specs.IntPoint.{point_of, contour_of}
 use Rattle.i_shape_core.specs.declared.point.IntPoint.{IntPoint}
 use Rattle.i_shape_core.proofs.Contours.{length-contour, read-point}
-use Rattle.i_shape_core.specs.Contour.{point_at, IsSimple, IsRemovable}
+use Rattle.i_shape_core.specs.Contour.{point_at, IsSimple}
 use Rattle.i_shape_core.proofs.Around.{Passed, has_passed, passed_has}
 use Rattle.i_shape_core.proofs.ConvexLaws.{Has}
 

@@ -1,5 +1,5 @@
 -- The laws of removal, over whole numbers: what holds of the contours that removals lead to.
-use Rattle.std.specs.Prelude.{◌≡◌, ℕ, ℤ, ◌<◌, ◌≤◌, ◌⊎◌, List, [], ◌∷◌, ◌++◌, reverse, length, ◌↔◌}
+use Rattle.std.specs.Prelude.{◌≡◌, ◌<◌, ◌≤◌, ◌⊎◌, List, [], ◌∷◌, ◌++◌, reverse, length, ◌↔◌}
 use Rattle.i_shape_core.specs.Point.{Point, IsZeroTurn, IsBack}
 use Rattle.i_shape_core.specs.Contour.{Reach, End, Rotation, SameEnd, IsCollapsed, IsSimple}
 use Rattle.i_shape_core.specs.Edges.{shoelace, Inside}

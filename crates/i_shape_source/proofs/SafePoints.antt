@@ -1,5 +1,5 @@
 -- A path is safe where each of its points is.
-use Rattle.std.proofs.Common.{ℤ, List, [], ◌∷◌, map, length, arith}
+use Rattle.std.proofs.Common.{ℤ, List, [], ◌∷◌, arith}
 use Rattle.std.specs.Int.{Width}
 use Rattle.std.specs.List.{All}
 use Rattle.std.proofs.lemmas.List.Elements.{All-nil, All-cons, All-tail, All-map}

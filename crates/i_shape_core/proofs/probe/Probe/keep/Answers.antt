@@ -1,4 +1,4 @@
-use Rattle.std.proofs.Common.{arith, ap, ◌∙◌, vec_capacity}
+use Rattle.std.proofs.Common.{arith}
 use Rattle.i_shape_core.proofs.Contours.{kept-more}
 use Rattle.i_shape_core.proofs.probe.Probe.keep.Goals as goal
 

@@ -1,8 +1,8 @@
-use Rattle.std.proofs.Common.{◌≡◌, ◌↔◌, ◌∙◌, Bool, ℤ, pos, IsTrue, rules, refl, sym, ap, subst, arith}
-use Rattle.i_shape_core.specs.Point.{Point, vector, cross_of}
-use Rattle.i_shape_core.specs.IntPoint.{point_of, contour_of}
+use Rattle.std.proofs.Common.{◌∙◌, rules, refl, sym, ap, arith}
+use Rattle.i_shape_core.specs.Point.{cross_of}
+use Rattle.i_shape_core.specs.IntPoint.{point_of}
 use Rattle.i_shape_core.proofs.Contours.{read-safe, rest-read, rest-none}
-use Rattle.i_shape_core.proofs.LastEdge.{IsWalking, start-read, walking-on, walking-stop, walking-end, zero-told}
+use Rattle.i_shape_core.proofs.LastEdge.{start-read, walking-on, walking-stop, walking-end, zero-told}
 use Rattle.i_shape_core.proofs.simple.RefSliceIntPointSimpleContour.is_simple.Goals as goal
 
 pub sub-edge-requires : goal.sub-edge-requires

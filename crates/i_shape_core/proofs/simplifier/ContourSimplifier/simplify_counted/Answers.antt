@@ -1,10 +1,9 @@
-use Rattle.std.proofs.Common.{◌≡◌, ◌∙◌, List, None, option_map, arith}
+use Rattle.std.proofs.Common.{◌≡◌, ◌∙◌, None, option_map, arith}
 use Rattle.std.proofs.lemmas.Result.{IfOk-weaker}
 use Rattle.i_shape_core.specs.Point.{IsZeroTurn}
 use Rattle.i_shape_core.specs.IntPoint.{contour_of}
-use Rattle.i_shape_core.specs.declared.point.IntPoint.{IntPoint}
 use Rattle.i_shape_core.proofs.Contours.{length-contour}
-use Rattle.i_shape_core.proofs.Cleaned.{simple_answer, kept_answer, visits_answer, short_answer}
+use Rattle.i_shape_core.proofs.Cleaned.{simple_answer, kept_answer, short_answer}
 use Rattle.i_shape_core.proofs.simplifier.ContourSimplifier.simplify_counted.Goals as goal
 
 pub returns-then-contour-lt3-clause-answer : goal.returns-then-contour-lt3-clause-answer
