@@ -1,5 +1,5 @@
 mod EndToEnd
-mod ContoursHeld
+pub mod ContoursHeld
 mod ShapeRanges
 mod ShapesHeld
 mod LentPaths
