@@ -8,6 +8,7 @@ pub mod Showing
 -- a text, line by line, and one run of the program
 pub mod Running
 pub mod Serving
+pub mod Compacting
 -- shapes through a flat buffer
 pub mod Buffered
 -- the definitions at texts that are written out

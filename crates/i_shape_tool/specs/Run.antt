@@ -1,14 +1,15 @@
 -- What the program answers for a text.
 use Rattle.std.specs.Prelude.{◌≡◌, ℕ, ◌+◌, List, [], ◌∷◌, ◌++◌, length, Option, Some, None, codes}
-use Rattle.std.specs.List.{flat_map, AllByRecursion}
+use Rattle.std.specs.List.{flat_map, AllByRecursion, AllZip}
 use Rattle.std.specs.Fmt.{signed_decimal}
 use Rattle.std.specs.Int.{w64, int_wrap}
 use Rattle.i_shape.specs.Point.{Point}
 use Rattle.i_shape.specs.Edges.{shoelace}
 use Rattle.i_shape.specs.Answers.{SimpleAnswer, SpikelessAnswer}
 use Rattle.i_shape.specs.Canonical.{CanonicalAnswer}
+use Rattle.i_shape.specs.Compact as cleaned
 use Rattle.i_shape_tool.specs.declared.command.Command.{Command}
-use Rattle.i_shape_tool.specs.declared.command.Command.TheVariants.{Simplify, Despike, Area, Canonical}
+use Rattle.i_shape_tool.specs.declared.command.Command.TheVariants.{Simplify, Despike, Area, Canonical, Compact}
 use Rattle.i_shape_tool.specs.declared.fault.ToolFault.{ToolFault}
 use Rattle.i_shape_tool.specs.declared.fault.ToolFault.TheVariants.{NotAContour, OutOfRange, OutOfMemory}
 use Rattle.i_shape_tool.specs.Points.{IsSafe}
@@ -51,12 +52,13 @@ abbrev pub shown_area : List Point → List ℕ
 shown_area [] = codes "empty"
 shown_area (p ∷ c) = signed_decimal (int_wrap w64 (shoelace (p ∷ c)))
 
--- the answer is what the command says of the contour
+-- the answer is what the command says of the contour; of one contour alone `compact` says what `simplify` says
 abbrev pub Answers : Command → List Point → List ℕ → Type 0
 Answers Simplify c answer = (r : Option (List Point)) × SimpleAnswer c r × (answer ≡ shown_or_none r)
 Answers Despike c answer = (r : Option (List Point)) × SpikelessAnswer c r × (answer ≡ shown_or_none r)
 Answers Area c answer = answer ≡ shown_area c
 Answers Canonical c answer = (r : Option (List Point)) × CanonicalAnswer c r × (answer ≡ shown_or_none r)
+Answers Compact c answer = (r : Option (List Point)) × SimpleAnswer c r × (answer ≡ shown_or_none r)
 
 -- the answer is what the command says of the contour that the line reads
 abbrev pub AnswersLine : Command → List ℕ → List ℕ → Type 0
@@ -74,14 +76,27 @@ AnswersEach command (line ∷ lines) (answer ∷ answers) =
 abbrev pub ended : List ℕ → List ℕ
 ended answer = answer ++ newline ∷ []
 
+-- the contour, on a line of its own
+abbrev pub shown_line : List Point → List ℕ
+shown_line c = ended (shown c)
+
 -- the output holds one line for each line of the text, in order, and nothing else
 abbrev pub AnswersLines : Command → List ℕ → List ℕ → Type 0
 AnswersLines command text output =
     (answers : List (List ℕ)) × AnswersEach command (lines_of text) answers × (output ≡ flat_map ended answers)
 
--- the output is what the command answers for the text; so far each command answers line by line
+-- the output is each contour that cleaning leaves of those that the lines read, in order, each on a line of its own, and nothing else
+abbrev pub ShowsCompact : List ℕ → List ℕ → Type 0
+ShowsCompact text output =
+    (contours : List (List Point)) × (kept : List (List Point))
+    × AllZip (Gives Compact) (lines_of text) contours
+    × cleaned.Compact contours kept
+    × (output ≡ flat_map shown_line kept)
+
+-- the output is what the command answers for the text: all but `compact` answer line by line
 abbrev pub AnswersText : Command → List ℕ → List ℕ → Type 0
 AnswersText Simplify text output = AnswersLines Simplify text output
 AnswersText Despike text output = AnswersLines Despike text output
 AnswersText Area text output = AnswersLines Area text output
 AnswersText Canonical text output = AnswersLines Canonical text output
+AnswersText Compact text output = ShowsCompact text output

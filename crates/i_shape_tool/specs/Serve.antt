@@ -26,7 +26,7 @@ status_of InputOrOutput = 4
 
 -- the text that tells a complaint
 abbrev pub told : Complaint → List ℕ
-told Usage = codes "usage: i_shape_tool simplify|despike|area|canonical"
+told Usage = codes "usage: i_shape_tool simplify|despike|area|canonical|compact"
 told NotUtf8 = codes "input is not UTF-8"
 told (Fault (faults.NotAContour n)) = codes "line " ++ decimal n ++ codes ": not a contour"
 told (Fault (faults.OutOfRange n)) = codes "line " ++ decimal n ++ codes ": out of range"

@@ -6,6 +6,7 @@ ghost use Rattle.i_shape_tool.specs.Command.{IsCleaner};
 ghost use Rattle.i_shape_tool.specs.Run.{Answers, AnswersLines, AnswersText, IsFirstFault};
 
 use crate::command::Command;
+use crate::compact::compact_lines;
 use crate::fault::ToolFault;
 use crate::line::{first_line, read_line};
 use crate::show::{show_area, show_cleaned};
@@ -15,7 +16,8 @@ use i_shape::int::simple::ContourSimplifier;
 use std::alloc::Global;
 
 /// The answer of a command to a text of contours: for each line, in order, what the command says of its contour on a line
-/// of its own, and nothing else.
+/// of its own, and nothing else. `Compact` leaves out the lines of contours that collapse, and says of the others what
+/// `Simplify` says.
 ///
 /// Lines end at `\n`, and the last one needs no end. A line holds the coordinates of its points, x and y in turn, as
 /// decimals of 32 bits parted by single spaces; an empty line is the contour without points. `Simplify` says the points of
@@ -33,6 +35,7 @@ pub fn run(alloc: Global, command: Command, text: &str) -> Result<String, ToolFa
         Command::Simplify | Command::Despike | Command::Area | Command::Canonical => {
             answer_lines(alloc, command, text)
         }
+        Command::Compact => compact_lines(alloc, text),
     }
 }
 
@@ -70,7 +73,7 @@ fn answer_contour(
     ensures memory { IsOkUnless result ToolFault.OutOfMemory }
 {
     match command {
-        Command::Simplify => {
+        Command::Simplify | Command::Compact => {
             let cleaned = simplifier.simplify_contour(contour.as_slice())?;
             show_cleaned(output, &cleaned)?;
         }

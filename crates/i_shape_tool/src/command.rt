@@ -13,6 +13,8 @@ pub enum Command {
     Area,
     /// Remove the zero turns of each contour, and turn it to its least rotation.
     Canonical,
+    /// Remove the zero turns of all contours, and the contours that collapse.
+    Compact,
 }
 
 impl Command {
@@ -28,6 +30,7 @@ impl Command {
             "despike" => Some(Command::Despike),
             "area" => Some(Command::Area),
             "canonical" => Some(Command::Canonical),
+            "compact" => Some(Command::Compact),
             _ => None,
         }
     }
@@ -37,8 +40,8 @@ impl Command {
         ensures { IsTrue result ↔ IsCleaner self }
     {
         match self {
-            Command::Simplify | Command::Despike | Command::Canonical => true,
             Command::Area => false,
+            Command::Simplify | Command::Despike | Command::Canonical | Command::Compact => true,
         }
     }
 }

@@ -4,6 +4,7 @@
 mod answers;
 mod buffers;
 mod command;
+mod compact;
 mod fault;
 pub mod laws;
 mod line;

@@ -53,7 +53,10 @@ impl fmt::Display for Complaint {
 
     fn fmt<W: fmt::Write>(&self, f: &mut fmt::Formatter<W>) -> fmt::Result {
         match self {
-            Complaint::Usage => write!(f, "usage: i_shape_tool simplify|despike|area|canonical"),
+            Complaint::Usage => write!(
+                f,
+                "usage: i_shape_tool simplify|despike|area|canonical|compact"
+            ),
             Complaint::NotUtf8 => write!(f, "input is not UTF-8"),
             Complaint::Fault(ToolFault::NotAContour(number)) => {
                 write!(f, "line {number}: not a contour")

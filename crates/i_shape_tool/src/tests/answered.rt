@@ -11,6 +11,7 @@ fn from_word_knows_the_word_alone(rt: HostRuntime) -> Result<(), Fail> {
         ("despike", Command::Despike),
         ("area", Command::Area),
         ("canonical", Command::Canonical),
+        ("compact", Command::Compact),
     ] {
         assert_eq!(rt; Command::from_word(word), Some(command), "{word:?}");
     }
@@ -134,6 +135,27 @@ fn run_ends_each_answer(rt: HostRuntime) -> Result<(), Fail> {
             let answer = run(rt.alloc(), command, text).ok().ok_or("it is answered")?;
             assert_eq!(rt; answer.as_str(), wanted, "{text:?}");
         }
+    }
+    Ok(())
+}
+
+#[test]
+fn compact_answers_the_contours_that_are_left(rt: HostRuntime) -> Result<(), Fail> {
+    for (text, wanted) in [
+        ("", ""),
+        ("\n", ""),
+        ("0 0 4 0 4 4", "0 0 4 0 4 4\n"),
+        ("\n0 0 4 0 4 4\n", "0 0 4 0 4 4\n"),
+        (
+            "0 0 2 0 4 0 4 4 0 4\n\n1 1 2 2 3 3\n0 0 1 0 0 1\n",
+            "0 0 4 0 4 4 0 4\n0 0 1 0 0 1\n",
+        ),
+        ("0 0 0 512 0 1\n7 7\n", ""),
+    ] {
+        let left = serve_bytes(rt.alloc(), &["compact"], text.as_bytes())?;
+        assert_eq!(rt; left.status, 0, "{text:?}");
+        assert_eq!(rt; left.output.as_slice(), wanted.as_bytes(), "{text:?}");
+        assert_eq!(rt; left.errors.as_slice(), b"".as_slice(), "{text:?}");
     }
     Ok(())
 }

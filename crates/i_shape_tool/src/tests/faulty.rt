@@ -26,7 +26,7 @@ fn a_faulty_line_is_told(rt: HostRuntime) -> Result<(), Fail> {
         "2147483648 0",
         "0 -2147483649",
     ] {
-        for word in ["simplify", "despike", "area", "canonical"] {
+        for word in ["simplify", "despike", "area", "canonical", "compact"] {
             let left = serve_bytes(rt.alloc(), &[word], line.as_bytes())?;
             assert_eq!(rt; left.status, 1, "{word} {line:?}");
             assert_eq!(rt; left.output.as_slice(), b"".as_slice(), "{word} {line:?}");
@@ -45,7 +45,7 @@ fn a_point_that_is_not_safe_is_told(rt: HostRuntime) -> Result<(), Fail> {
         "0 0 0 1 2147483647 0",
         "-2147483648 0",
     ] {
-        for word in ["simplify", "despike", "canonical"] {
+        for word in ["simplify", "despike", "canonical", "compact"] {
             let left = serve_bytes(rt.alloc(), &[word], line.as_bytes())?;
             assert_eq!(rt; left.status, 1, "{word} {line:?}");
             assert_eq!(rt; left.output.as_slice(), b"".as_slice(), "{word} {line:?}");
@@ -65,8 +65,10 @@ fn the_first_fault_is_told(rt: HostRuntime) -> Result<(), Fail> {
         ("0 0 4 0 4 4\n\n1 2 3\n", ToolFault::NotAContour(3)),
         ("\n\n\n0 1073741824\n\r\n", ToolFault::OutOfRange(4)),
     ] {
-        let got = run(rt.alloc(), Command::Simplify, text).err();
-        assert_eq!(rt; got, Some(fault), "{text:?}");
+        for command in [Command::Simplify, Command::Compact] {
+            let got = run(rt.alloc(), command, text).err();
+            assert_eq!(rt; got, Some(fault), "{text:?}");
+        }
     }
     Ok(())
 }
@@ -110,7 +112,7 @@ fn other_words_are_told_the_usage(rt: HostRuntime) -> Result<(), Fail> {
         let left = serve_bytes(rt.alloc(), texts, b"x")?;
         assert_eq!(rt; left.status, 2);
         assert_eq!(rt; left.output.as_slice(), b"".as_slice());
-        let told = b"usage: i_shape_tool simplify|despike|area|canonical\n".as_slice();
+        let told = b"usage: i_shape_tool simplify|despike|area|canonical|compact\n".as_slice();
         assert_eq!(rt; left.errors.as_slice(), told);
     }
     Ok(())
@@ -143,7 +145,7 @@ fn each_complaint_has_its_line_and_status(rt: HostRuntime) -> Result<(), Fail> {
         (Complaint::NotUtf8, "input is not UTF-8\n", 1),
         (
             Complaint::Usage,
-            "usage: i_shape_tool simplify|despike|area|canonical\n",
+            "usage: i_shape_tool simplify|despike|area|canonical|compact\n",
             2,
         ),
         (
