@@ -4,12 +4,6 @@ pub mod ShapeRanges
 pub mod ShapesHeld
 pub mod LentPaths
 pub mod FloatHeld
-mod EndToEnd
-pub mod ContoursHeld
-mod ShapeRanges
-mod ShapesHeld
-mod LentPaths
-mod FloatHeld
 pub mod Surviving
 pub mod CompactLaws
 pub mod WrappedSums

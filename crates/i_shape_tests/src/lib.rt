@@ -1,14 +1,13 @@
 //! Worked contours, as tests of the public calls, and consumers that are proved from a bound alone.
 #![tactic(auto)]
 
-pub mod consumers;
-
 #[cfg(test)]
 mod area;
 #[cfg(test)]
 mod buffer;
 #[cfg(test)]
 mod canonical;
+pub mod consumers;
 #[cfg(test)]
 mod contour;
 #[cfg(test)]

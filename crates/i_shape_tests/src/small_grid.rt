@@ -69,7 +69,9 @@ fn despikes_as_the_ring_walk(
             let despiked = pairs(alloc, despiked.as_slice())?;
             assert!(rt; despiked == left);
             let again = contour::<i32>(rt, alloc, despiked.as_slice())?;
-            let again = simplifier.simplify_contour(again.as_slice())?.ok_or("it collapsed")?;
+            let again = simplifier
+                .simplify_contour(again.as_slice())?
+                .ok_or("it collapsed")?;
             let kept = kept.ok_or("the contour collapsed")?;
             let again = pairs(alloc, again.as_slice())?;
             assert!(rt; is_rotation(again.as_slice(), pairs(alloc, kept.as_slice())?.as_slice()));
