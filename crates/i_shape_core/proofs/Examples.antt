@@ -1,6 +1,7 @@
 -- The definitions at contours that are written out.
-use Rattle.std.proofs.Common.{◌≡◌, ℕ, List, [], ◌∷◌, pos, negsuc, refl, reverse}
-use Rattle.i_shape_core.specs.Point.{Point, cross}
+use Rattle.std.proofs.Common.{◌≡◌, ℕ, ℤ, List, [], ◌∷◌, pos, negsuc, refl, reverse, lit≤, lit<}
+use Rattle.i_shape_core.specs.Point.{Point, cross, dot, IsZeroTurn}
+use Rattle.i_shape_core.specs.Contour.{Reach, stay, step}
 use Rattle.i_shape_core.specs.Edges.{shoelace, area_of_edge, Inside, is_right}
 use Rattle.i_shape_core.specs.Convex.{dedup, is_same, turn_at}
 
@@ -38,3 +39,52 @@ repeats = refl
 corner : turn_at box 1 ≡ pos 100
 unfolding turn_at cross
 corner = refl
+
+-- ---- turns: the cross, the dot, and the kind
+abbrev point : ℤ → ℤ → Point
+point x y = record { x = x; y = y }
+
+turns_left : (cross (point (pos 0) (pos 0)) (point (pos 2) (pos 0)) (point (pos 2) (pos 3)) ≡ pos 6) × (dot (point (pos 0) (pos 0)) (point (pos 2) (pos 0)) (point (pos 2) (pos 3)) ≡ pos 0)
+unfolding cross dot
+turns_left = (refl, refl)
+
+turns_right : (cross (point (pos 0) (pos 0)) (point (pos 2) (pos 0)) (point (pos 2) (negsuc 2)) ≡ negsuc 5) × (dot (point (pos 0) (pos 0)) (point (pos 2) (pos 0)) (point (pos 2) (negsuc 2)) ≡ pos 0)
+unfolding cross dot
+turns_right = (refl, refl)
+
+goes_on : (cross (point (pos 0) (pos 0)) (point (pos 2) (pos 0)) (point (pos 5) (pos 0)) ≡ pos 0) × (dot (point (pos 0) (pos 0)) (point (pos 2) (pos 0)) (point (pos 5) (pos 0)) ≡ pos 6)
+unfolding cross dot
+goes_on = (refl, refl)
+
+goes_on_aslant : (cross (point (pos 1) (pos 1)) (point (pos 3) (pos 5)) (point (pos 4) (pos 7)) ≡ pos 0) × (dot (point (pos 1) (pos 1)) (point (pos 3) (pos 5)) (point (pos 4) (pos 7)) ≡ pos 10)
+unfolding cross dot
+goes_on_aslant = (refl, refl)
+
+goes_back : (cross (point (pos 0) (pos 0)) (point (pos 2) (pos 0)) (point (pos 1) (pos 0)) ≡ pos 0) × (dot (point (pos 0) (pos 0)) (point (pos 2) (pos 0)) (point (pos 1) (pos 0)) ≡ negsuc 1)
+unfolding cross dot
+goes_back = (refl, refl)
+
+goes_back_whole : (cross (point (pos 0) (pos 0)) (point (pos 2) (pos 0)) (point (pos 0) (pos 0)) ≡ pos 0) × (dot (point (pos 0) (pos 0)) (point (pos 2) (pos 0)) (point (pos 0) (pos 0)) ≡ negsuc 3)
+unfolding cross dot
+goes_back_whole = (refl, refl)
+
+stands_at_first : (cross (point (pos 0) (pos 0)) (point (pos 0) (pos 0)) (point (pos 1) (pos 4)) ≡ pos 0) × (dot (point (pos 0) (pos 0)) (point (pos 0) (pos 0)) (point (pos 1) (pos 4)) ≡ pos 0)
+unfolding cross dot
+stands_at_first = (refl, refl)
+
+stands_at_last : (cross (point (pos 3) (pos 1)) (point (pos 5) (pos 5)) (point (pos 5) (pos 5)) ≡ pos 0) × (dot (point (pos 3) (pos 1)) (point (pos 5) (pos 5)) (point (pos 5) (pos 5)) ≡ pos 0)
+unfolding cross dot
+stands_at_last = (refl, refl)
+
+turns_at_the_safe_bound : (cross (point (negsuc 16382) (negsuc 16382)) (point (pos 16383) (pos 16383)) (point (pos 16383) (negsuc 16382)) ≡ negsuc 1073610755)
+    × (dot (point (negsuc 16382) (negsuc 16382)) (point (pos 16383) (pos 16383)) (point (pos 16383) (negsuc 16382)) ≡ negsuc 1073610755)
+unfolding cross dot
+turns_at_the_safe_bound = (refl, refl)
+
+-- ---- three points on a line collapse: the middle one is removed, and two are left
+flat_three : List Point
+flat_three = at 0 0 ∷ at 1 0 ∷ at 2 0 ∷ []
+
+collapses : Reach IsZeroTurn flat_three (at 0 0 ∷ at 2 0 ∷ [])
+unfolding flat_three cross
+collapses = step (record { place = 1; removable = record { enough = lit≤ tt; within = lit< tt; passes = refl }; left = refl }) stay

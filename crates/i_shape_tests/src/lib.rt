@@ -8,6 +8,7 @@ mod buffer;
 #[cfg(test)]
 mod canonical;
 pub mod consumers;
+pub mod corners;
 #[cfg(test)]
 mod contour;
 #[cfg(test)]
@@ -22,6 +23,8 @@ mod given;
 mod given_shapes;
 #[cfg(test)]
 mod in_place;
+#[cfg(test)]
+mod laws;
 #[cfg(test)]
 mod macros;
 #[cfg(test)]

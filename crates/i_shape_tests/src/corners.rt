@@ -1,0 +1,18 @@
+//! A first caller of the cleaner.
+
+use i_shape::ShapeError;
+use i_shape::int::IntPoint;
+use i_shape::int::simple::ContourSimplifier;
+use std::alloc::Global;
+
+/// How many corners a triangle has whose first edge holds a point of its own.
+pub fn corners(alloc: Global) -> Result<usize, ShapeError> {
+    let contour = [
+        IntPoint::<i32>::new(0, 0),
+        IntPoint::new(2, 0),
+        IntPoint::new(4, 0),
+        IntPoint::new(4, 4),
+    ];
+    let kept = ContourSimplifier::new(alloc).simplify_contour(contour.as_slice())?;
+    Ok(kept.map_or(0, |kept| kept.len()))
+}

@@ -1,0 +1,41 @@
+use crate::corners::corners;
+use crate::given::contour;
+use i_shape::IntNumber;
+use i_shape::int::IntPoint;
+use i_shape_core::laws;
+use std::test::Fail;
+
+/// Each law at two contours of this width. A law has no body, so that the calls stand is all there is to see.
+fn laws_hold<I: IntNumber>(c: &[IntPoint<I>], d: &[IntPoint<I>]) {
+    laws::one_end(c);
+    laws::rotated(c, d);
+    laws::reversed(c);
+    laws::twice(c);
+    laws::every_order(c);
+    laws::one_certain_end(c);
+    laws::agreed(c, d);
+    laws::area_kept(c, d);
+    laws::inside_kept(c, d);
+    laws::convex_kept(c, d);
+    laws::canonical_joined(c, d);
+    laws::points_equal(&IntPoint::<I>::ZERO, &IntPoint::<I>::ZERO);
+    laws::points_ordered(&IntPoint::<I>::ZERO, &IntPoint::<I>::ZERO);
+}
+
+#[test]
+fn laws_may_be_cited_at_each_width(rt: HostRuntime) -> Result<(), Fail> {
+    let alloc = rt.alloc();
+    let narrow = contour::<i16>(&rt, alloc, &[[0, 0], [4, 0], [4, 4]])?;
+    laws_hold(narrow.as_slice(), narrow.as_slice());
+    let middle = contour::<i32>(&rt, alloc, &[[0, 0], [4, 0], [4, 4]])?;
+    laws_hold(middle.as_slice(), middle.as_slice());
+    let wide = contour::<i64>(&rt, alloc, &[[0, 0], [4, 0], [4, 4]])?;
+    laws_hold(wide.as_slice(), wide.as_slice());
+    Ok(())
+}
+
+#[test]
+fn a_point_on_an_edge_is_no_corner(rt: HostRuntime) -> Result<(), Fail> {
+    assert_eq!(rt; corners(rt.alloc())?, 3);
+    Ok(())
+}
