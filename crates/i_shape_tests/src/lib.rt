@@ -8,9 +8,9 @@ mod buffer;
 #[cfg(test)]
 mod canonical;
 pub mod consumers;
-pub mod corners;
 #[cfg(test)]
 mod contour;
+pub mod corners;
 #[cfg(test)]
 mod count;
 #[cfg(test)]
@@ -41,3 +41,5 @@ mod shapes;
 mod simple;
 #[cfg(test)]
 mod small_grid;
+#[cfg(test)]
+mod through_buffer;
