@@ -47,6 +47,7 @@ pub mod SummedArea
 pub mod SliceArea
 -- the definitions at contours that are written out
 pub mod Examples
+pub mod ShortContours
 -- the canonical form
 pub mod Order
 pub mod Rounds
