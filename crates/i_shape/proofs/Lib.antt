@@ -8,3 +8,4 @@ pub mod Surviving
 pub mod CompactLaws
 pub mod WrappedSums
 pub mod SpikesLeft
+pub mod Examples
