@@ -1,9 +1,9 @@
 -- The turns of a contour, as a walk meets them that starts with its last two points.
-use Rattle.std.proofs.Common.{◌≡◌, ◌≢◌, ℕ, zero, suc, ◌+◌, ◌-◌, ◌<◌, ◌≤◌, List, [], ◌∷◌, length, get_or, refl, sym, ap, subst, subst₂, ◌∙◌, arith, ◌⊎◌, inl, inr, ◌↔◌, Bool, true, false, cond, ◌++◌, append_assoc, length-append}
+use Rattle.std.proofs.Common.{◌≡◌, ◌≢◌, ℕ, zero, suc, ◌+◌, ◌-◌, ◌<◌, ◌≤◌, List, [], ◌∷◌, length, get_or, refl, sym, ap, subst, subst₂, ◌∙◌, arith, ◌⊎◌, inl, inr, ◌↔◌, Bool, true, false, cond, ◌++◌, append_assoc, length-append, add-one}
 use Rattle.i_shape_core.specs.Point.{Point, origin}
 use Rattle.i_shape_core.specs.Contour.{Test, point_at, place_before, place_after, IsRemovable}
 use Rattle.i_shape_core.specs.Convex.{is_same, changes_after, last_of, dedup, Bulges}
-use Rattle.i_shape_core.proofs.Survive.{Follows, after_is, before_is, same_after, before_within}
+use Rattle.i_shape_core.proofs.Places.{Follows, after_is, before_is, after_from, before_within, after_within}
 use Rattle.i_shape_core.proofs.ConvexLaws.{Has, IsLeft, IsRight, IsReversed, plain_from_bulges, bulges_from_plain}
 use Rattle.i_shape_core.proofs.Dedup.{same_yes, same_self, apart_no, last_at, changes_last, last_of_append}
 
@@ -30,10 +30,7 @@ passed_from P o p (q ∷ qs) (suc j) h x = inr (passed_from P p q qs j (omega ar
 
 -- the point behind, where p is the last point
 one_behind : (d : List Point) (p : Point) (k j : ℕ) → k < length d → p ≡ point_at d (length d - 1) → Follows (length d) k j → get_or (p ∷ d) j origin ≡ point_at d k
-one_behind d p k j h e (inl f) = ap (λ (i : ℕ). get_or (p ∷ d) i origin) (f.1 ∙ next k)
-  where
-    next : (k : ℕ) → k + 1 ≡ suc k
-    next k = omega arith
+one_behind d p k j h e (inl f) = ap (λ (i : ℕ). get_or (p ∷ d) i origin) (f.1 ∙ add-one k)
 one_behind d p k j h e (inr f) = ap (λ (i : ℕ). get_or (p ∷ d) i origin) f.1 ∙ e ∙ ap (point_at d) (last_place k (length d) f.0)
   where
     last_place : (k n : ℕ) → k + 1 ≡ n → n - 1 ≡ k
@@ -42,20 +39,11 @@ one_behind d p k j h e (inr f) = ap (λ (i : ℕ). get_or (p ∷ d) i origin) f.
 -- and the one behind that, where o is the last but one
 two_behind : (d : List Point) (o p : Point) (b k j : ℕ) → b < length d → k < length d → 2 ≤ length d → o ≡ point_at d (length d - 2) → p ≡ point_at d (length d - 1)
     → Follows (length d) b k → Follows (length d) k j → get_or (o ∷ p ∷ d) j origin ≡ point_at d b
-two_behind d o p b k j h i two e f B (inl K) = ap (λ (m : ℕ). get_or (o ∷ p ∷ d) m origin) (K.1 ∙ next k) ∙ one_behind d p b k h f B
-  where
-    next : (k : ℕ) → k + 1 ≡ suc k
-    next k = omega arith
+two_behind d o p b k j h i two e f B (inl K) = ap (λ (m : ℕ). get_or (o ∷ p ∷ d) m origin) (K.1 ∙ add-one k) ∙ one_behind d p b k h f B
 two_behind d o p b k j h i two e f B (inr K) = ap (λ (m : ℕ). get_or (o ∷ p ∷ d) m origin) K.1 ∙ e ∙ ap (point_at d) (place b k (length d) two K.0 B)
   where
     place : (b k n : ℕ) → 2 ≤ n → k + 1 ≡ n → Follows n b k → n - 2 ≡ b
     place b k n two e B = grind arith
-
-after_within : (n k : ℕ) → k < n → place_after n k < n
-after_within n k h = within n k (place_after n k) h (after_is n k h)
-  where
-    within : (n k a : ℕ) → k < n → Follows n k a → a < n
-    within n k a h A = grind arith
 
 -- a walk that starts from the last two points of a contour meets all its turns
 pub has_passed : (P : Test) (d : List Point) → 3 ≤ length d → Has P d → Passed P (point_at d (length d - 2)) (point_at d (length d - 1)) d
@@ -89,7 +77,7 @@ passed_has P d h x = go (passed_at P (point_at d (length d - 2)) (point_at d (le
         B = before_is (length d) k in_k
 
         after : place_after (length d) k ≡ j
-        after = same_after (length d) k (place_after (length d) k) j (after_is (length d) k in_k) K
+        after = after_from (length d) k j in_k K
 
         moved : P (point_at d (place_before (length d) k)) (point_at d k) (point_at d (place_after (length d) k))
         moved = subst (λ (i : ℕ). P (point_at d (place_before (length d) k)) (point_at d k) (point_at d i)) (sym after)

@@ -6,8 +6,9 @@ use Rattle.i_shape_core.specs.Contour.{Test, Reach, stay, End, IsCollapsed}
 use Rattle.i_shape_core.specs.Walk.{WalkAnswer}
 use Rattle.i_shape_core.specs.Edges.{shoelace, area_of_edge}
 use Rattle.i_shape_core.specs.Answers.{SimpleAnswer, SpikelessAnswer, KeptAnswer, VisitsAnswer, IsKept, IsFlat}
-use Rattle.i_shape_core.proofs.CycleLaws.{every_order, straightens, agreed}
-use Rattle.i_shape_core.proofs.Straight.{reach_by_weaker}
+use Rattle.i_shape_core.proofs.CycleLaws.{every_order, agreed}
+use Rattle.i_shape_core.proofs.Ends.{reach_by_weaker}
+use Rattle.i_shape_core.proofs.Survive.{straightens}
 use Rattle.i_shape_core.proofs.Spikes.{spikeless_end}
 use Rattle.i_shape_core.proofs.Edges as edges
 use Rattle.i_shape_core.proofs.Inside.{inside_laws}
@@ -53,7 +54,7 @@ short_answer P c h = record { rest = c; reached = stay; few = h; least = omega a
 
 -- the same where points are removed at which the way turns back
 pub spikeless_answer : (c : List Point) (r : Option (List Point)) (visits : ℕ) → WalkAnswer IsBack c r visits → SpikelessAnswer c r
-spikeless_answer c None visits w = λ e f. (every_order c).none w.rest e (reach_by_weaker straightens w.reached) w.few f
+spikeless_answer c None visits w = λ e f. (every_order c).none w.rest e (reach_by_weaker straightens.weaker w.reached) w.few f
 spikeless_answer c (Some d) visits w = record {
   ended = w.ended;
   enough = w.enough;
@@ -70,5 +71,5 @@ spikeless_answer c (Some d) visits w = record {
         go (inr h) = h
 
 pub kept_spikeless : (c : List Point) (r : Option (List Point)) (visits : ℕ) → WalkAnswer IsBack c r visits → KeptAnswer c r
-kept_spikeless c None visits w = flat c w.rest (reach_by_weaker straightens w.reached) w.few
-kept_spikeless c (Some d) visits w = kept c d (reach_by_weaker straightens w.ended.reached)
+kept_spikeless c None visits w = flat c w.rest (reach_by_weaker straightens.weaker w.reached) w.few
+kept_spikeless c (Some d) visits w = kept c d (reach_by_weaker straightens.weaker w.ended.reached)

@@ -7,7 +7,8 @@ use Rattle.i_shape_core.specs.Contour.{point_at, place_before, place_after, IsRe
 use Rattle.i_shape_core.specs.Convex.{turn_at, TurnsOneWay}
 use Rattle.i_shape_core.proofs.Turns.{cross_reversed, dot_reversed}
 use Rattle.i_shape_core.proofs.Back.{straight_cross, square, square_at_least, no_way, back_from_cases}
-use Rattle.i_shape_core.proofs.Survive.{HasNoBack, Follows, after_is, before_is, Stood, stood, stood_point, stood_within, follows_over, same_before, same_after, before_within, none_in_a_row, straight, one_neighbour, no_back_after_step}
+use Rattle.i_shape_core.proofs.Places.{Follows, after_is, before_is, Stood, stood, stood_point, stood_within, follows_over, before_from, after_from, before_within, one_neighbour}
+use Rattle.i_shape_core.proofs.Survive.{HasNoBack, none_in_a_row, straight, no_back_after_step}
 
 -- both are below 0 or none is, and both are above 0 or none is
 pub record Alike (x y : ℤ) : Type 0 where
@@ -80,15 +81,9 @@ turn_after_straight a p b y e l apart = alike_negated (cross y b a) (cross y b p
 turn_in_a_row : (c : List Point) (q m s : ℕ) → q < length c → m < length c → Follows (length c) q m → Follows (length c) m s
     → turn_at c m ≡ cross (point_at c q) (point_at c m) (point_at c s)
 unfolding turn_at
-turn_in_a_row c q m s i l Q S = rw (before, after) refl
-  where
-    before : place_before (length c) m ≡ q
-    before = same_before (length c) (place_before (length c) m) m q (before_within (length c) m l) i (before_is (length c) m l) Q
+turn_in_a_row c q m s i l Q S = rw (before_from (length c) q m i l Q, after_from (length c) m s l S) refl
 
-    after : place_after (length c) m ≡ s
-    after = same_after (length c) m (place_after (length c) m) s (after_is (length c) m l) S
-
--- with q, m, g, s and t as in `unblocked`
+-- without a straight point: q, m and g are places and those of their neighbours that are left, s and t are the places after m and q
 turn_alike : (c : List Point) (k a m g q s t : ℕ) → HasNoBack c → IsRemovable IsZeroTurn c k → m < length c → q < length c
     → Follows (length c) k a → Follows (length c) m s → Follows (length c) q t
     → ((s ≡ k) × (g ≡ a)) ⊎ ((s ≢ k) × (g ≡ s)) → ((t ≡ k) × (m ≡ a)) ⊎ ((t ≢ k) × (m ≡ t))

@@ -7,7 +7,7 @@ use Rattle.i_shape_core.specs.Contour.{point_at, place_before, place_after, Step
 use Rattle.i_shape_core.specs.Convex.{is_same, changes_after, last_of, dedup}
 use Rattle.i_shape_core.proofs.Turns.{same_point}
 use Rattle.i_shape_core.proofs.Back.{back_from_cases}
-use Rattle.i_shape_core.proofs.Edges.{before_first, before_later}
+use Rattle.i_shape_core.proofs.Places.{before_first, before_later}
 
 -- ---- the test of two points
 both_true : (a b : Bool) → a && b ≡ true → (a ≡ true) × (b ≡ true)

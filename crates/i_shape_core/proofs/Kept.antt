@@ -4,22 +4,15 @@ use Rattle.i_shape_core.specs.Point.{Point, cross, dot, IsZeroTurn, IsBack}
 use Rattle.i_shape_core.specs.Contour.{point_at, place_before, place_after, IsRemovable, Reach, End}
 use Rattle.i_shape_core.specs.Convex.{dedup, turn_at, IsReversal, NoSpikes, TurnsOneWay, Bulges, Convex}
 use Rattle.i_shape_core.proofs.Back.{back_cases, cross_same-first}
-use Rattle.i_shape_core.proofs.Survive.{HasNoBack, no_back_kept, Follows, after_is, before_is, same_before, before_within}
+use Rattle.i_shape_core.proofs.Places.{after_is, after_within, before_from}
+use Rattle.i_shape_core.proofs.Survive.{HasNoBack, no_back_kept}
 use Rattle.i_shape_core.proofs.Convex.{one_way_kept}
 use Rattle.i_shape_core.proofs.Dedup.{IsApart, dedup_apart, dedup-same, apart_places, apart_from_places, dedup_reached, back_reach_turns}
 
-within : (n k a : ℕ) → k < n → Follows n k a → a < n
-within n k a h A = grind arith
-
 pub next_differs : (c : List Point) (k : ℕ) → IsApart c → k < length c → point_at c k ≢ point_at c (place_after (length c) k)
-next_differs c k a h = subst (λ (i : ℕ). point_at c i ≢ point_at c (place_after (length c) k)) back (apart_places c (place_after (length c) k) a in_after)
-  where
-    in_after : place_after (length c) k < length c
-    in_after = within (length c) k (place_after (length c) k) h (after_is (length c) k h)
-
-    back : place_before (length c) (place_after (length c) k) ≡ k
-    back = same_before (length c) (place_before (length c) (place_after (length c) k)) (place_after (length c) k) k
-        (before_within (length c) (place_after (length c) k) in_after) h (before_is (length c) (place_after (length c) k) in_after) (after_is (length c) k h)
+next_differs c k a h = subst (λ (i : ℕ). point_at c i ≢ point_at c (place_after (length c) k))
+    (before_from (length c) k (place_after (length c) k) h (after_within (length c) k h) (after_is (length c) k h))
+    (apart_places c (place_after (length c) k) a (after_within (length c) k h))
 
 no_back : (c : List Point) → 3 ≤ length c → IsApart c → ((k : ℕ) → IsReversal c k → ⊥) → HasNoBack c
 unfolding turn_at

@@ -11,6 +11,7 @@ pub mod Contours
 pub mod TestLaws
 pub mod Lists
 pub mod Rotations
+pub mod Places
 pub mod Cycle
 pub mod Meets
 pub mod Ends

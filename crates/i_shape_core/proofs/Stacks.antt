@@ -6,7 +6,7 @@ use Rattle.std.proofs.lemmas.List.Elements.{All-take, All-drop, All-push}
 use Rattle.std.proofs.lemmas.Bool.{cases_lt}
 use Rattle.i_shape_core.specs.Point.{Point, origin}
 use Rattle.i_shape_core.specs.Contour.{Reach, Step, IsRemovable, End, point_at, place_before, place_after}
-use Rattle.i_shape_core.proofs.Edges.{before_first, before_later, after_earlier, after_last}
+use Rattle.i_shape_core.proofs.Places.{before_first, before_later, after_earlier, after_last}
 use Rattle.i_shape_core.specs.Contour.{stay, step}
 use Rattle.i_shape_core.specs.Stack.{IsStacked, stacked_point, points_left}
 
