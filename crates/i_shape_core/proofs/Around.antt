@@ -5,7 +5,7 @@ use Rattle.i_shape_core.specs.Contour.{Test, point_at, place_before, place_after
 use Rattle.i_shape_core.specs.Convex.{is_same, changes_after, last_of, dedup, Bulges}
 use Rattle.i_shape_core.proofs.Places.{Follows, after_is, before_is, after_from, before_within, after_within}
 use Rattle.i_shape_core.proofs.ConvexLaws.{Has, IsLeft, IsRight, IsReversed, plain_from_bulges, bulges_from_plain}
-use Rattle.i_shape_core.proofs.Dedup.{same_yes, same_self, apart_no, last_at, changes_last, last_of_append}
+use Rattle.i_shape_core.proofs.Dedup.{same_yes, same_self, apart_no, last_again, last_at, changes_last, last_of_append}
 
 -- a turn of the way over o, p and the rest passes the test
 abbrev pub Passed : Test → Point → Point → List Point → Type 0
@@ -101,18 +101,11 @@ met_is P o p (q ∷ qs) = go (met_is P o q qs) (met_is P p q qs) (is_same p q) r
 
 pub last_of_dedup : (c : List Point) → 1 ≤ length (dedup c) → point_at (dedup c) (length (dedup c) - 1) ≡ last_of origin c
 unfolding dedup
-last_of_dedup c h = last_place (changes_after (last_of origin c) c) h ∙ changes_last (last_of origin c) c ∙ same_last origin c
+last_of_dedup c h = last_place (changes_after (last_of origin c) c) h ∙ changes_last (last_of origin c) c ∙ last_again origin c
   where
-    same_last : (q : Point) (c : List Point) → last_of (last_of q c) c ≡ last_of q c
-    same_last q [] = refl
-    same_last q (p ∷ c) = refl
-
     last_place : (d : List Point) → 1 ≤ length d → point_at d (length d - 1) ≡ last_of (last_of origin c) d
     last_place [] h = absurd (omega arith)
-    last_place (p ∷ ps) h = ap (λ (i : ℕ). get_or (p ∷ ps) i origin) (less_one (length ps)) ∙ last_at p ps
-      where
-        less_one : (n : ℕ) → suc n - 1 ≡ n
-        less_one n = omega arith
+    last_place (p ∷ ps) h = last_at p ps
 
 -- a walk over a contour, which starts with its last two points that differ and leaves out repeated ones, meets the turns of the contour without repeated points
 pub has_met : (P : Test) (c : List Point) (o : Point) → 3 ≤ length (dedup c) → o ≡ point_at (dedup c) (length (dedup c) - 2) → Has P (dedup c) ↔ Met P o (last_of origin c) c
@@ -121,6 +114,32 @@ has_met P c o h e = (λ x. subst (λ (X : Type 0). X) (sym same) (has_passed P (
   where
     same : Met P o (last_of origin c) c ≡ Passed P (point_at (dedup c) (length (dedup c) - 2)) (point_at (dedup c) (length (dedup c) - 1)) (dedup c)
     same = met_is P o (last_of origin c) c ∙ subst₂ (λ (x y : Point). Passed P o (last_of origin c) (dedup c) ≡ Passed P x y (dedup c)) e (sym (last_of_dedup c (omega arith))) refl
+
+-- n points have changed so far, p is the last of them, and the rest is still to come
+abbrev pub Changed : List Point → ℕ → Point → List Point → Type 0
+Changed c n p rest = n + length (changes_after p rest) ≡ length (dedup c)
+
+pub changed_start : (c : List Point) → Changed c 0 (last_of origin c) c
+unfolding dedup
+changed_start c = omega arith
+
+pub changed_skip : (c : List Point) (n : ℕ) (p q : Point) (rest : List Point) → is_same p q ≡ true → Changed c n p (q ∷ rest) → Changed c n p rest
+changed_skip c n p q rest e w = ap (λ (xs : List Point). n + length xs) (sym skipped) ∙ w
+  where
+    skipped : changes_after p (q ∷ rest) ≡ changes_after p rest
+    skipped = ap (λ (t : Bool). cond t (changes_after q rest) (q ∷ changes_after q rest)) e ∙ ap (λ (x : Point). changes_after x rest) (sym (same_yes p q e))
+
+pub changed_on : (c : List Point) (n : ℕ) (p q : Point) (rest : List Point) → is_same p q ≡ false → Changed c n p (q ∷ rest) → Changed c (n + 1) q rest
+changed_on c n p q rest e w = one_more n (length (changes_after q rest)) (length (dedup c)) (ap (λ (xs : List Point). n + length xs) (sym kept) ∙ w)
+  where
+    kept : changes_after p (q ∷ rest) ≡ q ∷ changes_after q rest
+    kept = ap (λ (t : Bool). cond t (changes_after q rest) (q ∷ changes_after q rest)) e
+
+    one_more : (n m k : ℕ) → n + suc m ≡ k → n + 1 + m ≡ k
+    one_more n m k e = omega arith
+
+pub changed_end : (c : List Point) (n : ℕ) (p : Point) → Changed c n p [] → n ≡ length (dedup c)
+changed_end c n p w = omega (arith, w)
 
 -- so a walk can tell whether it bulges
 pub bulges_by_walk : (c : List Point) (o : Point) → 3 ≤ length (dedup c) → o ≡ point_at (dedup c) (length (dedup c) - 2)

@@ -5,7 +5,7 @@ use Rattle.i_shape_core.specs.Point.{Point, IsZeroTurn, IsBack}
 use Rattle.i_shape_core.specs.Contour.{Test, Reach, stay, End, IsCollapsed}
 use Rattle.i_shape_core.specs.Walk.{WalkAnswer}
 use Rattle.i_shape_core.specs.Edges.{shoelace, area_of_edge}
-use Rattle.i_shape_core.specs.Answers.{SimpleAnswer, SpikelessAnswer, KeptAnswer, VisitsAnswer, IsKept, IsFlat}
+use Rattle.i_shape_core.specs.Answers.{SimpleAnswer, SpikelessAnswer, KeptAnswer, IsKept, IsFlat}
 use Rattle.i_shape_core.proofs.CycleLaws.{every_order, agreed}
 use Rattle.i_shape_core.proofs.Ends.{reach_by_weaker}
 use Rattle.i_shape_core.proofs.Survive.{straightens}
@@ -43,10 +43,6 @@ simple_answer c (Some e) visits w = record { ended = w.ended; enough = w.enough;
 pub kept_answer : (c : List Point) (r : Option (List Point)) (visits : ℕ) → WalkAnswer IsZeroTurn c r visits → KeptAnswer c r
 kept_answer c None visits w = flat c w.rest w.reached w.few
 kept_answer c (Some e) visits w = kept c e w.ended.reached
-
-pub visits_answer : (P : Test) (c : List Point) (r : Option (List Point)) (visits : ℕ) → WalkAnswer P c r visits → VisitsAnswer c r visits
-visits_answer P c None visits w = record { least = w.least; most = w.most }
-visits_answer P c (Some e) visits w = record { least = w.least; most = w.most }
 
 -- fewer than three points have collapsed before the first visit
 pub short_answer : (P : Test) (c : List Point) → length c < 3 → WalkAnswer P c None 0

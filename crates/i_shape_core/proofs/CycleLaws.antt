@@ -1,11 +1,10 @@
 -- The laws of contours, with what the plane says.
-use Rattle.std.proofs.Common.{◌≡◌, ℕ, ◌<◌, ◌≤◌, List, length, ℤ, pos, neg_ℤ, refl, arith}
-use Rattle.std.proofs.lemmas.Int.{ints}
+use Rattle.std.proofs.Common.{◌≡◌, ℕ, ◌<◌, ◌≤◌, List, length, pos, refl, arith}
 use Rattle.std.proofs.Math.IntN.{ℤ_discrete}
 use Rattle.i_shape_core.specs.Point.{Point, cross, IsZeroTurn, IsBack}
 use Rattle.i_shape_core.specs.Contour.{Test, IsRemovable, Reach, stay, step, End, Rotation, SameEnd, collapsed, turned, IsCollapsed}
 use Rattle.i_shape_core.proofs.TestLaws.{Decided, Slides, BothWays}
-use Rattle.i_shape_core.proofs.Turns.{slide, cross_reversed}
+use Rattle.i_shape_core.proofs.Turns.{slide, zero_reversed}
 use native.Mathlib.Decide.{dec_lt}
 use Rattle.i_shape_core.specs.Laws.{RotatedEnds, ReversedEnds, Twice, Agreed, EveryOrder, OneCertainEnd}
 use Rattle.i_shape_core.proofs.Certain as certain
@@ -22,10 +21,7 @@ pub zero_turn_slides : Slides IsZeroTurn
 zero_turn_slides = slide
 
 pub zero_turn_both_ways : BothWays IsZeroTurn
-zero_turn_both_ways a b c e = back (cross a b c) (cross c b a) (cross_reversed a b c) e
-  where
-    back : (x y : ℤ) → y ≡ neg_ℤ x → x ≡ pos 0 → y ≡ pos 0
-    back x y e f = omega (arith, ints)
+zero_turn_both_ways = zero_reversed
 
 -- two ends are one cycle, or have both collapsed
 pub one_end : (c e f : List Point) → End IsZeroTurn c e → End IsZeroTurn c f → SameEnd e f

@@ -39,7 +39,6 @@ pub mod RingStates
 pub mod Walked
 pub mod Around
 pub mod Spikes
-pub mod Areas
 pub mod LastEdge
 -- measures
 pub mod Compared
