@@ -1,5 +1,7 @@
 -- What a walk finds, and the answer that it gives.
-use Rattle.std.proofs.Common.{◌≡◌, ℕ, ◌<◌, ◌≤◌, List, [], ◌∷◌, length, Option, Some, None, sym, ◌∙◌, pos, refl, arith, ◌⊎◌, inl, inr}
+use Rattle.std.proofs.Common.{◌≡◌, ℕ, ◌<◌, ◌≤◌, List, [], ◌∷◌, length, Option, Some, None, option_map, sym, ◌∙◌, pos, refl, arith, ◌⊎◌, inl, inr}
+use Rattle.std.specs.List.{All}
+use Rattle.std.specs.Option.{IfSome}
 use Rattle.std.proofs.lemmas.Bool.{cases_lt}
 use Rattle.i_shape_core.specs.Point.{Point, IsZeroTurn, IsBack}
 use Rattle.i_shape_core.specs.Contour.{Test, Reach, stay, End, IsCollapsed}
@@ -7,7 +9,7 @@ use Rattle.i_shape_core.specs.Walk.{WalkAnswer}
 use Rattle.i_shape_core.specs.Edges.{shoelace, area_of_edge}
 use Rattle.i_shape_core.specs.Answers.{SimpleAnswer, SpikelessAnswer, KeptAnswer, IsKept, IsFlat}
 use Rattle.i_shape_core.proofs.CycleLaws.{every_order, agreed}
-use Rattle.i_shape_core.proofs.Ends.{reach_by_weaker}
+use Rattle.i_shape_core.proofs.Ends.{all_left, reach_by_weaker}
 use Rattle.i_shape_core.proofs.Survive.{straightens}
 use Rattle.i_shape_core.proofs.Spikes.{spikeless_end}
 use Rattle.i_shape_core.proofs.Edges as edges
@@ -43,6 +45,11 @@ simple_answer c (Some e) visits w = record { ended = w.ended; enough = w.enough;
 pub kept_answer : (c : List Point) (r : Option (List Point)) (visits : ℕ) → WalkAnswer IsZeroTurn c r visits → KeptAnswer c r
 kept_answer c None visits w = flat c w.rest w.reached w.few
 kept_answer c (Some e) visits w = kept c e w.ended.reached
+
+-- what holds of each point of the contour holds of each that is answered
+pub all_answered : (P : Test) {X : Type 0} (Q : Point → Type 0) (f : X → List Point) (c : List Point) (r : Option X) (visits : ℕ) → WalkAnswer P c (option_map f r) visits → All Q c → IfSome r (λ x. All Q (f x))
+all_answered P Q f c None visits w h = tt
+all_answered P Q f c (Some x) visits w h = all_left Q w.ended.reached h
 
 -- fewer than three points have collapsed before the first visit
 pub short_answer : (P : Test) (c : List Point) → length c < 3 → WalkAnswer P c None 0
