@@ -1,8 +1,10 @@
 -- Twice the area as a walk sums it that starts at the first point, and wraps each sum.
-use Rattle.std.proofs.Common.{◌≡◌, List, [], ◌∷◌, ◌++◌, ℤ, ◌+ℤ◌, refl, sym, ap, ◌∙◌, arith}
+use Rattle.std.proofs.Common.{◌≡◌, List, [], ◌∷◌, ◌++◌, ℤ, pos, ◌+ℤ◌, FitsSigned, refl, sym, ap, ◌∙◌, arith}
 use Rattle.std.specs.Int.{Width, int_wrap}
-use Rattle.std.proofs.lemmas.Int.{ints, int_wrap-add_left}
+use Rattle.std.proofs.lemmas.Int.{ints, int_wrap-add_left, int_wrap_fits}
 use Rattle.std.proofs.lemmas.List.{map-append}
+use Rattle.std.proofs.lemmas.Nat.{pow_pos}
+use Rattle.i_shape_core.specs.Widths.{hbits}
 use Rattle.i_shape_core.specs.Point.{Point, cross_of}
 use Rattle.i_shape_core.specs.IntPoint.{point_of, contour_of}
 use Rattle.i_shape_core.specs.declared.point.IntPoint.{IntPoint}
@@ -33,6 +35,13 @@ area_push a ps q = ap (sum_of_edges area_of_edge) (path_push a ps q) ∙ sum_pus
 area_closed : (a : Point) (ps : List Point) → shoelace (a ∷ ps) ≡ area_along a ps +ℤ cross_of (last_of a ps) a
 unfolding area_of_edge shoelace
 area_closed a ps = ap (sum_of_edges area_of_edge) (between_is a ps a) ∙ sum_push area_of_edge (path_over a ps) (edge (last_of a ps) a)
+
+-- a sum that starts at zero
+pub wrapped-zero : (w : Width) (z : ℤ) → z ≡ pos 0 → z ≡ int_wrap w (pos 0)
+wrapped-zero w z e =
+    let positive = pow_pos (hbits w) in
+    let fits : FitsSigned w (pos 0) = record { sfits = omega arith } in
+    e ∙ sym (int_wrap_fits w (pos 0) fits)
 
 -- wraps each time
 pub wrapped-more : (w : Width) (before after s t : ℤ) → before ≡ int_wrap w s → after ≡ int_wrap w (before +ℤ t) → after ≡ int_wrap w (s +ℤ t)
