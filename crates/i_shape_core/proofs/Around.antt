@@ -1,11 +1,11 @@
 -- The turns of a contour, as a walk meets them that starts with its last two points.
-use Rattle.std.proofs.Common.{◌≡◌, ◌≢◌, ℕ, zero, suc, ◌+◌, ◌-◌, ◌<◌, ◌≤◌, List, [], ◌∷◌, length, get_or, refl, sym, ap, subst, subst₂, ◌∙◌, arith, ◌⊎◌, inl, inr, ◌↔◌, Bool, true, false, cond, ◌++◌, append_assoc, length-append}
+use Rattle.std.proofs.Common.{◌≡◌, ◌≢◌, ℕ, zero, suc, ◌+◌, ◌-◌, ◌<◌, ◌≤◌, List, [], ◌∷◌, length, get_or, refl, sym, ap, subst, subst₂, ◌∙◌, arith, ◌⊎◌, inl, inr, ◌↔◌, Bool, true, false, cond, ◌++◌, append_assoc, length-append, add-one}
 use Rattle.i_shape_core.specs.Point.{Point, origin}
 use Rattle.i_shape_core.specs.Contour.{Test, point_at, place_before, place_after, IsRemovable}
 use Rattle.i_shape_core.specs.Convex.{is_same, changes_after, last_of, dedup, Bulges}
-use Rattle.i_shape_core.proofs.Survive.{Follows, after_is, before_is, same_after, before_within}
+use Rattle.i_shape_core.proofs.Places.{Follows, after_is, before_is, after_from, before_within, after_within}
 use Rattle.i_shape_core.proofs.ConvexLaws.{Has, IsLeft, IsRight, IsReversed, plain_from_bulges, bulges_from_plain}
-use Rattle.i_shape_core.proofs.Dedup.{same_yes, same_self, apart_no, last_at, changes_last, last_of_append}
+use Rattle.i_shape_core.proofs.Dedup.{same_yes, same_self, apart_no, last_again, last_at, changes_last, last_of_append}
 
 -- a turn of the way over o, p and the rest passes the test
 abbrev pub Passed : Test → Point → Point → List Point → Type 0
@@ -30,10 +30,7 @@ passed_from P o p (q ∷ qs) (suc j) h x = inr (passed_from P p q qs j (omega ar
 
 -- the point behind, where p is the last point
 one_behind : (d : List Point) (p : Point) (k j : ℕ) → k < length d → p ≡ point_at d (length d - 1) → Follows (length d) k j → get_or (p ∷ d) j origin ≡ point_at d k
-one_behind d p k j h e (inl f) = ap (λ (i : ℕ). get_or (p ∷ d) i origin) (f.1 ∙ next k)
-  where
-    next : (k : ℕ) → k + 1 ≡ suc k
-    next k = omega arith
+one_behind d p k j h e (inl f) = ap (λ (i : ℕ). get_or (p ∷ d) i origin) (f.1 ∙ add-one k)
 one_behind d p k j h e (inr f) = ap (λ (i : ℕ). get_or (p ∷ d) i origin) f.1 ∙ e ∙ ap (point_at d) (last_place k (length d) f.0)
   where
     last_place : (k n : ℕ) → k + 1 ≡ n → n - 1 ≡ k
@@ -42,20 +39,11 @@ one_behind d p k j h e (inr f) = ap (λ (i : ℕ). get_or (p ∷ d) i origin) f.
 -- and the one behind that, where o is the last but one
 two_behind : (d : List Point) (o p : Point) (b k j : ℕ) → b < length d → k < length d → 2 ≤ length d → o ≡ point_at d (length d - 2) → p ≡ point_at d (length d - 1)
     → Follows (length d) b k → Follows (length d) k j → get_or (o ∷ p ∷ d) j origin ≡ point_at d b
-two_behind d o p b k j h i two e f B (inl K) = ap (λ (m : ℕ). get_or (o ∷ p ∷ d) m origin) (K.1 ∙ next k) ∙ one_behind d p b k h f B
-  where
-    next : (k : ℕ) → k + 1 ≡ suc k
-    next k = omega arith
+two_behind d o p b k j h i two e f B (inl K) = ap (λ (m : ℕ). get_or (o ∷ p ∷ d) m origin) (K.1 ∙ add-one k) ∙ one_behind d p b k h f B
 two_behind d o p b k j h i two e f B (inr K) = ap (λ (m : ℕ). get_or (o ∷ p ∷ d) m origin) K.1 ∙ e ∙ ap (point_at d) (place b k (length d) two K.0 B)
   where
     place : (b k n : ℕ) → 2 ≤ n → k + 1 ≡ n → Follows n b k → n - 2 ≡ b
     place b k n two e B = grind arith
-
-after_within : (n k : ℕ) → k < n → place_after n k < n
-after_within n k h = within n k (place_after n k) h (after_is n k h)
-  where
-    within : (n k a : ℕ) → k < n → Follows n k a → a < n
-    within n k a h A = grind arith
 
 -- a walk that starts from the last two points of a contour meets all its turns
 pub has_passed : (P : Test) (d : List Point) → 3 ≤ length d → Has P d → Passed P (point_at d (length d - 2)) (point_at d (length d - 1)) d
@@ -89,7 +77,7 @@ passed_has P d h x = go (passed_at P (point_at d (length d - 2)) (point_at d (le
         B = before_is (length d) k in_k
 
         after : place_after (length d) k ≡ j
-        after = same_after (length d) k (place_after (length d) k) j (after_is (length d) k in_k) K
+        after = after_from (length d) k j in_k K
 
         moved : P (point_at d (place_before (length d) k)) (point_at d k) (point_at d (place_after (length d) k))
         moved = subst (λ (i : ℕ). P (point_at d (place_before (length d) k)) (point_at d k) (point_at d i)) (sym after)
@@ -113,18 +101,11 @@ met_is P o p (q ∷ qs) = go (met_is P o q qs) (met_is P p q qs) (is_same p q) r
 
 pub last_of_dedup : (c : List Point) → 1 ≤ length (dedup c) → point_at (dedup c) (length (dedup c) - 1) ≡ last_of origin c
 unfolding dedup
-last_of_dedup c h = last_place (changes_after (last_of origin c) c) h ∙ changes_last (last_of origin c) c ∙ same_last origin c
+last_of_dedup c h = last_place (changes_after (last_of origin c) c) h ∙ changes_last (last_of origin c) c ∙ last_again origin c
   where
-    same_last : (q : Point) (c : List Point) → last_of (last_of q c) c ≡ last_of q c
-    same_last q [] = refl
-    same_last q (p ∷ c) = refl
-
     last_place : (d : List Point) → 1 ≤ length d → point_at d (length d - 1) ≡ last_of (last_of origin c) d
     last_place [] h = absurd (omega arith)
-    last_place (p ∷ ps) h = ap (λ (i : ℕ). get_or (p ∷ ps) i origin) (less_one (length ps)) ∙ last_at p ps
-      where
-        less_one : (n : ℕ) → suc n - 1 ≡ n
-        less_one n = omega arith
+    last_place (p ∷ ps) h = last_at p ps
 
 -- a walk over a contour, which starts with its last two points that differ and leaves out repeated ones, meets the turns of the contour without repeated points
 pub has_met : (P : Test) (c : List Point) (o : Point) → 3 ≤ length (dedup c) → o ≡ point_at (dedup c) (length (dedup c) - 2) → Has P (dedup c) ↔ Met P o (last_of origin c) c
@@ -133,6 +114,32 @@ has_met P c o h e = (λ x. subst (λ (X : Type 0). X) (sym same) (has_passed P (
   where
     same : Met P o (last_of origin c) c ≡ Passed P (point_at (dedup c) (length (dedup c) - 2)) (point_at (dedup c) (length (dedup c) - 1)) (dedup c)
     same = met_is P o (last_of origin c) c ∙ subst₂ (λ (x y : Point). Passed P o (last_of origin c) (dedup c) ≡ Passed P x y (dedup c)) e (sym (last_of_dedup c (omega arith))) refl
+
+-- n points have changed so far, p is the last of them, and the rest is still to come
+abbrev pub Changed : List Point → ℕ → Point → List Point → Type 0
+Changed c n p rest = n + length (changes_after p rest) ≡ length (dedup c)
+
+pub changed_start : (c : List Point) → Changed c 0 (last_of origin c) c
+unfolding dedup
+changed_start c = omega arith
+
+pub changed_skip : (c : List Point) (n : ℕ) (p q : Point) (rest : List Point) → is_same p q ≡ true → Changed c n p (q ∷ rest) → Changed c n p rest
+changed_skip c n p q rest e w = ap (λ (xs : List Point). n + length xs) (sym skipped) ∙ w
+  where
+    skipped : changes_after p (q ∷ rest) ≡ changes_after p rest
+    skipped = ap (λ (t : Bool). cond t (changes_after q rest) (q ∷ changes_after q rest)) e ∙ ap (λ (x : Point). changes_after x rest) (sym (same_yes p q e))
+
+pub changed_on : (c : List Point) (n : ℕ) (p q : Point) (rest : List Point) → is_same p q ≡ false → Changed c n p (q ∷ rest) → Changed c (n + 1) q rest
+changed_on c n p q rest e w = one_more n (length (changes_after q rest)) (length (dedup c)) (ap (λ (xs : List Point). n + length xs) (sym kept) ∙ w)
+  where
+    kept : changes_after p (q ∷ rest) ≡ q ∷ changes_after q rest
+    kept = ap (λ (t : Bool). cond t (changes_after q rest) (q ∷ changes_after q rest)) e
+
+    one_more : (n m k : ℕ) → n + suc m ≡ k → n + 1 + m ≡ k
+    one_more n m k e = omega arith
+
+pub changed_end : (c : List Point) (n : ℕ) (p : Point) → Changed c n p [] → n ≡ length (dedup c)
+changed_end c n p w = omega (arith, w)
 
 -- so a walk can tell whether it bulges
 pub bulges_by_walk : (c : List Point) (o : Point) → 3 ≤ length (dedup c) → o ≡ point_at (dedup c) (length (dedup c) - 2)

@@ -3,8 +3,8 @@ use Rattle.std.proofs.Common.{◌≡◌, zero, suc, [], ◌∷◌, ℤ, pos, neg
 use Rattle.std.proofs.lemmas.Int.{ints}
 use Rattle.i_shape_core.specs.Point.{Point, cross, dot, IsBack}
 use Rattle.i_shape_core.proofs.Polynomials.{Term, number, plus, times, minus, ring}
-use Rattle.i_shape_core.proofs.WholeNumbers.{zero_product, equal_of_difference, squares_not_negative, squares_zero, zero_of_positive, not_positive_of, add_zero}
-use Rattle.i_shape_core.proofs.Turns.{Place, coordinates, cross_term, dot_term, A, B, C, D, triangle, cross_reversed, dot_reversed, same_point, cross-same}
+use Rattle.i_shape_core.proofs.WholeNumbers.{zero_product, equal_of_difference, squares_not_negative, squares_zero, zero_of_positive, not_positive_of, sum_above, drop_last}
+use Rattle.i_shape_core.proofs.Turns.{Place, coordinates, cross_term, dot_term, A, B, C, D, triangle, zero_reversed, dot_reversed, same_point, cross-same}
 
 -- the square of the way from a to b
 pub square : Point → Point → ℤ
@@ -72,10 +72,7 @@ back_from_cases a b c (inr (inr h)) = (h.0, omega (arith, ints, h.1))
 
 -- ---- a straight point
 pub back_reversed : (a b c : Point) → IsBack c b a → IsBack a b c
-back_reversed a b c h = (zero_neg (cross a b c) (cross c b a) (cross_reversed a b c) h.0, subst (λ (d : ℤ). d ≤ℤ pos 0) (dot_reversed a b c) h.1)
-  where
-    zero_neg : (x y : ℤ) → y ≡ neg_ℤ x → y ≡ pos 0 → x ≡ pos 0
-    zero_neg x y e f = omega (arith, ints)
+back_reversed a b c h = (zero_reversed c b a h.0, subst (λ (d : ℤ). d ≤ℤ pos 0) (dot_reversed a b c) h.1)
 
 pub straight_cross : (x a p b : Point) → square a p *ℤ cross x a b ≡ (square a p +ℤ dot a p b) *ℤ cross x a p +ℤ dot x a p *ℤ cross a p b
 unfolding square cross dot
@@ -99,24 +96,15 @@ back_before_straight x a p b e l h = (
     s : ℤ
     s = square a p +ℤ dot a p b
 
-    sum_above : (q d : ℤ) → pos 0 ≤ℤ q → pos 0 <ℤ d → pos 0 <ℤ (q +ℤ d)
-    sum_above q d f g = omega (arith, ints)
-
     above : pos 0 <ℤ (square a p +ℤ dot a p b)
     above = sum_above (square a p) (dot a p b) (square_at_least a p) l
 
     times_zero : (a : ℤ) → a *ℤ pos 0 ≡ pos 0
     times_zero a = omega (arith, ints)
 
-    drop_last : (u v w z : ℤ) → u ≡ v +ℤ w *ℤ z → z ≡ pos 0 → u ≡ v
-    drop_last u v w z f g = f ∙ ap (λ (t : ℤ). v +ℤ w *ℤ t) g ∙ ap (λ (t : ℤ). v +ℤ t) (times_zero w) ∙ add_zero v
-
 pub back_after_straight : (a p b y : Point) → cross a p b ≡ pos 0 → pos 0 <ℤ dot a p b → IsBack a b y → IsBack p b y
 back_after_straight a p b y e l h =
-    back_reversed p b y (back_before_straight y b p a (neg_zero (cross a p b) (cross b p a) (cross_reversed a p b) e) (subst (λ (d : ℤ). pos 0 <ℤ d) (sym (dot_reversed a p b)) l) (back_reversed y b a h))
-  where
-    neg_zero : (x y : ℤ) → y ≡ neg_ℤ x → x ≡ pos 0 → y ≡ pos 0
-    neg_zero x y e f = omega (arith, ints)
+    back_reversed p b y (back_before_straight y b p a (zero_reversed a p b e) (subst (λ (d : ℤ). pos 0 <ℤ d) (sym (dot_reversed a p b)) l) (back_reversed y b a h))
 
 -- ---- a triangle without area
 three_dots : (a b c : Point) → (dot a b c +ℤ dot b c a) +ℤ dot c a b +ℤ ((dot a b c +ℤ dot b c a) +ℤ dot c a b) ≡ neg_ℤ ((square a b +ℤ square b c) +ℤ square c a)

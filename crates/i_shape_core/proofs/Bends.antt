@@ -1,9 +1,9 @@
 -- The walk that tells how a contour bends.
-use Rattle.std.proofs.Common.{◌≡◌, ◌≢◌, ℕ, suc, ◌+◌, ◌-◌, ◌<◌, ◌≤◌, List, [], ◌∷◌, length, drop, get_or, Option, Some, None, option_map, unwrap_or, ℤ, pos, refl, sym, ap, subst, ◌∙◌, arith, ◌⊎◌, inl, inr, ◌↔◌, Bool, true, false, cond, IsTrue}
+use Rattle.std.proofs.Common.{◌≡◌, ◌≢◌, ℕ, ◌+◌, ◌-◌, ◌<◌, ◌≤◌, List, [], ◌∷◌, length, drop, get_or, Some, None, ℤ, pos, refl, sym, ap, subst, ◌∙◌, arith, ◌⊎◌, inl, inr, ◌↔◌, true, false, IsTrue}
 use Rattle.std.proofs.lemmas.Int.{ints}
 use Rattle.i_shape_core.specs.Point.{Point, origin, cross}
 use Rattle.i_shape_core.specs.Contour.{Test, point_at}
-use Rattle.i_shape_core.specs.Convex.{is_same, changes_after, last_of, dedup, Bulges, Convex}
+use Rattle.i_shape_core.specs.Convex.{is_same, last_of, dedup, Bulges, Convex}
 use Rattle.i_shape_core.specs.IntPoint.{point_of, contour_of}
 use Rattle.i_shape_core.specs.declared.point.IntPoint.{IntPoint}
 use Rattle.i_shape_core.specs.Bend.{IsBend, joined}
@@ -12,9 +12,9 @@ use Rattle.i_shape_core.specs.declared.bend.Bend.TheVariants.{Straight, Left, Ri
 use Rattle.i_shape_core.proofs.Polynomials.{number, ring}
 use Rattle.i_shape_core.proofs.Turns.{A, B, cross_term, coordinates, cross-same}
 use Rattle.i_shape_core.proofs.ConvexLaws.{IsLeft, IsRight, IsReversed}
-use Rattle.i_shape_core.proofs.Around.{Passed, Met, met_is, last_of_dedup, bulges_by_walk}
-use Rattle.i_shape_core.proofs.Dedup.{same_yes}
-use Rattle.i_shape_core.proofs.Spikes.{last_differing, found, found_differing, differing-found, last_point, items, drop_past}
+use Rattle.i_shape_core.proofs.Around.{Passed, Met, Changed, changed_start, changed_skip, changed_on, changed_end, met_is, last_of_dedup, bulges_by_walk}
+use Rattle.i_shape_core.proofs.Contours.{rest-read, rest-none}
+use Rattle.i_shape_core.proofs.Spikes.{first_behind, Told, told-start, told-on, told-skip, told-met, found, found_differing, begins, few_differ}
 
 -- ---- the kinds of bend
 is-left : (o p q : Point) (b : Bend) → IsBend o p q b → (b ≡ Left) ↔ IsLeft o p q
@@ -71,50 +71,6 @@ clashes Reversal Left e = inr (inl refl, inl (inr refl))
 clashes Reversal Right e = inr (inl refl, inr (inr refl))
 clashes Reversal Reversal e = absurd (cc)
 
--- ---- where the walk starts: at the last point, and behind it the last that differs
-abbrev pub first_behind : List Point → Point
-first_behind c = last_differing (last_of origin c) (last_of origin c) c
-
--- a turn of the contour passes the test where S says that one did so far, or one does in what is left
-abbrev Told : Test → List Point → Type 0 → Point → Point → List Point → Type 0
-Told P c S o p rest = Met P (first_behind c) (last_of origin c) c ↔ (S ⊎ Met P o p rest)
-
-told-on : (P : Test) (c : List Point) (S T N : Type 0) (o p q : Point) (rest : List Point) → is_same p q ≡ false → N ↔ P o p q → T ↔ (S ⊎ N)
-    → Told P c S o p (q ∷ rest) → Told P c T p q rest
-told-on P c S T N o p q rest e n t w = (λ m. to (w.0 m), λ x. w.1 (from x))
-  where
-    same : Met P o p (q ∷ rest) ≡ (P o p q ⊎ Met P p q rest)
-    same = ap (λ (b : Bool). cond b (Met P o p rest) (P o p q ⊎ Met P p q rest)) e
-
-    now : P o p q ⊎ Met P p q rest → T ⊎ Met P p q rest
-    now (inl x) = inl (t.1 (inr (n.1 x)))
-    now (inr m) = inr m
-
-    to : S ⊎ Met P o p (q ∷ rest) → T ⊎ Met P p q rest
-    to (inl s) = inl (t.1 (inl s))
-    to (inr m) = now (subst (λ (X : Type 0). X) same m)
-
-    earlier : S ⊎ N → S ⊎ Met P o p (q ∷ rest)
-    earlier (inl s) = inl s
-    earlier (inr y) = inr (subst (λ (X : Type 0). X) (sym same) (inl (n.0 y)))
-
-    from : T ⊎ Met P p q rest → S ⊎ Met P o p (q ∷ rest)
-    from (inl y) = earlier (t.0 y)
-    from (inr m) = inr (subst (λ (X : Type 0). X) (sym same) (inr m))
-
-told-skip : (P : Test) (c : List Point) (S : Type 0) (o p q : Point) (rest : List Point) → is_same p q ≡ true → Told P c S o p (q ∷ rest) → Told P c S o p rest
-told-skip P c S o p q rest e w = subst (λ (X : Type 0). Met P (first_behind c) (last_of origin c) c ↔ (S ⊎ X)) same w
-  where
-    same : Met P o p (q ∷ rest) ≡ Met P o p rest
-    same = ap (λ (b : Bool). cond b (Met P o p rest) (P o p q ⊎ Met P p q rest)) e
-
--- one was met, before or here
-told-met : (P : Test) (c : List Point) (S N : Type 0) (o p q : Point) (rest : List Point) → is_same p q ≡ false → (N → P o p q)
-    → Told P c S o p (q ∷ rest) → S ⊎ N → Met P (first_behind c) (last_of origin c) c
-told-met P c S N o p q rest e n w (inl s) = w.1 (inl s)
-told-met P c S N o p q rest e n w (inr y) =
-    w.1 (inr (subst (λ (X : Type 0). X) (sym (ap (λ (b : Bool). cond b (Met P o p rest) (P o p q ⊎ Met P p q rest)) e)) (inl (n y))))
-
 -- ---- a contour that bends to a side has three points that differ
 flat_back : (a b : Point) → cross a b a ≡ pos 0
 unfolding cross
@@ -151,48 +107,35 @@ bulges_met c h = bulges_by_walk c (first_behind c) h (found c (last_of origin c)
 
 -- ---- the walk: n points have changed so far, o and p are the last two that differ, `seen` is how it has bent, and the rest is still to come
 pub record Bending (c : List Point) (seen : Bend) (n : ℕ) (o p : Point) (rest : List Point) : Type 0 where
-  pub changes : n + length (changes_after p rest) ≡ length (dedup c)
+  pub changes : Changed c n p rest
   pub left : Told IsLeft c (seen ≡ Left) o p rest
   pub right : Told IsRight c (seen ≡ Right) o p rest
   pub reversed : Told IsReversed c (seen ≡ Reversal) o p rest
 
 bending_start : (c : List Point) → Bending c Straight 0 (first_behind c) (last_of origin c) c
-unfolding dedup
 bending_start c = record {
-  changes = zero_plus (length (changes_after (last_of origin c) c));
-  left = (λ x. inr x, λ x. elim x [ inl e ↦ absurd (cc) | inr m ↦ m ]);
-  right = (λ x. inr x, λ x. elim x [ inl e ↦ absurd (cc) | inr m ↦ m ]);
-  reversed = (λ x. inr x, λ x. elim x [ inl e ↦ absurd (cc) | inr m ↦ m ]);
+  changes = changed_start c;
+  left = told-start IsLeft c (Straight ≡ Left) (λ e. cc);
+  right = told-start IsRight c (Straight ≡ Right) (λ e. cc);
+  reversed = told-start IsReversed c (Straight ≡ Reversal) (λ e. cc);
 }
-  where
-    zero_plus : (n : ℕ) → 0 + n ≡ n
-    zero_plus n = omega arith
 
 bending_skip : (c : List Point) (seen : Bend) (n : ℕ) (o p q : Point) (rest : List Point) → is_same p q ≡ true → Bending c seen n o p (q ∷ rest) → Bending c seen n o p rest
 bending_skip c seen n o p q rest e w = record {
-  changes = ap (λ (xs : List Point). n + length xs) (sym skipped) ∙ w.changes;
+  changes = changed_skip c n p q rest e w.changes;
   left = told-skip IsLeft c (seen ≡ Left) o p q rest e w.left;
   right = told-skip IsRight c (seen ≡ Right) o p q rest e w.right;
   reversed = told-skip IsReversed c (seen ≡ Reversal) o p q rest e w.reversed;
 }
-  where
-    skipped : changes_after p (q ∷ rest) ≡ changes_after p rest
-    skipped = ap (λ (t : Bool). cond t (changes_after q rest) (q ∷ changes_after q rest)) e ∙ ap (λ (x : Point). changes_after x rest) (sym (same_yes p q e))
 
 bending_on : (c : List Point) (seen b both : Bend) (n : ℕ) (o p q : Point) (rest : List Point) → is_same p q ≡ false → IsBend o p q b → joined seen b ≡ Some both
     → Bending c seen n o p (q ∷ rest) → Bending c both (n + 1) p q rest
 bending_on c seen b both n o p q rest e h j w = record {
-  changes = one_more n (length (changes_after q rest)) (length (dedup c)) (ap (λ (xs : List Point). n + length xs) (sym kept) ∙ w.changes);
+  changes = changed_on c n p q rest e w.changes;
   left = told-on IsLeft c (seen ≡ Left) (both ≡ Left) (b ≡ Left) o p q rest e (is-left o p q b h) (joins Left seen b both (λ f. absurd (cc)) j) w.left;
   right = told-on IsRight c (seen ≡ Right) (both ≡ Right) (b ≡ Right) o p q rest e (is-right o p q b h) (joins Right seen b both (λ f. absurd (cc)) j) w.right;
   reversed = told-on IsReversed c (seen ≡ Reversal) (both ≡ Reversal) (b ≡ Reversal) o p q rest e (is-reversed o p q b h) (joins Reversal seen b both (λ f. absurd (cc)) j) w.reversed;
 }
-  where
-    kept : changes_after p (q ∷ rest) ≡ q ∷ changes_after q rest
-    kept = ap (λ (t : Bool). cond t (changes_after q rest) (q ∷ changes_after q rest)) e
-
-    one_more : (n m k : ℕ) → n + suc m ≡ k → n + 1 + m ≡ k
-    one_more n m k e = omega arith
 
 -- two bends that do not join
 bending_clash : (c : List Point) (seen b : Bend) (n : ℕ) (o p q : Point) (rest : List Point) → is_same p q ≡ false → IsBend o p q b → joined seen b ≡ None
@@ -230,11 +173,8 @@ few_or_more m = grind arith
 bending_end : (c : List Point) (seen : Bend) (n : ℕ) (o p : Point) → Bending c seen n o p [] → ((n ≤ 2) ⊎ (seen ≢ Reversal)) ↔ Convex c
 bending_end c seen n o p w = (to, from)
   where
-    plus_zero : (n : ℕ) → n + 0 ≡ n
-    plus_zero n = omega arith
-
     count : n ≡ length (dedup c)
-    count = sym (plus_zero n) ∙ w.changes
+    count = changed_end c n p w.changes
 
     only : {S : Type 0} → S ⊎ ⊥ → S
     only (inl s) = s
@@ -262,12 +202,7 @@ bending_end c seen n o p w = (to, from)
 -- ---- over the points of a program
 pub bending_begins : {I : Type 0} (value : I → ℤ) (cs : List (IntPoint I)) (last behind : IntPoint I) → 0 < length cs → last ≡ get_or cs (length cs - 1) last
     → Some behind ≡ found_differing value last cs → Bending (contour_of value cs) Straight 0 (point_of value behind) (point_of value last) (contour_of value cs)
-bending_begins {I} value cs last behind h e f =
-    subst (λ (o : Point). Bending (contour_of value cs) Straight 0 o (point_of value last) (contour_of value cs)) at
-    (subst (λ (p : Point). Bending (contour_of value cs) Straight 0 (last_differing p p (contour_of value cs)) p (contour_of value cs)) (sym (last_point value cs last h e)) (bending_start (contour_of value cs)))
-  where
-    at : last_differing (point_of value last) (point_of value last) (contour_of value cs) ≡ point_of value behind
-    at = differing-found value last (point_of value last) cs ∙ ap (λ (r : Option (IntPoint I)). unwrap_or (option_map (point_of value) r) (point_of value last)) (sym f)
+bending_begins value cs last behind h e f = begins value cs last behind h e f (λ o p. Bending (contour_of value cs) Straight 0 o p (contour_of value cs)) (bending_start (contour_of value cs))
 
 pub bending_repeat : {I : Type 0} (value : I → ℤ) (cs : List (IntPoint I)) (seen : Bend) (n i : ℕ) (o p x : IntPoint I) → i < length cs → x ≡ get_or cs i x
     → is_same (point_of value p) (point_of value x) ≡ true
@@ -275,7 +210,7 @@ pub bending_repeat : {I : Type 0} (value : I → ℤ) (cs : List (IntPoint I)) (
     → Bending (contour_of value cs) seen n (point_of value o) (point_of value p) (contour_of value (drop (i + 1) cs))
 bending_repeat value cs seen n i o p x h e a w =
     bending_skip (contour_of value cs) seen n (point_of value o) (point_of value p) (point_of value x) (contour_of value (drop (i + 1) cs)) a
-    (subst (Bending (contour_of value cs) seen n (point_of value o) (point_of value p)) (items value cs i x h e) w)
+    (subst (Bending (contour_of value cs) seen n (point_of value o) (point_of value p)) (rest-read value cs i x h e) w)
 
 pub bending_item : {I : Type 0} (value : I → ℤ) (cs : List (IntPoint I)) (seen b both : Bend) (n i : ℕ) (o p x : IntPoint I) → i < length cs → x ≡ get_or cs i x
     → is_same (point_of value p) (point_of value x) ≡ false → IsBend (point_of value o) (point_of value p) (point_of value x) b → joined seen b ≡ Some both
@@ -283,7 +218,7 @@ pub bending_item : {I : Type 0} (value : I → ℤ) (cs : List (IntPoint I)) (se
     → Bending (contour_of value cs) both (n + 1) (point_of value p) (point_of value x) (contour_of value (drop (i + 1) cs))
 bending_item value cs seen b both n i o p x h e a k j w =
     bending_on (contour_of value cs) seen b both n (point_of value o) (point_of value p) (point_of value x) (contour_of value (drop (i + 1) cs)) a k j
-    (subst (Bending (contour_of value cs) seen n (point_of value o) (point_of value p)) (items value cs i x h e) w)
+    (subst (Bending (contour_of value cs) seen n (point_of value o) (point_of value p)) (rest-read value cs i x h e) w)
 
 pub clash_item : {I : Type 0} (value : I → ℤ) (cs : List (IntPoint I)) (seen b : Bend) (n i : ℕ) (o p x : IntPoint I) → i < length cs → x ≡ get_or cs i x
     → is_same (point_of value p) (point_of value x) ≡ false → IsBend (point_of value o) (point_of value p) (point_of value x) b → joined seen b ≡ None
@@ -291,13 +226,13 @@ pub clash_item : {I : Type 0} (value : I → ℤ) (cs : List (IntPoint I)) (seen
 clash_item value cs seen b n i o p x h e a k j w = (
   λ t. absurd (cc),
   λ s. absurd (bending_clash (contour_of value cs) seen b n (point_of value o) (point_of value p) (point_of value x) (contour_of value (drop (i + 1) cs)) a k j
-      (subst (Bending (contour_of value cs) seen n (point_of value o) (point_of value p)) (items value cs i x h e) w) s),
+      (subst (Bending (contour_of value cs) seen n (point_of value o) (point_of value p)) (rest-read value cs i x h e) w) s),
 )
 
 pub bending_over : {I : Type 0} (value : I → ℤ) (cs : List (IntPoint I)) (seen : Bend) (n i : ℕ) (o p : Point) → length cs ≤ i
     → Bending (contour_of value cs) seen n o p (contour_of value (drop i cs)) → ((n ≤ 2) ⊎ (seen ≢ Reversal)) ↔ Convex (contour_of value cs)
 bending_over value cs seen n i o p h w =
-    bending_end (contour_of value cs) seen n o p (subst (λ ds. Bending (contour_of value cs) seen n o p (contour_of value ds)) (drop_past cs i h) w)
+    bending_end (contour_of value cs) seen n o p (subst (Bending (contour_of value cs) seen n o p) (rest-none value cs i h) w)
 
 -- without points
 pub convex_without : {I : Type 0} (value : I → ℤ) (cs : List (IntPoint I)) → length cs ≤ 0 → IsTrue true ↔ Convex (contour_of value cs)
@@ -305,25 +240,10 @@ unfolding dedup
 convex_without value [] h = (λ t. inl (omega arith), λ s. refl)
 convex_without value (x ∷ xs) h = absurd (omega arith)
 
-two_numbers : pos 0 ≡ pos 1 → ⊥
-two_numbers k = omega (arith, ints)
-
 -- where no point differs from the last
 pub convex_alike : {I : Type 0} (value : I → ℤ) (cs : List (IntPoint I)) (last : IntPoint I) → 0 < length cs → last ≡ get_or cs (length cs - 1) last
     → None ≡ found_differing value last cs → IsTrue true ↔ Convex (contour_of value cs)
-convex_alike {I} value cs last h e f = (λ t. inl (few (length (dedup (contour_of value cs))) two), λ s. refl)
+convex_alike value cs last h e f = (λ t. inl (few (length (dedup (contour_of value cs))) (few_differ value cs last h e f)), λ s. refl)
   where
-    same : (o : Point) → last_differing (last_of origin (contour_of value cs)) o (contour_of value cs) ≡ o
-    same o = ap (λ (p : Point). last_differing p o (contour_of value cs)) (sym (last_point value cs last h e))
-        ∙ (differing-found value last o cs ∙ ap (λ (r : Option (IntPoint I)). unwrap_or (option_map (point_of value) r) o) (sym f))
-
-    two : 3 ≤ length (dedup (contour_of value cs)) → ⊥
-    two three =
-        let a : Point = record { x = pos 0; y = pos 0 } in
-        let b : Point = record { x = pos 1; y = pos 0 } in
-        let at = λ (o : Point). sym (same o) ∙ found (contour_of value cs) o (omega (arith, three)) in
-        let k : a ≡ b = at a ∙ sym (at b) in
-        two_numbers (ap (λ (p : Point). p.x) k)
-
     few : (m : ℕ) → (3 ≤ m → ⊥) → m ≤ 2
     few m n = elim (few_or_more m) [ inl k ↦ k | inr k ↦ absurd (n k) ]

@@ -1,13 +1,16 @@
 -- What a walk finds, and the answer that it gives.
-use Rattle.std.proofs.Common.{◌≡◌, ℕ, ◌<◌, ◌≤◌, List, [], ◌∷◌, length, Option, Some, None, sym, ◌∙◌, pos, refl, arith, ◌⊎◌, inl, inr}
+use Rattle.std.proofs.Common.{◌≡◌, ℕ, ◌<◌, ◌≤◌, List, [], ◌∷◌, length, Option, Some, None, option_map, sym, ◌∙◌, pos, refl, arith, ◌⊎◌, inl, inr}
+use Rattle.std.specs.List.{All}
+use Rattle.std.specs.Option.{IfSome}
 use Rattle.std.proofs.lemmas.Bool.{cases_lt}
 use Rattle.i_shape_core.specs.Point.{Point, IsZeroTurn, IsBack}
 use Rattle.i_shape_core.specs.Contour.{Test, Reach, stay, End, IsCollapsed}
 use Rattle.i_shape_core.specs.Walk.{WalkAnswer}
 use Rattle.i_shape_core.specs.Edges.{shoelace, area_of_edge}
-use Rattle.i_shape_core.specs.Answers.{SimpleAnswer, SpikelessAnswer, KeptAnswer, VisitsAnswer, IsKept, IsFlat}
-use Rattle.i_shape_core.proofs.CycleLaws.{every_order, straightens, agreed}
-use Rattle.i_shape_core.proofs.Straight.{reach_by_weaker}
+use Rattle.i_shape_core.specs.Answers.{SimpleAnswer, SpikelessAnswer, KeptAnswer, IsKept, IsFlat}
+use Rattle.i_shape_core.proofs.CycleLaws.{every_order, agreed}
+use Rattle.i_shape_core.proofs.Ends.{all_left, reach_by_weaker}
+use Rattle.i_shape_core.proofs.Survive.{straightens}
 use Rattle.i_shape_core.proofs.Spikes.{spikeless_end}
 use Rattle.i_shape_core.proofs.Edges as edges
 use Rattle.i_shape_core.proofs.Inside.{inside_laws}
@@ -43,9 +46,10 @@ pub kept_answer : (c : List Point) (r : Option (List Point)) (visits : ℕ) → 
 kept_answer c None visits w = flat c w.rest w.reached w.few
 kept_answer c (Some e) visits w = kept c e w.ended.reached
 
-pub visits_answer : (P : Test) (c : List Point) (r : Option (List Point)) (visits : ℕ) → WalkAnswer P c r visits → VisitsAnswer c r visits
-visits_answer P c None visits w = record { least = w.least; most = w.most }
-visits_answer P c (Some e) visits w = record { least = w.least; most = w.most }
+-- what holds of each point of the contour holds of each that is answered
+pub all_answered : (P : Test) {X : Type 0} (Q : Point → Type 0) (f : X → List Point) (c : List Point) (r : Option X) (visits : ℕ) → WalkAnswer P c (option_map f r) visits → All Q c → IfSome r (λ x. All Q (f x))
+all_answered P Q f c None visits w h = tt
+all_answered P Q f c (Some x) visits w h = all_left Q w.ended.reached h
 
 -- fewer than three points have collapsed before the first visit
 pub short_answer : (P : Test) (c : List Point) → length c < 3 → WalkAnswer P c None 0
@@ -53,7 +57,7 @@ short_answer P c h = record { rest = c; reached = stay; few = h; least = omega a
 
 -- the same where points are removed at which the way turns back
 pub spikeless_answer : (c : List Point) (r : Option (List Point)) (visits : ℕ) → WalkAnswer IsBack c r visits → SpikelessAnswer c r
-spikeless_answer c None visits w = λ e f. (every_order c).none w.rest e (reach_by_weaker straightens w.reached) w.few f
+spikeless_answer c None visits w = λ e f. (every_order c).none w.rest e (reach_by_weaker straightens.weaker w.reached) w.few f
 spikeless_answer c (Some d) visits w = record {
   ended = w.ended;
   enough = w.enough;
@@ -70,5 +74,5 @@ spikeless_answer c (Some d) visits w = record {
         go (inr h) = h
 
 pub kept_spikeless : (c : List Point) (r : Option (List Point)) (visits : ℕ) → WalkAnswer IsBack c r visits → KeptAnswer c r
-kept_spikeless c None visits w = flat c w.rest (reach_by_weaker straightens w.reached) w.few
-kept_spikeless c (Some d) visits w = kept c d (reach_by_weaker straightens w.ended.reached)
+kept_spikeless c None visits w = flat c w.rest (reach_by_weaker straightens.weaker w.reached) w.few
+kept_spikeless c (Some d) visits w = kept c d (reach_by_weaker straightens.weaker w.ended.reached)

@@ -1,40 +1,15 @@
 -- The removal of straight points keeps which way a contour turns.
-use Rattle.std.proofs.Common.{◌≡◌, ◌≢◌, ℕ, zero, suc, ◌+◌, ◌-◌, ◌<◌, List, length, remove, ℤ, pos, negsuc, ◌+ℤ◌, ◌*ℤ◌, neg_ℤ, ◌≤ℤ◌, ◌<ℤ◌, int_lt, T, refl, sym, ap, subst, ◌∙◌, arith, ◌⊎◌, inl, inr, ◌↔◌, true, false}
+use Rattle.std.proofs.Common.{◌≡◌, ◌≢◌, ℕ, zero, suc, ◌+◌, ◌-◌, ◌<◌, List, length, remove, ℤ, pos, negsuc, ◌+ℤ◌, ◌*ℤ◌, neg_ℤ, ◌≤ℤ◌, ◌<ℤ◌, int_lt, T, refl, sym, ap, subst, ◌∙◌, arith, ◌⊎◌, inl, inr, ◌↔◌}
 use Rattle.std.proofs.lemmas.Int.{ints}
 use Rattle.std.proofs.lemmas.List.Edits.{length-remove}
 use Rattle.i_shape_core.specs.Point.{Point, cross, dot, IsZeroTurn}
 use Rattle.i_shape_core.specs.Contour.{point_at, place_before, place_after, IsRemovable, Step, Reach, stay, step}
 use Rattle.i_shape_core.specs.Convex.{turn_at, TurnsOneWay}
-use Rattle.i_shape_core.proofs.Turns.{cross_reversed, dot_reversed}
+use Rattle.i_shape_core.proofs.Turns.{cross_reversed, zero_reversed, dot_reversed}
+use Rattle.i_shape_core.proofs.WholeNumbers.{Alike, alike_same, alike_scaled, sum_above, drop_last}
 use Rattle.i_shape_core.proofs.Back.{straight_cross, square, square_at_least, no_way, back_from_cases}
-use Rattle.i_shape_core.proofs.Survive.{HasNoBack, Follows, after_is, before_is, Stood, stood, stood_point, stood_within, follows_over, same_before, same_after, before_within, none_in_a_row, straight, one_neighbour, no_back_after_step}
-
--- both are below 0 or none is, and both are above 0 or none is
-pub record Alike (x y : ℤ) : Type 0 where
-  pub below : int_lt x (pos 0) ≡ int_lt y (pos 0)
-  pub above : int_lt (pos 0) x ≡ int_lt (pos 0) y
-
-alike_same : (x y : ℤ) → x ≡ y → Alike x y
-alike_same x y e = record { below = ap (λ (z : ℤ). int_lt z (pos 0)) e; above = ap (λ (z : ℤ). int_lt (pos 0) z) e }
-
-alike_scaled : (u v x y : ℤ) → pos 0 <ℤ u → pos 0 <ℤ v → v *ℤ x ≡ u *ℤ y → Alike x y
-alike_scaled (pos zero) v x y h k e = absurd (omega (arith, ints))
-alike_scaled (negsuc u) v x y h k e = absurd (omega (arith, ints))
-alike_scaled (pos (suc u)) (pos zero) x y h k e = absurd (omega (arith, ints))
-alike_scaled (pos (suc u)) (negsuc v) x y h k e = absurd (omega (arith, ints))
-alike_scaled (pos (suc u)) (pos (suc v)) (pos zero) (pos zero) h k e = alike_same (pos 0) (pos 0) refl
-alike_scaled (pos (suc u)) (pos (suc v)) (pos zero) (pos (suc n)) h k e = absurd (omega (arith, ints))
-alike_scaled (pos (suc u)) (pos (suc v)) (pos (suc m)) (pos zero) h k e = absurd (omega (arith, ints))
-alike_scaled (pos (suc u)) (pos (suc v)) (pos (suc m)) (pos (suc n)) h k e = record { below = sym (f (suc m)) ∙ f (suc n); above = sym (t m) ∙ t n }
-  where
-    f : (n : ℕ) → false ≡ int_lt (pos n) (pos 0)
-    f n = omega (arith, ints)
-
-    t : (n : ℕ) → true ≡ int_lt (pos 0) (pos (suc n))
-    t n = omega (arith, ints)
-alike_scaled (pos (suc u)) (pos (suc v)) (pos m) (negsuc n) h k e = absurd (omega (arith, ints))
-alike_scaled (pos (suc u)) (pos (suc v)) (negsuc m) (pos n) h k e = absurd (omega (arith, ints))
-alike_scaled (pos (suc u)) (pos (suc v)) (negsuc m) (negsuc n) h k e = record { below = refl; above = refl }
+use Rattle.i_shape_core.proofs.Places.{Follows, after_is, before_is, Stood, stood, stood_point, stood_within, follows_over, before_from, after_from, before_within, one_neighbour}
+use Rattle.i_shape_core.proofs.Survive.{HasNoBack, none_in_a_row, straight, no_back_after_step}
 
 below_negated : (x : ℤ) → int_lt (neg_ℤ x) (pos 0) ≡ int_lt (pos 0) x
 below_negated (pos zero) = refl
@@ -58,37 +33,19 @@ turn_before_straight x a p b e l apart = alike_scaled (square a p +ℤ dot a p b
     (sum_above (square a p) (dot a p b) (square_at_least a p) l) (above (square a p) (square_at_least a p) (λ z. apart (no_way a p z)))
     (drop_last (square a p *ℤ cross x a b) ((square a p +ℤ dot a p b) *ℤ cross x a p) (dot x a p) (cross a p b) (straight_cross x a p b) e)
   where
-    sum_above : (q d : ℤ) → pos 0 ≤ℤ q → pos 0 <ℤ d → pos 0 <ℤ (q +ℤ d)
-    sum_above q d f g = omega (arith, ints)
-
     above : (q : ℤ) → pos 0 ≤ℤ q → (q ≡ pos 0 → ⊥) → pos 0 <ℤ q
     above q f g = omega (arith, ints)
 
-    times_zero : (v a : ℤ) → v +ℤ a *ℤ pos 0 ≡ v
-    times_zero v a = omega (arith, ints)
-
-    drop_last : (u v w z : ℤ) → u ≡ v +ℤ w *ℤ z → z ≡ pos 0 → u ≡ v
-    drop_last u v w z f g = f ∙ ap (λ (t : ℤ). v +ℤ w *ℤ t) g ∙ times_zero v w
-
 turn_after_straight : (a p b y : Point) → cross a p b ≡ pos 0 → pos 0 <ℤ dot a p b → (b ≡ p → ⊥) → Alike (cross a b y) (cross p b y)
 turn_after_straight a p b y e l apart = alike_negated (cross y b a) (cross y b p) (cross a b y) (cross p b y) (cross_reversed y b a) (cross_reversed y b p)
-    (turn_before_straight y b p a (neg_zero (cross a p b) (cross b p a) (cross_reversed a p b) e) (subst (λ (d : ℤ). pos 0 <ℤ d) (sym (dot_reversed a p b)) l) apart)
-  where
-    neg_zero : (x y : ℤ) → y ≡ neg_ℤ x → x ≡ pos 0 → y ≡ pos 0
-    neg_zero x y e f = omega (arith, ints)
+    (turn_before_straight y b p a (zero_reversed a p b e) (subst (λ (d : ℤ). pos 0 <ℤ d) (sym (dot_reversed a p b)) l) apart)
 
 turn_in_a_row : (c : List Point) (q m s : ℕ) → q < length c → m < length c → Follows (length c) q m → Follows (length c) m s
     → turn_at c m ≡ cross (point_at c q) (point_at c m) (point_at c s)
 unfolding turn_at
-turn_in_a_row c q m s i l Q S = rw (before, after) refl
-  where
-    before : place_before (length c) m ≡ q
-    before = same_before (length c) (place_before (length c) m) m q (before_within (length c) m l) i (before_is (length c) m l) Q
+turn_in_a_row c q m s i l Q S = rw (before_from (length c) q m i l Q, after_from (length c) m s l S) refl
 
-    after : place_after (length c) m ≡ s
-    after = same_after (length c) m (place_after (length c) m) s (after_is (length c) m l) S
-
--- with q, m, g, s and t as in `unblocked`
+-- without a straight point: q, m and g are places and those of their neighbours that are left, s and t are the places after m and q
 turn_alike : (c : List Point) (k a m g q s t : ℕ) → HasNoBack c → IsRemovable IsZeroTurn c k → m < length c → q < length c
     → Follows (length c) k a → Follows (length c) m s → Follows (length c) q t
     → ((s ≡ k) × (g ≡ a)) ⊎ ((s ≢ k) × (g ≡ s)) → ((t ≡ k) × (m ≡ a)) ⊎ ((t ≢ k) × (m ≡ t))

@@ -1,17 +1,17 @@
 -- Convexity of a contour that is turned, read backwards, given a repeated point, or freed of zero turns.
-use Rattle.std.proofs.Common.{◌≡◌, ℕ, ◌<◌, ◌≤◌, List, [], ◌∷◌, ◌++◌, length, reverse, remove, ℤ, pos, neg_ℤ, ◌<ℤ◌, refl, sym, ap, subst, subst₂, ◌∙◌, arith, ◌⊎◌, inl, inr, ◌↔◌, Bool, true, cond}
+use Rattle.std.proofs.Common.{◌≡◌, ℕ, ◌<◌, ◌≤◌, List, [], ◌∷◌, ◌++◌, length, reverse, remove, ℤ, pos, neg_ℤ, ◌<ℤ◌, refl, sym, ap, subst, ◌∙◌, arith, ◌⊎◌, inl, inr, ◌↔◌, Bool, true, cond}
 use Rattle.std.proofs.lemmas.Int.{ints}
-use Rattle.std.proofs.lemmas.List.{length-reverse, reverse-append, reverse-reverse}
+use Rattle.std.proofs.lemmas.List.{length-reverse, reverse-reverse}
 use Rattle.i_shape_core.specs.Point.{Point, origin, cross, dot, IsZeroTurn}
 use Rattle.i_shape_core.specs.Contour.{Test, IsRemovable, Step, End, Rotation, SameEnd, collapsed, turned}
 use Rattle.i_shape_core.specs.Convex.{is_same, changes_after, last_of, dedup, turn_at, NoSpikes, Bulges, Convex}
-use Rattle.i_shape_core.proofs.Turns.{cross_reversed, dot_reversed}
-use Rattle.i_shape_core.proofs.Cycle.{first, last, Turn, turn_from_step, step_from_turn, step_of_rotated}
-use Rattle.i_shape_core.proofs.Reversal.{rotation_of_reversed, last_of_reversed, first_of_reversed}
-use Rattle.i_shape_core.proofs.Rotations.{rotation_sym, rotation_trans}
+use Rattle.i_shape_core.proofs.Turns.{cross_reversed, zero_reversed, dot_reversed}
+use Rattle.i_shape_core.proofs.Cycle.{turn_from_step, step_from_turn, step_of_rotated}
+use Rattle.i_shape_core.proofs.Reversal.{turn_of_reversed}
+use Rattle.i_shape_core.proofs.Rotations.{rotation_sym}
 use Rattle.i_shape_core.proofs.Ends.{has_end, reach_trans}
-use Rattle.i_shape_core.proofs.Repeats.{SameRing, few, ring, dedup_rotated, dedup_reversed}
-use Rattle.i_shape_core.proofs.Kept.{convex_of_reached, dedup_leads}
+use Rattle.i_shape_core.proofs.Repeats.{SameRing, few, ring, dedup_rotated, dedup_reversed, dedup_leads}
+use Rattle.i_shape_core.proofs.Kept.{convex_of_reached}
 use Rattle.i_shape_core.specs.Laws.{ConvexKept}
 use Rattle.i_shape_core.proofs.CycleLaws.{one_end, zero_turn_decided}
 use Rattle.i_shape_core.proofs.Dedup.{same_self}
@@ -40,18 +40,8 @@ has_reversed : {P Q : Test} → ((a b c : Point) → P a b c → Q c b a) → (c
 unfolding Has
 has_reversed {P} {Q} back c (k, h) =
     let s : Step P c (remove c k) = record { place = k; removable = h; left = refl } in
-    let m = step_from_turn (other (remove c k) (turn_from_step s)) in
+    let m = step_from_turn (turn_of_reversed back (turn_from_step s)) in
     (m.1.place, m.1.removable)
-  where
-    other : (d : List Point) → Turn P c d → Turn Q (reverse c) (reverse d)
-    other d t = record {
-      point = t.point;
-      rest = reverse t.rest;
-      start = rotation_trans (rotation_of_reversed t.start) (record { front = reverse t.rest; back = t.point ∷ []; before = reverse-append (t.point ∷ []) t.rest; after = refl });
-      two = omega (arith, length-reverse t.rest, t.two);
-      passes = subst₂ (λ (x y : Point). Q x t.point y) (sym (last_of_reversed t.rest (omega (arith, t.two)))) (sym (first_of_reversed t.rest (omega (arith, t.two)))) (back (last t.rest) t.point (first t.rest) t.passes);
-      finish = rotation_of_reversed t.finish;
-    }
 
 left_backwards : (a b c : Point) → IsLeft a b c → IsRight c b a
 left_backwards a b c h = go (cross a b c) (cross c b a) (cross_reversed a b c) h
@@ -66,10 +56,7 @@ right_backwards a b c h = go (cross a b c) (cross c b a) (cross_reversed a b c) 
     go x y e h = omega (arith, ints)
 
 reversed_backwards : (a b c : Point) → IsReversed a b c → IsReversed c b a
-reversed_backwards a b c h = (go (cross a b c) (cross c b a) (cross_reversed a b c) h.0, subst (λ (d : ℤ). d <ℤ pos 0) (sym (dot_reversed a b c)) h.1)
-  where
-    go : (x y : ℤ) → y ≡ neg_ℤ x → x ≡ pos 0 → y ≡ pos 0
-    go x y e h = omega (arith, ints)
+reversed_backwards a b c h = (zero_reversed a b c h.0, subst (λ (d : ℤ). d <ℤ pos 0) (sym (dot_reversed a b c)) h.1)
 
 -- of at least three points: it bulges where there is no reversal and not both a left and a right turn
 abbrev pub Plain : List Point → Type 0

@@ -1,10 +1,10 @@
 -- A step read on the cycle: the contour is turned until the removable point stands first.
-use Rattle.std.proofs.Common.{◌≡◌, ℕ, suc, ◌+◌, ◌-◌, ◌%◌, ◌<◌, ◌≤◌, List, [], ◌∷◌, ◌++◌, length, get_or, take, drop, refl, sym, ap, ◌∙◌, subst, arith, append_assoc, append-nil, length-append, get_or-append-add, mod-eq_of_lt, take_at, drop_at, length-take-le, subst₂, remove}
+use Rattle.std.proofs.Common.{◌≡◌, ℕ, suc, ◌+◌, ◌-◌, ◌<◌, ◌≤◌, List, [], ◌∷◌, ◌++◌, length, get_or, take, drop, refl, sym, ap, ◌∙◌, subst, arith, append_assoc, append-nil, length-append, get_or-append-add, take_at, drop_at, length-take-le, subst₂, remove}
 use Rattle.std.proofs.lemmas.List.{get_or_append_left, get_or_at}
-use native.Mathlib.Nat.{add-mod_right, mod_self}
 use lib.Seq.{split_at}
 use Rattle.i_shape_core.specs.Point.{Point, origin}
 use Rattle.i_shape_core.specs.Contour.{point_at, place_before, place_after, Test, IsRemovable, Step, Rotation}
+use Rattle.i_shape_core.proofs.Places.{before_first, before_later, after_earlier, after_last}
 use Rattle.i_shape_core.proofs.Rotations.{rotation_sym, rotation_trans, Cut, cut_from_rotation, rotation_from_cut}
 
 abbrev pub first : List Point → Point
@@ -19,9 +19,16 @@ last-append x y h =
     let e : length (x ++ y) - 1 ≡ length x + (length y - 1) = omega (arith, length-append x y) in
     ap (λ (n : ℕ). get_or (x ++ y) n origin) e ∙ get_or-append-add x y (length y - 1) origin
 
-pub first-append : (x y : List Point) → 0 < length x → first (x ++ y) ≡ first x
-first-append [] y h = absurd (omega arith)
-first-append (p ∷ x) y h = refl
+pub last-push : (x : List Point) (p : Point) → last (x ++ p ∷ []) ≡ p
+unfolding last
+last-push x p = last-append x (p ∷ []) (omega arith)
+
+-- what stands before a list's last point doesn't matter
+pub last_two : (l : List Point) (b x : Point) (a : List Point) → last (l ++ b ∷ x ∷ a) ≡ last (x ∷ a)
+last_two l b x a = last-append l (b ∷ x ∷ a) (omega arith) ∙ last-append (b ∷ []) (x ∷ a) (omega arith)
+
+pub last_over : (l : List Point) (r s : Point) (m : List Point) → last (l ++ r ∷ s ∷ m) ≡ last (l ++ s ∷ m)
+last_over l r s m = last_two l r s m ∙ sym (last-append l (s ∷ m) (omega arith))
 
 -- turned so that the point stands first, c is the point and the rest; d is the rest, turned
 pub record Turn (P : Test) (c d : List Point) : Type 0 where
@@ -32,22 +39,6 @@ pub record Turn (P : Test) (c d : List Point) : Type 0 where
   pub passes : P (last rest) point (first rest)
   pub finish : Rotation d rest
 
-place_before_first : (n : ℕ) → place_before (suc n) 0 ≡ n
-place_before_first n =
-    let e : 0 + (suc n - 1) ≡ n = omega arith in
-    ap (λ (m : ℕ). m % suc n) e ∙ mod-eq_of_lt (omega arith)
-
-place_before_later : (n k : ℕ) → suc k < n → place_before n (suc k) ≡ k
-place_before_later n k h =
-    let e : suc k + (n - 1) ≡ k + n = omega arith in
-    ap (λ (m : ℕ). m % n) e ∙ (add-mod_right k n ∙ mod-eq_of_lt (omega arith))
-
-place_after_last : (n k : ℕ) → n ≡ k + 1 → place_after n k ≡ 0
-place_after_last n k h = ap (λ (m : ℕ). m % n) (sym h) ∙ mod_self n
-
-place_after_earlier : (n k : ℕ) → k + 1 < n → place_after n k ≡ k + 1
-place_after_earlier n k h = mod-eq_of_lt h
-
 -- what stands at the three places round the seam
 pub at_seam : (u : List Point) (p : Point) (t : List Point) → point_at (u ++ p ∷ t) (length u) ≡ p
 at_seam u p t = get_or_at u p t origin (length u) refl
@@ -56,20 +47,20 @@ pub before_seam : (u : List Point) (p : Point) (t : List Point) → 0 < length (
 unfolding last
 before_seam [] p [] h = absurd (omega arith)
 before_seam [] p (q ∷ t) h =
-    let e : place_before (suc (suc (length t))) 0 ≡ suc (length t) = place_before_first (suc (length t)) in
+    let e : place_before (suc (suc (length t))) 0 ≡ suc (length t) = before_first (suc (suc (length t))) (omega arith) ∙ omega arith in
     let l : suc (length (t ++ [])) - 1 ≡ length t = omega (arith, length-append t []) in
     ap (λ (m : ℕ). get_or (p ∷ q ∷ t) m origin) e ∙ (ap (λ (z : List Point). get_or (q ∷ z) (length t) origin) (sym (append-nil t)) ∙ ap (λ (m : ℕ). get_or (q ∷ (t ++ [])) m origin) (sym l))
 before_seam (a ∷ u) p t h =
-    let e : place_before (length ((a ∷ u) ++ p ∷ t)) (suc (length u)) ≡ length u = place_before_later (length ((a ∷ u) ++ p ∷ t)) (length u) (omega (arith, length-append u (p ∷ t))) in
+    let e : place_before (length ((a ∷ u) ++ p ∷ t)) (suc (length u)) ≡ length u = before_later (length ((a ∷ u) ++ p ∷ t)) (length u) (omega (arith, length-append u (p ∷ t))) in
     let l : length (t ++ a ∷ u) - 1 ≡ length t + length u = omega (arith, length-append t (a ∷ u)) in
     ap (λ (m : ℕ). get_or ((a ∷ u) ++ p ∷ t) m origin) e ∙ (get_or_append_left (a ∷ u) (p ∷ t) origin (length u) (omega arith) ∙ (sym (get_or-append-add t (a ∷ u) (length u) origin) ∙ ap (λ (m : ℕ). get_or (t ++ a ∷ u) m origin) (sym l)))
 
 pub after_seam : (u : List Point) (p : Point) (t : List Point) → 0 < length (t ++ u) → point_at (u ++ p ∷ t) (place_after (length (u ++ p ∷ t)) (length u)) ≡ first (t ++ u)
 after_seam [] p [] h = absurd (omega arith)
 after_seam (a ∷ u) p [] h =
-    ap (λ (m : ℕ). get_or (a ∷ (u ++ p ∷ [])) m origin) (place_after_last (length ((a ∷ u) ++ p ∷ [])) (length (a ∷ u)) (omega (arith, length-append u (p ∷ []))))
+    ap (λ (m : ℕ). get_or (a ∷ (u ++ p ∷ [])) m origin) (after_last (length ((a ∷ u) ++ p ∷ [])) (length (a ∷ u)) (omega (arith, length-append u (p ∷ []))))
 after_seam u p (q ∷ t) h =
-    let e : place_after (length (u ++ p ∷ q ∷ t)) (length u) ≡ length u + 1 = place_after_earlier (length (u ++ p ∷ q ∷ t)) (length u) (omega (arith, length-append u (p ∷ q ∷ t))) in
+    let e : place_after (length (u ++ p ∷ q ∷ t)) (length u) ≡ length u + 1 = after_earlier (length (u ++ p ∷ q ∷ t)) (length u) (omega (arith, length-append u (p ∷ q ∷ t))) ∙ omega arith in
     ap (λ (m : ℕ). get_or (u ++ p ∷ q ∷ t) m origin) e ∙ (get_or-append-add u (p ∷ q ∷ t) 1 origin)
 
 -- the three points round place k of a contour that is cut there

@@ -1,19 +1,18 @@
 -- The laws of contours, with what the plane says.
-use Rattle.std.proofs.Common.{◌≡◌, ℕ, ◌<◌, ◌≤◌, List, length, ℤ, pos, ◌<ℤ◌, ◌≤ℤ◌, neg_ℤ, refl, arith, ◌⊎◌, inl, inr}
-use Rattle.std.proofs.lemmas.Int.{ints}
+use Rattle.std.proofs.Common.{◌≡◌, ℕ, ◌<◌, ◌≤◌, List, length, pos, refl, arith}
 use Rattle.std.proofs.Math.IntN.{ℤ_discrete}
-use Rattle.i_shape_core.specs.Point.{Point, cross, dot, IsZeroTurn, IsBack}
+use Rattle.i_shape_core.specs.Point.{Point, cross, IsZeroTurn, IsBack}
 use Rattle.i_shape_core.specs.Contour.{Test, IsRemovable, Reach, stay, step, End, Rotation, SameEnd, collapsed, turned, IsCollapsed}
-use Rattle.i_shape_core.proofs.TestLaws.{Decided, Slides, BothWays, Straightens}
-use Rattle.i_shape_core.proofs.Turns.{slide, cross_reversed}
-use Rattle.i_shape_core.proofs.Back.{low_or_above, back_before_straight, back_after_straight, flat_triangle}
+use Rattle.i_shape_core.proofs.TestLaws.{Decided, Slides, BothWays}
+use Rattle.i_shape_core.proofs.Turns.{slide, zero_reversed}
 use native.Mathlib.Decide.{dec_lt}
 use Rattle.i_shape_core.specs.Laws.{RotatedEnds, ReversedEnds, Twice, Agreed, EveryOrder, OneCertainEnd}
 use Rattle.i_shape_core.proofs.Certain as certain
 use Rattle.i_shape_core.proofs.Reversal.{reversed_alike}
-use Rattle.i_shape_core.proofs.Ends.{ends_alike, has_end, no_step}
-use Rattle.i_shape_core.proofs.Rotations.{rotation_refl}
-use Rattle.i_shape_core.proofs.Straight.{end_by_weaker, keeps_three, reach_by_weaker}
+use Rattle.i_shape_core.proofs.Ends as ends
+use Rattle.i_shape_core.proofs.Ends.{ends_alike, has_end, no_step, reach_by_weaker}
+use Rattle.i_shape_core.proofs.Straight.{end_by_weaker, keeps_three}
+use Rattle.i_shape_core.proofs.Survive.{straightens}
 
 pub zero_turn_decided : Decided IsZeroTurn
 zero_turn_decided a b c = ℤ_discrete (cross a b c) (pos 0)
@@ -22,34 +21,11 @@ pub zero_turn_slides : Slides IsZeroTurn
 zero_turn_slides = slide
 
 pub zero_turn_both_ways : BothWays IsZeroTurn
-zero_turn_both_ways a b c e = back (cross a b c) (cross c b a) (cross_reversed a b c) e
-  where
-    back : (x y : ℤ) → y ≡ neg_ℤ x → x ≡ pos 0 → y ≡ pos 0
-    back x y e f = omega (arith, ints)
-
-onward : (a p q : Point) → IsZeroTurn a p q → (IsBack a p q → ⊥) → pos 0 <ℤ dot a p q
-onward a p q z n = go (low_or_above (dot a p q))
-  where
-    go : (dot a p q ≤ℤ pos 0) ⊎ (pos 0 <ℤ dot a p q) → pos 0 <ℤ dot a p q
-    go (inl d) = absurd (n (z, d))
-    go (inr d) = d
-
-pub straightens : Straightens IsBack IsZeroTurn
-straightens = record {
-  weaker = λ a p q b. b.0;
-  keeps_ahead = λ x a p q z n m b. m (back_before_straight x a p q z (onward a p q z n) b);
-  keeps_behind = λ a p q b z n m k. m (back_after_straight a p q b z (onward a p q z n) k);
-  flat_triangle = λ a p q z n m k. triangle n m k (flat_triangle a p q z);
-}
-  where
-    triangle : {A B C : Type 0} → (A → ⊥) → (B → ⊥) → (C → ⊥) → A ⊎ (B ⊎ C) → ⊥
-    triangle f g h (inl x) = f x
-    triangle f g h (inr (inl x)) = g x
-    triangle f g h (inr (inr x)) = h x
+zero_turn_both_ways = zero_reversed
 
 -- two ends are one cycle, or have both collapsed
 pub one_end : (c e f : List Point) → End IsZeroTurn c e → End IsZeroTurn c f → SameEnd e f
-one_end c e f a b = ends_alike zero_turn_slides zero_turn_decided (rotation_refl c) a b
+one_end c e f a b = ends.one_end zero_turn_slides zero_turn_decided a b
 
 pub rotated_ends : (c d : List Point) → RotatedEnds c d
 rotated_ends c d r e f a b = ends_alike zero_turn_slides zero_turn_decided r a b
@@ -87,7 +63,7 @@ agreed c d = record {
 }
   where
     collapses : (e : List Point) → End IsBack c d → End IsZeroTurn c e → IsCollapsed d → IsCollapsed e
-    collapses e w a h = is_alone (one_end c d e (end_of_collapsed (reach_by_weaker straightens w.reached) h) a) h
+    collapses e w a h = is_alone (one_end c d e (end_of_collapsed (reach_by_weaker straightens.weaker w.reached) h) a) h
 
     stands : (e : List Point) → End IsBack c d → End IsZeroTurn c e → IsCollapsed e → IsCollapsed d
     stands e w a h = go (dec_lt (length d) 3)

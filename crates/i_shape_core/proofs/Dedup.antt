@@ -1,13 +1,12 @@
--- A contour without its repeated points is reached by removals, and has no repeated points.
-use Rattle.std.proofs.Common.{◌≡◌, ◌≢◌, ℕ, zero, suc, ◌-◌, ◌<◌, ◌≤◌, List, [], ◌∷◌, ◌++◌, length, get_or, remove, refl, sym, ap, subst, ◌∙◌, arith, inl, Bool, true, false, cond, ◌&&◌, append_assoc, length-append}
+-- A contour without its repeated points has none.
+use Rattle.std.proofs.Common.{◌≡◌, ◌≢◌, ℕ, zero, suc, ◌-◌, ◌<◌, ◌≤◌, List, [], ◌∷◌, ◌++◌, length, get_or, refl, sym, ap, subst, ◌∙◌, arith, Bool, true, false, cond, ◌&&◌, length-append}
 use Rattle.std.specs.Ordering.{int_eq}
 use Rattle.std.specs.Cmp.{signed_Decides}
-use Rattle.i_shape_core.specs.Point.{Point, origin, IsZeroTurn, IsBack}
-use Rattle.i_shape_core.specs.Contour.{point_at, place_before, place_after, Step, Reach, stay, step}
+use Rattle.i_shape_core.specs.Point.{Point, origin}
+use Rattle.i_shape_core.specs.Contour.{point_at, place_before, place_after}
 use Rattle.i_shape_core.specs.Convex.{is_same, changes_after, last_of, dedup}
 use Rattle.i_shape_core.proofs.Turns.{same_point}
-use Rattle.i_shape_core.proofs.Back.{back_from_cases}
-use Rattle.i_shape_core.proofs.Edges.{before_first, before_later}
+use Rattle.i_shape_core.proofs.Places.{before_first, before_later, before_from, after_is, after_within}
 
 -- ---- the test of two points
 both_true : (a b : Bool) → a && b ≡ true → (a ≡ true) × (b ≡ true)
@@ -77,30 +76,32 @@ fewer q (p ∷ ps) = go (fewer p ps) (is_same q p)
 abbrev pub IsApart : List Point → Type 0
 IsApart c = AllApart (last_of origin c) c
 
-last_any : (q r : Point) (ps : List Point) → 0 < length ps → last_of q ps ≡ last_of r ps
-last_any q r [] h = absurd (omega arith)
-last_any q r (p ∷ ps) h = refl
+pub last_again : (q : Point) (c : List Point) → last_of (last_of q c) c ≡ last_of q c
+last_again q [] = refl
+last_again q (p ∷ c) = refl
 
 pub dedup_apart : (c : List Point) → IsApart (dedup c)
 unfolding dedup
 dedup_apart c = go (changes_after (last_of origin c) c) (changes_apart (last_of origin c) c) (changes_last (last_of origin c) c)
   where
-    same_last : (q : Point) (c : List Point) → last_of (last_of q c) c ≡ last_of q c
-    same_last q [] = refl
-    same_last q (p ∷ c) = refl
-
     go : (d : List Point) → AllApart (last_of origin c) d → last_of (last_of origin c) d ≡ last_of (last_of origin c) c → AllApart (last_of origin d) d
     go [] a e = tt
-    go (p ∷ d) a e = subst (λ (x : Point). AllApart x (p ∷ d)) (sym (e ∙ same_last origin c)) a
+    go (p ∷ d) a e = subst (λ (x : Point). AllApart x (p ∷ d)) (sym (e ∙ last_again origin c)) a
 
 pub dedup-same : (c : List Point) → IsApart c → dedup c ≡ c
 unfolding dedup
 dedup-same c a = changes-same (last_of origin c) c a
 
 -- ---- by places
-pub last_at : (p : Point) (ps : List Point) → get_or (p ∷ ps) (length ps) origin ≡ last_of p ps
-last_at p [] = refl
-last_at p (q ∷ ps) = last_at q ps
+pub last_at : (p : Point) (ps : List Point) → get_or (p ∷ ps) (suc (length ps) - 1) origin ≡ last_of p ps
+last_at p ps = ap (λ (i : ℕ). get_or (p ∷ ps) i origin) (less_one (length ps)) ∙ from_end p ps
+  where
+    less_one : (n : ℕ) → suc n - 1 ≡ n
+    less_one n = omega arith
+
+    from_end : (p : Point) (ps : List Point) → get_or (p ∷ ps) (length ps) origin ≡ last_of p ps
+    from_end p [] = refl
+    from_end p (q ∷ ps) = from_end q ps
 
 apart_at : (q : Point) (ps : List Point) (k : ℕ) → k < length ps → AllApart q ps → get_or (q ∷ ps) k origin ≢ get_or ps k origin
 apart_at q [] k h a = absurd (omega arith)
@@ -113,30 +114,24 @@ apart_from q (p ∷ ps) h = (h 0 (omega arith), apart_from p ps (λ k l. h (suc 
 
 pub apart_places : (c : List Point) (k : ℕ) → IsApart c → k < length c → point_at c (place_before (length c) k) ≢ point_at c k
 apart_places [] k a h = absurd (omega arith)
-apart_places (p ∷ ps) zero a h = rw (before_first (suc (length ps)) (omega arith), suc_less (length ps), last_at p ps) a.0
-  where
-    suc_less : (n : ℕ) → suc n - 1 ≡ n
-    suc_less n = omega arith
+apart_places (p ∷ ps) zero a h = rw (before_first (suc (length ps)) (omega arith), last_at p ps) a.0
 apart_places (p ∷ ps) (suc k) a h = rw (before_later (suc (length ps)) k h) (apart_at p ps k (omega arith) a.1)
+
+pub next_differs : (c : List Point) (k : ℕ) → IsApart c → k < length c → point_at c k ≢ point_at c (place_after (length c) k)
+next_differs c k a h = subst (λ (i : ℕ). point_at c i ≢ point_at c (place_after (length c) k))
+    (before_from (length c) k (place_after (length c) k) h (after_within (length c) k h) (after_is (length c) k h))
+    (apart_places c (place_after (length c) k) a (after_within (length c) k h))
 
 pub apart_from_places : (c : List Point) → ((k : ℕ) → k < length c → point_at c (place_before (length c) k) ≢ point_at c k) → IsApart c
 apart_from_places [] h = tt
 apart_from_places (p ∷ ps) h = (first, apart_from p ps (λ k l. subst (λ (i : ℕ). get_or (p ∷ ps) i origin ≢ get_or ps k origin) (before_later (suc (length ps)) k (omega arith)) (h (suc k) (omega arith))))
   where
-    suc_less : (n : ℕ) → suc n - 1 ≡ n
-    suc_less n = omega arith
-
     first : last_of p ps ≢ p
-    first = subst (λ (q : Point). q ≢ p) (ap (λ (i : ℕ). get_or (p ∷ ps) i origin) (before_first (suc (length ps)) (omega arith) ∙ suc_less (length ps)) ∙ last_at p ps) (h 0 (omega arith))
+    first = subst (λ (q : Point). q ≢ p) (ap (λ (i : ℕ). get_or (p ∷ ps) i origin) (before_first (suc (length ps)) (omega arith)) ∙ last_at p ps) (h 0 (omega arith))
 
--- ---- it is reached by removals
 pub last_of_append : (q : Point) (u ps : List Point) → last_of q (u ++ ps) ≡ last_of (last_of q u) ps
 last_of_append q [] ps = refl
 last_of_append q (p ∷ u) ps = last_of_append p u ps
-
-pub at_seam : (u : List Point) (p : Point) (ps : List Point) → point_at (u ++ p ∷ ps) (length u) ≡ p
-at_seam [] p ps = refl
-at_seam (q ∷ u) p ps = at_seam u p ps
 
 before_seam : (q : Point) (u : List Point) (p : Point) (ps : List Point) → get_or (q ∷ (u ++ p ∷ ps)) (length u) origin ≡ last_of q u
 before_seam q [] p ps = refl
@@ -145,62 +140,5 @@ before_seam q (r ∷ u) p ps = before_seam r u p ps
 -- the point before place `length u` on the cycle
 pub before_part : (u : List Point) (p : Point) (ps : List Point)
     → point_at (u ++ p ∷ ps) (place_before (length (u ++ p ∷ ps)) (length u)) ≡ last_of (last_of p ps) u
-before_part [] p ps = rw (before_first (suc (length ps)) (omega arith), suc_less (length ps), last_at p ps) refl
-  where
-    suc_less : (n : ℕ) → suc n - 1 ≡ n
-    suc_less n = omega arith
+before_part [] p ps = rw (before_first (suc (length ps)) (omega arith), last_at p ps) refl
 before_part (q ∷ u) p ps = rw (before_later (suc (length (u ++ p ∷ ps))) (length u) (omega (arith, length-append u (p ∷ ps)))) (before_seam q u p ps)
-
-pub remove_at_seam : (u : List Point) (p : Point) (ps : List Point) → remove (u ++ p ∷ ps) (length u) ≡ u ++ ps
-remove_at_seam [] p ps = refl
-remove_at_seam (q ∷ u) p ps = ap (λ (xs : List Point). q ∷ xs) (remove_at_seam u p ps)
-
--- a point that equals the one before it is taken out
-pub repeat_step : (u : List Point) (p : Point) (ps : List Point) → 3 ≤ length (u ++ p ∷ ps) → last_of (last_of p ps) u ≡ p → Step IsBack (u ++ p ∷ ps) (u ++ ps)
-repeat_step u p ps h e = record {
-  place = length u;
-  removable = record {
-    enough = h;
-    within = omega (arith, length-append u (p ∷ ps));
-    passes = back_from_cases (point_at (u ++ p ∷ ps) (place_before (length (u ++ p ∷ ps)) (length u))) (point_at (u ++ p ∷ ps) (length u))
-        (point_at (u ++ p ∷ ps) (place_after (length (u ++ p ∷ ps)) (length u))) (inl (before_part u p ps ∙ e ∙ sym (at_seam u p ps)));
-  };
-  left = sym (remove_at_seam u p ps);
-}
-
--- q stands before the rest on the cycle
-part_reached : (u : List Point) (q : Point) (ps : List Point) → 3 ≤ length (u ++ changes_after q ps) → q ≡ last_of (last_of q ps) u → Reach IsBack (u ++ ps) (u ++ changes_after q ps)
-part_reached u q [] h e = stay
-part_reached u q (p ∷ ps) h e = go (part_reached u p ps) (part_reached (u ++ p ∷ []) p ps) (is_same q p) refl h
-  where
-    snoc : (u : List Point) (p : Point) (ps : List Point) → (u ++ p ∷ []) ++ ps ≡ u ++ p ∷ ps
-    snoc u p ps = append_assoc u (p ∷ []) ps
-
-    go : (3 ≤ length (u ++ changes_after p ps) → p ≡ last_of (last_of p ps) u → Reach IsBack (u ++ ps) (u ++ changes_after p ps))
-        → (3 ≤ length ((u ++ p ∷ []) ++ changes_after p ps) → p ≡ last_of (last_of p ps) (u ++ p ∷ []) → Reach IsBack ((u ++ p ∷ []) ++ ps) ((u ++ p ∷ []) ++ changes_after p ps))
-        → (t : Bool) → is_same q p ≡ t → 3 ≤ length (u ++ cond t (changes_after p ps) (p ∷ changes_after p ps))
-        → Reach IsBack (u ++ p ∷ ps) (u ++ cond t (changes_after p ps) (p ∷ changes_after p ps))
-    go skip keep true f l =
-        let g : p ≡ last_of (last_of p ps) u = sym (same_yes q p f) ∙ e in
-        step (repeat_step u p ps (omega (arith, length-append u (changes_after p ps), length-append u (p ∷ ps), fewer p ps)) (sym g)) (skip l g)
-    go skip keep false f l =
-        let r = keep (subst (λ (xs : List Point). 3 ≤ length xs) (sym (snoc u p (changes_after p ps))) l) (sym (last_of_append (last_of p ps) u (p ∷ []))) in
-        subst (λ (xs : List Point). Reach IsBack xs (u ++ p ∷ changes_after p ps)) (snoc u p ps)
-        (subst (λ (xs : List Point). Reach IsBack ((u ++ p ∷ []) ++ ps) xs) (snoc u p (changes_after p ps)) r)
-
--- where at least three points are left
-pub dedup_reached : (c : List Point) → 3 ≤ length (dedup c) → Reach IsBack c (dedup c)
-unfolding dedup
-dedup_reached c h = part_reached [] (last_of origin c) c h (sym (same_last origin c))
-  where
-    same_last : (q : Point) (c : List Point) → last_of (last_of q c) c ≡ last_of q c
-    same_last q [] = refl
-    same_last q (p ∷ c) = refl
-
-back_step_turns : (c d : List Point) → Step IsBack c d → Step IsZeroTurn c d
-back_step_turns c d s = record { place = s.place; removable = record { enough = s.removable.enough; within = s.removable.within; passes = s.removable.passes.0 }; left = s.left }
-
--- what is reached without points that go back is reached without zero turns
-pub back_reach_turns : (c d : List Point) → Reach IsBack c d → Reach IsZeroTurn c d
-back_reach_turns c d stay = stay
-back_reach_turns c d (step {d = m} s r) = step (back_step_turns c m s) (back_reach_turns m d r)

@@ -1,11 +1,11 @@
 -- What a sum over the edges of a contour becomes where a point is taken out.
-use Rattle.std.proofs.Common.{◌≡◌, ℕ, zero, suc, ◌+◌, ◌-◌, ◌%◌, ◌<◌, ◌≤◌, List, [], ◌∷◌, length, get_or, remove, ℤ, pos, ◌+ℤ◌, refl, sym, ap, ◌∙◌, arith, ◌⊎◌, inl, inr}
-use Rattle.std.proofs.Math.Nat.{mod-eq_of_lt, add-mod_right, mod_self}
+use Rattle.std.proofs.Common.{◌≡◌, ℕ, zero, suc, ◌<◌, ◌≤◌, List, [], ◌∷◌, length, get_or, remove, ℤ, pos, ◌+ℤ◌, refl, sym, ap, ◌∙◌, arith, inl, inr, eq-or-lt_of_le}
 use Rattle.std.proofs.lemmas.List.{get_or_default, get_or_past}
 use Rattle.std.proofs.lemmas.Int.{ints}
 use Rattle.i_shape_core.specs.Point.{Point, origin, IsZeroTurn}
 use Rattle.i_shape_core.specs.Contour.{point_at, place_before, place_after, Step, Reach, stay, step}
 use Rattle.i_shape_core.specs.Edges.{Edge, edges_between, edges, sum_of_edges, area_of_edge, shoelace}
+use Rattle.i_shape_core.proofs.Places.{before_first, before_later, after_earlier, after_last}
 use Rattle.i_shape_core.proofs.Turns.{edge, area_of_two}
 
 abbrev along : (Edge → ℤ) → Point → List Point → Point → ℤ
@@ -26,31 +26,12 @@ path_to : (f : Edge → ℤ) (a : Point) (bs : List Point) (y z : Point)
 path_to f a [] y z = omega (arith, ints)
 path_to f a (b ∷ bs) y z = let e = path_to f b bs y z in omega (arith, ints)
 
-pub before_first : (n : ℕ) → 0 < n → place_before n 0 ≡ n - 1
-before_first n h = mod-eq_of_lt (omega arith) ∙ omega arith
-
-pub before_later : (n j : ℕ) → suc j < n → place_before n (suc j) ≡ j
-before_later n j h = ap (λ (m : ℕ). m % n) (sum n j h) ∙ add-mod_right j n ∙ mod-eq_of_lt (omega arith)
-  where
-    sum : (n j : ℕ) → suc j < n → suc j + (n - 1) ≡ j + n
-    sum n j h = omega arith
-
-pub after_earlier : (n k : ℕ) → k + 1 < n → place_after n k ≡ suc k
-after_earlier n k h = mod-eq_of_lt h ∙ omega arith
-
-pub after_last : (n k : ℕ) → k + 1 ≡ n → place_after n k ≡ 0
-after_last n k e = ap (λ (m : ℕ). m % n) e ∙ mod_self n
-
 -- the place after a later one, as `path_without` reads it
 later_point : (x : Point) (bs : List Point) (j : ℕ) → j < length bs → point_at (x ∷ bs) (place_after (suc (length bs)) (suc j)) ≡ get_or bs (suc j) x
-later_point x bs j h = go (cases (suc j) (length bs) h)
-  where
-    cases : (m n : ℕ) → m ≤ n → (m < n) ⊎ (m ≡ n)
-    cases m n h = grind arith
-
-    go : (suc j < length bs) ⊎ (suc j ≡ length bs) → point_at (x ∷ bs) (place_after (suc (length bs)) (suc j)) ≡ get_or bs (suc j) x
-    go (inl l) = ap (λ (k : ℕ). point_at (x ∷ bs) k) (after_earlier (suc (length bs)) (suc j) (omega arith)) ∙ get_or_default bs (suc j) origin x l
-    go (inr e) = ap (λ (k : ℕ). point_at (x ∷ bs) k) (after_last (suc (length bs)) (suc j) (omega arith)) ∙ sym (get_or_past bs (suc j) x (omega arith))
+later_point x bs j h = elim (eq-or-lt_of_le (let l : suc j ≤ length bs = h in l)) [
+  | inl e ↦ ap (λ (k : ℕ). point_at (x ∷ bs) k) (after_last (suc (length bs)) (suc j) (omega arith)) ∙ sym (get_or_past bs (suc j) x (omega arith))
+  | inr l ↦ ap (λ (k : ℕ). point_at (x ∷ bs) k) (after_earlier (suc (length bs)) (suc j) (omega arith)) ∙ get_or_default bs (suc j) origin x l
+]
 
 -- the sums over the edges of a contour and of what is left without its point at place k differ by the edges at that point and the one that comes in their place
 pub sum_without : (f : Edge → ℤ) (c : List Point) (k : ℕ) → 2 ≤ length c → k < length c

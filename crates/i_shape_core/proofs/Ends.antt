@@ -1,5 +1,7 @@
 -- Each contour has an end, and one alone up to rotation.
-use Rattle.std.proofs.Common.{◌≡◌, ℕ, zero, suc, ◌<◌, ◌≤◌, ◌⊎◌, List, length, inl, inr, refl, ap, subst, arith, remove, length-append, length-drop, length-take, take, drop, eq-or-lt_of_le, le_of_suc-le-suc}
+use Rattle.std.proofs.Common.{◌≡◌, ℕ, zero, suc, ◌<◌, ◌≤◌, ◌⊎◌, List, length, inl, inr, refl, sym, ap, subst, arith, remove, length-append, length-drop, length-take, take, drop, eq-or-lt_of_le, le_of_suc-le-suc}
+use Rattle.std.specs.List.{All}
+use Rattle.std.proofs.lemmas.List.Elements.{All-append, All-take, All-drop}
 use native.Mathlib.Decide.{dec_le, dec_lt}
 use Rattle.i_shape_core.specs.Point.{Point}
 use Rattle.i_shape_core.specs.Contour.{Test, IsRemovable, Step, Reach, stay, step, End, Rotation, SameEnd, collapsed, turned, point_at, place_before, place_after}
@@ -20,14 +22,21 @@ pub reach_trans : {P : Test} {c d e : List Point} → Reach P c d → Reach P d 
 reach_trans stay s = s
 reach_trans (step a r) s = step a (reach_trans r s)
 
+-- what holds of each point holds of each that is left
+pub all_left : {P : Test} (Q : Point → Type 0) {c e : List Point} → Reach P c e → All Q c → All Q e
+all_left Q stay h = h
+all_left Q {c} (step s r) h =
+    all_left Q r (subst (All Q) (sym s.left) (All-append Q (take s.place c) (drop (suc s.place) c) (All-take Q s.place c h) (All-drop Q (suc s.place) c h)))
+
+-- what is reached by a test is reached by a weaker one
+pub reach_by_weaker : {B Z : Test} → ((a p q : Point) → B a p q → Z a p q) → {c e : List Point} → Reach B c e → Reach Z c e
+reach_by_weaker w stay = stay
+reach_by_weaker w (step s r) = step (record { place = s.place; removable = record { enough = s.removable.enough; within = s.removable.within; passes = w _ _ _ s.removable.passes }; left = s.left }) (reach_by_weaker w r)
+
 pub end_of_step : {P : Test} {c d e : List Point} → Step P c d → End P d e → End P c e
 end_of_step s w = record { reached = step s w.reached; none_left = w.none_left }
 
--- what is alike is alike both ways and on
-pub same_end_sym : {e f : List Point} → SameEnd e f → SameEnd f e
-same_end_sym (collapsed a b) = collapsed b a
-same_end_sym (turned a b r) = turned b a (rotation_sym r)
-
+-- what is alike is alike on
 pub same_end_trans : {e f g : List Point} → SameEnd e f → SameEnd f g → SameEnd e g
 same_end_trans (collapsed a b) (collapsed x y) = collapsed a y
 same_end_trans (collapsed a b) (turned x y r) = absurd (omega arith)

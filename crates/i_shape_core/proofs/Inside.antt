@@ -1,5 +1,5 @@
 -- Whether a point lies inside a contour, where zero turns are taken out.
-use Rattle.std.proofs.Common.{◌≡◌, ℕ, zero, suc, ◌+◌, ◌*◌, ◌%◌, ◌<◌, List, [], ◌∷◌, length, remove, ℤ, pos, negsuc, ◌+ℤ◌, ◌-ℤ◌, ◌*ℤ◌, neg_ℤ, ◌<ℤ◌, ◌≤ℤ◌, refl, sym, ap, ◌∙◌, arith, ◌↔◌, Bool, true, false, cond, int_lt, count_by}
+use Rattle.std.proofs.Common.{◌≡◌, ℕ, ◌+◌, ◌*◌, ◌%◌, ◌<◌, List, [], ◌∷◌, length, remove, ℤ, pos, ◌+ℤ◌, ◌-ℤ◌, ◌*ℤ◌, neg_ℤ, ◌<ℤ◌, ◌≤ℤ◌, refl, sym, ap, ◌∙◌, arith, ◌↔◌, Bool, true, false, cond, int_lt, count_by}
 use Rattle.std.proofs.lemmas.Int.{ints}
 use Rattle.std.proofs.lemmas.List.Sums.{sum_by-cons}
 use Rattle.i_shape_core.specs.Point.{Point, cross, IsZeroTurn}
@@ -8,31 +8,8 @@ use Rattle.i_shape_core.specs.Edges.{Edge, edges, sum_of_edges, is_right, Inside
 use Rattle.i_shape_core.specs.Laws.{InsideKept}
 use Rattle.i_shape_core.proofs.Polynomials.{variable, plus, times, minus, ring}
 use Rattle.i_shape_core.proofs.Turns.{edge, coordinates, cross_term, A, B, C, D, triangle, cross_reversed}
+use Rattle.i_shape_core.proofs.WholeNumbers.{alike_scaled, drop_last}
 use Rattle.i_shape_core.proofs.Edges.{sum_without}
-
-not_below : (m : ℕ) → false ≡ int_lt (pos m) (pos 0)
-not_below m = omega (arith, ints)
-
--- the products of numbers above 0 with two others are equal: then those are both below 0 or both not
-alike : (u v x y : ℤ) → pos 0 <ℤ u → pos 0 <ℤ v → v *ℤ x ≡ u *ℤ y → int_lt x (pos 0) ≡ int_lt y (pos 0)
-alike (pos zero) v x y h k e = absurd (omega (arith, ints))
-alike (negsuc u) v x y h k e = absurd (omega (arith, ints))
-alike (pos (suc u)) (pos zero) x y h k e = absurd (omega (arith, ints))
-alike (pos (suc u)) (negsuc v) x y h k e = absurd (omega (arith, ints))
-alike (pos (suc u)) (pos (suc v)) (pos m) (pos n) h k e = sym (not_below m) ∙ not_below n
-alike (pos (suc u)) (pos (suc v)) (pos m) (negsuc n) h k e = absurd (omega (arith, ints))
-alike (pos (suc u)) (pos (suc v)) (negsuc m) (pos n) h k e = absurd (omega (arith, ints))
-alike (pos (suc u)) (pos (suc v)) (negsuc m) (negsuc n) h k e = refl
-
-alike_negative : (u v x y : ℤ) → u <ℤ pos 0 → v <ℤ pos 0 → v *ℤ x ≡ u *ℤ y → int_lt x (pos 0) ≡ int_lt y (pos 0)
-alike_negative (pos u) v x y h k e = absurd (omega (arith, ints))
-alike_negative (negsuc u) (pos v) x y h k e = absurd (omega (arith, ints))
-alike_negative (negsuc u) (negsuc v) (pos m) (pos n) h k e = sym (not_below m) ∙ not_below n
-alike_negative (negsuc u) (negsuc v) (pos zero) (negsuc n) h k e = absurd (omega (arith, ints))
-alike_negative (negsuc u) (negsuc v) (pos (suc m)) (negsuc n) h k e = absurd (omega (arith, ints))
-alike_negative (negsuc u) (negsuc v) (negsuc m) (pos zero) h k e = absurd (omega (arith, ints))
-alike_negative (negsuc u) (negsuc v) (negsuc m) (pos (suc n)) h k e = absurd (omega (arith, ints))
-alike_negative (negsuc u) (negsuc v) (negsuc m) (negsuc n) h k e = refl
 
 -- with the ways from a and b to c and from p to c
 height : (a b c p : Point) → (c.y -ℤ b.y) *ℤ cross a p c ≡ (c.y -ℤ a.y) *ℤ cross b p c +ℤ (c.y -ℤ p.y) *ℤ cross a b c
@@ -41,32 +18,22 @@ height a b c p = ring (coordinates (a ∷ b ∷ c ∷ p ∷ []))
     (times (plus C.y (minus B.y)) (cross_term A D C))
     (plus (times (plus C.y (minus A.y)) (cross_term B D C)) (times (plus C.y (minus D.y)) (cross_term A B C))) refl
 
-without_zero : (u v w x y z : ℤ) → v *ℤ x ≡ u *ℤ y +ℤ w *ℤ z → z ≡ pos 0 → v *ℤ x ≡ u *ℤ y
-without_zero u v w x y z e f = e ∙ ap (λ (t : ℤ). u *ℤ y +ℤ w *ℤ t) f ∙ plus_zero (u *ℤ y) w
-  where
-    plus_zero : (a w : ℤ) → a +ℤ w *ℤ pos 0 ≡ a
-    plus_zero a w = omega (arith, ints)
-
 -- on one line: c is above p, a and b are not
 right_low : (a b c p : Point) → cross a b c ≡ pos 0 → a.y ≤ℤ p.y → b.y ≤ℤ p.y → p.y <ℤ c.y → int_lt (cross a p c) (pos 0) ≡ int_lt (cross b p c) (pos 0)
-right_low a b c p e f g h = alike (c.y -ℤ a.y) (c.y -ℤ b.y) (cross a p c) (cross b p c) (omega (arith, ints)) (omega (arith, ints))
-    (without_zero (c.y -ℤ a.y) (c.y -ℤ b.y) (c.y -ℤ p.y) (cross a p c) (cross b p c) (cross a b c) (height a b c p) e)
+right_low a b c p e f g h = (alike_scaled (c.y -ℤ a.y) (c.y -ℤ b.y) (cross a p c) (cross b p c) (omega (arith, ints)) (omega (arith, ints))
+    (drop_last ((c.y -ℤ b.y) *ℤ cross a p c) ((c.y -ℤ a.y) *ℤ cross b p c) (c.y -ℤ p.y) (cross a b c) (height a b c p) e)).below
 
 -- and the other way round
 right_high : (a b c p : Point) → cross a b c ≡ pos 0 → p.y <ℤ a.y → p.y <ℤ b.y → c.y ≤ℤ p.y → int_lt (cross c p a) (pos 0) ≡ int_lt (cross c p b) (pos 0)
-right_high a b c p e f g h = alike_negative (c.y -ℤ a.y) (c.y -ℤ b.y) (cross c p a) (cross c p b) (omega (arith, ints)) (omega (arith, ints))
-    (turned (c.y -ℤ b.y) (c.y -ℤ a.y) (cross a p c) (cross b p c) (cross c p a) (cross c p b)
-    (without_zero (c.y -ℤ a.y) (c.y -ℤ b.y) (c.y -ℤ p.y) (cross a p c) (cross b p c) (cross a b c) (height a b c p) e)
-    (cross_reversed a p c) (cross_reversed b p c))
+right_high a b c p e f g h = (alike_scaled (a.y -ℤ c.y) (b.y -ℤ c.y) (cross c p a) (cross c p b) (omega (arith, ints)) (omega (arith, ints)) turned).below
   where
-    turned : (v u x y x' y' : ℤ) → v *ℤ x ≡ u *ℤ y → x' ≡ neg_ℤ x → y' ≡ neg_ℤ y → v *ℤ x' ≡ u *ℤ y'
-    turned v u x y x' y' e f g = rw (f, g) (flipped v u x y e)
-      where
-        flipped : (v u x y : ℤ) → v *ℤ x ≡ u *ℤ y → v *ℤ neg_ℤ x ≡ u *ℤ neg_ℤ y
-        flipped v u x y e = mul_neg v x ∙ ap neg_ℤ e ∙ sym (mul_neg u y)
-          where
-            mul_neg : (a b : ℤ) → a *ℤ neg_ℤ b ≡ neg_ℤ (a *ℤ b)
-            mul_neg a b = ring (a ∷ b ∷ []) (times (variable 0) (minus (variable 1))) (minus (times (variable 0) (variable 1))) refl
+    flipped : (s t x : ℤ) → (s -ℤ t) *ℤ neg_ℤ x ≡ (t -ℤ s) *ℤ x
+    flipped s t x = ring (s ∷ t ∷ x ∷ []) (times (plus (variable 0) (minus (variable 1))) (minus (variable 2))) (times (plus (variable 1) (minus (variable 0))) (variable 2)) refl
+
+    turned : (b.y -ℤ c.y) *ℤ cross c p a ≡ (a.y -ℤ c.y) *ℤ cross c p b
+    turned = rw (cross_reversed a p c, cross_reversed b p c) (flipped b.y c.y (cross a p c)
+        ∙ drop_last ((c.y -ℤ b.y) *ℤ cross a p c) ((c.y -ℤ a.y) *ℤ cross b p c) (c.y -ℤ p.y) (cross a b c) (height a b c p) e
+        ∙ sym (flipped a.y c.y (cross b p c)))
 
 -- 1 for an edge to the right of p
 abbrev pub bit : Bool → ℕ

@@ -1,25 +1,12 @@
 -- What the ends of a contour without spikes have in common with it.
-use Rattle.std.proofs.Common.{◌≡◌, ◌≢◌, ℕ, ◌<◌, ◌≤◌, List, length, pos, ◌<ℤ◌, sym, ap, subst, arith, ◌⊎◌, inl, inr, ◌↔◌}
+use Rattle.std.proofs.Common.{◌≡◌, ℕ, ◌≤◌, List, length, pos, ◌<ℤ◌, sym, ap, subst, arith, ◌⊎◌, inl, inr, ◌↔◌}
 use Rattle.i_shape_core.specs.Point.{Point, cross, dot, IsZeroTurn, IsBack}
-use Rattle.i_shape_core.specs.Contour.{point_at, place_before, place_after, IsRemovable, Reach, End}
+use Rattle.i_shape_core.specs.Contour.{point_at, place_before, place_after, IsRemovable, End}
 use Rattle.i_shape_core.specs.Convex.{dedup, turn_at, IsReversal, NoSpikes, TurnsOneWay, Bulges, Convex}
 use Rattle.i_shape_core.proofs.Back.{back_cases, cross_same-first}
-use Rattle.i_shape_core.proofs.Survive.{HasNoBack, no_back_kept, Follows, after_is, before_is, same_before, before_within}
+use Rattle.i_shape_core.proofs.Survive.{HasNoBack, no_back_kept}
 use Rattle.i_shape_core.proofs.Convex.{one_way_kept}
-use Rattle.i_shape_core.proofs.Dedup.{IsApart, dedup_apart, dedup-same, apart_places, apart_from_places, dedup_reached, back_reach_turns}
-
-within : (n k a : ℕ) → k < n → Follows n k a → a < n
-within n k a h A = grind arith
-
-pub next_differs : (c : List Point) (k : ℕ) → IsApart c → k < length c → point_at c k ≢ point_at c (place_after (length c) k)
-next_differs c k a h = subst (λ (i : ℕ). point_at c i ≢ point_at c (place_after (length c) k)) back (apart_places c (place_after (length c) k) a in_after)
-  where
-    in_after : place_after (length c) k < length c
-    in_after = within (length c) k (place_after (length c) k) h (after_is (length c) k h)
-
-    back : place_before (length c) (place_after (length c) k) ≡ k
-    back = same_before (length c) (place_before (length c) (place_after (length c) k)) (place_after (length c) k) k
-        (before_within (length c) (place_after (length c) k) in_after) h (before_is (length c) (place_after (length c) k) in_after) (after_is (length c) k h)
+use Rattle.i_shape_core.proofs.Dedup.{IsApart, dedup_apart, dedup-same, apart_places, apart_from_places, next_differs}
 
 no_back : (c : List Point) → 3 ≤ length c → IsApart c → ((k : ℕ) → IsReversal c k → ⊥) → HasNoBack c
 unfolding turn_at
@@ -33,10 +20,6 @@ no_back c h a r = record { enough = h; none = λ k b. go k b (back_cases (point_
 
 pub spikeless_no_back : (c : List Point) → NoSpikes c → HasNoBack (dedup c)
 spikeless_no_back c h = no_back (dedup c) h.enough (dedup_apart c) h.none
-
--- a contour without spikes leads to itself without repeated points, and from there no way collapses
-pub dedup_leads : (c : List Point) → 3 ≤ length (dedup c) → Reach IsZeroTurn c (dedup c)
-dedup_leads c h = back_reach_turns c (dedup c) (dedup_reached c h)
 
 -- a contour without zero turns has no repeated points and no reversals
 apart_end : (e : List Point) → 3 ≤ length e → ((k : ℕ) → IsRemovable IsZeroTurn e k → ⊥) → IsApart e

@@ -11,6 +11,7 @@ pub mod Contours
 pub mod TestLaws
 pub mod Lists
 pub mod Rotations
+pub mod Places
 pub mod Cycle
 pub mod Meets
 pub mod Ends
@@ -38,7 +39,6 @@ pub mod RingStates
 pub mod Walked
 pub mod Around
 pub mod Spikes
-pub mod Areas
 pub mod LastEdge
 -- measures
 pub mod Compared

@@ -1,10 +1,10 @@
 -- Two steps from one cycle meet again.
-use Rattle.std.proofs.Common.{◌≡◌, ◌<◌, ◌≤◌, ◌⊎◌, List, [], ◌∷◌, ◌++◌, length, inl, inr, refl, sym, ap, ◌∙◌, subst, arith, append-nil, length-append}
+use Rattle.std.proofs.Common.{◌≡◌, ◌<◌, ◌≤◌, ◌⊎◌, List, [], ◌∷◌, ◌++◌, length, inl, inr, refl, sym, ap, subst, arith, append-nil, length-append}
 use Rattle.i_shape_core.specs.Point.{Point}
 use Rattle.i_shape_core.specs.Contour.{Test, Rotation, IsCollapsed}
 use Rattle.i_shape_core.proofs.TestLaws.{Slides}
 use Rattle.i_shape_core.proofs.Rotations.{rotation_refl, rotation_sym, rotation_trans, rotation_length}
-use Rattle.i_shape_core.proofs.Cycle.{first, last, last-append, Turn, turn_of_rotated}
+use Rattle.i_shape_core.proofs.Cycle.{first, last, last-append, last-push, last_over, Turn, turn_of_rotated}
 
 -- d and e are the same cycle, or both have collapsed, or one step more leads from both to one cycle
 pub data Meets (P : Test) (d e : List Point) : Type 0 where
@@ -30,19 +30,16 @@ apart {P} p q x y u v a b = common ((y ∷ v) ++ (x ∷ u)) (record {
   rest = (y ∷ v) ++ (x ∷ u);
   start = record { front = x ∷ u; back = q ∷ y ∷ v; before = refl; after = refl };
   two = omega (arith, length-append v (x ∷ u));
-  passes = subst (λ (z : Point). P z q y) (e (y ∷ v) p x u) b;
+  passes = subst (λ (z : Point). P z q y) (last_over (y ∷ v) p x u) b;
   finish = rotation_refl _;
 }) (record {
   point = p;
   rest = (x ∷ u) ++ (y ∷ v);
   start = record { front = y ∷ v; back = p ∷ x ∷ u; before = refl; after = refl };
   two = omega (arith, length-append u (y ∷ v));
-  passes = subst (λ (z : Point). P z p x) (e (x ∷ u) q y v) a;
+  passes = subst (λ (z : Point). P z p x) (last_over (x ∷ u) q y v) a;
   finish = record { front = y ∷ v; back = x ∷ u; before = refl; after = refl };
 })
-  where
-    e : (l : List Point) (r s : Point) (m : List Point) → last (l ++ r ∷ s ∷ m) ≡ last (l ++ s ∷ m)
-    e l r s m = last-append l (r ∷ s ∷ m) (omega arith) ∙ (last-append (r ∷ []) (s ∷ m) (omega arith) ∙ sym (last-append l (s ∷ m) (omega arith)))
 
 -- p and q stand side by side, with v from q on round to p
 beside : {P : Test} → Slides P → (p q : Point) (v : List Point) → 0 < length v →
@@ -51,7 +48,7 @@ beside sl p q [] h a b = absurd (omega arith)
 beside sl p q (y ∷ []) h a b = small (omega arith) (omega arith)
 beside {P} sl p q (y ∷ z ∷ v) h a b = go (sl (last (y ∷ z ∷ v)) p q y
     (subst (λ (w : Point). P w p q) (last-append (q ∷ []) (y ∷ z ∷ v) (omega arith)) a)
-    (subst (λ (w : Point). P w q y) (last-append (y ∷ z ∷ v) (p ∷ []) (omega arith) ∙ unfold last in refl) b))
+    (subst (λ (w : Point). P w q y) (last-push (y ∷ z ∷ v) p) b))
   where
     go : (p ≡ q) ⊎ (P (last (y ∷ z ∷ v)) q y × P (last (y ∷ z ∷ v)) p y) → Meets P (q ∷ y ∷ z ∷ v) ((y ∷ z ∷ v) ++ p ∷ [])
     go (inl e) = same (record { front = q ∷ []; back = y ∷ z ∷ v; before = refl; after = ap (λ (w : Point). (y ∷ z ∷ v) ++ w ∷ []) e })

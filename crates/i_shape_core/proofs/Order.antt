@@ -3,6 +3,7 @@ use Rattle.std.proofs.Common.{◌≡◌, ◌⊎◌, List, [], ◌∷◌, ℤ, �
 use Rattle.std.proofs.lemmas.Int.{ints, by_lt_z}
 use Rattle.i_shape_core.specs.Point.{Point}
 use Rattle.i_shape_core.specs.Canonical.{IsBefore, IsAtMost}
+use Rattle.i_shape_core.proofs.Turns.{same_point}
 
 pub data Order3 (p q : Point) : Type 0 where
   less : IsBefore p q → Order3 p q
@@ -14,9 +15,6 @@ before_by_x p q h = inl h
 
 before_by_y : (p q : Point) → p.x ≡ q.x → p.y <ℤ q.y → IsBefore p q
 before_by_y p q e h = inr (e, h)
-
-same_point : (p q : Point) → p.x ≡ q.x → p.y ≡ q.y → p ≡ q
-same_point p q e f = λ i. record { x = e i; y = f i }
 
 antisym_z : (a b : ℤ) → a ≤ℤ b → b ≤ℤ a → a ≡ b
 antisym_z a b h k = omega (arith, ints)

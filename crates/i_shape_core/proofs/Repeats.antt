@@ -1,14 +1,15 @@
 -- A contour without repeated points is an end of the removal of points that equal a neighbour. So the theory of ends says how it changes with the start and the direction of the contour.
 use Rattle.std.proofs.Common.{◌≡◌, ℕ, ◌<◌, ◌≤◌, List, [], ◌∷◌, ◌++◌, length, reverse, refl, sym, ap, subst, ◌∙◌, arith, ◌⊎◌, inl, inr, Bool, true, false, cond, append_assoc, length-append}
 use native.Mathlib.Decide.{dec_le}
-use Rattle.i_shape_core.specs.Point.{Point, origin}
+use Rattle.i_shape_core.specs.Point.{Point, origin, IsZeroTurn}
 use Rattle.i_shape_core.specs.Contour.{Test, point_at, place_before, place_after, IsRemovable, Step, Reach, stay, step, End, Rotation, SameEnd, collapsed, turned}
 use Rattle.i_shape_core.proofs.TestLaws.{Decided, Slides, BothWays}
 use Rattle.i_shape_core.specs.Convex.{is_same, changes_after, last_of, dedup}
-use Rattle.i_shape_core.proofs.Dedup.{same_yes, same_no, fewer, last_of_append, before_part, at_seam, remove_at_seam, dedup_apart, apart_places}
-use Rattle.i_shape_core.proofs.Kept.{next_differs}
+use Rattle.i_shape_core.proofs.Dedup.{same_yes, same_no, fewer, last_of_append, last_again, before_part, dedup_apart, apart_places, next_differs}
+use Rattle.i_shape_core.proofs.Cycle.{at_seam, remove_at_seam}
+use Rattle.i_shape_core.proofs.Back.{back_from_cases}
 use Rattle.std.proofs.lemmas.List.{length-reverse}
-use Rattle.i_shape_core.proofs.Ends.{ends_alike}
+use Rattle.i_shape_core.proofs.Ends.{ends_alike, reach_by_weaker}
 use Rattle.i_shape_core.proofs.Reversal.{reversed_alike}
 
 -- a point equals one of its neighbours
@@ -51,7 +52,7 @@ repeat_taken u p ps h e = record {
     within = omega (arith, length-append u (p ∷ ps));
     passes = inl (before_part u p ps ∙ e ∙ sym (at_seam u p ps));
   };
-  left = sym (remove_at_seam u p ps);
+  left = sym (remove_at_seam (u ++ p ∷ ps) u p ps refl);
 }
 
 -- from c a list is reached that is d, or that has fewer than three points, and so has d
@@ -81,11 +82,19 @@ part_leads u q (p ∷ ps) e = go (part_leads u p ps) (part_leads (u ++ p ∷ [])
 
 dedup_leads_on : (c : List Point) → Leads c (dedup c)
 unfolding dedup
-dedup_leads_on c = part_leads [] (last_of origin c) c (sym (same_last origin c))
+dedup_leads_on c = part_leads [] (last_of origin c) c (sym (last_again origin c))
+
+-- where at least three points are left, removals of zero turns lead to them
+pub dedup_leads : (c : List Point) → 3 ≤ length (dedup c) → Reach IsZeroTurn c (dedup c)
+dedup_leads c h = go (dedup_leads_on c)
   where
-    same_last : (q : Point) (c : List Point) → last_of (last_of q c) c ≡ last_of q c
-    same_last q [] = refl
-    same_last q (p ∷ c) = refl
+    turns : (a b d : Point) → IsRepeat a b d → IsZeroTurn a b d
+    turns a b d (inl e) = (back_from_cases a b d (inl e)).0
+    turns a b d (inr e) = (back_from_cases a b d (inr (inl e))).0
+
+    go : Leads c (dedup c) → Reach IsZeroTurn c (dedup c)
+    go (e, r, inl f) = reach_by_weaker turns (subst (Reach IsRepeat c) f r)
+    go (e, r, inr f) = absurd (omega (arith, f.1))
 
 no_repeat : (c : List Point) (k : ℕ) → IsRemovable IsRepeat (dedup c) k → ⊥
 no_repeat c k r = go r.passes

@@ -16,25 +16,25 @@ rotation_of_reversed {c} {d} r = record {
   after = ap reverse r.after ∙ reverse-append r.back r.front;
 }
 
-pub last_of_reversed : (x : List Point) → 0 < length x → last (reverse x) ≡ first x
+last_of_reversed : (x : List Point) → 0 < length x → last (reverse x) ≡ first x
 unfolding last
 last_of_reversed x h =
     let e : length x - 1 - (length (reverse x) - 1) ≡ 0 = omega (arith, length-reverse x) in
     get_or-reverse x (length (reverse x) - 1) origin (omega (arith, length-reverse x)) ∙ ap (λ (n : ℕ). get_or x n origin) e
 
-pub first_of_reversed : (x : List Point) → 0 < length x → first (reverse x) ≡ last x
+first_of_reversed : (x : List Point) → 0 < length x → first (reverse x) ≡ last x
 unfolding last
 first_of_reversed x h =
     let e : length x - 1 - 0 ≡ length x - 1 = omega arith in
     get_or-reverse x 0 origin h ∙ ap (λ (n : ℕ). get_or x n origin) e
 
-pub turn_of_reversed : {P : Test} {c d : List Point} → BothWays P → Turn P c d → Turn P (reverse c) (reverse d)
-turn_of_reversed {P} {c} {d} both t = record {
+pub turn_of_reversed : {P Q : Test} {c d : List Point} → ((a p b : Point) → P a p b → Q b p a) → Turn P c d → Turn Q (reverse c) (reverse d)
+turn_of_reversed {Q = Q} back t = record {
   point = t.point;
   rest = reverse t.rest;
   start = rotation_trans (rotation_of_reversed t.start) (record { front = reverse t.rest; back = t.point ∷ []; before = reverse-append (t.point ∷ []) t.rest; after = refl });
   two = omega (arith, length-reverse t.rest, t.two);
-  passes = subst₂ (λ (x y : Point). P x t.point y) (sym (last_of_reversed t.rest (omega (arith, t.two)))) (sym (first_of_reversed t.rest (omega (arith, t.two)))) (both (last t.rest) t.point (first t.rest) t.passes);
+  passes = subst₂ (λ (x y : Point). Q x t.point y) (sym (last_of_reversed t.rest (omega (arith, t.two)))) (sym (first_of_reversed t.rest (omega (arith, t.two)))) (back (last t.rest) t.point (first t.rest) t.passes);
   finish = rotation_of_reversed t.finish;
 }
 

@@ -6,7 +6,7 @@ use Rattle.std.proofs.lemmas.List.{drop-append-le, take-append-le}
 use Rattle.i_shape_core.specs.Point.{Point, origin}
 use Rattle.i_shape_core.specs.Contour.{Test, IsRemovable, Step, Reach, stay, step, End, Rotation, point_at, IsCollapsed}
 use Rattle.i_shape_core.specs.RingWalk.{IsRingWalk, in_order}
-use Rattle.i_shape_core.proofs.Cycle.{first, last, last-append, passes_from_removable, removable_from_passes, remove_at_seam, turn_from_step, turn_of_rotated, step_from_turn}
+use Rattle.i_shape_core.proofs.Cycle.{first, last, last-push, last_two, passes_from_removable, removable_from_passes, remove_at_seam, turn_from_step, turn_of_rotated, step_from_turn}
 use Rattle.i_shape_core.proofs.Ends.{reach_trans}
 
 abbrev NoneFrom : Test → List Point → ℕ → Type 0
@@ -38,9 +38,6 @@ kept_tested {P} p r u two none here k h m = go (dec_lt k (length r))
     go (no l) =
         let e : k ≡ length r = omega (arith, m.within, length-append r (p ∷ [])) in
         here (passes_from_removable {P = P} (r ++ p ∷ []) r p [] k refl e m)
-
-pub last_two : (l : List Point) (b x : Point) (a : List Point) → last (l ++ b ∷ x ∷ a) ≡ last (x ∷ a)
-last_two l b x a = last-append l (b ∷ x ∷ a) (omega arith) ∙ last-append (b ∷ []) (x ∷ a) (omega arith)
 
 first_two : (l : List Point) (b : Point) (a : List Point) (p : Point) → first (l ++ b ∷ a) ≡ first ((l ++ b ∷ []) ++ p ∷ a)
 first_two [] b a p = refl
@@ -156,15 +153,12 @@ walk_removes {P} c q r p b u v l m w e passes more f lead = record {
   untested_within = omega (arith, f);
   lead_above = elim lead [ inl a ↦ omega (arith, a.1) | inr a ↦ omega (arith, a.1, w.lead_above) ];
   lead_within = elim lead [ inl a ↦ omega (arith, a.1) | inr a ↦ omega (arith, a.0, a.1, size) ];
-  reached = subst (λ (x : List Point). Reach P c x) (order lead) (removed_reach c q (r ++ b ∷ []) p u l w e (subst (λ (x : Point). P x p (first (r ++ b ∷ []))) (sym (last_of_push r b)) passes));
+  reached = subst (λ (x : List Point). Reach P c x) (order lead) (removed_reach c q (r ++ b ∷ []) p u l w e (subst (λ (x : Point). P x p (first (r ++ b ∷ []))) (sym (last-push r b)) passes));
   tested = λ k g n. removed_tested p r b u (λ j h o. w.tested j h (subst (λ (x : List Point). IsRemovable P x j) (sym e) o)) k (omega (arith, g, f, n.within)) n;
 }
   where
     size : length q ≡ suc (suc (length r))
     size = omega (arith, ap length e, length-append r (b ∷ []))
-
-    last_of_push : (x : List Point) (y : Point) → last (x ++ y ∷ []) ≡ y
-    last_of_push x y = last-append x (y ∷ []) (omega arith) ∙ unfold last in refl
 
     order : ((l ≡ length q) × (m ≡ 1)) ⊎ ((l < length q) × (m ≡ l)) → drop (l - 1) (r ++ b ∷ []) ++ take (l - 1) (r ++ b ∷ []) ≡ in_order (b ∷ r) m
     order (inl a) =

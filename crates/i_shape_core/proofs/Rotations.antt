@@ -1,5 +1,7 @@
 -- Being a rotation is an equivalence.
-use Rattle.std.proofs.Common.{◌≡◌, List, [], ◌∷◌, ◌++◌, length, inl, inr, refl, sym, ap, ◌∙◌, arith, append_assoc, append-nil, length-append}
+use Rattle.std.proofs.Common.{◌≡◌, List, [], ◌∷◌, ◌++◌, length, inl, inr, refl, sym, ap, subst, ◌∙◌, arith, append_assoc, append-nil, length-append, take_at, drop_at}
+use Rattle.std.specs.List.{All}
+use Rattle.std.proofs.lemmas.List.Elements.{All-append, All-take, All-drop}
 use Rattle.i_shape_core.specs.Point.{Point}
 use Rattle.i_shape_core.specs.Contour.{Rotation}
 use Rattle.i_shape_core.proofs.Lists.{two_seams, Seams}
@@ -19,6 +21,14 @@ rotation_trans {c} {d} {e} r s = go (two_seams r.back r.front s.front s.back (sy
 
 pub rotation_length : {c d : List Point} → Rotation c d → length c ≡ length d
 rotation_length {c} {d} r = omega (arith, ap length r.before, ap length r.after, length-append r.front r.back, length-append r.back r.front)
+
+-- what holds of each point holds of each, turned
+pub all_turned : (Q : Point → Type 0) {c d : List Point} → Rotation c d → All Q c → All Q d
+all_turned Q r h =
+    let whole = subst (All Q) r.before h in
+    subst (All Q) (sym r.after) (All-append Q r.back r.front
+    (subst (All Q) (drop_at r.front r.back (length r.front) refl) (All-drop Q (length r.front) (r.front ++ r.back) whole))
+    (subst (All Q) (take_at r.front r.back (length r.front) refl) (All-take Q (length r.front) (r.front ++ r.back) whole)))
 
 -- a rotation that starts with p: the list is cut at p
 pub record Cut (c : List Point) (p : Point) (rest : List Point) : Type 0 where

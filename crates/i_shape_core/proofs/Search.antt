@@ -15,14 +15,6 @@ pub record IsSearch (c : List Point) (n kept challenger : ℕ) : Type 0 where
   pub apart : kept < challenger
   pub others : (s : ℕ) → s < challenger → s < n → StartsLeast c s → s ≡ kept
 
-pub search_start : (c : List Point) (n : ℕ) → length c ≡ n → 0 < n → IsSearch c n 0 1
-search_start c n long some = record {
-  long = long;
-  within = some;
-  apart = omega arith;
-  others = λ s l w least. omega arith;
-}
-
 pub after-more : (c : List Point) (p : Point) (j k : ℕ) → AreAfter c p j k → IsBefore p (point_at c k) → AreAfter c p j (k + 1)
 after-more c p j k before here s above below = elim (cases_lt s k) [
   | inl l ↦ before s above l

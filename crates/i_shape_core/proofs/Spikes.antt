@@ -1,5 +1,5 @@
 -- The walk that looks for spikes.
-use Rattle.std.proofs.Common.{◌≡◌, ◌≢◌, ℕ, zero, suc, ◌+◌, ◌-◌, ◌<◌, ◌≤◌, List, [], ◌∷◌, ◌++◌, reverse, length, drop, get_or, Option, Some, None, option_map, unwrap_or, not, ℤ, pos, int_lt, ◌<ℤ◌, ◌≤ℤ◌, T, refl, sym, ap, subst, ◌∙◌, arith, ◌⊎◌, inl, inr, ◌↔◌, Bool, true, false, cond, ◌&&◌, IsTrue, add-one}
+use Rattle.std.proofs.Common.{◌≡◌, ◌≢◌, ℕ, ◌+◌, ◌-◌, ◌<◌, ◌≤◌, List, [], ◌∷◌, ◌++◌, reverse, length, drop, get_or, Option, Some, None, option_map, unwrap_or, not, ℤ, pos, int_lt, ◌<ℤ◌, ◌≤ℤ◌, T, refl, sym, ap, subst, ◌∙◌, arith, ◌⊎◌, inl, inr, ◌↔◌, Bool, true, false, cond, ◌&&◌, IsTrue}
 use Rattle.std.proofs.lemmas.Int.{ints}
 use Rattle.std.proofs.lemmas.List.{reverse-append}
 use Rattle.std.proofs.lemmas.List.Elements.{All-head, All-tail, All-push}
@@ -7,21 +7,20 @@ use Rattle.std.proofs.lemmas.List.Folds.{find-append}
 use Rattle.std.specs.List.{All, find}
 use Rattle.std.specs.Int.{Width}
 use Rattle.std.specs.Option.{option_or}
-use Rattle.std.proofs.Math.Seq.{drop-cons}
 use Rattle.std.specs.Ordering.{int_eq}
 use lib.Dec.{leb, leb→le, le→leb}
 use Rattle.std.specs.Cmp.{signed_Decides}
 use Rattle.i_shape_core.specs.Point.{Point, origin, cross, dot, IsBack}
-use Rattle.i_shape_core.specs.Contour.{point_at, place_before, place_after, IsRemovable}
-use Rattle.i_shape_core.specs.Convex.{is_same, is_reversal, changes_after, last_of, dedup, NoSpikes, IsReversal, turn_at}
+use Rattle.i_shape_core.specs.Contour.{Test, point_at, place_before, place_after, IsRemovable}
+use Rattle.i_shape_core.specs.Convex.{is_same, is_reversal, last_of, dedup, NoSpikes, IsReversal, turn_at}
 use Rattle.i_shape_core.specs.IntPoint.{point_of, contour_of, IsSafe}
 use Rattle.i_shape_core.specs.declared.point.IntPoint.{IntPoint}
 use Rattle.i_shape_core.proofs.ConvexLaws.{Has, IsReversed}
-use Rattle.i_shape_core.proofs.Walked.{last_item}
-use Rattle.i_shape_core.proofs.Around.{Met, AllSame, has_met, last_but_one, none_change}
+use Rattle.i_shape_core.proofs.Walked.{last_point}
+use Rattle.i_shape_core.proofs.Around.{Met, AllSame, Changed, changed_start, changed_skip, changed_on, changed_end, has_met, last_but_one, none_change}
 use Rattle.i_shape_core.proofs.Dedup.{IsApart, same_yes, same_no, same_self, last_of_append, apart_from_places, dedup-same}
 use Rattle.i_shape_core.proofs.Back.{back_cases, back_from_cases}
-use Rattle.i_shape_core.proofs.Contours.{safe-at}
+use Rattle.i_shape_core.proofs.Contours.{safe-at, rest-read, rest-none}
 
 reversal_yes : (a b c : Point) → is_reversal a b c ≡ true → IsReversed a b c
 unfolding is_reversal
@@ -83,105 +82,98 @@ found c o h = go (last_differing (last_of origin c) o c) (stands_where (last_of 
     go r (inl x) = absurd (omega (arith, all_same c x.1))
     go r (inr (u, v, e, a, n)) = parts r c u v e a n
 
+-- ---- where the walk starts: at the last point, and behind it the last that differs
+abbrev pub first_behind : List Point → Point
+first_behind c = last_differing (last_of origin c) (last_of origin c) c
+
+-- a turn of the contour passes the test where S says that one did so far, or one does in what is left
+abbrev pub Told : Test → List Point → Type 0 → Point → Point → List Point → Type 0
+Told P c S o p rest = Met P (first_behind c) (last_of origin c) c ↔ (S ⊎ Met P o p rest)
+
+pub told-start : (P : Test) (c : List Point) (S : Type 0) → (S → ⊥) → Told P c S (first_behind c) (last_of origin c) c
+told-start P c S n = (λ m. inr m, λ x. elim x [ inl s ↦ absurd (n s) | inr m ↦ m ])
+
+pub told-on : (P : Test) (c : List Point) (S T N : Type 0) (o p q : Point) (rest : List Point) → is_same p q ≡ false → N ↔ P o p q → T ↔ (S ⊎ N)
+    → Told P c S o p (q ∷ rest) → Told P c T p q rest
+told-on P c S T N o p q rest e n t w = (λ m. to (w.0 m), λ x. w.1 (from x))
+  where
+    same : Met P o p (q ∷ rest) ≡ (P o p q ⊎ Met P p q rest)
+    same = ap (λ (b : Bool). cond b (Met P o p rest) (P o p q ⊎ Met P p q rest)) e
+
+    now : P o p q ⊎ Met P p q rest → T ⊎ Met P p q rest
+    now (inl x) = inl (t.1 (inr (n.1 x)))
+    now (inr m) = inr m
+
+    to : S ⊎ Met P o p (q ∷ rest) → T ⊎ Met P p q rest
+    to (inl s) = inl (t.1 (inl s))
+    to (inr m) = now (subst (λ (X : Type 0). X) same m)
+
+    earlier : S ⊎ N → S ⊎ Met P o p (q ∷ rest)
+    earlier (inl s) = inl s
+    earlier (inr y) = inr (subst (λ (X : Type 0). X) (sym same) (inl (n.0 y)))
+
+    from : T ⊎ Met P p q rest → S ⊎ Met P o p (q ∷ rest)
+    from (inl y) = earlier (t.0 y)
+    from (inr m) = inr (subst (λ (X : Type 0). X) (sym same) (inr m))
+
+pub told-skip : (P : Test) (c : List Point) (S : Type 0) (o p q : Point) (rest : List Point) → is_same p q ≡ true → Told P c S o p (q ∷ rest) → Told P c S o p rest
+told-skip P c S o p q rest e w = subst (λ (X : Type 0). Met P (first_behind c) (last_of origin c) c ↔ (S ⊎ X)) same w
+  where
+    same : Met P o p (q ∷ rest) ≡ Met P o p rest
+    same = ap (λ (b : Bool). cond b (Met P o p rest) (P o p q ⊎ Met P p q rest)) e
+
+-- one was met, before or here
+pub told-met : (P : Test) (c : List Point) (S N : Type 0) (o p q : Point) (rest : List Point) → is_same p q ≡ false → (N → P o p q)
+    → Told P c S o p (q ∷ rest) → S ⊎ N → Met P (first_behind c) (last_of origin c) c
+told-met P c S N o p q rest e n w (inl s) = w.1 (inl s)
+told-met P c S N o p q rest e n w (inr y) =
+    w.1 (inr (subst (λ (X : Type 0). X) (sym (ap (λ (b : Bool). cond b (Met P o p rest) (P o p q ⊎ Met P p q rest)) e)) (inl (n y))))
+
 -- ---- the walk: n points have changed so far, o and p are the last two that differ, and the rest is still to come
 pub record Walking (c : List Point) (n : ℕ) (o p : Point) (rest : List Point) : Type 0 where
-  pub changes : n + length (changes_after p rest) ≡ length (dedup c)
-  pub met : Met IsReversed (last_differing (last_of origin c) (last_of origin c) c) (last_of origin c) c ↔ Met IsReversed o p rest
+  pub changes : Changed c n p rest
+  pub met : Told IsReversed c ⊥ o p rest
 
-pub walking_start : (c : List Point) → Walking c 0 (last_differing (last_of origin c) (last_of origin c) c) (last_of origin c) c
-unfolding dedup
-walking_start c = record { changes = zero_plus (length (changes_after (last_of origin c) c)); met = (λ x. x, λ x. x) }
-  where
-    zero_plus : (n : ℕ) → 0 + n ≡ n
-    zero_plus n = omega arith
+walking_start : (c : List Point) → Walking c 0 (first_behind c) (last_of origin c) c
+walking_start c = record { changes = changed_start c; met = told-start IsReversed c ⊥ (λ x. x) }
 
-pub walking_skip : (c : List Point) (n : ℕ) (o p q : Point) (rest : List Point) → is_same p q ≡ true → Walking c n o p (q ∷ rest) → Walking c n o p rest
-walking_skip c n o p q rest e w = record { changes = count; met = subst (λ (X : Type 0). Met IsReversed (last_differing (last_of origin c) (last_of origin c) c) (last_of origin c) c ↔ X) same w.met }
-  where
-    same : Met IsReversed o p (q ∷ rest) ≡ Met IsReversed o p rest
-    same = ap (λ (t : Bool). cond t (Met IsReversed o p rest) (IsReversed o p q ⊎ Met IsReversed p q rest)) e
+walking_skip : (c : List Point) (n : ℕ) (o p q : Point) (rest : List Point) → is_same p q ≡ true → Walking c n o p (q ∷ rest) → Walking c n o p rest
+walking_skip c n o p q rest e w = record { changes = changed_skip c n p q rest e w.changes; met = told-skip IsReversed c ⊥ o p q rest e w.met }
 
-    skipped : changes_after p (q ∷ rest) ≡ changes_after p rest
-    skipped = ap (λ (t : Bool). cond t (changes_after q rest) (q ∷ changes_after q rest)) e ∙ ap (λ (x : Point). changes_after x rest) (sym (same_yes p q e))
-
-    count : n + length (changes_after p rest) ≡ length (dedup c)
-    count = ap (λ (xs : List Point). n + length xs) (sym skipped) ∙ w.changes
-
-pub walking_on : (c : List Point) (n : ℕ) (o p q : Point) (rest : List Point) → is_same p q ≡ false → is_reversal o p q ≡ false → Walking c n o p (q ∷ rest) → Walking c (n + 1) p q rest
-walking_on c n o p q rest e f w = record { changes = count; met = (λ x. later (subst (λ (X : Type 0). X) same (w.met.0 x)), λ x. w.met.1 (subst (λ (X : Type 0). X) (sym same) (inr x))) }
-  where
-    same : Met IsReversed o p (q ∷ rest) ≡ (IsReversed o p q ⊎ Met IsReversed p q rest)
-    same = ap (λ (t : Bool). cond t (Met IsReversed o p rest) (IsReversed o p q ⊎ Met IsReversed p q rest)) e
-
-    later : IsReversed o p q ⊎ Met IsReversed p q rest → Met IsReversed p q rest
-    later (inl x) = absurd (reversal_no o p q f x)
-    later (inr x) = x
-
-    kept : changes_after p (q ∷ rest) ≡ q ∷ changes_after q rest
-    kept = ap (λ (t : Bool). cond t (changes_after q rest) (q ∷ changes_after q rest)) e
-
-    one_more : (n m k : ℕ) → n + suc m ≡ k → n + 1 + m ≡ k
-    one_more n m k e = omega arith
-
-    count : n + 1 + length (changes_after q rest) ≡ length (dedup c)
-    count = one_more n (length (changes_after q rest)) (length (dedup c)) (ap (λ (xs : List Point). n + length xs) (sym kept) ∙ w.changes)
+walking_on : (c : List Point) (n : ℕ) (o p q : Point) (rest : List Point) → is_same p q ≡ false → is_reversal o p q ≡ false → Walking c n o p (q ∷ rest) → Walking c (n + 1) p q rest
+walking_on c n o p q rest e f w = record {
+  changes = changed_on c n p q rest e w.changes;
+  met = told-on IsReversed c ⊥ ⊥ (IsReversed o p q) o p q rest e (λ x. x, λ x. x) (λ x. absurd x, λ x. elim x [ inl y ↦ y | inr y ↦ reversal_no o p q f y ]) w.met;
+}
 
 -- with a reversal it has spikes
-pub spike_found : (c : List Point) (n : ℕ) (o p q : Point) (rest : List Point) → is_same p q ≡ false → is_reversal o p q ≡ true → Walking c n o p (q ∷ rest) → NoSpikes c → ⊥
+spike_found : (c : List Point) (n : ℕ) (o p q : Point) (rest : List Point) → is_same p q ≡ false → is_reversal o p q ≡ true → Walking c n o p (q ∷ rest) → NoSpikes c → ⊥
 unfolding Has turn_at
 spike_found c n o p q rest e f w h =
-    let m : Met IsReversed (last_differing (last_of origin c) (last_of origin c) c) (last_of origin c) c = w.met.1 (subst (λ (X : Type 0). X) (sym same) (inl (reversal_yes o p q f))) in
-    let k = (has_met IsReversed c (last_differing (last_of origin c) (last_of origin c) c) h.enough (found c (last_of origin c) (omega (arith, h.enough)))).1 m in
+    let m = told-met IsReversed c ⊥ (IsReversed o p q) o p q rest e (λ x. x) w.met (inr (reversal_yes o p q f)) in
+    let k = (has_met IsReversed c (first_behind c) h.enough (found c (last_of origin c) (omega (arith, h.enough)))).1 m in
     h.none k.0 (record { within = k.1.within; no_turn = k.1.passes.0; back = k.1.passes.1 })
-  where
-    same : Met IsReversed o p (q ∷ rest) ≡ (IsReversed o p q ⊎ Met IsReversed p q rest)
-    same = ap (λ (t : Bool). cond t (Met IsReversed o p rest) (IsReversed o p q ⊎ Met IsReversed p q rest)) e
 
 -- at the end
-pub no_spike_found : (c : List Point) (n : ℕ) (o p : Point) → Walking c n o p [] → (3 ≤ n) ↔ NoSpikes c
+no_spike_found : (c : List Point) (n : ℕ) (o p : Point) → Walking c n o p [] → (3 ≤ n) ↔ NoSpikes c
 unfolding Has turn_at
 no_spike_found c n o p w = (λ h. spikeless (subst (λ (m : ℕ). 3 ≤ m) count h), λ s. subst (λ (m : ℕ). 3 ≤ m) (sym count) s.enough)
   where
-    plus_zero : (n : ℕ) → n + 0 ≡ n
-    plus_zero n = omega arith
-
     count : n ≡ length (dedup c)
-    count = sym (plus_zero n) ∙ w.changes
+    count = changed_end c n p w.changes
 
     spikeless : 3 ≤ length (dedup c) → NoSpikes c
     spikeless h = record {
       enough = h;
-      none = λ k r. w.met.0 ((has_met IsReversed c (last_differing (last_of origin c) (last_of origin c) c) h (found c (last_of origin c) (omega arith))).0
-          (k, record { enough = h; within = r.within; passes = (r.no_turn, r.back) }));
+      none = λ k r. elim (w.met.0 ((has_met IsReversed c (first_behind c) h (found c (last_of origin c) (omega arith))).0 (k, record { enough = h; within = r.within; passes = (r.no_turn, r.back) }))) [
+        | inl x ↦ x
+        | inr x ↦ x
+      ];
     }
 
 -- ---- over the points of a program
-pub items : {I : Type 0} (value : I → ℤ) (cs : List (IntPoint I)) (i : ℕ) (x : IntPoint I) → i < length cs → x ≡ get_or cs i x → contour_of value (drop i cs) ≡ point_of value x ∷ contour_of value (drop (i + 1) cs)
-items {I} value cs i x h e = ap (contour_of value) (drop-cons cs i x h ∙ ap (λ (y : IntPoint I). y ∷ drop (suc i) cs) (sym e))
-    ∙ ap (λ (j : ℕ). point_of value x ∷ contour_of value (drop j cs)) (sym (add-one i))
-
-pub drop_past : {X : Type 0} (xs : List X) (i : ℕ) → length xs ≤ i → drop i xs ≡ []
-drop_past [] zero h = refl
-drop_past [] (suc i) h = refl
-drop_past (x ∷ xs) zero h = absurd (omega arith)
-drop_past (x ∷ xs) (suc i) h = drop_past xs i (omega arith)
-
-pub last_point : {I : Type 0} (value : I → ℤ) (cs : List (IntPoint I)) (last : IntPoint I) → 0 < length cs → last ≡ get_or cs (length cs - 1) last → point_of value last ≡ last_of origin (contour_of value cs)
-last_point value [] last h e = absurd (omega arith)
-last_point value (x ∷ xs) last h e = ap (point_of value) (e ∙ ap (λ (i : ℕ). get_or (x ∷ xs) i last) (less_one (length xs))) ∙ last_item value x xs last
-  where
-    less_one : (n : ℕ) → suc n - 1 ≡ n
-    less_one n = omega arith
-
-pub walking_first : {I : Type 0} (value : I → ℤ) (cs : List (IntPoint I)) (last behind : IntPoint I) (i : ℕ) → 0 < length cs → last ≡ get_or cs (length cs - 1) last → length cs ≤ i
-    → last_differing (point_of value last) (point_of value last) (contour_of value cs) ≡ last_differing (point_of value last) (point_of value behind) (contour_of value (drop i cs))
-    → Walking (contour_of value cs) 0 (point_of value behind) (point_of value last) (contour_of value cs)
-walking_first {I} value cs last behind i h e k f = subst (λ (o : Point). Walking (contour_of value cs) 0 o (point_of value last) (contour_of value cs))
-    (f ∙ ap (λ (ds : List (IntPoint I)). last_differing (point_of value last) (point_of value behind) (contour_of value ds)) (drop_past cs i k))
-    (subst (λ (p : Point). Walking (contour_of value cs) 0 (last_differing p p (contour_of value cs)) p (contour_of value cs)) (sym (last_point value cs last h e)) (walking_start (contour_of value cs)))
-
 pub walking_over : {I : Type 0} (value : I → ℤ) (cs : List (IntPoint I)) (n i : ℕ) (o p : Point) → length cs ≤ i → Walking (contour_of value cs) n o p (contour_of value (drop i cs)) → (3 ≤ n) ↔ NoSpikes (contour_of value cs)
-walking_over {I} value cs n i o p h w = no_spike_found (contour_of value cs) n o p (subst (λ (ds : List (IntPoint I)). Walking (contour_of value cs) n o p (contour_of value ds)) (drop_past cs i h) w)
+walking_over value cs n i o p h w = no_spike_found (contour_of value cs) n o p (subst (Walking (contour_of value cs) n o p) (rest-none value cs i h) w)
 
 pub none_without_points : {I : Type 0} (value : I → ℤ) (cs : List (IntPoint I)) → length cs ≤ 0 → NoSpikes (contour_of value cs) → ⊥
 unfolding dedup
@@ -193,13 +185,13 @@ pub walking_item : {I : Type 0} (value : I → ℤ) (cs : List (IntPoint I)) (n 
     → n' ≡ n + 1 → o' ≡ p → p' ≡ x
     → Walking (contour_of value cs) n (point_of value o) (point_of value p) (contour_of value (drop i cs)) → Walking (contour_of value cs) n' (point_of value o') (point_of value p') (contour_of value (drop (i + 1) cs))
 walking_item value cs n i o p x n' o' p' h e a b en eo ep w = rw (en, eo, ep) (walking_on (contour_of value cs) n (point_of value o) (point_of value p) (point_of value x) (contour_of value (drop (i + 1) cs)) a b
-    (subst (λ (r : List Point). Walking (contour_of value cs) n (point_of value o) (point_of value p) r) (items value cs i x h e) w))
+    (subst (λ (r : List Point). Walking (contour_of value cs) n (point_of value o) (point_of value p) r) (rest-read value cs i x h e) w))
 
 pub walking_repeat : {I : Type 0} (value : I → ℤ) (cs : List (IntPoint I)) (n i : ℕ) (o p x : IntPoint I) (n' : ℕ) (o' p' : IntPoint I) → i < length cs → x ≡ get_or cs i x
     → is_same (point_of value p) (point_of value x) ≡ true → n' ≡ n → o' ≡ o → p' ≡ p
     → Walking (contour_of value cs) n (point_of value o) (point_of value p) (contour_of value (drop i cs)) → Walking (contour_of value cs) n' (point_of value o') (point_of value p') (contour_of value (drop (i + 1) cs))
 walking_repeat value cs n i o p x n' o' p' h e a en eo ep w = rw (en, eo, ep) (walking_skip (contour_of value cs) n (point_of value o) (point_of value p) (point_of value x) (contour_of value (drop (i + 1) cs)) a
-    (subst (λ (r : List Point). Walking (contour_of value cs) n (point_of value o) (point_of value p) r) (items value cs i x h e) w))
+    (subst (λ (r : List Point). Walking (contour_of value cs) n (point_of value o) (point_of value p) r) (rest-read value cs i x h e) w))
 
 pub spike_item : {I : Type 0} (value : I → ℤ) (cs : List (IntPoint I)) (n i : ℕ) (o p x : IntPoint I) → i < length cs → x ≡ get_or cs i x
     → is_same (point_of value p) (point_of value x) ≡ false → is_reversal (point_of value o) (point_of value p) (point_of value x) ≡ true
@@ -207,7 +199,7 @@ pub spike_item : {I : Type 0} (value : I → ℤ) (cs : List (IntPoint I)) (n i 
 spike_item value cs n i o p x h e a b w = (
   λ t. absurd (cc),
   λ s. absurd (spike_found (contour_of value cs) n (point_of value o) (point_of value p) (point_of value x) (contour_of value (drop (i + 1) cs)) a b
-      (subst (λ (r : List Point). Walking (contour_of value cs) n (point_of value o) (point_of value p) r) (items value cs i x h e) w) s),
+      (subst (λ (r : List Point). Walking (contour_of value cs) n (point_of value o) (point_of value p) r) (rest-read value cs i x h e) w) s),
 )
 
 pub answer : (n : ℕ) {P : Type 0} → (3 ≤ n) ↔ P → IsTrue (leb 3 n) ↔ P
@@ -263,34 +255,40 @@ differing-found {I} value p o (x ∷ xs) =
     go (Some q) e f true = e
     go (Some q) e f false = f
 
-pub walking_begins : {I : Type 0} (value : I → ℤ) (cs : List (IntPoint I)) (last behind : IntPoint I) → 0 < length cs → last ≡ get_or cs (length cs - 1) last
-    → Some behind ≡ found_differing value last cs → Walking (contour_of value cs) 0 (point_of value behind) (point_of value last) (contour_of value cs)
-walking_begins {I} value cs last behind h e f =
-    subst (λ (o : Point). Walking (contour_of value cs) 0 o (point_of value last) (contour_of value cs)) at
-    (subst (λ (p : Point). Walking (contour_of value cs) 0 (last_differing p p (contour_of value cs)) p (contour_of value cs)) (sym (last_point value cs last h e)) (walking_start (contour_of value cs)))
+-- what holds where the walk starts, over the last point and the one that is found behind it
+pub begins : {I : Type 0} (value : I → ℤ) (cs : List (IntPoint I)) (last behind : IntPoint I) → 0 < length cs → last ≡ get_or cs (length cs - 1) last
+    → Some behind ≡ found_differing value last cs → (F : Point → Point → Type 0) → F (first_behind (contour_of value cs)) (last_of origin (contour_of value cs)) → F (point_of value behind) (point_of value last)
+begins value cs last behind h e f F x =
+    subst (λ (o : Point). F o (point_of value last)) at (subst (λ (p : Point). F (last_differing p p (contour_of value cs)) p) (sym (last_point value cs last h e)) x)
   where
     at : last_differing (point_of value last) (point_of value last) (contour_of value cs) ≡ point_of value behind
-    at = differing-found value last (point_of value last) cs ∙ ap (λ (r : Option (IntPoint I)). unwrap_or (option_map (point_of value) r) (point_of value last)) (sym f)
+    at = differing-found value last (point_of value last) cs ∙ ap (λ r. unwrap_or (option_map (point_of value) r) (point_of value last)) (sym f)
 
-two_numbers : pos 0 ≡ pos 1 → ⊥
-two_numbers k = omega (arith, ints)
+pub walking_begins : {I : Type 0} (value : I → ℤ) (cs : List (IntPoint I)) (last behind : IntPoint I) → 0 < length cs → last ≡ get_or cs (length cs - 1) last
+    → Some behind ≡ found_differing value last cs → Walking (contour_of value cs) 0 (point_of value behind) (point_of value last) (contour_of value cs)
+walking_begins value cs last behind h e f = begins value cs last behind h e f (λ o p. Walking (contour_of value cs) 0 o p (contour_of value cs)) (walking_start (contour_of value cs))
 
--- where no point differs from the last there are spikes
-pub none_differs : {I : Type 0} (value : I → ℤ) (cs : List (IntPoint I)) (last : IntPoint I) → 0 < length cs → last ≡ get_or cs (length cs - 1) last
-    → None ≡ found_differing value last cs → IsTrue false ↔ NoSpikes (contour_of value cs)
-none_differs {I} value cs last h e f = (λ t. absurd (cc), λ s. absurd (two s))
+-- where no point differs from the last, fewer than three are left without repeats
+pub few_differ : {I : Type 0} (value : I → ℤ) (cs : List (IntPoint I)) (last : IntPoint I) → 0 < length cs → last ≡ get_or cs (length cs - 1) last
+    → None ≡ found_differing value last cs → 3 ≤ length (dedup (contour_of value cs)) → ⊥
+few_differ {I} value cs last h e f three =
+    let a : Point = record { x = pos 0; y = pos 0 } in
+    let b : Point = record { x = pos 1; y = pos 0 } in
+    let at = λ (o : Point). sym (same o) ∙ found (contour_of value cs) o (omega (arith, three)) in
+    let k : a ≡ b = at a ∙ sym (at b) in
+    two_numbers (ap (λ (p : Point). p.x) k)
   where
     same : (o : Point) → last_differing (last_of origin (contour_of value cs)) o (contour_of value cs) ≡ o
     same o = ap (λ (p : Point). last_differing p o (contour_of value cs)) (sym (last_point value cs last h e))
         ∙ (differing-found value last o cs ∙ ap (λ (r : Option (IntPoint I)). unwrap_or (option_map (point_of value) r) o) (sym f))
 
-    two : NoSpikes (contour_of value cs) → ⊥
-    two s =
-        let a : Point = record { x = pos 0; y = pos 0 } in
-        let b : Point = record { x = pos 1; y = pos 0 } in
-        let at = λ (o : Point). sym (same o) ∙ found (contour_of value cs) o (omega (arith, s.enough)) in
-        let k : a ≡ b = at a ∙ sym (at b) in
-        two_numbers (ap (λ (p : Point). p.x) k)
+    two_numbers : pos 0 ≡ pos 1 → ⊥
+    two_numbers k = omega (arith, ints)
+
+-- so there are spikes
+pub none_differs : {I : Type 0} (value : I → ℤ) (cs : List (IntPoint I)) (last : IntPoint I) → 0 < length cs → last ≡ get_or cs (length cs - 1) last
+    → None ≡ found_differing value last cs → IsTrue false ↔ NoSpikes (contour_of value cs)
+none_differs value cs last h e f = (λ t. absurd (cc), λ s. absurd (few_differ value cs last h e f s.enough))
 
 found_one : {X : Type 0} (test : X → Bool) (P : X → Type 0) (ys : List X) (r : X) → Some r ≡ find test ys → All P ys → P r × (test r ≡ true)
 found_one test P [] r e a = absurd (cc)

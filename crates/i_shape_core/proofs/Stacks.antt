@@ -6,25 +6,16 @@ use Rattle.std.proofs.lemmas.List.Elements.{All-take, All-drop, All-push}
 use Rattle.std.proofs.lemmas.Bool.{cases_lt}
 use Rattle.i_shape_core.specs.Point.{Point, origin}
 use Rattle.i_shape_core.specs.Contour.{Reach, Step, IsRemovable, End, point_at, place_before, place_after}
-use Rattle.i_shape_core.proofs.Edges.{before_first, before_later, after_earlier, after_last}
+use Rattle.i_shape_core.proofs.Places.{before_first, before_later, after_earlier, after_last}
 use Rattle.i_shape_core.specs.Contour.{stay, step}
+use Rattle.i_shape_core.proofs.Ends.{reach_trans}
 use Rattle.i_shape_core.specs.Stack.{IsStacked, stacked_point, points_left}
 
 -- the test at place k of a contour, between its neighbours on the cycle
 abbrev HoldsAround : (Point → Point → Point → Type 0) → List Point → ℕ → Type 0
 HoldsAround P c k = P (point_at c (place_before (length c) k)) (point_at c k) (point_at c (place_after (length c) k))
 
-next-inner : (n k : ℕ) → suc k < n → place_after n k ≡ suc k
-next-inner n k h = after_earlier n k (omega arith)
-
-next-last : (n k : ℕ) → suc k ≡ n → place_after n k ≡ 0
-next-last n k e = after_last n k (omega arith)
-
 module _ (P : Point → Point → Point → Type 0) where
-  pub reach-more : {a b d : List Point} → Reach P a b → Step P b d → Reach P a d
-  reach-more stay s = step s stay
-  reach-more (step t r) s = step t (reach-more r s)
-
   module _ (c : List Point) where
     left-at : (S : List ℕ) (B : List Point) (j : ℕ) → j < length S → point_at (map (point_at c) S ++ B) j ≡ stacked_point c S j
     left-at S B j h =
@@ -61,9 +52,9 @@ module _ (P : Point → Point → Point → Type 0) where
         let ea : point_at C (place_before (length C) (suc m)) ≡ stacked_point c S m =
         ap (point_at C) (before_later (length C) m (omega arith)) ∙ left-at S (drop i c) m (omega arith) in
         let eb : point_at C (suc m) ≡ stacked_point c S (suc m) = left-at S (drop i c) (suc m) (omega arith) in
-        let inner : suc (suc m) < length C = omega arith in
+        let inner : suc m + 1 < length C = omega arith in
         let ed : point_at C (place_after (length C) (suc m)) ≡ point_at c i =
-        ap (point_at C) (next-inner (length C) (suc m) inner ∙ sym long) ∙ rest-at S i in
+        ap (point_at C) (after_earlier (length C) (suc m) inner ∙ sym long) ∙ rest-at S i in
         let k : suc m < length (map (point_at c) S) = omega (arith, length-map S (point_at c)) in
         let all : length (map (point_at c) S) ≤ suc (suc m) = omega (arith, length-map S (point_at c)) in
         record {
@@ -105,7 +96,7 @@ module _ (P : Point → Point → Point → Type 0) where
         let two : length S ≡ suc (suc j) = omega arith in
         let fall = pop-step S i j two within (subst (λ (n : ℕ). P (stacked_point c S j) (stacked_point c S n) (point_at c i)) ek holds) in
         subst (λ (l : List ℕ). IsStacked P c l i) (sym e) (record {
-          reached = subst (λ (n : ℕ). Reach P c (points_left c (take n S) i)) (sym ek) (reach-more s.reached fall);
+          reached = subst (λ (n : ℕ). Reach P c (points_left c (take n S) i)) (sym ek) (reach_trans s.reached (step fall stay));
           turning = turning-take S k s.turning;
           within = All-take (λ (n : ℕ). n < length c) k S s.within;
         })
@@ -165,7 +156,7 @@ module _ (P : Point → Point → Point → Type 0) where
     first-around S m long =
         let A : List Point = map (point_at c) S in
         let n : length A ≡ length S = length-map S (point_at c) in
-        around-at A (m + 2) 0 1 _ _ _ (before_first (length A) (omega arith) ∙ omega arith) (next-inner (length A) 0 (omega arith))
+        around-at A (m + 2) 0 1 _ _ _ (before_first (length A) (omega arith) ∙ omega arith) (after_earlier (length A) 0 (omega arith))
         (at-stack S (m + 2) (omega arith)) (at-stack S 0 (omega arith)) (at-stack S 1 (omega arith))
 
     last-around : (S : List ℕ) (m : ℕ) → length S ≡ m + 3
@@ -174,7 +165,7 @@ module _ (P : Point → Point → Point → Type 0) where
         let A : List Point = map (point_at c) S in
         let n : length A ≡ length S = length-map S (point_at c) in
         let e : suc (m + 1) ≡ m + 2 = omega arith in
-        around-at A (m + 1) (suc (m + 1)) 0 _ _ _ (before_later (length A) (m + 1) (omega arith)) (next-last (length A) (suc (m + 1)) (omega arith))
+        around-at A (m + 1) (suc (m + 1)) 0 _ _ _ (before_later (length A) (m + 1) (omega arith)) (after_last (length A) (suc (m + 1)) (omega arith))
         (at-stack S (m + 1) (omega arith)) (ap (point_at A) e ∙ at-stack S (m + 2) (omega arith)) (at-stack S 0 (omega arith))
 
     inner-around : (S : List ℕ) (j : ℕ) → j + 2 < length S
@@ -184,7 +175,7 @@ module _ (P : Point → Point → Point → Type 0) where
         let n : length A ≡ length S = length-map S (point_at c) in
         let e1 : suc j ≡ j + 1 = omega arith in
         let e2 : suc (suc j) ≡ j + 2 = omega arith in
-        around-at A j (suc j) (j + 2) _ _ _ (before_later (length A) j (omega arith)) (next-inner (length A) (suc j) (omega arith) ∙ e2)
+        around-at A j (suc j) (j + 2) _ _ _ (before_later (length A) j (omega arith)) (after_earlier (length A) (suc j) (omega arith) ∙ e2)
         (at-stack S j (omega arith)) (ap (point_at A) e1 ∙ at-stack S (j + 1) (omega arith)) (at-stack S (j + 2) (omega arith))
 
     tail-map : (S : List ℕ) → drop 1 (map (point_at c) S) ≡ map (point_at c) (drop 1 S)
@@ -202,7 +193,7 @@ module _ (P : Point → Point → Point → Type 0) where
           left = sym (tail-map S);
         } in
         subst (λ (l : List ℕ). IsStacked P c l (length c)) (sym e) (record {
-          reached = subst (Reach P c) (sym (all-left (drop 1 S))) (reach-more (subst (Reach P c) (all-left S) s.reached) fall);
+          reached = subst (Reach P c) (sym (all-left (drop 1 S))) (reach_trans (subst (Reach P c) (all-left S) s.reached) (step fall stay));
           turning = λ k h p.
               let l : k + 1 + 2 < length S = omega (arith, length-drop 1 S) in
               let e0 : 1 + k ≡ k + 1 = omega arith in
@@ -230,7 +221,7 @@ module _ (P : Point → Point → Point → Type 0) where
               ∙ append-nil (take (suc (m + 1)) A) ∙ take-map (point_at c) (suc (m + 1)) S);
         } in
         subst (λ (l : List ℕ). IsStacked P c l (length c)) (ap (λ (q : ℕ). take q S) e2 ∙ sym e) (record {
-          reached = subst (Reach P c) (sym (all-left (take (suc (m + 1)) S))) (reach-more (subst (Reach P c) (all-left S) s.reached) fall);
+          reached = subst (Reach P c) (sym (all-left (take (suc (m + 1)) S))) (reach_trans (subst (Reach P c) (all-left S) s.reached) (step fall stay));
           turning = turning-take S (suc (m + 1)) s.turning;
           within = All-take (λ (q : ℕ). q < length c) (suc (m + 1)) S s.within;
         })

@@ -1,11 +1,11 @@
 -- Points that turn back are removed first: the ends stay the same, and what is left never collapses.
-use Rattle.std.proofs.Common.{◌≡◌, ℕ, ◌≤◌, List, [], ◌∷◌, ◌++◌, length, refl, sym, ap, ◌∙◌, subst, arith, append-nil, length-append}
+use Rattle.std.proofs.Common.{◌≡◌, ℕ, ◌≤◌, List, [], ◌∷◌, ◌++◌, length, refl, sym, ap, subst, arith, append-nil, length-append, remove}
 use Rattle.i_shape_core.specs.Point.{Point}
 use Rattle.i_shape_core.specs.Contour.{Test, IsRemovable, Reach, stay, step, End, Rotation}
 use Rattle.i_shape_core.proofs.TestLaws.{Straightens}
 use Rattle.i_shape_core.proofs.Rotations.{rotation_refl, rotation_sym, rotation_trans, rotation_length, cut_from_rotation}
-use Rattle.i_shape_core.proofs.Cycle.{first, last, last-append, Turn, turn_from_step, turn_of_rotated, step_from_turn}
-use Rattle.i_shape_core.proofs.Ends.{no_step, reach_trans}
+use Rattle.i_shape_core.proofs.Cycle.{first, last, last-append, last-push, last_over, Turn, turn_from_step, turn_of_rotated, step_from_turn}
+use Rattle.i_shape_core.proofs.Ends.{no_step, reach_trans, reach_by_weaker}
 
 -- no place of the cycle passes the test
 abbrev pub IsDone : Test → List Point → Type 0
@@ -18,13 +18,6 @@ done_from_none_left c n d t = no_step n (step_from_turn t).1
 none_at : {P : Test} (c : List Point) → IsDone P c → (p : Point) (r : List Point) → Rotation c (p ∷ r) → 2 ≤ length r → P (last r) p (first r) → ⊥
 none_at c n p r t two h = n r (record { point = p; rest = r; start = t; two = two; passes = h; finish = rotation_refl r })
 
-last_over : (l : List Point) (r s : Point) (m : List Point) → last (l ++ r ∷ s ∷ m) ≡ last (l ++ s ∷ m)
-last_over l r s m = last-append l (r ∷ s ∷ m) (omega arith) ∙ (last-append (r ∷ []) (s ∷ m) (omega arith) ∙ sym (last-append l (s ∷ m) (omega arith)))
-
-last_of_one : (l : List Point) (p : Point) → last (l ++ p ∷ []) ≡ p
-unfolding last
-last_of_one l p = last-append l (p ∷ []) (omega arith)
-
 -- p ∷ u ++ q ∷ t without p: no q passes that did not before
 still_none : {B Z : Test} → Straightens B Z → (p : Point) (u : List Point) (q : Point) (t : List Point) → IsDone B (p ∷ (u ++ q ∷ t)) →
     2 ≤ length (t ++ u) → Z (last (u ++ q ∷ t)) p (first (u ++ q ∷ t)) → B (last (t ++ u)) q (first (t ++ u)) → ⊥
@@ -32,13 +25,13 @@ still_none st p [] q [] n two z b = absurd (omega arith)
 still_none {B} {Z} st p [] q (y ∷ t) n two z b =
     let e : last (q ∷ y ∷ t) ≡ last (y ∷ t) = last-append (q ∷ []) (y ∷ t) (omega arith) in
     let f : last ((y ∷ t) ++ []) ≡ last (y ∷ t) = ap last (append-nil (y ∷ t)) in
-    let g : last ((y ∷ t) ++ p ∷ []) ≡ p = last_of_one (y ∷ t) p in
+    let g : last ((y ∷ t) ++ p ∷ []) ≡ p = last-push (y ∷ t) p in
     st.keeps_behind (last (y ∷ t)) p q y (subst (λ (x : Point). Z x p q) e z)
     (λ h. none_at _ n p (q ∷ y ∷ t) (rotation_refl _) (omega arith) (subst (λ (x : Point). B x p q) (sym e) h))
     (λ h. none_at _ n q ((y ∷ t) ++ p ∷ []) (record { front = p ∷ []; back = q ∷ y ∷ t; before = refl; after = refl }) (omega (arith, length-append t (p ∷ []))) (subst (λ (x : Point). B x q y) (sym g) h))
     (subst (λ (x : Point). B x q y) f b)
 still_none {B} {Z} st p (x ∷ u) q [] n two z b =
-    let e : last ((x ∷ u) ++ q ∷ []) ≡ q = last_of_one (x ∷ u) q in
+    let e : last ((x ∷ u) ++ q ∷ []) ≡ q = last-push (x ∷ u) q in
     let f : last (p ∷ x ∷ u) ≡ last (x ∷ u) = last-append (p ∷ []) (x ∷ u) (omega arith) in
     st.keeps_ahead (last (x ∷ u)) q p x (subst (λ (w : Point). Z w p x) e z)
     (λ h. none_at _ n p ((x ∷ u) ++ q ∷ []) (rotation_refl _) (omega (arith, length-append u (q ∷ []))) (subst (λ (w : Point). B w p x) (sym e) h))
@@ -82,18 +75,20 @@ straight_step {B} {Z} st {c} {d} n t = (omega (arith, long, rotation_length t.fi
         (subst (λ (x : List Point). Z (last x) t.point (first x)) k.whole t.passes)
         (subst (λ (x : List Point). B (last x) s.point (first x)) k.others s.passes)
 
-pub never_collapses : {B Z : Test} → Straightens B Z → {c e : List Point} → 3 ≤ length c → IsDone B c → Reach Z c e → 3 ≤ length e
-never_collapses st h n stay = h
-never_collapses st h n (step s r) =
+-- so do any number of them
+stays_done : {B Z : Test} → Straightens B Z → {c e : List Point} → 3 ≤ length c → IsDone B c → Reach Z c e → (3 ≤ length e) × IsDone B e
+stays_done st h n stay = (h, n)
+stays_done st h n (step s r) =
     let m = straight_step st n (turn_from_step s) in
-    never_collapses st m.0 m.1 r
+    stays_done st m.0 m.1 r
 
-pub reach_by_weaker : {B Z : Test} → Straightens B Z → {c e : List Point} → Reach B c e → Reach Z c e
-reach_by_weaker st stay = stay
-reach_by_weaker st (step s r) = step (record { place = s.place; removable = record { enough = s.removable.enough; within = s.removable.within; passes = st.weaker _ _ _ s.removable.passes }; left = s.left }) (reach_by_weaker st r)
+pub keeps_none : {B Z : Test} → Straightens B Z → {c e : List Point} → 3 ≤ length c → ((k : ℕ) → IsRemovable B c k → ⊥) → Reach Z c e → (3 ≤ length e) × ((k : ℕ) → IsRemovable B e k → ⊥)
+keeps_none st {c} {e} h n r =
+    let m = stays_done st h (done_from_none_left c n) r in
+    (m.0, λ k b. m.1 (remove e k) (turn_from_step (record { place = k; removable = b; left = refl })))
 
 pub end_by_weaker : {B Z : Test} → Straightens B Z → {c d f : List Point} → Reach B c d → End Z d f → End Z c f
-end_by_weaker st r w = record { reached = reach_trans (reach_by_weaker st r) w.reached; none_left = w.none_left }
+end_by_weaker st r w = record { reached = reach_trans (reach_by_weaker st.weaker r) w.reached; none_left = w.none_left }
 
 pub keeps_three : {B Z : Test} → Straightens B Z → {c d f : List Point} → End B c d → 3 ≤ length d → End Z d f → 3 ≤ length f
-keeps_three st {d = d} w h a = never_collapses st h (done_from_none_left d w.none_left) a.reached
+keeps_three st w h a = (keeps_none st h w.none_left a.reached).0

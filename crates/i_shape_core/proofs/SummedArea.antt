@@ -13,11 +13,14 @@ use Rattle.i_shape_core.specs.Convex.{last_of}
 use Rattle.i_shape_core.proofs.Turns.{edge}
 use Rattle.i_shape_core.proofs.Dedup.{last_of_append}
 use Rattle.i_shape_core.proofs.Walked.{path_over, between_is}
-use Rattle.i_shape_core.proofs.Areas.{sum_push}
 
 -- what the edges of the way from a over the points add to twice the area
 abbrev pub area_along : Point → List Point → ℤ
 area_along a ps = sum_of_edges area_of_edge (path_over a ps)
+
+sum_push : (f : Edge → ℤ) (es : List Edge) (e : Edge) → sum_of_edges f (es ++ e ∷ []) ≡ sum_of_edges f es +ℤ f e
+sum_push f [] e = omega (arith, ints)
+sum_push f (d ∷ es) e = let h = sum_push f es e in omega (arith, ints)
 
 path_push : (a : Point) (ps : List Point) (q : Point) → path_over a (ps ++ q ∷ []) ≡ path_over a ps ++ edge (last_of a ps) q ∷ []
 path_push a [] q = refl
@@ -26,18 +29,12 @@ path_push a (p ∷ ps) q = ap (λ (es : List Edge). edge a p ∷ es) (path_push 
 -- one point more
 area_push : (a : Point) (ps : List Point) (q : Point) → area_along a (ps ++ q ∷ []) ≡ area_along a ps +ℤ cross_of (last_of a ps) q
 unfolding area_of_edge
-area_push a ps q = ap (sum_of_edges area_of_edge) (path_push a ps q) ∙ sum_push area_of_edge (path_over a ps) (edge (last_of a ps) q) ∙ swapped (cross_of (last_of a ps) q) (area_along a ps)
-  where
-    swapped : (s t : ℤ) → s +ℤ t ≡ t +ℤ s
-    swapped s t = omega (arith, ints)
+area_push a ps q = ap (sum_of_edges area_of_edge) (path_push a ps q) ∙ sum_push area_of_edge (path_over a ps) (edge (last_of a ps) q)
 
 -- and the edge that closes the contour
 area_closed : (a : Point) (ps : List Point) → shoelace (a ∷ ps) ≡ area_along a ps +ℤ cross_of (last_of a ps) a
 unfolding area_of_edge shoelace
-area_closed a ps = ap (sum_of_edges area_of_edge) (between_is a ps a) ∙ sum_push area_of_edge (path_over a ps) (edge (last_of a ps) a) ∙ swapped (cross_of (last_of a ps) a) (area_along a ps)
-  where
-    swapped : (s t : ℤ) → s +ℤ t ≡ t +ℤ s
-    swapped s t = omega (arith, ints)
+area_closed a ps = ap (sum_of_edges area_of_edge) (between_is a ps a) ∙ sum_push area_of_edge (path_over a ps) (edge (last_of a ps) a)
 
 -- a sum that starts at zero
 pub wrapped-zero : (w : Width) (z : ℤ) → z ≡ pos 0 → z ≡ int_wrap w (pos 0)
@@ -54,9 +51,6 @@ wrapped-more w before after s t e f = f ∙ ap (λ (z : ℤ). int_wrap w (z +ℤ
 pub record IsSummed {I : Type 0} (value : I → ℤ) (w : Width) (first : IntPoint I) (taken : List (IntPoint I)) (previous : IntPoint I) (area : ℤ) : Type 0 where
   pub here : point_of value previous ≡ last_of (point_of value first) (contour_of value taken)
   pub sum : area ≡ int_wrap w (area_along (point_of value first) (contour_of value taken))
-
-pub summed-first : {I : Type 0} (value : I → ℤ) (w : Width) (first : IntPoint I) (zero : ℤ) → zero ≡ pos 0 → IsSummed value w first [] first zero
-summed-first value w first zero e = record { here = refl; sum = wrapped-zero w zero e }
 
 pub summed-more : {I : Type 0} (value : I → ℤ) (w : Width) (first : IntPoint I) (taken : List (IntPoint I)) (previous point : IntPoint I) (before product after : ℤ)
     → IsSummed value w first taken previous before → product ≡ cross_of (point_of value previous) (point_of value point) → after ≡ int_wrap w (before +ℤ product)

@@ -20,7 +20,7 @@ dot_term a b c = plus (times (plus b.x (minus a.x)) (plus c.x (minus b.x))) (tim
 abbrev pub area_term : Place → Place → Term
 area_term a b = plus (times a.x b.y) (minus (times a.y b.x))
 
--- the first five points of the list
+-- the first four points of the list
 abbrev pub A : Place
 A = record { x = variable 0; y = variable 1 }
 
@@ -32,9 +32,6 @@ C = record { x = variable 4; y = variable 5 }
 
 abbrev pub D : Place
 D = record { x = variable 6; y = variable 7 }
-
-abbrev pub E : Place
-E = record { x = variable 8; y = variable 9 }
 
 abbrev pub coordinates : List Point → List ℤ
 coordinates [] = []
@@ -48,6 +45,12 @@ triangle a b c = ring (coordinates (a ∷ b ∷ c ∷ [])) (cross_term A B C) (c
 pub cross_reversed : (a b c : Point) → cross c b a ≡ neg_ℤ (cross a b c)
 unfolding cross
 cross_reversed a b c = ring (coordinates (a ∷ b ∷ c ∷ [])) (cross_term C B A) (minus (cross_term A B C)) refl
+
+pub zero_reversed : (a b c : Point) → cross a b c ≡ pos 0 → cross c b a ≡ pos 0
+zero_reversed a b c e = back (cross a b c) (cross c b a) (cross_reversed a b c) e
+  where
+    back : (x y : ℤ) → y ≡ neg_ℤ x → x ≡ pos 0 → y ≡ pos 0
+    back x y e f = omega (arith, ints)
 
 pub dot_reversed : (a b c : Point) → dot c b a ≡ dot a b c
 unfolding dot

@@ -1,13 +1,13 @@
 -- The walk over a contour that starts from its last point, and counts the edges that pass a point on its right.
-use Rattle.std.proofs.Common.{◌≡◌, ℕ, zero, suc, ◌+◌, ◌%◌, ◌<◌, ◌≤◌, List, [], ◌∷◌, ◌++◌, length, drop, get_or, ℤ, pos, int_lt, refl, sym, ap, subst, ◌∙◌, arith, ◌↔◌, Bool, true, false, not, cond, count_by, IsTrue, add-one, ◌-◌}
-use Rattle.std.proofs.Math.Seq.{drop-cons}
+use Rattle.std.proofs.Common.{◌≡◌, ℕ, suc, ◌+◌, ◌%◌, ◌<◌, ◌≤◌, List, [], ◌∷◌, ◌++◌, length, drop, get_or, ℤ, pos, int_lt, refl, sym, ap, subst, ◌∙◌, arith, ◌↔◌, Bool, true, false, not, cond, count_by, IsTrue, ◌-◌}
 use Rattle.i_shape_core.specs.IntPoint.{point_of, contour_of}
 use Rattle.i_shape_core.specs.declared.point.IntPoint.{IntPoint}
 use Rattle.std.proofs.lemmas.List.Sums.{sum_by-cons, sum_by_push}
 use mathlib.Core.Bool.{beq}
-use Rattle.i_shape_core.specs.Point.{Point, cross}
+use Rattle.i_shape_core.specs.Point.{Point, origin, cross}
 use Rattle.i_shape_core.specs.Edges.{Edge, edges_between, edges, is_right, Inside}
 use Rattle.i_shape_core.specs.Convex.{last_of}
+use Rattle.i_shape_core.proofs.Contours.{rest-read, rest-none}
 use Rattle.i_shape_core.proofs.Turns.{edge}
 use Rattle.i_shape_core.proofs.Inside.{bit, tally, right_when}
 
@@ -70,42 +70,35 @@ walk_done c p false e = (λ h. absurd (cc), λ h. absurd (omega arith))
 abbrev pub Counted : {I : Type 0} → (I → ℤ) → Point → List (IntPoint I) → ℕ → IntPoint I → Bool → Type 0
 Counted value p cs i start s = (bit s + count_by (is_right p) (path_over (point_of value start) (contour_of value (drop i cs)))) % 2 ≡ count_by (is_right p) (edges (contour_of value cs)) % 2
 
-pub last_item : {I : Type 0} (value : I → ℤ) (x : IntPoint I) (xs : List (IntPoint I)) (d : IntPoint I) → point_of value (get_or (x ∷ xs) (length xs) d) ≡ last_of (point_of value x) (contour_of value xs)
+last_item : {I : Type 0} (value : I → ℤ) (x : IntPoint I) (xs : List (IntPoint I)) (d : IntPoint I) → point_of value (get_or (x ∷ xs) (length xs) d) ≡ last_of (point_of value x) (contour_of value xs)
 last_item value x [] d = refl
 last_item value x (y ∷ xs) d = last_item value y xs d
+
+pub last_point : {I : Type 0} (value : I → ℤ) (cs : List (IntPoint I)) (last : IntPoint I) → 0 < length cs → last ≡ get_or cs (length cs - 1) last → point_of value last ≡ last_of origin (contour_of value cs)
+last_point value [] last h e = absurd (omega arith)
+last_point value (x ∷ xs) last h e = ap (point_of value) (e ∙ ap (λ (i : ℕ). get_or (x ∷ xs) i last) (less_one (length xs))) ∙ last_item value x xs last
+  where
+    less_one : (n : ℕ) → suc n - 1 ≡ n
+    less_one n = omega arith
 
 pub walk_start : {I : Type 0} (value : I → ℤ) (p : Point) (cs : List (IntPoint I)) (last : IntPoint I) → 0 < length cs → last ≡ get_or cs (length cs - 1) last → Counted value p cs 0 last false
 walk_start value p [] last h e = absurd (omega arith)
 walk_start value p (x ∷ xs) last h e = ap (λ (n : ℕ). n % 2) (zero_plus (count_by (is_right p) (path_over (point_of value last) (contour_of value (x ∷ xs)))))
-    ∙ ap (λ (q : Point). count_by (is_right p) (path_over q (contour_of value (x ∷ xs))) % 2) at_last
+    ∙ ap (λ (q : Point). count_by (is_right p) (path_over q (contour_of value (x ∷ xs))) % 2) (last_point value (x ∷ xs) last h e)
     ∙ ap (λ (n : ℕ). n % 2) (walk_counts (is_right p) (point_of value x) (contour_of value xs))
   where
     zero_plus : (n : ℕ) → 0 + n ≡ n
     zero_plus n = omega arith
 
-    less_one : (n : ℕ) → suc n - 1 ≡ n
-    less_one n = omega arith
-
-    at_last : point_of value last ≡ last_of (point_of value x) (contour_of value xs)
-    at_last = ap (point_of value) (e ∙ ap (λ (i : ℕ). get_or (x ∷ xs) i last) (less_one (length xs))) ∙ last_item value x xs last
-
 pub walk_step : {I : Type 0} (value : I → ℤ) (p : Point) (cs : List (IntPoint I)) (i : ℕ) (start x : IntPoint I) (s s' : Bool) → i < length cs → x ≡ get_or cs i x
     → Counted value p cs i start s → s' ≡ cond (is_right p (edge (point_of value start) (point_of value x))) (not s) s → Counted value p cs (i + 1) x s'
 walk_step {I} value p cs i start x s s' h e k f =
-    rw (f, add-one i) (walk_more p (point_of value start) (point_of value x) (contour_of value (drop (suc i) cs)) s (count_by (is_right p) (edges (contour_of value cs)) % 2)
-    (subst (λ (ds : List (IntPoint I)). (bit s + count_by (is_right p) (path_over (point_of value start) (contour_of value ds))) % 2 ≡ count_by (is_right p) (edges (contour_of value cs)) % 2)
-    (drop-cons cs i x h ∙ ap (λ (y : IntPoint I). y ∷ drop (suc i) cs) (sym e)) k))
+    rw f (walk_more p (point_of value start) (point_of value x) (contour_of value (drop (i + 1) cs)) s (count_by (is_right p) (edges (contour_of value cs)) % 2)
+    (subst (λ (ps : List Point). (bit s + count_by (is_right p) (path_over (point_of value start) ps)) % 2 ≡ count_by (is_right p) (edges (contour_of value cs)) % 2) (rest-read value cs i x h e) k))
 
 pub walk_end : {I : Type 0} (value : I → ℤ) (p : Point) (cs : List (IntPoint I)) (i : ℕ) (start : IntPoint I) (s : Bool) → length cs ≤ i → Counted value p cs i start s → IsTrue s ↔ Inside (contour_of value cs) p
 walk_end {I} value p cs i start s h k = walk_done (contour_of value cs) p s
-    (subst (λ (ds : List (IntPoint I)). (bit s + count_by (is_right p) (path_over (point_of value start) (contour_of value ds))) % 2 ≡ count_by (is_right p) (edges (contour_of value cs)) % 2)
-    (drop_past cs i h) k)
-  where
-    drop_past : {X : Type 0} (xs : List X) (i : ℕ) → length xs ≤ i → drop i xs ≡ []
-    drop_past [] zero h = refl
-    drop_past [] (suc i) h = refl
-    drop_past (x ∷ xs) zero h = absurd (omega arith)
-    drop_past (x ∷ xs) (suc i) h = drop_past xs i (omega arith)
+    (subst (λ (ps : List Point). (bit s + count_by (is_right p) (path_over (point_of value start) ps)) % 2 ≡ count_by (is_right p) (edges (contour_of value cs)) % 2) (rest-none value cs i h) k)
 
 pub nothing_inside : {I : Type 0} (value : I → ℤ) (p : Point) (cs : List (IntPoint I)) → length cs ≤ 0 → IsTrue false ↔ Inside (contour_of value cs) p
 unfolding Inside

@@ -1,6 +1,7 @@
 //! The canonical form of a contour: the least rotation of what is left of it without zero turns.
 
 ghost use Rattle.std.specs.Prelude.{◌≡◌, ◌⊎◌, ℕ, ◌+◌, ◌-◌, ◌*◌, ◌<◌, ◌≤◌, min, length, vec_len, IfOk, IsOkUnless, option_map};
+ghost use Rattle.std.specs.Option.{IfSome};
 ghost use Rattle.std.specs.List.{All};
 ghost use Rattle.std.specs.Ordering.{MatchOrdering};
 ghost use Rattle.i_shape_core.specs.IntPoint.{point_of, contour_of, IsSafe};
@@ -25,6 +26,7 @@ impl ContourSimplifier {
         requires { All (IsSafe I.width) (contour_of I.value contour.now) }
         ensures answer { IfOk result (λ r. CanonicalAnswer (contour_of I.value contour.now) (option_map (λ kept. contour_of I.value kept.items) r)) }
         ensures kept { IfOk result (λ r. KeptAnswer (contour_of I.value contour.now) (option_map (λ kept. contour_of I.value kept.items) r)) }
+        ensures safe { IfOk result (λ r. IfSome r (λ kept. All (IsSafe I.width) (contour_of I.value kept.items))) }
         ensures short { length contour.now < 3 → result ≡ Ok None }
         ensures memory { IsOkUnless result ShapeError.OutOfMemory }
     {

@@ -1,6 +1,7 @@
 //! Contours without spikes: the test, and the cleaned copy.
 
 ghost use Rattle.std.specs.Prelude.{◌≡◌, ◌↔◌, ◌+◌, ◌-◌, ◌*◌, ◌^◌, ◌<◌, ◌≤◌, List, length, reverse, IsTrue, IfOk, IsOkUnless, not, option_map};
+ghost use Rattle.std.specs.Option.{IfSome};
 ghost use Rattle.std.specs.List.{All, find};
 ghost use Rattle.i_shape_core.specs.IntPoint.{contour_of, point_of, IsSafe};
 ghost use Rattle.i_shape_core.specs.Point.{Point, IsBack};
@@ -30,12 +31,14 @@ pub trait DeSpikeContour<I: IntNumber> {
 
     /// The contour without the points at which the way turns back or stands still, in the order of the input.
     /// `None` exactly where removing zero turns in any order leaves fewer than three points; otherwise such removals
-    /// lead from the answer to the same contour as from the input. Double area and containment are kept.
+    /// lead from the answer to the same contour as from the input. Double area and containment are kept, and the points
+    /// are safe again.
     /// The only error is `OutOfMemory`; below three points no memory is taken.
     fn despiked_contour(&self, alloc: Global) -> Result<Option<IntContour<I>>, ShapeError>
         requires { All (IsSafe I.width) (contour self.now) }
         ensures answer { IfOk result (λ r. SpikelessAnswer (contour self.now) (option_map (λ kept. contour_of I.value kept.items) r)) }
         ensures kept { IfOk result (λ r. KeptAnswer (contour self.now) (option_map (λ kept. contour_of I.value kept.items) r)) }
+        ensures safe { IfOk result (λ r. IfSome r (λ kept. All (IsSafe I.width) (contour_of I.value kept.items))) }
         ensures short { length (contour self.now) < 3 → result ≡ Ok None }
         ensures memory { IsOkUnless result ShapeError.OutOfMemory };
 
@@ -45,6 +48,7 @@ pub trait DeSpikeContour<I: IntNumber> {
         requires { All (IsSafe I.width) (contour self.now) }
         ensures answer { IfOk result (λ r. SpikelessAnswer (contour self.now) (option_map (λ kept. contour_of I.value kept.items) r.0)) }
         ensures kept { IfOk result (λ r. KeptAnswer (contour self.now) (option_map (λ kept. contour_of I.value kept.items) r.0)) }
+        ensures safe { IfOk result (λ r. IfSome r.0 (λ kept. All (IsSafe I.width) (contour_of I.value kept.items))) }
         ensures visits { IfOk result (λ r. VisitsAnswer (contour self.now) (option_map (λ kept. contour_of I.value kept.items) r.0) r.1) }
         ensures short { length (contour self.now) < 3 → result ≡ Ok (None, 0) }
         ensures memory { IsOkUnless result ShapeError.OutOfMemory };

@@ -1,6 +1,7 @@
 //! Contours without zero turns: the test, the cleaned copy and its canonical form.
 
 ghost use Rattle.std.specs.Prelude.{◌≡◌, ◌↔◌, ◌<◌, List, length, IsTrue, IfOk, IsOkUnless, option_map};
+ghost use Rattle.std.specs.Option.{IfSome};
 ghost use Rattle.std.specs.List.{All};
 ghost use Rattle.i_shape_core.specs.IntPoint.{contour_of, IsSafe};
 ghost use Rattle.i_shape_core.specs.Point.{Point};
@@ -26,24 +27,27 @@ pub trait SimpleContour<I: IntNumber> {
         ensures { IsTrue result ↔ IsSimple (contour self.now) };
 
     /// The contour without zero turns, in the order of the input: the one end up to rotation of removing them in any order.
-    /// `None` exactly where every order leaves fewer than three points. Double area and containment are kept.
+    /// `None` exactly where every order leaves fewer than three points. Double area and containment are kept, and the points
+    /// are safe again.
     /// The only error is `OutOfMemory`; below three points no memory is taken.
     fn simplified(&self, alloc: Global) -> Result<Option<IntContour<I>>, ShapeError>
         requires { All (IsSafe I.width) (contour self.now) }
         ensures answer { IfOk result (λ r. SimpleAnswer (contour self.now) (option_map (λ kept. contour_of I.value kept.items) r)) }
         ensures kept { IfOk result (λ r. KeptAnswer (contour self.now) (option_map (λ kept. contour_of I.value kept.items) r)) }
+        ensures safe { IfOk result (λ r. IfSome r (λ kept. All (IsSafe I.width) (contour_of I.value kept.items))) }
         ensures short { length (contour self.now) < 3 → result ≡ Ok None }
         ensures memory { IsOkUnless result ShapeError.OutOfMemory };
 
     /// The canonical form: of the contour without zero turns the rotation that comes first, where lists are compared
     /// point by point, and points by x and then by y. Two contours that don't collapse have the same canonical form
     /// exactly where removals and insertions of zero-turn vertices, and rotations, lead from one to the other.
-    /// `None` exactly where `simplified` is. Winding, double area and containment are kept.
+    /// `None` exactly where `simplified` is. Winding, double area and containment are kept, and the points are safe again.
     /// The only error is `OutOfMemory`; below three points no memory is taken.
     fn canonical(&self, alloc: Global) -> Result<Option<IntContour<I>>, ShapeError>
         requires { All (IsSafe I.width) (contour self.now) }
         ensures answer { IfOk result (λ r. CanonicalAnswer (contour self.now) (option_map (λ kept. contour_of I.value kept.items) r)) }
         ensures kept { IfOk result (λ r. KeptAnswer (contour self.now) (option_map (λ kept. contour_of I.value kept.items) r)) }
+        ensures safe { IfOk result (λ r. IfSome r (λ kept. All (IsSafe I.width) (contour_of I.value kept.items))) }
         ensures short { length (contour self.now) < 3 → result ≡ Ok None }
         ensures memory { IsOkUnless result ShapeError.OutOfMemory };
 }

@@ -1,6 +1,7 @@
 //! The cleaner that removes zero turns.
 
 ghost use Rattle.std.specs.Prelude.{◌≡◌, ◌↔◌, ◌+◌, ◌-◌, ◌*◌, ◌^◌, ◌<◌, ◌≤◌, [], take, drop, min, IsTrue, length, vec_len, vec_capacity, IfOk, IsOkUnless, option_map};
+ghost use Rattle.std.specs.Option.{IfSome};
 ghost use Rattle.std.specs.List.{All};
 ghost use Rattle.i_shape_core.specs.IntPoint.{contour_of, IsSafe};
 ghost use Rattle.i_shape_core.specs.Point.{IsZeroTurn};
@@ -39,6 +40,7 @@ impl ContourSimplifier {
         requires { All (IsSafe I.width) (contour_of I.value contour.now) }
         ensures answer { IfOk result (λ r. SimpleAnswer (contour_of I.value contour.now) (option_map (λ kept. contour_of I.value kept.items) r)) }
         ensures kept { IfOk result (λ r. KeptAnswer (contour_of I.value contour.now) (option_map (λ kept. contour_of I.value kept.items) r)) }
+        ensures safe { IfOk result (λ r. IfSome r (λ kept. All (IsSafe I.width) (contour_of I.value kept.items))) }
         ensures short { length contour.now < 3 → result ≡ Ok None }
         ensures memory { IsOkUnless result ShapeError.OutOfMemory }
     {
@@ -55,6 +57,7 @@ impl ContourSimplifier {
         requires { All (IsSafe I.width) (contour_of I.value contour.now) }
         ensures answer { IfOk result (λ r. SimpleAnswer (contour_of I.value contour.now) (option_map (λ kept. contour_of I.value kept.items) r.0)) }
         ensures kept { IfOk result (λ r. KeptAnswer (contour_of I.value contour.now) (option_map (λ kept. contour_of I.value kept.items) r.0)) }
+        ensures safe { IfOk result (λ r. IfSome r.0 (λ kept. All (IsSafe I.width) (contour_of I.value kept.items))) }
         ensures visits { IfOk result (λ r. VisitsAnswer (contour_of I.value contour.now) (option_map (λ kept. contour_of I.value kept.items) r.0) r.1) }
         ensures short { length contour.now < 3 → result ≡ Ok (None, 0) }
         ensures memory { IsOkUnless result ShapeError.OutOfMemory }

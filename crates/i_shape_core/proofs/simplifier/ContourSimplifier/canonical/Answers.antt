@@ -1,5 +1,10 @@
+use Rattle.i_shape_core.specs.IntPoint.{IsSafe}
+use Rattle.i_shape_core.proofs.Rotations.{all_turned}
 use Rattle.i_shape_core.proofs.RotatedEdges.{kept_by_rotation}
 use Rattle.i_shape_core.proofs.simplifier.ContourSimplifier.canonical.Goals as goal
 
 pub returns-clause-kept : goal.returns-clause-kept
 returns-clause-kept g c = kept_by_rotation _ _ _ (rw c.in-Some.is at c.in_ok-kept.ensures.kept) c.turn_to_least.ensures.rotation
+
+pub returns-clause-safe : goal.returns-clause-safe
+returns-clause-safe g c = all_turned (IsSafe g.I.IntNumber.width) c.turn_to_least.ensures.rotation (rw c.in-Some.is at c.in_ok-kept.ensures.safe)
