@@ -1,22 +1,21 @@
 -- When a buffer holds contours.
-use Rattle.std.proofs.Common.{◌≡◌, ◌+◌, ◌≤◌, List, [], ◌++◌, length, vec_len, refl, sym, ap, ◌∙◌, arith, append-nil}
+use Rattle.std.proofs.Common.{◌≡◌, ◌+◌, List, [], ◌++◌, length, vec_len, sym, ap, arith}
 use Rattle.i_shape_core.specs.declared.point.IntPoint.{IntPoint}
 use Rattle.i_shape.specs.declared.flat.buffer.contours.FlatContoursBuffer.{FlatContoursBuffer}
-use Rattle.i_shape.specs.Flat.{slices, joined, end_to_end}
+use Rattle.i_shape_source.specs.Paths.{joined}
+use Rattle.i_shape.specs.Flat.{end_to_end}
 use Rattle.i_shape.specs.ContoursBuffer.{HoldsContours}
-use Rattle.i_shape.proofs.EndToEnd.{joined-append, end_to_end-append, slices-end_to_end, InOrder-end_to_end}
+use Rattle.i_shape.proofs.EndToEnd.{joined-append, end_to_end-append, slices_joined, InOrder_joined}
 
 -- where its two lists have the points and the ranges of contours end to end
 pub HoldsContours-from_lists : {T : Type 0} (buffer : FlatContoursBuffer T) (contours : List (List (IntPoint T))) →
     buffer.points.items ≡ joined contours → buffer.ranges.items ≡ end_to_end 0 contours → HoldsContours buffer contours
 HoldsContours-from_lists buffer contours all named =
-    let whole : joined contours ≡ joined contours ++ [] = sym (append-nil (joined contours)) in
-    let fits : 0 + length (joined contours) ≤ length (joined contours) = omega arith in
     record {
       points = all;
       ranges = named;
-      readable = rw (all, named) (InOrder-end_to_end contours 0 (length (joined contours)) fits);
-      slices = rw (all, named) (ap (λ w. slices w (end_to_end 0 contours)) whole ∙ slices-end_to_end [] [] contours 0 refl);
+      readable = rw (all, named) (InOrder_joined contours);
+      slices = rw (all, named) (slices_joined contours);
     }
 
 -- where more contours were appended to a buffer that holds some

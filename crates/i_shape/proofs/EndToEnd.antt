@@ -1,11 +1,13 @@
 -- Lists end to end, and the ranges that name them.
 use Rattle.std.proofs.Common.{suc, ◌-◌, add-zero, ◌≡◌, ℕ, ◌+◌, ◌<◌, ◌≤◌, List, [], ◌∷◌, ◌++◌, length, get_or, take, drop, map, refl, sym, ap, ◌∙◌, append_assoc, arith, length-append}
-use Rattle.std.proofs.lemmas.List.{length-map, take_more, map-append, take-append-drop, take_at, drop_at, append-nil}
+use Rattle.std.proofs.lemmas.List.{length-map, map-append, take-append-drop, take_at, drop_at, append-nil}
 use Rattle.std.specs.declared.ops.Range.{Range}
 use Rattle.std.specs.Global.{Vec}
 use Rattle.std.specs.List.{All}
 use Rattle.std.proofs.lemmas.List.Elements.{All-cons, All-nil}
-use Rattle.i_shape.specs.Flat.{InOrder, part_of, slices, contour_lists, joined, end_to_end}
+use Rattle.i_shape_source.specs.Paths.{paths_of_shape, joined}
+use Rattle.i_shape.specs.Flat.{InOrder, part_of, slices, end_to_end}
+use Rattle.i_shape.proofs.Surviving.{taken}
 
 pub joined-append : {P : Type 0} (cs ds : List (List P)) → joined (cs ++ ds) ≡ joined cs ++ joined ds
 joined-append [] ds = refl
@@ -54,31 +56,57 @@ InOrder-end_to_end (a ∷ cs) start n le =
     let within : start + length a + length (joined cs) ≤ n = omega arith in
     All-cons (InOrder n) _ _ (omega arith, omega arith) (InOrder-end_to_end cs (start + length a) n within)
 
--- A loop that goes through a list of things that each stand for a list, as a vector does, at the thing x of place i.
-module _ {X P : Type 0} (f : X → List P) (xs : List X) (i : ℕ) (x : X) (lt : i < length xs) (read : x ≡ get_or xs i x) where
-  pub map_step : map f (take (i + 1) xs) ≡ map f (take i xs) ++ f x ∷ []
-  map_step = rw (take_more xs i x lt, map-append) (rw (← read) refl)
+-- all of the lists are named
+pub slices_joined : {P : Type 0} (cs : List (List P)) → slices (joined cs) (end_to_end 0 cs) ≡ cs
+slices_joined cs = ap (λ w. slices w (end_to_end 0 cs)) (sym (append-nil (joined cs))) ∙ slices-end_to_end [] [] cs 0 refl
 
-  pub joined_step : joined (map f (take (i + 1) xs)) ≡ joined (map f (take i xs)) ++ f x
-  joined_step =
-      rw (map_step, joined-append (map f (take i xs)) (f x ∷ [])) (ap (λ w. joined (map f (take i xs)) ++ w) (append-nil (f x)))
+pub InOrder_joined : {P : Type 0} (cs : List (List P)) → All (InOrder (length (joined cs))) (end_to_end 0 cs)
+InOrder_joined cs = InOrder-end_to_end cs 0 (length (joined cs)) (omega arith)
 
-  pub end_to_end_step : (start : ℕ) → end_to_end start (map f (take (i + 1) xs)) ≡ end_to_end start (map f (take i xs))
-      ++ record { start = start + length (joined (map f (take i xs))); end = start + length (joined (map f (take i xs))) + length (f x) } ∷ []
-  end_to_end_step start = rw (map_step, end_to_end-append start (map f (take i xs)) (f x ∷ [])) refl
+-- A loop over things that each stand for a list, as a vector does, which has seen some and is at the thing x.
+module _ {X P : Type 0} (f : X → List P) (seen : List X) (x : X) where
+  pub count_push : length (map f (seen ++ x ∷ [])) ≡ length (map f seen) + 1
+  count_push = ap length (map-append f seen (x ∷ [])) ∙ length-append (map f seen) (f x ∷ [])
+
+  pub joined_push : joined (map f (seen ++ x ∷ [])) ≡ joined (map f seen) ++ f x
+  joined_push =
+      ap joined (map-append f seen (x ∷ [])) ∙ joined-append (map f seen) (f x ∷ []) ∙ ap (λ w. joined (map f seen) ++ w) (append-nil (f x))
+
+  pub length_push : length (joined (map f (seen ++ x ∷ []))) ≡ length (joined (map f seen)) + length (f x)
+  length_push = ap length joined_push ∙ length-append (joined (map f seen)) (f x)
+
+  end_to_end_push : (start : ℕ) → end_to_end start (map f (seen ++ x ∷ [])) ≡ end_to_end start (map f seen)
+      ++ record { start = start + length (joined (map f seen)); end = start + length (joined (map f seen)) + length (f x) } ∷ []
+  end_to_end_push start = ap (end_to_end start) (map-append f seen (x ∷ [])) ∙ end_to_end-append start (map f seen) (f x ∷ [])
 
   -- `before`, `now` and `after` are a list as the loop began, before x and after x
+  pub points_push : (before now after part : List P) → now ≡ before ++ joined (map f seen) → part ≡ f x → after ≡ now ++ part →
+      after ≡ before ++ joined (map f (seen ++ x ∷ []))
+  points_push before now after part was is_part became =
+      rw (became, was, is_part, joined_push) (append_assoc before (joined (map f seen)) (f x))
+
+  pub ranges_push : (before now after : List (Range ℕ)) (start n k : ℕ) → now ≡ before ++ end_to_end start (map f seen) →
+      n ≡ start + length (joined (map f seen)) → k ≡ length (f x) →
+      after ≡ now ++ record { start = n; end = n + k } ∷ [] →
+      after ≡ before ++ end_to_end start (map f (seen ++ x ∷ []))
+  ranges_push before now after start n k was at is_length became =
+      rw (became, was, at, is_length, end_to_end_push start) (append_assoc before (end_to_end start (map f seen)) _)
+
+-- The same where x is the thing at place i of a list.
+module _ {X P : Type 0} (f : X → List P) (xs : List X) (i : ℕ) (x : X) (lt : i < length xs) (read : x ≡ get_or xs i x) where
+  pub joined_step : joined (map f (take (i + 1) xs)) ≡ joined (map f (take i xs)) ++ f x
+  joined_step = rw (taken xs i x lt read) (joined_push f (take i xs) x)
+
   pub points_step : (before now after part : List P) → now ≡ before ++ joined (map f (take i xs)) → part ≡ f x → after ≡ now ++ part →
       after ≡ before ++ joined (map f (take (i + 1) xs))
-  points_step before now after part was is_part became =
-      rw (became, was, is_part, joined_step) (append_assoc before (joined (map f (take i xs))) (f x))
+  points_step before now after part was is_part became = rw (taken xs i x lt read) (points_push f (take i xs) x before now after part was is_part became)
 
   pub ranges_step : (before now after : List (Range ℕ)) (start n k : ℕ) → now ≡ before ++ end_to_end start (map f (take i xs)) →
       n ≡ start + length (joined (map f (take i xs))) → k ≡ length (f x) →
       after ≡ now ++ record { start = n; end = n + k } ∷ [] →
       after ≡ before ++ end_to_end start (map f (take (i + 1) xs))
   ranges_step before now after start n k was at is_length became =
-      rw (became, was, at, is_length, end_to_end_step start) (append_assoc before (end_to_end start (map f (take i xs))) _)
+      rw (taken xs i x lt read) (ranges_push f (take i xs) x before now after start n k was at is_length became)
 
   pub length_step : (start n m k : ℕ) → n ≡ start + length (joined (map f (take i xs))) → k ≡ length (f x) → m ≡ n + k →
       m ≡ start + length (joined (map f (take (i + 1) xs)))
@@ -125,5 +153,5 @@ module _ {X P : Type 0} (f : X → List (List P)) (xs : List X) (i : ℕ) (x : X
       )
 
 -- vectors are as many as the lists that they stand for
-pub as_contours : {P : Type 0} (shape now : List (Vec P)) → now ≡ shape → length now ≡ length (contour_lists shape)
+pub as_contours : {P : Type 0} (shape now : List (Vec P)) → now ≡ shape → length now ≡ length (paths_of_shape shape)
 as_contours shape now e = ap length e ∙ sym (length-map shape (λ contour. contour.items))

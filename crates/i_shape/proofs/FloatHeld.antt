@@ -4,12 +4,13 @@ use Rattle.std.specs.List.{All, filter}
 use Rattle.std.specs.declared.ops.Range.{Range}
 use Rattle.std.proofs.lemmas.Bool.{le-leb}
 use Rattle.std.proofs.lemmas.List.Elements.{All-head, All-tail}
-use Rattle.i_shape.specs.Flat.{InOrder, slices, joined, end_to_end}
+use Rattle.i_shape_source.specs.Paths.{joined}
+use Rattle.i_shape.specs.Flat.{InOrder, slices, end_to_end}
 use Rattle.i_shape.specs.LentRanges.{is_readable}
 use Rattle.i_shape.specs.FloatBuffers.{LieEndToEnd, FormOneShape, in_one_shape}
 use Rattle.i_shape.specs.declared.flat.float.shapes.FloatFlatShapesBuffer.{FloatFlatShapesBuffer}
-use Rattle.i_shape.proofs.EndToEnd.{slices-end_to_end, InOrder-end_to_end, length-end_to_end}
-use Rattle.i_shape.proofs.ShapeRanges.{readable_from_within, shapes-end_to_end}
+use Rattle.i_shape.proofs.EndToEnd.{slices_joined, InOrder_joined}
+use Rattle.i_shape.proofs.ShapeRanges.{readable_joined, shapes-end_to_end}
 
 -- where every range can be read none is passed over
 readable_all : (n : ℕ) (ranges : List (Range ℕ)) → All (InOrder n) ranges → filter (is_readable n) ranges ≡ ranges
@@ -24,16 +25,12 @@ readable_all n (range ∷ ranges) h =
 pub LieEndToEnd-from_lists : {P : Type 0} (held : List P) (named : List (Range ℕ)) (paths : List (List P)) →
     held ≡ joined paths → named ≡ end_to_end 0 paths → LieEndToEnd held named paths
 LieEndToEnd-from_lists held named paths points_are ranges_are =
-    let fits : 0 + length (joined paths) ≤ length (joined paths) = omega arith in
-    let within : All (InOrder (length (joined paths))) (end_to_end 0 paths) = InOrder-end_to_end paths 0 (length (joined paths)) fits in
-    let cut : slices (joined paths) (end_to_end 0 paths) ≡ paths =
-    ap (λ w. slices w (end_to_end 0 paths)) (sym (append-nil (joined paths))) ∙ slices-end_to_end [] [] paths 0 refl in
     record {
       points = points_are;
       ranges = ranges_are;
-      readable = rw (points_are, ranges_are) within;
-      slices = rw (points_are, ranges_are) cut;
-      lent = rw (points_are, ranges_are) (ap (slices (joined paths)) (readable_all (length (joined paths)) (end_to_end 0 paths) within) ∙ cut);
+      readable = rw (points_are, ranges_are) (InOrder_joined paths);
+      slices = rw (points_are, ranges_are) (slices_joined paths);
+      lent = rw (points_are, ranges_are) (ap (slices (joined paths)) (readable_all (length (joined paths)) (end_to_end 0 paths) (InOrder_joined paths)) ∙ slices_joined paths);
     }
 
 -- where the paths were appended to empty lists, whose length is n
@@ -67,11 +64,8 @@ FormOneShape-from_lists buffer paths points_are contours_are shapes_are =
     let same = joined_one_shape paths in
     let points_are' : buffer.points.items ≡ joined (joined list) = points_are ∙ ap joined (sym same) in
     let contours_are' : buffer.contour_ranges.items ≡ end_to_end 0 (joined list) = contours_are ∙ ap (end_to_end 0) (sym same) in
-    let points_fit : 0 + length (joined (joined list)) ≤ length (joined (joined list)) = omega arith in
-    let contours_fit : 0 + length (joined list) ≤ length (end_to_end 0 (joined list)) = omega (arith, length-end_to_end 0 (joined list)) in
-    let within : All (InOrder (length (joined (joined list)))) (end_to_end 0 (joined list)) = InOrder-end_to_end (joined list) 0 (length (joined (joined list))) points_fit in
     record {
       shape_ranges = shapes_are;
-      readable = rw (points_are', contours_are', shapes_are) (readable_from_within _ _ _ within (InOrder-end_to_end list 0 _ contours_fit));
+      readable = rw (points_are', contours_are', shapes_are) (readable_joined list);
       shapes = rw (points_are', contours_are', shapes_are) (shapes-end_to_end list);
     }

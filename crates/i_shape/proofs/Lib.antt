@@ -1,10 +1,10 @@
+pub mod Surviving
 pub mod EndToEnd
 pub mod ContoursHeld
 pub mod ShapeRanges
 pub mod ShapesHeld
 pub mod LentPaths
 pub mod FloatHeld
-pub mod Surviving
 pub mod CompactLaws
 pub mod WrappedSums
 pub mod SpikesLeft

@@ -5,8 +5,9 @@ use Rattle.std.proofs.lemmas.List.Elements.{All-head, All-tail, All-take, All-dr
 use Rattle.std.proofs.lemmas.Bool.{cases_lt}
 use Rattle.std.specs.List.{All}
 use Rattle.std.specs.declared.ops.Range.{Range}
-use Rattle.i_shape.specs.Flat.{InOrder, IsReadableShape, part_of, slices, shapes, joined, end_to_end}
-use Rattle.i_shape.proofs.EndToEnd.{slices-end_to_end, InOrder-end_to_end, length-end_to_end}
+use Rattle.i_shape_source.specs.Paths.{joined}
+use Rattle.i_shape.specs.Flat.{InOrder, IsReadableShape, part_of, slices, shapes, end_to_end}
+use Rattle.i_shape.proofs.EndToEnd.{slices-end_to_end, slices_joined, InOrder-end_to_end, InOrder_joined, length-end_to_end}
 
 pub slices-part_of : {P : Type 0} (points : List P) (ranges : List (Range ℕ)) (range : Range ℕ) → slices points (part_of ranges range) ≡ part_of (slices points ranges) range
 slices-part_of points ranges range =
@@ -62,11 +63,16 @@ last_shape points ranges shape n range count is_range =
     ∙ slices-end_to_end points [] shape (length points) refl
 
 -- where each contour range and each shape range lies within
-pub readable_from_within : (n : ℕ) (contour_ranges shape_ranges : List (Range ℕ)) → All (InOrder n) contour_ranges → All (InOrder (length contour_ranges)) shape_ranges →
+readable_from_within : (n : ℕ) (contour_ranges shape_ranges : List (Range ℕ)) → All (InOrder n) contour_ranges → All (InOrder (length contour_ranges)) shape_ranges →
     All (IsReadableShape n contour_ranges) shape_ranges
 readable_from_within n contour_ranges shape_ranges contours_within shapes_within =
     All-weaker (InOrder (length contour_ranges)) (IsReadableShape n contour_ranges)
     (λ range within forwards. (within.1, All-take (InOrder n) _ _ (All-drop (InOrder n) _ _ contours_within))) shape_ranges shapes_within
+
+pub readable_joined : {P : Type 0} (list : List (List (List P))) → All (IsReadableShape (length (joined (joined list))) (end_to_end 0 (joined list))) (end_to_end 0 list)
+readable_joined list =
+    let fits : 0 + length (joined list) ≤ length (end_to_end 0 (joined list)) = omega (arith, length-end_to_end 0 (joined list)) in
+    readable_from_within _ _ _ (InOrder_joined (joined list)) (InOrder-end_to_end list 0 _ fits)
 
 -- one more shape keeps the others readable, and is readable
 pub readable-append : {P : Type 0} (points : List P) (ranges shape_ranges : List (Range ℕ)) (shape : List (List P)) (n : ℕ) (range : Range ℕ) →
@@ -107,9 +113,5 @@ shapes_by_parts points ranges (range ∷ shape_ranges) =
 -- shapes end to end are the shapes
 pub shapes-end_to_end : {P : Type 0} (list : List (List (List P))) → shapes (joined (joined list)) (end_to_end 0 (joined list)) (end_to_end 0 list) ≡ list
 shapes-end_to_end list =
-    let contours : slices (joined (joined list)) (end_to_end 0 (joined list)) ≡ joined list =
-    ap (λ w. slices w (end_to_end 0 (joined list))) (sym (append-nil (joined (joined list)))) ∙ slices-end_to_end [] [] (joined list) 0 refl in
-    let by_parts : shapes (joined (joined list)) (end_to_end 0 (joined list)) (end_to_end 0 list) ≡ slices (slices (joined (joined list)) (end_to_end 0 (joined list))) (end_to_end 0 list) =
-    shapes_by_parts (joined (joined list)) (end_to_end 0 (joined list)) (end_to_end 0 list) in
-    by_parts ∙ ap (λ w. slices w (end_to_end 0 list)) contours
-    ∙ ap (λ w. slices w (end_to_end 0 list)) (sym (append-nil (joined list))) ∙ slices-end_to_end [] [] list 0 refl
+    shapes_by_parts (joined (joined list)) (end_to_end 0 (joined list)) (end_to_end 0 list)
+    ∙ ap (λ w. slices w (end_to_end 0 list)) (slices_joined (joined list)) ∙ slices_joined list

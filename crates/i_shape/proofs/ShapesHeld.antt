@@ -1,29 +1,26 @@
 -- When a buffer holds shapes.
-use Rattle.std.proofs.Common.{◌≡◌, ℕ, ◌+◌, ◌≤◌, List, [], ◌∷◌, ◌++◌, length, vec_len, refl, sym, ap, ◌∙◌, arith, append-nil}
-use Rattle.std.specs.List.{All}
+use Rattle.std.proofs.Common.{◌≡◌, ℕ, ◌+◌, List, [], ◌∷◌, ◌++◌, length, vec_len, refl, sym, ap, ◌∙◌, append-nil}
 use Rattle.std.specs.declared.ops.Range.{Range}
 use Rattle.i_shape_core.specs.declared.point.IntPoint.{IntPoint}
 use Rattle.i_shape.specs.declared.flat.buffer.shapes.FlatShapesBuffer.{FlatShapesBuffer}
-use Rattle.i_shape.specs.Flat.{InOrder, slices, joined, end_to_end}
+use Rattle.i_shape_source.specs.Paths.{joined}
+use Rattle.i_shape.specs.Flat.{end_to_end}
 use Rattle.i_shape.specs.ShapesBuffer.{HoldsShapes, AddsShape}
-use Rattle.i_shape.proofs.EndToEnd.{slices-end_to_end, InOrder-end_to_end, length-end_to_end}
-use Rattle.i_shape.proofs.ShapeRanges.{readable_from_within, shapes-end_to_end, readable-append, shapes-push}
+use Rattle.i_shape.proofs.EndToEnd.{slices_joined, InOrder_joined}
+use Rattle.i_shape.proofs.ShapeRanges.{readable_joined, shapes-end_to_end, readable-append, shapes-push}
 
 -- where its lists have the points and the ranges of shapes end to end
 pub HoldsShapes-from_lists : {T : Type 0} (buffer : FlatShapesBuffer T) (list : List (List (List (IntPoint T)))) →
     buffer.points.items ≡ joined (joined list) → buffer.contour_ranges.items ≡ end_to_end 0 (joined list) → buffer.shape_ranges.items ≡ end_to_end 0 list →
     HoldsShapes buffer list
 HoldsShapes-from_lists buffer list points_are contours_are shapes_are =
-    let points_fit : 0 + length (joined (joined list)) ≤ length (joined (joined list)) = omega arith in
-    let contours_fit : 0 + length (joined list) ≤ length (end_to_end 0 (joined list)) = omega (arith, length-end_to_end 0 (joined list)) in
-    let within : All (InOrder (length (joined (joined list)))) (end_to_end 0 (joined list)) = InOrder-end_to_end (joined list) 0 (length (joined (joined list))) points_fit in
     record {
       points = points_are;
       contour_ranges = contours_are;
       shape_ranges = shapes_are;
-      contours_readable = rw (points_are, contours_are) within;
-      shapes_readable = rw (points_are, contours_are, shapes_are) (readable_from_within _ _ _ within (InOrder-end_to_end list 0 _ contours_fit));
-      slices = rw (points_are, contours_are) (ap (λ w. slices w (end_to_end 0 (joined list))) (sym (append-nil (joined (joined list)))) ∙ slices-end_to_end [] [] (joined list) 0 refl);
+      contours_readable = rw (points_are, contours_are) (InOrder_joined (joined list));
+      shapes_readable = rw (points_are, contours_are, shapes_are) (readable_joined list);
+      slices = rw (points_are, contours_are) (slices_joined (joined list));
       shapes = rw (points_are, contours_are, shapes_are) (shapes-end_to_end list);
     }
 

@@ -12,8 +12,11 @@ mapped-read f P xs i x lt read holds =
     let lt' : i < length (map f xs) = rw (length-map xs f) lt in
     subst (λ z. P (f z)) (sym read) (rw (get_or-map f xs i x (f x) lt) at (holds i (f x) lt'))
 
-pub mapped-taken : {X Y : Type 0} (f : X → Y) (xs : List X) (i : ℕ) (x : X) → i < length xs → x ≡ get_or xs i x → map f (take (i + 1) xs) ≡ map f (take i xs) ++ f x ∷ []
-mapped-taken f xs i x lt read = ap (map f) (take_more xs i x lt) ∙ map-append f (take i xs) (get_or xs i x ∷ []) ∙ ap (λ z. map f (take i xs) ++ f z ∷ []) (sym read)
+pub taken : {X : Type 0} (xs : List X) (i : ℕ) (x : X) → i < length xs → x ≡ get_or xs i x → take (i + 1) xs ≡ take i xs ++ x ∷ []
+taken xs i x lt read = take_more xs i x lt ∙ ap (λ z. take i xs ++ z ∷ []) (sym read)
+
+mapped-taken : {X Y : Type 0} (f : X → Y) (xs : List X) (i : ℕ) (x : X) → i < length xs → x ≡ get_or xs i x → map f (take (i + 1) xs) ≡ map f (take i xs) ++ f x ∷ []
+mapped-taken f xs i x lt read = ap (map f) (taken xs i x lt read) ∙ map-append f (take i xs) (x ∷ [])
 
 pub mapped-more : {X Y : Type 0} (f : X → Y) (P : Y → Type 0) (xs : List X) (i : ℕ) (x : X) → i < length xs → x ≡ get_or xs i x → All P (map f (take i xs)) → P (f x) → All P (map f (take (i + 1) xs))
 mapped-more f P xs i x lt read holds here = rw (mapped-taken f xs i x lt read) (All-push P (map f (take i xs)) (f x) holds here)

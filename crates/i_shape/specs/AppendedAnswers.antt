@@ -5,7 +5,8 @@ use Rattle.i_shape_core.specs.IntPoint.{contour_of}
 use Rattle.i_shape_core.specs.Answers.{SimpleAnswer}
 use Rattle.i_shape_core.specs.declared.point.IntPoint.{IntPoint}
 use Rattle.i_shape.specs.declared.flat.buffer.contours.FlatContoursBuffer.{FlatContoursBuffer}
-use Rattle.i_shape.specs.Flat.{joined, end_to_end}
+use Rattle.i_shape_source.specs.Paths.{joined}
+use Rattle.i_shape.specs.Flat.{end_to_end}
 
 -- the new buffer is the old one with the contour's answer at its end, or with nothing where it collapses
 pub record AppendsAnswer {T : Type 0} (value : T → ℤ) (contour : List (IntPoint T)) (old new : FlatContoursBuffer T) : Type 0 where

@@ -4,7 +4,8 @@ use Rattle.std.specs.List.{All}
 use Rattle.std.specs.declared.ops.Range.{Range}
 use Rattle.i_shape_core.specs.declared.point.IntPoint.{IntPoint}
 use Rattle.i_shape.specs.declared.flat.buffer.contours.FlatContoursBuffer.{FlatContoursBuffer}
-use Rattle.i_shape.specs.Flat.{InOrder, part_of, slices, joined, end_to_end}
+use Rattle.i_shape_source.specs.Paths.{joined}
+use Rattle.i_shape.specs.Flat.{InOrder, part_of, slices, end_to_end}
 
 -- the buffer has the contours end to end, and nothing else
 pub record HoldsContours {T : Type 0} (buffer : FlatContoursBuffer T) (contours : List (List (IntPoint T))) : Type 0 where

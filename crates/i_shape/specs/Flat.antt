@@ -1,8 +1,7 @@
 -- What a list of points beside lists of ranges means.
-use Rattle.std.specs.Prelude.{ℕ, ◌+◌, ◌<◌, ◌≤◌, List, [], ◌∷◌, ◌++◌, length, map, slice_range}
+use Rattle.std.specs.Prelude.{ℕ, ◌+◌, ◌<◌, ◌≤◌, List, [], ◌∷◌, length, map, slice_range}
 use Rattle.std.specs.List.{All}
 use Rattle.std.specs.declared.ops.Range.{Range}
-use Rattle.std.specs.Global.{Vec}
 
 -- the range lies in a list of n members, and does not run backwards
 abbrev pub InOrder : ℕ → Range ℕ → Type 0
@@ -24,19 +23,6 @@ shapes points contour_ranges shape_ranges = map (λ range. slices points (part_o
 abbrev pub IsReadableShape : ℕ → List (Range ℕ) → Range ℕ → Type 0
 IsReadableShape n contour_ranges range =
     range.start < range.end → (range.end ≤ length contour_ranges) × All (InOrder n) (part_of contour_ranges range)
-
--- a list of vectors, as a list of lists
-abbrev pub contour_lists : {P : Type 0} → List (Vec P) → List (List P)
-contour_lists shape = map (λ contour. contour.items) shape
-
--- a list of shapes, as lists alone
-abbrev pub shape_lists : {P : Type 0} → List (Vec (Vec P)) → List (List (List P))
-shape_lists list = map (λ shape. contour_lists shape.items) list
-
--- lists end to end
-abbrev pub joined : {P : Type 0} → List (List P) → List P
-joined [] = []
-joined (part ∷ parts) = part ++ joined parts
 
 -- the ranges of lists that lie end to end from a place on
 abbrev pub end_to_end : {P : Type 0} → ℕ → List (List P) → List (Range ℕ)

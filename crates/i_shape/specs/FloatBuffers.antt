@@ -4,7 +4,8 @@ use Rattle.std.specs.List.{All}
 use Rattle.std.specs.declared.ops.Range.{Range}
 use Rattle.i_shape.specs.declared.flat.float.contours.FloatFlatContoursBuffer.{FloatFlatContoursBuffer}
 use Rattle.i_shape.specs.declared.flat.float.shapes.FloatFlatShapesBuffer.{FloatFlatShapesBuffer}
-use Rattle.i_shape.specs.Flat.{InOrder, IsReadableShape, slices, shapes, joined, end_to_end}
+use Rattle.i_shape_source.specs.Paths.{joined}
+use Rattle.i_shape.specs.Flat.{InOrder, IsReadableShape, slices, shapes, end_to_end}
 use Rattle.i_shape.specs.LentRanges.{readable_slices}
 
 -- the contours form has these points and these ranges

@@ -3,7 +3,8 @@ use Rattle.std.specs.Prelude.{◌≡◌, ◌+◌, List, [], ◌∷◌, ◌++◌,
 use Rattle.std.specs.List.{All}
 use Rattle.i_shape_core.specs.declared.point.IntPoint.{IntPoint}
 use Rattle.i_shape.specs.declared.flat.buffer.shapes.FlatShapesBuffer.{FlatShapesBuffer}
-use Rattle.i_shape.specs.Flat.{InOrder, IsReadableShape, slices, shapes, joined, end_to_end}
+use Rattle.i_shape_source.specs.Paths.{joined}
+use Rattle.i_shape.specs.Flat.{InOrder, IsReadableShape, slices, shapes, end_to_end}
 
 -- every shape can be read
 abbrev pub CanReadShapes : {T : Type 0} → FlatShapesBuffer T → Type 0

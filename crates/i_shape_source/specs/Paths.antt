@@ -1,6 +1,5 @@
 -- The paths of nested lists, in storage order.
-use Rattle.std.specs.Prelude.{List, [], ◌∷◌, map, Option, Some, None}
-use Rattle.std.specs.List.{flat_map}
+use Rattle.std.specs.Prelude.{List, [], ◌∷◌, ◌++◌, map, Option, Some, None}
 use Rattle.std.specs.Borrow.{Bor}
 use Rattle.std.specs.Global.{Vec}
 
@@ -8,9 +7,18 @@ use Rattle.std.specs.Global.{Vec}
 abbrev pub paths_of_shape : {P : Type 0} → List (Vec P) → List (List P)
 paths_of_shape shape = map (λ path. path.items) shape
 
+-- the paths of each shape, as lists alone
+abbrev pub shape_lists : {P : Type 0} → List (Vec (Vec P)) → List (List (List P))
+shape_lists shapes = map (λ shape. paths_of_shape shape.items) shapes
+
+-- lists end to end
+abbrev pub joined : {P : Type 0} → List (List P) → List P
+joined [] = []
+joined (part ∷ parts) = part ++ joined parts
+
 -- each path of each shape
 abbrev pub paths_of_shapes : {P : Type 0} → List (Vec (Vec P)) → List (List P)
-paths_of_shapes shapes = flat_map (λ shape. paths_of_shape shape.items) shapes
+paths_of_shapes shapes = joined (shape_lists shapes)
 
 -- each member of a list of borrowed paths
 abbrev pub paths_of_slices : {P : Type 0} → List (Bor (List P)) → List (List P)

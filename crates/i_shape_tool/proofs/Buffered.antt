@@ -10,14 +10,14 @@ use Rattle.i_shape.specs.IntPoints.{IntPoint}
 use Rattle.i_shape.specs.Convex.{NoSpikes}
 use Rattle.i_shape.specs.Answers.{DespikeAnswer}
 use Rattle.i_shape.specs.declared.ShapeError.{ShapeError}
-use Rattle.i_shape.specs.Flat.{contour_lists, shape_lists}
+use Rattle.i_shape.specs.Paths.{paths_of_shape, shape_lists}
 use Rattle.i_shape.specs.Survivors.{Survivors}
 use Rattle.i_shape.specs.ShapeLists.{shape_of, shapes_of}
 use Rattle.i_shape.specs.ShapeAnswers.{ShapeClean, ListClean, ListAnswer, EachContour, EachShape}
 use Rattle.i_shape.specs.InPlace.{CleansInPlace}
 
 -- what shapes stand for is read from the lists that they are
-shape_by_lists : {I : Type 0} (value : I → ℤ) (contours : List (Vec (IntPoint I))) → shape_of value contours ≡ map (contour_of value) (contour_lists contours)
+shape_by_lists : {I : Type 0} (value : I → ℤ) (contours : List (Vec (IntPoint I))) → shape_of value contours ≡ map (contour_of value) (paths_of_shape contours)
 shape_by_lists value [] = refl
 shape_by_lists value (c ∷ contours) = ap (λ l. contour_of value c.items ∷ l) (shape_by_lists value contours)
 

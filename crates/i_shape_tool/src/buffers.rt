@@ -2,7 +2,7 @@
 
 ghost use Rattle.std.specs.Prelude.{◌≡◌, ◌<◌, ◌↔◌, ◌⊎◌, length, IfOk, IsErrOf};
 ghost use Rattle.i_shape.specs.Answers.{SimpleAnswer, DespikeAnswer};
-ghost use Rattle.i_shape.specs.Flat.{shape_lists, joined};
+ghost use Rattle.i_shape.specs.Paths.{shape_lists, joined};
 ghost use Rattle.i_shape.specs.ShapeLists.{shapes_of, IsSafeList};
 ghost use Rattle.i_shape.specs.ShapeAnswers.{ListClean};
 

@@ -3,7 +3,8 @@
 ghost use Rattle.std.specs.Prelude.{◌≡◌, ◌+◌, ◌<◌, ◌≤◌, ◌++◌, ◌∷◌, ◌↔◌, ◌⊎◌, [], length, vec_len, vec_capacity, IfOk, OnOk, OnErr, IsOkUnless, IsErrOf, IsTrue};
 ghost use Rattle.std.specs.List.{All};
 ghost use Rattle.std.specs.Borrow.{sem};
-ghost use Rattle.i_shape.specs.Flat.{InOrder, part_of, slices, contour_lists, shape_lists, joined};
+ghost use Rattle.i_shape_source.specs.Paths.{paths_of_shape, joined, paths_of_shapes};
+ghost use Rattle.i_shape.specs.Flat.{InOrder, part_of, slices};
 ghost use Rattle.i_shape.specs.ContoursBuffer.{HoldsContours, SameLists, CanReadFirst, first_contour};
 ghost use Rattle.i_shape.specs.Lending.{LendsFirst, first_start};
 
@@ -126,9 +127,9 @@ impl<T: IntNumber> FlatContoursBuffer<T> {
     /// Puts the contours of this shape in place of all others. `TooManyPoints` where they have more than `usize::MAX`
     /// points together, tested first; else `OutOfMemory`. After an error the lists are as they were.
     pub fn set_with_shape(&mut self, shape: &[IntContour<T>]) -> Result<(), ShapeError>
-        ensures ok { OnOk result (HoldsContours self.new (contour_lists shape.now)) }
+        ensures ok { OnOk result (HoldsContours self.new (paths_of_shape shape.now)) }
         ensures err { OnErr result (SameLists self.old self.new) }
-        ensures too_many { IsErrOf result ShapeError.TooManyPoints ↔ (usize.MAX < length (joined (contour_lists shape.now))) }
+        ensures too_many { IsErrOf result ShapeError.TooManyPoints ↔ (usize.MAX < length (joined (paths_of_shape shape.now))) }
     {
         let count = checked_points_count(shape).ok_or(ShapeError::TooManyPoints)?;
         self.clear_and_reserve(count, shape.len())?;
@@ -139,11 +140,11 @@ impl<T: IntNumber> FlatContoursBuffer<T> {
     /// Puts all contours of these shapes in place of all others. `TooManyPoints` where they have more than `usize::MAX`
     /// points together, or are more than `usize::MAX`, tested first; else `OutOfMemory`. After an error the lists are as they were.
     pub fn set_with_shapes(&mut self, shapes: &[IntShape<T>]) -> Result<(), ShapeError>
-        ensures ok { OnOk result (HoldsContours self.new (joined (shape_lists shapes.now))) }
+        ensures ok { OnOk result (HoldsContours self.new (paths_of_shapes shapes.now)) }
         ensures err { OnErr result (SameLists self.old self.new) }
         ensures too_many { IsErrOf result ShapeError.TooManyPoints
-            ↔ ((usize.MAX < length (joined (joined (shape_lists shapes.now))))
-            ⊎ (usize.MAX < length (joined (shape_lists shapes.now)))) }
+            ↔ ((usize.MAX < length (joined (paths_of_shapes shapes.now)))
+            ⊎ (usize.MAX < length (paths_of_shapes shapes.now))) }
     {
         let counts = checked_counts(shapes).ok_or(ShapeError::TooManyPoints)?;
         self.clear_and_reserve(counts.points, counts.contours)?;
@@ -177,7 +178,7 @@ impl<T: IntNumber> FlatContoursBuffer<T> {
     /// A copy of each contour, in the order of the ranges. The only error is `OutOfMemory`.
     pub fn to_contours(&self) -> Result<IntShape<T>, ShapeError>
         requires { All (InOrder (length self.now.points.items)) self.now.ranges.items }
-        ensures ok { IfOk result (λ contours. contour_lists contours.items ≡ slices self.now.points.items self.now.ranges.items) }
+        ensures ok { IfOk result (λ contours. paths_of_shape contours.items ≡ slices self.now.points.items self.now.ranges.items) }
         ensures memory { IsOkUnless result ShapeError.OutOfMemory }
     {
         copied_parts(

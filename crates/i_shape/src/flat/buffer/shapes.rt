@@ -2,7 +2,8 @@
 
 ghost use Rattle.std.specs.Prelude.{◌≡◌, ◌+◌, ◌<◌, ◌≤◌, ◌∷◌, ◌↔◌, ◌⊎◌, [], length, vec_len, vec_capacity, IfOk, OnOk, OnErr, IsOkUnless, IsErrOf, IsTrue};
 ghost use Rattle.std.specs.List.{All};
-ghost use Rattle.i_shape.specs.Flat.{InOrder, contour_lists, shape_lists, joined, slices};
+ghost use Rattle.i_shape_source.specs.Paths.{paths_of_shape, shape_lists, joined, paths_of_shapes};
+ghost use Rattle.i_shape.specs.Flat.{InOrder, slices};
 ghost use Rattle.i_shape.specs.ShapesBuffer.{HoldsShapes, SameShapeLists, AddsShape, CanReadShapes, shapes_in};
 
 use crate::ShapeError;
@@ -137,9 +138,9 @@ impl<T: IntNumber> FlatShapesBuffer<T> {
     /// Puts this one shape in place of all others. `TooManyPoints` where its contours have more than `usize::MAX` points together,
     /// tested first; else `OutOfMemory`. After an error the lists are as they were.
     pub fn set_with_shape(&mut self, shape: &[IntContour<T>]) -> Result<(), ShapeError>
-        ensures ok { OnOk result (HoldsShapes self.new (contour_lists shape.now ∷ [])) }
+        ensures ok { OnOk result (HoldsShapes self.new (paths_of_shape shape.now ∷ [])) }
         ensures err { OnErr result (SameShapeLists self.old self.new) }
-        ensures too_many { IsErrOf result ShapeError.TooManyPoints ↔ (usize.MAX < length (joined (contour_lists shape.now))) }
+        ensures too_many { IsErrOf result ShapeError.TooManyPoints ↔ (usize.MAX < length (joined (paths_of_shape shape.now))) }
     {
         let count = checked_points_count(shape).ok_or(ShapeError::TooManyPoints)?;
         self.clear_and_reserve(count, shape.len(), 1)?;
@@ -158,8 +159,8 @@ impl<T: IntNumber> FlatShapesBuffer<T> {
         ensures ok { OnOk result (HoldsShapes self.new (shape_lists shapes.now)) }
         ensures err { OnErr result (SameShapeLists self.old self.new) }
         ensures too_many { IsErrOf result ShapeError.TooManyPoints
-            ↔ ((usize.MAX < length (joined (joined (shape_lists shapes.now))))
-            ⊎ (usize.MAX < length (joined (shape_lists shapes.now)))) }
+            ↔ ((usize.MAX < length (joined (paths_of_shapes shapes.now)))
+            ⊎ (usize.MAX < length (paths_of_shapes shapes.now))) }
     {
         let counts = checked_counts(shapes).ok_or(ShapeError::TooManyPoints)?;
         self.clear_and_reserve(counts.points, counts.contours, shapes.len())?;
@@ -175,10 +176,10 @@ impl<T: IntNumber> FlatShapesBuffer<T> {
     /// Appends a shape, an empty one too. `TooManyPoints` where there would be more than `usize::MAX` points or contour ranges,
     /// tested first; else `OutOfMemory`. After an error the lists are as they were.
     pub fn add_shape(&mut self, shape: &[IntContour<T>]) -> Result<(), ShapeError>
-        ensures ok { OnOk result (AddsShape self.old self.new (contour_lists shape.now)) }
+        ensures ok { OnOk result (AddsShape self.old self.new (paths_of_shape shape.now)) }
         ensures err { OnErr result (SameShapeLists self.old self.new) }
         ensures too_many { IsErrOf result ShapeError.TooManyPoints
-            ↔ ((usize.MAX < vec_len self.old.points + length (joined (contour_lists shape.now)))
+            ↔ ((usize.MAX < vec_len self.old.points + length (joined (paths_of_shape shape.now)))
             ⊎ (usize.MAX < vec_len self.old.contour_ranges + length shape.now)) }
     {
         let count = checked_points_count(shape).ok_or(ShapeError::TooManyPoints)?;
@@ -205,7 +206,7 @@ impl<T: IntNumber> FlatShapesBuffer<T> {
     /// A copy of each contour, in the order of the contour ranges. The only error is `OutOfMemory`.
     pub fn to_contours(&self) -> Result<IntShape<T>, ShapeError>
         requires { All (InOrder (length self.now.points.items)) self.now.contour_ranges.items }
-        ensures ok { IfOk result (λ contours. contour_lists contours.items ≡ slices self.now.points.items self.now.contour_ranges.items) }
+        ensures ok { IfOk result (λ contours. paths_of_shape contours.items ≡ slices self.now.points.items self.now.contour_ranges.items) }
         ensures memory { IsOkUnless result ShapeError.OutOfMemory }
     {
         copied_parts(

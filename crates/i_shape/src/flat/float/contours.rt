@@ -3,7 +3,8 @@
 ghost use Rattle.std.specs.Prelude.{◌≡◌, ◌+◌, ◌<◌, ◌≤◌, ◌++◌, ◌∷◌, ◌↔◌, ◌⊎◌, [], List, length, vec_capacity, IfOk, OnOk, OnErr, IsOkUnless, IsErrOf, IsTrue};
 ghost use Rattle.std.specs.List.{All};
 ghost use Rattle.std.specs.Iterator.{Drains, IsFinite};
-ghost use Rattle.i_shape.specs.Flat.{InOrder, contour_lists, slices, joined};
+ghost use Rattle.i_shape_source.specs.Paths.{paths_of_shape, joined};
+ghost use Rattle.i_shape.specs.Flat.{InOrder, slices};
 ghost use Rattle.i_shape.specs.FloatBuffers.{HasLists, LieEndToEnd};
 
 use super::fill::{append_items, append_paths, append_ranges, checked_path_counts, greatest_end};
@@ -78,7 +79,7 @@ impl<P: Copy> FloatFlatContoursBuffer<P> {
     /// A copy of each range's points. The only error is `OutOfMemory`.
     pub fn to_contours(&self) -> Result<Vec<Contour<P>>, ShapeError>
         requires { All (InOrder (length self.now.points.items)) self.now.ranges.items }
-        ensures ok { IfOk result (λ contours. contour_lists contours.items ≡ slices self.now.points.items self.now.ranges.items) }
+        ensures ok { IfOk result (λ contours. paths_of_shape contours.items ≡ slices self.now.points.items self.now.ranges.items) }
         ensures memory { IsOkUnless result ShapeError.OutOfMemory }
     {
         let alloc = *self.points.allocator();

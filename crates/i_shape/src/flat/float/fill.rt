@@ -3,7 +3,8 @@
 ghost use Rattle.std.specs.Prelude.{◌≡◌, ◌+◌, ◌<◌, ◌≤◌, ◌++◌, ◌⊎◌, List, length, vec_len, vec_capacity, OnOk, OnErr, IsOkUnless, MatchOption};
 ghost use Rattle.std.specs.List.{All, Contains};
 ghost use Rattle.std.specs.Iterator.{Drains, IsFinite};
-ghost use Rattle.i_shape.specs.Flat.{joined, end_to_end};
+ghost use Rattle.i_shape_source.specs.Paths.{joined};
+ghost use Rattle.i_shape.specs.Flat.{end_to_end};
 
 use crate::ShapeError;
 use crate::flat::lists::{Counts, append_contour};

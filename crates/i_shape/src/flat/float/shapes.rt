@@ -3,7 +3,8 @@
 ghost use Rattle.std.specs.Prelude.{◌≡◌, ◌+◌, ◌<◌, ◌≤◌, ◌++◌, ◌∷◌, ◌↔◌, ◌⊎◌, [], List, length, vec_capacity, IfOk, OnOk, OnErr, IsOkUnless, IsErrOf, IsTrue};
 ghost use Rattle.std.specs.List.{All};
 ghost use Rattle.std.specs.Iterator.{Drains, IsFinite};
-ghost use Rattle.i_shape.specs.Flat.{InOrder, IsReadableShape, contour_lists, shape_lists, slices, shapes, joined};
+ghost use Rattle.i_shape_source.specs.Paths.{paths_of_shape, shape_lists, joined};
+ghost use Rattle.i_shape.specs.Flat.{InOrder, IsReadableShape, slices, shapes};
 ghost use Rattle.i_shape.specs.FloatBuffers.{HasShapeLists, LieEndToEnd, FormOneShape};
 
 use super::fill::{append_items, append_paths, append_ranges, checked_path_counts, greatest_end};
@@ -99,7 +100,7 @@ impl<P: Copy> FloatFlatShapesBuffer<P> {
     /// A copy of each contour range's points. The only error is `OutOfMemory`.
     pub fn to_contours(&self) -> Result<Vec<Contour<P>>, ShapeError>
         requires { All (InOrder (length self.now.points.items)) self.now.contour_ranges.items }
-        ensures ok { IfOk result (λ contours. contour_lists contours.items ≡ slices self.now.points.items self.now.contour_ranges.items) }
+        ensures ok { IfOk result (λ contours. paths_of_shape contours.items ≡ slices self.now.points.items self.now.contour_ranges.items) }
         ensures memory { IsOkUnless result ShapeError.OutOfMemory }
     {
         let alloc = *self.points.allocator();

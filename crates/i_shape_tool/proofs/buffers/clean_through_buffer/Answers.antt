@@ -1,6 +1,6 @@
 use Rattle.std.proofs.Common.{◌∙◌, ap, sym, subst, IfOk}
 use Rattle.i_shape.specs.Answers.{SimpleAnswer}
-use Rattle.i_shape.specs.Flat.{shape_lists}
+use Rattle.i_shape.specs.Paths.{shape_lists}
 use Rattle.i_shape.specs.ShapeLists.{shapes_of, IsSafeList}
 use Rattle.i_shape.specs.ShapeAnswers.{ListClean}
 use Rattle.i_shape_tool.proofs.Buffered.{same_shapes}

@@ -1,5 +1,7 @@
-use Rattle.std.proofs.Common.{rules, arith}
-use Rattle.i_shape.proofs.LentPaths.{points_within, points_step, ranges_step, points_push, count_push}
+use Rattle.std.proofs.Common.{rules, arith, refl}
+use Rattle.i_shape_source.specs.LentPaths.{path_of}
+use Rattle.i_shape.proofs.EndToEnd.{count_push, length_push, points_push, ranges_push}
+use Rattle.i_shape.proofs.LentPaths.{points_within}
 use Rattle.i_shape.proofs.flat.float.fill.append_paths.Goals as goal
 
 pub append_contour-requires-clause-points_room : goal.append_contour-requires-clause-points_room
@@ -13,10 +15,10 @@ loop-path-preserved g c =
     record {
       can_next = search rules;
       is_finite = search rules;
-      points = points_step seen path _ _ _ c.loop-path.invariant.points c.append_contour.ensures.points;
-      ranges = ranges_step seen path _ _ _ _ _ c.loop-path.invariant.ranges c.loop-path.invariant.points_len c.append_contour.ensures.ranges;
-      points_len = omega (arith, points_push seen path);
-      ranges_len = omega (arith, count_push seen path);
+      points = points_push path_of seen path _ _ _ _ c.loop-path.invariant.points refl c.append_contour.ensures.points;
+      ranges = ranges_push path_of seen path _ _ _ _ _ _ c.loop-path.invariant.ranges c.loop-path.invariant.points_len refl c.append_contour.ensures.ranges;
+      points_len = omega (arith, length_push path_of seen path);
+      ranges_len = omega (arith, count_push path_of seen path);
       points_capacity = omega arith;
       ranges_capacity = omega arith;
     }

@@ -1,5 +1,7 @@
 use Rattle.std.proofs.Common.{rules, arith, ◌≡◌, ◌+◌, length}
-use Rattle.i_shape.proofs.LentPaths.{points_within, points_push, count_push}
+use Rattle.i_shape_source.specs.LentPaths.{path_of}
+use Rattle.i_shape.proofs.EndToEnd.{count_push, length_push}
+use Rattle.i_shape.proofs.LentPaths.{points_within}
 use Rattle.i_shape.proofs.flat.float.fill.checked_path_counts.Goals as goal
 
 pub returns-in_err-points : goal.returns-in_err-points
@@ -16,6 +18,6 @@ loop-path-preserved g c =
     record {
       can_next = search rules;
       is_finite = search rules;
-      points = omega (arith, points_push seen path);
-      contours = omega (arith, count_push seen path);
+      points = omega (arith, length_push path_of seen path);
+      contours = omega (arith, count_push path_of seen path);
     }

@@ -3,13 +3,14 @@ use Rattle.std.specs.Int.{int_wrap}
 use Rattle.i_shape.specs.IntPoint.{contour_of}
 use Rattle.i_shape.specs.Edges.{shoelace}
 use Rattle.i_shape.specs.ShapeAreas.{HasPoints}
-use Rattle.i_shape.proofs.WrappedSums.{item-passes, sum-more}
+use Rattle.i_shape.proofs.Surviving.{mapped-read}
+use Rattle.i_shape.proofs.WrappedSums.{sum-more}
 use Rattle.i_shape.proofs.int.area.RefSliceIntContourArea.area_two.Goals as goal
 
 pub area_two-requires : goal.area_two-requires
 area_two-requires g c =
     subst (λ points. HasPoints (contour_of g.I.IntNumber.value points)) (sym c.as_slice.ensures.value)
-    (item-passes HasPoints (λ contour. contour_of g.I.IntNumber.value contour.items) c.args.self.now.now _ _ c.requires c.loop-contour-test.true c.contour-item.is)
+    (mapped-read (λ contour. contour_of g.I.IntNumber.value contour.items) HasPoints c.args.self.now.now _ _ c.loop-contour-test.true c.contour-item.is c.requires)
 
 pub loop-contour-preserved : goal.loop-contour-preserved
 loop-contour-preserved g c =

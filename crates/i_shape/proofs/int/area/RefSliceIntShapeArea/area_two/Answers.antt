@@ -3,13 +3,14 @@ use Rattle.std.specs.Int.{int_wrap}
 use Rattle.std.specs.List.{All}
 use Rattle.i_shape.specs.ShapeLists.{shape_of}
 use Rattle.i_shape.specs.ShapeAreas.{HasPoints, shape_shoelace}
-use Rattle.i_shape.proofs.WrappedSums.{item-passes, sum-more}
+use Rattle.i_shape.proofs.Surviving.{mapped-read}
+use Rattle.i_shape.proofs.WrappedSums.{sum-more}
 use Rattle.i_shape.proofs.int.area.RefSliceIntShapeArea.area_two.Goals as goal
 
 pub area_two-requires : goal.area_two-requires
 area_two-requires g c =
     subst (λ contours. All HasPoints (shape_of g.I.IntNumber.value contours)) (sym c.as_slice.ensures.value)
-    (item-passes (All HasPoints) (λ shape. shape_of g.I.IntNumber.value shape.items) c.args.self.now.now _ _ c.requires c.loop-shape-test.true c.shape-item.is)
+    (mapped-read (λ shape. shape_of g.I.IntNumber.value shape.items) (All HasPoints) c.args.self.now.now _ _ c.loop-shape-test.true c.shape-item.is c.requires)
 
 pub loop-shape-preserved : goal.loop-shape-preserved
 loop-shape-preserved g c =
