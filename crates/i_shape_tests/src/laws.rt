@@ -1,4 +1,3 @@
-use crate::corners::corners;
 use crate::given::contour;
 use i_shape::IntNumber;
 use i_shape::int::IntPoint;
@@ -31,11 +30,5 @@ fn laws_may_be_cited_at_each_width(rt: HostRuntime) -> Result<(), Fail> {
     laws_hold(middle.as_slice(), middle.as_slice());
     let wide = contour::<i64>(&rt, alloc, &[[0, 0], [4, 0], [4, 4]])?;
     laws_hold(wide.as_slice(), wide.as_slice());
-    Ok(())
-}
-
-#[test]
-fn a_point_on_an_edge_is_no_corner(rt: HostRuntime) -> Result<(), Fail> {
-    assert_eq!(rt; corners(rt.alloc())?, 3);
     Ok(())
 }

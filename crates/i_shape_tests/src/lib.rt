@@ -1,4 +1,4 @@
-//! Worked contours, as tests of the public calls, and consumers that are proved from a bound alone.
+//! Worked contours, as tests of the public calls.
 #![tactic(auto)]
 
 #[cfg(test)]
@@ -7,10 +7,8 @@ mod area;
 mod buffer;
 #[cfg(test)]
 mod canonical;
-pub mod consumers;
 #[cfg(test)]
 mod contour;
-pub mod corners;
 #[cfg(test)]
 mod count;
 #[cfg(test)]

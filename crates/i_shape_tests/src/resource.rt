@@ -1,6 +1,5 @@
 ghost use Rattle.std.specs.Prelude.{[], ◌∷◌};
 
-use crate::consumers::{all_points, count_paths, count_shape_paths, same_safe_range};
 use i_shape::flat::buffer::{FlatContoursBuffer, FlatShapesBuffer};
 use i_shape::int::IntPoint;
 use i_shape::int::safe_range::IntSafeRange;
@@ -82,7 +81,7 @@ fn another_resource_forwards_its_slice(rt: HostRuntime) -> Result<(), Fail> {
     let wanted = vec![in rt.alloc(); points.to_vec(rt.alloc())?]?;
     lends(&rt, outline, &wanted);
     assert!(rt; outline.is_in_safe_range());
-    assert_eq!(rt; count_paths(outline), 1);
+    assert_eq!(rt; outline.iter_paths().count(), 1);
     let far = [IntPoint::new(1073741824, 0)];
     assert!(rt; !Outline { points: &far }.is_in_safe_range());
     Ok(())
@@ -479,18 +478,6 @@ fn points_that_no_range_names_may_be_far(rt: HostRuntime) -> Result<(), Fail> {
         assert!(rt; shapes.can_read_contours());
         assert_eq!(rt; (&shapes).is_in_safe_range(), safe);
     }
-    Ok(())
-}
-
-#[test]
-fn consumers_answer_from_the_law(rt: HostRuntime) -> Result<(), Fail> {
-    let alloc = rt.alloc();
-    let points = [IntPoint::new(7, 1), IntPoint::new(2, -3)];
-    assert_eq!(rt; all_points(&points, alloc)?.len(), 2);
-    assert_eq!(rt; count_paths(&points), 1);
-    let whole = [WholePoint { x: 7, y: 1 }];
-    assert_eq!(rt; count_shape_paths(&whole), 1);
-    assert!(rt; same_safe_range(&points, points.as_slice()) == (true, true));
     Ok(())
 }
 

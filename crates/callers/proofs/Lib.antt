@@ -1,0 +1,4 @@
+pub mod SamePoints
+pub mod HeldContours
+pub mod StoredForms
+pub mod SafeContours

@@ -1,0 +1,9 @@
+//! Callers of the library, each proved from the contracts of its public calls alone.
+#![tactic(auto)]
+
+pub mod consumer;
+pub mod corners;
+pub mod pipeline;
+pub mod store;
+#[cfg(test)]
+mod tests;
