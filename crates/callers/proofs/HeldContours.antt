@@ -7,17 +7,18 @@ use Rattle.std.proofs.lemmas.Simd.{map-map}
 use Rattle.i_shape.specs.IntPoint.{contour_of}
 use Rattle.i_shape.specs.IntPoints.{IntPoint}
 use Rattle.i_shape.specs.ShapeLists.{shape_of}
-use Rattle.i_shape.specs.Flat.{InOrder, contour_lists, joined, end_to_end, slices}
+use Rattle.i_shape.specs.Flat.{InOrder, end_to_end, slices}
+use Rattle.i_shape.specs.Paths.{joined, paths_of_shape}
 use Rattle.i_shape.specs.ContoursBuffer.{HoldsContours}
 use Rattle.i_shape.specs.Compact.{Compact, contours_in, range_len}
 use Rattle.i_shape.specs.declared.ShapeError.{ShapeError}
 use Rattle.i_shape.specs.declared.flat.buffer.contours.FlatContoursBuffer.{FlatContoursBuffer}
 
-shape_by_lists : {T : Type 0} (value : T → ℤ) (contours : List (Vec (IntPoint T))) → map (contour_of value) (contour_lists contours) ≡ shape_of value contours
+shape_by_lists : {T : Type 0} (value : T → ℤ) (contours : List (Vec (IntPoint T))) → map (contour_of value) (paths_of_shape contours) ≡ shape_of value contours
 shape_by_lists value contours = map-map (contour_of value) (λ contour. contour.items) contours
 
 -- a buffer names the contours that it was filled with
-pub held_contours : {T : Type 0} (value : T → ℤ) (buffer : FlatContoursBuffer T) (contours : List (Vec (IntPoint T))) → HoldsContours buffer (contour_lists contours) → contours_in value buffer ≡ shape_of value contours
+pub held_contours : {T : Type 0} (value : T → ℤ) (buffer : FlatContoursBuffer T) (contours : List (Vec (IntPoint T))) → HoldsContours buffer (paths_of_shape contours) → contours_in value buffer ≡ shape_of value contours
 held_contours value buffer contours held = ap (map (contour_of value)) held.slices ∙ shape_by_lists value contours
 
 -- its ranges name as many points as the contours have
@@ -37,8 +38,8 @@ readable_after {T} old new contours r false is held same renewed = subst (λ (b 
 readable_after old new contours r true is held same renewed = (renewed is).readable
 
 -- what is read back are the contours that it names
-pub compact_read : {T : Type 0} (value : T → ℤ) (contours : List (Vec (IntPoint T))) (old new : FlatContoursBuffer T) (r : Result (Vec (Vec (IntPoint T))) ShapeError) → HoldsContours old (contour_lists contours)
-    → Compact (contours_in value old) (contours_in value new) → IfOk r (λ back. contour_lists back.items ≡ slices new.points.items new.ranges.items)
+pub compact_read : {T : Type 0} (value : T → ℤ) (contours : List (Vec (IntPoint T))) (old new : FlatContoursBuffer T) (r : Result (Vec (Vec (IntPoint T))) ShapeError) → HoldsContours old (paths_of_shape contours)
+    → Compact (contours_in value old) (contours_in value new) → IfOk r (λ back. paths_of_shape back.items ≡ slices new.points.items new.ranges.items)
     → IfOk r (λ kept. Compact (shape_of value contours) (shape_of value kept.items))
 compact_read value contours old new (Ok back) held compact same =
     let named = ap (map (contour_of value)) (sym same) ∙ shape_by_lists value back.items in

@@ -2,7 +2,7 @@
 
 ghost use Rattle.std.specs.Prelude.{◌<◌, ◌↔◌, length, IfOk, IsErrOf};
 ghost use Rattle.i_shape.specs.Compact.{Compact};
-ghost use Rattle.i_shape.specs.Flat.{contour_lists, joined};
+ghost use Rattle.i_shape.specs.Paths.{joined, paths_of_shape};
 ghost use Rattle.i_shape.specs.ShapeLists.{shape_of, IsSafeShape};
 
 use i_shape::flat::buffer::FlatContoursBuffer;
@@ -18,7 +18,7 @@ pub fn cleaned_contours<I: IntNumber>(
 ) -> Result<IntShape<I>, ShapeError>
     requires { IsSafeShape I.width (shape_of I.value contours.now) }
     ensures compact { IfOk result (λ kept. Compact (shape_of I.value contours.now) (shape_of I.value kept.items)) }
-    ensures too_many { IsErrOf result ShapeError.TooManyPoints ↔ (usize.MAX < length (joined (contour_lists contours.now))) }
+    ensures too_many { IsErrOf result ShapeError.TooManyPoints ↔ (usize.MAX < length (joined (paths_of_shape contours.now))) }
 {
     let mut buffer = FlatContoursBuffer::new(alloc);
     buffer.set_with_shape(contours)?;

@@ -3,7 +3,8 @@ use Rattle.std.proofs.Common.{◌≡◌, ℕ, List, [], ◌∷◌, ◌<◌, Opti
 use Rattle.std.specs.declared.ops.Range.{Range}
 use Rattle.i_shape_core.specs.Point.{Point}
 use Rattle.i_shape_core.specs.Edges.{shoelace, area_of_edge}
-use Rattle.i_shape.specs.Flat.{InOrder, part_of, slices, shapes, IsReadableShape, joined, end_to_end}
+use Rattle.i_shape_source.specs.Paths.{joined}
+use Rattle.i_shape.specs.Flat.{InOrder, part_of, slices, shapes, IsReadableShape, end_to_end}
 use Rattle.i_shape.specs.ContoursBuffer.{CanReadFirst, first_contour}
 use Rattle.i_shape.specs.LentRanges.{readable_slices}
 use Rattle.i_shape.specs.FloatBuffers.{in_one_shape}

@@ -1,7 +1,7 @@
 use Rattle.std.proofs.Common.{◌≡◌, List, Err, ap, sym, subst, arith}
 use Rattle.std.proofs.lemmas.Result.{err_from_is_err_and}
 use Rattle.i_shape.specs.Point.{Point}
-use Rattle.i_shape.specs.Flat.{contour_lists}
+use Rattle.i_shape.specs.Paths.{paths_of_shape}
 use Rattle.i_shape.specs.ShapeLists.{IsSafeShape}
 use Rattle.i_shape.specs.declared.ShapeError.TheVariants.{TooManyPoints}
 use Rattle.callers.proofs.HeldContours.{held_contours, held_points, readable_after, compact_read}
@@ -14,7 +14,7 @@ simplify_contours-requires-clause-safe g c =
 
 pub returns-in_err-simplify_contours-clause-too_many : goal.returns-in_err-simplify_contours-clause-too_many
 returns-in_err-simplify_contours-clause-too_many g c =
-    let count = held_points c.set_with_shape.new.self (contour_lists c.args.contours.now) c.in_ok-set_with_shape.ensures.ok in
+    let count = held_points c.set_with_shape.new.self (paths_of_shape c.args.contours.now) c.in_ok-set_with_shape.ensures.ok in
     let told = c.in_err-simplify_contours.ensures.too_many in
     let error = err_from_is_err_and c.from_residual-in_err-simplify_contours.result c.from_residual-in_err-simplify_contours.ensures.1 in (
       λ e. let cause : c.in_err-simplify_contours.field-0.0 ≡ TooManyPoints = cc in let many = (told.0 (ap Err cause)).0 in omega (arith, many, count),
@@ -24,7 +24,7 @@ returns-in_err-simplify_contours-clause-too_many g c =
 pub to_contours-requires : goal.to_contours-requires
 to_contours-requires g c =
     let cleaned = c.in_ok-simplify_contours.ensures in
-    readable_after c.set_with_shape.new.self c.simplify_contours.new.self (contour_lists c.args.contours.now) c.simplify_contours.result _ c.in_ok-simplify_contours.was c.in_ok-set_with_shape.ensures.ok c.simplify_contours.ensures.unchanged c.simplify_contours.ensures.end_to_end
+    readable_after c.set_with_shape.new.self c.simplify_contours.new.self (paths_of_shape c.args.contours.now) c.simplify_contours.result _ c.in_ok-simplify_contours.was c.in_ok-set_with_shape.ensures.ok c.simplify_contours.ensures.unchanged c.simplify_contours.ensures.end_to_end
 
 pub returns-clause-compact : goal.returns-clause-compact
 returns-clause-compact g c =
