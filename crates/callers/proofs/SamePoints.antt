@@ -1,5 +1,6 @@
 -- What comparing lists of the program's points says of the contours that they stand for.
-use Rattle.std.proofs.Common.{◌≡◌, ◌≢◌, ◌↔◌, ◌<◌, ℕ, Bool, true, false, IsTrue, MatchBool, ℤ, List, [], ◌∷◌, Decides, Contains, HoldsAt, length, get_or, map, refl, sym, ap, ◌∙◌, ◌&&◌, arith}
+use Rattle.std.proofs.Common.{◌≡◌, ◌≢◌, ◌↔◌, ◌<◌, ℕ, Bool, true, false, ◌&&◌, IsTrue, MatchBool, Decides, ℤ, List, [], ◌∷◌}
+use Rattle.std.proofs.Common.{Contains, HoldsAt, length, get_or, map, refl, sym, ap, ◌∙◌, arith}
 use Rattle.std.specs.List.{AllWithin}
 use Rattle.std.specs.Cmp.Lexicographic.{pointwise}
 use Rattle.std.proofs.lemmas.Bool.Decides.{Decides-and, Decides-like}
@@ -10,12 +11,15 @@ use Rattle.i_shape.specs.IntPoint.{point_of}
 use Rattle.i_shape.specs.IntPoints.{IntPoint}
 
 -- points whose coordinates are compared stand for one point where both are equal
-pub points_decided : {I : Type 0} (value : I → ℤ) (E : I → I → Bool) → ((a b : I) → IsTrue (E a b) ↔ (value a ≡ value b)) → (p q : IntPoint I) → Decides (E p.x q.x && E p.y q.y) (point_of value p ≡ point_of value q)
+pub points_decided : {I : Type 0} (value : I → ℤ) (E : I → I → Bool) → ((a b : I) → IsTrue (E a b) ↔ (value a ≡ value b))
+    → (p q : IntPoint I) → Decides (E p.x q.x && E p.y q.y) (point_of value p ≡ point_of value q)
 points_decided value E same p q =
-    Decides-like _ (λ h. λ i. record { x = h.0 i; y = h.1 i }) (λ e. (ap (λ r. r.x) e, ap (λ r. r.y) e)) (Decides-and (E p.x q.x) (E p.y q.y) (same p.x q.x) (same p.y q.y))
+    Decides-like _ (λ h. λ i. record { x = h.0 i; y = h.1 i }) (λ e. (ap (λ r. r.x) e, ap (λ r. r.y) e))
+    (Decides-and (E p.x q.x) (E p.y q.y) (same p.x q.x) (same p.y q.y))
 
 -- where a test of two members decides whether f gives the same for them, it decides so for two lists
-pub lists_decided : {X Y : Type 0} (E : X → X → Bool) (f : X → Y) → ((a b : X) → Decides (E a b) (f a ≡ f b)) → (xs ys : List X) → Decides (pointwise E xs ys) (map f xs ≡ map f ys)
+pub lists_decided : {X Y : Type 0} (E : X → X → Bool) (f : X → Y) → ((a b : X) → Decides (E a b) (f a ≡ f b))
+    → (xs ys : List X) → Decides (pointwise E xs ys) (map f xs ≡ map f ys)
 lists_decided E f decides [] [] = (λ _. refl, λ _. refl)
 lists_decided E f decides [] (y ∷ ys) = (λ e. absurd (cc), λ e. absurd (cc))
 lists_decided E f decides (x ∷ xs) [] = (λ e. absurd (cc), λ e. absurd (cc))
@@ -29,7 +33,8 @@ lists_decided {X} {Y} E f decides (x ∷ xs) (y ∷ ys) =
     from e = (cc, cc)
 
 -- a search that told whether f gives y for some member told whether y is in the mapped list
-pub told_of_mapped : {X Y : Type 0} (f : X → Y) (xs : List X) (y : Y) (r : Bool) → MatchBool r ((k : ℕ) × (k < length xs) × HoldsAt (λ x. f x ≡ y) xs k) (AllWithin (λ x. f x ≢ y) xs 0 (length xs))
+pub told_of_mapped : {X Y : Type 0} (f : X → Y) (xs : List X) (y : Y) (r : Bool)
+    → MatchBool r ((k : ℕ) × (k < length xs) × HoldsAt (λ x. f x ≡ y) xs k) (AllWithin (λ x. f x ≢ y) xs 0 (length xs))
     → IsTrue r ↔ Contains (map f xs) y
 told_of_mapped {X} {Y} f xs y r cases = (to r cases, from)
   where
@@ -37,13 +42,15 @@ told_of_mapped {X} {Y} f xs y r cases = (to r cases, from)
     at [] k within holds = absurd (omega (arith, within))
     at (z ∷ zs) k within holds = get_or-map f (z ∷ zs) k z y within ∙ holds z
 
-    to : (r : Bool) → MatchBool r ((k : ℕ) × (k < length xs) × HoldsAt (λ x. f x ≡ y) xs k) (AllWithin (λ x. f x ≢ y) xs 0 (length xs)) → IsTrue r → Contains (map f xs) y
+    to : (r : Bool) → MatchBool r ((k : ℕ) × (k < length xs) × HoldsAt (λ x. f x ≡ y) xs k) (AllWithin (λ x. f x ≢ y) xs 0 (length xs))
+        → IsTrue r → Contains (map f xs) y
     to true (k, within, holds) t = (k, omega (arith, within, length-map xs f), at xs k within holds)
     to false none t = absurd (cc)
 
     among : (zs : List X) (k : ℕ) → k < length zs → get_or (map f zs) k y ≡ y → (x : X) × Contains zs x × (f x ≡ y)
     among [] k within is = absurd (omega (arith, within))
-    among (z ∷ zs) k within is = (get_or (z ∷ zs) k z, Contains-get_or (z ∷ zs) k z within, sym (get_or-map f (z ∷ zs) k z y within) ∙ is)
+    among (z ∷ zs) k within is =
+        (get_or (z ∷ zs) k z, Contains-get_or (z ∷ zs) k z within, sym (get_or-map f (z ∷ zs) k z y within) ∙ is)
 
     from : Contains (map f xs) y → IsTrue r
     from (k, within, is) =

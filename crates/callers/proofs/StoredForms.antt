@@ -9,7 +9,8 @@ use Rattle.i_shape_core.specs.Answers.{EachEndCollapses}
 use Rattle.i_shape_core.specs.Canonical.{IsCanonical, Joined}
 use Rattle.i_shape_core.proofs.Ends.{has_end}
 use Rattle.i_shape_core.proofs.CycleLaws.{zero_turn_slides, zero_turn_decided}
-use Rattle.i_shape_core.proofs.CanonicalForm.{canonical_joined, joined_trans, joined_sym, joined_by_reach, joined_by_rotation, ends_of_joined}
+use Rattle.i_shape_core.proofs.CanonicalForm.{canonical_joined, ends_of_joined}
+use Rattle.i_shape_core.proofs.CanonicalForm.{joined_trans, joined_sym, joined_by_reach, joined_by_rotation}
 use Rattle.i_shape.specs.IntPoint.{contour_of}
 use Rattle.i_shape.specs.IntPoints.{IntPoint}
 use Rattle.i_shape.specs.ShapeLists.{shape_of}
@@ -22,11 +23,14 @@ form_joined w = joined_trans (joined_by_reach w.ends.ended.reached w.ends.enough
 
 -- joined contours have one form
 one_form : {c d l m : List Point} → IsCanonical c l → IsCanonical d m → Joined IsZeroTurn c d → l ≡ m
-one_form {c} {d} {l} {m} a b joined = (canonical_joined c d a.end b.end l m a.ends.ended a.ends.enough b.ends.ended b.ends.enough a.least b.least).1 joined
+one_form {c} {d} {l} {m} a b joined =
+    (canonical_joined c d a.end b.end l m a.ends.ended a.ends.enough b.ends.ended b.ends.enough a.least b.least).1 joined
 
 -- a contour that collapses is joined to none that has a form
 never_joined : {c d l : List Point} → IsCanonical c l → EachEndCollapses d → Joined IsZeroTurn c d → ⊥
-never_joined {c} {d} a collapses joined = let end = has_end zero_turn_decided d in go (collapses end.0 end.1) (ends_of_joined zero_turn_slides zero_turn_decided joined a.ends.ended end.1)
+never_joined {c} {d} a collapses joined =
+    let end = has_end zero_turn_decided d in
+    go (collapses end.0 end.1) (ends_of_joined zero_turn_slides zero_turn_decided joined a.ends.ended end.1)
   where
     go : {e : List Point} → IsCollapsed e → SameEnd a.end e → ⊥
     go few (collapsed p q) = let enough = a.ends.enough in omega arith
@@ -83,5 +87,7 @@ finds_same store c (form, there, joined) d = (λ found. inl found, from)
     from (inr more) = (form, there, joined_trans joined more)
 
 -- a pushed contour stands at the end
-pub shape_more : {I : Type 0} (value : I → ℤ) (old new : List (Vec (IntPoint I))) (pushed : Vec (IntPoint I)) → new ≡ old ++ pushed ∷ [] → shape_of value new ≡ shape_of value old ++ contour_of value pushed.items ∷ []
-shape_more value old new pushed became = ap (shape_of value) became ∙ map-append (λ contour. contour_of value contour.items) old (pushed ∷ [])
+pub shape_more : {I : Type 0} (value : I → ℤ) (old new : List (Vec (IntPoint I))) (pushed : Vec (IntPoint I))
+    → new ≡ old ++ pushed ∷ [] → shape_of value new ≡ shape_of value old ++ contour_of value pushed.items ∷ []
+shape_more value old new pushed became =
+    ap (shape_of value) became ∙ map-append (λ contour. contour_of value contour.items) old (pushed ∷ [])

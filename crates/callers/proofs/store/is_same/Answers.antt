@@ -8,4 +8,5 @@ pub returns : goal.returns
 returns g c =
     let value : g.row.I.Denot → ℤ = g.I.IntNumber.value in
     rw c.as_slice.ensures.value at
-    (Decides-at c.eq.result _ c.eq.ensures (lists_decided _ (point_of value) (points_decided value _ g.met.I.IntNumber.equality) c.as_slice.result.now c.args.points.now))
+    (Decides-at c.eq.result _ c.eq.ensures
+    (lists_decided _ (point_of value) (points_decided value _ g.met.I.IntNumber.equality) c.as_slice.result.now c.args.points.now))

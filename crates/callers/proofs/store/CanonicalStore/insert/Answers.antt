@@ -14,7 +14,8 @@ returns-then-has_form-clause-ok g c =
     let form = contour_of value c.in-Some.form.items in
     let canonical : IsCanonical contour form = rw c.in-Some.is at c.in_ok-form.ensures.answer in
     let forms : AreForms c.args.self.now = rw c.self.view_is at c.self.invariant in
-    let told : IsTrue c.has_form.result ↔ Contains c.args.self.now form = rw (c.as_slice.ensures.value, c.as_slice-2.ensures.value, c.self.view_is) at c.has_form.ensures in
+    let told : IsTrue c.has_form.result ↔ Contains c.args.self.now form =
+    rw (c.as_slice.ensures.value, c.as_slice-2.ensures.value, c.self.view_is) at c.has_form.ensures in
     ((found_by_form c.args.self.now forms contour form canonical).0 (told.0 c.if-has_form.true), refl)
 
 pub returns-then-has_form-clause-finds : goal.returns-then-has_form-clause-finds
@@ -41,10 +42,12 @@ returns-clause-ok g c =
     let form = contour_of value c.in-Some.form.items in
     let canonical : IsCanonical contour form = rw c.in-Some.is at c.in_ok-form.ensures.answer in
     let forms : AreForms c.args.self.now = rw c.self.view_is at c.self.invariant in
-    let told : IsTrue c.has_form.result ↔ Contains c.args.self.now form = rw (c.as_slice.ensures.value, c.as_slice-2.ensures.value, c.self.view_is) at c.has_form.ensures in
+    let told : IsTrue c.has_form.result ↔ Contains c.args.self.now form =
+    rw (c.as_slice.ensures.value, c.as_slice-2.ensures.value, c.self.view_is) at c.has_form.ensures in
+    let has = found_by_form c.args.self.now forms contour form canonical in
     let grown = shape_more value c.self.inside.forms.items c.push.new.self.items c.in-Some.form c.in_ok-push.ensures.items in
     record {
-      missing = λ found. let there : IsTrue c.has_form.result = told.1 ((found_by_form c.args.self.now forms contour form canonical).1 found) in absurd (cc);
+      missing = λ found. let there : IsTrue c.has_form.result = told.1 (has.1 found) in absurd (cc);
       form = form;
       canonical = canonical;
       appended = grown ∙ ap (λ l. l ++ form ∷ []) c.self.view_is;
