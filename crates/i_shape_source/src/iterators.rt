@@ -4,8 +4,8 @@ ghost use Rattle.std.specs.Iterator.{at_most};
 ghost use Rattle.std.specs.Map.Iter.{TakesFirst, deref};
 ghost use Rattle.i_shape_source.specs.LentPaths.{LendsExactly, RunsThrough};
 ghost use Rattle.i_shape_source.specs.Paths.{paths_of_shape, paths_of_shapes, paths_of_slices};
-ghost use Rattle.std.specs.Iterator.Adapters.{copied_steps};
-ghost use Rattle.std.specs.Slice.Iter.{iter_steps};
+ghost use Rattle.std.specs.Iterator.Adapters.{copied_source, copied_steps};
+ghost use Rattle.std.specs.Slice.Iter.{iter_rest, iter_steps};
 
 use std::iter::Copied;
 use std::marker::Model;
@@ -135,6 +135,7 @@ impl<'a, P> Iterator for ShapesResourceIterator<'a, P> {
 
 /// Lends borrowed paths.
 pub(crate) fn lend_slices<'a, P>(slices: &'a [&'a [P]]) -> Copied<Iter<'a, &'a [P]>>
+    ensures left { iter_rest (copied_source result) ≡ slices.now }
     ensures lends { LendsExactly (copied_steps iter_steps) result (paths_of_slices slices.now) }
     ensures runs { RunsThrough (copied_steps iter_steps) result (paths_of_slices slices.now) }
 {

@@ -1,6 +1,8 @@
 //! What a list may hold to be a resource of paths.
-ghost use Rattle.std.specs.Prelude.{List, [], ◌∷◌};
+ghost use Rattle.std.specs.Prelude.{◌≡◌, List, [], ◌∷◌, ⊤};
 ghost use Rattle.std.specs.Iterator.{IsFinite};
+ghost use Rattle.std.specs.Iterator.Adapters.{copied_source};
+ghost use Rattle.std.specs.Slice.Iter.{iter_rest};
 ghost use Rattle.i_shape_source.specs.LentPaths.{LendsExactly, RunsThrough};
 ghost use Rattle.i_shape_source.specs.Paths.{paths_of_shape, paths_of_shapes, paths_of_slices};
 
@@ -19,9 +21,13 @@ pub trait ResourceMember<'a, P: ShapePoint + 'a>: Sized + 'a {
     /// The paths of a list of members, in storage order.
     ghost member_paths: { List Self → List (List P) };
 
+    /// What is known of the iterator at first.
+    ghost begins: { List Self → Self.MemberIter → Type 0 } = { λ _ _. ⊤ };
+
     /// Lends the paths of the members one by one, and then ends. Nothing is copied or allocated.
     fn lend(members: &'a [Self]) -> Self::MemberIter
         ensures can { Self.MemberIter.can_next result }
+        ensures begins { begins members.now result }
         ensures ends { IsFinite (Self.MemberIter.remaining result) }
         ensures lends { LendsExactly Self.MemberIter.next_gives result (member_paths members.now) }
         ensures runs { RunsThrough Self.MemberIter.next_gives result (member_paths members.now) };
@@ -31,6 +37,8 @@ impl<'a, P: ShapePoint + 'a> ResourceMember<'a, P> for P {
     type MemberIter = ContourResourceIterator<'a, P>;
 
     ghost member_paths = { λ points. points ∷ [] };
+
+    ghost begins = { λ points iter. iter ≡ points ∷ [] };
 
     fn lend(members: &'a [P]) -> ContourResourceIterator<'a, P> {
         ContourResourceIterator::with_slice(members)
@@ -42,6 +50,8 @@ impl<'a, P: ShapePoint + 'a> ResourceMember<'a, P> for Vec<P> {
 
     ghost member_paths = { paths_of_shape };
 
+    ghost begins = { λ shape iter. iter ≡ paths_of_shape shape };
+
     fn lend(members: &'a [Vec<P>]) -> ShapeResourceIterator<'a, P> {
         ShapeResourceIterator::with_slice(members)
     }
@@ -52,6 +62,8 @@ impl<'a, P: ShapePoint + 'a> ResourceMember<'a, P> for &'a [P] {
 
     ghost member_paths = { paths_of_slices };
 
+    ghost begins = { λ slices iter. iter_rest (copied_source iter) ≡ slices };
+
     fn lend(members: &'a [&'a [P]]) -> Copied<Iter<'a, &'a [P]>> {
         lend_slices(members)
     }
@@ -61,6 +73,8 @@ impl<'a, P: ShapePoint + 'a> ResourceMember<'a, P> for Vec<Vec<P>> {
     type MemberIter = ShapesResourceIterator<'a, P>;
 
     ghost member_paths = { paths_of_shapes };
+
+    ghost begins = { λ shapes iter. iter ≡ paths_of_shapes shapes };
 
     fn lend(members: &'a [Vec<Vec<P>>]) -> ShapesResourceIterator<'a, P> {
         ShapesResourceIterator::with_slice(members)

@@ -1,6 +1,8 @@
 //! What a list may hold to be a resource of paths.
-ghost use Rattle.std.specs.Prelude.{List, [], ◌∷◌};
+ghost use Rattle.std.specs.Prelude.{◌≡◌, List, [], ◌∷◌, ⊤};
 ghost use Rattle.std.specs.Iterator.{IsFinite};
+ghost use Rattle.std.specs.Iterator.Adapters.{copied_source};
+ghost use Rattle.std.specs.Slice.Iter.{iter_rest};
 ghost use Rattle.i_shape_core.specs.declared.point.IntPoint.{IntPoint};
 ghost use Rattle.i_shape_source.specs.LentPaths.{LendsExactly, RunsThrough};
 ghost use Rattle.i_shape_source.specs.Paths.{paths_of_shape, paths_of_shapes, paths_of_slices};
@@ -21,9 +23,13 @@ pub trait IntResourceMember<'a, I: IntNumber + 'a>: Sized + 'a {
     /// The paths of a list of members, in storage order.
     ghost member_paths: { List Self → List (List (IntPoint I)) };
 
+    /// What is known of the iterator at first.
+    ghost begins: { List Self → Self.MemberIter → Type 0 } = { λ _ _. ⊤ };
+
     /// Lends the paths of the members one by one, and then ends. Nothing is copied or allocated.
     fn lend(members: &'a [Self]) -> Self::MemberIter
         ensures can { Self.MemberIter.can_next result }
+        ensures begins { begins members.now result }
         ensures ends { IsFinite (Self.MemberIter.remaining result) }
         ensures lends { LendsExactly Self.MemberIter.next_gives result (member_paths members.now) }
         ensures runs { RunsThrough Self.MemberIter.next_gives result (member_paths members.now) };
@@ -33,6 +39,8 @@ impl<'a, I: IntNumber + 'a> IntResourceMember<'a, I> for IntPoint<I> {
     type MemberIter = ContourResourceIterator<'a, IntPoint<I>>;
 
     ghost member_paths = { λ points. points ∷ [] };
+
+    ghost begins = { λ points iter. iter ≡ points ∷ [] };
 
     fn lend(members: &'a [IntPoint<I>]) -> ContourResourceIterator<'a, IntPoint<I>> {
         ContourResourceIterator::with_slice(members)
@@ -44,6 +52,8 @@ impl<'a, I: IntNumber + 'a> IntResourceMember<'a, I> for Vec<IntPoint<I>> {
 
     ghost member_paths = { paths_of_shape };
 
+    ghost begins = { λ shape iter. iter ≡ paths_of_shape shape };
+
     fn lend(members: &'a [Vec<IntPoint<I>>]) -> ShapeResourceIterator<'a, IntPoint<I>> {
         ShapeResourceIterator::with_slice(members)
     }
@@ -54,6 +64,8 @@ impl<'a, I: IntNumber + 'a> IntResourceMember<'a, I> for &'a [IntPoint<I>] {
 
     ghost member_paths = { paths_of_slices };
 
+    ghost begins = { λ slices iter. iter_rest (copied_source iter) ≡ slices };
+
     fn lend(members: &'a [&'a [IntPoint<I>]]) -> Copied<Iter<'a, &'a [IntPoint<I>]>> {
         lend_slices(members)
     }
@@ -63,6 +75,8 @@ impl<'a, I: IntNumber + 'a> IntResourceMember<'a, I> for Vec<Vec<IntPoint<I>>> {
     type MemberIter = ShapesResourceIterator<'a, IntPoint<I>>;
 
     ghost member_paths = { paths_of_shapes };
+
+    ghost begins = { λ shapes iter. iter ≡ paths_of_shapes shapes };
 
     fn lend(members: &'a [Vec<Vec<IntPoint<I>>>]) -> ShapesResourceIterator<'a, IntPoint<I>> {
         ShapesResourceIterator::with_slice(members)

@@ -10,6 +10,8 @@ impl<'a, I: IntNumber + 'a, T: IntResourceMember<'a, I>> IntShapeResource<'a, I>
 
     ghost paths = { λ members. T.member_paths members.now };
 
+    ghost begins = { λ members iter. T.begins members.now iter };
+
     fn iter_paths(self) -> T::MemberIter {
         T::lend(self)
     }
@@ -20,6 +22,8 @@ impl<'a, I: IntNumber + 'a, T: IntResourceMember<'a, I>> IntShapeResource<'a, I>
 
     ghost paths = { λ members. T.member_paths members.now.now };
 
+    ghost begins = { λ members iter. T.begins members.now.now iter };
+
     fn iter_paths(self) -> T::MemberIter {
         T::lend(*self)
     }
@@ -29,6 +33,8 @@ impl<'a, I: IntNumber + 'a, T: IntResourceMember<'a, I>> IntShapeResource<'a, I>
     type ResourceIter = T::MemberIter;
 
     ghost paths = { λ members. T.member_paths members.now.items };
+
+    ghost begins = { λ members iter. T.begins members.now.items iter };
 
     fn iter_paths(self) -> T::MemberIter {
         T::lend(self.as_slice())
@@ -41,6 +47,8 @@ impl<'a, I: IntNumber + 'a, T: IntResourceMember<'a, I>> IntShapeResource<'a, I>
 
     ghost paths = { λ members. T.member_paths members.now.now.items };
 
+    ghost begins = { λ members iter. T.begins members.now.now.items iter };
+
     fn iter_paths(self) -> T::MemberIter {
         T::lend(self.as_slice())
     }
@@ -52,6 +60,8 @@ impl<'a, I: IntNumber + 'a, T: IntResourceMember<'a, I>, const N: usize> IntShap
 
     ghost paths = { λ members. T.member_paths members.now };
 
+    ghost begins = { λ members iter. T.begins members.now iter };
+
     fn iter_paths(self) -> T::MemberIter {
         T::lend(self.as_slice())
     }
@@ -62,6 +72,8 @@ impl<'a, I: IntNumber + 'a, T: IntResourceMember<'a, I>, const N: usize> IntShap
     type ResourceIter = T::MemberIter;
 
     ghost paths = { λ members. T.member_paths members.now.now };
+
+    ghost begins = { λ members iter. T.begins members.now.now iter };
 
     fn iter_paths(self) -> T::MemberIter {
         T::lend(self.as_slice())

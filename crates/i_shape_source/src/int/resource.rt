@@ -17,6 +17,9 @@ pub trait IntShapeResource<'a, I: IntNumber + 'a>: Sized {
     /// The paths, in storage order.
     ghost paths: { Self → List (List (IntPoint I)) };
 
+    /// What is known of the iterator at first, beside the law that `iter_paths` states.
+    ghost begins: { Self → Self.ResourceIter → Type 0 } = { λ _ _. ⊤ };
+
     /// Whether the resource can be read.
     ghost can_read: { Self → Type 0 } = { λ _. ⊤ };
 
@@ -24,6 +27,7 @@ pub trait IntShapeResource<'a, I: IntNumber + 'a>: Sized {
     fn iter_paths(self) -> Self::ResourceIter
         requires { can_read self }
         ensures can { Self.ResourceIter.can_next result }
+        ensures begins { begins self result }
         ensures ends { IsFinite (Self.ResourceIter.remaining result) }
         ensures lends { LendsExactly Self.ResourceIter.next_gives result (paths self) }
         ensures runs { RunsThrough Self.ResourceIter.next_gives result (paths self) };

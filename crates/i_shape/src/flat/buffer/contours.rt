@@ -44,6 +44,7 @@ impl<T: IntNumber> FlatContoursBuffer<T> {
     /// An empty buffer with room for `capacity` points. The only error is `OutOfMemory`.
     pub fn with_capacity(alloc: Global, capacity: usize) -> Result<Self, ShapeError>
         ensures ok { IfOk result (λ buffer. HoldsContours buffer []) }
+        ensures room { IfOk result (λ buffer. capacity ≤ vec_capacity buffer.points) }
         ensures memory { IsOkUnless result ShapeError.OutOfMemory }
     {
         Ok(FlatContoursBuffer {

@@ -51,6 +51,7 @@ impl<T: IntNumber> FlatShapesBuffer<T> {
         shapes: usize,
     ) -> Result<Self, ShapeError>
         ensures ok { IfOk result (λ buffer. HoldsShapes buffer []) }
+        ensures room { IfOk result (λ buffer. (points ≤ vec_capacity buffer.points) × (contours ≤ vec_capacity buffer.contour_ranges) × (shapes ≤ vec_capacity buffer.shape_ranges)) }
         ensures memory { IsOkUnless result ShapeError.OutOfMemory }
     {
         Ok(FlatShapesBuffer {

@@ -42,6 +42,7 @@ impl<P: Copy> FloatFlatContoursBuffer<P> {
     /// An empty buffer with room for so many points and contours. The only error is `OutOfMemory`.
     pub fn with_capacity(alloc: Global, points: usize, contours: usize) -> Result<Self, ShapeError>
         ensures ok { IfOk result (λ buffer. HasLists buffer [] []) }
+        ensures room { IfOk result (λ buffer. (points ≤ vec_capacity buffer.points) × (contours ≤ vec_capacity buffer.ranges)) }
         ensures memory { IsOkUnless result ShapeError.OutOfMemory }
     {
         Ok(FloatFlatContoursBuffer {

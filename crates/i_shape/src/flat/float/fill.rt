@@ -1,6 +1,6 @@
 //! What fills the lists of a flat buffer over points of any kind.
 
-ghost use Rattle.std.specs.Prelude.{◌≡◌, ◌+◌, ◌<◌, ◌≤◌, ◌++◌, ◌⊎◌, List, length, vec_len, vec_capacity, OnOk, OnErr, IsOkUnless, MatchOption};
+ghost use Rattle.std.specs.Prelude.{◌≡◌, ◌+◌, ◌<◌, ◌≤◌, ◌++◌, ◌⊎◌, List, length, map, vec_len, vec_capacity, OnOk, OnErr, IsOkUnless, MatchOption};
 ghost use Rattle.std.specs.List.{All, Contains};
 ghost use Rattle.std.specs.Iterator.{Drains, IsFinite};
 ghost use Rattle.i_shape_source.specs.Paths.{joined};
@@ -14,6 +14,7 @@ use std::ops::Range;
 /// The greatest end of some ranges, and 0 where there is none.
 pub fn greatest_end(ranges: &[Range<usize>]) -> usize
     ensures bound { All (λ range. range.end ≤ result) ranges.now }
+    ensures found { (result ≡ 0) ⊎ Contains (map (λ range. range.end) ranges.now) result }
 {
     ranges.iter().map(|range| range.end).max().unwrap_or(0)
 }

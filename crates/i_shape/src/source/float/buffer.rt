@@ -117,6 +117,8 @@ impl<'a, P: ShapePoint + 'a> ShapeResource<'a, P> for &'a FloatFlatContoursBuffe
 
     ghost paths = { λ buffer. readable_slices buffer.now.points.items buffer.now.ranges.items };
 
+    ghost begins = { λ buffer iter. iter ≡ readable_slices buffer.now.points.items buffer.now.ranges.items };
+
     fn iter_paths(self) -> FloatContoursBufferResourceIterator<'a, P> {
         let points = self.points.as_slice();
         FloatContoursBufferResourceIterator::with_ranges(points, self.ranges.as_slice())
@@ -127,6 +129,8 @@ impl<'a, P: ShapePoint + 'a> ShapeResource<'a, P> for &'a &'a FloatFlatContoursB
     type ResourceIter = FloatContoursBufferResourceIterator<'a, P>;
 
     ghost paths = { λ buffer. readable_slices buffer.now.now.points.items buffer.now.now.ranges.items };
+
+    ghost begins = { λ buffer iter. iter ≡ readable_slices buffer.now.now.points.items buffer.now.now.ranges.items };
 
     fn iter_paths(self) -> FloatContoursBufferResourceIterator<'a, P> {
         let buffer = *self;
@@ -139,6 +143,8 @@ impl<'a, P: ShapePoint + 'a> ShapeResource<'a, P> for &'a FloatFlatShapesBuffer<
 
     ghost paths = { λ buffer. readable_slices buffer.now.points.items buffer.now.contour_ranges.items };
 
+    ghost begins = { λ buffer iter. iter ≡ readable_slices buffer.now.points.items buffer.now.contour_ranges.items };
+
     fn iter_paths(self) -> FloatShapesBufferResourceIterator<'a, P> {
         let ranges = self.contour_ranges.as_slice();
         FloatShapesBufferResourceIterator::with_ranges(self.points.as_slice(), ranges)
@@ -149,6 +155,8 @@ impl<'a, P: ShapePoint + 'a> ShapeResource<'a, P> for &'a &'a FloatFlatShapesBuf
     type ResourceIter = FloatShapesBufferResourceIterator<'a, P>;
 
     ghost paths = { λ buffer. readable_slices buffer.now.now.points.items buffer.now.now.contour_ranges.items };
+
+    ghost begins = { λ buffer iter. iter ≡ readable_slices buffer.now.now.points.items buffer.now.now.contour_ranges.items };
 
     fn iter_paths(self) -> FloatShapesBufferResourceIterator<'a, P> {
         (*self).iter_paths()

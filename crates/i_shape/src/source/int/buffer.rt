@@ -82,6 +82,8 @@ impl<'a, I: IntNumber + 'a> IntShapeResource<'a, I> for &'a FlatContoursBuffer<I
 
     ghost paths = { λ buffer. slices buffer.now.points.items buffer.now.ranges.items };
 
+    ghost begins = { λ buffer iter. iter ≡ slices buffer.now.points.items buffer.now.ranges.items };
+
     ghost can_read = { λ buffer. All (InOrder (length buffer.now.points.items)) buffer.now.ranges.items };
 
     fn iter_paths(self) -> IntBufferResourceIterator<'a, I> {
@@ -93,6 +95,8 @@ impl<'a, I: IntNumber + 'a> IntShapeResource<'a, I> for &'a &'a FlatContoursBuff
     type ResourceIter = IntBufferResourceIterator<'a, I>;
 
     ghost paths = { λ buffer. slices buffer.now.now.points.items buffer.now.now.ranges.items };
+
+    ghost begins = { λ buffer iter. iter ≡ slices buffer.now.now.points.items buffer.now.now.ranges.items };
 
     ghost can_read = { λ buffer. All (InOrder (length buffer.now.now.points.items)) buffer.now.now.ranges.items };
 
@@ -107,6 +111,8 @@ impl<'a, I: IntNumber + 'a> IntShapeResource<'a, I> for &'a FlatShapesBuffer<I> 
 
     ghost paths = { λ buffer. slices buffer.now.points.items buffer.now.contour_ranges.items };
 
+    ghost begins = { λ buffer iter. iter ≡ slices buffer.now.points.items buffer.now.contour_ranges.items };
+
     ghost can_read = { λ buffer. All (InOrder (length buffer.now.points.items)) buffer.now.contour_ranges.items };
 
     fn iter_paths(self) -> IntBufferResourceIterator<'a, I> {
@@ -119,6 +125,8 @@ impl<'a, I: IntNumber + 'a> IntShapeResource<'a, I> for &'a &'a FlatShapesBuffer
     type ResourceIter = IntBufferResourceIterator<'a, I>;
 
     ghost paths = { λ buffer. slices buffer.now.now.points.items buffer.now.now.contour_ranges.items };
+
+    ghost begins = { λ buffer iter. iter ≡ slices buffer.now.now.points.items buffer.now.now.contour_ranges.items };
 
     ghost can_read = { λ buffer. All (InOrder (length buffer.now.now.points.items)) buffer.now.now.contour_ranges.items };
 
