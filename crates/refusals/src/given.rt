@@ -1,0 +1,135 @@
+//! What the calls under test are given.
+
+ghost use Rattle.std.specs.Prelude.{◌↔◌, IsTrue, IfOk};
+ghost use Rattle.std.specs.List.{All};
+ghost use Rattle.i_shape.specs.IntPoint.{point_of, contour_of, IsSafe};
+ghost use Rattle.i_shape.specs.ShapeLists.{shape_of, shapes_of, IsSafeShape, IsSafeList};
+
+use i_shape::IntNumber;
+use i_shape::int::IntPoint;
+use i_shape::int::shape::{IntContour, IntShape, IntShapes};
+use std::alloc::{AllocError, Global};
+use std::process::Abort;
+
+macro_rules! points {
+    ($([$x:expr, $y:expr]),*) => {
+        [$(IntPoint { x: $x, y: $y }),*]
+    };
+}
+
+/// A square with a spike on its first edge.
+pub const SPIKED: [IntPoint<i32>; 6] = points![[0, 0], [2, 0], [4, 0], [2, 0], [2, 2], [0, 2]];
+
+/// That square without the spike.
+pub const SQUARE: [IntPoint<i32>; 4] = points![[0, 0], [2, 0], [2, 2], [0, 2]];
+
+/// A triangle.
+pub const TRIANGLE: [IntPoint<i32>; 3] = points![[0, 0], [1, 0], [0, 1]];
+
+/// That square and a triangle, end to end.
+pub const BOTH: [IntPoint<i32>; 7] = points![
+    [0, 0],
+    [2, 0],
+    [2, 2],
+    [0, 2],
+    [0, 0],
+    [1, 0],
+    [0, 1]
+];
+
+/// The square with the spike and a triangle, end to end.
+pub const SPIKED_AND_TRIANGLE: [IntPoint<i32>; 9] = points![
+    [0, 0],
+    [2, 0],
+    [4, 0],
+    [2, 0],
+    [2, 2],
+    [0, 2],
+    [0, 0],
+    [1, 0],
+    [0, 1]
+];
+
+/// What a buffer holds before a call.
+pub const MARK: [IntPoint<i32>; 1] = points![[9, 9]];
+
+/// The same before the square and the triangle.
+pub const MARK_AND_BOTH: [IntPoint<i32>; 8] = points![
+    [9, 9],
+    [0, 0],
+    [2, 0],
+    [2, 2],
+    [0, 2],
+    [0, 0],
+    [1, 0],
+    [0, 1]
+];
+
+/// Whether all points are safe.
+pub fn are_safe<I: IntNumber>(points: &[IntPoint<I>]) -> bool
+    ensures { IsTrue result ↔ All (λ p. IsSafe I.width (point_of I.value p)) points.now }
+{
+    points.iter().all(|point| point.is_in_safe_range())
+}
+
+/// These points. The test stops where one isn't safe.
+pub fn safe<'a, I: IntNumber>(rt: &impl Abort, points: &'a [IntPoint<I>]) -> &'a [IntPoint<I>]
+    ensures { All (IsSafe I.width) (contour_of I.value result.now) }
+{
+    assert!(rt; are_safe(points), "a point isn't in safe range");
+    points
+}
+
+/// The contour of these points. The test stops where one isn't safe.
+pub fn contour<I: IntNumber>(
+    rt: &impl Abort,
+    alloc: Global,
+    points: &[IntPoint<I>],
+) -> Result<IntContour<I>, AllocError>
+    ensures { IfOk result (λ c. All (IsSafe I.width) (contour_of I.value c.items)) }
+{
+    Vec::from_slice(alloc, safe(rt, points))
+}
+
+/// The shape of these contours. The test stops where a point isn't safe.
+pub fn shape<I: IntNumber>(
+    rt: &impl Abort,
+    alloc: Global,
+    contours: &[&[IntPoint<I>]],
+) -> Result<IntShape<I>, AllocError>
+    ensures { IfOk result (λ s. IsSafeShape I.width (shape_of I.value s.items)) }
+{
+    let mut shape = Vec::new(alloc);
+    for points in contours {
+        shape.push(contour(rt, alloc, *points)?)?;
+    }
+    Ok(shape)
+}
+
+/// The list of one shape of these contours. The test stops where a point isn't safe.
+pub fn one_shape<I: IntNumber>(
+    rt: &impl Abort,
+    alloc: Global,
+    contours: &[&[IntPoint<I>]],
+) -> Result<IntShapes<I>, AllocError>
+    ensures { IfOk result (λ s. IsSafeList I.width (shapes_of I.value s.items)) }
+{
+    Ok(Vec::from_array(alloc, [shape(rt, alloc, contours)?])?)
+}
+
+/// The square and the triangle.
+pub fn two_contours(alloc: Global) -> Result<[IntContour<i32>; 2], AllocError> {
+    Ok([
+        Vec::from_slice(alloc, &SQUARE)?,
+        Vec::from_slice(alloc, &TRIANGLE)?,
+    ])
+}
+
+/// A shape of the square and one of the triangle.
+pub fn two_shapes(alloc: Global) -> Result<[IntShape<i32>; 2], AllocError> {
+    let [square, triangle] = two_contours(alloc)?;
+    Ok([
+        Vec::from_array(alloc, [square])?,
+        Vec::from_array(alloc, [triangle])?,
+    ])
+}

@@ -1,0 +1,28 @@
+//! Calls whose growths are refused one by one. Each test makes one call and prints `NAME done` or `NAME refused`; where what
+//! the call is given can't be had, it prints nothing. Without a refusal each call is done.
+#![tactic(auto)]
+
+#[cfg(test)]
+mod cleaners;
+#[cfg(test)]
+mod copies;
+#[cfg(test)]
+mod flat_contours;
+#[cfg(test)]
+mod flat_shapes;
+#[cfg(test)]
+mod generic_contours;
+#[cfg(test)]
+mod generic_shapes;
+#[cfg(test)]
+mod given;
+#[cfg(test)]
+mod in_place;
+#[cfg(test)]
+mod macros;
+#[cfg(test)]
+mod program;
+#[cfg(test)]
+mod spots;
+#[cfg(test)]
+mod told;
