@@ -1,4 +1,5 @@
-ghost use Rattle.std.specs.Prelude.{[], ◌∷◌};
+ghost use Rattle.std.specs.Prelude.{◌≡◌, [], ◌∷◌, length, IfOk};
+ghost use Rattle.i_shape.specs.Paths.{paths_of_shapes};
 
 use i_shape::flat::buffer::{FlatContoursBuffer, FlatShapesBuffer};
 use i_shape::int::IntPoint;
@@ -88,7 +89,9 @@ fn another_resource_forwards_its_slice(rt: HostRuntime) -> Result<(), Fail> {
 }
 
 /// An empty shape, a shape with an empty path between two paths, an empty shape, a shape of one empty path, an empty shape.
-fn some_shapes<P: Copy>(alloc: Global, path: &[P]) -> Result<[Vec<Vec<P>>; 5], Fail> {
+fn some_shapes<P: Copy>(alloc: Global, path: &[P]) -> Result<[Vec<Vec<P>>; 5], Fail>
+    ensures { IfOk result (λ shapes. length (paths_of_shapes shapes) ≡ 4) }
+{
     let filled = vec![in alloc; path.to_vec(alloc)?, Vec::new(alloc), path.to_vec(alloc)?]?;
     let hollow = vec![in alloc; Vec::new(alloc)]?;
     Ok([
@@ -487,16 +490,34 @@ fn count_is_the_number_of_paths_left(rt: HostRuntime) -> Result<(), Fail> {
     let path = [IntPoint::new(7, 1), IntPoint::new(2, -3)];
     let mut walk = (&path).iter_paths();
     walk.next();
-    assert_eq!(rt; walk.take(9).count(), 0);
+    assert_eq!(rt; walk.count(), 0);
     let shape = [path.to_vec(alloc)?, path.to_vec(alloc)?];
     let mut walk = (&shape).iter_paths();
     walk.next();
-    assert_eq!(rt; walk.take(9).count(), 1);
-    let shapes = some_shapes(alloc, &path)?;
-    assert_eq!(rt; (&shapes).iter_paths().take(9).count(), 4);
+    assert_eq!(rt; walk.count(), 1);
+    let two = vec![in alloc; path.to_vec(alloc)?, path.to_vec(alloc)?]?;
+    let one = vec![in alloc; path.to_vec(alloc)?]?;
+    let shapes = [two, one];
+    let mut walk = (&shapes).iter_paths();
+    walk.next();
+    assert_eq!(rt; walk.count(), 2);
+    Ok(())
+}
+
+#[test]
+fn count_passes_over_empty_shapes(rt: HostRuntime) -> Result<(), Fail> {
+    let path = [IntPoint::new(7, 1), IntPoint::new(2, -3)];
+    let shapes = some_shapes(rt.alloc(), &path)?;
+    assert_eq!(rt; (&shapes).iter_paths().count(), 4);
     let mut walk = (&shapes).iter_paths();
     walk.next();
     walk.next();
-    assert_eq!(rt; walk.take(9).count(), 2);
+    assert_eq!(rt; walk.count(), 2);
+    let mut walk = (&shapes).iter_paths();
+    walk.next();
+    walk.next();
+    walk.next();
+    walk.next();
+    assert_eq!(rt; walk.count(), 0);
     Ok(())
 }
