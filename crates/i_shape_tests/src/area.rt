@@ -4,6 +4,7 @@ ghost use Rattle.i_shape.specs.IntPoint.{contour_of};
 ghost use Rattle.i_shape.specs.ShapeLists.{shape_of};
 ghost use Rattle.i_shape.specs.ShapeAreas.{HasPoints};
 
+use crate::given::{squares, thousands};
 use i_shape::IntNumber;
 use i_shape::int::IntPoint;
 use i_shape::int::area::{Area, IteratorArea, UnsafeArea};
@@ -43,6 +44,23 @@ fn shape<I: IntNumber>(
     Ok(shape)
 }
 
+/// The contour of these points has this double area, and this half of it, as a slice and as an iterator.
+fn has_areas<I: IntNumber>(
+    rt: &impl Abort,
+    alloc: Global,
+    points: &[[I; 2]],
+    two: I::Wide,
+    half: I::Wide,
+) -> Result<(), Fail> {
+    let given = contour(rt, alloc, points)?;
+    assert!(rt; given.as_slice().area_two() == two);
+    assert!(rt; given.as_slice().area() == half);
+    assert!(rt; given.iter().copied().unsafe_area() == two);
+    assert!(rt; IteratorArea::area_two(given.iter().copied()) == two);
+    assert!(rt; IteratorArea::area(given.iter().copied()) == half);
+    Ok(())
+}
+
 #[test]
 fn double_area_and_its_half(rt: HostRuntime) -> Result<(), Fail> {
     let alloc = rt.alloc();
@@ -61,20 +79,34 @@ fn double_area_and_its_half(rt: HostRuntime) -> Result<(), Fail> {
         ),
         ([[0, 0], [6, 0], [6, 4], [0, 4]].as_slice(), 48, 24),
         (
+            [
+                [0, 0],
+                [10, 0],
+                [2, 0],
+                [8, 0],
+                [4, 0],
+                [6, 0],
+                [6, 6],
+                [0, 6],
+            ]
+            .as_slice(),
+            72,
+            36,
+        ),
+        (
+            [[0, 0], [2, 0], [4, 0], [6, 0], [6, 6], [0, 6]].as_slice(),
+            72,
+            36,
+        ),
+        ([[0, 0], [6, 0], [6, 6], [0, 6]].as_slice(), 72, 36),
+        (
             [[1073741824, 0], [0, 0], [0, 1]].as_slice(),
             -1073741824,
             -536870912,
         ),
         ([[-2147483648, 0]].as_slice(), 0, 0),
     ] {
-        let given = contour::<i32>(&rt, alloc, points)?;
-        let two: i64 = two;
-        let half: i64 = half;
-        assert_eq!(rt; given.as_slice().area_two(), two);
-        assert_eq!(rt; given.as_slice().area(), half);
-        assert_eq!(rt; given.iter().copied().unsafe_area(), two);
-        assert_eq!(rt; IteratorArea::area_two(given.iter().copied()), two);
-        assert_eq!(rt; IteratorArea::area(given.iter().copied()), half);
+        has_areas::<i32>(&rt, alloc, points, two, half)?;
     }
     Ok(())
 }
@@ -118,68 +150,54 @@ fn an_octagon_of_large_coordinates(rt: HostRuntime) -> Result<(), Fail> {
     Ok(())
 }
 
+/// The square of these coordinates has these double areas and halves, once round and twice.
+fn winds<I: IntNumber>(
+    rt: &impl Abort,
+    alloc: Global,
+    [low, high]: [I; 2],
+    once: [I::Wide; 2],
+    twice: [I::Wide; 2],
+) -> Result<(), Fail> {
+    let [first, second] = squares(alloc, low, high)?;
+    has_areas(rt, alloc, first.as_slice(), once[0], once[1])?;
+    has_areas(rt, alloc, second.as_slice(), twice[0], twice[1])
+}
+
 #[test]
 fn at_the_safe_limits_one_winding_fits_and_two_wrap(rt: HostRuntime) -> Result<(), Fail> {
     let alloc = rt.alloc();
-    let m: i16 = 16383;
-    let narrow = [
-        [-m, -m],
-        [m, -m],
-        [m, m],
-        [-m, m],
-        [-m, -m],
-        [m, -m],
-        [m, m],
-        [-m, m],
-    ];
-    let once = contour::<i16>(&rt, alloc, &narrow[..4])?;
-    assert_eq!(rt; once.as_slice().area_two(), 2147221512);
-    let twice = contour::<i16>(&rt, alloc, narrow.as_slice())?;
-    assert_eq!(rt; twice.as_slice().area_two(), -524272);
-    assert_eq!(rt; twice.as_slice().area(), -262136);
-    assert_eq!(rt; twice.iter().copied().unsafe_area(), -524272);
-    let m: i32 = 1073741823;
-    let medium = [
-        [-m, -m],
-        [m, -m],
-        [m, m],
-        [-m, m],
-        [-m, -m],
-        [m, -m],
-        [m, m],
-        [-m, m],
-    ];
-    let once = contour::<i32>(&rt, alloc, &medium[..4])?;
-    assert_eq!(rt; once.as_slice().area_two(), 9223372019674906632);
-    let twice = contour::<i32>(&rt, alloc, medium.as_slice())?;
-    assert_eq!(rt; twice.as_slice().area_two(), -34359738352);
-    assert_eq!(rt; twice.as_slice().area(), -17179869176);
-    let m: i64 = 4611686018427387903;
-    let broad = [
-        [-m, -m],
-        [m, -m],
-        [m, m],
-        [-m, m],
-        [-m, -m],
-        [m, -m],
-        [m, m],
-        [-m, m],
-    ];
-    let once = contour::<i64>(&rt, alloc, &broad[..4])?;
-    assert_eq!(rt;
-        once.as_slice().area_two(),
-        170141183460469231657900327421045899272
-    );
-    assert_eq!(rt;
-        once.as_slice().area(),
-        85070591730234615828950163710522949636
-    );
-    let twice = contour::<i64>(&rt, alloc, broad.as_slice())?;
-    assert_eq!(rt; twice.as_slice().area_two(), -147573952589676412912);
-    assert_eq!(rt;
-        IteratorArea::area_two(twice.iter().copied()),
-        -147573952589676412912
-    );
+    winds::<i16>(
+        &rt,
+        alloc,
+        [-16383, 16383],
+        [2147221512, 1073610756],
+        [-524272, -262136],
+    )?;
+    winds::<i32>(
+        &rt,
+        alloc,
+        [-1073741823, 1073741823],
+        [9223372019674906632, 4611686009837453316],
+        [-34359738352, -17179869176],
+    )?;
+    winds::<i64>(
+        &rt,
+        alloc,
+        [-4611686018427387903, 4611686018427387903],
+        [
+            170141183460469231657900327421045899272,
+            85070591730234615828950163710522949636,
+        ],
+        [-147573952589676412912, -73786976294838206456],
+    )
+}
+
+#[test]
+fn a_thousand_points_on_a_line_or_at_one_place_have_no_area(rt: HostRuntime) -> Result<(), Fail> {
+    let alloc = rt.alloc();
+    for list in &thousands(alloc)? {
+        has_areas::<i32>(&rt, alloc, list.as_slice(), 0, 0)?;
+    }
     Ok(())
 }
 

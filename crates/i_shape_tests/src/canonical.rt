@@ -1,4 +1,4 @@
-use crate::given::contour;
+use crate::given::{contour, hostile_rings};
 use i_shape::IntNumber;
 use i_shape::int::simple::{ContourSimplifier, SimpleContour};
 use i_shape_core::canonical::least_start_counted;
@@ -6,24 +6,37 @@ use std::alloc::Global;
 use std::process::Abort;
 use std::test::Fail;
 
-/// Each rotation of the points has this canonical form, by both calls.
+/// The points have this canonical form, by both calls.
+fn has_canonical<I: IntNumber>(
+    rt: &impl Abort,
+    alloc: Global,
+    simplifier: &mut ContourSimplifier,
+    points: &[[I; 2]],
+    wanted: &[[I; 2]],
+) -> Result<(), Fail> {
+    let wanted = contour(rt, alloc, wanted)?;
+    let given = contour(rt, alloc, points)?;
+    let own = given.as_slice().canonical(alloc)?.ok_or("it collapsed")?;
+    assert!(rt; own == wanted);
+    let reused = simplifier
+        .canonical(given.as_slice())?
+        .ok_or("it collapsed")?;
+    assert!(rt; reused == wanted);
+    Ok(())
+}
+
+/// Each rotation of the points has this canonical form.
 fn assert_each_rotation<I: IntNumber>(
     rt: &impl Abort,
     alloc: Global,
     points: &[[I; 2]],
     wanted: &[[I; 2]],
 ) -> Result<(), Fail> {
-    let wanted = contour(rt, alloc, wanted)?;
     let mut simplifier = ContourSimplifier::new(alloc);
     for start in 0..points.len() {
         let mut turned = Vec::from_slice(alloc, points)?;
         turned.rotate_left(start);
-        let turned = contour(rt, alloc, turned.as_slice())?;
-        let own = turned.as_slice().canonical(alloc)?;
-        let reused = simplifier.canonical(turned.as_slice())?;
-        let own = own.ok_or("it collapsed")?;
-        let reused = reused.ok_or("it collapsed")?;
-        assert!(rt; own == wanted && reused == wanted, "from place {start}");
+        has_canonical(rt, alloc, &mut simplifier, turned.as_slice(), wanted)?;
     }
     Ok(())
 }
@@ -31,6 +44,7 @@ fn assert_each_rotation<I: IntNumber>(
 #[test]
 fn canonical_is_the_least_rotation_of_the_one_end(rt: HostRuntime) -> Result<(), Fail> {
     let alloc = rt.alloc();
+    let mut simplifier = ContourSimplifier::new(alloc);
     for (given, wanted) in [
         (
             [[6, 0], [0, 0], [2, 0], [1, 0], [1, 5]].as_slice(),
@@ -53,12 +67,7 @@ fn canonical_is_the_least_rotation_of_the_one_end(rt: HostRuntime) -> Result<(),
             [[0, 0], [2, 6], [0, 6], [0, 0], [4, 0], [4, 4]].as_slice(),
         ),
     ] {
-        let given = contour::<i32>(&rt, alloc, given)?;
-        let wanted = contour::<i32>(&rt, alloc, wanted)?;
-        let own = given.as_slice().canonical(alloc)?.ok_or("it collapsed")?;
-        assert_eq!(rt; own, wanted);
-        let kept = ContourSimplifier::new(alloc).canonical(given.as_slice())?;
-        assert_eq!(rt; kept.ok_or("it collapsed")?, wanted);
+        has_canonical::<i32>(&rt, alloc, &mut simplifier, given, wanted)?;
     }
     Ok(())
 }
@@ -83,53 +92,12 @@ fn canonical_is_none_where_the_contour_collapses(rt: HostRuntime) -> Result<(), 
 }
 
 #[test]
-fn rotations_of_hostile_contours_have_one_canonical_form(rt: HostRuntime) -> Result<(), Fail> {
-    for (given, wanted) in [
-        (
-            [
-                [0, 0],
-                [0, 1024],
-                [0, 1024],
-                [512, 1024],
-                [1024, 1024],
-                [1024, 1024],
-                [1024, 0],
-            ]
-            .as_slice(),
-            [[0, 0], [0, 1024], [1024, 1024], [1024, 0]].as_slice(),
-        ),
-        (
-            [[6, 0], [0, 0], [2, 0], [1, 0], [1, 5]].as_slice(),
-            [[1, 0], [1, 5], [6, 0]].as_slice(),
-        ),
-        (
-            [[0, 0], [4, 0], [4, 4], [0, 4], [0, 0]].as_slice(),
-            [[0, 0], [4, 0], [4, 4], [0, 4]].as_slice(),
-        ),
-        (
-            [[0, 0], [1, 0], [1, 0], [2, 0], [2, 2], [0, 2], [0, 0]].as_slice(),
-            [[0, 0], [2, 0], [2, 2], [0, 2]].as_slice(),
-        ),
-        (
-            [[0, 0], [8, 0], [4, 0], [6, 0], [6, 4], [0, 4]].as_slice(),
-            [[0, 0], [6, 0], [6, 4], [0, 4]].as_slice(),
-        ),
-        (
-            [
-                [0, 0],
-                [10, 0],
-                [2, 0],
-                [8, 0],
-                [4, 0],
-                [6, 0],
-                [6, 6],
-                [0, 6],
-            ]
-            .as_slice(),
-            [[0, 0], [6, 0], [6, 6], [0, 6]].as_slice(),
-        ),
-    ] {
-        assert_each_rotation::<i32>(&rt, rt.alloc(), given, wanted)?;
+fn every_start_of_a_hostile_contour_has_one_canonical_form(rt: HostRuntime) -> Result<(), Fail> {
+    let alloc = rt.alloc();
+    let mut simplifier = ContourSimplifier::new(alloc);
+    for (list, ring) in &hostile_rings(alloc)? {
+        let (list, ring) = (list.as_slice(), ring.as_slice());
+        has_canonical::<i32>(&rt, alloc, &mut simplifier, list, ring)?;
     }
     Ok(())
 }

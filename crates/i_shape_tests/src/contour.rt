@@ -1,26 +1,12 @@
-use crate::given::contour;
+use crate::given::{contour, reversed, rotated, squares, thousands};
 use i_shape::IntNumber;
 use i_shape::int::IntPoint;
 use i_shape::int::path::ContourExtension;
-use i_shape::int::simple::SimpleContour;
 use std::alloc::{AllocError, Global};
 use std::process::Abort;
 use std::test::Fail;
 
 const CLOCKWISE_SQUARE: [[i32; 2]; 4] = [[-10, -10], [-10, 10], [10, 10], [10, -10]];
-
-fn backwards(alloc: Global, points: &[[i32; 2]]) -> Result<Vec<[i32; 2]>, AllocError> {
-    points.iter().rev().copied().collect(alloc)
-}
-
-fn rotated(alloc: Global, points: &[[i32; 2]], start: usize) -> Result<Vec<[i32; 2]>, AllocError> {
-    points
-        .iter()
-        .skip(start)
-        .chain(points.iter().take(start))
-        .copied()
-        .collect(alloc)
-}
 
 /// The points, with the one at `place` three times in a row.
 fn tripled(alloc: Global, points: &[[i32; 2]], place: usize) -> Result<Vec<[i32; 2]>, AllocError> {
@@ -46,9 +32,9 @@ fn expect_convex(
 ) -> Result<(), Fail> {
     let forwards = contour::<i32>(rt, alloc, points)?;
     assert!(rt; forwards.as_slice().is_convex() == wanted);
-    let turned = backwards(alloc, points)?;
-    let reversed = contour::<i32>(rt, alloc, turned.as_slice())?;
-    assert!(rt; reversed.as_slice().is_convex() == wanted);
+    let turned = reversed(alloc, points)?;
+    let backwards = contour::<i32>(rt, alloc, turned.as_slice())?;
+    assert!(rt; backwards.as_slice().is_convex() == wanted);
     Ok(())
 }
 
@@ -196,67 +182,34 @@ fn clockwise_where_the_double_area_is_not_above_zero(rt: HostRuntime) -> Result<
     Ok(())
 }
 
+/// Once round, the square of these coordinates runs against the clock about its middle. Twice round, its area wraps.
+fn wraps_to_clockwise<I: IntNumber>(
+    rt: &impl Abort,
+    alloc: Global,
+    [low, high]: [I; 2],
+) -> Result<(), Fail> {
+    let [once, twice] = squares(alloc, low, high)?;
+    expect_clockwise(rt, alloc, once.as_slice(), false)?;
+    expect_clockwise(rt, alloc, twice.as_slice(), true)?;
+    expect_contains(rt, alloc, once.as_slice(), [I::ZERO, I::ZERO], true)?;
+    expect_contains(rt, alloc, twice.as_slice(), [I::ZERO, I::ZERO], false)
+}
+
 #[test]
 fn wound_twice_at_the_safe_limits_it_wraps_to_clockwise(rt: HostRuntime) -> Result<(), Fail> {
     let alloc = rt.alloc();
-    let m: i16 = 16383;
-    let narrow = [
-        [-m, -m],
-        [m, -m],
-        [m, m],
-        [-m, m],
-        [-m, -m],
-        [m, -m],
-        [m, m],
-        [-m, m],
-    ];
-    expect_clockwise::<i16>(&rt, alloc, &narrow[..4], false)?;
-    expect_clockwise::<i16>(&rt, alloc, narrow.as_slice(), true)?;
-    expect_contains::<i16>(&rt, alloc, &narrow[..4], [0, 0], true)?;
-    expect_contains::<i16>(&rt, alloc, narrow.as_slice(), [0, 0], false)?;
-    assert!(rt;
-        contour::<i16>(&rt, alloc, narrow.as_slice())?
-            .as_slice()
-            .is_simple()
-    );
-    let m: i32 = 1073741823;
-    let medium = [
-        [-m, -m],
-        [m, -m],
-        [m, m],
-        [-m, m],
-        [-m, -m],
-        [m, -m],
-        [m, m],
-        [-m, m],
-    ];
-    expect_clockwise::<i32>(&rt, alloc, &medium[..4], false)?;
-    expect_clockwise::<i32>(&rt, alloc, medium.as_slice(), true)?;
-    expect_contains::<i32>(&rt, alloc, &medium[..4], [0, 0], true)?;
-    assert!(rt;
-        contour::<i32>(&rt, alloc, medium.as_slice())?
-            .as_slice()
-            .is_simple()
-    );
-    let m: i64 = 4611686018427387903;
-    let broad = [
-        [-m, -m],
-        [m, -m],
-        [m, m],
-        [-m, m],
-        [-m, -m],
-        [m, -m],
-        [m, m],
-        [-m, m],
-    ];
-    expect_clockwise::<i64>(&rt, alloc, &broad[..4], false)?;
-    expect_clockwise::<i64>(&rt, alloc, broad.as_slice(), true)?;
-    expect_contains::<i64>(&rt, alloc, &broad[..4], [0, 0], true)?;
-    assert!(rt;
-        contour::<i64>(&rt, alloc, broad.as_slice())?
-            .as_slice()
-            .is_simple()
-    );
+    wraps_to_clockwise::<i16>(&rt, alloc, [-16383, 16383])?;
+    wraps_to_clockwise::<i32>(&rt, alloc, [-1073741823, 1073741823])?;
+    wraps_to_clockwise::<i64>(&rt, alloc, [-4611686018427387903, 4611686018427387903])
+}
+
+#[test]
+fn a_point_a_thousand_times_contains_nothing(rt: HostRuntime) -> Result<(), Fail> {
+    let alloc = rt.alloc();
+    for list in &thousands(alloc)? {
+        expect_contains::<i32>(&rt, alloc, list.as_slice(), [5, 5], false)?;
+        expect_contains::<i32>(&rt, alloc, list.as_slice(), [5, 0], false)?;
+    }
     Ok(())
 }
 

@@ -1,14 +1,8 @@
-ghost use Rattle.std.specs.Prelude.{◌≤◌, length, IfOk};
-ghost use Rattle.std.specs.List.{All};
-ghost use Rattle.i_shape.specs.IntPoint.{contour_of, IsSafe};
-
-use crate::given::contour;
-use i_shape::IntNumber;
-use i_shape::int::IntPoint;
-use i_shape::int::despike::DeSpikeContour;
-use i_shape::int::shape::IntContour;
+use crate::given::{contour, hostile_rings, pairs, reversed, rotated, thousands};
+use crate::plain::{has_back_vertex, is_rotation};
+use i_shape::int::despike::{DeSpike, DeSpikeContour};
 use i_shape::int::simple::SimpleContour;
-use std::alloc::{AllocError, Global};
+use std::alloc::Global;
 use std::process::Abort;
 use std::test::Fail;
 
@@ -154,14 +148,8 @@ fn visits_are_those_of_the_walk(rt: HostRuntime) -> Result<(), Fail> {
 #[test]
 fn long_flat_contours_collapse_within_three_visits_a_point(rt: HostRuntime) -> Result<(), Fail> {
     let alloc = rt.alloc();
-    let mut line = Vec::new(alloc);
-    let mut same = Vec::new(alloc);
-    for x in 0..1000 {
-        line.push([x, 0])?;
-        same.push([5, 5])?;
-    }
-    for points in [line.as_slice(), same.as_slice()] {
-        let given = contour::<i32>(&rt, alloc, points)?;
+    for points in &thousands(alloc)? {
+        let given = contour::<i32>(&rt, alloc, points.as_slice())?;
         let (kept, visits) = given.despiked_counted(alloc)?;
         assert!(rt; kept.is_none());
         assert!(rt; (998..=3000).contains(&visits));
@@ -205,119 +193,55 @@ fn spikes_are_told_from_straight_ways_and_repeated_points(rt: HostRuntime) -> Re
     Ok(())
 }
 
-/// The contour from another start, and backwards or not.
-fn turned<I: IntNumber>(
-    rt: &impl Abort,
-    alloc: Global,
-    points: &[[I; 2]],
-    start: usize,
-    backwards: bool,
-) -> Result<IntContour<I>, AllocError>
-    requires { start ≤ length points.now }
-    ensures { IfOk result (λ c. All (IsSafe I.width) (contour_of I.value c.items)) }
-{
-    let mut other = Vec::from_slice(alloc, points)?;
-    other.rotate_left(start);
-    if backwards {
-        other.reverse();
-    }
-    contour(rt, alloc, other.as_slice())
-}
-
-/// The same contour. The test stops where a point isn't safe.
-fn retold(
-    rt: &impl Abort,
-    alloc: Global,
-    points: &[IntPoint<i32>],
-) -> Result<IntContour<i32>, AllocError>
-    ensures { IfOk result (λ c. All (IsSafe ⟦<i32 as IntNumber>⟧.width) (contour_of ⟦<i32 as IntNumber>⟧.value c.items)) }
-{
-    let mut same = Vec::new(alloc);
-    for point in points {
-        same.push([point.x, point.y])?;
-    }
-    contour(rt, alloc, same.as_slice())
-}
-
-/// Whether the rings are the same from some start on.
-fn is_rotation(
-    alloc: Global,
-    ring: &[IntPoint<i32>],
-    other: &[IntPoint<i32>],
-) -> Result<bool, AllocError> {
-    if ring.is_empty() || ring.len() != other.len() {
-        return Ok(ring.len() == other.len());
-    }
-    let mut twice = Vec::from_slice(alloc, other)?;
-    twice.extend_from_slice(other)?;
-    Ok(
-        twice
-            .as_slice()
-            .windows(ring.len())
-            .any(|part| part == ring),
-    )
-}
-
 #[test]
 fn each_start_and_direction_leads_to_the_same_ring(rt: HostRuntime) -> Result<(), Fail> {
     let alloc = rt.alloc();
-    for points in [
-        [
-            [0, 0],
-            [0, 1024],
-            [0, 1024],
-            [512, 1024],
-            [1024, 1024],
-            [1024, 1024],
-            [1024, 0],
-        ]
-        .as_slice(),
-        [[6, 0], [0, 0], [2, 0], [1, 0], [1, 5]].as_slice(),
-        [[0, 0], [4, 0], [4, 4], [0, 4], [0, 0]].as_slice(),
-        [[0, 0], [1, 0], [1, 0], [2, 0], [2, 2], [0, 2], [0, 0]].as_slice(),
-        [[0, 0], [8, 0], [4, 0], [6, 0], [6, 4], [0, 4]].as_slice(),
-        [
-            [0, 0],
-            [10, 0],
-            [2, 0],
-            [8, 0],
-            [4, 0],
-            [6, 0],
-            [6, 6],
-            [0, 6],
-        ]
-        .as_slice(),
-    ] {
-        for start in 0..points.len() {
-            for backwards in [false, true] {
-                let given = turned::<i32>(&rt, alloc, points, start, backwards)?;
-                let kept = given.despiked_contour(alloc)?.ok_or("it collapsed")?;
-                let kept = retold(&rt, alloc, kept.as_slice())?;
-                assert!(rt; kept.has_no_spikes());
-                let (again, _) = kept.despiked_counted(alloc)?;
-                assert_eq!(rt; again.ok_or("it collapsed")?, kept);
-                let ring = kept.as_slice().simplified(alloc)?.ok_or("it collapsed")?;
-                let whole = given.as_slice().simplified(alloc)?.ok_or("it collapsed")?;
-                assert!(rt; is_rotation(alloc, ring.as_slice(), whole.as_slice())?);
-            }
-        }
+    for (list, ring) in &hostile_rings(alloc)? {
+        let given = contour::<i32>(&rt, alloc, list.as_slice())?;
+        let kept = given.despiked_contour(alloc)?.ok_or("it collapsed")?;
+        let kept = pairs(alloc, kept.as_slice())?;
+        assert!(rt; !has_back_vertex(kept.as_slice()));
+        let kept = contour::<i32>(&rt, alloc, kept.as_slice())?;
+        assert!(rt; kept.has_no_spikes());
+        let (again, _) = kept.despiked_counted(alloc)?;
+        assert_eq!(rt; again.ok_or("it collapsed")?, kept);
+        let left = kept.as_slice().simplified(alloc)?.ok_or("it collapsed")?;
+        assert!(rt; is_rotation(pairs(alloc, left.as_slice())?.as_slice(), ring.as_slice()));
     }
+    Ok(())
+}
+
+/// Both ways of removing the spikes of the list leave this ring, from some start on.
+fn loses_its_spike(
+    rt: &impl Abort,
+    alloc: Global,
+    list: &[[i32; 2]],
+    ring: &[[i32; 2]],
+) -> Result<(), Fail> {
+    let mut given = contour::<i32>(rt, alloc, list)?;
+    assert!(rt; !given.has_no_spikes());
+    let kept = given.despiked_contour(alloc)?.ok_or("it collapsed")?;
+    assert!(rt; is_rotation(pairs(alloc, kept.as_slice())?.as_slice(), ring));
+    assert!(rt; given.remove_spikes()?);
+    assert_eq!(rt; given, kept);
+    let kept = pairs(alloc, kept.as_slice())?;
+    let mut again = contour::<i32>(rt, alloc, kept.as_slice())?;
+    assert!(rt; !again.remove_spikes()?);
+    assert_eq!(rt; again, given);
     Ok(())
 }
 
 #[test]
 fn each_start_and_direction_loses_the_spike(rt: HostRuntime) -> Result<(), Fail> {
     let alloc = rt.alloc();
-    let points = [[0, 0], [4, 0], [4, 0], [2, 0], [2, 2], [0, 2]].as_slice();
-    let square = [[0, 0], [2, 0], [2, 2], [0, 2]].as_slice();
+    let points = [[0, 0], [4, 0], [4, 0], [2, 0], [2, 2], [0, 2]];
+    let square = [[0, 0], [2, 0], [2, 2], [0, 2]];
+    let back = [[0, 2], [2, 2], [2, 0], [0, 0]];
     for start in 0..points.len() {
-        for backwards in [false, true] {
-            let given = turned::<i32>(&rt, alloc, points, start, backwards)?;
-            let wanted = turned::<i32>(&rt, alloc, square, 0, backwards)?;
-            assert!(rt; !given.has_no_spikes());
-            let kept = given.despiked_contour(alloc)?.ok_or("it collapsed")?;
-            assert!(rt; is_rotation(alloc, kept.as_slice(), wanted.as_slice())?);
-        }
+        let list = rotated(alloc, &points, start)?;
+        loses_its_spike(&rt, alloc, list.as_slice(), &square)?;
+        let list = reversed(alloc, list.as_slice())?;
+        loses_its_spike(&rt, alloc, list.as_slice(), &back)?;
     }
     Ok(())
 }

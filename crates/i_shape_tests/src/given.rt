@@ -55,30 +55,97 @@ pub fn reversed(alloc: Global, list: &[[i32; 2]]) -> Result<Vec<[i32; 2]>, Alloc
     Ok(turned)
 }
 
+/// The square of these two coordinates, once and twice round.
+pub fn squares<I: IntNumber>(
+    alloc: Global,
+    low: I,
+    high: I,
+) -> Result<[Vec<[I; 2]>; 2], AllocError> {
+    let mut once = Vec::new(alloc);
+    once.push([low, low])?;
+    once.push([high, low])?;
+    once.push([high, high])?;
+    once.push([low, high])?;
+    let mut twice = Vec::from_slice(alloc, once.as_slice())?;
+    twice.extend_from_slice(once.as_slice())?;
+    Ok([once, twice])
+}
+
+/// A thousand points on a line, and one point a thousand times.
+pub fn thousands(alloc: Global) -> Result<[Vec<[i32; 2]>; 2], AllocError> {
+    let mut line = Vec::new(alloc);
+    let mut place = Vec::new(alloc);
+    for x in 0..1000 {
+        line.push([x, 0])?;
+        place.push([5, 5])?;
+    }
+    Ok([line, place])
+}
+
+/// A list of points, and the ring that is left of it without zero turns, from its least start.
+type Left = (&'static [[i32; 2]], &'static [[i32; 2]]);
+
 /// Contours with repeated points, reversals and spikes, among them two whose answer depends on where they start.
-pub const HOSTILE: [&[[i32; 2]]; 7] = [
-    &[
-        [0, 0],
-        [0, 1024],
-        [0, 1024],
-        [512, 1024],
-        [1024, 1024],
-        [1024, 1024],
-        [1024, 0],
-    ],
-    &[[6, 0], [0, 0], [2, 0], [1, 0], [1, 5]],
-    &[[0, 0], [4, 0], [4, 4], [0, 4], [0, 0]],
-    &[[0, 0], [1, 0], [1, 0], [2, 0], [2, 2], [0, 2], [0, 0]],
-    &[[0, 0], [8, 0], [4, 0], [6, 0], [6, 4], [0, 4]],
-    &[
-        [0, 0],
-        [10, 0],
-        [2, 0],
-        [8, 0],
-        [4, 0],
-        [6, 0],
-        [6, 6],
-        [0, 6],
-    ],
-    &[[0, 0], [4, 0], [4, 0], [2, 0], [2, 2], [0, 2]],
+const HOSTILE: [Left; 7] = [
+    (
+        &[
+            [0, 0],
+            [0, 1024],
+            [0, 1024],
+            [512, 1024],
+            [1024, 1024],
+            [1024, 1024],
+            [1024, 0],
+        ],
+        &[[0, 0], [0, 1024], [1024, 1024], [1024, 0]],
+    ),
+    (
+        &[[6, 0], [0, 0], [2, 0], [1, 0], [1, 5]],
+        &[[1, 0], [1, 5], [6, 0]],
+    ),
+    (
+        &[[0, 0], [4, 0], [4, 4], [0, 4], [0, 0]],
+        &[[0, 0], [4, 0], [4, 4], [0, 4]],
+    ),
+    (
+        &[[0, 0], [1, 0], [1, 0], [2, 0], [2, 2], [0, 2], [0, 0]],
+        &[[0, 0], [2, 0], [2, 2], [0, 2]],
+    ),
+    (
+        &[[0, 0], [8, 0], [4, 0], [6, 0], [6, 4], [0, 4]],
+        &[[0, 0], [6, 0], [6, 4], [0, 4]],
+    ),
+    (
+        &[
+            [0, 0],
+            [10, 0],
+            [2, 0],
+            [8, 0],
+            [4, 0],
+            [6, 0],
+            [6, 6],
+            [0, 6],
+        ],
+        &[[0, 0], [6, 0], [6, 6], [0, 6]],
+    ),
+    (
+        &[[0, 0], [4, 0], [4, 0], [2, 0], [2, 2], [0, 2]],
+        &[[0, 0], [2, 0], [2, 2], [0, 2]],
+    ),
 ];
+
+/// The hostile contours from every start in both directions, each with the ring that is left of it, from its least start. That is
+/// one point of a ring alone, so backwards it is the same one.
+pub fn hostile_rings(alloc: Global) -> Result<Vec<(Vec<[i32; 2]>, Vec<[i32; 2]>)>, AllocError> {
+    let mut rings = Vec::new(alloc);
+    for (list, ring) in HOSTILE {
+        for start in 0..list.len() {
+            let turned = rotated(alloc, list, start)?;
+            let backwards = reversed(alloc, turned.as_slice())?;
+            let other = rotated(alloc, ring, ring.len().min(1))?;
+            rings.push((turned, Vec::from_slice(alloc, ring)?))?;
+            rings.push((backwards, reversed(alloc, other.as_slice())?))?;
+        }
+    }
+    Ok(rings)
+}

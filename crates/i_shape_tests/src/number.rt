@@ -61,6 +61,42 @@ fn products_of_points_fit_at_the_limits(rt: HostRuntime) {
     );
 }
 
+/// The vector from one point to another.
+fn way([ax, ay]: [i32; 2], [bx, by]: [i32; 2]) -> IntPoint<i32> {
+    IntPoint::new(bx.wrapping_sub(ax), by.wrapping_sub(ay))
+}
+
+#[test]
+fn products_of_the_two_ways_at_a_point(rt: HostRuntime) {
+    for ([a, b, c], cross, dot) in [
+        ([[0, 0], [2, 0], [2, 3]], 6, 0),
+        ([[0, 0], [2, 0], [2, -3]], -6, 0),
+        ([[0, 0], [2, 0], [5, 0]], 0, 6),
+        ([[0, 0], [2, 0], [1, 0]], 0, -2),
+        ([[0, 0], [2, 0], [0, 0]], 0, -4),
+        ([[0, 0], [0, 0], [1, 4]], 0, 0),
+        ([[3, 1], [5, 5], [5, 5]], 0, 0),
+        ([[1, 1], [3, 5], [4, 7]], 0, 10),
+    ] {
+        let (first, second) = (way(a, b), way(b, c));
+        assert_eq!(rt; first.cross_product(second), cross);
+        assert!(rt;
+            i32::MIN < first.x,
+            "a way as long as the product can't take"
+        );
+        assert_eq!(rt; first.dot_product(second), dot);
+    }
+}
+
+#[test]
+fn products_at_the_safe_bound_of_16_bits(rt: HostRuntime) {
+    let bound: i16 = 16383;
+    let first = IntPoint::new(bound, bound) - IntPoint::new(-bound, -bound);
+    let second = IntPoint::new(bound, -bound) - IntPoint::new(bound, bound);
+    assert_eq!(rt; first.cross_product(second), -1073610756);
+    assert_eq!(rt; first.dot_product(second), -1073610756);
+}
+
 #[test]
 fn points_are_ordered_by_x_and_then_by_y(rt: HostRuntime) {
     let points = [

@@ -52,6 +52,27 @@ fn is_zero_at(list: &[Pair], place: usize) -> bool
     )
 }
 
+fn is_back_at(list: &[Pair], place: usize) -> bool
+    requires { place < length list.now }
+{
+    let count = list.len();
+    is_back(
+        list[before(count, place)],
+        list[place],
+        list[after(count, place)],
+    )
+}
+
+/// Whether some vertex of the list turns back or stands still, the closing edge included.
+pub fn has_back_vertex(list: &[Pair]) -> bool {
+    for place in 0..list.len() {
+        if is_back_at(list, place) {
+            return true;
+        }
+    }
+    false
+}
+
 fn first_zero_turn(list: &[Pair]) -> Option<usize>
     ensures { IfSome result (λ place. place < length list.now) }
 {

@@ -1,4 +1,4 @@
-use crate::given::{HOSTILE, contour, pairs, reversed, rotated};
+use crate::given::{contour, hostile_rings, pairs, squares, thousands};
 use crate::plain::is_rotation;
 use i_shape::IntNumber;
 use i_shape::int::simple::{ContourSimplifier, SimpleContour};
@@ -135,32 +135,14 @@ fn collapses(rt: HostRuntime) -> Result<(), Fail> {
 fn every_start_and_direction_leaves_the_same_ring(rt: HostRuntime) -> Result<(), Fail> {
     let alloc = rt.alloc();
     let mut simplifier = ContourSimplifier::new(alloc);
-    for list in HOSTILE {
-        let given = contour::<i32>(&rt, alloc, list)?;
-        let kept = simplifier
+    for (list, ring) in &hostile_rings(alloc)? {
+        let given = contour::<i32>(&rt, alloc, list.as_slice())?;
+        let kept = given.as_slice().simplified(alloc)?.ok_or("it collapsed")?;
+        assert!(rt; is_rotation(pairs(alloc, kept.as_slice())?.as_slice(), ring.as_slice()));
+        let again = simplifier
             .simplify_contour(given.as_slice())?
             .ok_or("it collapsed")?;
-        let ring = pairs(alloc, kept.as_slice())?;
-        let backwards = reversed(alloc, ring.as_slice())?;
-        for start in 0..list.len() {
-            let turned = rotated(alloc, list, start)?;
-            let other = contour::<i32>(&rt, alloc, turned.as_slice())?;
-            let kept = simplifier
-                .simplify_contour(other.as_slice())?
-                .ok_or("it collapsed")?;
-            assert!(rt; is_rotation(pairs(alloc, kept.as_slice())?.as_slice(), ring.as_slice()));
-            let turned = reversed(alloc, turned.as_slice())?;
-            let other = contour::<i32>(&rt, alloc, turned.as_slice())?;
-            let kept = simplifier
-                .simplify_contour(other.as_slice())?
-                .ok_or("it collapsed")?;
-            assert!(rt;
-                is_rotation(
-                    pairs(alloc, kept.as_slice())?.as_slice(),
-                    backwards.as_slice()
-                )
-            );
-        }
+        assert_eq!(rt; again, kept);
     }
     Ok(())
 }
@@ -200,14 +182,8 @@ fn counts_its_visits(rt: HostRuntime) -> Result<(), Fail> {
 fn a_thousand_points_on_a_line_or_at_one_place_collapse(rt: HostRuntime) -> Result<(), Fail> {
     let alloc = rt.alloc();
     let mut simplifier = ContourSimplifier::new(alloc);
-    let mut line = Vec::new(alloc);
-    let mut place = Vec::new(alloc);
-    for x in 0..1000 {
-        line.push([x, 0])?;
-        place.push([5, 5])?;
-    }
-    for list in [line.as_slice(), place.as_slice()] {
-        let given = contour::<i32>(&rt, alloc, list)?;
+    for list in &thousands(alloc)? {
+        let given = contour::<i32>(&rt, alloc, list.as_slice())?;
         let (kept, visits) = simplifier.simplify_counted(given.as_slice())?;
         assert!(rt; kept.is_none());
         assert!(rt; 998 <= visits && visits <= 3000);
@@ -230,23 +206,36 @@ fn stays<I: IntNumber>(rt: &impl Abort, alloc: Global, list: &[[I; 2]]) -> Resul
 }
 
 /// The square of these two coordinates, wound once and twice.
-fn square_stays<I: IntNumber>(rt: &impl Abort, alloc: Global, low: I, high: I) -> Result<(), Fail> {
-    let mut square = Vec::new(alloc);
-    for _ in 0..2 {
-        square.push([low, low])?;
-        square.push([high, low])?;
-        square.push([high, high])?;
-        square.push([low, high])?;
-        stays(rt, alloc, square.as_slice())?;
-    }
-    Ok(())
+fn squares_stay<I: IntNumber>(
+    rt: &impl Abort,
+    alloc: Global,
+    [low, high]: [I; 2],
+) -> Result<(), Fail> {
+    let [once, twice] = squares(alloc, low, high)?;
+    stays(rt, alloc, once.as_slice())?;
+    stays(rt, alloc, twice.as_slice())
 }
 
 #[test]
 fn the_widest_squares_of_each_width_are_simple(rt: HostRuntime) -> Result<(), Fail> {
     let alloc = rt.alloc();
-    square_stays::<i16>(&rt, alloc, -16383, 16383)?;
-    square_stays::<i32>(&rt, alloc, -1073741823, 1073741823)?;
-    square_stays::<i64>(&rt, alloc, -4611686018427387903, 4611686018427387903)?;
+    squares_stay::<i16>(&rt, alloc, [-16383, 16383])?;
+    squares_stay::<i32>(&rt, alloc, [-1073741823, 1073741823])?;
+    squares_stay::<i64>(&rt, alloc, [-4611686018427387903, 4611686018427387903])
+}
+
+#[test]
+fn a_ring_may_pass_a_point_twice(rt: HostRuntime) -> Result<(), Fail> {
+    let ring = [[0, 0], [4, 0], [4, 4], [0, 0], [2, 6], [0, 6]];
+    stays::<i32>(&rt, rt.alloc(), &ring)
+}
+
+#[test]
+fn a_diagonal_at_the_safe_bound_of_16_bits(rt: HostRuntime) -> Result<(), Fail> {
+    let alloc = rt.alloc();
+    let spiked = [[-16383, -16383], [16383, 16383], [16383, -16383], [0, 0]];
+    let given = contour::<i16>(&rt, alloc, &spiked)?;
+    let kept = given.as_slice().simplified(alloc)?.ok_or("it collapsed")?;
+    assert_eq!(rt; kept, contour::<i16>(&rt, alloc, &spiked[1..])?);
     Ok(())
 }
