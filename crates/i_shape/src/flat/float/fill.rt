@@ -41,10 +41,14 @@ pub fn append_items<P: Copy, I: Iterator<Item = P> + Drop>(
     ensures room { vec_capacity points.old ≤ vec_capacity points.new }
     ensures memory { IsOkUnless result ShapeError.OutOfMemory }
 {
+    points.reserve(iter.size_hint().0)?;
     let start = points.len();
-    if points.extend(iter).is_err() {
-        points.truncate(start);
-        return Err(ShapeError::OutOfMemory);
+    // Pushed one by one, since `extend` passes over a refused growth: it asks once more.
+    for item in iter {
+        if points.push(item).is_err() {
+            points.truncate(start);
+            return Err(ShapeError::OutOfMemory);
+        }
     }
     Ok(())
 }
