@@ -2,6 +2,7 @@ ghost use Rattle.std.specs.Prelude.{◌<◌, ◌↔◌, IsTrue};
 ghost use Rattle.std.specs.List.{All};
 ghost use Rattle.i_shape.specs.IntPoint.{point_of, IsSafe};
 
+use crate::given_shapes::shapes;
 use i_shape::flat::buffer::{FlatContoursBuffer, FlatShapesBuffer};
 use i_shape::int::IntPoint;
 use i_shape::int::shape::{IntContour, IntShape, IntShapes};
@@ -32,55 +33,94 @@ fn shapes_come_back(rt: HostRuntime) -> Result<(), Fail> {
     assert!(rt; buffer.can_read_contours());
     assert!(rt; buffer.can_read_shapes());
     assert_eq!(rt; buffer.to_shapes()?, shapes);
+    Ok(())
+}
+
+#[test]
+fn shapes_are_added_as_they_are_set(rt: HostRuntime) -> Result<(), Fail> {
+    let alloc = rt.alloc();
+    let shapes = two_shapes(alloc)?;
+    let mut buffer = FlatShapesBuffer::new(alloc);
+    buffer.set_with_shapes(shapes.as_slice())?;
     let mut one_by_one = FlatShapesBuffer::new(alloc);
     for shape in &shapes {
         one_by_one.add_shape(shape.as_slice())?;
     }
     assert!(rt; one_by_one == buffer);
-    let mut contours = FlatContoursBuffer::new(alloc);
-    contours.set_with_shapes(shapes.as_slice())?;
-    assert_eq!(rt; contours.ranges.as_slice(), [0..3, 3..6, 6..9].as_slice());
-    assert_eq!(rt; contours.points, buffer.points);
     Ok(())
 }
 
 #[test]
+fn shapes_are_flattened(rt: HostRuntime) -> Result<(), Fail> {
+    let alloc = rt.alloc();
+    let shapes = two_shapes(alloc)?;
+    let mut contours = FlatContoursBuffer::new(alloc);
+    contours.set_with_shapes(shapes.as_slice())?;
+    assert_eq!(rt; contours.ranges.as_slice(), [0..3, 3..6, 6..9].as_slice());
+    let mut buffer = FlatShapesBuffer::new(alloc);
+    buffer.set_with_shapes(shapes.as_slice())?;
+    assert_eq!(rt; contours.points, buffer.points);
+    Ok(())
+}
+
+const CONTOUR: [IntPoint<i32>; 3] = [
+    IntPoint { x: 1, y: 2 },
+    IntPoint { x: 3, y: 4 },
+    IntPoint { x: 5, y: 6 },
+];
+
+#[test]
 fn one_contour(rt: HostRuntime) -> Result<(), Fail> {
     let alloc = rt.alloc();
-    let contour: IntContour<i32> = int_path![alloc; [1, 2], [3, 4], [5, 6]]?;
-    let shape = path![alloc; contour]?;
-    let contour = [
-        IntPoint::new(1, 2),
-        IntPoint::new(3, 4),
-        IntPoint::new(5, 6),
-    ];
-    let mut contours = FlatContoursBuffer::new(alloc);
-    contours.set_with_contour(contour.as_slice())?;
-    assert!(rt; contours.is_single_contour());
-    assert!(rt; !contours.is_empty());
-    assert!(rt; contours.can_read_contours());
-    assert_eq!(rt; contours.to_contours()?, shape);
-    let mut shapes = FlatShapesBuffer::new(alloc);
-    shapes.set_with_contour(contour.as_slice())?;
-    assert_eq!(rt; shapes.contour_ranges.as_slice(), [0..3].as_slice());
-    assert_eq!(rt; shapes.shape_ranges.as_slice(), [0..1].as_slice());
-    assert!(rt; shapes.can_read_shapes());
-    assert_eq!(rt; shapes.to_shapes()?, path![alloc; shape]?);
+    let mut buffer = FlatContoursBuffer::new(alloc);
+    buffer.set_with_contour(CONTOUR.as_slice())?;
+    assert!(rt; buffer.is_single_contour());
+    assert!(rt; !buffer.is_empty());
+    assert!(rt; buffer.can_read_contours());
+    let kept = buffer.to_contours()?;
+    assert_eq!(rt; kept.len(), 1);
+    assert_eq!(rt; kept[0].as_slice(), CONTOUR.as_slice());
     Ok(())
+}
+
+#[test]
+fn one_contour_as_a_shape(rt: HostRuntime) -> Result<(), Fail> {
+    let alloc = rt.alloc();
+    let mut buffer = FlatShapesBuffer::new(alloc);
+    buffer.set_with_contour(CONTOUR.as_slice())?;
+    assert_eq!(rt; buffer.contour_ranges.as_slice(), [0..3].as_slice());
+    assert_eq!(rt; buffer.shape_ranges.as_slice(), [0..1].as_slice());
+    assert!(rt; buffer.can_read_shapes());
+    let kept = buffer.to_shapes()?;
+    assert_eq!(rt; kept.len(), 1);
+    assert_eq!(rt; kept[0].len(), 1);
+    assert_eq!(rt; kept[0][0].as_slice(), CONTOUR.as_slice());
+    Ok(())
+}
+
+fn holed_shape(alloc: Global) -> Result<IntShape<i32>, ShapeError> {
+    int_shape![
+        alloc;
+        [[0, 0], [9, 0], [9, 9], [0, 9]],
+        [[3, 3], [3, 6], [6, 6], [6, 3]],
+    ]
 }
 
 #[test]
 fn one_shape(rt: HostRuntime) -> Result<(), Fail> {
     let alloc = rt.alloc();
-    let shape: IntShape<i32> = int_shape![
-        alloc;
-        [[0, 0], [9, 0], [9, 9], [0, 9]],
-        [[3, 3], [3, 6], [6, 6], [6, 3]],
-    ]?;
+    let shape = holed_shape(alloc)?;
     let mut contours = FlatContoursBuffer::new(alloc);
     contours.set_with_shape(shape.as_slice())?;
     assert_eq!(rt; contours.ranges.as_slice(), [0..4, 4..8].as_slice());
     assert!(rt; !contours.is_single_contour());
+    Ok(())
+}
+
+#[test]
+fn one_shape_in_a_list(rt: HostRuntime) -> Result<(), Fail> {
+    let alloc = rt.alloc();
+    let shape = holed_shape(alloc)?;
     let mut shapes = FlatShapesBuffer::new(alloc);
     shapes.set_with_shape(shape.as_slice())?;
     assert_eq!(rt; shapes.contour_ranges.as_slice(), [0..4, 4..8].as_slice());
@@ -99,12 +139,19 @@ fn added_contour(rt: HostRuntime) -> Result<(), Fail> {
     assert_eq!(rt; buffer.ranges.as_slice(), [0..4].as_slice());
     assert!(rt; buffer.can_read_contours());
     assert_eq!(rt; buffer.to_contours()?, path![alloc; square]?);
+    Ok(())
+}
+
+#[test]
+fn a_contour_without_points(rt: HostRuntime) -> Result<(), Fail> {
+    let mut buffer = FlatContoursBuffer::<i32>::new(rt.alloc());
     buffer.set_with_contour([].as_slice())?;
     assert!(rt; buffer.is_empty());
     assert!(rt; buffer.is_single_contour());
     assert!(rt; buffer.can_read_contours());
-    let empty: IntShape<i32> = int_shape![alloc; []]?;
-    assert_eq!(rt; buffer.to_contours()?, empty);
+    let kept = buffer.to_contours()?;
+    assert_eq!(rt; kept.len(), 1);
+    assert!(rt; kept[0].is_empty());
     Ok(())
 }
 
@@ -168,39 +215,57 @@ fn ranges_may_overlap(rt: HostRuntime) -> Result<(), Fail> {
     Ok(())
 }
 
+/// The buffer reads as one empty shape.
+fn reads_as_an_empty_shape(
+    rt: &impl Abort,
+    buffer: &FlatShapesBuffer<i32>,
+) -> Result<(), ShapeError> {
+    assert!(rt; buffer.can_read_shapes());
+    let shapes = buffer.to_shapes()?;
+    assert_eq!(rt; shapes.len(), 1);
+    assert!(rt; shapes[0].is_empty());
+    Ok(())
+}
+
+#[test]
+fn an_added_shape_may_be_empty(rt: HostRuntime) -> Result<(), Fail> {
+    let nothing: IntShape<i32> = Vec::new(rt.alloc());
+    let mut buffer = FlatShapesBuffer::new(rt.alloc());
+    buffer.add_shape(nothing.as_slice())?;
+    assert_eq!(rt; buffer.shape_ranges.as_slice(), [0..0].as_slice());
+    reads_as_an_empty_shape(&rt, &buffer)?;
+    Ok(())
+}
+
+/// A buffer of as many contours of one point, and one range of shapes.
+fn with_shape_range(
+    alloc: Global,
+    contours: usize,
+    start: usize,
+    end: usize,
+) -> Result<FlatShapesBuffer<i32>, ShapeError> {
+    let mut buffer = FlatShapesBuffer::new(alloc);
+    for _ in 0..contours {
+        buffer.points.push(IntPoint::ZERO)?;
+        buffer.contour_ranges.push(0..1)?;
+    }
+    buffer.shape_ranges.push(start..end)?;
+    Ok(buffer)
+}
+
 #[test]
 fn empty_and_reversed_shape_ranges(rt: HostRuntime) -> Result<(), Fail> {
-    let alloc = rt.alloc();
-    let empty: IntShapes<i32> = int_shapes![alloc; []]?;
-    let mut added = FlatShapesBuffer::new(alloc);
-    let nothing: IntShape<i32> = int_shape![alloc;]?;
-    added.add_shape(nothing.as_slice())?;
-    assert_eq!(rt; added.shape_ranges.as_slice(), [0..0].as_slice());
-    assert!(rt; added.can_read_shapes());
-    assert_eq!(rt; added.to_shapes()?, empty);
     for (contours, start, end) in [(1, 2, 1), (0, 5, 5), (1, usize::MAX, 0)] {
-        let mut buffer = FlatShapesBuffer::new(alloc);
-        for _ in 0..contours {
-            buffer.points.push(IntPoint::ZERO)?;
-            buffer.contour_ranges.push(0..1)?;
-        }
-        buffer.shape_ranges.push(start..end)?;
-        assert!(rt; buffer.can_read_shapes());
-        assert_eq!(rt; buffer.to_shapes()?, empty);
+        let buffer = with_shape_range(rt.alloc(), contours, start, end)?;
+        reads_as_an_empty_shape(&rt, &buffer)?;
     }
     Ok(())
 }
 
 #[test]
 fn shape_ranges_that_cannot_be_read(rt: HostRuntime) -> Result<(), Fail> {
-    let alloc = rt.alloc();
     for (contours, end) in [(0, 1), (1, usize::MAX), (1, 2)] {
-        let mut buffer = FlatShapesBuffer::<i32>::new(alloc);
-        for _ in 0..contours {
-            buffer.points.push(IntPoint::ZERO)?;
-            buffer.contour_ranges.push(0..1)?;
-        }
-        buffer.shape_ranges.push(0..end)?;
+        let buffer = with_shape_range(rt.alloc(), contours, 0, end)?;
         assert!(rt; !buffer.can_read_shapes());
         assert!(rt; buffer.can_read_contours());
     }
@@ -208,31 +273,35 @@ fn shape_ranges_that_cannot_be_read(rt: HostRuntime) -> Result<(), Fail> {
 }
 
 #[test]
-fn too_much_room_is_refused(rt: HostRuntime) -> Result<(), Fail> {
+fn too_much_room_is_not_there(rt: HostRuntime) {
     let alloc = rt.alloc();
     let refused = Err(ShapeError::OutOfMemory);
     assert!(rt; FlatContoursBuffer::<i32>::with_capacity(alloc, usize::MAX) == refused);
     let refused = Err(ShapeError::OutOfMemory);
     assert!(rt; FlatShapesBuffer::<i32>::with_capacity(alloc, 1, usize::MAX, 1) == refused);
-    let shapes = two_shapes(alloc)?;
-    let mut contours = FlatContoursBuffer::new(alloc);
-    contours.set_with_shapes(shapes.as_slice())?;
-    let before = contours.clone()?;
+}
+
+#[test]
+fn contours_stay_where_too_much_room_is_refused(rt: HostRuntime) -> Result<(), Fail> {
+    let mut buffer = FlatContoursBuffer::new(rt.alloc());
+    buffer.set_with_contour(CONTOUR.as_slice())?;
+    let before = buffer.clone()?;
     for (points, ranges) in [(usize::MAX, 1), (1, usize::MAX)] {
-        assert_eq!(rt;
-            contours.clear_and_reserve(points, ranges),
-            Err(ShapeError::OutOfMemory)
-        );
-        assert!(rt; contours == before);
+        let answer = buffer.clear_and_reserve(points, ranges);
+        assert_eq!(rt; answer, Err(ShapeError::OutOfMemory));
+        assert!(rt; buffer == before);
     }
-    let mut buffer = FlatShapesBuffer::new(alloc);
-    buffer.set_with_shapes(shapes.as_slice())?;
+    Ok(())
+}
+
+#[test]
+fn shapes_stay_where_too_much_room_is_refused(rt: HostRuntime) -> Result<(), Fail> {
+    let mut buffer = FlatShapesBuffer::new(rt.alloc());
+    buffer.set_with_contour(CONTOUR.as_slice())?;
     let before = buffer.clone()?;
     for (points, ranges, more) in [(usize::MAX, 1, 1), (1, usize::MAX, 1), (1, 1, usize::MAX)] {
-        assert_eq!(rt;
-            buffer.clear_and_reserve(points, ranges, more),
-            Err(ShapeError::OutOfMemory)
-        );
+        let answer = buffer.clear_and_reserve(points, ranges, more);
+        assert_eq!(rt; answer, Err(ShapeError::OutOfMemory));
         assert!(rt; buffer == before);
     }
     Ok(())
@@ -292,33 +361,63 @@ fn drawn_shapes_keep_their_number_of_contours(rt: HostRuntime) -> Result<(), Fai
     Ok(())
 }
 
-/// Every call that takes memory, once.
-fn every_call<I: IntNumber>(
+/// A buffer of contours is made, set with shapes, copied and added to.
+fn sets_contours<I: IntNumber>(
     rt: &impl Abort,
     alloc: Global,
     shapes: &[IntShape<I>],
     contour: &[IntPoint<I>],
 ) -> Result<(), ShapeError> {
-    let mut flat = FlatContoursBuffer::with_capacity(alloc, 4)?;
-    assert!(rt; flat.is_empty());
-    flat.set_with_shapes(shapes)?;
-    assert!(rt; flat.clone()? == flat);
-    flat.add_contour(contour)?;
+    let mut buffer = FlatContoursBuffer::with_capacity(alloc, 4)?;
+    assert!(rt; buffer.is_empty());
+    buffer.set_with_shapes(shapes)?;
+    assert!(rt; buffer.clone()? == buffer);
+    buffer.add_contour(contour)?;
     for shape in shapes {
-        flat.set_with_shape(shape.as_slice())?;
+        buffer.set_with_shape(shape.as_slice())?;
     }
-    flat.set_with_contour(contour)?;
-    assert!(rt; flat.can_read_contours());
-    assert!(rt; flat.can_read_first());
-    assert_eq!(rt; flat.to_contours()?.len(), 1);
-    assert_eq!(rt; flat.as_first_contour_mut().len(), contour.len());
-    flat.clear_and_reserve(4, 4)?;
-    assert!(rt; flat.points.is_empty() && flat.ranges.is_empty());
+    Ok(())
+}
+
+/// A buffer of contours is set with one, read and cleared.
+fn reads_contours<I: IntNumber>(
+    rt: &impl Abort,
+    alloc: Global,
+    contour: &[IntPoint<I>],
+) -> Result<(), ShapeError> {
+    let mut buffer = FlatContoursBuffer::new(alloc);
+    buffer.set_with_contour(contour)?;
+    assert!(rt; buffer.can_read_contours());
+    assert!(rt; buffer.can_read_first());
+    assert_eq!(rt; buffer.to_contours()?.len(), 1);
+    assert_eq!(rt; buffer.as_first_contour_mut().len(), contour.len());
+    buffer.clear_and_reserve(4, 4)?;
+    assert!(rt; buffer.points.is_empty() && buffer.ranges.is_empty());
+    Ok(())
+}
+
+/// A buffer of shapes is made, set with shapes and copied.
+fn sets_shapes<I: IntNumber>(
+    rt: &impl Abort,
+    alloc: Global,
+    shapes: &[IntShape<I>],
+    contour: &[IntPoint<I>],
+) -> Result<(), ShapeError> {
     let mut buffer = FlatShapesBuffer::with_capacity(alloc, 4, 4, 4)?;
     assert!(rt; buffer.is_empty());
     buffer.set_with_contour(contour)?;
     buffer.set_with_shapes(shapes)?;
     assert!(rt; buffer.clone()? == buffer);
+    Ok(())
+}
+
+/// A buffer of shapes is added to, read and cleared.
+fn reads_shapes<I: IntNumber>(
+    rt: &impl Abort,
+    alloc: Global,
+    shapes: &[IntShape<I>],
+) -> Result<(), ShapeError> {
+    let mut buffer = FlatShapesBuffer::new(alloc);
     for shape in shapes {
         buffer.set_with_shape(shape.as_slice())?;
         buffer.add_shape(shape.as_slice())?;
@@ -332,30 +431,28 @@ fn every_call<I: IntNumber>(
     Ok(())
 }
 
+/// Every call that takes memory, once. The last of the shapes has two contours.
+fn every_call<I: IntNumber>(
+    rt: &impl Abort,
+    alloc: Global,
+    shapes: &[IntShape<I>],
+    contour: &[IntPoint<I>],
+) -> Result<(), ShapeError> {
+    sets_contours(rt, alloc, shapes, contour)?;
+    reads_contours(rt, alloc, contour)?;
+    sets_shapes(rt, alloc, shapes, contour)?;
+    reads_shapes(rt, alloc, shapes)
+}
+
 #[test]
-fn every_call_in_each_width(rt: HostRuntime) -> Result<(), Fail> {
+fn every_call_at_each_width(rt: HostRuntime) -> Result<(), Fail> {
     let alloc = rt.alloc();
-    let shapes = two_shapes(alloc)?;
-    every_call(
-        &rt,
-        alloc,
-        shapes.as_slice(),
-        [IntPoint::new(i32::MIN, 1)].as_slice(),
-    )?;
-    let shapes: IntShapes<i16> = int_shapes![alloc; [[[1, 2]]], [[[3, 4], [5, 6]], []]]?;
-    every_call(
-        &rt,
-        alloc,
-        shapes.as_slice(),
-        [IntPoint::new(i16::MIN, 1)].as_slice(),
-    )?;
-    let shapes: IntShapes<i64> = int_shapes![alloc; [[[1, 2]]], [[[3, 4], [5, 6]], []]]?;
-    every_call(
-        &rt,
-        alloc,
-        shapes.as_slice(),
-        [IntPoint::new(i64::MIN, 1)].as_slice(),
-    )?;
+    let given = shapes::<i16>(&rt, alloc, &[&[&[[1, 2]]], &[&[[3, 4], [5, 6]], &[]]])?;
+    every_call(&rt, alloc, given.as_slice(), &[IntPoint::new(i16::MIN, 1)])?;
+    let given = shapes::<i32>(&rt, alloc, &[&[&[[1, 2]]], &[&[[3, 4], [5, 6]], &[]]])?;
+    every_call(&rt, alloc, given.as_slice(), &[IntPoint::new(i32::MIN, 1)])?;
+    let given = shapes::<i64>(&rt, alloc, &[&[&[[1, 2]]], &[&[[3, 4], [5, 6]], &[]]])?;
+    every_call(&rt, alloc, given.as_slice(), &[IntPoint::new(i64::MIN, 1)])?;
     Ok(())
 }
 
@@ -450,35 +547,33 @@ fn cleaned_contours_stand_end_to_end(rt: HostRuntime) -> Result<(), Fail> {
     Ok(())
 }
 
+/// A contour with a straight point is cleaned, as points of one width.
+fn cleans_at_width<I: IntNumber>(
+    rt: &impl Abort,
+    alloc: Global,
+    points: &[[I; 2]],
+    kept: &[[I; 2]],
+) -> Result<(), ShapeError> {
+    let mut buffer = flat(alloc, points, &[(0, points.len())])?;
+    assert!(rt; simplify(rt, &mut buffer)?);
+    assert!(rt; buffer == flat(alloc, kept, &[(0, kept.len())])?);
+    Ok(())
+}
+
 #[test]
 fn cleaned_in_the_other_widths(rt: HostRuntime) -> Result<(), Fail> {
     let alloc = rt.alloc();
-    let mut narrow = flat::<i16>(
+    cleans_at_width::<i16>(
+        &rt,
         alloc,
-        [[0, 0], [1, 0], [2, 0], [0, 2]].as_slice(),
-        [(0, 4)].as_slice(),
+        &[[0, 0], [1, 0], [2, 0], [0, 2]],
+        &[[0, 0], [2, 0], [0, 2]],
     )?;
-    assert!(rt; simplify(&rt, &mut narrow)?);
-    assert!(rt;
-        narrow
-            == flat(
-                alloc,
-                [[0, 0], [2, 0], [0, 2]].as_slice(),
-                [(0, 3)].as_slice()
-            )?
-    );
-    let mut wide = flat::<i64>(
+    cleans_at_width::<i64>(
+        &rt,
         alloc,
-        [[0, 0], [1, 0], [2, 0], [0, 2]].as_slice(),
-        [(0, 4)].as_slice(),
+        &[[0, 0], [1, 0], [2, 0], [0, 2]],
+        &[[0, 0], [2, 0], [0, 2]],
     )?;
-    assert!(rt; simplify(&rt, &mut wide)?);
-    assert!(rt;
-        wide == flat(
-            alloc,
-            [[0, 0], [2, 0], [0, 2]].as_slice(),
-            [(0, 3)].as_slice()
-        )?
-    );
     Ok(())
 }

@@ -15,6 +15,12 @@ fn paths_of_any_kind(rt: HostRuntime) -> Result<(), Fail> {
     assert!(rt; none.is_empty());
     assert_eq!(rt; path![alloc; 7]?.as_slice(), [7].as_slice());
     assert_eq!(rt; path![alloc; 1, 2,]?.as_slice(), [1, 2].as_slice());
+    Ok(())
+}
+
+#[test]
+fn lists_of_paths_of_any_kind(rt: HostRuntime) -> Result<(), Fail> {
+    let alloc = rt.alloc();
     let none: Vec<Vec<i32>> = paths![alloc;]?;
     assert!(rt; none.is_empty());
     let one = paths![alloc; [7]]?;
@@ -54,6 +60,12 @@ fn shapes_of_whole_numbers(rt: HostRuntime) -> Result<(), Fail> {
         [IntPoint::new(0, 0), IntPoint::new(1, 0)].as_slice()
     );
     assert_eq!(rt; shape[1].as_slice(), [IntPoint::new(2, 2)].as_slice());
+    Ok(())
+}
+
+#[test]
+fn lists_of_shapes_of_whole_numbers(rt: HostRuntime) -> Result<(), Fail> {
+    let alloc = rt.alloc();
     let none: IntShapes<i32> = int_shapes![alloc;]?;
     assert!(rt; none.is_empty());
     let one: IntShapes<i32> = int_shapes![alloc; [[[3, 4]]]]?;
@@ -75,18 +87,32 @@ fn expressions_are_evaluated_from_left_to_right(rt: HostRuntime) -> Result<(), F
     assert_eq!(rt; numbers.len(), 2);
     assert_eq!(rt; numbers[0].as_slice(), [10, 1].as_slice());
     assert_eq!(rt; numbers[1].as_slice(), [2].as_slice());
-    let points = int_path![alloc; [next(&mut count), next(&mut count)], [next(&mut count), 0]]?;
+    Ok(())
+}
+
+#[test]
+fn coordinates_are_evaluated_from_left_to_right(rt: HostRuntime) -> Result<(), Fail> {
+    let mut count = 0;
+    let points =
+        int_path![rt.alloc(); [next(&mut count), next(&mut count)], [next(&mut count), 0]]?;
     assert_eq!(rt;
         points.as_slice(),
-        [IntPoint::new(3, 4), IntPoint::new(5, 0)].as_slice()
+        [IntPoint::new(1, 2), IntPoint::new(3, 0)].as_slice()
     );
+    Ok(())
+}
+
+#[test]
+fn points_of_shapes_are_evaluated_from_left_to_right(rt: HostRuntime) -> Result<(), Fail> {
+    let alloc = rt.alloc();
+    let mut count = 0;
     let shapes =
         int_shapes![alloc; [[[next(&mut count), 0]], [[next(&mut count), 0]]], [[[next(&mut count), 0]]]]?;
     assert_eq!(rt; shapes.len(), 2);
     assert_eq!(rt; shapes[0].len(), 2);
-    assert_eq!(rt; shapes[0][0].as_slice(), [IntPoint::new(6, 0)].as_slice());
-    assert_eq!(rt; shapes[0][1].as_slice(), [IntPoint::new(7, 0)].as_slice());
+    assert_eq!(rt; shapes[0][0].as_slice(), [IntPoint::new(1, 0)].as_slice());
+    assert_eq!(rt; shapes[0][1].as_slice(), [IntPoint::new(2, 0)].as_slice());
     assert_eq!(rt; shapes[1].len(), 1);
-    assert_eq!(rt; shapes[1][0].as_slice(), [IntPoint::new(8, 0)].as_slice());
+    assert_eq!(rt; shapes[1][0].as_slice(), [IntPoint::new(3, 0)].as_slice());
     Ok(())
 }

@@ -6,23 +6,21 @@ use std::alloc::Global;
 use std::process::Abort;
 use std::test::Fail;
 
-const SQUARE: [[i32; 2]; 4] = [[0, 0], [4, 0], [4, 4], [0, 4]];
+type Contour = &'static [[i32; 2]];
 
-const SMALL_SQUARE: [[i16; 2]; 4] = [[0, 0], [4, 0], [4, 4], [0, 4]];
+type Shape = &'static [Contour];
 
-const SMALL_DIAGONAL: [[i16; 2]; 3] = [[1, 1], [2, 2], [3, 3]];
+type Shapes = &'static [Shape];
 
-const WIDE_SQUARE: [[i64; 2]; 4] = [[0, 0], [4, 0], [4, 4], [0, 4]];
+const SQUARE: Contour = &[[0, 0], [4, 0], [4, 4], [0, 4]];
 
-const WIDE_DIAGONAL: [[i64; 2]; 3] = [[1, 1], [2, 2], [3, 3]];
+const TRIANGLE: Contour = &[[0, 0], [4, 0], [4, 4]];
 
-const TRIANGLE: [[i32; 2]; 3] = [[0, 0], [4, 0], [4, 4]];
+const CLOCKWISE: Contour = &[[-10, -10], [-10, 10], [10, 10], [10, -10]];
 
-const CLOCKWISE: [[i32; 2]; 4] = [[-10, -10], [-10, 10], [10, 10], [10, -10]];
+const HOLE: Contour = &[[-5, -5], [5, -5], [5, 5], [-5, 5]];
 
-const HOLE: [[i32; 2]; 4] = [[-5, -5], [5, -5], [5, 5], [-5, 5]];
-
-const BACK_AND_FORTH: [[i32; 2]; 6] = [
+const BACK_AND_FORTH: Contour = &[
     [-10, -10],
     [-10, 10],
     [10, 10],
@@ -31,376 +29,235 @@ const BACK_AND_FORTH: [[i32; 2]; 6] = [
     [10, -10],
 ];
 
-const FLAT_HOLE: [[i32; 2]; 3] = [[-5, -5], [5, -5], [-5, -5]];
+const FLAT_HOLE: Contour = &[[-5, -5], [5, -5], [-5, -5]];
 
-const DIAGONAL: [[i32; 2]; 3] = [[1, 1], [2, 2], [3, 3]];
+const DIAGONAL: Contour = &[[1, 1], [2, 2], [3, 3]];
 
-const VERTICAL: [[i32; 2]; 3] = [[0, 0], [0, 512], [0, 1]];
+const VERTICAL: Contour = &[[0, 0], [0, 512], [0, 1]];
 
-const CLOSED: [[i32; 2]; 7] = [[0, 0], [1, 0], [1, 0], [2, 0], [2, 2], [0, 2], [0, 0]];
+const CLOSED: Contour = &[[0, 0], [1, 0], [1, 0], [2, 0], [2, 2], [0, 2], [0, 0]];
 
-const CLOSED_SIMPLIFIED: [[i32; 2]; 4] = [[2, 0], [2, 2], [0, 2], [0, 0]];
+const CLOSED_SIMPLIFIED: Contour = &[[2, 0], [2, 2], [0, 2], [0, 0]];
 
-const SPIKED: [[i32; 2]; 6] = [[0, 0], [2, 0], [4, 0], [2, 0], [2, 2], [0, 2]];
+const SPIKED: Contour = &[[0, 0], [2, 0], [4, 0], [2, 0], [2, 2], [0, 2]];
 
-const BLUNT: [[i32; 2]; 4] = [[0, 0], [2, 0], [2, 2], [0, 2]];
+const BLUNT: Contour = &[[0, 0], [2, 0], [2, 2], [0, 2]];
 
-/// The shape of `given` becomes that of `wanted`.
-fn shape_becomes<I: IntNumber>(
+const NO_POINTS: Contour = &[];
+
+/// Without zero turns the shape of `given` becomes that of `wanted`, or collapses: as a copy, and in place, where it is told
+/// whether that changed it.
+fn simplifies_shape<I: IntNumber>(
     rt: &impl Abort,
     alloc: Global,
     given: &[&[[I; 2]]],
-    wanted: &[&[[I; 2]]],
+    wanted: Option<&[&[[I; 2]]]>,
 ) -> Result<(), Fail> {
-    let wanted = shape(rt, alloc, wanted)?;
-    let given = shape(rt, alloc, given)?;
-    let kept = given.as_slice().simplified(alloc)?.ok_or("it collapsed")?;
-    assert!(rt; kept == wanted);
+    let before = shape(rt, alloc, given)?;
+    let kept = before.as_slice().simplified(alloc)?;
+    let mut cleaned = shape(rt, alloc, given)?;
+    let changed = cleaned.simplify_contour()?;
+    assert!(rt; changed == (cleaned != before));
+    assert!(rt; changed != before.as_slice().is_simple());
+    let Some(wanted) = wanted else {
+        assert!(rt; kept.is_none() && cleaned.is_empty());
+        return Ok(());
+    };
+    assert!(rt; cleaned == shape(rt, alloc, wanted)?);
+    assert!(rt; cleaned == kept.ok_or("it collapsed")?);
     Ok(())
 }
 
-/// The shape of `given` collapses.
-fn shape_collapses(rt: &impl Abort, alloc: Global, given: &[&[[i32; 2]]]) -> Result<(), Fail> {
-    let given = shape(rt, alloc, given)?;
-    assert!(rt; given.as_slice().simplified(alloc)?.is_none());
+/// The same without spikes.
+fn despikes_shape<I: IntNumber>(
+    rt: &impl Abort,
+    alloc: Global,
+    given: &[&[[I; 2]]],
+    wanted: Option<&[&[[I; 2]]]>,
+) -> Result<(), Fail> {
+    let before = shape(rt, alloc, given)?;
+    let kept = before.despiked_shape(alloc)?;
+    let mut cleaned = shape(rt, alloc, given)?;
+    let changed = cleaned.remove_spikes()?;
+    assert!(rt; changed == (cleaned != before));
+    assert!(rt; changed != before.has_no_spikes());
+    let Some(wanted) = wanted else {
+        assert!(rt; kept.is_none() && cleaned.is_empty());
+        return Ok(());
+    };
+    assert!(rt; cleaned == shape(rt, alloc, wanted)?);
+    assert!(rt; cleaned == kept.ok_or("it collapsed")?);
     Ok(())
 }
 
-/// The list of `given` becomes that of `wanted`.
-fn list_becomes<I: IntNumber>(
+/// Without zero turns the list of `given` becomes that of `wanted`: as a copy, and in place, where it is told whether that
+/// changed it.
+fn simplifies_list<I: IntNumber>(
     rt: &impl Abort,
     alloc: Global,
     given: &[&[&[[I; 2]]]],
     wanted: &[&[&[[I; 2]]]],
 ) -> Result<(), Fail> {
     let wanted = shapes(rt, alloc, wanted)?;
-    let given = shapes(rt, alloc, given)?;
-    assert!(rt; given.as_slice().simplified(alloc)? == wanted);
+    let before = shapes(rt, alloc, given)?;
+    let mut cleaned = shapes(rt, alloc, given)?;
+    assert!(rt; before.as_slice().simplified(alloc)? == wanted);
+    assert!(rt; before.as_slice().is_simple() == (before == wanted));
+    assert!(rt; cleaned.simplify_contour()? == (before != wanted));
+    assert!(rt; cleaned == wanted);
     Ok(())
 }
 
-/// In place the shape of `given` becomes that of `wanted`, and `answer` tells whether it had zero turns.
-fn shape_is_left<I: IntNumber>(
-    rt: &impl Abort,
-    alloc: Global,
-    given: &[&[[I; 2]]],
-    answer: bool,
-    wanted: &[&[[I; 2]]],
-) -> Result<(), Fail> {
-    let wanted = shape(rt, alloc, wanted)?;
-    let mut given = shape(rt, alloc, given)?;
-    assert_eq!(rt; given.as_slice().is_simple(), !answer);
-    assert_eq!(rt; given.simplify_contour()?, answer);
-    assert!(rt; given == wanted);
-    Ok(())
-}
-
-/// In place the list of `given` becomes that of `wanted`, and `answer` tells whether it had zero turns.
-fn list_is_left<I: IntNumber>(
-    rt: &impl Abort,
-    alloc: Global,
-    given: &[&[&[[I; 2]]]],
-    answer: bool,
-    wanted: &[&[&[[I; 2]]]],
-) -> Result<(), Fail> {
-    let wanted = shapes(rt, alloc, wanted)?;
-    let mut given = shapes(rt, alloc, given)?;
-    assert_eq!(rt; given.as_slice().is_simple(), !answer);
-    assert_eq!(rt; given.simplify_contour()?, answer);
-    assert!(rt; given == wanted);
-    Ok(())
-}
-
-/// Without spikes the shape of `given` becomes that of `wanted`.
-fn despiked_shape_is<I: IntNumber>(
-    rt: &impl Abort,
-    alloc: Global,
-    given: &[&[[I; 2]]],
-    wanted: &[&[[I; 2]]],
-) -> Result<(), Fail> {
-    let wanted = shape(rt, alloc, wanted)?;
-    let given = shape(rt, alloc, given)?;
-    let kept = given.despiked_shape(alloc)?.ok_or("it collapsed")?;
-    assert!(rt; kept == wanted);
-    Ok(())
-}
-
-/// Without spikes the list of `given` becomes that of `wanted`.
-fn despiked_list_is<I: IntNumber>(
+/// The same without spikes.
+fn despikes_list<I: IntNumber>(
     rt: &impl Abort,
     alloc: Global,
     given: &[&[&[[I; 2]]]],
     wanted: &[&[&[[I; 2]]]],
 ) -> Result<(), Fail> {
     let wanted = shapes(rt, alloc, wanted)?;
-    let given = shapes(rt, alloc, given)?;
-    assert!(rt; given.despiked_shapes(alloc)? == wanted);
+    let before = shapes(rt, alloc, given)?;
+    let mut cleaned = shapes(rt, alloc, given)?;
+    assert!(rt; before.despiked_shapes(alloc)? == wanted);
+    assert!(rt; before.has_no_spikes() == (before == wanted));
+    assert!(rt; cleaned.remove_spikes()? == (before != wanted));
+    assert!(rt; cleaned == wanted);
     Ok(())
 }
 
-/// In place the removal of spikes makes the shape of `wanted` from that of `given`, and `answer` tells whether it had any.
-fn spikes_leave_shape<I: IntNumber>(
-    rt: &impl Abort,
-    alloc: Global,
-    given: &[&[[I; 2]]],
-    answer: bool,
-    wanted: &[&[[I; 2]]],
-) -> Result<(), Fail> {
-    let wanted = shape(rt, alloc, wanted)?;
-    let mut given = shape(rt, alloc, given)?;
-    assert_eq!(rt; given.has_no_spikes(), !answer);
-    assert_eq!(rt; given.remove_spikes()?, answer);
-    assert!(rt; given == wanted);
+/// A shape, and what is left of it where it doesn't collapse.
+type LeftOfShape = (Shape, Option<Shape>);
+
+const SIMPLIFIED_SHAPES: [LeftOfShape; 8] = [
+    // an empty shape stays empty
+    (&[], Some(&[])),
+    // a clean shape is its own copy
+    (&[CLOCKWISE, HOLE], Some(&[CLOCKWISE, HOLE])),
+    // flat holes are left out
+    (&[CLOCKWISE, FLAT_HOLE], Some(&[CLOCKWISE])),
+    (&[SQUARE, DIAGONAL], Some(&[SQUARE])),
+    // the closing point of the outer contour is taken off
+    (&[CLOSED], Some(&[CLOSED_SIMPLIFIED])),
+    (&[CLOSED, HOLE], Some(&[CLOSED_SIMPLIFIED, HOLE])),
+    // nothing is left without the outer contour
+    (&[BACK_AND_FORTH, HOLE, HOLE], None),
+    (&[NO_POINTS], None),
+];
+
+#[test]
+fn shapes_without_zero_turns(rt: HostRuntime) -> Result<(), Fail> {
+    for (given, wanted) in SIMPLIFIED_SHAPES {
+        simplifies_shape::<i32>(&rt, rt.alloc(), given, wanted)?;
+    }
     Ok(())
 }
 
-/// In place the removal of spikes makes the list of `wanted` from that of `given`, and `answer` tells whether it had any.
-fn spikes_leave_list<I: IntNumber>(
-    rt: &impl Abort,
-    alloc: Global,
-    given: &[&[&[[I; 2]]]],
-    answer: bool,
-    wanted: &[&[&[[I; 2]]]],
-) -> Result<(), Fail> {
-    let wanted = shapes(rt, alloc, wanted)?;
-    let mut given = shapes(rt, alloc, given)?;
-    assert_eq!(rt; given.has_no_spikes(), !answer);
-    assert_eq!(rt; given.remove_spikes()?, answer);
-    assert!(rt; given == wanted);
+const DESPIKED_SHAPES: [LeftOfShape; 8] = [
+    // an empty shape stays empty
+    (&[], Some(&[])),
+    // straight ways and repeated points are no spikes
+    (&[CLOSED, HOLE], Some(&[CLOSED, HOLE])),
+    (&[CLOSED], Some(&[CLOSED])),
+    // a spike and a flat hole go
+    (&[SPIKED, DIAGONAL], Some(&[BLUNT])),
+    (&[SQUARE, DIAGONAL], Some(&[SQUARE])),
+    // nothing is left without the outer contour
+    (&[VERTICAL, HOLE], None),
+    (&[BACK_AND_FORTH, HOLE, HOLE], None),
+    (&[NO_POINTS], None),
+];
+
+#[test]
+fn shapes_without_spikes(rt: HostRuntime) -> Result<(), Fail> {
+    for (given, wanted) in DESPIKED_SHAPES {
+        despikes_shape::<i32>(&rt, rt.alloc(), given, wanted)?;
+    }
     Ok(())
 }
 
 #[test]
-fn clean_shape_is_its_own_copy(rt: HostRuntime) -> Result<(), Fail> {
-    let shape = [CLOCKWISE.as_slice(), HOLE.as_slice()];
-    shape_becomes(&rt, rt.alloc(), shape.as_slice(), shape.as_slice())
-}
-
-#[test]
-fn empty_shape_stays_empty(rt: HostRuntime) -> Result<(), Fail> {
-    shape_becomes::<i32>(&rt, rt.alloc(), [].as_slice(), [].as_slice())
-}
-
-#[test]
-fn closing_point_is_taken_off_the_outer_contour(rt: HostRuntime) -> Result<(), Fail> {
-    let given = [CLOSED.as_slice()];
-    let wanted = [CLOSED_SIMPLIFIED.as_slice()];
-    shape_becomes(&rt, rt.alloc(), given.as_slice(), wanted.as_slice())
-}
-
-#[test]
-fn flat_hole_is_left_out(rt: HostRuntime) -> Result<(), Fail> {
-    let given = [CLOCKWISE.as_slice(), FLAT_HOLE.as_slice()];
-    let wanted = [CLOCKWISE.as_slice()];
-    shape_becomes(&rt, rt.alloc(), given.as_slice(), wanted.as_slice())
-}
-
-#[test]
-fn thousand_flat_holes_are_left_out(rt: HostRuntime) -> Result<(), Fail> {
+fn a_thousand_flat_holes_are_left_out(rt: HostRuntime) -> Result<(), Fail> {
     let alloc = rt.alloc();
     let mut given = Vec::new(alloc);
-    given.push(SQUARE.as_slice())?;
+    given.push(SQUARE)?;
     for _ in 0..1000 {
-        given.push(DIAGONAL.as_slice())?;
+        given.push(DIAGONAL)?;
     }
-    let wanted = [SQUARE.as_slice()];
-    shape_becomes(&rt, alloc, given.as_slice(), wanted.as_slice())?;
-    despiked_shape_is(&rt, alloc, given.as_slice(), wanted.as_slice())
+    let wanted = [SQUARE];
+    simplifies_shape(&rt, alloc, given.as_slice(), Some(&wanted))?;
+    despikes_shape(&rt, alloc, given.as_slice(), Some(&wanted))
 }
 
-#[test]
-fn shape_without_its_outer_contour_is_none(rt: HostRuntime) -> Result<(), Fail> {
-    let alloc = rt.alloc();
-    let flat = [BACK_AND_FORTH.as_slice(), HOLE.as_slice(), HOLE.as_slice()];
-    shape_collapses(&rt, alloc, flat.as_slice())?;
-    let no_point = [[].as_slice()];
-    shape_collapses(&rt, alloc, no_point.as_slice())
-}
+/// A list of shapes, and what is left of it.
+type LeftOfList = (Shapes, Shapes);
+
+/// What is left of lists by both cleaners.
+const CLEANED_LISTS: [LeftOfList; 6] = [
+    // collapsed shapes are left out
+    (
+        &[&[BACK_AND_FORTH, HOLE, HOLE], &[CLOCKWISE]],
+        &[&[CLOCKWISE]],
+    ),
+    (
+        &[&[BACK_AND_FORTH, HOLE, HOLE], &[BACK_AND_FORTH, HOLE, HOLE]],
+        &[],
+    ),
+    (&[&[NO_POINTS]], &[]),
+    // shapes that were empty before stay
+    (&[&[], &[VERTICAL], &[TRIANGLE]], &[&[], &[TRIANGLE]]),
+    (&[&[SQUARE, DIAGONAL], &[]], &[&[SQUARE], &[]]),
+    (&[&[CLOCKWISE, HOLE], &[]], &[&[CLOCKWISE, HOLE], &[]]),
+];
 
 #[test]
-fn collapsed_shapes_are_left_out(rt: HostRuntime) -> Result<(), Fail> {
+fn lists_without_zero_turns(rt: HostRuntime) -> Result<(), Fail> {
     let alloc = rt.alloc();
-    let flat = [BACK_AND_FORTH.as_slice(), HOLE.as_slice(), HOLE.as_slice()];
-    let clean = [CLOCKWISE.as_slice()];
-    let one = [flat.as_slice(), clean.as_slice()];
-    let left = [clean.as_slice()];
-    list_becomes(&rt, alloc, one.as_slice(), left.as_slice())?;
-    let none = [flat.as_slice(), flat.as_slice()];
-    list_becomes(&rt, alloc, none.as_slice(), [].as_slice())
-}
-
-#[test]
-fn empty_shapes_stay_in_a_list(rt: HostRuntime) -> Result<(), Fail> {
-    let alloc = rt.alloc();
-    let holed = [SQUARE.as_slice(), DIAGONAL.as_slice()];
-    let square = [SQUARE.as_slice()];
-    let given = [holed.as_slice(), [].as_slice()];
-    let wanted = [square.as_slice(), [].as_slice()];
-    list_becomes(&rt, alloc, given.as_slice(), wanted.as_slice())
-}
-
-#[test]
-fn shape_is_simple_where_each_contour_is(rt: HostRuntime) -> Result<(), Fail> {
-    let alloc = rt.alloc();
-    for (given, wanted) in [
-        ([].as_slice(), true),
-        ([CLOCKWISE.as_slice(), HOLE.as_slice()].as_slice(), true),
-        (
-            [CLOCKWISE.as_slice(), FLAT_HOLE.as_slice()].as_slice(),
-            false,
-        ),
-        ([CLOSED.as_slice(), HOLE.as_slice()].as_slice(), false),
-        ([[].as_slice()].as_slice(), false),
-    ] {
-        let given = shape::<i32>(&rt, alloc, given)?;
-        assert_eq!(rt; given.as_slice().is_simple(), wanted);
+    for (given, wanted) in CLEANED_LISTS {
+        simplifies_list::<i32>(&rt, alloc, given, wanted)?;
     }
-    Ok(())
+    simplifies_list::<i32>(&rt, alloc, &[&[CLOSED]], &[&[CLOSED_SIMPLIFIED]])
 }
 
 #[test]
-fn list_is_simple_where_each_shape_is(rt: HostRuntime) -> Result<(), Fail> {
+fn lists_without_spikes(rt: HostRuntime) -> Result<(), Fail> {
     let alloc = rt.alloc();
-    let clean = [CLOCKWISE.as_slice(), HOLE.as_slice()];
-    let holed = [CLOCKWISE.as_slice(), FLAT_HOLE.as_slice()];
-    let given = [clean.as_slice(), [].as_slice()];
-    let given = shapes::<i32>(&rt, alloc, given.as_slice())?;
-    assert!(rt; given.as_slice().is_simple());
-    let given = [clean.as_slice(), holed.as_slice()];
-    let given = shapes::<i32>(&rt, alloc, given.as_slice())?;
-    assert!(rt; !given.as_slice().is_simple());
-    Ok(())
+    for (given, wanted) in CLEANED_LISTS {
+        despikes_list::<i32>(&rt, alloc, given, wanted)?;
+    }
+    despikes_list::<i32>(&rt, alloc, &[&[CLOSED]], &[&[CLOSED]])
 }
 
-#[test]
-fn shape_in_place(rt: HostRuntime) -> Result<(), Fail> {
-    let alloc = rt.alloc();
-    let clean = [CLOCKWISE.as_slice(), HOLE.as_slice()];
-    shape_is_left(&rt, alloc, clean.as_slice(), false, clean.as_slice())?;
-    shape_is_left::<i32>(&rt, alloc, [].as_slice(), false, [].as_slice())?;
-    let holed = [SQUARE.as_slice(), DIAGONAL.as_slice()];
-    let square = [SQUARE.as_slice()];
-    shape_is_left(&rt, alloc, holed.as_slice(), true, square.as_slice())?;
-    let closed = [CLOSED.as_slice()];
-    let opened = [CLOSED_SIMPLIFIED.as_slice()];
-    shape_is_left(&rt, alloc, closed.as_slice(), true, opened.as_slice())?;
-    let flat = [BACK_AND_FORTH.as_slice(), HOLE.as_slice()];
-    shape_is_left(&rt, alloc, flat.as_slice(), true, [].as_slice())
-}
-
-#[test]
-fn list_in_place_keeps_empty_shapes(rt: HostRuntime) -> Result<(), Fail> {
-    let alloc = rt.alloc();
-    let flat = [VERTICAL.as_slice()];
-    let triangle = [TRIANGLE.as_slice()];
-    let given = [[].as_slice(), flat.as_slice(), triangle.as_slice()];
-    let wanted = [[].as_slice(), triangle.as_slice()];
-    list_is_left(&rt, alloc, given.as_slice(), true, wanted.as_slice())?;
-    let holed = [SQUARE.as_slice(), DIAGONAL.as_slice()];
-    let square = [SQUARE.as_slice()];
-    let given = [holed.as_slice(), [].as_slice()];
-    let wanted = [square.as_slice(), [].as_slice()];
-    list_is_left(&rt, alloc, given.as_slice(), true, wanted.as_slice())
-}
-
-#[test]
-fn list_in_place_loses_collapsed_shapes(rt: HostRuntime) -> Result<(), Fail> {
-    let alloc = rt.alloc();
-    let no_point = [[].as_slice()];
-    let given = [no_point.as_slice()];
-    list_is_left::<i32>(&rt, alloc, given.as_slice(), true, [].as_slice())?;
-    let closed = [CLOSED.as_slice()];
-    let opened = [CLOSED_SIMPLIFIED.as_slice()];
-    let given = [closed.as_slice()];
-    let wanted = [opened.as_slice()];
-    list_is_left(&rt, alloc, given.as_slice(), true, wanted.as_slice())
-}
-
-/// Each call once, as points of one width: each shape of `given` becomes that of `wanted`, and so do the lists.
-fn cleans_at_width<I: IntNumber>(
+/// Each call once, as points of one width: a flat hole is left out.
+fn cleans_at_width<'x, I: IntNumber>(
     rt: &impl Abort,
     alloc: Global,
-    given: &[&[&[[I; 2]]]],
-    wanted: &[&[&[[I; 2]]]],
+    outer: &'x [[I; 2]],
+    flat: &'x [[I; 2]],
 ) -> Result<(), Fail> {
-    for (given, wanted) in given.iter().zip(wanted) {
-        shape_becomes(rt, alloc, *given, *wanted)?;
-        shape_is_left(rt, alloc, *given, true, *wanted)?;
-        despiked_shape_is(rt, alloc, *given, *wanted)?;
-        spikes_leave_shape(rt, alloc, *given, true, *wanted)?;
-    }
-    list_becomes(rt, alloc, given, wanted)?;
-    list_is_left(rt, alloc, given, true, wanted)?;
-    despiked_list_is(rt, alloc, given, wanted)?;
-    spikes_leave_list(rt, alloc, given, true, wanted)
+    let given = [outer, flat];
+    let wanted = [outer];
+    simplifies_shape(rt, alloc, &given, Some(&wanted))?;
+    despikes_shape(rt, alloc, &given, Some(&wanted))?;
+    let given = [given.as_slice()];
+    let wanted = [wanted.as_slice()];
+    simplifies_list(rt, alloc, &given, &wanted)?;
+    despikes_list(rt, alloc, &given, &wanted)
 }
 
 #[test]
 fn each_width_is_cleaned(rt: HostRuntime) -> Result<(), Fail> {
     let alloc = rt.alloc();
-    let holed = [SMALL_SQUARE.as_slice(), SMALL_DIAGONAL.as_slice()];
-    let whole = [SMALL_SQUARE.as_slice()];
-    let given = [holed.as_slice()];
-    let wanted = [whole.as_slice()];
-    cleans_at_width(&rt, alloc, given.as_slice(), wanted.as_slice())?;
-    let holed = [SQUARE.as_slice(), DIAGONAL.as_slice()];
-    let whole = [SQUARE.as_slice()];
-    let given = [holed.as_slice()];
-    let wanted = [whole.as_slice()];
-    cleans_at_width(&rt, alloc, given.as_slice(), wanted.as_slice())?;
-    let holed = [WIDE_SQUARE.as_slice(), WIDE_DIAGONAL.as_slice()];
-    let whole = [WIDE_SQUARE.as_slice()];
-    let given = [holed.as_slice()];
-    let wanted = [whole.as_slice()];
-    cleans_at_width(&rt, alloc, given.as_slice(), wanted.as_slice())
-}
-
-#[test]
-fn spikes_of_a_shape(rt: HostRuntime) -> Result<(), Fail> {
-    let alloc = rt.alloc();
-    despiked_shape_is::<i32>(&rt, alloc, [].as_slice(), [].as_slice())?;
-    spikes_leave_shape::<i32>(&rt, alloc, [].as_slice(), false, [].as_slice())?;
-    let holed = [SQUARE.as_slice(), DIAGONAL.as_slice()];
-    let square = [SQUARE.as_slice()];
-    spikes_leave_shape(&rt, alloc, holed.as_slice(), true, square.as_slice())?;
-    let closed = [CLOSED.as_slice(), HOLE.as_slice()];
-    despiked_shape_is(&rt, alloc, closed.as_slice(), closed.as_slice())?;
-    spikes_leave_shape(&rt, alloc, closed.as_slice(), false, closed.as_slice())?;
-    let spiked = [SPIKED.as_slice(), DIAGONAL.as_slice()];
-    let blunt = [BLUNT.as_slice()];
-    despiked_shape_is(&rt, alloc, spiked.as_slice(), blunt.as_slice())?;
-    spikes_leave_shape(&rt, alloc, spiked.as_slice(), true, blunt.as_slice())?;
-    let flat = [VERTICAL.as_slice(), HOLE.as_slice()];
-    spikes_leave_shape(&rt, alloc, flat.as_slice(), true, [].as_slice())?;
-    let flat = shape::<i32>(&rt, alloc, flat.as_slice())?;
-    assert!(rt; flat.despiked_shape(alloc)?.is_none());
-    Ok(())
-}
-
-#[test]
-fn spikes_of_a_list_and_its_empty_shapes(rt: HostRuntime) -> Result<(), Fail> {
-    let alloc = rt.alloc();
-    let flat = [VERTICAL.as_slice()];
-    let triangle = [TRIANGLE.as_slice()];
-    let given = [[].as_slice(), flat.as_slice(), triangle.as_slice()];
-    let wanted = [[].as_slice(), triangle.as_slice()];
-    despiked_list_is(&rt, alloc, given.as_slice(), wanted.as_slice())?;
-    spikes_leave_list(&rt, alloc, given.as_slice(), true, wanted.as_slice())?;
-    let holed = [SQUARE.as_slice(), DIAGONAL.as_slice()];
-    let square = [SQUARE.as_slice()];
-    let given = [holed.as_slice(), [].as_slice()];
-    let wanted = [square.as_slice(), [].as_slice()];
-    despiked_list_is(&rt, alloc, given.as_slice(), wanted.as_slice())?;
-    spikes_leave_list(&rt, alloc, given.as_slice(), true, wanted.as_slice())
-}
-
-#[test]
-fn spikes_of_a_list_of_one_shape(rt: HostRuntime) -> Result<(), Fail> {
-    let alloc = rt.alloc();
-    let no_point = [[].as_slice()];
-    let given = [no_point.as_slice()];
-    spikes_leave_list::<i32>(&rt, alloc, given.as_slice(), true, [].as_slice())?;
-    let closed = [CLOSED.as_slice()];
-    let given = [closed.as_slice()];
-    spikes_leave_list(&rt, alloc, given.as_slice(), false, given.as_slice())
+    cleans_at_width::<i16>(
+        &rt,
+        alloc,
+        &[[0, 0], [4, 0], [4, 4], [0, 4]],
+        &[[1, 1], [2, 2], [3, 3]],
+    )?;
+    cleans_at_width::<i32>(&rt, alloc, SQUARE, DIAGONAL)?;
+    cleans_at_width::<i64>(
+        &rt,
+        alloc,
+        &[[0, 0], [4, 0], [4, 4], [0, 4]],
+        &[[1, 1], [2, 2], [3, 3]],
+    )
 }

@@ -6,24 +6,6 @@ use std::alloc::Global;
 use std::process::Abort;
 use std::test::Fail;
 
-const FLAT_16: [[i16; 2]; 3] = [[0, 0], [0, 512], [0, 1]];
-
-const TRIANGLE_16: [[i16; 2]; 3] = [[0, 0], [4, 0], [4, 4]];
-
-const FLAT_32: [[i32; 2]; 3] = [[0, 0], [0, 512], [0, 1]];
-
-const TRIANGLE_32: [[i32; 2]; 3] = [[0, 0], [4, 0], [4, 4]];
-
-const FLAT_64: [[i64; 2]; 3] = [[0, 0], [0, 512], [0, 1]];
-
-const TRIANGLE_64: [[i64; 2]; 3] = [[0, 0], [4, 0], [4, 4]];
-
-const FIRST: [[i32; 2]; 3] = [[0, 0], [1, 0], [1, 1]];
-
-const SECOND: [[i32; 2]; 3] = [[5, 5], [6, 5], [6, 6]];
-
-const THIRD: [[i32; 2]; 3] = [[7, 7], [8, 7], [8, 8]];
-
 /// Both cleaners leave `wanted` of `given`, through a buffer as without one.
 fn both_leave<I: IntNumber>(
     rt: &impl Abort,
@@ -40,40 +22,45 @@ fn both_leave<I: IntNumber>(
 }
 
 #[test]
-fn an_empty_shape_stays_and_a_flat_one_goes_at_16_bits(rt: HostRuntime) -> Result<(), Fail> {
+fn an_empty_shape_stays_and_a_flat_one_goes_at_each_width(rt: HostRuntime) -> Result<(), Fail> {
     let alloc = rt.alloc();
-    let flat = [FLAT_16.as_slice()];
-    let triangle = [TRIANGLE_16.as_slice()];
-    let given = [[].as_slice(), flat.as_slice(), triangle.as_slice()];
-    let wanted = [[].as_slice(), triangle.as_slice()];
-    both_leave(&rt, alloc, given.as_slice(), wanted.as_slice())
-}
-
-#[test]
-fn an_empty_shape_stays_and_a_flat_one_goes_at_32_bits(rt: HostRuntime) -> Result<(), Fail> {
-    let alloc = rt.alloc();
-    let flat = [FLAT_32.as_slice()];
-    let triangle = [TRIANGLE_32.as_slice()];
-    let given = [[].as_slice(), flat.as_slice(), triangle.as_slice()];
-    let wanted = [[].as_slice(), triangle.as_slice()];
-    both_leave(&rt, alloc, given.as_slice(), wanted.as_slice())
-}
-
-#[test]
-fn an_empty_shape_stays_and_a_flat_one_goes_at_64_bits(rt: HostRuntime) -> Result<(), Fail> {
-    let alloc = rt.alloc();
-    let flat = [FLAT_64.as_slice()];
-    let triangle = [TRIANGLE_64.as_slice()];
-    let given = [[].as_slice(), flat.as_slice(), triangle.as_slice()];
-    let wanted = [[].as_slice(), triangle.as_slice()];
-    both_leave(&rt, alloc, given.as_slice(), wanted.as_slice())
+    both_leave::<i16>(
+        &rt,
+        alloc,
+        &[
+            &[],
+            &[&[[0, 0], [0, 512], [0, 1]]],
+            &[&[[0, 0], [4, 0], [4, 4]]],
+        ],
+        &[&[], &[&[[0, 0], [4, 0], [4, 4]]]],
+    )?;
+    both_leave::<i32>(
+        &rt,
+        alloc,
+        &[
+            &[],
+            &[&[[0, 0], [0, 512], [0, 1]]],
+            &[&[[0, 0], [4, 0], [4, 4]]],
+        ],
+        &[&[], &[&[[0, 0], [4, 0], [4, 4]]]],
+    )?;
+    both_leave::<i64>(
+        &rt,
+        alloc,
+        &[
+            &[],
+            &[&[[0, 0], [0, 512], [0, 1]]],
+            &[&[[0, 0], [4, 0], [4, 4]]],
+        ],
+        &[&[], &[&[[0, 0], [4, 0], [4, 4]]]],
+    )
 }
 
 #[test]
 fn clean_shapes_come_back_as_they_were(rt: HostRuntime) -> Result<(), Fail> {
-    let alloc = rt.alloc();
-    let one = [FIRST.as_slice()];
-    let two = [SECOND.as_slice(), THIRD.as_slice()];
-    let list = [one.as_slice(), two.as_slice()];
-    both_leave(&rt, alloc, list.as_slice(), list.as_slice())
+    let list: [&[&[[i32; 2]]]; 2] = [
+        &[&[[0, 0], [1, 0], [1, 1]]],
+        &[&[[5, 5], [6, 5], [6, 6]], &[[7, 7], [8, 7], [8, 8]]],
+    ];
+    both_leave(&rt, rt.alloc(), &list, &list)
 }
