@@ -228,36 +228,42 @@ fn lists_without_spikes(rt: HostRuntime) -> Result<(), Fail> {
 }
 
 /// Each call once, as points of one width: a flat hole is left out.
-fn cleans_at_width<'x, I: IntNumber>(
+fn cleans_at_width<I: IntNumber>(
     rt: &impl Abort,
     alloc: Global,
-    outer: &'x [[I; 2]],
-    flat: &'x [[I; 2]],
+    given: &[&[&[[I; 2]]]],
+    wanted: &[&[&[[I; 2]]]],
 ) -> Result<(), Fail> {
-    let given = [outer, flat];
-    let wanted = [outer];
-    simplifies_shape(rt, alloc, &given, Some(&wanted))?;
-    despikes_shape(rt, alloc, &given, Some(&wanted))?;
-    let given = [given.as_slice()];
-    let wanted = [wanted.as_slice()];
-    simplifies_list(rt, alloc, &given, &wanted)?;
-    despikes_list(rt, alloc, &given, &wanted)
+    for (shape, kept) in given.iter().zip(wanted) {
+        simplifies_shape(rt, alloc, *shape, Some(*kept))?;
+        despikes_shape(rt, alloc, *shape, Some(*kept))?;
+    }
+    simplifies_list(rt, alloc, given, wanted)?;
+    despikes_list(rt, alloc, given, wanted)
 }
+
+const MIXED_16: &[&[&[[i16; 2]]]] = &[&[
+    &[[0, 0], [4, 0], [4, 4], [0, 4]],
+    &[[1, 1], [2, 2], [3, 3]],
+]];
+
+const KEPT_16: &[&[&[[i16; 2]]]] = &[&[&[[0, 0], [4, 0], [4, 4], [0, 4]]]];
+
+const MIXED_32: &[&[&[[i32; 2]]]] = &[&[SQUARE, DIAGONAL]];
+
+const KEPT_32: &[&[&[[i32; 2]]]] = &[&[SQUARE]];
+
+const MIXED_64: &[&[&[[i64; 2]]]] = &[&[
+    &[[0, 0], [4, 0], [4, 4], [0, 4]],
+    &[[1, 1], [2, 2], [3, 3]],
+]];
+
+const KEPT_64: &[&[&[[i64; 2]]]] = &[&[&[[0, 0], [4, 0], [4, 4], [0, 4]]]];
 
 #[test]
 fn each_width_is_cleaned(rt: HostRuntime) -> Result<(), Fail> {
     let alloc = rt.alloc();
-    cleans_at_width::<i16>(
-        &rt,
-        alloc,
-        &[[0, 0], [4, 0], [4, 4], [0, 4]],
-        &[[1, 1], [2, 2], [3, 3]],
-    )?;
-    cleans_at_width::<i32>(&rt, alloc, SQUARE, DIAGONAL)?;
-    cleans_at_width::<i64>(
-        &rt,
-        alloc,
-        &[[0, 0], [4, 0], [4, 4], [0, 4]],
-        &[[1, 1], [2, 2], [3, 3]],
-    )
+    cleans_at_width::<i16>(&rt, alloc, MIXED_16, KEPT_16)?;
+    cleans_at_width::<i32>(&rt, alloc, MIXED_32, KEPT_32)?;
+    cleans_at_width::<i64>(&rt, alloc, MIXED_64, KEPT_64)
 }
