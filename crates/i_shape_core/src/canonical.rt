@@ -50,9 +50,9 @@ fn turn_to_least<I: IntNumber>(contour: &mut IntContour<I>)
 /// Where the least rotation of a contour starts, and how many pairs of points were compared: at least one for each point
 /// but one, and fewer than three for each. Lists are compared point by point, points by x and then by y.
 ///
-/// Two starts are compared point by point, and the one that loses takes along each start up to the point where it lost:
-/// the elimination of Shiloach, "Fast Canonization of Circular Strings", 1981. It takes linear time and no memory. The pair
-/// at which a pass over starts ends is read once more to go on from there, and counts once.
+/// Two starts are compared point by point, and the one that loses takes along each start up to the point where it lost, as
+/// Shiloach's algorithm does for circular strings. It takes linear time and no memory. The pair at which a pass over starts
+/// ends is read once more to go on from there, and counts once.
 pub fn least_start_counted<I: IntNumber>(contour: &[IntPoint<I>]) -> (usize, u128)
     requires { 0 < length contour.now }
     ensures within { result.0 < length contour.now }
