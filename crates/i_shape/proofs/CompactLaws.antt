@@ -8,13 +8,12 @@ use Rattle.std.proofs.lemmas.List.Elements.{All-nil, All-cons, All-head, All-tai
 use Rattle.std.proofs.lemmas.Simd.{map-map}
 use Rattle.i_shape_core.specs.Point.{Point}
 use Rattle.i_shape_core.specs.IntPoint.{point_of, contour_of}
-use Rattle.i_shape_core.specs.Contour.{IsSimple, Rotation, stay}
+use Rattle.i_shape_core.specs.Contour.{IsSimple}
 use Rattle.i_shape_core.specs.Answers.{SimpleAnswer}
 use Rattle.i_shape_core.specs.declared.point.IntPoint.{IntPoint}
 use Rattle.i_shape_core.proofs.Contours.{length-contour}
-use Rattle.i_shape_core.proofs.CycleLaws.{twice}
+use Rattle.i_shape_core.proofs.Cleaned.{simple_stays}
 use Rattle.i_shape_core.proofs.Ends.{reach_shrinks}
-use Rattle.i_shape_core.proofs.Rotations.{rotation_refl}
 use Rattle.i_shape.specs.declared.flat.buffer.contours.FlatContoursBuffer.{FlatContoursBuffer}
 use Rattle.i_shape.specs.Flat.{part_of, slices}
 use Rattle.i_shape.specs.Compact.{Compact, contours_in, range_len}
@@ -22,14 +21,6 @@ use Rattle.i_shape.specs.ContoursBuffer.{HoldsContours}
 use Rattle.i_shape.specs.AppendedAnswers.{AppendsAnswer}
 use Rattle.i_shape.proofs.ContoursHeld.{HoldsContours-more}
 use Rattle.i_shape.proofs.Surviving.{mapped-read, mapped-more, survivors-more}
-
--- a simple contour is its own answer
-pub simple-answer : (c : List Point) → IsSimple c → SimpleAnswer c (Some c)
-simple-answer c s = record {
-  ended = record { reached = stay; none_left = s.none };
-  enough = s.enough;
-  alone = λ f e. subst (λ (d : List Point). Rotation c d) (sym ((twice c).simple s f e.reached)) (rotation_refl c);
-}
 
 -- an answer is no longer than its contour
 pub answer-shorter : {T : Type 0} (value : T → ℤ) (contour clean : List (IntPoint T)) → SimpleAnswer (contour_of value contour) (Some (contour_of value clean)) → length clean ≤ length contour
@@ -107,7 +98,7 @@ pub all-kept : (contours : List (List Point)) → All IsSimple contours → Comp
 all-kept [] simple = ([], tt, refl)
 all-kept (c ∷ contours) simple =
     let rest = all-kept contours (All-tail IsSimple c contours simple) in
-    (Some c ∷ rest.0, (simple-answer c (All-head IsSimple c contours simple), rest.1), ap (λ w. c ∷ w) rest.2)
+    (Some c ∷ rest.0, (simple_stays c (All-head IsSimple c contours simple), rest.1), ap (λ w. c ∷ w) rest.2)
 
 -- where all points are safe, those of each contour are
 pub safe-slices : {T : Type 0} (value : T → ℤ) (P : Point → Type 0) (points : List (IntPoint T)) (ranges : List (Range ℕ)) → All P (contour_of value points) →

@@ -1,16 +1,13 @@
 -- Sums over the items of a list that wrap at each item, and counts.
-use Rattle.std.proofs.Common.{◌≡◌, ℕ, suc, ◌+◌, ◌<◌, ◌≤◌, ℤ, pos, ◌+ℤ◌, ◌-ℤ◌, List, ◌∷◌, map, length, drop, get_or, sym, ap, ◌∙◌, arith, add-one}
-use Rattle.std.proofs.Math.Seq.{drop-cons}
+use Rattle.std.proofs.Common.{◌≡◌, ℕ, ◌+◌, ◌<◌, ◌≤◌, ℤ, pos, ◌+ℤ◌, ◌-ℤ◌, List, map, length, drop, get_or, sym, ap, ◌∙◌, arith}
 use Rattle.std.proofs.lemmas.Int.{ints, int_wrap-add_left, int_wrap-add_right}
 use Rattle.std.proofs.lemmas.List.{drop_all}
 use Rattle.std.proofs.lemmas.List.Sums.{sum_by-cons}
 use Rattle.std.specs.Int.{Width, int_wrap}
 use Rattle.std.specs.List.{sum_by}
 use Rattle.i_shape.specs.ShapeAreas.{sum_of}
+use Rattle.i_shape_core.proofs.Contours.{drop-read}
 use Rattle.i_shape_core.proofs.SummedArea.{wrapped-zero}
-
-rest-read : {A : Type 0} (xs : List A) (k : ℕ) (a : A) → k < length xs → a ≡ get_or xs k a → drop k xs ≡ a ∷ drop (k + 1) xs
-rest-read {A} xs k a within read = rw (add-one k) (drop-cons xs k a within ∙ ap (λ (y : A). y ∷ drop (suc k) xs) (sym read))
 
 -- what a walk has summed up before place k
 abbrev pub IsSummedUp : {A X : Type 0} → Width → (X → ℤ) → (A → X) → List A → ℕ → ℤ → Type 0
@@ -27,7 +24,7 @@ pub sum-more : {A X : Type 0} (w : Width) (f : X → ℤ) (view : A → X) (xs :
 sum-more w f view xs k a before item after within read so_far here now =
     now ∙ ap (λ (z : ℤ). int_wrap w (before +ℤ z)) here ∙ int_wrap-add_right w before (f (view a))
     ∙ ap (λ (z : ℤ). int_wrap w (z +ℤ f (view a))) so_far ∙ int_wrap-add_left w (total -ℤ sum_of f (map view (drop k xs))) (f (view a))
-    ∙ ap (int_wrap w) (moved total (sum_of f (map view (drop k xs))) (f (view a)) (sum_of f (map view (drop (k + 1) xs))) (ap (λ ys. sum_of f (map view ys)) (rest-read xs k a within read)))
+    ∙ ap (int_wrap w) (moved total (sum_of f (map view (drop k xs))) (f (view a)) (sum_of f (map view (drop (k + 1) xs))) (ap (λ ys. sum_of f (map view ys)) (drop-read xs k a within read)))
   where
     total : ℤ
     total = sum_of f (map view xs)
@@ -49,7 +46,7 @@ pub count-rest : {A : Type 0} (f : A → ℕ) (xs : List A) (k n : ℕ) (a : A) 
 count-rest {A} f xs k n a within read so_far = regroup n (f a) (sum_by f (drop (k + 1) xs)) (sum_by f xs) (sym (ap (λ (m : ℕ). n + m) rest) ∙ so_far)
   where
     rest : sum_by f (drop k xs) ≡ f a + sum_by f (drop (k + 1) xs)
-    rest = ap (sum_by f) (rest-read xs k a within read) ∙ sum_by-cons f a (drop (k + 1) xs)
+    rest = ap (sum_by f) (drop-read xs k a within read) ∙ sum_by-cons f a (drop (k + 1) xs)
 
     regroup : (n x r t : ℕ) → n + (x + r) ≡ t → n + x + r ≡ t
     regroup n x r t e = omega arith

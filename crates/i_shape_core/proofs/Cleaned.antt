@@ -4,7 +4,7 @@ use Rattle.std.specs.List.{All}
 use Rattle.std.specs.Option.{IfSome}
 use Rattle.std.proofs.lemmas.Bool.{cases_lt}
 use Rattle.i_shape_core.specs.Point.{Point, IsZeroTurn, IsBack}
-use Rattle.i_shape_core.specs.Contour.{Test, Reach, stay, End, IsCollapsed}
+use Rattle.i_shape_core.specs.Contour.{Test, Reach, stay, End, IsCollapsed, IsSimple}
 use Rattle.i_shape_core.specs.Walk.{WalkAnswer}
 use Rattle.i_shape_core.specs.Edges.{shoelace, area_of_edge}
 use Rattle.i_shape_core.specs.Answers.{SimpleAnswer, SpikelessAnswer, KeptAnswer, IsKept, IsFlat}
@@ -38,9 +38,17 @@ flat c d r h = record {
   inside = λ p i. (inside_laws d d).none h p (((inside_laws c d).kept r p).0 i);
 }
 
+-- an end that has not collapsed is the one
+one_answer : (c e : List Point) → End IsZeroTurn c e → 3 ≤ length e → SimpleAnswer c (Some e)
+one_answer c e ended enough = record { ended = ended; enough = enough; alone = λ f g. ((every_order c).some e f ended enough g).1 }
+
 pub simple_answer : (c : List Point) (r : Option (List Point)) (visits : ℕ) → WalkAnswer IsZeroTurn c r visits → SimpleAnswer c r
 simple_answer c None visits w = λ e f. (every_order c).none w.rest e w.reached w.few f
-simple_answer c (Some e) visits w = record { ended = w.ended; enough = w.enough; alone = λ f g. ((every_order c).some e f w.ended w.enough g).1 }
+simple_answer c (Some e) visits w = one_answer c e w.ended w.enough
+
+-- a simple contour is its own answer
+pub simple_stays : (c : List Point) → IsSimple c → SimpleAnswer c (Some c)
+simple_stays c s = one_answer c c (record { reached = stay; none_left = s.none }) s.enough
 
 pub kept_answer : (c : List Point) (r : Option (List Point)) (visits : ℕ) → WalkAnswer IsZeroTurn c r visits → KeptAnswer c r
 kept_answer c None visits w = flat c w.rest w.reached w.few

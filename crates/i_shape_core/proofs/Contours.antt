@@ -45,10 +45,13 @@ points-same {I} value one p q e f =
     let in_y : (j : I) → IntPoint I = λ j. record { x = q.x; y = j } in
     ap in_x (one p.x q.x e) ∙ ap in_y (one p.y q.y f)
 
--- what is left of a contour at a place is the point there and the rest
+-- what is left of a list at a place is what stands there and the rest
+pub drop-read : {A : Type 0} (xs : List A) (k : ℕ) (a : A) → k < length xs → a ≡ get_or xs k a → drop k xs ≡ a ∷ drop (k + 1) xs
+drop-read {A} xs k a within read = rw (add-one k) (drop-cons xs k a within ∙ ap (λ (b : A). b ∷ drop (suc k) xs) (sym read))
+
 pub rest-read : {I : Type 0} (value : I → ℤ) (xs : List (IntPoint I)) (k : ℕ) (p : IntPoint I) → k < length xs → p ≡ get_or xs k p
     → contour_of value (drop k xs) ≡ point_of value p ∷ contour_of value (drop (k + 1) xs)
-rest-read {I} value xs k p within read = rw (add-one k) (ap (contour_of value) (drop-cons xs k p within ∙ ap (λ (q : IntPoint I). q ∷ drop (suc k) xs) (sym read)))
+rest-read value xs k p within read = ap (contour_of value) (drop-read xs k p within read)
 
 -- and nothing past the end
 pub rest-none : {I : Type 0} (value : I → ℤ) (xs : List (IntPoint I)) (k : ℕ) → length xs ≤ k → contour_of value (drop k xs) ≡ []

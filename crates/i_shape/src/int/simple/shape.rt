@@ -2,11 +2,11 @@
 
 ghost use Rattle.std.specs.Prelude.{◌≡◌, ◌↔◌, List, [], IsTrue, IfOk, IsOkUnless, option_map};
 ghost use Rattle.std.specs.List.{All};
-ghost use Rattle.i_shape_core.specs.Point.{Point, IsZeroTurn};
+ghost use Rattle.i_shape_core.specs.Point.{Point};
 ghost use Rattle.i_shape_core.specs.IntPoint.{contour_of, IsSafe};
-ghost use Rattle.i_shape_core.specs.Contour.{IsSimple, End, stay};
+ghost use Rattle.i_shape_core.specs.Contour.{IsSimple};
 ghost use Rattle.i_shape_core.specs.Answers.{SimpleAnswer};
-ghost use Rattle.i_shape_core.proofs.CycleLaws.{every_order};
+ghost use Rattle.i_shape_core.proofs.Cleaned.{simple_stays};
 ghost use Rattle.i_shape.specs.ShapeLists.{shape_of, shapes_of, IsSafeShape, IsSafeList};
 ghost use Rattle.i_shape.specs.ShapeAnswers.{ShapeClean, ListClean, ListAnswer, EachContour, EachShape};
 ghost use Rattle.i_shape.specs.InPlace.{CleansInPlace};
@@ -76,9 +76,7 @@ impl<I: IntNumber> ContourCleaner<I> for ContourSimplifier {
         self.simplify_contour(contour.as_slice())
     }
 
-    ghost stays = { λ c simple.
-        let ended : End IsZeroTurn c c = record { reached = stay; none_left = simple.none } in
-        record { ended = ended; enough = simple.enough; alone = λ e end. ((every_order c).some c e ended simple.enough end).1 } };
+    ghost stays = { simple_stays };
 }
 
 impl<I: IntNumber> SimpleShape<I> for &[IntContour<I>] {

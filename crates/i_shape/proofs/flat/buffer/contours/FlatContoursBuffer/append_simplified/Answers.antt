@@ -1,10 +1,11 @@
 use Rattle.std.proofs.Common.{arith, refl, ap, length}
-use Rattle.i_shape.proofs.CompactLaws.{simple-answer, answer-shorter, appends-some}
+use Rattle.i_shape_core.proofs.Cleaned.{simple_stays}
+use Rattle.i_shape.proofs.CompactLaws.{answer-shorter, appends-some}
 use Rattle.i_shape.proofs.flat.buffer.contours.FlatContoursBuffer.append_simplified.Goals as goal
 
 pub returns-then-is_simple-clause-ok : goal.returns-then-is_simple-clause-ok
 returns-then-is_simple-clause-ok g c =
-    appends-some g.T.IntNumber.value c.args.contour.now c.args.contour.now c.args.contour.now _ _ (simple-answer _ (c.is_simple.ensures.0 c.if-is_simple.true)) refl
+    appends-some g.T.IntNumber.value c.args.contour.now c.args.contour.now c.args.contour.now _ _ (simple_stays _ (c.is_simple.ensures.0 c.if-is_simple.true)) refl
     c.append_contour.ensures.points c.append_contour.ensures.ranges
 
 pub append_contour-requires-in-Some-clause-points_room : goal.append_contour-requires-in-Some-clause-points_room
