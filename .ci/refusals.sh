@@ -1,12 +1,15 @@
 #!/usr/bin/env bash
-# Refuses the growths of memory of the calls in crates/refusals one by one: the Nth growth of each test, for N = 1, 2, .. up to
-# the first run in which every call is done. A test prints 'NAME done' or 'NAME refused' of its call, and nothing where what the
-# call is given was refused. Fails where a test fails, where a run tells of a call that isn't listed here or of one twice, where
-# a call is never refused or never done, and where the limit is reached. The last line is 'refusals: N passed, M failed'.
+# Refuses the growths of memory of the calls in crates/refusals one by one: runs each test with its Nth growth refused, for
+# N = 1, 2, .. up to the first run in which no growth is refused. A test prints 'NAME done' or 'NAME refused' of its call, and
+# nothing where what the call is given was refused. A call passes that was refused, and done in that last run. A fault is a run
+# that fails, that tells of two calls, or of one done where a growth was refused, a test that has more growths than the limit,
+# and a call that isn't listed here or that two tests tell of. The last line is 'refusals: N passed, M failed'.
+set -u
 cd "$(dirname "$0")/.." || exit 1
 export LC_ALL=C
+ulimit -c 0
 limit=24
-at_once=$(($(nproc) < 4 ? $(nproc) : 4))
+program=crates/refusals/out/refusals_tests
 
 calls() {
     printf '%s\n' SimpleContour::{simplified,canonical} ContourSimplifier::{simplify_counted,canonical} \
@@ -21,60 +24,60 @@ calls() {
     printf 'run of %s\n' Simplify Despike Area Canonical Compact
 }
 
-# The calls of which run $1 tells that they ended so.
-told() {
-    sed -nE "s/^    (.*) ($2)\$/\1/p" "$work/run$1" | sort
+# Whether the tests' program is there, and newer than the crates.
+is_built() {
+    [ -x "$program" ] && [ -z "$(find crates crates.txt -name out -prune -o -type f -newer "$program" -print -quit)" ]
 }
 
-# Starts run $1, whose tests are each refused their growth of that number.
-start() {
-    { cd crates/refusals && exec rt try --test --fail-alloc "$1"; } > "$work/run$1" 2>&1 &
-    runs[$1]=$!
+# Builds the tests, where they aren't built, and by the kit's compiler the library that refuses a growth.
+build() {
+    is_built || (cd crates/refusals && rt test) || return
+    "$(dirname "$(rt doc)")/toolchain/bin/clang" -std=c11 -shared -fPIC -nostdlib -fuse-ld=lld \
+        -o "$work/refuse_growth.so" .ci/refuse_growth.c
 }
 
-# Whether each test of run $1 passed, and tells of a call that is listed, and no two of the same.
-is_sound() {
-    grep -q '^run=ended status=0 ' "$work/run$1" && [ -z "$(told "$1" 'done|refused' | uniq -d)" ] &&
-        [ -z "$(told "$1" 'done|refused' | comm -23 - "$work/calls")" ]
+# Runs the test $1 with its growth of number $2 refused, and answers whether it passed.
+run() {
+    timeout 60 env REFUSED_GROWTH="$2" LD_PRELOAD="$work/refuse_growth.so" "$program" "$1" > "$work/out" 2> "$work/errors" &&
+        grep -qx 'test result: ok' "$work/out"
 }
 
-# Says how it ended, after $1 faults: a call passes that was refused and is done in the last run that was looked at.
-finish() {
-    comm -12 "$work/done" <(sort -u "$work/refused") > "$work/passed"
+# Refuses the growths of the test $1 and keeps how its call ended. Answers whether each run was without a fault.
+refuse() {
+    local end
+    for ((growth = 1; growth <= limit; growth++)); do
+        run "$1" "$growth" || return
+        if grep -qx 'growth refused' "$work/errors"; then end=refused; else end='done'; fi
+        grep -E ' (done|refused)$' "$work/out" > "$work/told"
+        if [ "$(wc -l < "$work/told")" -gt 1 ] || grep -qv " $end\$" "$work/told"; then return 1; fi
+        sed "s/ $end\$//" "$work/told" >> "$work/$end"
+        if [ "$end" = 'done' ]; then return 0; fi
+    done
+    echo "more growths than $limit" > "$work/errors"
+    return 1
+}
+
+# Refuses the growths of each test, and prints a line for each fault.
+judge() {
+    local test
+    for test in $("$program" --list | sed -n 's/: test$//p'); do
+        refuse "$test" || echo "$test, growth $growth: $(cat "$work/out" "$work/errors" | tr '\n' ' ')"
+    done
+    sort "$work/done" | uniq -d | sed 's/$/: told of by two tests/'
+    sort -u "$work/done" "$work/refused" | comm -23 - "$work/calls" | sed 's/$/: not listed/'
+    sort -u "$work/refused" | comm -12 - <(sort "$work/done" | uniq -u) | comm -12 - "$work/calls" > "$work/passed"
     comm -23 "$work/calls" "$work/passed" | sed 's/$/: not seen refused and then done/'
-    passed=$(wc -l < "$work/passed")
-    failed=$(($(wc -l < "$work/calls") - passed + $1))
-    echo "refusals: $passed passed, $failed failed"
-    [ "$failed" -eq 0 ]
-    exit
-}
-
-# Takes what run $1 tells, and finishes where it is the last.
-look() {
-    if ! is_sound "$1"; then
-        cat "$work/run$1"
-        finish 1
-    fi
-    told "$1" refused >> "$work/refused"
-    told "$1" 'done' > "$work/done"
-    echo "growth $1: $(told "$1" refused | wc -l) refused, $(wc -l < "$work/done") done"
-    if cmp -s "$work/calls" "$work/done"; then
-        finish 0
-    fi
 }
 
 work=$(mktemp -d) || exit 1
-trap 'kill $(jobs -p) 2> /dev/null; wait; rm -rf "$work"' EXIT
-trap 'exit 1' INT TERM HUP
+trap 'rm -rf "$work"' EXIT
 calls | sort > "$work/calls"
-touch "$work/refused" "$work/done"
-for ((growth = 1; growth <= at_once; growth++)); do
-    start "$growth"
-done
-for ((growth = 1; growth <= limit; growth++)); do
-    wait "${runs[growth]}"
-    look "$growth"
-    start $((growth + at_once))
-done
-echo "no run is without a refusal up to growth $limit"
-finish 1
+touch "$work/done" "$work/refused"
+build > "$work/log" 2>&1 || cat "$work/log"
+judge > "$work/faults"
+cat "$work/faults"
+passed=$(wc -l < "$work/passed")
+failed=$(wc -l < "$work/faults")
+echo "growths refused within the calls: $(wc -l < "$work/refused")"
+echo "refusals: $passed passed, $failed failed"
+[ "$failed" -eq 0 ]
