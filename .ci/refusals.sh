@@ -1,9 +1,9 @@
 #!/usr/bin/env bash
 # Refuses the growths of memory of the calls in crates/refusals one by one: runs each test with its Nth growth refused, for
 # N = 1, 2, .. up to the first run in which no growth is refused. A test prints 'NAME done' or 'NAME refused' of its call, and
-# nothing where what the call is given was refused. A call passes that was refused, and done in that last run. A fault is a run
-# that fails, that tells of two calls, or of one done where a growth was refused, a test that has more growths than the limit,
-# and a call that isn't listed here or that two tests tell of. The last line is 'refusals: N passed, M failed'.
+# nothing where what the call is given was refused. A call passes that was refused, and done in that last run. It's a fault where
+# a run fails, tells of two calls, or tells that one was done though a growth was refused; where a test has more growths than the
+# limit; and where a call isn't listed here or two tests tell of it. The last line is 'refusals: N passed, M failed'.
 set -u
 cd "$(dirname "$0")/.." || exit 1
 export LC_ALL=C
@@ -42,7 +42,7 @@ run() {
         grep -qx 'test result: ok' "$work/out"
 }
 
-# Refuses the growths of the test $1 and keeps how its call ended. Answers whether each run was without a fault.
+# Refuses the growths of the test $1, keeps how its call ended, and answers whether no run has a fault. The last is run $growth.
 refuse() {
     local end
     for ((growth = 1; growth <= limit; growth++)); do

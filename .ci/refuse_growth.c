@@ -1,7 +1,7 @@
-// A library for LD_PRELOAD that refuses one growth of memory of a proved program, which takes all its memory by malloc and
-// realloc. REFUSED_GROWTH in the environment is the number of that growth, counted from 1 where the program's own code begins.
-// A refusal is told on standard error, so that a run without one can be told from the others. No headers are used, since the
-// kit's clang has none: the functions behind malloc and realloc have these names in glibc.
+// A library for LD_PRELOAD that refuses one growth of the memory of a proved program, which takes it by malloc and realloc alone.
+// REFUSED_GROWTH in the environment is that growth's number, counted from 1 once the libraries are loaded. The refusal is told
+// on standard error, so that a run without one is known. No header is used, since the kit's clang has none: the C library is
+// glibc, in which the functions behind malloc and realloc have the names below.
 
 typedef __SIZE_TYPE__ size_t;
 
@@ -11,7 +11,7 @@ long write(int file, const void *bytes, size_t count);
 void *__libc_malloc(size_t size);
 void *__libc_realloc(void *memory, size_t size);
 
-// How many growths there are up to the refused one; 0 once it was refused.
+// How many growths there are up to the one to refuse; 0 where none is left to refuse.
 static long growths_left = 0;
 
 __attribute__((constructor)) static void read_environment(void) {
