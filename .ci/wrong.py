@@ -1,0 +1,249 @@
+#!/usr/bin/env python3
+"""Tries the wrong bodies in crates/NAME/wrong/: the prover must refuse each at the function that it turns.
+
+usage: .ci/wrong.py [--gate] [--only WORD..]
+
+An edit is a file crates/NAME/wrong/WHAT_IT_DOES.edit: a line 'file: src/..', a line 'refused: module::Type::function' with
+the function whose fault it must be, and pairs of lines 'old: TEXT' and 'new: TEXT'. Each old text stands in its file once.
+
+Edits are put into a copy of their crate, at most one for each function, and checked together, over what earlier checks
+kept. An edit passes where the prover finds a fault in its own function: not in one that it calls, and not that a text
+could not be read. Rounds go on until each edit is judged. The last line is 'wrong bodies: N passed, M failed'.
+
+--gate         takes the libraries below a crate as 'rt ci' has just left them; otherwise what changed is proved first
+--only WORD..  tries the edits of these crates, and those whose names have one of these words
+"""
+import argparse
+import glob
+import os
+import re
+import shutil
+import subprocess
+import sys
+import tempfile
+from concurrent.futures import ThreadPoolExecutor
+
+sys.dont_write_bytecode = True
+
+
+def load_kit():
+    """Returns the module of the command rt that composes the words of a check."""
+    rt = shutil.which("rt") or sys.exit("wrong.py: there is no rt on the path")
+    sys.path.insert(0, os.path.dirname(os.path.realpath(rt)))
+    import rtlib
+
+    return rtlib
+
+
+KIT = load_kit()
+
+
+def read(file):
+    with open(file, encoding="utf-8") as text:
+        return text.read()
+
+
+class Edit:
+    """A wrong body, as its file tells it."""
+
+    def __init__(self, file):
+        self.crate, self.name = file.split("/")[-3], os.path.basename(file).removesuffix(".edit")
+        self.function, self.pairs = None, []
+        # the functions beside whose edits it is not tried, and whether it is tried beside none
+        self.apart_from, self.is_alone = set(), False
+        path = old = None
+        for line in read(file).splitlines():
+            word, _, text = line.partition(":")
+            if word == "file":
+                path = text.strip()
+            elif word == "refused":
+                self.function = text.strip()
+            elif word == "old":
+                old = text.removeprefix(" ")
+            elif word == "new":
+                self.pairs.append((path, old, text.removeprefix(" ")))
+
+    def fault(self, folder):
+        """Returns what keeps it from being tried on the crate in this folder, or None."""
+        if not self.function:
+            return "it has no line 'refused:'"
+        if not self.pairs or any(not path or not old for path, old, _ in self.pairs):
+            return "its lines are not 'file:', and then pairs of 'old:' and 'new:'"
+        for path in {path for path, _, _ in self.pairs}:
+            if os.path.normpath(path) != path or not path.startswith("src/") or not os.path.isfile(f"{folder}/{path}"):
+                return f"there is no file {path} of code"
+        return self.edited(folder)[1]
+
+    def edited(self, folder):
+        """Returns the edited texts by their path, and why there are none where an old text doesn't stand there once."""
+        texts = {}
+        for path, old, new in self.pairs:
+            text = texts.get(path) or read(f"{folder}/{path}")
+            if text.count(old) != 1:
+                return None, f"its old text stands in {path} {text.count(old)} times, and not once"
+            texts[path] = text.replace(old, new)
+        return texts, None
+
+    def stays_inside(self, folder):
+        """Whether each old text lies below the name of its function, so that it can turn no other."""
+        own = self.function.rpartition("::")[2]
+        for path, old, _ in self.pairs:
+            text = read(f"{folder}/{path}")
+            above = re.findall(r"\b(?:fn|const) (\w+)", text[: text.find(old) + len(old)])
+            if above[-1:] != [own]:
+                return False
+        return True
+
+
+class Found:
+    """What a check said of a copy of a crate with some edits in it."""
+
+    def __init__(self, crate, said):
+        self.lines = said.splitlines()
+        self.told = dict(re.findall(rf"^fn {crate}::(\S+): (.*)$", said, re.M))
+        self.has_ended = bool(re.search(r"^only=\d+ proved=\d+$", said, re.M))
+        self.at_fault = {name for name, what in self.told.items() if re.match(r"not proved|no proof", what) and "it calls" not in what}
+
+    def unread(self, paths):
+        """Returns a line that tells that the code in one of these files could not be read, or None."""
+        for line in self.lines:
+            at = re.match(r"(?:\./)?(src/\S+?):\d+:\d+: error: (`[^`]*`: )?(.*)", line)
+            told = at and (not at[2] or re.search(r"is not in scope|has no field|is no name|operand is missing|expected the end|cannot continue", at[3]))
+            if told and at[1] in paths:
+                return line
+        return None
+
+    def names_what_is_gone(self, function):
+        """Whether the function's proof fails only because it names what the edit took away."""
+        own = rf"(?:\./)?proofs/{re.escape(function.replace('::', '/'))}/\w+\.antt:\d+:\d+: error: (.*)"
+        errors = [at[1] for at in (re.match(own, line) for line in self.lines) if at]
+        return bool(errors) and all(re.search(r"has no field|is not in scope|has no `|was not admitted", it) for it in errors)
+
+    def complaint(self):
+        return next((it for it in self.lines if "error" in it), (self.lines or ["the check said nothing"])[-1])
+
+
+class Trial:
+    """The wrong bodies of one crate, tried in rounds on one copy of it."""
+
+    def __init__(self, crate, edits, room):
+        self.crate, self.left, self.room, self.kept = crate, edits, room, f"{room}/kept"
+        self.passed = self.failed = 0
+        if os.path.isdir(f"{crate.folder}/out/incremental"):
+            shutil.copytree(f"{crate.folder}/out/incremental", self.kept)
+
+    def run(self):
+        for edit in list(self.left):
+            if fault := edit.fault(self.crate.folder):
+                self.judge(edit, f"BAD EDIT: {fault}")
+            elif not edit.stays_inside(self.crate.folder):
+                edit.is_alone = True
+        while self.left:
+            taken = self.lay_round()
+            found = self.check(taken)
+            for edit in taken:
+                self.look_at(edit, found, len(taken) == 1)
+        return self
+
+    def judge(self, edit, why_not, told=""):
+        self.left.remove(edit)
+        self.passed, self.failed = self.passed + (not why_not), self.failed + bool(why_not)
+        print(f"wrong {self.crate.name}/{edit.name}: {why_not or told}", flush=True)
+
+    def lay_round(self):
+        """Lays a copy of the crate with as many of the edits that are left as can be tried beside one another, and returns those."""
+        for part in KIT.PARTS:
+            shutil.rmtree(f"{self.room}/{part}", ignore_errors=True)
+            if os.path.isdir(f"{self.crate.folder}/{part}"):
+                shutil.copytree(f"{self.crate.folder}/{part}", f"{self.room}/{part}")
+        taken = []
+        for edit in self.left:
+            texts, _ = edit.edited(self.room)
+            if texts and all(self.can_stand_beside(edit, other) for other in taken):
+                taken.append(edit)
+                for path, text in texts.items():
+                    with open(f"{self.room}/{path}", "w", encoding="utf-8") as out:
+                        out.write(text)
+        return taken
+
+    def can_stand_beside(self, edit, other):
+        is_apart = edit.function in other.apart_from or other.function in edit.apart_from
+        return not is_apart and edit.function != other.function and not edit.is_alone and not other.is_alone
+
+    def check(self, taken):
+        words = [KIT.RATTLE, "check", *self.crate.words(["--jobs", "1"], keeps=False), "--incremental", self.kept]
+        for edit in taken:
+            words += ["--only", edit.function]
+        how = {"stdin": subprocess.DEVNULL, "stdout": subprocess.PIPE, "stderr": subprocess.STDOUT, "errors": "replace"}
+        return Found(self.crate.name, subprocess.run([*KIT.guarded(), *words], cwd=self.room, **how).stdout)
+
+    def look_at(self, edit, found, is_alone):
+        """Judges the edit by what a check found. Where that may be another edit's doing, it is left for a later round."""
+        own, unread = edit.function, found.unread({path for path, _, _ in edit.pairs})
+        is_judged = found.has_ended and not unread and (own in found.at_fault or found.told.get(own) == "proved")
+        if not is_judged and not is_alone:
+            edit.apart_from |= found.at_fault - {own}
+            edit.is_alone = not found.has_ended or bool(unread) or not edit.apart_from
+        elif not found.has_ended:
+            self.judge(edit, f"BAD EDIT: it did not reach the prover: {found.complaint()[:200]}")
+        elif unread:
+            self.judge(edit, f"BAD EDIT: the prover cannot read the edited text: {unread[:200]}")
+        elif own not in found.at_fault:
+            others = f", but at {', '.join(sorted(found.at_fault))}" if found.at_fault and is_alone else ""
+            self.judge(edit, f"NOT REFUSED at {own}{others}")
+        elif found.names_what_is_gone(own):
+            self.judge(edit, f"NOT REFUSED at a goal of {own}: its proof names what the edit took away")
+        else:
+            self.judge(edit, None, f"refused at {own}")
+
+
+def edits_by_crate(root, words):
+    """Returns the edits that the words name, all where there are none, by their crate."""
+    found = {}
+    for file in sorted(glob.glob(f"{root}/crates/*/wrong/*.edit")):
+        edit = Edit(file)
+        if not words or any(it == edit.crate or it in edit.name for it in words):
+            found.setdefault(edit.crate, []).append(edit)
+    return found
+
+
+def has_libraries(crates, is_gate):
+    """Whether the libraries below these crates are proved. Those that 'rt ci' left have no stamp."""
+    for library in dict.fromkeys(it for crate in crates for it in crate.below()):
+        is_left = is_gate and os.path.isdir(library.rlib) and not os.path.isfile(f"{library.folder}/out/rlib/stamp")
+        if not is_left and library.build_rlib(["--jobs", str(processors())], anew=False):
+            return False
+    return True
+
+
+def processors():
+    return len(os.sched_getaffinity(0))
+
+
+def try_crate(crate, edits):
+    with tempfile.TemporaryDirectory(prefix="wrong-") as room:
+        return Trial(crate, edits, room).run()
+
+
+def main():
+    parser = argparse.ArgumentParser(description=__doc__, formatter_class=argparse.RawDescriptionHelpFormatter)
+    parser.add_argument("--gate", action="store_true")
+    parser.add_argument("--only", nargs="+", default=[], metavar="WORD")
+    asked = parser.parse_args()
+    root = os.path.dirname(os.path.dirname(os.path.realpath(__file__)))
+    os.chdir(root)
+    edits = edits_by_crate(root, asked.only)
+    crates = sorted((it for it in KIT.crates_below(root) if it.name in edits), key=lambda it: -len(edits[it.name]))
+    # its first call sets a signal's handler, which only the main thread may
+    KIT.guarded()
+    passed, failed = 0, sum(map(len, edits.values()))
+    if has_libraries(crates, asked.gate):
+        with ThreadPoolExecutor(processors()) as pool:
+            done = list(pool.map(lambda it: try_crate(it, edits[it.name]), crates))
+        passed, failed = sum(it.passed for it in done), sum(it.failed for it in done)
+    print(f"wrong bodies: {passed} passed, {failed} failed")
+    return 1 if failed else 0
+
+
+if __name__ == "__main__":
+    sys.exit(main())
