@@ -2,7 +2,7 @@ PREFIX ?= /usr/local
 
 .PHONY: test check fmt install clean
 
-# The whole gate: every proof, test, must-fail edit and run, then each growth of memory refused in turn.
+# The whole gate: proves everything from nothing, runs all tests, and checks that wrong bodies and refused memory are told.
 test:
 	@sh .ci/test.sh
 
