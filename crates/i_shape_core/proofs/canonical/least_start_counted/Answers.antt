@@ -1,6 +1,20 @@
 use Rattle.std.proofs.Common.{◌+◌, arith}
+use Rattle.i_shape_core.proofs.Contours.{length-contour}
 use Rattle.i_shape_core.proofs.Search.{search_after, search_less, search_greater, inside, search_past, search_round}
 use Rattle.i_shape_core.proofs.canonical.least_start_counted.Goals as goal
+
+pub loop-challenger-init : goal.loop-challenger-init
+loop-challenger-init g c = record {
+  search = record {
+    long = length-contour g.I.IntNumber.value c.args.contour.now;
+    within = omega arith;
+    apart = omega arith;
+    others = λ s before within least. omega arith;
+  };
+  slow = omega arith;
+  moved = omega arith;
+  short = omega arith;
+}
 
 pub loop-challenger-preserved-in-Less : goal.loop-challenger-preserved-in-Less
 loop-challenger-preserved-in-Less g c =

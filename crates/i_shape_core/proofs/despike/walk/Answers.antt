@@ -1,6 +1,6 @@
 use Rattle.std.proofs.Common.{◌≡◌, ◌∙◌, ◌<◌, ℕ, List, map, length, sym, ap, subst, arith}
 use Rattle.std.specs.List.{All}
-use Rattle.std.proofs.lemmas.List.{length-map}
+use Rattle.std.proofs.lemmas.List.{length-map, length-append, length-drop, length-take}
 use Rattle.i_shape_core.specs.IntPoint.{contour_of}
 use Rattle.i_shape_core.specs.Point.{Point, IsBack}
 use Rattle.i_shape_core.specs.Contour.{point_at}
@@ -10,6 +10,28 @@ use Rattle.i_shape_core.specs.declared.point.IntPoint.{IntPoint}
 use Rattle.i_shape_core.proofs.Contours.{refuted, length-contour, kept-contour}
 use Rattle.i_shape_core.proofs.RingStates.{state_keeps, state_removes, state_collapses, state_ends, ends_below}
 use Rattle.i_shape_core.proofs.despike.walk.Goals as goal
+
+pub is_back_at-requires-clause-enough : goal.is_back_at-requires-clause-enough
+is_back_at-requires-clause-enough g c =
+    let whole : List Point = contour_of g.I.IntNumber.value c.args.probe.contour in
+    omega (arith, c.loop-probe.invariant.state.walk.enough, length-map c.loop-probe.ring.places (point_at whole))
+
+pub is_back_at-requires-clause-below : goal.is_back_at-requires-clause-below
+is_back_at-requires-clause-below g c =
+    let inv = c.loop-probe.invariant in
+    let whole : List Point = contour_of g.I.IntNumber.value c.args.probe.contour in
+    let long : length whole ≡ length c.loop-probe.probe.contour = length-contour g.I.IntNumber.value c.args.probe.contour ∙ ap length (sym inv.contour) in
+    subst (λ (n : ℕ). All (λ k. k < n) c.loop-probe.ring.places) long inv.state.below
+
+pub is_back_at-requires-clause-room : goal.is_back_at-requires-clause-room
+is_back_at-requires-clause-room g c =
+    grind (arith, c.loop-probe.invariant.state.at_most, length-contour g.I.IntNumber.value c.args.probe.contour)
+
+pub loop-probe-smaller-then-not-is_back_at : goal.loop-probe-smaller-then-not-is_back_at
+loop-probe-smaller-then-not-is_back_at g c =
+    let whole : List Point = contour_of g.I.IntNumber.value c.args.probe.contour in
+    let same = simp (length-append, length-drop) at (ap length c.keep.ensures.places) in
+    omega (arith, c.loop-probe.invariant.state.walk.enough, length-map c.loop-probe.ring.places (point_at whole), same, c.keep.ensures.untested)
 
 pub loop-probe-preserved-then-not-is_back_at : goal.loop-probe-preserved-then-not-is_back_at
 loop-probe-preserved-then-not-is_back_at g c =
@@ -24,6 +46,11 @@ loop-probe-preserved-then-not-is_back_at g c =
           (omega (arith, c.loop-probe-test.true, c.untested.ensures)) (refuted c.is_back_at.result test (λ h. h, λ h. h) c.if-not-is_back_at.true)
           c.keep.ensures.places c.keep.ensures.untested c.keep.ensures.lead);
     }
+
+pub loop-probe-smaller : goal.loop-probe-smaller
+loop-probe-smaller g c =
+    let shorter = simp (length-drop, length-take) at (ap length c.remove.ensures.places) in
+    omega (arith, shorter, c.remove.ensures.untested)
 
 pub loop-probe-preserved : goal.loop-probe-preserved
 loop-probe-preserved g c =

@@ -1,10 +1,11 @@
 use Rattle.std.proofs.Common.{◌≡◌, ◌-◌, ℕ, List, map, length, arith, refl, ap, subst, sym, ◌∙◌}
-use Rattle.std.proofs.lemmas.List.{length-take, length-drop, length-map}
+use Rattle.std.proofs.lemmas.List.{length-take, length-drop, length-map, length-append}
+use Rattle.i_shape_core.specs.Stack.{points_left}
 use Rattle.i_shape_core.specs.IntPoint.{contour_of}
 use Rattle.i_shape_core.specs.Contour.{End, point_at}
 use Rattle.i_shape_core.specs.Point.{Point, IsZeroTurn}
 use Rattle.i_shape_core.specs.declared.point.IntPoint.{IntPoint}
-use Rattle.i_shape_core.proofs.Contours.{kept-contour}
+use Rattle.i_shape_core.proofs.Contours.{kept-contour, length-contour}
 use Rattle.i_shape_core.proofs.Walks.{place-within, each-within, first-read, last-read, end-read}
 use Rattle.i_shape_core.proofs.simplifier.close.Goals as goal
 
@@ -28,6 +29,10 @@ is_zero_at-requires-clause-place_within g c =
 pub is_zero_at-requires-clause-next_within : goal.is_zero_at-requires-clause-next_within
 is_zero_at-requires-clause-next_within g c =
     place-within g.I.IntNumber.value _ _ c.loop-left.invariant.contour c.loop-left.left.now _ _ c.loop-left.invariant.stacked (omega arith)
+
+pub is_zero_at-requires-clause-room : goal.is_zero_at-requires-clause-room
+is_zero_at-requires-clause-room g c =
+    grind (arith, c.loop-left.invariant.most, length-contour g.I.IntNumber.value c.args.probe.contour)
 
 pub loop-left-preserved-then-is_zero_at : goal.loop-left-preserved-then-is_zero_at
 loop-left-preserved-then-is_zero_at g c =
@@ -54,6 +59,10 @@ is_zero_at-requires-else-is_zero_at-clause-place_within g c =
 pub is_zero_at-requires-else-is_zero_at-clause-next_within : goal.is_zero_at-requires-else-is_zero_at-clause-next_within
 is_zero_at-requires-else-is_zero_at-clause-next_within g c =
     place-within g.I.IntNumber.value _ _ (c.is_zero_at.ensures.contour ∙ c.loop-left.invariant.contour) c.loop-left.left.now _ _ c.loop-left.invariant.stacked (omega arith)
+
+pub is_zero_at-requires-else-is_zero_at-clause-room : goal.is_zero_at-requires-else-is_zero_at-clause-room
+is_zero_at-requires-else-is_zero_at-clause-room g c =
+    grind (arith, c.loop-left.invariant.most, c.is_zero_at.ensures.visits, length-contour g.I.IntNumber.value c.args.probe.contour)
 
 pub loop-left-preserved : goal.loop-left-preserved
 loop-left-preserved g c =
@@ -95,4 +104,16 @@ returns-else-is_zero_at-2-clause-answer g c =
       enough = omega arith;
       least = omega (arith, inv.least, c.is_zero_at.ensures.visits, c.is_zero_at-else-is_zero_at.ensures.visits);
       most = omega (arith, inv.most, c.is_zero_at.ensures.visits, c.is_zero_at-else-is_zero_at.ensures.visits);
+    }
+
+pub returns-clause-answer : goal.returns-clause-answer
+returns-clause-answer g c =
+    let inv = c.loop-left.invariant in
+    let whole : List Point = contour_of g.I.IntNumber.value c.args.probe.contour in
+    record {
+      rest = points_left whole c.loop-left.left.now (length whole);
+      reached = inv.stacked.reached;
+      few = simp (length-append, length-map, length-drop) (omega arith);
+      least = omega (arith, inv.least);
+      most = omega (arith, inv.most);
     }

@@ -1,7 +1,10 @@
-use Rattle.std.proofs.Common.{◌∷◌, subst}
+use Rattle.std.proofs.Common.{◌∷◌, subst, refl, rules}
 use Rattle.std.specs.Iterator.{Yields}
-use Rattle.i_shape_core.proofs.SummedArea.{summed-more, summed-last}
+use Rattle.i_shape_core.proofs.SummedArea.{summed-more, summed-last, wrapped-zero}
 use Rattle.i_shape_core.proofs.area.AnyUnsafeArea.unsafe_area.Goals as goal
+
+pub loop-point-init : goal.loop-point-init
+loop-point-init g c = record { here = refl; sum = wrapped-zero g.I.Wide.WideIntNumber.width _ (search rules) }
 
 pub loop-point-preserved : goal.loop-point-preserved
 loop-point-preserved g c =

@@ -1,8 +1,12 @@
-use Rattle.std.proofs.Common.{◌∙◌, ap}
+use Rattle.std.proofs.Common.{◌∙◌, ap, arith}
+use Rattle.std.proofs.lemmas.Grind.{common_steps}
 use Rattle.std.specs.Slice.Iter.{iter_rest}
 use Rattle.i_shape_core.proofs.Compared.{le-tells}
 use Rattle.i_shape_core.proofs.SliceArea.{slice-area}
 use Rattle.i_shape_core.proofs.contour.RefSliceIntPointContourExtension.is_clockwise_ordered.Goals as goal
+
+pub unsafe_area-requires-clause-more : goal.unsafe_area-requires-clause-more
+unsafe_area-requires-clause-more g c = grind (arith, common_steps)
 
 pub returns : goal.returns
 returns g c =

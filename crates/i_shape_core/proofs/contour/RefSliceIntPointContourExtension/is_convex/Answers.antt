@@ -46,6 +46,12 @@ loop-point-preserved g c = record {
       c.loop-point-test.true c.point-item.is (sym c.are_same.ensures ∙ c.if-are_same.false) c.bend_of.ensures (sym c.in-Some-joined_with.ensures) c.loop-point.invariant.bending;
 }
 
+pub returns-then-changes-le2 : goal.returns-then-changes-le2
+returns-then-changes-le2 g c =
+    let over = bending_over g.I.IntNumber.value c.args.self.now.now c.loop-point.bend c.loop-point.changes c.loop-point.point-index (point_of g.I.IntNumber.value c.loop-point.behind) (point_of g.I.IntNumber.value c.loop-point.here)
+    c.loop-point-test.false c.loop-point.invariant.bending in
+    (λ t. over.0 (inl (omega arith)), λ k. search rules)
+
 pub returns-else-changes-le2 : goal.returns-else-changes-le2
 returns-else-changes-le2 g c =
     let over = bending_over g.I.IntNumber.value c.args.self.now.now c.loop-point.bend c.loop-point.changes c.loop-point.point-index (point_of g.I.IntNumber.value c.loop-point.behind) (point_of g.I.IntNumber.value c.loop-point.here)

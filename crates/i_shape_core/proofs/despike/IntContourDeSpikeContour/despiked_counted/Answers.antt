@@ -17,6 +17,14 @@ returns-then-len-lt3-clause-kept g c =
     let points = contour_of g.I.IntNumber.value c.args.self.now.items in
     kept_spikeless points None 0 (short_answer IsBack points (omega (arith, length-contour g.I.IntNumber.value c.args.self.now.items, c.if-len-lt3.true, c.len.ensures, c.args.self.now.ok.0)))
 
+pub returns-then-len-lt3-clause-visits : goal.returns-then-len-lt3-clause-visits
+returns-then-len-lt3-clause-visits g c =
+    record { least = omega (arith, length-contour g.I.IntNumber.value c.args.self.now.items, c.if-len-lt3.true, c.len.ensures, c.args.self.now.ok.0); most = omega arith }
+
+pub returns-in_err-ring-clause-short : goal.returns-in_err-ring-clause-short
+returns-in_err-ring-clause-short g c = λ few.
+    absurd (omega (arith, few, length-contour g.I.IntNumber.value c.args.self.now.items, c.if-len-lt3.false, c.len.ensures, c.args.self.now.ok.0))
+
 pub walk-requires : goal.walk-requires
 walk-requires g c =
     let same : c.new.result.contour ≡ c.args.self.now.items = c.new.ensures.contour ∙ c.as_slice.ensures.value in
@@ -45,3 +53,7 @@ returns-clause-safe g c =
     let same : c.new.result.contour ≡ c.args.self.now.items = c.new.ensures.contour ∙ c.as_slice.ensures.value in
     IfOk-weaker c.walk.result _ _ (λ r w. all_answered IsBack (IsSafe g.I.IntNumber.width) (λ kept. contour_of g.I.IntNumber.value kept.items) points r.0 r.1 w c.requires)
     (rw same at c.walk.ensures.answer)
+
+pub returns-clause-short : goal.returns-clause-short
+returns-clause-short g c = λ few.
+    absurd (omega (arith, few, length-contour g.I.IntNumber.value c.args.self.now.items, c.if-len-lt3.false, c.len.ensures, c.args.self.now.ok.0))

@@ -1,6 +1,12 @@
-use Rattle.std.proofs.Common.{arith}
+use Rattle.std.proofs.Common.{arith, rules, take_all}
 use Rattle.i_shape_core.proofs.Contours.{kept-more}
 use Rattle.i_shape_core.proofs.probe.Probe.keep.Goals as goal
+
+pub offset_bounds-self-inside-index : goal.offset_bounds-self-inside-index
+offset_bounds-self-inside-index g c = search (rules, rw (← c.self.view_is) at (c.requires c.loop-index.index-index 0 c.loop-index-test.true))
+
+pub bounds-self-inside-index : goal.bounds-self-inside-index
+bounds-self-inside-index g c = rw (← c.self.view_is) at (c.requires c.loop-index.index-index 0 c.loop-index-test.true)
 
 pub loop-index-preserved : goal.loop-index-preserved
 loop-index-preserved g c =
@@ -12,3 +18,6 @@ loop-index-preserved g c =
       len = omega (arith, c.loop-index.invariant.len);
       room = omega (arith, c.loop-index.invariant.room, c.push_reserved.ensures.capacity);
     }
+
+pub returns-clause-points : goal.returns-clause-points
+returns-clause-points g c = rw (← c.self.view_is) (rw (take_all c.loop-index.index-index c.args.indices.now (omega arith)) at c.loop-index.invariant.points)

@@ -1,9 +1,13 @@
 use Rattle.std.proofs.Common.{◌∙◌, rules, refl, sym, ap, arith}
 use Rattle.i_shape_core.specs.Point.{cross_of}
 use Rattle.i_shape_core.specs.IntPoint.{point_of}
-use Rattle.i_shape_core.proofs.Contours.{read-safe, rest-read, rest-none}
+use Rattle.i_shape_core.proofs.Contours.{read-safe, rest-read, rest-none, length-contour}
 use Rattle.i_shape_core.proofs.LastEdge.{start-read, walking-on, walking-stop, walking-end, zero-told}
 use Rattle.i_shape_core.proofs.simple.RefSliceIntPointSimpleContour.is_simple.Goals as goal
+
+pub returns-then-points-lt3 : goal.returns-then-points-lt3
+returns-then-points-lt3 g c =
+    (λ t. absurd (cc), λ s. absurd (omega (arith, s.enough, length-contour g.I.IntNumber.value c.args.self.now.now)))
 
 pub sub-edge-requires : goal.sub-edge-requires
 sub-edge-requires g c =

@@ -1,7 +1,14 @@
+use Rattle.std.proofs.Common.{arith}
 use Rattle.i_shape_core.specs.IntPoint.{IsSafe}
+use Rattle.i_shape_core.proofs.Contours.{length-contour}
 use Rattle.i_shape_core.proofs.Rotations.{all_turned}
 use Rattle.i_shape_core.proofs.RotatedEdges.{kept_by_rotation}
 use Rattle.i_shape_core.proofs.simplifier.ContourSimplifier.canonical.Goals as goal
+
+pub turn_to_least-requires : goal.turn_to_least-requires
+turn_to_least-requires g c =
+    let answer = rw c.in-Some.is at c.in_ok-kept.ensures.answer in
+    omega (arith, answer.enough, length-contour g.I.IntNumber.value c.in-Some.kept.items, c.in-Some.kept.ok.0)
 
 pub returns-clause-kept : goal.returns-clause-kept
 returns-clause-kept g c = kept_by_rotation _ _ _ (rw c.in-Some.is at c.in_ok-kept.ensures.kept) c.turn_to_least.ensures.rotation

@@ -16,6 +16,10 @@ returns-then-contour-lt3-clause-kept g c =
     let points = contour_of g.I.IntNumber.value c.before.args.contour.now in
     kept_answer points None 0 (short_answer IsZeroTurn points (omega (arith, length-contour g.I.IntNumber.value c.before.args.contour.now)))
 
+pub returns-then-contour-lt3-clause-visits : goal.returns-then-contour-lt3-clause-visits
+returns-then-contour-lt3-clause-visits g c =
+    record { least = omega (arith, length-contour g.I.IntNumber.value c.before.args.contour.now); most = omega arith }
+
 pub returns-clause-answer : goal.returns-clause-answer
 returns-clause-answer g c =
     let same : c.stack_places-probe.result.contour ≡ c.args.contour.now = c.stack_places-probe.ensures.contour ∙ c.new.ensures.contour in

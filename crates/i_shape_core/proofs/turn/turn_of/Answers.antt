@@ -1,0 +1,20 @@
+use Rattle.std.proofs.Common.{rules, arith}
+use Rattle.std.proofs.lemmas.Grind.{common_steps}
+use Rattle.i_shape_core.specs.Point.{cross, dot}
+use Rattle.i_shape_core.proofs.turn.turn_of.Goals as goal
+
+pub dot_product-requires : goal.dot_product-requires
+unfolding cross dot
+dot_product-requires g c = grind (arith, common_steps, g.met.I.IntNumber, g.met.I.Wide.WideIntNumber)
+
+pub returns-then-ne : goal.returns-then-ne
+unfolding cross dot
+returns-then-ne g c = search rules
+
+pub returns-then-gt : goal.returns-then-gt
+unfolding cross dot
+returns-then-gt g c = grind (arith, common_steps, g.met.I.IntNumber, g.met.I.Wide.WideIntNumber)
+
+pub returns-else-gt : goal.returns-else-gt
+unfolding cross dot
+returns-else-gt g c = grind (arith, common_steps, g.met.I.IntNumber, g.met.I.Wide.WideIntNumber)
