@@ -12,7 +12,7 @@ pub use Rattle.i_shape_core.specs.Refusals
 pub use Rattle.i_shape_core.specs.Canonical
 pub use Rattle.i_shape_source.specs.LentPaths
 pub use Rattle.i_shape_source.specs.Paths
-pub use Rattle.i_shape_source.specs.SafePaths
+pub use Rattle.i_shape_source.specs.ShapeLists
 pub mod Flat
 pub mod ContoursBuffer
 pub mod Lending
@@ -20,7 +20,6 @@ pub mod ShapesBuffer
 pub mod LentRanges
 pub mod FloatBuffers
 pub mod Survivors
-pub mod ShapeLists
 pub mod ShapeAnswers
 pub mod InPlace
 pub mod IntPoints

@@ -1,11 +1,14 @@
 //! What a list may hold to be a resource of paths.
-ghost use Rattle.std.specs.Prelude.{◌≡◌, List, [], ◌∷◌, ⊤};
+ghost use Rattle.std.specs.Prelude.{◌≡◌, ◌↔◌, List, [], ◌∷◌, ⊤};
+ghost use Rattle.std.specs.List.{All};
 ghost use Rattle.std.specs.Iterator.{IsFinite};
 ghost use Rattle.std.specs.Iterator.Adapters.{copied_source};
 ghost use Rattle.std.specs.Slice.Iter.{iter_rest};
 ghost use Rattle.i_shape_core.specs.declared.point.IntPoint.{IntPoint};
+ghost use Rattle.i_shape_core.specs.IntPoint.{contour_of, IsSafe};
 ghost use Rattle.i_shape_source.specs.LentPaths.{LendsExactly, RunsThrough};
 ghost use Rattle.i_shape_source.specs.Paths.{paths_of_shape, paths_of_shapes, paths_of_slices};
+ghost use Rattle.i_shape_source.specs.ShapeLists.{shape_of, shapes_of, IsSafeShape, IsSafeList, AreSafePaths};
 
 use crate::iterators::{
     ContourResourceIterator, ShapeResourceIterator, ShapesResourceIterator, lend_slices,
@@ -23,6 +26,9 @@ pub trait IntResourceMember<'a, I: IntNumber + 'a>: Sized + 'a {
     /// The paths of a list of members, in storage order.
     ghost member_paths: { List Self → List (List (IntPoint I)) };
 
+    /// That each point of each path is safe, in the words of the calls that ask for it.
+    ghost safe: { List Self → Type 0 };
+
     /// What is known of the iterator at first.
     ghost begins: { List Self → Self.MemberIter → Type 0 } = { λ _ _. ⊤ };
 
@@ -32,13 +38,16 @@ pub trait IntResourceMember<'a, I: IntNumber + 'a>: Sized + 'a {
         ensures begins { begins members.now result }
         ensures ends { IsFinite (Self.MemberIter.remaining result) }
         ensures lends { LendsExactly Self.MemberIter.next_gives result (member_paths members.now) }
-        ensures runs { RunsThrough Self.MemberIter.next_gives result (member_paths members.now) };
+        ensures runs { RunsThrough Self.MemberIter.next_gives result (member_paths members.now) }
+        ensures safe { AreSafePaths I.width I.value (member_paths members.now) ↔ safe members.now };
 }
 
 impl<'a, I: IntNumber + 'a> IntResourceMember<'a, I> for IntPoint<I> {
     type MemberIter = ContourResourceIterator<'a, IntPoint<I>>;
 
     ghost member_paths = { λ points. points ∷ [] };
+
+    ghost safe = { λ points. All (IsSafe I.width) (contour_of I.value points) };
 
     ghost begins = { λ points iter. iter ≡ points ∷ [] };
 
@@ -52,6 +61,8 @@ impl<'a, I: IntNumber + 'a> IntResourceMember<'a, I> for Vec<IntPoint<I>> {
 
     ghost member_paths = { paths_of_shape };
 
+    ghost safe = { λ shape. IsSafeShape I.width (shape_of I.value shape) };
+
     ghost begins = { λ shape iter. iter ≡ paths_of_shape shape };
 
     fn lend(members: &'a [Vec<IntPoint<I>>]) -> ShapeResourceIterator<'a, IntPoint<I>> {
@@ -64,6 +75,8 @@ impl<'a, I: IntNumber + 'a> IntResourceMember<'a, I> for &'a [IntPoint<I>] {
 
     ghost member_paths = { paths_of_slices };
 
+    ghost safe = { λ slices. AreSafePaths I.width I.value (paths_of_slices slices) };
+
     ghost begins = { λ slices iter. iter_rest (copied_source iter) ≡ slices };
 
     fn lend(members: &'a [&'a [IntPoint<I>]]) -> Copied<Iter<'a, &'a [IntPoint<I>]>> {
@@ -75,6 +88,8 @@ impl<'a, I: IntNumber + 'a> IntResourceMember<'a, I> for Vec<Vec<IntPoint<I>>> {
     type MemberIter = ShapesResourceIterator<'a, IntPoint<I>>;
 
     ghost member_paths = { paths_of_shapes };
+
+    ghost safe = { λ shapes. IsSafeList I.width (shapes_of I.value shapes) };
 
     ghost begins = { λ shapes iter. iter ≡ paths_of_shapes shapes };
 

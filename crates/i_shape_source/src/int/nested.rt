@@ -10,6 +10,8 @@ impl<'a, I: IntNumber + 'a, T: IntResourceMember<'a, I>> IntShapeResource<'a, I>
 
     ghost paths = { λ members. T.member_paths members.now };
 
+    ghost safe = { λ members. T.safe members.now };
+
     ghost begins = { λ members iter. T.begins members.now iter };
 
     fn iter_paths(self) -> T::MemberIter {
@@ -22,6 +24,8 @@ impl<'a, I: IntNumber + 'a, T: IntResourceMember<'a, I>> IntShapeResource<'a, I>
 
     ghost paths = { λ members. T.member_paths members.now.now };
 
+    ghost safe = { λ members. T.safe members.now.now };
+
     ghost begins = { λ members iter. T.begins members.now.now iter };
 
     fn iter_paths(self) -> T::MemberIter {
@@ -33,6 +37,8 @@ impl<'a, I: IntNumber + 'a, T: IntResourceMember<'a, I>> IntShapeResource<'a, I>
     type ResourceIter = T::MemberIter;
 
     ghost paths = { λ members. T.member_paths members.now.items };
+
+    ghost safe = { λ members. T.safe members.now.items };
 
     ghost begins = { λ members iter. T.begins members.now.items iter };
 
@@ -47,6 +53,8 @@ impl<'a, I: IntNumber + 'a, T: IntResourceMember<'a, I>> IntShapeResource<'a, I>
 
     ghost paths = { λ members. T.member_paths members.now.now.items };
 
+    ghost safe = { λ members. T.safe members.now.now.items };
+
     ghost begins = { λ members iter. T.begins members.now.now.items iter };
 
     fn iter_paths(self) -> T::MemberIter {
@@ -60,6 +68,8 @@ impl<'a, I: IntNumber + 'a, T: IntResourceMember<'a, I>, const N: usize> IntShap
 
     ghost paths = { λ members. T.member_paths members.now };
 
+    ghost safe = { λ members. T.safe members.now };
+
     ghost begins = { λ members iter. T.begins members.now iter };
 
     fn iter_paths(self) -> T::MemberIter {
@@ -72,6 +82,8 @@ impl<'a, I: IntNumber + 'a, T: IntResourceMember<'a, I>, const N: usize> IntShap
     type ResourceIter = T::MemberIter;
 
     ghost paths = { λ members. T.member_paths members.now.now };
+
+    ghost safe = { λ members. T.safe members.now.now };
 
     ghost begins = { λ members iter. T.begins members.now.now iter };
 

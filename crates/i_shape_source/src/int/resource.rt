@@ -1,8 +1,9 @@
 //! Resources of whole-number paths.
-ghost use Rattle.std.specs.Prelude.{List, ⊤};
+ghost use Rattle.std.specs.Prelude.{◌↔◌, List, ⊤};
 ghost use Rattle.std.specs.Iterator.{IsFinite};
 ghost use Rattle.i_shape_core.specs.declared.point.IntPoint.{IntPoint};
 ghost use Rattle.i_shape_source.specs.LentPaths.{LendsExactly, RunsThrough};
+ghost use Rattle.i_shape_source.specs.ShapeLists.{AreSafePaths};
 
 use i_shape_core::number::IntNumber;
 use i_shape_core::point::IntPoint;
@@ -17,6 +18,9 @@ pub trait IntShapeResource<'a, I: IntNumber + 'a>: Sized {
     /// The paths, in storage order.
     ghost paths: { Self → List (List (IntPoint I)) };
 
+    /// That each point of each path is safe, in the words of the calls that ask for it.
+    ghost safe: { Self → Type 0 };
+
     /// What is known of the iterator at first, beside the law that `iter_paths` states.
     ghost begins: { Self → Self.ResourceIter → Type 0 } = { λ _ _. ⊤ };
 
@@ -30,5 +34,6 @@ pub trait IntShapeResource<'a, I: IntNumber + 'a>: Sized {
         ensures begins { begins self result }
         ensures ends { IsFinite (Self.ResourceIter.remaining result) }
         ensures lends { LendsExactly Self.ResourceIter.next_gives result (paths self) }
-        ensures runs { RunsThrough Self.ResourceIter.next_gives result (paths self) };
+        ensures runs { RunsThrough Self.ResourceIter.next_gives result (paths self) }
+        ensures safe { AreSafePaths I.width I.value (paths self) ↔ safe self };
 }

@@ -1,6 +1,6 @@
 //! The safe-range test of a resource.
-ghost use Rattle.std.specs.Prelude.{◌↔◌, IsTrue};
-ghost use Rattle.i_shape_source.specs.SafePaths.{IsSafePath, AreSafePaths};
+ghost use Rattle.std.specs.Prelude.{◌↔◌, [], ◌∷◌, IsTrue};
+ghost use Rattle.i_shape_source.specs.ShapeLists.{AreSafePaths};
 
 use crate::int::resource::IntShapeResource;
 use i_shape_core::number::IntNumber;
@@ -13,7 +13,8 @@ pub trait IntSafeRange<'a, I: IntNumber + 'a>: IntShapeResource<'a, I> + Copy {
     /// A resource without points is safe.
     fn is_in_safe_range(self) -> bool
         requires { Self.can_read self }
-        ensures { IsTrue result ↔ AreSafePaths I.width I.value (Self.paths self) };
+        ensures safe { IsTrue result ↔ Self.safe self }
+        ensures paths { IsTrue result ↔ AreSafePaths I.width I.value (Self.paths self) };
 }
 
 impl<'a, I: IntNumber + 'a, R: IntShapeResource<'a, I> + Copy> IntSafeRange<'a, I> for R {
@@ -23,7 +24,7 @@ impl<'a, I: IntNumber + 'a, R: IntShapeResource<'a, I> + Copy> IntSafeRange<'a, 
 }
 
 fn is_safe_path<I: IntNumber>(path: &[IntPoint<I>]) -> bool
-    ensures { IsTrue result ↔ IsSafePath I.width I.value path.now }
+    ensures { IsTrue result ↔ AreSafePaths I.width I.value (path.now ∷ []) }
 {
     path.iter().all(|point| point.is_in_safe_range())
 }

@@ -6,7 +6,9 @@ ghost use Rattle.std.specs.Iterator.{at_most, UpTo};
 ghost use Rattle.std.specs.Iterator.SizeHint.{IsWithinCount};
 ghost use Rattle.std.specs.Map.Iter.{TakesFirst, deref};
 ghost use Rattle.i_shape_source.specs.LentPaths.{LendsExactly, RunsThrough};
+ghost use Rattle.i_shape.specs.ShapeLists.{IsSafeShape, AreSafePaths};
 ghost use Rattle.i_shape.specs.Flat.{InOrder, slices};
+ghost use Rattle.i_shape.specs.Compact.{contours_in};
 
 use crate::flat::buffer::{FlatContoursBuffer, FlatShapesBuffer};
 use i_shape_core::number::IntNumber;
@@ -82,6 +84,8 @@ impl<'a, I: IntNumber + 'a> IntShapeResource<'a, I> for &'a FlatContoursBuffer<I
 
     ghost paths = { λ buffer. slices buffer.now.points.items buffer.now.ranges.items };
 
+    ghost safe = { λ buffer. IsSafeShape I.width (contours_in I.value buffer.now) };
+
     ghost begins = { λ buffer iter. iter ≡ slices buffer.now.points.items buffer.now.ranges.items };
 
     ghost can_read = { λ buffer. All (InOrder (length buffer.now.points.items)) buffer.now.ranges.items };
@@ -95,6 +99,8 @@ impl<'a, I: IntNumber + 'a> IntShapeResource<'a, I> for &'a &'a FlatContoursBuff
     type ResourceIter = IntBufferResourceIterator<'a, I>;
 
     ghost paths = { λ buffer. slices buffer.now.now.points.items buffer.now.now.ranges.items };
+
+    ghost safe = { λ buffer. IsSafeShape I.width (contours_in I.value buffer.now.now) };
 
     ghost begins = { λ buffer iter. iter ≡ slices buffer.now.now.points.items buffer.now.now.ranges.items };
 
@@ -111,6 +117,8 @@ impl<'a, I: IntNumber + 'a> IntShapeResource<'a, I> for &'a FlatShapesBuffer<I> 
 
     ghost paths = { λ buffer. slices buffer.now.points.items buffer.now.contour_ranges.items };
 
+    ghost safe = { λ buffer. AreSafePaths I.width I.value (slices buffer.now.points.items buffer.now.contour_ranges.items) };
+
     ghost begins = { λ buffer iter. iter ≡ slices buffer.now.points.items buffer.now.contour_ranges.items };
 
     ghost can_read = { λ buffer. All (InOrder (length buffer.now.points.items)) buffer.now.contour_ranges.items };
@@ -125,6 +133,8 @@ impl<'a, I: IntNumber + 'a> IntShapeResource<'a, I> for &'a &'a FlatShapesBuffer
     type ResourceIter = IntBufferResourceIterator<'a, I>;
 
     ghost paths = { λ buffer. slices buffer.now.now.points.items buffer.now.now.contour_ranges.items };
+
+    ghost safe = { λ buffer. AreSafePaths I.width I.value (slices buffer.now.now.points.items buffer.now.now.contour_ranges.items) };
 
     ghost begins = { λ buffer iter. iter ≡ slices buffer.now.now.points.items buffer.now.now.contour_ranges.items };
 

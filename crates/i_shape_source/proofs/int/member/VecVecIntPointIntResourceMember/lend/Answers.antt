@@ -1,0 +1,5 @@
+use Rattle.i_shape_source.proofs.SafePaths.{safe_list}
+use Rattle.i_shape_source.proofs.int.member.VecVecIntPointIntResourceMember.lend.Goals as goal
+
+pub returns-clause-safe : goal.returns-clause-safe
+returns-clause-safe g c = safe_list g.I.IntNumber.width g.I.IntNumber.value c.args.members.now
