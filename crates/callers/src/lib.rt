@@ -5,5 +5,3 @@ pub mod consumer;
 pub mod corners;
 pub mod pipeline;
 pub mod store;
-#[cfg(test)]
-mod tests;

@@ -1,3 +1,4 @@
 pub mod GivenLemmas
 pub mod GivenShapes
 pub mod FilledLemmas
+pub mod SafeContours

@@ -4,6 +4,7 @@ ghost use Rattle.i_shape.specs.IntPoint.{contour_of};
 ghost use Rattle.i_shape.specs.ShapeLists.{shape_of};
 ghost use Rattle.i_shape.specs.ShapeAreas.{HasPoints};
 
+use crate::claims::{equal, holds};
 use crate::given::{squares, thousands};
 use i_shape::IntNumber;
 use i_shape::int::IntPoint;
@@ -48,67 +49,131 @@ fn shape<I: IntNumber>(
 fn has_areas<I: IntNumber>(
     rt: &impl Abort,
     alloc: Global,
+    name: &str,
     points: &[[I; 2]],
-    two: I::Wide,
-    half: I::Wide,
+    [two, half]: [I::Wide; 2],
 ) -> Result<(), Fail> {
     let given = contour(rt, alloc, points)?;
-    assert!(rt; given.as_slice().area_two() == two);
-    assert!(rt; given.as_slice().area() == half);
-    assert!(rt; given.iter().copied().unsafe_area() == two);
-    assert!(rt; IteratorArea::area_two(given.iter().copied()) == two);
-    assert!(rt; IteratorArea::area(given.iter().copied()) == half);
+    let slice = given.as_slice();
+    holds(rt, slice.area_two() == two, name, "double area");
+    holds(rt, slice.area() == half, name, "area");
+    let sum = given.iter().copied().unsafe_area();
+    holds(rt, sum == two, name, "double area of an iterator, summed");
+    let sum = IteratorArea::area_two(given.iter().copied());
+    holds(rt, sum == two, name, "double area of an iterator");
+    let sum = IteratorArea::area(given.iter().copied());
+    holds(rt, sum == half, name, "area of an iterator");
     Ok(())
 }
+
+/// A name, points, and the double area and its half.
+type Measured = (&'static str, &'static [[i32; 2]], [i64; 2]);
+
+const K: i32 = 104857600;
+
+const MEASURED: [Measured; 15] = [
+    (
+        "anticlockwise square",
+        &[[0, 0], [10, 0], [10, 10], [0, 10]],
+        [200, 100],
+    ),
+    (
+        "clockwise square",
+        &[[0, 10], [10, 10], [10, 0], [0, 0]],
+        [-200, -100],
+    ),
+    (
+        "square about zero",
+        &[[-1, -1], [1, -1], [1, 1], [-1, 1]],
+        [8, 4],
+    ),
+    ("odd double area", &[[0, 0], [1, 0], [0, 1]], [1, 0]),
+    (
+        "odd double area, clockwise",
+        &[[0, 1], [1, 0], [0, 0]],
+        [-1, 0],
+    ),
+    (
+        "unit square, clockwise",
+        &[[0, 0], [0, 1], [1, 1], [1, 0]],
+        [-2, -1],
+    ),
+    (
+        "unit square from another start",
+        &[[1, 0], [1, 1], [0, 1], [0, 0]],
+        [2, 1],
+    ),
+    (
+        "a spike on an edge",
+        &[[0, 0], [8, 0], [4, 0], [6, 0], [6, 4], [0, 4]],
+        [48, 24],
+    ),
+    (
+        "the same without its spike",
+        &[[0, 0], [6, 0], [6, 4], [0, 4]],
+        [48, 24],
+    ),
+    (
+        "spikes within spikes",
+        &[
+            [0, 0],
+            [10, 0],
+            [2, 0],
+            [8, 0],
+            [4, 0],
+            [6, 0],
+            [6, 6],
+            [0, 6],
+        ],
+        [72, 36],
+    ),
+    (
+        "straight ways in their place",
+        &[[0, 0], [2, 0], [4, 0], [6, 0], [6, 6], [0, 6]],
+        [72, 36],
+    ),
+    (
+        "one edge in their place",
+        &[[0, 0], [6, 0], [6, 6], [0, 6]],
+        [72, 36],
+    ),
+    (
+        "a point beyond the safe range",
+        &[[1073741824, 0], [0, 0], [0, 1]],
+        [-1073741824, -536870912],
+    ),
+    ("one point", &[[-2147483648, 0]], [0, 0]),
+    (
+        "an octagon of large coordinates",
+        &[
+            [-3 * K, 2 * K],
+            [-3 * K, -2 * K],
+            [-2 * K, -3 * K],
+            [2 * K, -3 * K],
+            [3 * K, -2 * K],
+            [3 * K, 2 * K],
+            [2 * K, 3 * K],
+            [-2 * K, 3 * K],
+        ],
+        [747667906887680000, 373833953443840000],
+    ),
+];
 
 #[test]
 fn double_area_and_its_half(rt: HostRuntime) -> Result<(), Fail> {
     let alloc = rt.alloc();
-    for (points, two, half) in [
-        ([[0, 0], [10, 0], [10, 10], [0, 10]].as_slice(), 200, 100),
-        ([[0, 10], [10, 10], [10, 0], [0, 0]].as_slice(), -200, -100),
-        ([[-1, -1], [1, -1], [1, 1], [-1, 1]].as_slice(), 8, 4),
-        ([[0, 0], [1, 0], [0, 1]].as_slice(), 1, 0),
-        ([[0, 1], [1, 0], [0, 0]].as_slice(), -1, 0),
-        ([[0, 0], [0, 1], [1, 1], [1, 0]].as_slice(), -2, -1),
-        ([[1, 0], [1, 1], [0, 1], [0, 0]].as_slice(), 2, 1),
-        (
-            [[0, 0], [8, 0], [4, 0], [6, 0], [6, 4], [0, 4]].as_slice(),
-            48,
-            24,
-        ),
-        ([[0, 0], [6, 0], [6, 4], [0, 4]].as_slice(), 48, 24),
-        (
-            [
-                [0, 0],
-                [10, 0],
-                [2, 0],
-                [8, 0],
-                [4, 0],
-                [6, 0],
-                [6, 6],
-                [0, 6],
-            ]
-            .as_slice(),
-            72,
-            36,
-        ),
-        (
-            [[0, 0], [2, 0], [4, 0], [6, 0], [6, 6], [0, 6]].as_slice(),
-            72,
-            36,
-        ),
-        ([[0, 0], [6, 0], [6, 6], [0, 6]].as_slice(), 72, 36),
-        (
-            [[1073741824, 0], [0, 0], [0, 1]].as_slice(),
-            -1073741824,
-            -536870912,
-        ),
-        ([[-2147483648, 0]].as_slice(), 0, 0),
-    ] {
-        has_areas::<i32>(&rt, alloc, points, two, half)?;
+    for (name, points, areas) in MEASURED {
+        has_areas::<i32>(&rt, alloc, name, points, areas)?;
     }
-    Ok(())
+    let [line, place] = thousands(alloc)?;
+    has_areas::<i32>(&rt, alloc, "a thousand on a line", line.as_slice(), [0; 2])?;
+    has_areas::<i32>(
+        &rt,
+        alloc,
+        "a thousand at a place",
+        place.as_slice(),
+        [0; 2],
+    )
 }
 
 #[test]
@@ -119,34 +184,22 @@ fn an_advanced_iterator_sums_what_is_left(rt: HostRuntime) -> Result<(), Fail> {
         IntPoint::new(10, 10),
         IntPoint::new(0, 10),
     ];
+    let name = "a square without its first point";
     let mut points = square.as_slice().iter().copied();
     let _first = points.next();
-    assert_eq!(rt; IteratorArea::area_two(points), 100);
+    equal(
+        &rt,
+        IteratorArea::area_two(points),
+        100,
+        name,
+        "double area",
+    );
     let mut points = square.as_slice().iter().copied();
     let _first = points.next();
-    assert_eq!(rt; IteratorArea::area(points), 50);
+    equal(&rt, IteratorArea::area(points), 50, name, "area");
     let mut points = square.as_slice().iter().copied();
     let _first = points.next();
-    assert_eq!(rt; points.unsafe_area(), 100);
-    Ok(())
-}
-
-#[test]
-fn an_octagon_of_large_coordinates(rt: HostRuntime) -> Result<(), Fail> {
-    let alloc = rt.alloc();
-    let k: i32 = 104857600;
-    let octagon = [
-        [-3 * k, 2 * k],
-        [-3 * k, -2 * k],
-        [-2 * k, -3 * k],
-        [2 * k, -3 * k],
-        [3 * k, -2 * k],
-        [3 * k, 2 * k],
-        [2 * k, 3 * k],
-        [-2 * k, 3 * k],
-    ];
-    let given = contour::<i32>(&rt, alloc, octagon.as_slice())?;
-    assert_eq!(rt; given.iter().copied().unsafe_area(), 747667906887680000);
+    equal(&rt, points.unsafe_area(), 100, name, "double area, summed");
     Ok(())
 }
 
@@ -159,8 +212,8 @@ fn winds<I: IntNumber>(
     twice: [I::Wide; 2],
 ) -> Result<(), Fail> {
     let [first, second] = squares(alloc, low, high)?;
-    has_areas(rt, alloc, first.as_slice(), once[0], once[1])?;
-    has_areas(rt, alloc, second.as_slice(), twice[0], twice[1])
+    has_areas(rt, alloc, "one winding", first.as_slice(), once)?;
+    has_areas(rt, alloc, "two windings", second.as_slice(), twice)
 }
 
 #[test]
@@ -189,113 +242,90 @@ fn at_the_safe_limits_one_winding_fits_and_two_wrap(rt: HostRuntime) -> Result<(
             85070591730234615828950163710522949636,
         ],
         [-147573952589676412912, -73786976294838206456],
-    )
-}
-
-#[test]
-fn a_thousand_points_on_a_line_or_at_one_place_have_no_area(rt: HostRuntime) -> Result<(), Fail> {
-    let alloc = rt.alloc();
-    for list in &thousands(alloc)? {
-        has_areas::<i32>(&rt, alloc, list.as_slice(), 0, 0)?;
-    }
-    Ok(())
-}
-
-#[test]
-fn the_longest_slanted_edge(rt: HostRuntime) -> Result<(), Fail> {
-    let alloc = rt.alloc();
+    )?;
     let m: i16 = 16383;
-    let before = contour::<i16>(&rt, alloc, [[-m, -m], [m, m], [m, -m], [0, 0]].as_slice())?;
-    assert_eq!(rt; before.as_slice().area_two(), -536805378);
-    let after = contour::<i16>(&rt, alloc, [[m, m], [m, -m], [0, 0]].as_slice())?;
-    assert_eq!(rt; after.as_slice().area_two(), -536805378);
+    let slanted = [[-m, -m], [m, m], [m, -m], [0, 0]];
+    let areas = [-536805378, -268402689];
+    has_areas::<i16>(&rt, alloc, "the longest slanted edge", &slanted, areas)?;
+    has_areas::<i16>(&rt, alloc, "the same as one edge", &slanted[1..], areas)
+}
+
+/// The shape of these contours has this double area, and this half of it.
+fn shape_has_areas<I: IntNumber>(
+    rt: &impl Abort,
+    alloc: Global,
+    name: &str,
+    contours: &[&[[I; 2]]],
+    [two, half]: [I::Wide; 2],
+) -> Result<(), Fail> {
+    let given = shape(rt, alloc, contours)?;
+    holds(rt, given.as_slice().area_two() == two, name, "double area");
+    holds(rt, given.as_slice().area() == half, name, "area");
     Ok(())
 }
+
+const TRIANGLE: &[[i32; 2]] = &[[0, 0], [1, 0], [0, 1]];
 
 #[test]
 fn a_shape_adds_its_contours_before_it_is_halved(rt: HostRuntime) -> Result<(), Fail> {
     let alloc = rt.alloc();
-    for (contours, two, half) in [
-        (
-            [
-                [[0, 0], [10, 0], [10, 10], [0, 10]].as_slice(),
-                [[2, 2], [2, 4], [4, 4], [4, 2]].as_slice(),
-            ]
-            .as_slice(),
-            192,
-            96,
-        ),
-        (
-            [
-                [[0, 0], [1, 0], [0, 1]].as_slice(),
-                [[0, 0], [1, 0], [0, 1]].as_slice(),
-            ]
-            .as_slice(),
-            2,
-            1,
-        ),
-        ([].as_slice(), 0, 0),
-    ] {
-        let given = shape::<i32>(&rt, alloc, contours)?;
-        let two: i64 = two;
-        let half: i64 = half;
-        assert_eq!(rt; given.as_slice().area_two(), two);
-        assert_eq!(rt; given.as_slice().area(), half);
-    }
-    Ok(())
-}
-
-#[test]
-fn a_shape_at_each_width(rt: HostRuntime) -> Result<(), Fail> {
-    let alloc = rt.alloc();
+    let outer = [[0, 0], [10, 0], [10, 10], [0, 10]];
+    let hole = [[2, 2], [2, 4], [4, 4], [4, 2]];
+    shape_has_areas::<i32>(&rt, alloc, "a hole", &[&outer, &hole], [192, 96])?;
+    shape_has_areas::<i32>(&rt, alloc, "two triangles", &[TRIANGLE, TRIANGLE], [2, 1])?;
+    shape_has_areas::<i32>(&rt, alloc, "no contours", &[], [0, 0])?;
     let m: i16 = 16383;
     let narrow = [[-m, -m], [m, -m], [m, m], [-m, m]];
-    let twice = shape::<i16>(
-        &rt,
-        alloc,
-        [narrow.as_slice(), narrow.as_slice()].as_slice(),
-    )?;
-    assert_eq!(rt; twice.as_slice().area_two(), -524272);
-    assert_eq!(rt; twice.as_slice().area(), -262136);
+    let areas = [-524272, -262136];
+    shape_has_areas::<i16>(&rt, alloc, "two narrow squares", &[&narrow, &narrow], areas)?;
     let m: i64 = 4611686018427387903;
     let broad = [[-m, -m], [m, -m], [m, m], [-m, m]];
-    let twice = shape::<i64>(&rt, alloc, [broad.as_slice(), broad.as_slice()].as_slice())?;
-    assert_eq!(rt; twice.as_slice().area_two(), -147573952589676412912);
-    Ok(())
+    let areas = [-147573952589676412912, -73786976294838206456];
+    shape_has_areas::<i64>(&rt, alloc, "two broad squares", &[&broad, &broad], areas)
 }
 
 #[test]
 fn a_list_adds_its_shapes_before_it_is_halved(rt: HostRuntime) -> Result<(), Fail> {
     let alloc = rt.alloc();
-    let triangle = [[0, 0], [1, 0], [0, 1]];
-    let one = shape::<i32>(&rt, alloc, [triangle.as_slice()].as_slice())?;
-    let none = shape::<i32>(&rt, alloc, [].as_slice())?;
-    let other = shape::<i32>(&rt, alloc, [triangle.as_slice()].as_slice())?;
+    let one = shape::<i32>(&rt, alloc, &[TRIANGLE])?;
+    let none = shape::<i32>(&rt, alloc, &[])?;
+    let other = shape::<i32>(&rt, alloc, &[TRIANGLE])?;
     let list = [one, none, other];
-    assert_eq!(rt; list.as_slice().area_two(), 2);
-    assert_eq!(rt; list.as_slice().area(), 1);
+    let name = "two triangles and an empty shape";
+    equal(&rt, list.as_slice().area_two(), 2, name, "double area");
+    equal(&rt, list.as_slice().area(), 1, name, "area");
     let empty: [IntShape<i32>; 0] = [];
-    assert_eq!(rt; empty.as_slice().area_two(), 0);
-    assert_eq!(rt; empty.as_slice().area(), 0);
+    equal(
+        &rt,
+        empty.as_slice().area_two(),
+        0,
+        "no shapes",
+        "double area",
+    );
+    equal(&rt, empty.as_slice().area(), 0, "no shapes", "area");
     Ok(())
 }
 
 #[test]
 fn a_list_at_each_width(rt: HostRuntime) -> Result<(), Fail> {
     let alloc = rt.alloc();
-    let narrow = [shape::<i16>(
+    let narrow = [shape::<i16>(&rt, alloc, &[&[[0, 0], [0, 1], [1, 1], [1, 0]]])?];
+    equal(
         &rt,
-        alloc,
-        [[[0, 0], [0, 1], [1, 1], [1, 0]].as_slice()].as_slice(),
-    )?];
-    assert_eq!(rt; narrow.as_slice().area_two(), -2);
-    assert_eq!(rt; narrow.as_slice().area(), -1);
-    let broad = [shape::<i64>(
+        narrow.as_slice().area_two(),
+        -2,
+        "16 bits",
+        "double area",
+    );
+    equal(&rt, narrow.as_slice().area(), -1, "16 bits", "area");
+    let broad = [shape::<i64>(&rt, alloc, &[&[[0, 0], [0, 1], [1, 1], [1, 0]]])?];
+    equal(
         &rt,
-        alloc,
-        [[[0, 0], [0, 1], [1, 1], [1, 0]].as_slice()].as_slice(),
-    )?];
-    assert_eq!(rt; broad.as_slice().area_two(), -2);
-    assert_eq!(rt; broad.as_slice().area(), -1);
+        broad.as_slice().area_two(),
+        -2,
+        "64 bits",
+        "double area",
+    );
+    equal(&rt, broad.as_slice().area(), -1, "64 bits", "area");
     Ok(())
 }

@@ -1,66 +1,104 @@
-ghost use Rattle.std.specs.Prelude.{◌<◌, ◌↔◌, IsTrue};
-ghost use Rattle.std.specs.List.{All};
-ghost use Rattle.i_shape.specs.IntPoint.{point_of, IsSafe};
+ghost use Rattle.std.specs.Prelude.{◌<◌};
 
-use crate::given_shapes::shapes;
+use crate::callers::assert_safe;
+use crate::claims::{equal, holds};
+use crate::given_shapes::{shape, shapes};
 use i_shape::flat::buffer::{FlatContoursBuffer, FlatShapesBuffer};
 use i_shape::int::IntPoint;
 use i_shape::int::shape::{IntContour, IntShape, IntShapes};
-use i_shape::{IntNumber, ShapeError, int_path, int_shape, int_shapes, path};
+use i_shape::{IntNumber, ShapeError, int_path};
 use std::alloc::Global;
+use std::ops::Range;
 use std::process::Abort;
 use std::test::Fail;
 
-fn two_shapes(alloc: Global) -> Result<IntShapes<i32>, ShapeError> {
-    int_shapes![
-        alloc;
-        [[[0, 0], [1, 0], [1, 1]]],
-        [[[5, 5], [6, 5], [6, 6]], [[7, 7], [8, 7], [8, 8]]],
-    ]
+type Ranges = &'static [Range<usize>];
+
+type Points = &'static [IntPoint<i32>];
+
+/// A buffer of these points and ranges.
+fn flat<I: IntNumber>(
+    alloc: Global,
+    points: &[IntPoint<I>],
+    ranges: &[Range<usize>],
+) -> Result<FlatContoursBuffer<I>, ShapeError> {
+    Ok(FlatContoursBuffer {
+        points: points.to_vec(alloc)?,
+        ranges: Vec::from_clones(alloc, ranges)?,
+    })
 }
+
+/// The buffer has these ranges, and reads as these contours.
+fn reads_as_contours(
+    rt: &impl Abort,
+    alloc: Global,
+    name: &str,
+    buffer: &FlatContoursBuffer<i32>,
+    ranges: &[Range<usize>],
+    wanted: &[&[[i32; 2]]],
+) -> Result<(), Fail> {
+    holds(rt, buffer.ranges.as_slice() == ranges, name, "the ranges");
+    assert!(rt; buffer.can_read_contours(), "{name}: a range can't be read");
+    let wanted = shape(rt, alloc, wanted)?;
+    holds(rt, buffer.to_contours()? == wanted, name, "the contours");
+    Ok(())
+}
+
+/// The buffer has these ranges, and reads as these shapes.
+fn reads_as_shapes(
+    rt: &impl Abort,
+    alloc: Global,
+    name: &str,
+    buffer: &FlatShapesBuffer<i32>,
+    contours: &[Range<usize>],
+    ranges: &[Range<usize>],
+    wanted: &[&[&[[i32; 2]]]],
+) -> Result<(), Fail> {
+    let kept = buffer.contour_ranges.as_slice();
+    holds(rt, kept == contours, name, "the contour ranges");
+    let kept = buffer.shape_ranges.as_slice();
+    holds(rt, kept == ranges, name, "the shape ranges");
+    assert!(rt; buffer.can_read_shapes(), "{name}: a range can't be read");
+    let wanted = shapes(rt, alloc, wanted)?;
+    holds(rt, buffer.to_shapes()? == wanted, name, "the shapes");
+    Ok(())
+}
+
+const TWO_SHAPES: &[&[&[[i32; 2]]]] = &[
+    &[&[[0, 0], [1, 0], [1, 1]]],
+    &[&[[5, 5], [6, 5], [6, 6]], &[[7, 7], [8, 7], [8, 8]]],
+];
+
+const JOINED: &[&[[i32; 2]]] = &[
+    &[[0, 0], [1, 0], [1, 1]],
+    &[[5, 5], [6, 5], [6, 6]],
+    &[[7, 7], [8, 7], [8, 8]],
+];
 
 #[test]
 fn shapes_come_back(rt: HostRuntime) -> Result<(), Fail> {
     let alloc = rt.alloc();
-    let shapes = two_shapes(alloc)?;
+    let name = "two shapes";
+    let given = shapes(&rt, alloc, TWO_SHAPES)?;
     let mut buffer = FlatShapesBuffer::new(alloc);
-    buffer.set_with_shapes(shapes.as_slice())?;
-    assert_eq!(rt; buffer.shape_ranges.as_slice(), [0..1, 1..3].as_slice());
-    assert_eq!(rt;
-        buffer.contour_ranges.as_slice(),
-        [0..3, 3..6, 6..9].as_slice()
+    buffer.set_with_shapes(given.as_slice())?;
+    let ranges = &[0..3, 3..6, 6..9];
+    reads_as_shapes(&rt, alloc, name, &buffer, ranges, &[0..1, 1..3], TWO_SHAPES)?;
+    holds(
+        &rt,
+        buffer.can_read_contours(),
+        name,
+        "a contour can't be read",
     );
-    assert!(rt; buffer.can_read_contours());
-    assert!(rt; buffer.can_read_shapes());
-    assert_eq!(rt; buffer.to_shapes()?, shapes);
-    Ok(())
-}
-
-#[test]
-fn shapes_are_added_as_they_are_set(rt: HostRuntime) -> Result<(), Fail> {
-    let alloc = rt.alloc();
-    let shapes = two_shapes(alloc)?;
-    let mut buffer = FlatShapesBuffer::new(alloc);
-    buffer.set_with_shapes(shapes.as_slice())?;
     let mut one_by_one = FlatShapesBuffer::new(alloc);
-    for shape in &shapes {
+    for shape in &given {
         one_by_one.add_shape(shape.as_slice())?;
     }
-    assert!(rt; one_by_one == buffer);
-    Ok(())
-}
-
-#[test]
-fn shapes_are_flattened(rt: HostRuntime) -> Result<(), Fail> {
-    let alloc = rt.alloc();
-    let shapes = two_shapes(alloc)?;
+    holds(&rt, one_by_one == buffer, name, "added one by one");
     let mut contours = FlatContoursBuffer::new(alloc);
-    contours.set_with_shapes(shapes.as_slice())?;
-    assert_eq!(rt; contours.ranges.as_slice(), [0..3, 3..6, 6..9].as_slice());
-    let mut buffer = FlatShapesBuffer::new(alloc);
-    buffer.set_with_shapes(shapes.as_slice())?;
-    assert_eq!(rt; contours.points, buffer.points);
-    Ok(())
+    contours.set_with_shapes(given.as_slice())?;
+    holds(&rt, contours.points == buffer.points, name, "the points");
+    reads_as_contours(&rt, alloc, name, &contours, ranges, JOINED)
 }
 
 const CONTOUR: [IntPoint<i32>; 3] = [
@@ -69,242 +107,225 @@ const CONTOUR: [IntPoint<i32>; 3] = [
     IntPoint { x: 5, y: 6 },
 ];
 
+const HOLED: &[&[[i32; 2]]] = &[
+    &[[0, 0], [9, 0], [9, 9], [0, 9]],
+    &[[3, 3], [3, 6], [6, 6], [6, 3]],
+];
+
+const SQUARE: [IntPoint<i32>; 4] = [
+    IntPoint { x: 0, y: 0 },
+    IntPoint { x: 4, y: 0 },
+    IntPoint { x: 4, y: 4 },
+    IntPoint { x: 0, y: 4 },
+];
+
 #[test]
-fn one_contour(rt: HostRuntime) -> Result<(), Fail> {
+fn one_contour_or_shape_as_contours(rt: HostRuntime) -> Result<(), Fail> {
     let alloc = rt.alloc();
+    let name = "one contour";
     let mut buffer = FlatContoursBuffer::new(alloc);
     buffer.set_with_contour(CONTOUR.as_slice())?;
-    assert!(rt; buffer.is_single_contour());
-    assert!(rt; !buffer.is_empty());
-    assert!(rt; buffer.can_read_contours());
-    let kept = buffer.to_contours()?;
-    assert_eq!(rt; kept.len(), 1);
-    assert_eq!(rt; kept[0].as_slice(), CONTOUR.as_slice());
-    Ok(())
+    holds(&rt, buffer.is_single_contour(), name, "single");
+    holds(&rt, !buffer.is_empty(), name, "empty");
+    reads_as_contours(
+        &rt,
+        alloc,
+        name,
+        &buffer,
+        &[0..3],
+        &[&[[1, 2], [3, 4], [5, 6]]],
+    )?;
+    let name = "a contour without points";
+    let mut buffer = FlatContoursBuffer::new(alloc);
+    buffer.set_with_contour(&[])?;
+    holds(&rt, buffer.is_single_contour(), name, "single");
+    holds(&rt, buffer.is_empty(), name, "empty");
+    reads_as_contours(&rt, alloc, name, &buffer, &[0..0], &[&[]])?;
+    let name = "one shape";
+    let mut buffer = FlatContoursBuffer::new(alloc);
+    buffer.set_with_shape(shape(&rt, alloc, HOLED)?.as_slice())?;
+    holds(&rt, !buffer.is_single_contour(), name, "single");
+    reads_as_contours(&rt, alloc, name, &buffer, &[0..4, 4..8], HOLED)?;
+    let name = "an added contour";
+    let square: &[&[[i32; 2]]] = &[&[[0, 0], [4, 0], [4, 4], [0, 4]]];
+    let mut buffer = FlatContoursBuffer::new(alloc);
+    buffer.add_contour(SQUARE.as_slice())?;
+    reads_as_contours(&rt, alloc, name, &buffer, &[0..4], square)
 }
 
 #[test]
-fn one_contour_as_a_shape(rt: HostRuntime) -> Result<(), Fail> {
+fn one_contour_or_shape_as_shapes(rt: HostRuntime) -> Result<(), Fail> {
     let alloc = rt.alloc();
+    let name = "one contour";
+    let wanted: &[&[&[[i32; 2]]]] = &[&[&[[1, 2], [3, 4], [5, 6]]]];
     let mut buffer = FlatShapesBuffer::new(alloc);
     buffer.set_with_contour(CONTOUR.as_slice())?;
-    assert_eq!(rt; buffer.contour_ranges.as_slice(), [0..3].as_slice());
-    assert_eq!(rt; buffer.shape_ranges.as_slice(), [0..1].as_slice());
-    assert!(rt; buffer.can_read_shapes());
-    let kept = buffer.to_shapes()?;
-    assert_eq!(rt; kept.len(), 1);
-    assert_eq!(rt; kept[0].len(), 1);
-    assert_eq!(rt; kept[0][0].as_slice(), CONTOUR.as_slice());
-    Ok(())
+    reads_as_shapes(&rt, alloc, name, &buffer, &[0..3], &[0..1], wanted)?;
+    let name = "one shape";
+    let given = shape(&rt, alloc, HOLED)?;
+    let mut buffer = FlatShapesBuffer::new(alloc);
+    buffer.set_with_shape(given.as_slice())?;
+    assert!(rt; buffer.can_read_contours(), "a range can't be read");
+    holds(&rt, buffer.to_contours()? == given, name, "the contours");
+    let ranges = &[0..4, 4..8];
+    reads_as_shapes(&rt, alloc, name, &buffer, ranges, &[0..2], &[HOLED])?;
+    let name = "an added shape may be empty";
+    let mut buffer = FlatShapesBuffer::new(alloc);
+    buffer.add_shape(&[])?;
+    reads_as_shapes(&rt, alloc, name, &buffer, &[], &[0..0], &[&[]])
 }
 
-fn holed_shape(alloc: Global) -> Result<IntShape<i32>, ShapeError> {
-    int_shape![
-        alloc;
-        [[0, 0], [9, 0], [9, 9], [0, 9]],
-        [[3, 3], [3, 6], [6, 6], [6, 3]],
-    ]
-}
-
-#[test]
-fn one_shape(rt: HostRuntime) -> Result<(), Fail> {
-    let alloc = rt.alloc();
-    let shape = holed_shape(alloc)?;
-    let mut contours = FlatContoursBuffer::new(alloc);
-    contours.set_with_shape(shape.as_slice())?;
-    assert_eq!(rt; contours.ranges.as_slice(), [0..4, 4..8].as_slice());
-    assert!(rt; !contours.is_single_contour());
-    Ok(())
-}
-
-#[test]
-fn one_shape_in_a_list(rt: HostRuntime) -> Result<(), Fail> {
-    let alloc = rt.alloc();
-    let shape = holed_shape(alloc)?;
-    let mut shapes = FlatShapesBuffer::new(alloc);
-    shapes.set_with_shape(shape.as_slice())?;
-    assert_eq!(rt; shapes.contour_ranges.as_slice(), [0..4, 4..8].as_slice());
-    assert_eq!(rt; shapes.shape_ranges.as_slice(), [0..2].as_slice());
-    assert!(rt; shapes.can_read_contours());
-    assert_eq!(rt; shapes.to_contours()?, shape);
-    Ok(())
-}
-
-#[test]
-fn added_contour(rt: HostRuntime) -> Result<(), Fail> {
-    let alloc = rt.alloc();
-    let square: IntContour<i32> = int_path![alloc; [0, 0], [4, 0], [4, 4], [0, 4]]?;
-    let mut buffer = FlatContoursBuffer::new(alloc);
-    buffer.add_contour(square.as_slice())?;
-    assert_eq!(rt; buffer.ranges.as_slice(), [0..4].as_slice());
-    assert!(rt; buffer.can_read_contours());
-    assert_eq!(rt; buffer.to_contours()?, path![alloc; square]?);
-    Ok(())
-}
-
-#[test]
-fn a_contour_without_points(rt: HostRuntime) -> Result<(), Fail> {
-    let mut buffer = FlatContoursBuffer::<i32>::new(rt.alloc());
-    buffer.set_with_contour([].as_slice())?;
-    assert!(rt; buffer.is_empty());
-    assert!(rt; buffer.is_single_contour());
-    assert!(rt; buffer.can_read_contours());
-    let kept = buffer.to_contours()?;
-    assert_eq!(rt; kept.len(), 1);
-    assert!(rt; kept[0].is_empty());
-    Ok(())
-}
+const DIAGONAL: [IntPoint<i32>; 3] = [
+    IntPoint { x: 1, y: 1 },
+    IntPoint { x: 2, y: 2 },
+    IntPoint { x: 3, y: 3 },
+];
 
 #[test]
 fn first_contour(rt: HostRuntime) -> Result<(), Fail> {
     let alloc = rt.alloc();
-    let whole = FlatContoursBuffer {
-        points: int_path![alloc; [1, 1], [2, 2]]?,
-        ranges: path![alloc;]?,
-    };
-    assert!(rt; whole.can_read_first());
-    let points = [IntPoint::new(1, 1), IntPoint::new(2, 2)];
-    assert_eq!(rt; whole.as_first_contour(), points.as_slice());
-    let mut buffer = FlatContoursBuffer {
-        points: int_path![alloc; [1, 1], [2, 2], [3, 3]]?,
-        ranges: path![alloc; 1..2, 0..3]?,
-    };
-    assert!(rt; buffer.can_read_first());
+    let name = "no ranges";
+    let whole = flat(alloc, &DIAGONAL[..2], &[])?;
+    assert!(rt; whole.can_read_first(), "{name}: the first can't be read");
+    let points = whole.as_first_contour();
+    equal(&rt, points, &DIAGONAL[..2], name, "the first contour");
+    let name = "a changed first contour";
+    let mut buffer = flat(alloc, DIAGONAL.as_slice(), &[1..2, 0..3])?;
+    assert!(rt; buffer.can_read_first(), "{name}: it can't be read");
     let first = buffer.as_first_contour_mut();
     assert_eq!(rt; first.len(), 1);
     first[0] = IntPoint::new(9, 9);
-    assert_eq!(rt; buffer.points, int_path![alloc; [1, 1], [9, 9], [3, 3]]?);
-    assert_eq!(rt; buffer.ranges.as_slice(), [1..2, 0..3].as_slice());
+    let wanted = int_path![alloc; [1, 1], [9, 9], [3, 3]]?;
+    holds(&rt, buffer.points == wanted, name, "the points");
+    let kept = buffer.ranges.as_slice();
+    holds(&rt, kept == [1..2, 0..3].as_slice(), name, "the ranges");
     Ok(())
 }
+
+/// A name, points, ranges of them, and whether the first and all can be read.
+type Readable = (&'static str, Points, Ranges, bool, bool);
+
+const FAR: usize = usize::MAX;
+
+const ZERO: IntPoint<i32> = IntPoint { x: 0, y: 0 };
+
+const READABLE: [Readable; 6] = [
+    ("reversed", &[ZERO, ZERO, ZERO], &[2..1], false, false),
+    ("empty and far", &[ZERO], &[FAR..FAR], false, false),
+    ("ends far", &[ZERO], &[0..FAR], false, false),
+    (
+        "they overlap",
+        &[ZERO, ZERO],
+        &[0..2, 1..2, 2..2],
+        true,
+        true,
+    ),
+    (
+        "a later one is long",
+        &[ZERO, ZERO],
+        &[0..2, 1..3],
+        true,
+        false,
+    ),
+    ("none", &[ZERO, ZERO], &[], true, true),
+];
 
 #[test]
 fn ranges_of_contours_that_can_be_read(rt: HostRuntime) -> Result<(), Fail> {
+    for (name, points, ranges, first, all) in READABLE {
+        let buffer = flat(rt.alloc(), points, ranges)?;
+        equal(&rt, buffer.can_read_first(), first, name, "the first");
+        equal(&rt, buffer.can_read_contours(), all, name, "all");
+    }
     let alloc = rt.alloc();
-    for (count, ranges, first, all) in [
-        (3, [(2, 1)].as_slice(), false, false),
-        (1, [(usize::MAX, usize::MAX)].as_slice(), false, false),
-        (1, [(0, usize::MAX)].as_slice(), false, false),
-        (2, [(0, 2), (1, 2), (2, 2)].as_slice(), true, true),
-        (2, [(0, 2), (1, 3)].as_slice(), true, false),
-        (2, [].as_slice(), true, true),
-    ] {
-        let mut buffer = FlatContoursBuffer::<i32>::new(alloc);
-        for _ in 0..count {
-            buffer.points.push(IntPoint::ZERO)?;
+    let name = "ranges may overlap";
+    let buffer = flat(alloc, &CONTOUR[..2], &[0..2, 1..2, 2..2])?;
+    let wanted: &[&[[i32; 2]]] = &[&[[1, 2], [3, 4]], &[[3, 4]], &[]];
+    reads_as_contours(&rt, alloc, name, &buffer, &[0..2, 1..2, 2..2], wanted)
+}
+
+/// A name, ranges of one point at most, a range of these, and whether it can be read, as an empty shape.
+type ReadableShape = (&'static str, Ranges, Ranges, bool);
+
+const READABLE_SHAPES: [ReadableShape; 6] = [
+    ("reversed", &[0..1], &[2..1], true),
+    ("empty and beyond", &[], &[5..5], true),
+    ("reversed and far", &[0..1], &[FAR..0], true),
+    ("long by one, of none", &[], &[0..1], false),
+    ("ends far", &[0..1], &[0..FAR], false),
+    ("long by one", &[0..1], &[0..2], false),
+];
+
+#[test]
+fn ranges_of_shapes_that_can_be_read(rt: HostRuntime) -> Result<(), Fail> {
+    let alloc = rt.alloc();
+    for (name, contours, ranges, readable) in READABLE_SHAPES {
+        let buffer = FlatShapesBuffer {
+            points: [ZERO][..contours.len().min(1)].to_vec(alloc)?,
+            contour_ranges: Vec::from_clones(alloc, contours)?,
+            shape_ranges: Vec::from_clones(alloc, ranges)?,
+        };
+        equal(&rt, buffer.can_read_shapes(), readable, name, "the shape");
+        holds(&rt, buffer.can_read_contours(), name, "the contours");
+        if readable {
+            reads_as_shapes(&rt, alloc, name, &buffer, contours, ranges, &[&[]])?;
         }
-        for (start, end) in ranges {
-            buffer.ranges.push(*start..*end)?;
-        }
-        assert_eq!(rt; buffer.can_read_first(), first);
-        assert_eq!(rt; buffer.can_read_contours(), all);
     }
     Ok(())
 }
 
-#[test]
-fn ranges_may_overlap(rt: HostRuntime) -> Result<(), Fail> {
-    let alloc = rt.alloc();
-    let buffer: FlatContoursBuffer<i32> = FlatContoursBuffer {
-        points: int_path![alloc; [1, 2], [3, 4]]?,
-        ranges: path![alloc; 0..2, 1..2, 2..2]?,
-    };
-    assert!(rt; buffer.can_read_contours());
-    let contours = int_shape![alloc; [[1, 2], [3, 4]], [[3, 4]], []]?;
-    assert_eq!(rt; buffer.to_contours()?, contours);
+/// The room is refused, and the buffer stays as it was.
+fn contours_stay(rt: &impl Abort, alloc: Global, points: usize, ranges: usize) -> Result<(), Fail> {
+    let mut buffer = FlatContoursBuffer::new(alloc);
+    buffer.set_with_contour(CONTOUR.as_slice())?;
+    let before = buffer.clone()?;
+    let answer = buffer.clear_and_reserve(points, ranges);
+    holds(
+        rt,
+        answer == Err(ShapeError::OutOfMemory),
+        "contours",
+        "the answer",
+    );
+    holds(rt, buffer == before, "contours", "the buffer");
     Ok(())
 }
 
-/// The buffer reads as one empty shape.
-fn reads_as_an_empty_shape(
+/// The room is refused, and the buffer stays as it was.
+fn shapes_stay(
     rt: &impl Abort,
-    buffer: &FlatShapesBuffer<i32>,
-) -> Result<(), ShapeError> {
-    assert!(rt; buffer.can_read_shapes());
-    let shapes = buffer.to_shapes()?;
-    assert_eq!(rt; shapes.len(), 1);
-    assert!(rt; shapes[0].is_empty());
-    Ok(())
-}
-
-#[test]
-fn an_added_shape_may_be_empty(rt: HostRuntime) -> Result<(), Fail> {
-    let nothing: IntShape<i32> = Vec::new(rt.alloc());
-    let mut buffer = FlatShapesBuffer::new(rt.alloc());
-    buffer.add_shape(nothing.as_slice())?;
-    assert_eq!(rt; buffer.shape_ranges.as_slice(), [0..0].as_slice());
-    reads_as_an_empty_shape(&rt, &buffer)?;
-    Ok(())
-}
-
-/// A buffer of as many contours of one point, and one range of shapes.
-fn with_shape_range(
     alloc: Global,
+    points: usize,
     contours: usize,
-    start: usize,
-    end: usize,
-) -> Result<FlatShapesBuffer<i32>, ShapeError> {
+    ranges: usize,
+) -> Result<(), Fail> {
     let mut buffer = FlatShapesBuffer::new(alloc);
-    for _ in 0..contours {
-        buffer.points.push(IntPoint::ZERO)?;
-        buffer.contour_ranges.push(0..1)?;
-    }
-    buffer.shape_ranges.push(start..end)?;
-    Ok(buffer)
-}
-
-#[test]
-fn empty_and_reversed_shape_ranges(rt: HostRuntime) -> Result<(), Fail> {
-    for (contours, start, end) in [(1, 2, 1), (0, 5, 5), (1, usize::MAX, 0)] {
-        let buffer = with_shape_range(rt.alloc(), contours, start, end)?;
-        reads_as_an_empty_shape(&rt, &buffer)?;
-    }
+    buffer.set_with_contour(CONTOUR.as_slice())?;
+    let before = buffer.clone()?;
+    let answer = buffer.clear_and_reserve(points, contours, ranges);
+    holds(
+        rt,
+        answer == Err(ShapeError::OutOfMemory),
+        "shapes",
+        "the answer",
+    );
+    holds(rt, buffer == before, "shapes", "the buffer");
     Ok(())
 }
 
 #[test]
-fn shape_ranges_that_cannot_be_read(rt: HostRuntime) -> Result<(), Fail> {
-    for (contours, end) in [(0, 1), (1, usize::MAX), (1, 2)] {
-        let buffer = with_shape_range(rt.alloc(), contours, 0, end)?;
-        assert!(rt; !buffer.can_read_shapes());
-        assert!(rt; buffer.can_read_contours());
-    }
-    Ok(())
-}
-
-#[test]
-fn too_much_room_is_not_there(rt: HostRuntime) {
+fn too_much_room_is_not_there(rt: HostRuntime) -> Result<(), Fail> {
     let alloc = rt.alloc();
     let refused = Err(ShapeError::OutOfMemory);
-    assert!(rt; FlatContoursBuffer::<i32>::with_capacity(alloc, usize::MAX) == refused);
+    let made = FlatContoursBuffer::<i32>::with_capacity(alloc, FAR);
+    holds(&rt, made == refused, "new contours", "the answer");
     let refused = Err(ShapeError::OutOfMemory);
-    assert!(rt; FlatShapesBuffer::<i32>::with_capacity(alloc, 1, usize::MAX, 1) == refused);
-}
-
-#[test]
-fn contours_stay_where_too_much_room_is_refused(rt: HostRuntime) -> Result<(), Fail> {
-    let mut buffer = FlatContoursBuffer::new(rt.alloc());
-    buffer.set_with_contour(CONTOUR.as_slice())?;
-    let before = buffer.clone()?;
-    for (points, ranges) in [(usize::MAX, 1), (1, usize::MAX)] {
-        let answer = buffer.clear_and_reserve(points, ranges);
-        assert_eq!(rt; answer, Err(ShapeError::OutOfMemory));
-        assert!(rt; buffer == before);
-    }
-    Ok(())
-}
-
-#[test]
-fn shapes_stay_where_too_much_room_is_refused(rt: HostRuntime) -> Result<(), Fail> {
-    let mut buffer = FlatShapesBuffer::new(rt.alloc());
-    buffer.set_with_contour(CONTOUR.as_slice())?;
-    let before = buffer.clone()?;
-    for (points, ranges, more) in [(usize::MAX, 1, 1), (1, usize::MAX, 1), (1, 1, usize::MAX)] {
-        let answer = buffer.clear_and_reserve(points, ranges, more);
-        assert_eq!(rt; answer, Err(ShapeError::OutOfMemory));
-        assert!(rt; buffer == before);
-    }
-    Ok(())
+    let made = FlatShapesBuffer::<i32>::with_capacity(alloc, 1, FAR, 1);
+    holds(&rt, made == refused, "new shapes", "the answer");
+    contours_stay(&rt, alloc, FAR, 1)?;
+    contours_stay(&rt, alloc, 1, FAR)?;
+    shapes_stay(&rt, alloc, FAR, 1, 1)?;
+    shapes_stay(&rt, alloc, 1, FAR, 1)?;
+    shapes_stay(&rt, alloc, 1, 1, FAR)
 }
 
 /// A generator of numbers, of which each is told by the one before it.
@@ -327,21 +348,24 @@ impl Draws {
     }
 }
 
+fn drawn_contour(alloc: Global, draws: &mut Draws) -> Result<IntContour<i32>, ShapeError> {
+    let mut contour = Vec::new(alloc);
+    for _ in 0..3 + draws.below(4) {
+        contour.push(IntPoint::new(draws.coordinate(), draws.coordinate()))?;
+    }
+    Ok(contour)
+}
+
 fn drawn_shape(alloc: Global, draws: &mut Draws) -> Result<IntShape<i32>, ShapeError> {
     let mut shape = Vec::new(alloc);
     for _ in 0..1 + draws.below(3) {
-        let mut contour = Vec::new(alloc);
-        for _ in 0..3 + draws.below(4) {
-            contour.push(IntPoint::new(draws.coordinate(), draws.coordinate()))?;
-        }
-        shape.push(contour)?;
+        shape.push(drawn_contour(alloc, draws)?)?;
     }
     Ok(shape)
 }
 
-#[test]
-fn drawn_shapes_keep_their_number_of_contours(rt: HostRuntime) -> Result<(), Fail> {
-    let alloc = rt.alloc();
+/// Five drawn shapes, and the number of their contours.
+fn drawn_shapes(alloc: Global) -> Result<(IntShapes<i32>, usize), ShapeError> {
     let mut draws = Draws { seed: 1 };
     let mut shapes = Vec::new(alloc);
     let mut contours: usize = 0;
@@ -350,14 +374,34 @@ fn drawn_shapes_keep_their_number_of_contours(rt: HostRuntime) -> Result<(), Fai
         contours = contours.wrapping_add(shape.len());
         shapes.push(shape)?;
     }
+    Ok((shapes, contours))
+}
+
+#[test]
+fn drawn_shapes_keep_their_number_of_contours(rt: HostRuntime) -> Result<(), Fail> {
+    let alloc = rt.alloc();
+    let (shapes, contours) = drawn_shapes(alloc)?;
+    let name = "five drawn shapes";
     let mut flat = FlatContoursBuffer::new(alloc);
     flat.set_with_shapes(shapes.as_slice())?;
     assert!(rt; flat.can_read_contours());
-    assert_eq!(rt; flat.to_contours()?.len(), contours);
+    equal(
+        &rt,
+        flat.to_contours()?.len(),
+        contours,
+        name,
+        "as contours",
+    );
     let mut buffer = FlatShapesBuffer::new(alloc);
     buffer.set_with_shapes(shapes.as_slice())?;
     assert!(rt; buffer.can_read_contours());
-    assert_eq!(rt; buffer.to_contours()?.len(), contours);
+    equal(
+        &rt,
+        buffer.to_contours()?.len(),
+        contours,
+        name,
+        "as shapes",
+    );
     Ok(())
 }
 
@@ -365,13 +409,14 @@ fn drawn_shapes_keep_their_number_of_contours(rt: HostRuntime) -> Result<(), Fai
 fn sets_contours<I: IntNumber>(
     rt: &impl Abort,
     alloc: Global,
+    name: &str,
     shapes: &[IntShape<I>],
     contour: &[IntPoint<I>],
-) -> Result<(), ShapeError> {
+) -> Result<(), Fail> {
     let mut buffer = FlatContoursBuffer::with_capacity(alloc, 4)?;
-    assert!(rt; buffer.is_empty());
+    holds(rt, buffer.is_empty(), name, "new contours");
     buffer.set_with_shapes(shapes)?;
-    assert!(rt; buffer.clone()? == buffer);
+    holds(rt, buffer.clone()? == buffer, name, "a copy of contours");
     buffer.add_contour(contour)?;
     for shape in shapes {
         buffer.set_with_shape(shape.as_slice())?;
@@ -383,16 +428,19 @@ fn sets_contours<I: IntNumber>(
 fn reads_contours<I: IntNumber>(
     rt: &impl Abort,
     alloc: Global,
+    name: &str,
     contour: &[IntPoint<I>],
-) -> Result<(), ShapeError> {
+) -> Result<(), Fail> {
     let mut buffer = FlatContoursBuffer::new(alloc);
     buffer.set_with_contour(contour)?;
     assert!(rt; buffer.can_read_contours());
+    equal(rt, buffer.to_contours()?.len(), 1, name, "the contours");
     assert!(rt; buffer.can_read_first());
-    assert_eq!(rt; buffer.to_contours()?.len(), 1);
-    assert_eq!(rt; buffer.as_first_contour_mut().len(), contour.len());
+    let first = buffer.as_first_contour_mut().len();
+    equal(rt, first, contour.len(), name, "the first contour");
     buffer.clear_and_reserve(4, 4)?;
-    assert!(rt; buffer.points.is_empty() && buffer.ranges.is_empty());
+    holds(rt, buffer.points.is_empty(), name, "points left");
+    holds(rt, buffer.ranges.is_empty(), name, "ranges left");
     Ok(())
 }
 
@@ -400,14 +448,15 @@ fn reads_contours<I: IntNumber>(
 fn sets_shapes<I: IntNumber>(
     rt: &impl Abort,
     alloc: Global,
+    name: &str,
     shapes: &[IntShape<I>],
     contour: &[IntPoint<I>],
-) -> Result<(), ShapeError> {
+) -> Result<(), Fail> {
     let mut buffer = FlatShapesBuffer::with_capacity(alloc, 4, 4, 4)?;
-    assert!(rt; buffer.is_empty());
+    holds(rt, buffer.is_empty(), name, "new shapes");
     buffer.set_with_contour(contour)?;
     buffer.set_with_shapes(shapes)?;
-    assert!(rt; buffer.clone()? == buffer);
+    holds(rt, buffer.clone()? == buffer, name, "a copy of shapes");
     Ok(())
 }
 
@@ -415,19 +464,21 @@ fn sets_shapes<I: IntNumber>(
 fn reads_shapes<I: IntNumber>(
     rt: &impl Abort,
     alloc: Global,
+    name: &str,
     shapes: &[IntShape<I>],
-) -> Result<(), ShapeError> {
+) -> Result<(), Fail> {
     let mut buffer = FlatShapesBuffer::new(alloc);
     for shape in shapes {
         buffer.set_with_shape(shape.as_slice())?;
         buffer.add_shape(shape.as_slice())?;
     }
     assert!(rt; buffer.can_read_contours() && buffer.can_read_shapes());
-    assert_eq!(rt; buffer.to_shapes()?.len(), 2);
-    assert_eq!(rt; buffer.to_contours()?.len(), 4);
+    equal(rt, buffer.to_shapes()?.len(), 2, name, "the shapes");
+    equal(rt, buffer.to_contours()?.len(), 4, name, "their contours");
     buffer.clear_and_reserve(4, 4, 4)?;
-    assert!(rt; buffer.points.is_empty());
-    assert!(rt; buffer.contour_ranges.is_empty() && buffer.shape_ranges.is_empty());
+    holds(rt, buffer.points.is_empty(), name, "points left");
+    holds(rt, buffer.contour_ranges.is_empty(), name, "contours left");
+    holds(rt, buffer.shape_ranges.is_empty(), name, "shapes left");
     Ok(())
 }
 
@@ -435,47 +486,26 @@ fn reads_shapes<I: IntNumber>(
 fn every_call<I: IntNumber>(
     rt: &impl Abort,
     alloc: Global,
-    shapes: &[IntShape<I>],
+    name: &str,
+    list: &[&[&[[I; 2]]]],
     contour: &[IntPoint<I>],
-) -> Result<(), ShapeError> {
-    sets_contours(rt, alloc, shapes, contour)?;
-    reads_contours(rt, alloc, contour)?;
-    sets_shapes(rt, alloc, shapes, contour)?;
-    reads_shapes(rt, alloc, shapes)
+) -> Result<(), Fail> {
+    let shapes = shapes(rt, alloc, list)?;
+    sets_contours(rt, alloc, name, shapes.as_slice(), contour)?;
+    reads_contours(rt, alloc, name, contour)?;
+    sets_shapes(rt, alloc, name, shapes.as_slice(), contour)?;
+    reads_shapes(rt, alloc, name, shapes.as_slice())
 }
 
 #[test]
 fn every_call_at_each_width(rt: HostRuntime) -> Result<(), Fail> {
     let alloc = rt.alloc();
-    let given = shapes::<i16>(&rt, alloc, &[&[&[[1, 2]]], &[&[[3, 4], [5, 6]], &[]]])?;
-    every_call(&rt, alloc, given.as_slice(), &[IntPoint::new(i16::MIN, 1)])?;
-    let given = shapes::<i32>(&rt, alloc, &[&[&[[1, 2]]], &[&[[3, 4], [5, 6]], &[]]])?;
-    every_call(&rt, alloc, given.as_slice(), &[IntPoint::new(i32::MIN, 1)])?;
-    let given = shapes::<i64>(&rt, alloc, &[&[&[[1, 2]]], &[&[[3, 4], [5, 6]], &[]]])?;
-    every_call(&rt, alloc, given.as_slice(), &[IntPoint::new(i64::MIN, 1)])?;
-    Ok(())
-}
-
-/// A buffer of these points and ranges.
-fn flat<I: IntNumber>(
-    alloc: Global,
-    points: &[[I; 2]],
-    ranges: &[(usize, usize)],
-) -> Result<FlatContoursBuffer<I>, ShapeError> {
-    let mut buffer = FlatContoursBuffer::new(alloc);
-    for [x, y] in points {
-        buffer.points.push(IntPoint::new(*x, *y))?;
-    }
-    for (start, end) in ranges {
-        buffer.ranges.push(*start..*end)?;
-    }
-    Ok(buffer)
-}
-
-fn all_safe<I: IntNumber>(points: &[IntPoint<I>]) -> bool
-    ensures { IsTrue result ↔ All (λ p. IsSafe I.width (point_of I.value p)) points.now }
-{
-    points.iter().all(|point| point.is_in_safe_range())
+    let list: &[&[&[[i16; 2]]]] = &[&[&[[1, 2]]], &[&[[3, 4], [5, 6]], &[]]];
+    every_call(&rt, alloc, "16 bits", list, &[IntPoint::new(i16::MIN, 1)])?;
+    let list: &[&[&[[i32; 2]]]] = &[&[&[[1, 2]]], &[&[[3, 4], [5, 6]], &[]]];
+    every_call(&rt, alloc, "32 bits", list, &[IntPoint::new(i32::MIN, 1)])?;
+    let list: &[&[&[[i64; 2]]]] = &[&[&[[1, 2]]], &[&[[3, 4], [5, 6]], &[]]];
+    every_call(&rt, alloc, "64 bits", list, &[IntPoint::new(i64::MIN, 1)])
 }
 
 /// Cleans a buffer. The test stops where a range can't be read, or a point isn't safe.
@@ -483,97 +513,130 @@ fn simplify<I: IntNumber>(
     rt: &impl Abort,
     buffer: &mut FlatContoursBuffer<I>,
 ) -> Result<bool, ShapeError> {
-    assert!(rt; buffer.can_read_contours());
-    assert!(rt; all_safe(buffer.points.as_slice()));
+    assert!(rt; buffer.can_read_contours(), "a range can't be read");
+    assert_safe(rt, buffer.points.as_slice());
     buffer.simplify_contours()
 }
+
+/// The contours of these points and ranges are cleaned to those, and `answer` tells whether that changed them. They then stay.
+fn cleans<I: IntNumber>(
+    rt: &impl Abort,
+    alloc: Global,
+    name: &str,
+    mut buffer: FlatContoursBuffer<I>,
+    answer: bool,
+    kept: FlatContoursBuffer<I>,
+) -> Result<(), Fail> {
+    equal(rt, simplify(rt, &mut buffer)?, answer, name, "what is told");
+    holds(rt, buffer == kept, name, "what is left");
+    holds(rt, !simplify(rt, &mut buffer)?, name, "a change is told");
+    holds(rt, buffer == kept, name, "what is left, again");
+    Ok(())
+}
+
+/// A name, points and ranges, whether cleaning changes them, and what is left of them.
+type Cleaned = (&'static str, Points, Ranges, bool, Points, Ranges);
+
+const OPEN: Points = &[
+    IntPoint { x: 0, y: 0 },
+    IntPoint { x: 4, y: 0 },
+    IntPoint { x: 4, y: 4 },
+    IntPoint { x: 9, y: 9 },
+];
+
+const CLEANED: [Cleaned; 5] = [
+    (
+        "a straight point, points on a line and no points",
+        &[
+            IntPoint { x: 0, y: 0 },
+            IntPoint { x: 2, y: 0 },
+            IntPoint { x: 4, y: 0 },
+            IntPoint { x: 4, y: 4 },
+            IntPoint { x: 0, y: 4 },
+            IntPoint { x: 7, y: 7 },
+            IntPoint { x: 8, y: 8 },
+            IntPoint { x: 9, y: 9 },
+        ],
+        &[0..5, 5..8, 0..0],
+        true,
+        &SQUARE,
+        &[0..4],
+    ),
+    (
+        "two clean contours that overlap",
+        &SQUARE,
+        &[0..4, 0..3],
+        false,
+        &SQUARE,
+        &[0..4, 0..3],
+    ),
+    (
+        "a clean contour and a point that is none's",
+        OPEN,
+        &[0..3],
+        false,
+        OPEN,
+        &[0..3],
+    ),
+    (
+        "a clean contour and a point",
+        OPEN,
+        &[0..3, 3..4],
+        true,
+        &[
+            IntPoint { x: 0, y: 0 },
+            IntPoint { x: 4, y: 0 },
+            IntPoint { x: 4, y: 4 },
+        ],
+        &[0..3],
+    ),
+    ("nothing", &[], &[], false, &[], &[]),
+];
 
 #[test]
 fn cleaned_contours_stand_end_to_end(rt: HostRuntime) -> Result<(), Fail> {
     let alloc = rt.alloc();
-    for (points, ranges, answer, kept, kept_ranges) in [
-        (
-            [
-                [0, 0],
-                [2, 0],
-                [4, 0],
-                [4, 4],
-                [0, 4],
-                [7, 7],
-                [8, 8],
-                [9, 9],
-            ]
-            .as_slice(),
-            [(0, 5), (5, 8), (0, 0)].as_slice(),
-            true,
-            [[0, 0], [4, 0], [4, 4], [0, 4]].as_slice(),
-            [(0, 4)].as_slice(),
-        ),
-        (
-            [[0, 0], [4, 0], [4, 4], [0, 4]].as_slice(),
-            [(0, 4), (0, 3)].as_slice(),
-            false,
-            [[0, 0], [4, 0], [4, 4], [0, 4]].as_slice(),
-            [(0, 4), (0, 3)].as_slice(),
-        ),
-        (
-            [[0, 0], [4, 0], [4, 4], [9, 9]].as_slice(),
-            [(0, 3)].as_slice(),
-            false,
-            [[0, 0], [4, 0], [4, 4], [9, 9]].as_slice(),
-            [(0, 3)].as_slice(),
-        ),
-        (
-            [[0, 0], [4, 0], [4, 4], [9, 9]].as_slice(),
-            [(0, 3), (3, 4)].as_slice(),
-            true,
-            [[0, 0], [4, 0], [4, 4]].as_slice(),
-            [(0, 3)].as_slice(),
-        ),
-        (
-            [].as_slice(),
-            [].as_slice(),
-            false,
-            [].as_slice(),
-            [].as_slice(),
-        ),
-    ] {
-        let mut buffer = flat::<i32>(alloc, points, ranges)?;
-        assert_eq!(rt; simplify(&rt, &mut buffer)?, answer);
-        assert!(rt; buffer == flat(alloc, kept, kept_ranges)?);
-        assert_eq!(rt; simplify(&rt, &mut buffer)?, false);
-        assert!(rt; buffer == flat(alloc, kept, kept_ranges)?);
+    for (name, points, ranges, answer, kept, kept_ranges) in CLEANED {
+        let buffer = flat(alloc, points, ranges)?;
+        cleans(
+            &rt,
+            alloc,
+            name,
+            buffer,
+            answer,
+            flat(alloc, kept, kept_ranges)?,
+        )?;
     }
     Ok(())
 }
 
-/// A contour with a straight point is cleaned, as points of one width.
+/// A triangle with a straight point is cleaned, as points of one width.
 fn cleans_at_width<I: IntNumber>(
     rt: &impl Abort,
     alloc: Global,
-    points: &[[I; 2]],
-    kept: &[[I; 2]],
-) -> Result<(), ShapeError> {
-    let mut buffer = flat(alloc, points, &[(0, points.len())])?;
-    assert!(rt; simplify(rt, &mut buffer)?);
-    assert!(rt; buffer == flat(alloc, kept, &[(0, kept.len())])?);
-    Ok(())
+    name: &str,
+    points: &[IntPoint<I>; 4],
+    kept: &[IntPoint<I>; 3],
+) -> Result<(), Fail> {
+    let buffer = flat(alloc, points, &[0..4])?;
+    cleans(rt, alloc, name, buffer, true, flat(alloc, kept, &[0..3])?)
 }
 
 #[test]
 fn cleaned_in_the_other_widths(rt: HostRuntime) -> Result<(), Fail> {
     let alloc = rt.alloc();
-    cleans_at_width::<i16>(
-        &rt,
-        alloc,
-        &[[0, 0], [1, 0], [2, 0], [0, 2]],
-        &[[0, 0], [2, 0], [0, 2]],
-    )?;
-    cleans_at_width::<i64>(
-        &rt,
-        alloc,
-        &[[0, 0], [1, 0], [2, 0], [0, 2]],
-        &[[0, 0], [2, 0], [0, 2]],
-    )?;
-    Ok(())
+    let [a, b, c, d] = [
+        IntPoint::<i16>::new(0, 0),
+        IntPoint::new(1, 0),
+        IntPoint::new(2, 0),
+        IntPoint::new(0, 2),
+    ];
+    cleans_at_width(&rt, alloc, "16 bits", &[a, b, c, d], &[a, c, d])?;
+    let [a, b, c, d] = [
+        IntPoint::<i64>::new(0, 0),
+        IntPoint::new(1, 0),
+        IntPoint::new(2, 0),
+        IntPoint::new(0, 2),
+    ];
+    cleans_at_width(&rt, alloc, "64 bits", &[a, b, c, d], &[a, c, d])
 }

@@ -2,6 +2,7 @@ ghost use Rattle.std.specs.Prelude.{IfSome};
 ghost use Rattle.std.specs.Iterator.{at_most, UpTo};
 ghost use Rattle.std.specs.Iterator.SizeHint.{IsWithinCount};
 
+use crate::claims::{equal, holds};
 use crate::resource::{WholePoint, lends_points};
 use i_shape::flat::float::{FloatFlatContoursBuffer, FloatFlatShapesBuffer};
 use i_shape::{ShapeError, path};
@@ -58,73 +59,117 @@ fn halves(alloc: Global) -> Result<[Vec<WholePoint>; 2], AllocError> {
     Ok([POINTS[..3].to_vec(alloc)?, POINTS[3..].to_vec(alloc)?])
 }
 
-/// The buffer holds the points and a range for each half, and lends the halves.
-fn holds_contours(
+/// The buffer has these ranges, and lends these paths.
+fn lends_contours(
     rt: &impl Abort,
-    alloc: Global,
+    name: &str,
     contours: &FloatFlatContoursBuffer<WholePoint>,
-) -> Result<(), Fail> {
-    assert!(rt; contours.points.as_slice() == POINTS.as_slice());
-    assert!(rt; contours.ranges.as_slice() == [0..3, 3..6].as_slice());
-    let halves = halves(alloc)?;
-    lends_points(rt, contours, &halves);
-    lends_points(rt, &contours, &halves);
-    Ok(())
+    ranges: &[Range<usize>],
+    wanted: &[Vec<WholePoint>],
+) {
+    let kept = contours.ranges.as_slice();
+    holds(rt, kept == ranges, name, "the ranges of contours");
+    lends_points(rt, name, "contours", contours, wanted);
+    lends_points(rt, name, "a reference to contours", &contours, wanted);
 }
 
-/// The buffer holds the points and a range for each half, and lends the halves.
-fn holds_shapes(
+/// The buffer has these ranges of contours and of shapes, and lends these paths.
+fn lends_shapes(
     rt: &impl Abort,
-    alloc: Global,
+    name: &str,
     shapes: &FloatFlatShapesBuffer<WholePoint>,
-) -> Result<(), Fail> {
-    assert!(rt; shapes.points.as_slice() == POINTS.as_slice());
-    assert!(rt; shapes.contour_ranges.as_slice() == [0..3, 3..6].as_slice());
-    let halves = halves(alloc)?;
-    lends_points(rt, shapes, &halves);
-    lends_points(rt, &shapes, &halves);
-    Ok(())
+    [contours, ranges]: [&[Range<usize>]; 2],
+    wanted: &[Vec<WholePoint>],
+) {
+    has_ranges(rt, name, shapes, [contours, ranges]);
+    lends_points(rt, name, "shapes", shapes, wanted);
+    lends_points(rt, name, "a reference to shapes", &shapes, wanted);
 }
+
+/// The buffer has these ranges of contours and of shapes.
+fn has_ranges(
+    rt: &impl Abort,
+    name: &str,
+    shapes: &FloatFlatShapesBuffer<WholePoint>,
+    [contours, ranges]: [&[Range<usize>]; 2],
+) {
+    let kept = shapes.contour_ranges.as_slice();
+    holds(rt, kept == contours, name, "the contour ranges");
+    let kept = shapes.shape_ranges.as_slice();
+    holds(rt, kept == ranges, name, "the shape ranges");
+}
+
+/// The buffer has no points and no ranges.
+fn holds_no_contours(rt: &impl Abort, name: &str, contours: &FloatFlatContoursBuffer<WholePoint>) {
+    holds(rt, contours.is_empty(), name, "it has points");
+    holds(rt, contours.ranges.is_empty(), name, "it has ranges");
+}
+
+/// The buffer has no points and no ranges.
+fn holds_no_shapes(rt: &impl Abort, name: &str, shapes: &FloatFlatShapesBuffer<WholePoint>) {
+    holds(rt, shapes.is_empty(), name, "it has points");
+    has_ranges(rt, name, shapes, [&[], &[]]);
+}
+
+const TWO: [Range<usize>; 2] = [0..3, 3..6];
 
 #[test]
 fn set_flat_stores_what_is_handed_in(rt: HostRuntime) -> Result<(), Fail> {
     let alloc = rt.alloc();
+    let halves = halves(alloc)?;
+    let name = "two halves";
     let mut contours = FloatFlatContoursBuffer::new(alloc);
     contours.set_flat(&POINTS, &[0..3, 3..6])?;
-    holds_contours(&rt, alloc, &contours)?;
+    holds(
+        &rt,
+        contours.points.as_slice() == POINTS.as_slice(),
+        name,
+        "points",
+    );
+    lends_contours(&rt, name, &contours, &TWO, &halves);
     let mut shapes = FloatFlatShapesBuffer::new(alloc);
     shapes.set_flat(&POINTS, &[0..3, 3..6], &[0..2])?;
-    assert!(rt; shapes.shape_ranges.as_slice() == [0..2].as_slice());
-    holds_shapes(&rt, alloc, &shapes)
-}
-
-#[test]
-fn an_empty_range_lends_an_empty_path(rt: HostRuntime) -> Result<(), Fail> {
-    let alloc = rt.alloc();
+    holds(
+        &rt,
+        shapes.points.as_slice() == POINTS.as_slice(),
+        name,
+        "points",
+    );
+    lends_shapes(&rt, name, &shapes, [&TWO, &[0..2]], &halves);
     let empty: [Vec<WholePoint>; 1] = [Vec::new(alloc)];
-    let mut contours = FloatFlatContoursBuffer::new(alloc);
+    let name = "an empty range";
     contours.set_flat(&[], &[0..0])?;
-    lends_points(&rt, &contours, &empty);
-    let mut shapes = FloatFlatShapesBuffer::new(alloc);
+    lends_contours(&rt, name, &contours, &[0..0], &empty);
     shapes.set_flat(&[], &[0..0], &[])?;
-    lends_points(&rt, &shapes, &empty);
+    lends_shapes(&rt, name, &shapes, [&[0..0], &[]], &empty);
     Ok(())
 }
 
 #[test]
 fn set_with_iter_stores_what_is_handed_in(rt: HostRuntime) -> Result<(), Fail> {
     let alloc = rt.alloc();
+    let halves = halves(alloc)?;
+    let name = "two halves";
     let mut contours = FloatFlatContoursBuffer::new(alloc);
     contours.set_with_iter(POINTS.as_slice().iter().copied(), &[0..3, 3..6])?;
-    holds_contours(&rt, alloc, &contours)?;
+    holds(
+        &rt,
+        contours.points.as_slice() == POINTS.as_slice(),
+        name,
+        "points",
+    );
+    lends_contours(&rt, name, &contours, &TWO, &halves);
     let mut shapes = FloatFlatShapesBuffer::new(alloc);
-    shapes.set_with_iter(
-        POINTS.as_slice().iter().copied(),
-        &[0..3, 3..6],
-        &[0..1, 1..2],
-    )?;
-    assert!(rt; shapes.shape_ranges.as_slice() == [0..1, 1..2].as_slice());
-    holds_shapes(&rt, alloc, &shapes)
+    let points = POINTS.as_slice().iter().copied();
+    shapes.set_with_iter(points, &[0..3, 3..6], &[0..1, 1..2])?;
+    holds(
+        &rt,
+        shapes.points.as_slice() == POINTS.as_slice(),
+        name,
+        "points",
+    );
+    lends_shapes(&rt, name, &shapes, [&TWO, &[0..1, 1..2]], &halves);
+    Ok(())
 }
 
 /// Two triangles.
@@ -138,12 +183,13 @@ fn two_paths(alloc: Global) -> Result<[Vec<WholePoint>; 2], AllocError> {
 fn set_with_resource_makes_a_contour_of_each_path(rt: HostRuntime) -> Result<(), Fail> {
     let alloc = rt.alloc();
     let shape = two_paths(alloc)?;
+    let name = "two triangles";
     let mut contours = FloatFlatContoursBuffer::new(alloc);
     contours.set_with_resource(&shape)?;
-    assert!(rt; contours.ranges.as_slice() == [0..3, 3..6].as_slice());
     assert!(rt; contours.can_read_contours());
-    assert!(rt; contours.to_contours()?.as_slice() == shape.as_slice());
-    lends_points(&rt, &contours, &shape);
+    let kept = contours.to_contours()?;
+    holds(&rt, kept.as_slice() == shape.as_slice(), name, "read back");
+    lends_contours(&rt, name, &contours, &TWO, &shape);
     Ok(())
 }
 
@@ -151,14 +197,27 @@ fn set_with_resource_makes_a_contour_of_each_path(rt: HostRuntime) -> Result<(),
 fn set_with_resource_puts_all_paths_in_one_shape(rt: HostRuntime) -> Result<(), Fail> {
     let alloc = rt.alloc();
     let shape = two_paths(alloc)?;
+    let name = "two triangles";
     let mut shapes = FloatFlatShapesBuffer::new(alloc);
     shapes.set_with_resource(&shape)?;
-    assert!(rt; shapes.contour_ranges.as_slice() == [0..3, 3..6].as_slice());
+    has_ranges(&rt, name, &shapes, [&TWO, &[0..2]]);
     assert!(rt; shapes.can_read_contours());
     assert!(rt; shapes.can_read_shapes());
-    assert!(rt; shapes.to_contours()?.as_slice() == shape.as_slice());
+    let kept = shapes.to_contours()?;
+    holds(
+        &rt,
+        kept.as_slice() == shape.as_slice(),
+        name,
+        "as contours",
+    );
     let list = shapes.to_shapes()?;
-    assert!(rt; list.len() == 1 && list[0].as_slice() == shape.as_slice());
+    equal(&rt, list.len(), 1, name, "the number of shapes");
+    holds(
+        &rt,
+        list[0].as_slice() == shape.as_slice(),
+        name,
+        "as shapes",
+    );
     Ok(())
 }
 
@@ -170,82 +229,59 @@ fn set_with_resource_takes_the_place_of_what_was_held(rt: HostRuntime) -> Result
     shapes.set_with_resource(&shape)?;
     let paths = [shape[0].as_slice(), &[at(2, 2), at(3, 2)]];
     shapes.set_with_resource(&paths)?;
-    assert!(rt; shapes.contour_ranges.as_slice() == [0..3, 3..5].as_slice());
-    assert!(rt; shapes.shape_ranges.as_slice() == [0..2].as_slice());
-    Ok(())
-}
-
-#[test]
-fn a_resource_without_paths_makes_no_shape(rt: HostRuntime) -> Result<(), Fail> {
-    let mut shapes = FloatFlatShapesBuffer::new(rt.alloc());
+    has_ranges(&rt, "two paths", &shapes, [&[0..3, 3..5], &[0..2]]);
+    let mut shapes = FloatFlatShapesBuffer::new(alloc);
     shapes.add_contour(&[at(1, 1)])?;
     let no_paths: [Vec<WholePoint>; 0] = [];
     shapes.set_with_resource(&no_paths)?;
-    assert!(rt;
-        shapes.is_empty() && shapes.contour_ranges.is_empty() && shapes.shape_ranges.is_empty()
-    );
-    Ok(())
-}
-
-#[test]
-fn a_path_without_points_makes_a_shape(rt: HostRuntime) -> Result<(), Fail> {
-    let mut shapes = FloatFlatShapesBuffer::new(rt.alloc());
+    holds_no_shapes(&rt, "no paths make no shape", &shapes);
+    let mut shapes = FloatFlatShapesBuffer::new(alloc);
     let no_points: [WholePoint; 0] = [];
     shapes.set_with_resource(&no_points)?;
-    assert!(rt; shapes.contour_ranges.as_slice() == [0..0].as_slice());
-    assert!(rt; shapes.shape_ranges.as_slice() == [0..1].as_slice());
+    let name = "a path without points makes a shape";
+    has_ranges(&rt, name, &shapes, [&[0..0], &[0..1]]);
     Ok(())
 }
 
 #[test]
 fn contours_are_added_at_the_end(rt: HostRuntime) -> Result<(), Fail> {
     let more = [at(2, 2), at(3, 2)];
+    let name = "two contours";
     let mut contours = FloatFlatContoursBuffer::with_capacity(rt.alloc(), 4, 4)?;
     contours.add_contour(&[at(0, 0), at(4, 0), at(4, 4)])?;
     contours.add_contour_iter(more.iter().copied())?;
-    assert!(rt; contours.ranges.as_slice() == [0..3, 3..5].as_slice());
-    assert!(rt; contours.clone()? == contours);
+    let kept = contours.ranges.as_slice();
+    holds(&rt, kept == [0..3, 3..5].as_slice(), name, "the ranges");
+    holds(&rt, contours.clone()? == contours, name, "the copy");
     contours.clear_and_reserve(4, 4)?;
-    assert!(rt; contours.is_empty() && contours.ranges.is_empty());
+    holds_no_contours(&rt, "cleared", &contours);
+    let name = "a contour of no items has an empty range";
+    let mut contours = FloatFlatContoursBuffer {
+        points: path![rt.alloc(); at(1, 2), at(3, 4)]?,
+        ranges: path![rt.alloc(); 0..2]?,
+    };
+    let none: [WholePoint; 0] = [];
+    contours.add_contour_iter(none.iter().copied())?;
+    let kept = contours.ranges.as_slice();
+    holds(&rt, kept == [0..2, 2..2].as_slice(), name, "the ranges");
     Ok(())
 }
 
 #[test]
 fn contours_are_added_to_shapes_at_the_end(rt: HostRuntime) -> Result<(), Fail> {
     let more = [at(2, 2), at(3, 2)];
+    let name = "two contours";
     let mut shapes = FloatFlatShapesBuffer::with_capacity(rt.alloc(), 4, 4, 4)?;
     shapes.add_contour(&[at(0, 0), at(4, 0), at(4, 4)])?;
     shapes.add_contour_iter(more.iter().copied())?;
-    assert!(rt; shapes.contour_ranges.as_slice() == [0..3, 3..5].as_slice());
-    assert!(rt; shapes.shape_ranges.as_slice() == [0..1, 1..2].as_slice());
-    assert!(rt; shapes.clone()? == shapes);
+    has_ranges(&rt, name, &shapes, [&[0..3, 3..5], &[0..1, 1..2]]);
+    holds(&rt, shapes.clone()? == shapes, name, "the copy");
     shapes.clear_and_reserve(4, 4, 4)?;
-    assert!(rt;
-        shapes.is_empty() && shapes.contour_ranges.is_empty() && shapes.shape_ranges.is_empty()
-    );
-    Ok(())
-}
-
-#[test]
-fn each_added_contour_opens_a_shape(rt: HostRuntime) -> Result<(), Fail> {
-    let mut shapes = FloatFlatShapesBuffer::new(rt.alloc());
+    holds_no_shapes(&rt, "cleared", &shapes);
+    let name = "each added contour opens a shape";
     shapes.add_contour(&[at(0, 0), at(4, 0), at(4, 4)])?;
     shapes.add_contour(&[at(2, 2), at(3, 2)])?;
-    assert!(rt; shapes.contour_ranges.as_slice() == [0..3, 3..5].as_slice());
-    assert!(rt; shapes.shape_ranges.as_slice() == [0..1, 1..2].as_slice());
-    Ok(())
-}
-
-#[test]
-fn a_contour_of_no_items_has_an_empty_range(rt: HostRuntime) -> Result<(), Fail> {
-    let alloc = rt.alloc();
-    let mut contours = FloatFlatContoursBuffer {
-        points: path![alloc; at(1, 2), at(3, 4)]?,
-        ranges: path![alloc; 0..2]?,
-    };
-    let none: [WholePoint; 0] = [];
-    contours.add_contour_iter(none.iter().copied())?;
-    assert!(rt; contours.ranges.as_slice() == [0..2, 2..2].as_slice());
+    has_ranges(&rt, name, &shapes, [&[0..3, 3..5], &[0..1, 1..2]]);
     Ok(())
 }
 
@@ -253,20 +289,19 @@ fn a_contour_of_no_items_has_an_empty_range(rt: HostRuntime) -> Result<(), Fail>
 fn passes_over(
     rt: &impl Abort,
     alloc: Global,
+    name: &str,
     ranges: &[Range<usize>],
     wanted: &[Vec<WholePoint>],
     readable: bool,
 ) -> Result<(), Fail> {
     let mut contours = FloatFlatContoursBuffer::new(alloc);
     contours.set_flat(&[at(1, 2), at(3, 4)], ranges)?;
-    assert_eq!(rt; contours.can_read_contours(), readable);
-    lends_points(rt, &contours, wanted);
-    lends_points(rt, &&contours, wanted);
+    equal(rt, contours.can_read_contours(), readable, name, "contours");
+    lends_contours(rt, name, &contours, ranges, wanted);
     let mut shapes = FloatFlatShapesBuffer::new(alloc);
     shapes.set_flat(&[at(1, 2), at(3, 4)], ranges, &[])?;
-    assert_eq!(rt; shapes.can_read_contours(), readable);
-    lends_points(rt, &shapes, wanted);
-    lends_points(rt, &&shapes, wanted);
+    equal(rt, shapes.can_read_contours(), readable, name, "shapes");
+    lends_shapes(rt, name, &shapes, [ranges, &[]], wanted);
     Ok(())
 }
 
@@ -275,80 +310,77 @@ fn bad_ranges_are_passed_over(rt: HostRuntime) -> Result<(), Fail> {
     let alloc = rt.alloc();
     let both = [at(1, 2), at(3, 4)];
     let wanted = [both[..1].to_vec(alloc)?, both.to_vec(alloc)?];
-    passes_over(&rt, alloc, &[0..1, 5..6, 2..1, 0..2], &wanted, false)?;
-    let wanted = [both[1..].to_vec(alloc)?, both.to_vec(alloc)?];
+    let ranges = &[0..1, 5..6, 2..1, 0..2];
+    passes_over(&rt, alloc, "beyond and reversed", ranges, &wanted, false)?;
+    let [one, both] = [both[1..].to_vec(alloc)?, both.to_vec(alloc)?];
     let far = usize::MAX;
-    passes_over(&rt, alloc, &[far..far, 1..2, 0..far, 0..2], &wanted, false)
+    let ranges = &[far..far, 1..2, 0..far, 0..2];
+    let wanted = [one.clone()?, both.clone()?];
+    passes_over(&rt, alloc, "far", ranges, &wanted, false)?;
+    let wanted = [one, Vec::new(alloc), both];
+    let ranges = &[1..2, 0..0, 0..2];
+    passes_over(&rt, alloc, "an empty range stays", ranges, &wanted, true)
 }
 
-#[test]
-fn empty_ranges_are_not_passed_over(rt: HostRuntime) -> Result<(), Fail> {
-    let alloc = rt.alloc();
-    let both = [at(1, 2), at(3, 4)];
-    let wanted = [
-        both[1..].to_vec(alloc)?,
-        Vec::new(alloc),
-        both.to_vec(alloc)?,
-    ];
-    passes_over(&rt, alloc, &[1..2, 0..0, 0..2], &wanted, true)
+/// So many items, and what a hint says of them: so many at least, and at most.
+fn items(left: usize, lower: usize, upper: Option<usize>) -> Hinted {
+    Hinted { left, lower, upper }
 }
 
 #[test]
 fn size_hints_need_not_be_exact(rt: HostRuntime) -> Result<(), Fail> {
     let mut contours = FloatFlatContoursBuffer::new(rt.alloc());
-    let three = Hinted {
-        left: 3,
-        lower: 1,
-        upper: Some(10),
-    };
-    contours.set_with_iter(three, &[0..3])?;
-    assert!(rt; contours.points.as_slice() == [at(7, 7); 3].as_slice());
-    assert!(rt; contours.ranges.as_slice() == [0..3].as_slice());
-    let five = Hinted {
-        left: 5,
-        lower: 0,
-        upper: None,
-    };
-    contours.set_with_iter(five, &[])?;
-    assert!(rt; contours.points.as_slice() == [at(7, 7); 5].as_slice());
-    assert!(rt; contours.ranges.is_empty());
+    let name = "three items";
+    contours.set_with_iter(items(3, 1, Some(10)), &[0..3])?;
+    let kept = contours.points.as_slice();
+    holds(&rt, kept == [at(7, 7); 3].as_slice(), name, "points");
+    let kept = contours.ranges.as_slice();
+    holds(&rt, kept == [0..3].as_slice(), name, "ranges");
+    let name = "five items";
+    contours.set_with_iter(items(5, 0, None), &[])?;
+    let kept = contours.points.as_slice();
+    holds(&rt, kept == [at(7, 7); 5].as_slice(), name, "points");
+    holds(&rt, contours.ranges.is_empty(), name, "ranges");
     Ok(())
 }
 
-#[test]
-fn a_range_beyond_all_room_is_refused_and_leaves_nothing(rt: HostRuntime) -> Result<(), Fail> {
-    let mut contours = FloatFlatContoursBuffer::new(rt.alloc());
+/// The items and these ranges are refused, and the buffer of contours is left empty.
+fn is_refused(
+    rt: &impl Abort,
+    alloc: Global,
+    name: &str,
+    items: Hinted,
+    ranges: &[Range<usize>],
+) -> Result<(), Fail> {
+    let mut contours = FloatFlatContoursBuffer::new(alloc);
     contours.add_contour(&[at(1, 1)])?;
-    let two = Hinted {
-        left: 2,
-        lower: 2,
-        upper: Some(2),
-    };
-    assert!(rt; contours.set_with_iter(two, &[0..usize::MAX]) == Err(ShapeError::OutOfMemory));
-    assert!(rt; contours.is_empty() && contours.ranges.is_empty());
-    Ok(())
-}
-
-/// Two items. The hint says only that they are no more than can be counted.
-fn vague() -> Hinted {
-    Hinted {
-        left: 2,
-        lower: 0,
-        upper: Some(usize::MAX),
-    }
-}
-
-#[test]
-fn a_hint_beyond_all_room_is_refused_and_leaves_nothing(rt: HostRuntime) -> Result<(), Fail> {
-    let mut contours = FloatFlatContoursBuffer::new(rt.alloc());
-    contours.add_contour(&[at(1, 1)])?;
-    assert!(rt; contours.set_with_iter(vague(), &[]) == Err(ShapeError::OutOfMemory));
-    assert!(rt; contours.is_empty() && contours.ranges.is_empty());
-    let mut shapes = FloatFlatShapesBuffer::new(rt.alloc());
-    shapes.add_contour(&[at(1, 1)])?;
-    assert!(rt; shapes.set_with_iter(vague(), &[], &[]) == Err(ShapeError::OutOfMemory));
-    assert!(rt;
-        shapes.is_empty() && shapes.contour_ranges.is_empty() && shapes.shape_ranges.is_empty()
+    let answer = contours.set_with_iter(items, ranges);
+    holds(
+        rt,
+        answer == Err(ShapeError::OutOfMemory),
+        name,
+        "the answer",
     );
+    holds_no_contours(rt, name, &contours);
+    Ok(())
+}
+
+#[test]
+fn what_is_beyond_all_room_is_refused_and_leaves_nothing(rt: HostRuntime) -> Result<(), Fail> {
+    let alloc = rt.alloc();
+    let far = usize::MAX;
+    is_refused(&rt, alloc, "a range", items(2, 2, Some(2)), &[0..far])?;
+    is_refused(&rt, alloc, "a hint", items(2, 0, Some(far)), &[])?;
+    let name = "a hint, for shapes";
+    let mut shapes = FloatFlatShapesBuffer::new(alloc);
+    shapes.add_contour(&[at(1, 1)])?;
+    let answer = shapes.set_with_iter(items(2, 0, Some(far)), &[], &[]);
+    holds(
+        &rt,
+        answer == Err(ShapeError::OutOfMemory),
+        name,
+        "the answer",
+    );
+    holds_no_shapes(&rt, name, &shapes);
     Ok(())
 }

@@ -1,37 +1,92 @@
+use crate::claims::{equal, holds};
 use crate::given::contour;
+use i_shape::IntNumber;
 use i_shape::int::despike::DeSpike;
 use i_shape::int::simple::Simplify;
+use std::alloc::Global;
+use std::process::Abort;
 use std::test::Fail;
 
-#[test]
-fn contours_that_collapse_are_left_empty(rt: HostRuntime) -> Result<(), Fail> {
-    let alloc = rt.alloc();
-    for points in [
-        [].as_slice(),
-        [[3, 4]].as_slice(),
-        [[3, 4], [5, 6]].as_slice(),
-        [[0, 0], [0, 512], [0, 1]].as_slice(),
-        [[7, 7], [7, 7], [7, 7], [7, 7], [7, 7]].as_slice(),
-        [[0, 0], [2, 0], [2, 0], [0, 0]].as_slice(),
-        [[0, 0], [0, 0], [0, 0]].as_slice(),
-    ] {
-        let mut simplified = contour::<i32>(&rt, alloc, points)?;
-        assert!(rt; simplified.simplify_contour()?);
-        assert!(rt; simplified.is_empty());
-        let mut despiked = contour::<i32>(&rt, alloc, points)?;
-        assert!(rt; despiked.remove_spikes()?);
-        assert!(rt; despiked.is_empty());
+/// Without zero turns the contour of `given` becomes that of `wanted` in place, which is told. What is left of it then stays,
+/// which is told too.
+fn simplifies<I: IntNumber>(
+    rt: &impl Abort,
+    alloc: Global,
+    name: &str,
+    given: &[[I; 2]],
+    wanted: &[[I; 2]],
+) -> Result<(), Fail> {
+    let mut cleaned = contour(rt, alloc, given)?;
+    let mut wanted = contour(rt, alloc, wanted)?;
+    holds(rt, cleaned.simplify_contour()?, name, "no change is told");
+    holds(rt, cleaned == wanted, name, "without zero turns");
+    if !wanted.is_empty() {
+        holds(rt, !wanted.simplify_contour()?, name, "a change is told");
+        holds(rt, cleaned == wanted, name, "without zero turns, again");
     }
     Ok(())
 }
 
+/// Without spikes the contour of `given` becomes that of `wanted` in place, and `answer` tells whether there were any. What is
+/// left of it then stays, which is told too.
+fn despikes<I: IntNumber>(
+    rt: &impl Abort,
+    alloc: Global,
+    name: &str,
+    given: &[[I; 2]],
+    answer: bool,
+    wanted: &[[I; 2]],
+) -> Result<(), Fail> {
+    let mut cleaned = contour(rt, alloc, given)?;
+    let mut wanted = contour(rt, alloc, wanted)?;
+    equal(rt, cleaned.remove_spikes()?, answer, name, "what is told");
+    holds(rt, cleaned == wanted, name, "without spikes");
+    if !wanted.is_empty() {
+        holds(rt, !wanted.remove_spikes()?, name, "a change is told");
+        holds(rt, cleaned == wanted, name, "without spikes, again");
+    }
+    Ok(())
+}
+
+const COLLAPSED: [(&str, &[[i32; 2]]); 7] = [
+    ("no points", &[]),
+    ("one point", &[[3, 4]]),
+    ("two points", &[[3, 4], [5, 6]]),
+    ("points on a line", &[[0, 0], [0, 512], [0, 1]]),
+    ("one place", &[[7, 7], [7, 7], [7, 7], [7, 7], [7, 7]]),
+    ("there and back", &[[0, 0], [2, 0], [2, 0], [0, 0]]),
+    ("zero, thrice", &[[0, 0], [0, 0], [0, 0]]),
+];
+
 #[test]
-fn contours_without_spikes_stay(rt: HostRuntime) -> Result<(), Fail> {
+fn contours_that_collapse_are_left_empty(rt: HostRuntime) -> Result<(), Fail> {
     let alloc = rt.alloc();
-    for points in [
-        [[0, 0], [1, 0], [1, 0], [2, 0], [2, 2], [0, 2], [0, 0]].as_slice(),
-        [[0, 0], [1, 0], [1, 1], [0, 1]].as_slice(),
-        [
+    for (name, points) in COLLAPSED {
+        simplifies::<i32>(&rt, alloc, name, points, &[])?;
+        despikes::<i32>(&rt, alloc, name, points, true, &[])?;
+    }
+    Ok(())
+}
+
+/// A name, points, whether they have spikes, and what is left without them.
+type Despiked = (&'static str, &'static [[i32; 2]], bool, &'static [[i32; 2]]);
+
+const DESPIKED: [Despiked; 6] = [
+    (
+        "straight ways and repeated points stay",
+        &[[0, 0], [1, 0], [1, 0], [2, 0], [2, 2], [0, 2], [0, 0]],
+        false,
+        &[[0, 0], [1, 0], [1, 0], [2, 0], [2, 2], [0, 2], [0, 0]],
+    ),
+    (
+        "a square stays",
+        &[[0, 0], [1, 0], [1, 1], [0, 1]],
+        false,
+        &[[0, 0], [1, 0], [1, 1], [0, 1]],
+    ),
+    (
+        "a square with a point on each edge stays",
+        &[
             [0, -10],
             [10, -10],
             [10, 0],
@@ -40,90 +95,59 @@ fn contours_without_spikes_stay(rt: HostRuntime) -> Result<(), Fail> {
             [-10, 10],
             [-10, 0],
             [-10, -10],
-        ]
-        .as_slice(),
-    ] {
-        let mut given = contour::<i32>(&rt, alloc, points)?;
-        let before = contour::<i32>(&rt, alloc, points)?;
-        assert!(rt; !given.remove_spikes()?);
-        assert_eq!(rt; given, before);
-    }
-    Ok(())
-}
+        ],
+        false,
+        &[
+            [0, -10],
+            [10, -10],
+            [10, 0],
+            [10, 10],
+            [0, 10],
+            [-10, 10],
+            [-10, 0],
+            [-10, -10],
+        ],
+    ),
+    (
+        "a spike goes",
+        &[[0, 0], [2, 0], [4, 0], [2, 0], [2, 2], [0, 2]],
+        true,
+        &[[0, 0], [2, 0], [2, 2], [0, 2]],
+    ),
+    (
+        "a spike at the start goes",
+        &[[0, -1], [0, 1], [1, 1], [1, 0], [0, 0]],
+        true,
+        &[[0, 1], [1, 1], [1, 0], [0, 0]],
+    ),
+    (
+        "a spike goes and a straight way stays",
+        &[[0, 0], [0, 2], [1, 2], [4, 2], [3, 2], [2, 2], [2, 0]],
+        true,
+        &[[0, 0], [0, 2], [1, 2], [2, 2], [2, 0]],
+    ),
+];
 
 #[test]
 fn spikes_are_removed_once(rt: HostRuntime) -> Result<(), Fail> {
-    let alloc = rt.alloc();
-    for (points, wanted) in [
-        (
-            [[0, 0], [2, 0], [4, 0], [2, 0], [2, 2], [0, 2]].as_slice(),
-            [[0, 0], [2, 0], [2, 2], [0, 2]].as_slice(),
-        ),
-        (
-            [[0, -1], [0, 1], [1, 1], [1, 0], [0, 0]].as_slice(),
-            [[0, 1], [1, 1], [1, 0], [0, 0]].as_slice(),
-        ),
-        (
-            [[0, 0], [0, 2], [1, 2], [4, 2], [3, 2], [2, 2], [2, 0]].as_slice(),
-            [[0, 0], [0, 2], [1, 2], [2, 2], [2, 0]].as_slice(),
-        ),
-    ] {
-        let mut given = contour::<i32>(&rt, alloc, points)?;
-        let mut wanted = contour::<i32>(&rt, alloc, wanted)?;
-        assert!(rt; given.remove_spikes()?);
-        assert_eq!(rt; given, wanted);
-        assert!(rt; !wanted.remove_spikes()?);
-        assert_eq!(rt; given, wanted);
+    for (name, points, answer, wanted) in DESPIKED {
+        despikes::<i32>(&rt, rt.alloc(), name, points, answer, wanted)?;
     }
     Ok(())
 }
 
 #[test]
-fn zero_turns_are_removed_once(rt: HostRuntime) -> Result<(), Fail> {
+fn zero_turns_are_removed_once_at_each_width(rt: HostRuntime) -> Result<(), Fail> {
     let alloc = rt.alloc();
-    let mut given = contour::<i32>(
-        &rt,
-        alloc,
-        [[0, 0], [1, 0], [1, 0], [2, 0], [2, 2], [0, 2], [0, 0]].as_slice(),
-    )?;
-    let mut wanted = contour::<i32>(&rt, alloc, [[2, 0], [2, 2], [0, 2], [0, 0]].as_slice())?;
-    assert!(rt; given.simplify_contour()?);
-    assert_eq!(rt; given, wanted);
-    assert!(rt; !wanted.simplify_contour()?);
-    assert_eq!(rt; given, wanted);
-    Ok(())
-}
-
-#[test]
-fn narrow_contour_is_cleaned_between_the_bounds(rt: HostRuntime) -> Result<(), Fail> {
-    let alloc = rt.alloc();
-    let points = [[-16383, -16383], [16383, 16383], [16383, -16383], [0, 0]].as_slice();
-    let wanted = contour::<i16>(
-        &rt,
-        alloc,
-        [[16383, 16383], [16383, -16383], [0, 0]].as_slice(),
-    )?;
-    let mut simplified = contour::<i16>(&rt, alloc, points)?;
-    assert!(rt; simplified.simplify_contour()?);
-    assert_eq!(rt; simplified, wanted);
-    let mut despiked = contour::<i16>(&rt, alloc, points)?;
-    assert!(rt; despiked.remove_spikes()?);
-    assert_eq!(rt; despiked, wanted);
-    Ok(())
-}
-
-#[test]
-fn wide_contour_is_cleaned_between_the_bounds(rt: HostRuntime) -> Result<(), Fail> {
-    let alloc = rt.alloc();
+    let closed = [[0, 0], [1, 0], [1, 0], [2, 0], [2, 2], [0, 2], [0, 0]];
+    let wanted = [[2, 0], [2, 2], [0, 2], [0, 0]];
+    simplifies::<i32>(&rt, alloc, "closed", &closed, &wanted)?;
+    let far = 16383;
+    let points = [[-far, -far], [far, far], [far, -far], [0, 0]];
+    simplifies::<i16>(&rt, alloc, "16 bits", &points, &points[1..])?;
+    despikes::<i16>(&rt, alloc, "16 bits", &points, true, &points[1..])?;
     let far = 4611686018427387903;
     let points = [[-far, -far], [far, far], [far, -far], [0, 0]];
-    let wanted = [[far, far], [far, -far], [0, 0]];
-    let wanted = contour::<i64>(&rt, alloc, wanted.as_slice())?;
-    let mut simplified = contour::<i64>(&rt, alloc, points.as_slice())?;
-    assert!(rt; simplified.simplify_contour()?);
-    assert_eq!(rt; simplified, wanted);
-    let mut despiked = contour::<i64>(&rt, alloc, points.as_slice())?;
-    assert!(rt; despiked.remove_spikes()?);
-    assert_eq!(rt; despiked, wanted);
-    Ok(())
+    simplifies::<i64>(&rt, alloc, "64 bits", &points, &points[1..])?;
+    despikes::<i64>(&rt, alloc, "64 bits", &points, true, &points[1..])
 }

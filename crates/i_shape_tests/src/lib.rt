@@ -6,7 +6,11 @@ mod area;
 #[cfg(test)]
 mod buffer;
 #[cfg(test)]
+mod callers;
+#[cfg(test)]
 mod canonical;
+#[cfg(test)]
+mod claims;
 #[cfg(test)]
 mod contour;
 #[cfg(test)]
@@ -41,3 +45,5 @@ mod simple;
 mod small_grid;
 #[cfg(test)]
 mod through_buffer;
+#[cfg(test)]
+mod tool;

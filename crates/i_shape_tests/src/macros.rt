@@ -1,6 +1,9 @@
-use i_shape::int::IntPoint;
+use crate::claims::{equal, holds};
+use crate::given::contour;
+use crate::given_shapes::{shape, shapes};
 use i_shape::int::shape::{IntContour, IntShape, IntShapes};
 use i_shape::{int_path, int_shape, int_shapes, path, paths};
+use std::process::Abort;
 use std::test::Fail;
 
 fn next(count: &mut i32) -> i32 {
@@ -8,73 +11,65 @@ fn next(count: &mut i32) -> i32 {
     *count
 }
 
+/// The lists have these members.
+fn are_lists(rt: &impl Abort, name: &str, lists: &[Vec<i32>], wanted: &[&[i32]]) {
+    equal(rt, lists.len(), wanted.len(), name, "the number of lists");
+    for (list, members) in lists.iter().zip(wanted) {
+        equal(rt, list.as_slice(), *members, name, "a list");
+    }
+}
+
 #[test]
-fn paths_of_any_kind(rt: HostRuntime) -> Result<(), Fail> {
+fn lists_of_any_kind(rt: HostRuntime) -> Result<(), Fail> {
     let alloc = rt.alloc();
-    let none: Vec<i32> = path![alloc;]?;
-    assert!(rt; none.is_empty());
-    assert_eq!(rt; path![alloc; 7]?.as_slice(), [7].as_slice());
-    assert_eq!(rt; path![alloc; 1, 2,]?.as_slice(), [1, 2].as_slice());
+    let list: Vec<i32> = path![alloc;]?;
+    equal(&rt, list.as_slice(), &[], "path, none", "the list");
+    let list = path![alloc; 7]?;
+    equal(&rt, list.as_slice(), &[7], "path, one", "the list");
+    let list = path![alloc; 1, 2,]?;
+    equal(&rt, list.as_slice(), &[1, 2], "path, two", "the list");
+    let lists: Vec<Vec<i32>> = paths![alloc;]?;
+    are_lists(&rt, "paths, none", lists.as_slice(), &[]);
+    let lists = paths![alloc; [7]]?;
+    are_lists(&rt, "paths, one", lists.as_slice(), &[&[7]]);
+    let lists = paths![alloc; [1, 2,], [],]?;
+    are_lists(&rt, "paths, two", lists.as_slice(), &[&[1, 2], &[]]);
     Ok(())
 }
 
 #[test]
-fn lists_of_paths_of_any_kind(rt: HostRuntime) -> Result<(), Fail> {
+fn contours_of_whole_numbers(rt: HostRuntime) -> Result<(), Fail> {
     let alloc = rt.alloc();
-    let none: Vec<Vec<i32>> = paths![alloc;]?;
-    assert!(rt; none.is_empty());
-    let one = paths![alloc; [7]]?;
-    assert_eq!(rt; one.len(), 1);
-    assert_eq!(rt; one[0].as_slice(), [7].as_slice());
-    let two = paths![alloc; [1, 2,], [],]?;
-    assert_eq!(rt; two.len(), 2);
-    assert_eq!(rt; two[0].as_slice(), [1, 2].as_slice());
-    assert!(rt; two[1].is_empty());
-    Ok(())
-}
-
-#[test]
-fn paths_of_whole_numbers(rt: HostRuntime) -> Result<(), Fail> {
-    let alloc = rt.alloc();
-    let none: IntContour<i16> = int_path![alloc;]?;
-    assert!(rt; none.is_empty());
-    let one: IntContour<i64> = int_path![alloc; [5, -5]]?;
-    assert_eq!(rt; one.as_slice(), [IntPoint::new(5, -5)].as_slice());
-    let two: IntContour<i32> = int_path![alloc; [0, 1], [2, 3],]?;
-    assert_eq!(rt;
-        two.as_slice(),
-        [IntPoint::new(0, 1), IntPoint::new(2, 3)].as_slice()
-    );
+    let wanted = contour::<i16>(&rt, alloc, &[])?;
+    let path: IntContour<i16> = int_path![alloc;]?;
+    holds(&rt, path == wanted, "none", "the path");
+    let wanted = contour::<i64>(&rt, alloc, &[[5, -5]])?;
+    let path: IntContour<i64> = int_path![alloc; [5, -5]]?;
+    holds(&rt, path == wanted, "one", "the path");
+    let wanted = contour::<i32>(&rt, alloc, &[[0, 1], [2, 3]])?;
+    let path: IntContour<i32> = int_path![alloc; [0, 1], [2, 3],]?;
+    holds(&rt, path == wanted, "two", "the path");
     Ok(())
 }
 
 #[test]
 fn shapes_of_whole_numbers(rt: HostRuntime) -> Result<(), Fail> {
     let alloc = rt.alloc();
+    let wanted = shape::<i32>(&rt, alloc, &[])?;
     let none: IntShape<i32> = int_shape![alloc;]?;
-    assert!(rt; none.is_empty());
-    let shape: IntShape<i32> = int_shape![alloc; [[0, 0], [1, 0],], [[2, 2]],]?;
-    assert_eq!(rt; shape.len(), 2);
-    assert_eq!(rt;
-        shape[0].as_slice(),
-        [IntPoint::new(0, 0), IntPoint::new(1, 0)].as_slice()
-    );
-    assert_eq!(rt; shape[1].as_slice(), [IntPoint::new(2, 2)].as_slice());
-    Ok(())
-}
-
-#[test]
-fn lists_of_shapes_of_whole_numbers(rt: HostRuntime) -> Result<(), Fail> {
-    let alloc = rt.alloc();
-    let none: IntShapes<i32> = int_shapes![alloc;]?;
-    assert!(rt; none.is_empty());
-    let one: IntShapes<i32> = int_shapes![alloc; [[[3, 4]]]]?;
-    assert_eq!(rt; one.len(), 1);
-    let shapes: IntShapes<i32> = int_shapes![alloc; [[[0, 0], [1, 0], [1, 1],],], [],]?;
-    assert_eq!(rt; shapes.len(), 2);
-    assert_eq!(rt; shapes[0].len(), 1);
-    assert_eq!(rt; shapes[0][0].len(), 3);
-    assert!(rt; shapes[1].is_empty());
+    holds(&rt, none == wanted, "none", "the shape");
+    let wanted = shape::<i32>(&rt, alloc, &[&[[0, 0], [1, 0]], &[[2, 2]]])?;
+    let two: IntShape<i32> = int_shape![alloc; [[0, 0], [1, 0],], [[2, 2]],]?;
+    holds(&rt, two == wanted, "two contours", "the shape");
+    let wanted = shapes::<i32>(&rt, alloc, &[])?;
+    let list: IntShapes<i32> = int_shapes![alloc;]?;
+    holds(&rt, list == wanted, "none", "the list");
+    let wanted = shapes::<i32>(&rt, alloc, &[&[&[[3, 4]]]])?;
+    let list: IntShapes<i32> = int_shapes![alloc; [[[3, 4]]]]?;
+    holds(&rt, list == wanted, "one shape", "the list");
+    let wanted = shapes::<i32>(&rt, alloc, &[&[&[[0, 0], [1, 0], [1, 1]]], &[]])?;
+    let list: IntShapes<i32> = int_shapes![alloc; [[[0, 0], [1, 0], [1, 1],],], [],]?;
+    holds(&rt, list == wanted, "two shapes", "the list");
     Ok(())
 }
 
@@ -83,36 +78,19 @@ fn expressions_are_evaluated_from_left_to_right(rt: HostRuntime) -> Result<(), F
     let alloc = rt.alloc();
     let mut count = 0;
     let list = 10;
-    let numbers = paths![alloc; [list, next(&mut count)], [next(&mut count)]]?;
-    assert_eq!(rt; numbers.len(), 2);
-    assert_eq!(rt; numbers[0].as_slice(), [10, 1].as_slice());
-    assert_eq!(rt; numbers[1].as_slice(), [2].as_slice());
-    Ok(())
-}
-
-#[test]
-fn coordinates_are_evaluated_from_left_to_right(rt: HostRuntime) -> Result<(), Fail> {
+    let lists = paths![alloc; [list, next(&mut count)], [next(&mut count)]]?;
+    are_lists(&rt, "members", lists.as_slice(), &[&[10, 1], &[2]]);
     let mut count = 0;
-    let points =
-        int_path![rt.alloc(); [next(&mut count), next(&mut count)], [next(&mut count), 0]]?;
-    assert_eq!(rt;
-        points.as_slice(),
-        [IntPoint::new(1, 2), IntPoint::new(3, 0)].as_slice()
-    );
-    Ok(())
-}
-
-#[test]
-fn points_of_shapes_are_evaluated_from_left_to_right(rt: HostRuntime) -> Result<(), Fail> {
-    let alloc = rt.alloc();
+    let points = int_path![alloc; [next(&mut count), next(&mut count)], [next(&mut count), 0]]?;
+    let wanted = contour::<i32>(&rt, alloc, &[[1, 2], [3, 0]])?;
+    holds(&rt, points == wanted, "coordinates", "the path");
     let mut count = 0;
-    let shapes =
-        int_shapes![alloc; [[[next(&mut count), 0]], [[next(&mut count), 0]]], [[[next(&mut count), 0]]]]?;
-    assert_eq!(rt; shapes.len(), 2);
-    assert_eq!(rt; shapes[0].len(), 2);
-    assert_eq!(rt; shapes[0][0].as_slice(), [IntPoint::new(1, 0)].as_slice());
-    assert_eq!(rt; shapes[0][1].as_slice(), [IntPoint::new(2, 0)].as_slice());
-    assert_eq!(rt; shapes[1].len(), 1);
-    assert_eq!(rt; shapes[1][0].as_slice(), [IntPoint::new(3, 0)].as_slice());
+    let list: IntShapes<i32> = int_shapes![
+        alloc;
+        [[[next(&mut count), 0]], [[next(&mut count), 0]]],
+        [[[next(&mut count), 0]]]
+    ]?;
+    let wanted = shapes::<i32>(&rt, alloc, &[&[&[[1, 0]], &[[2, 0]]], &[&[[3, 0]]]])?;
+    holds(&rt, list == wanted, "points of shapes", "the list");
     Ok(())
 }

@@ -1,14 +1,16 @@
 ghost use Rattle.std.specs.Prelude.{◌≡◌, [], ◌∷◌, length, IfOk};
 ghost use Rattle.i_shape.specs.Paths.{paths_of_shapes};
 
+use crate::claims::{equal, holds};
 use i_shape::flat::buffer::{FlatContoursBuffer, FlatShapesBuffer};
 use i_shape::int::IntPoint;
 use i_shape::int::safe_range::IntSafeRange;
 use i_shape::source::float::resource::{ShapePoint, ShapeResource};
 use i_shape::source::int::contour::ContourResourceIterator;
 use i_shape::source::int::resource::IntShapeResource;
-use i_shape::{IntNumber, int_path, path};
+use i_shape::{IntNumber, path};
 use std::alloc::Global;
+use std::ops::Range;
 use std::process::Abort;
 use std::test::Fail;
 
@@ -40,6 +42,8 @@ impl<'p> IntShapeResource<'p, i32> for Outline<'p> {
 /// Two traversals of the resource lend these paths, and then end.
 fn lends<'a, I: IntNumber + 'a, R: IntShapeResource<'a, I> + Copy>(
     rt: &impl Abort,
+    name: &str,
+    what: &str,
     resource: R,
     wanted: &[Vec<IntPoint<I>>],
 )
@@ -48,17 +52,19 @@ fn lends<'a, I: IntNumber + 'a, R: IntShapeResource<'a, I> + Copy>(
     for _ in 0..2 {
         let mut place = 0;
         for path in resource.iter_paths() {
-            assert!(rt; place < wanted.len(), "a path too many");
-            assert!(rt; path == wanted[place].as_slice(), "another path");
+            assert!(rt; place < wanted.len(), "{name}: {what}: a path too many");
+            holds(rt, path == wanted[place].as_slice(), name, what);
             place += 1;
         }
-        assert_eq!(rt; place, wanted.len());
+        equal(rt, place, wanted.len(), name, what);
     }
 }
 
 /// Two traversals of the resource lend these paths, and then end.
 pub fn lends_points<'a, P: ShapePoint + PartialEq + 'a, R: ShapeResource<'a, P> + Copy>(
     rt: &impl Abort,
+    name: &str,
+    what: &str,
     resource: R,
     wanted: &[Vec<P>],
 )
@@ -67,24 +73,26 @@ pub fn lends_points<'a, P: ShapePoint + PartialEq + 'a, R: ShapeResource<'a, P> 
     for _ in 0..2 {
         let mut place = 0;
         for path in resource.iter_paths() {
-            assert!(rt; place < wanted.len(), "a path too many");
-            assert!(rt; path == wanted[place].as_slice(), "another path");
+            assert!(rt; place < wanted.len(), "{name}: {what}: a path too many");
+            holds(rt, path == wanted[place].as_slice(), name, what);
             place += 1;
         }
-        assert_eq!(rt; place, wanted.len());
+        equal(rt, place, wanted.len(), name, what);
     }
 }
 
 #[test]
 fn another_resource_forwards_its_slice(rt: HostRuntime) -> Result<(), Fail> {
     let points = [IntPoint::new(7, 1), IntPoint::new(2, -3)];
+    let name = "a resource of the tests' own";
     let outline = Outline { points: &points };
     let wanted = vec![in rt.alloc(); points.to_vec(rt.alloc())?]?;
-    lends(&rt, outline, &wanted);
-    assert!(rt; outline.is_in_safe_range());
-    assert_eq!(rt; outline.iter_paths().count(), 1);
+    lends(&rt, name, "an outline", outline, &wanted);
+    holds(&rt, outline.is_in_safe_range(), name, "safe");
+    equal(&rt, outline.iter_paths().count(), 1, name, "paths");
     let far = [IntPoint::new(1073741824, 0)];
-    assert!(rt; !Outline { points: &far }.is_in_safe_range());
+    let outline = Outline { points: &far };
+    holds(&rt, !outline.is_in_safe_range(), name, "a far point");
     Ok(())
 }
 
@@ -125,223 +133,207 @@ fn some_paths<P: Copy>(alloc: Global, path: &[P]) -> Result<[Vec<P>; 3], Fail> {
 fn lends_lists_of_shapes<I: IntNumber>(
     rt: &impl Abort,
     alloc: Global,
+    name: &str,
     path: &[IntPoint<I>],
 ) -> Result<(), Fail> {
     let wanted = paths_of_some_shapes(alloc, path)?;
     let array = some_shapes(alloc, path)?;
-    lends(rt, &array, &wanted);
-    lends(rt, &&array, &wanted);
+    lends(rt, name, "an array", &array, &wanted);
+    lends(rt, name, "a reference to an array", &&array, &wanted);
     let vector = Vec::from_array(alloc, array)?;
-    lends(rt, &vector, &wanted);
-    lends(rt, &&vector, &wanted);
+    lends(rt, name, "a vector", &vector, &wanted);
+    lends(rt, name, "a reference to a vector", &&vector, &wanted);
     let slice = vector.as_slice();
-    lends(rt, slice, &wanted);
-    lends(rt, &slice, &wanted);
+    lends(rt, name, "a slice", slice, &wanted);
+    lends(rt, name, "a reference to a slice", &slice, &wanted);
     Ok(())
 }
 
 fn lends_lists_of_paths<I: IntNumber>(
     rt: &impl Abort,
     alloc: Global,
+    name: &str,
     path: &[IntPoint<I>],
 ) -> Result<(), Fail> {
     let array = some_paths(alloc, path)?;
-    lends(rt, &array, &array);
-    lends(rt, &&array, &array);
+    lends(rt, name, "an array", &array, &array);
+    lends(rt, name, "a reference to an array", &&array, &array);
     let vector = Vec::from_array(alloc, array)?;
-    lends(rt, &vector, &vector);
-    lends(rt, &&vector, &vector);
+    lends(rt, name, "a vector", &vector, &vector);
+    lends(rt, name, "a reference to a vector", &&vector, &vector);
     let slice = vector.as_slice();
-    lends(rt, slice, slice);
-    lends(rt, &slice, slice);
-    lends(rt, &slice[..0], &slice[..0]);
+    lends(rt, name, "a slice", slice, slice);
+    lends(rt, name, "a reference to a slice", &slice, slice);
+    lends(rt, name, "an empty slice", &slice[..0], &slice[..0]);
     Ok(())
 }
 
 fn lends_one_path<I: IntNumber>(
     rt: &impl Abort,
     alloc: Global,
+    name: &str,
     array: [IntPoint<I>; 2],
 ) -> Result<(), Fail> {
     let vector = array.to_vec(alloc)?;
     let wanted = vec![in alloc; array.to_vec(alloc)?]?;
-    lends(rt, &array, &wanted);
-    lends(rt, &&array, &wanted);
-    lends(rt, &vector, &wanted);
-    lends(rt, &&vector, &wanted);
+    lends(rt, name, "an array", &array, &wanted);
+    lends(rt, name, "a reference to an array", &&array, &wanted);
+    lends(rt, name, "a vector", &vector, &wanted);
+    lends(rt, name, "a reference to a vector", &&vector, &wanted);
     let slice = vector.as_slice();
-    lends(rt, slice, &wanted);
-    lends(rt, &slice, &wanted);
+    lends(rt, name, "a slice", slice, &wanted);
+    lends(rt, name, "a reference to a slice", &slice, &wanted);
     let wanted = vec![in alloc; Vec::new(alloc)]?;
-    lends(rt, &slice[..0], &wanted);
+    lends(rt, name, "an empty slice", &slice[..0], &wanted);
     Ok(())
 }
 
 fn lends_points_lists_of_shapes<P: ShapePoint + PartialEq>(
     rt: &impl Abort,
     alloc: Global,
+    name: &str,
     path: &[P],
 ) -> Result<(), Fail> {
     let wanted = paths_of_some_shapes(alloc, path)?;
     let array = some_shapes(alloc, path)?;
-    lends_points(rt, &array, &wanted);
-    lends_points(rt, &&array, &wanted);
+    lends_points(rt, name, "an array", &array, &wanted);
+    lends_points(rt, name, "a reference to an array", &&array, &wanted);
     let vector = Vec::from_array(alloc, array)?;
-    lends_points(rt, &vector, &wanted);
-    lends_points(rt, &&vector, &wanted);
+    lends_points(rt, name, "a vector", &vector, &wanted);
+    lends_points(rt, name, "a reference to a vector", &&vector, &wanted);
     let slice = vector.as_slice();
-    lends_points(rt, slice, &wanted);
-    lends_points(rt, &slice, &wanted);
+    lends_points(rt, name, "a slice", slice, &wanted);
+    lends_points(rt, name, "a reference to a slice", &slice, &wanted);
     Ok(())
 }
 
 fn lends_points_lists_of_paths<P: ShapePoint + PartialEq>(
     rt: &impl Abort,
     alloc: Global,
+    name: &str,
     path: &[P],
 ) -> Result<(), Fail> {
     let array = some_paths(alloc, path)?;
-    lends_points(rt, &array, &array);
-    lends_points(rt, &&array, &array);
+    lends_points(rt, name, "an array", &array, &array);
+    lends_points(rt, name, "a reference to an array", &&array, &array);
     let vector = Vec::from_array(alloc, array)?;
-    lends_points(rt, &vector, &vector);
-    lends_points(rt, &&vector, &vector);
+    lends_points(rt, name, "a vector", &vector, &vector);
+    lends_points(rt, name, "a reference to a vector", &&vector, &vector);
     let slice = vector.as_slice();
-    lends_points(rt, slice, slice);
-    lends_points(rt, &slice, slice);
-    lends_points(rt, &slice[..0], &slice[..0]);
+    lends_points(rt, name, "a slice", slice, slice);
+    lends_points(rt, name, "a reference to a slice", &slice, slice);
+    lends_points(rt, name, "an empty slice", &slice[..0], &slice[..0]);
     Ok(())
 }
 
 fn lends_points_one_path<P: ShapePoint + PartialEq>(
     rt: &impl Abort,
     alloc: Global,
+    name: &str,
     array: [P; 2],
 ) -> Result<(), Fail> {
     let vector = array.to_vec(alloc)?;
     let wanted = vec![in alloc; array.to_vec(alloc)?]?;
-    lends_points(rt, &array, &wanted);
-    lends_points(rt, &&array, &wanted);
-    lends_points(rt, &vector, &wanted);
-    lends_points(rt, &&vector, &wanted);
+    lends_points(rt, name, "an array", &array, &wanted);
+    lends_points(rt, name, "a reference to an array", &&array, &wanted);
+    lends_points(rt, name, "a vector", &vector, &wanted);
+    lends_points(rt, name, "a reference to a vector", &&vector, &wanted);
     let slice = vector.as_slice();
-    lends_points(rt, slice, &wanted);
-    lends_points(rt, &slice, &wanted);
+    lends_points(rt, name, "a slice", slice, &wanted);
+    lends_points(rt, name, "a reference to a slice", &slice, &wanted);
     let wanted = vec![in alloc; Vec::new(alloc)]?;
-    lends_points(rt, &slice[..0], &wanted);
+    lends_points(rt, name, "an empty slice", &slice[..0], &wanted);
     Ok(())
 }
 
+/// A list of the points, of no point and of the last point, all borrowed, lends these three.
+fn lends_borrowed_paths<I: IntNumber>(
+    rt: &impl Abort,
+    alloc: Global,
+    name: &str,
+    points: &[IntPoint<I>],
+) -> Result<(), Fail> {
+    let wanted = some_paths(alloc, points)?;
+    let array = [points, &points[..0], &points[1.min(points.len())..]];
+    let borrowed = &array;
+    lends(rt, name, "borrowed paths", borrowed, &wanted);
+    lends(
+        rt,
+        name,
+        "a reference to borrowed paths",
+        &borrowed,
+        &wanted,
+    );
+    let slice = array.as_slice();
+    lends(rt, name, "a slice", slice, &wanted);
+    lends(rt, name, "a reference to a slice", &slice, &wanted);
+    Ok(())
+}
+
+/// A list of the points, of no point and of the last point, all borrowed, lends these three.
+fn lends_points_borrowed_paths<P: ShapePoint + PartialEq>(
+    rt: &impl Abort,
+    alloc: Global,
+    name: &str,
+    points: &[P],
+) -> Result<(), Fail> {
+    let wanted = some_paths(alloc, points)?;
+    let array = [points, &points[..0], &points[1.min(points.len())..]];
+    let borrowed = &array;
+    lends_points(rt, name, "borrowed paths", borrowed, &wanted);
+    lends_points(
+        rt,
+        name,
+        "a reference to borrowed paths",
+        &borrowed,
+        &wanted,
+    );
+    let slice = array.as_slice();
+    lends_points(rt, name, "a slice", slice, &wanted);
+    lends_points(rt, name, "a reference to a slice", &slice, &wanted);
+    Ok(())
+}
+
+/// Points lend their paths: in lists of shapes, in lists of paths, in lists of borrowed paths, and as one path.
+fn lends_each<I: IntNumber>(
+    rt: &impl Abort,
+    alloc: Global,
+    name: &str,
+    points: [IntPoint<I>; 2],
+) -> Result<(), Fail> {
+    lends_lists_of_shapes(rt, alloc, name, points.as_slice())?;
+    lends_lists_of_paths(rt, alloc, name, points.as_slice())?;
+    lends_borrowed_paths(rt, alloc, name, points.as_slice())?;
+    lends_one_path(rt, alloc, name, points)
+}
+
 #[test]
-fn lists_of_shapes_are_flattened(rt: HostRuntime) -> Result<(), Fail> {
+fn lists_of_each_width_lend_their_paths(rt: HostRuntime) -> Result<(), Fail> {
     let alloc = rt.alloc();
-    lends_lists_of_shapes(&rt, alloc, &[IntPoint::new(7i16, 1), IntPoint::new(2, -3)])?;
-    lends_lists_of_shapes(&rt, alloc, &[IntPoint::new(7i32, 1), IntPoint::new(2, -3)])?;
-    lends_lists_of_shapes(&rt, alloc, &[IntPoint::new(7i64, 1), IntPoint::new(2, -3)])?;
+    lends_each(
+        &rt,
+        alloc,
+        "16 bits",
+        [IntPoint::new(7i16, 1), IntPoint::new(2, -3)],
+    )?;
+    lends_each(
+        &rt,
+        alloc,
+        "32 bits",
+        [IntPoint::new(7i32, 1), IntPoint::new(2, -3)],
+    )?;
+    lends_each(
+        &rt,
+        alloc,
+        "64 bits",
+        [IntPoint::new(7i64, 1), IntPoint::new(2, -3)],
+    )?;
+    let name = "points of the tests' own";
     let whole = [WholePoint { x: 7, y: 1 }, WholePoint { x: 2, y: -3 }];
-    lends_points_lists_of_shapes(&rt, alloc, &whole)?;
-    Ok(())
-}
-
-#[test]
-fn lists_of_paths_keep_empty_paths(rt: HostRuntime) -> Result<(), Fail> {
-    let alloc = rt.alloc();
-    lends_lists_of_paths(&rt, alloc, &[IntPoint::new(7i16, 1), IntPoint::new(2, -3)])?;
-    lends_lists_of_paths(&rt, alloc, &[IntPoint::new(7i32, 1), IntPoint::new(2, -3)])?;
-    lends_lists_of_paths(&rt, alloc, &[IntPoint::new(7i64, 1), IntPoint::new(2, -3)])?;
-    let whole = [WholePoint { x: 7, y: 1 }, WholePoint { x: 2, y: -3 }];
-    lends_points_lists_of_paths(&rt, alloc, &whole)?;
-    Ok(())
-}
-
-/// A list of the points, of no point and of the last point, all borrowed, lends these three, twice, also behind two references.
-macro_rules! lends_borrowed_paths {
-    ($rt:expr, $lends:ident, $points:expr, $none:expr, |$array:ident| $list:expr, |$named:ident| $borrowed:expr) => {{
-        let points = $points;
-        let none = $none;
-        let wanted = some_paths($rt.alloc(), &points)?;
-        let path = points.as_slice();
-        let empty = none.as_slice();
-        let last = &points[1..];
-        let $array = [path, empty, last];
-        let $named = $list;
-        let borrowed = $borrowed;
-        $lends(&$rt, borrowed, &wanted);
-        $lends(&$rt, &borrowed, &wanted);
-    }};
-}
-
-#[test]
-fn an_array_of_borrowed_paths_lends_them(rt: HostRuntime) -> Result<(), Fail> {
-    let none: [IntPoint<i16>; 0] = [];
-    let points = [IntPoint::new(7i16, 1), IntPoint::new(2, -3)];
-    lends_borrowed_paths!(rt, lends, points, none, |array| array, |list| &list);
-    let none: [IntPoint<i32>; 0] = [];
-    let points = [IntPoint::new(7i32, 1), IntPoint::new(2, -3)];
-    lends_borrowed_paths!(rt, lends, points, none, |array| array, |list| &list);
-    let none: [IntPoint<i64>; 0] = [];
-    let points = [IntPoint::new(7i64, 1), IntPoint::new(2, -3)];
-    lends_borrowed_paths!(rt, lends, points, none, |array| array, |list| &list);
-    let none: [WholePoint; 0] = [];
-    let points = [WholePoint { x: 7, y: 1 }, WholePoint { x: 2, y: -3 }];
-    lends_borrowed_paths!(rt, lends_points, points, none, |array| array, |list| &list);
-    Ok(())
-}
-
-#[test]
-fn a_slice_of_borrowed_paths_lends_them(rt: HostRuntime) -> Result<(), Fail> {
-    let none: [IntPoint<i16>; 0] = [];
-    let points = [IntPoint::new(7i16, 1), IntPoint::new(2, -3)];
-    lends_borrowed_paths!(
-        rt,
-        lends,
-        points,
-        none,
-        |array| array,
-        |list| list.as_slice()
-    );
-    let none: [IntPoint<i32>; 0] = [];
-    let points = [IntPoint::new(7i32, 1), IntPoint::new(2, -3)];
-    lends_borrowed_paths!(
-        rt,
-        lends,
-        points,
-        none,
-        |array| array,
-        |list| list.as_slice()
-    );
-    let none: [IntPoint<i64>; 0] = [];
-    let points = [IntPoint::new(7i64, 1), IntPoint::new(2, -3)];
-    lends_borrowed_paths!(
-        rt,
-        lends,
-        points,
-        none,
-        |array| array,
-        |list| list.as_slice()
-    );
-    let none: [WholePoint; 0] = [];
-    let points = [WholePoint { x: 7, y: 1 }, WholePoint { x: 2, y: -3 }];
-    lends_borrowed_paths!(
-        rt,
-        lends_points,
-        points,
-        none,
-        |array| array,
-        |list| list.as_slice()
-    );
-    Ok(())
-}
-
-#[test]
-fn a_list_of_points_is_one_path(rt: HostRuntime) -> Result<(), Fail> {
-    let alloc = rt.alloc();
-    lends_one_path(&rt, alloc, [IntPoint::new(7i16, 1), IntPoint::new(2, -3)])?;
-    lends_one_path(&rt, alloc, [IntPoint::new(7i32, 1), IntPoint::new(2, -3)])?;
-    lends_one_path(&rt, alloc, [IntPoint::new(7i64, 1), IntPoint::new(2, -3)])?;
-    let whole = [WholePoint { x: 7, y: 1 }, WholePoint { x: 2, y: -3 }];
-    lends_points_one_path(&rt, alloc, whole)?;
-    Ok(())
+    lends_points_lists_of_shapes(&rt, alloc, name, &whole)?;
+    lends_points_lists_of_paths(&rt, alloc, name, &whole)?;
+    lends_points_borrowed_paths(&rt, alloc, name, &whole)?;
+    lends_points_one_path(&rt, alloc, name, whole)
 }
 
 /// Whether the points are safe: as a contour, as a shape of it, as a list of that shape.
@@ -354,21 +346,44 @@ fn are_safe<I: IntNumber>(alloc: Global, points: &[IntPoint<I>]) -> Result<[bool
     Ok([of_contour, of_shape, (&shapes).is_in_safe_range()])
 }
 
+/// The corners with this point more aren't safe.
+fn is_far<I: IntNumber>(
+    rt: &impl Abort,
+    alloc: Global,
+    name: &str,
+    corners: [IntPoint<I>; 2],
+    far: IntPoint<I>,
+) -> Result<(), Fail> {
+    let safe = are_safe(alloc, &[corners[0], corners[1], far])?;
+    equal(
+        rt,
+        safe,
+        [false; 3],
+        name,
+        "with a point beyond the corners",
+    );
+    Ok(())
+}
+
 /// The corners are safe, and no longer with a point beyond them, whichever coordinate it is.
 fn safe_range_ends_at<I: IntNumber>(
     rt: &impl Abort,
     alloc: Global,
-    corners: &[IntPoint<I>],
-    beyond: &[I],
+    name: &str,
+    [low, high]: [I; 2],
+    beyond: [I; 4],
 ) -> Result<(), Fail> {
-    assert!(rt; are_safe(alloc, corners)? == [true; 3]);
+    let corners = [IntPoint::new(low, low), IntPoint::new(high, high)];
+    equal(
+        rt,
+        are_safe(alloc, &corners)?,
+        [true; 3],
+        name,
+        "the corners",
+    );
     for coordinate in beyond {
-        let mut wide = corners.to_vec(alloc)?;
-        wide.push(IntPoint::new(*coordinate, I::ZERO))?;
-        assert!(rt; are_safe(alloc, wide.as_slice())? == [false; 3]);
-        let mut tall = corners.to_vec(alloc)?;
-        tall.push(IntPoint::new(I::ZERO, *coordinate))?;
-        assert!(rt; are_safe(alloc, tall.as_slice())? == [false; 3]);
+        is_far(rt, alloc, name, corners, IntPoint::new(coordinate, I::ZERO))?;
+        is_far(rt, alloc, name, corners, IntPoint::new(I::ZERO, coordinate))?;
     }
     Ok(())
 }
@@ -376,112 +391,158 @@ fn safe_range_ends_at<I: IntNumber>(
 #[test]
 fn safe_range_ends_at_a_quarter_of_each_width(rt: HostRuntime) -> Result<(), Fail> {
     let alloc = rt.alloc();
-    let corners = [
-        IntPoint::new(-16383i16, -16383),
-        IntPoint::new(16383, 16383),
-    ];
-    safe_range_ends_at(&rt, alloc, &corners, &[16384, -16384, 32767, -32768])?;
+    let beyond = [16384, -16384, 32767, -32768];
+    safe_range_ends_at::<i16>(&rt, alloc, "16 bits", [-16383, 16383], beyond)?;
     let m = 1073741823i32;
-    let corners = [IntPoint::new(-m, -m), IntPoint::new(m, m)];
-    safe_range_ends_at(&rt, alloc, &corners, &[m + 1, -m - 1, i32::MAX, i32::MIN])?;
+    let beyond = [m + 1, -m - 1, i32::MAX, i32::MIN];
+    safe_range_ends_at(&rt, alloc, "32 bits", [-m, m], beyond)?;
     let m = 4611686018427387903i64;
-    let corners = [IntPoint::new(-m, -m), IntPoint::new(m, m)];
-    safe_range_ends_at(&rt, alloc, &corners, &[m + 1, -m - 1, i64::MAX, i64::MIN])?;
-    Ok(())
+    let beyond = [m + 1, -m - 1, i64::MAX, i64::MIN];
+    safe_range_ends_at(&rt, alloc, "64 bits", [-m, m], beyond)
 }
 
 #[test]
-fn resources_without_points_are_safe(rt: HostRuntime) -> Result<(), Fail> {
-    let paths: Vec<Vec<IntPoint<i32>>> = vec![in rt.alloc();
-        Vec::new(rt.alloc()),
-        Vec::new(rt.alloc()),
-    ]?;
-    assert!(rt; (&paths).is_in_safe_range());
-    assert!(rt; paths[..0].is_in_safe_range());
-    Ok(())
-}
-
-#[test]
-fn later_paths_decide_too(rt: HostRuntime) -> Result<(), Fail> {
-    let near = [IntPoint::new(1, 2)].to_vec(rt.alloc())?;
-    let far = [IntPoint::new(0, 1073741824)].to_vec(rt.alloc())?;
+fn each_path_decides_whether_a_resource_is_safe(rt: HostRuntime) -> Result<(), Fail> {
+    let alloc = rt.alloc();
+    let paths: Vec<Vec<IntPoint<i32>>> = vec![in alloc; Vec::new(alloc), Vec::new(alloc)]?;
+    holds(&rt, (&paths).is_in_safe_range(), "two empty paths", "safe");
+    holds(&rt, paths[..0].is_in_safe_range(), "no paths", "safe");
+    let near = [IntPoint::new(1, 2)].to_vec(alloc)?;
+    let far = [IntPoint::new(0, 1073741824)].to_vec(alloc)?;
     let paths = [near, far];
-    assert!(rt; !(&paths).is_in_safe_range());
-    assert!(rt; paths[..1].is_in_safe_range());
+    holds(&rt, !(&paths).is_in_safe_range(), "a far path", "not safe");
+    holds(&rt, paths[..1].is_in_safe_range(), "a near path", "safe");
     Ok(())
 }
 
 /// The three slices that the ranges `1..2, 0..0, 0..2` name.
-fn buffers_lend_each_range<I: IntNumber>(
-    rt: &impl Abort,
+fn three_slices<I: IntNumber>(
     alloc: Global,
     points: &[IntPoint<I>],
-) -> Result<(), Fail> {
-    let wanted = [
+) -> Result<[Vec<IntPoint<I>>; 3], Fail> {
+    Ok([
         points[1.min(points.len())..].to_vec(alloc)?,
         Vec::new(alloc),
         points.to_vec(alloc)?,
-    ];
+    ])
+}
+
+fn contours_lend_each_range<I: IntNumber>(
+    rt: &impl Abort,
+    alloc: Global,
+    name: &str,
+    points: &[IntPoint<I>],
+) -> Result<(), Fail> {
+    let wanted = three_slices(alloc, points)?;
     let contours = FlatContoursBuffer {
         points: points.to_vec(alloc)?,
         ranges: path![alloc; 1..2, 0..0, 0..2]?,
     };
     assert!(rt; contours.can_read_contours());
-    lends(rt, &contours, &wanted);
-    lends(rt, &&contours, &wanted);
+    lends(rt, name, "a buffer of contours", &contours, &wanted);
+    lends(rt, name, "a reference to it", &&contours, &wanted);
     let mut walk = (&contours).iter_paths();
-    assert_eq!(rt; walk.len(), 3);
-    assert!(rt; walk.size_hint() == (3, Some(3)));
+    equal(rt, walk.len(), 3, name, "contours, the length of a walk");
+    equal(
+        rt,
+        walk.size_hint(),
+        (3, Some(3)),
+        name,
+        "contours, its hint",
+    );
     walk.next();
-    assert_eq!(rt; walk.len(), 2);
-    assert_eq!(rt; walk.count(), 2);
+    equal(rt, walk.len(), 2, name, "contours, its length after one");
+    equal(rt, walk.count(), 2, name, "contours, its count after one");
+    Ok(())
+}
+
+fn shapes_lend_each_range<I: IntNumber>(
+    rt: &impl Abort,
+    alloc: Global,
+    name: &str,
+    points: &[IntPoint<I>],
+) -> Result<(), Fail> {
+    let wanted = three_slices(alloc, points)?;
     let shapes = FlatShapesBuffer {
         points: points.to_vec(alloc)?,
         contour_ranges: path![alloc; 1..2, 0..0, 0..2]?,
         shape_ranges: Vec::new(alloc),
     };
     assert!(rt; shapes.can_read_contours());
-    lends(rt, &shapes, &wanted);
-    lends(rt, &&shapes, &wanted);
+    lends(rt, name, "a buffer of shapes", &shapes, &wanted);
+    lends(rt, name, "a reference to it", &&shapes, &wanted);
     let mut walk = (&shapes).iter_paths();
-    assert_eq!(rt; walk.len(), 3);
+    equal(rt, walk.len(), 3, name, "shapes, the length of a walk");
     walk.next();
-    assert_eq!(rt; walk.len(), 2);
-    assert_eq!(rt; walk.count(), 2);
+    equal(rt, walk.len(), 2, name, "shapes, its length after one");
+    equal(rt, walk.count(), 2, name, "shapes, its count after one");
     Ok(())
+}
+
+/// Both buffers lend each range.
+fn buffers_lend<I: IntNumber>(
+    rt: &impl Abort,
+    alloc: Global,
+    name: &str,
+    points: &[IntPoint<I>],
+) -> Result<(), Fail> {
+    contours_lend_each_range(rt, alloc, name, points)?;
+    shapes_lend_each_range(rt, alloc, name, points)
 }
 
 #[test]
 fn integer_buffers_lend_each_range(rt: HostRuntime) -> Result<(), Fail> {
     let alloc = rt.alloc();
-    buffers_lend_each_range(&rt, alloc, &[IntPoint::new(1i16, 2), IntPoint::new(3, 4)])?;
-    buffers_lend_each_range(&rt, alloc, &[IntPoint::new(1i32, 2), IntPoint::new(3, 4)])?;
-    buffers_lend_each_range(&rt, alloc, &[IntPoint::new(1i64, 2), IntPoint::new(3, 4)])?;
+    buffers_lend(
+        &rt,
+        alloc,
+        "16 bits",
+        &[IntPoint::new(1i16, 2), IntPoint::new(3, 4)],
+    )?;
+    buffers_lend(
+        &rt,
+        alloc,
+        "32 bits",
+        &[IntPoint::new(1i32, 2), IntPoint::new(3, 4)],
+    )?;
+    buffers_lend(
+        &rt,
+        alloc,
+        "64 bits",
+        &[IntPoint::new(1i64, 2), IntPoint::new(3, 4)],
+    )
+}
+
+/// Both buffers of a near and a far point can be read by these ranges, and are safe where the ranges pass over the far one.
+fn is_safe_by(
+    rt: &impl Abort,
+    alloc: Global,
+    name: &str,
+    ranges: &[Range<usize>],
+    safe: bool,
+) -> Result<(), Fail> {
+    let points = [IntPoint::new(0, 0), IntPoint::new(i32::MAX, 0)];
+    let contours = FlatContoursBuffer {
+        points: points.to_vec(alloc)?,
+        ranges: Vec::from_clones(alloc, ranges)?,
+    };
+    assert!(rt; contours.can_read_contours());
+    equal(rt, (&contours).is_in_safe_range(), safe, name, "contours");
+    let shapes = FlatShapesBuffer {
+        points: points.to_vec(alloc)?,
+        contour_ranges: Vec::from_clones(alloc, ranges)?,
+        shape_ranges: Vec::new(alloc),
+    };
+    assert!(rt; shapes.can_read_contours());
+    equal(rt, (&shapes).is_in_safe_range(), safe, name, "shapes");
     Ok(())
 }
 
 #[test]
 fn points_that_no_range_names_may_be_far(rt: HostRuntime) -> Result<(), Fail> {
     let alloc = rt.alloc();
-    for (ranges, safe) in [
-        (path![alloc; 0..1, 0..0]?, true),
-        (path![alloc; 0..1, 0..0, 1..2]?, false),
-    ] {
-        let contours = FlatContoursBuffer {
-            points: int_path![alloc; [0, 0], [i32::MAX, 0]]?,
-            ranges: Vec::from_clones(alloc, &ranges)?,
-        };
-        assert!(rt; contours.can_read_contours());
-        assert_eq!(rt; (&contours).is_in_safe_range(), safe);
-        let shapes = FlatShapesBuffer {
-            points: int_path![alloc; [0, 0], [i32::MAX, 0]]?,
-            contour_ranges: ranges,
-            shape_ranges: Vec::new(alloc),
-        };
-        assert!(rt; shapes.can_read_contours());
-        assert_eq!(rt; (&shapes).is_in_safe_range(), safe);
-    }
-    Ok(())
+    is_safe_by(&rt, alloc, "no range names it", &[0..1, 0..0], true)?;
+    is_safe_by(&rt, alloc, "a range names it", &[0..1, 0..0, 1..2], false)
 }
 
 #[test]
@@ -490,17 +551,17 @@ fn count_is_the_number_of_paths_left(rt: HostRuntime) -> Result<(), Fail> {
     let path = [IntPoint::new(7, 1), IntPoint::new(2, -3)];
     let mut walk = (&path).iter_paths();
     walk.next();
-    assert_eq!(rt; walk.count(), 0);
+    equal(&rt, walk.count(), 0, "points", "paths after one");
     let shape = [path.to_vec(alloc)?, path.to_vec(alloc)?];
     let mut walk = (&shape).iter_paths();
     walk.next();
-    assert_eq!(rt; walk.count(), 1);
+    equal(&rt, walk.count(), 1, "two paths", "paths after one");
     let two = vec![in alloc; path.to_vec(alloc)?, path.to_vec(alloc)?]?;
     let one = vec![in alloc; path.to_vec(alloc)?]?;
     let shapes = [two, one];
     let mut walk = (&shapes).iter_paths();
     walk.next();
-    assert_eq!(rt; walk.count(), 2);
+    equal(&rt, walk.count(), 2, "two shapes", "paths after one");
     Ok(())
 }
 
@@ -508,16 +569,17 @@ fn count_is_the_number_of_paths_left(rt: HostRuntime) -> Result<(), Fail> {
 fn count_passes_over_empty_shapes(rt: HostRuntime) -> Result<(), Fail> {
     let path = [IntPoint::new(7, 1), IntPoint::new(2, -3)];
     let shapes = some_shapes(rt.alloc(), &path)?;
-    assert_eq!(rt; (&shapes).iter_paths().count(), 4);
+    let name = "shapes of which some are empty";
+    equal(&rt, (&shapes).iter_paths().count(), 4, name, "paths");
     let mut walk = (&shapes).iter_paths();
     walk.next();
     walk.next();
-    assert_eq!(rt; walk.count(), 2);
+    equal(&rt, walk.count(), 2, name, "paths after two");
     let mut walk = (&shapes).iter_paths();
     walk.next();
     walk.next();
     walk.next();
     walk.next();
-    assert_eq!(rt; walk.count(), 0);
+    equal(&rt, walk.count(), 0, name, "paths after four");
     Ok(())
 }

@@ -1,6 +1,8 @@
+use crate::claims::holds;
 use crate::given_shapes::{shape, shapes};
 use i_shape::IntNumber;
 use i_shape::int::despike::{DeSpike, DeSpikeShape, DeSpikeShapes};
+use i_shape::int::shape::IntShape;
 use i_shape::int::simple::{SimpleShape, SimpleShapes, Simplify};
 use std::alloc::Global;
 use std::process::Abort;
@@ -45,11 +47,24 @@ const BLUNT: Contour = &[[0, 0], [2, 0], [2, 2], [0, 2]];
 
 const NO_POINTS: Contour = &[];
 
+/// A copy has the contours that are left, or there is none where none is wanted.
+fn is_left<I: IntNumber>(
+    kept: Option<IntShape<I>>,
+    left: &IntShape<I>,
+    wanted: Option<&[&[[I; 2]]]>,
+) -> bool {
+    match kept {
+        Some(kept) => wanted.is_some() && kept == *left,
+        None => wanted.is_none(),
+    }
+}
+
 /// Without zero turns the shape of `given` becomes that of `wanted`, or collapses: as a copy, and in place, where it is told
 /// whether that changed it.
 fn simplifies_shape<I: IntNumber>(
     rt: &impl Abort,
     alloc: Global,
+    name: &str,
     given: &[&[[I; 2]]],
     wanted: Option<&[&[[I; 2]]]>,
 ) -> Result<(), Fail> {
@@ -57,14 +72,18 @@ fn simplifies_shape<I: IntNumber>(
     let kept = before.as_slice().simplified(alloc)?;
     let mut cleaned = shape(rt, alloc, given)?;
     let changed = cleaned.simplify_contour()?;
-    assert!(rt; changed == (cleaned != before));
-    assert!(rt; changed != before.as_slice().is_simple());
-    let Some(wanted) = wanted else {
-        assert!(rt; kept.is_none() && cleaned.is_empty());
-        return Ok(());
-    };
-    assert!(rt; cleaned == shape(rt, alloc, wanted)?);
-    assert!(rt; cleaned == kept.ok_or("it collapsed")?);
+    holds(
+        rt,
+        changed == (cleaned != before),
+        name,
+        "the answer in place",
+    );
+    let simple = before.as_slice().is_simple();
+    holds(rt, changed != simple, name, "whether it is simple");
+    let left = shape(rt, alloc, wanted.unwrap_or(&[]))?;
+    holds(rt, cleaned == left, name, "without zero turns, in place");
+    let is_left = is_left(kept, &left, wanted);
+    holds(rt, is_left, name, "without zero turns");
     Ok(())
 }
 
@@ -72,6 +91,7 @@ fn simplifies_shape<I: IntNumber>(
 fn despikes_shape<I: IntNumber>(
     rt: &impl Abort,
     alloc: Global,
+    name: &str,
     given: &[&[[I; 2]]],
     wanted: Option<&[&[[I; 2]]]>,
 ) -> Result<(), Fail> {
@@ -79,14 +99,18 @@ fn despikes_shape<I: IntNumber>(
     let kept = before.despiked_shape(alloc)?;
     let mut cleaned = shape(rt, alloc, given)?;
     let changed = cleaned.remove_spikes()?;
-    assert!(rt; changed == (cleaned != before));
-    assert!(rt; changed != before.has_no_spikes());
-    let Some(wanted) = wanted else {
-        assert!(rt; kept.is_none() && cleaned.is_empty());
-        return Ok(());
-    };
-    assert!(rt; cleaned == shape(rt, alloc, wanted)?);
-    assert!(rt; cleaned == kept.ok_or("it collapsed")?);
+    holds(
+        rt,
+        changed == (cleaned != before),
+        name,
+        "the answer in place",
+    );
+    let clean = before.has_no_spikes();
+    holds(rt, changed != clean, name, "whether it has no spikes");
+    let left = shape(rt, alloc, wanted.unwrap_or(&[]))?;
+    holds(rt, cleaned == left, name, "without spikes, in place");
+    let is_left = is_left(kept, &left, wanted);
+    holds(rt, is_left, name, "without spikes");
     Ok(())
 }
 
@@ -95,16 +119,30 @@ fn despikes_shape<I: IntNumber>(
 fn simplifies_list<I: IntNumber>(
     rt: &impl Abort,
     alloc: Global,
+    name: &str,
     given: &[&[&[[I; 2]]]],
     wanted: &[&[&[[I; 2]]]],
 ) -> Result<(), Fail> {
     let wanted = shapes(rt, alloc, wanted)?;
     let before = shapes(rt, alloc, given)?;
     let mut cleaned = shapes(rt, alloc, given)?;
-    assert!(rt; before.as_slice().simplified(alloc)? == wanted);
-    assert!(rt; before.as_slice().is_simple() == (before == wanted));
-    assert!(rt; cleaned.simplify_contour()? == (before != wanted));
-    assert!(rt; cleaned == wanted);
+    let kept = before.as_slice().simplified(alloc)?;
+    holds(rt, kept == wanted, name, "without zero turns");
+    let simple = before.as_slice().is_simple();
+    holds(
+        rt,
+        simple == (before == wanted),
+        name,
+        "whether it is simple",
+    );
+    let changed = cleaned.simplify_contour()?;
+    holds(
+        rt,
+        changed == (before != wanted),
+        name,
+        "the answer in place",
+    );
+    holds(rt, cleaned == wanted, name, "without zero turns, in place");
     Ok(())
 }
 
@@ -112,65 +150,114 @@ fn simplifies_list<I: IntNumber>(
 fn despikes_list<I: IntNumber>(
     rt: &impl Abort,
     alloc: Global,
+    name: &str,
     given: &[&[&[[I; 2]]]],
     wanted: &[&[&[[I; 2]]]],
 ) -> Result<(), Fail> {
     let wanted = shapes(rt, alloc, wanted)?;
     let before = shapes(rt, alloc, given)?;
     let mut cleaned = shapes(rt, alloc, given)?;
-    assert!(rt; before.despiked_shapes(alloc)? == wanted);
-    assert!(rt; before.has_no_spikes() == (before == wanted));
-    assert!(rt; cleaned.remove_spikes()? == (before != wanted));
-    assert!(rt; cleaned == wanted);
+    let kept = before.despiked_shapes(alloc)?;
+    holds(rt, kept == wanted, name, "without spikes");
+    let clean = before.has_no_spikes();
+    holds(
+        rt,
+        clean == (before == wanted),
+        name,
+        "whether it has no spikes",
+    );
+    let changed = cleaned.remove_spikes()?;
+    holds(
+        rt,
+        changed == (before != wanted),
+        name,
+        "the answer in place",
+    );
+    holds(rt, cleaned == wanted, name, "without spikes, in place");
     Ok(())
 }
 
-/// A shape, and what is left of it where it doesn't collapse.
-type LeftOfShape = (Shape, Option<Shape>);
+/// A name, a shape, and what is left of it where it doesn't collapse.
+type LeftOfShape = (&'static str, Shape, Option<Shape>);
 
 const SIMPLIFIED_SHAPES: [LeftOfShape; 8] = [
-    // an empty shape stays empty
-    (&[], Some(&[])),
-    // a clean shape is its own copy
-    (&[CLOCKWISE, HOLE], Some(&[CLOCKWISE, HOLE])),
-    // flat holes are left out
-    (&[CLOCKWISE, FLAT_HOLE], Some(&[CLOCKWISE])),
-    (&[SQUARE, DIAGONAL], Some(&[SQUARE])),
-    // the closing point of the outer contour is taken off
-    (&[CLOSED], Some(&[CLOSED_SIMPLIFIED])),
-    (&[CLOSED, HOLE], Some(&[CLOSED_SIMPLIFIED, HOLE])),
-    // nothing is left without the outer contour
-    (&[BACK_AND_FORTH, HOLE, HOLE], None),
-    (&[NO_POINTS], None),
+    ("an empty shape stays empty", &[], Some(&[])),
+    (
+        "a clean shape is its own copy",
+        &[CLOCKWISE, HOLE],
+        Some(&[CLOCKWISE, HOLE]),
+    ),
+    (
+        "a flat hole is left out",
+        &[CLOCKWISE, FLAT_HOLE],
+        Some(&[CLOCKWISE]),
+    ),
+    (
+        "a diagonal hole is left out",
+        &[SQUARE, DIAGONAL],
+        Some(&[SQUARE]),
+    ),
+    (
+        "the closing point is taken off",
+        &[CLOSED],
+        Some(&[CLOSED_SIMPLIFIED]),
+    ),
+    (
+        "the closing point of the outer contour is taken off",
+        &[CLOSED, HOLE],
+        Some(&[CLOSED_SIMPLIFIED, HOLE]),
+    ),
+    (
+        "nothing is left without the outer contour",
+        &[BACK_AND_FORTH, HOLE, HOLE],
+        None,
+    ),
+    ("a contour without points", &[NO_POINTS], None),
 ];
 
 #[test]
 fn shapes_without_zero_turns(rt: HostRuntime) -> Result<(), Fail> {
-    for (given, wanted) in SIMPLIFIED_SHAPES {
-        simplifies_shape::<i32>(&rt, rt.alloc(), given, wanted)?;
+    for (name, given, wanted) in SIMPLIFIED_SHAPES {
+        simplifies_shape::<i32>(&rt, rt.alloc(), name, given, wanted)?;
     }
     Ok(())
 }
 
 const DESPIKED_SHAPES: [LeftOfShape; 8] = [
-    // an empty shape stays empty
-    (&[], Some(&[])),
-    // straight ways and repeated points are no spikes
-    (&[CLOSED, HOLE], Some(&[CLOSED, HOLE])),
-    (&[CLOSED], Some(&[CLOSED])),
-    // a spike and a flat hole go
-    (&[SPIKED, DIAGONAL], Some(&[BLUNT])),
-    (&[SQUARE, DIAGONAL], Some(&[SQUARE])),
-    // nothing is left without the outer contour
-    (&[VERTICAL, HOLE], None),
-    (&[BACK_AND_FORTH, HOLE, HOLE], None),
-    (&[NO_POINTS], None),
+    ("an empty shape stays empty", &[], Some(&[])),
+    (
+        "straight ways and repeated points are no spikes, beside a hole",
+        &[CLOSED, HOLE],
+        Some(&[CLOSED, HOLE]),
+    ),
+    (
+        "straight ways and repeated points are no spikes",
+        &[CLOSED],
+        Some(&[CLOSED]),
+    ),
+    (
+        "a spike and a flat hole go",
+        &[SPIKED, DIAGONAL],
+        Some(&[BLUNT]),
+    ),
+    ("a flat hole goes", &[SQUARE, DIAGONAL], Some(&[SQUARE])),
+    (
+        "nothing is left without a vertical outer contour",
+        &[VERTICAL, HOLE],
+        None,
+    ),
+    (
+        "nothing is left without the outer contour",
+        &[BACK_AND_FORTH, HOLE, HOLE],
+        None,
+    ),
+    ("a contour without points", &[NO_POINTS], None),
 ];
 
 #[test]
 fn shapes_without_spikes(rt: HostRuntime) -> Result<(), Fail> {
-    for (given, wanted) in DESPIKED_SHAPES {
-        despikes_shape::<i32>(&rt, rt.alloc(), given, wanted)?;
+    for (name, given, wanted) in DESPIKED_SHAPES {
+        despikes_shape::<i32>(&rt, rt.alloc(), name, given, wanted)?;
     }
     Ok(())
 }
@@ -183,87 +270,83 @@ fn a_thousand_flat_holes_are_left_out(rt: HostRuntime) -> Result<(), Fail> {
     for _ in 0..1000 {
         given.push(DIAGONAL)?;
     }
+    let name = "a thousand flat holes";
     let wanted = [SQUARE];
-    simplifies_shape(&rt, alloc, given.as_slice(), Some(&wanted))?;
-    despikes_shape(&rt, alloc, given.as_slice(), Some(&wanted))
+    simplifies_shape(&rt, alloc, name, given.as_slice(), Some(&wanted))?;
+    despikes_shape(&rt, alloc, name, given.as_slice(), Some(&wanted))
 }
 
-/// A list of shapes, and what is left of it.
-type LeftOfList = (Shapes, Shapes);
+/// A name, a list of shapes, and what is left of it.
+type LeftOfList = (&'static str, Shapes, Shapes);
 
 /// What is left of lists by both cleaners.
 const CLEANED_LISTS: [LeftOfList; 6] = [
-    // collapsed shapes are left out
     (
+        "a collapsed shape is left out",
         &[&[BACK_AND_FORTH, HOLE, HOLE], &[CLOCKWISE]],
         &[&[CLOCKWISE]],
     ),
     (
+        "two collapsed shapes are left out",
         &[&[BACK_AND_FORTH, HOLE, HOLE], &[BACK_AND_FORTH, HOLE, HOLE]],
         &[],
     ),
-    (&[&[NO_POINTS]], &[]),
-    // shapes that were empty before stay
-    (&[&[], &[VERTICAL], &[TRIANGLE]], &[&[], &[TRIANGLE]]),
-    (&[&[SQUARE, DIAGONAL], &[]], &[&[SQUARE], &[]]),
-    (&[&[CLOCKWISE, HOLE], &[]], &[&[CLOCKWISE, HOLE], &[]]),
+    ("a contour without points is left out", &[&[NO_POINTS]], &[]),
+    (
+        "a shape that was empty before stays",
+        &[&[], &[VERTICAL], &[TRIANGLE]],
+        &[&[], &[TRIANGLE]],
+    ),
+    (
+        "a flat hole is left out, and an empty shape stays",
+        &[&[SQUARE, DIAGONAL], &[]],
+        &[&[SQUARE], &[]],
+    ),
+    (
+        "clean shapes stay",
+        &[&[CLOCKWISE, HOLE], &[]],
+        &[&[CLOCKWISE, HOLE], &[]],
+    ),
 ];
 
 #[test]
-fn lists_without_zero_turns(rt: HostRuntime) -> Result<(), Fail> {
+fn lists_without_zero_turns_and_without_spikes(rt: HostRuntime) -> Result<(), Fail> {
     let alloc = rt.alloc();
-    for (given, wanted) in CLEANED_LISTS {
-        simplifies_list::<i32>(&rt, alloc, given, wanted)?;
+    for (name, given, wanted) in CLEANED_LISTS {
+        simplifies_list::<i32>(&rt, alloc, name, given, wanted)?;
+        despikes_list::<i32>(&rt, alloc, name, given, wanted)?;
     }
-    simplifies_list::<i32>(&rt, alloc, &[&[CLOSED]], &[&[CLOSED_SIMPLIFIED]])
-}
-
-#[test]
-fn lists_without_spikes(rt: HostRuntime) -> Result<(), Fail> {
-    let alloc = rt.alloc();
-    for (given, wanted) in CLEANED_LISTS {
-        despikes_list::<i32>(&rt, alloc, given, wanted)?;
-    }
-    despikes_list::<i32>(&rt, alloc, &[&[CLOSED]], &[&[CLOSED]])
+    let closed: Shapes = &[&[CLOSED]];
+    simplifies_list::<i32>(&rt, alloc, "closed", closed, &[&[CLOSED_SIMPLIFIED]])?;
+    despikes_list::<i32>(&rt, alloc, "closed", closed, closed)
 }
 
 /// Each call once, as points of one width: a flat hole is left out.
 fn cleans_at_width<I: IntNumber>(
     rt: &impl Abort,
     alloc: Global,
-    given: &[&[&[[I; 2]]]],
-    wanted: &[&[&[[I; 2]]]],
+    name: &str,
+    given: &[&[[I; 2]]],
+    kept: &[&[[I; 2]]],
 ) -> Result<(), Fail> {
-    for (shape, kept) in given.iter().zip(wanted) {
-        simplifies_shape(rt, alloc, *shape, Some(*kept))?;
-        despikes_shape(rt, alloc, *shape, Some(*kept))?;
-    }
-    simplifies_list(rt, alloc, given, wanted)?;
-    despikes_list(rt, alloc, given, wanted)
+    simplifies_shape(rt, alloc, name, given, Some(kept))?;
+    despikes_shape(rt, alloc, name, given, Some(kept))?;
+    simplifies_list(rt, alloc, name, &[given], &[kept])?;
+    despikes_list(rt, alloc, name, &[given], &[kept])
 }
 
-const MIXED_16: &[&[&[[i16; 2]]]] = &[&[
-    &[[0, 0], [4, 0], [4, 4], [0, 4]],
-    &[[1, 1], [2, 2], [3, 3]],
-]];
+const MIXED_16: &[&[[i16; 2]]] = &[&[[0, 0], [4, 0], [4, 4], [0, 4]], &[[1, 1], [2, 2], [3, 3]]];
 
-const KEPT_16: &[&[&[[i16; 2]]]] = &[&[&[[0, 0], [4, 0], [4, 4], [0, 4]]]];
+const KEPT_16: &[&[[i16; 2]]] = &[&[[0, 0], [4, 0], [4, 4], [0, 4]]];
 
-const MIXED_32: &[&[&[[i32; 2]]]] = &[&[SQUARE, DIAGONAL]];
+const MIXED_64: &[&[[i64; 2]]] = &[&[[0, 0], [4, 0], [4, 4], [0, 4]], &[[1, 1], [2, 2], [3, 3]]];
 
-const KEPT_32: &[&[&[[i32; 2]]]] = &[&[SQUARE]];
-
-const MIXED_64: &[&[&[[i64; 2]]]] = &[&[
-    &[[0, 0], [4, 0], [4, 4], [0, 4]],
-    &[[1, 1], [2, 2], [3, 3]],
-]];
-
-const KEPT_64: &[&[&[[i64; 2]]]] = &[&[&[[0, 0], [4, 0], [4, 4], [0, 4]]]];
+const KEPT_64: &[&[[i64; 2]]] = &[&[[0, 0], [4, 0], [4, 4], [0, 4]]];
 
 #[test]
 fn each_width_is_cleaned(rt: HostRuntime) -> Result<(), Fail> {
     let alloc = rt.alloc();
-    cleans_at_width::<i16>(&rt, alloc, MIXED_16, KEPT_16)?;
-    cleans_at_width::<i32>(&rt, alloc, MIXED_32, KEPT_32)?;
-    cleans_at_width::<i64>(&rt, alloc, MIXED_64, KEPT_64)
+    cleans_at_width::<i16>(&rt, alloc, "16 bits", MIXED_16, KEPT_16)?;
+    cleans_at_width::<i32>(&rt, alloc, "32 bits", &[SQUARE, DIAGONAL], &[SQUARE])?;
+    cleans_at_width::<i64>(&rt, alloc, "64 bits", MIXED_64, KEPT_64)
 }

@@ -1,3 +1,4 @@
+use crate::claims::holds;
 use crate::given_shapes::shapes;
 use i_shape::IntNumber;
 use i_shape::int::despike::DeSpikeShapes;
@@ -10,57 +11,61 @@ use std::test::Fail;
 fn both_leave<I: IntNumber>(
     rt: &impl Abort,
     alloc: Global,
+    name: &str,
     given: &[&[&[[I; 2]]]],
     wanted: &[&[&[[I; 2]]]],
 ) -> Result<(), Fail> {
     let wanted = shapes(rt, alloc, wanted)?;
     let given = shapes(rt, alloc, given)?;
-    assert!(rt; clean_through_buffer(alloc, given.as_slice())? == wanted);
-    assert!(rt; despike_through_buffer(alloc, given.as_slice())? == wanted);
-    assert!(rt; given.despiked_shapes(alloc)? == wanted);
+    let kept = clean_through_buffer(alloc, given.as_slice())?;
+    holds(
+        rt,
+        kept == wanted,
+        name,
+        "without zero turns, through a buffer",
+    );
+    let kept = despike_through_buffer(alloc, given.as_slice())?;
+    holds(rt, kept == wanted, name, "without spikes, through a buffer");
+    let kept = given.despiked_shapes(alloc)?;
+    holds(rt, kept == wanted, name, "without spikes");
     Ok(())
 }
 
-#[test]
-fn an_empty_shape_stays_and_a_flat_one_goes_at_each_width(rt: HostRuntime) -> Result<(), Fail> {
-    let alloc = rt.alloc();
-    both_leave::<i16>(
-        &rt,
-        alloc,
-        &[
-            &[],
-            &[&[[0, 0], [0, 512], [0, 1]]],
-            &[&[[0, 0], [4, 0], [4, 4]]],
-        ],
-        &[&[], &[&[[0, 0], [4, 0], [4, 4]]]],
-    )?;
-    both_leave::<i32>(
-        &rt,
-        alloc,
-        &[
-            &[],
-            &[&[[0, 0], [0, 512], [0, 1]]],
-            &[&[[0, 0], [4, 0], [4, 4]]],
-        ],
-        &[&[], &[&[[0, 0], [4, 0], [4, 4]]]],
-    )?;
-    both_leave::<i64>(
-        &rt,
-        alloc,
-        &[
-            &[],
-            &[&[[0, 0], [0, 512], [0, 1]]],
-            &[&[[0, 0], [4, 0], [4, 4]]],
-        ],
-        &[&[], &[&[[0, 0], [4, 0], [4, 4]]]],
-    )
-}
+const MIXED_16: &[&[&[[i16; 2]]]] = &[
+    &[],
+    &[&[[0, 0], [0, 512], [0, 1]]],
+    &[&[[0, 0], [4, 0], [4, 4]]],
+];
+
+const KEPT_16: &[&[&[[i16; 2]]]] = &[&[], &[&[[0, 0], [4, 0], [4, 4]]]];
+
+const MIXED_32: &[&[&[[i32; 2]]]] = &[
+    &[],
+    &[&[[0, 0], [0, 512], [0, 1]]],
+    &[&[[0, 0], [4, 0], [4, 4]]],
+];
+
+const KEPT_32: &[&[&[[i32; 2]]]] = &[&[], &[&[[0, 0], [4, 0], [4, 4]]]];
+
+const MIXED_64: &[&[&[[i64; 2]]]] = &[
+    &[],
+    &[&[[0, 0], [0, 512], [0, 1]]],
+    &[&[[0, 0], [4, 0], [4, 4]]],
+];
+
+const KEPT_64: &[&[&[[i64; 2]]]] = &[&[], &[&[[0, 0], [4, 0], [4, 4]]]];
+
+const CLEAN: &[&[&[[i32; 2]]]] = &[
+    &[&[[0, 0], [1, 0], [1, 1]]],
+    &[&[[5, 5], [6, 5], [6, 6]], &[[7, 7], [8, 7], [8, 8]]],
+];
 
 #[test]
-fn clean_shapes_come_back_as_they_were(rt: HostRuntime) -> Result<(), Fail> {
-    let list: [&[&[[i32; 2]]]; 2] = [
-        &[&[[0, 0], [1, 0], [1, 1]]],
-        &[&[[5, 5], [6, 5], [6, 6]], &[[7, 7], [8, 7], [8, 8]]],
-    ];
-    both_leave(&rt, rt.alloc(), &list, &list)
+fn what_both_cleaners_leave_through_a_buffer(rt: HostRuntime) -> Result<(), Fail> {
+    let alloc = rt.alloc();
+    let name = "an empty shape stays and a flat one goes";
+    both_leave(&rt, alloc, name, MIXED_16, KEPT_16)?;
+    both_leave(&rt, alloc, name, MIXED_32, KEPT_32)?;
+    both_leave(&rt, alloc, name, MIXED_64, KEPT_64)?;
+    both_leave(&rt, alloc, "clean shapes come back", CLEAN, CLEAN)
 }

@@ -16,6 +16,3 @@ pub use buffers::{clean_through_buffer, despike_through_buffer};
 pub use command::Command;
 pub use fault::ToolFault;
 pub use program::{Complaint, serve};
-
-#[cfg(test)]
-mod tests;

@@ -1,10 +1,13 @@
 //! One run of the program in memory.
 
-use crate::serve;
+use crate::claims::equal;
+use i_shape_tool::serve;
 use std::alloc::{AllocError, Global};
+use std::process::Abort;
+use std::test::Fail;
 
 /// What a run of the program left.
-#[derive(Debug, Drop)]
+#[derive(Drop)]
 pub struct Left {
     pub status: u8,
     pub output: Vec<u8>,
@@ -35,4 +38,31 @@ pub fn serve_bytes(alloc: Global, texts: &[&str], mut input: &[u8]) -> Result<Le
         output,
         errors,
     })
+}
+
+/// A run with these words and this input leaves this.
+pub fn serves(
+    rt: &impl Abort,
+    alloc: Global,
+    name: &str,
+    (words, input): (&[&str], &[u8]),
+    (status, output, errors): (u8, &str, &str),
+) -> Result<(), Fail> {
+    let left = serve_bytes(alloc, words, input)?;
+    equal(rt, left.status, status, name, "the status");
+    equal(
+        rt,
+        left.output.as_slice(),
+        output.as_bytes(),
+        name,
+        "the output",
+    );
+    equal(
+        rt,
+        left.errors.as_slice(),
+        errors.as_bytes(),
+        name,
+        "what is told",
+    );
+    Ok(())
 }
