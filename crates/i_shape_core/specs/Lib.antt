@@ -1,6 +1,7 @@
 pub mod Widths
 pub mod Point
 pub mod IntPoint
+pub mod Sublist
 pub mod Contour
 pub mod Edges
 pub mod Convex

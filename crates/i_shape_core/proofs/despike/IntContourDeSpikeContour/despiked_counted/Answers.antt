@@ -3,7 +3,7 @@ use Rattle.std.proofs.lemmas.Result.{IfOk-weaker}
 use Rattle.i_shape_core.specs.Point.{IsBack}
 use Rattle.i_shape_core.specs.IntPoint.{contour_of, IsSafe}
 use Rattle.i_shape_core.proofs.Contours.{length-contour}
-use Rattle.i_shape_core.proofs.Cleaned.{spikeless_answer, kept_spikeless, all_answered, short_answer}
+use Rattle.i_shape_core.proofs.Cleaned.{spikeless_answer, kept_spikeless, all_answered, in_order_answered, short_answer}
 use Rattle.i_shape_core.proofs.RingStates.{full_state}
 use Rattle.i_shape_core.proofs.despike.IntContourDeSpikeContour.despiked_counted.Goals as goal
 
@@ -44,4 +44,11 @@ returns-clause-safe g c =
     let points = contour_of g.I.IntNumber.value c.args.self.now.items in
     let same : c.new.result.contour ≡ c.args.self.now.items = c.new.ensures.contour ∙ c.as_slice.ensures.value in
     IfOk-weaker c.walk.result _ _ (λ r w. all_answered IsBack (IsSafe g.I.IntNumber.width) (λ kept. contour_of g.I.IntNumber.value kept.items) points r.0 r.1 w c.requires)
+    (rw same at c.walk.ensures.answer)
+
+pub returns-clause-in_order : goal.returns-clause-in_order
+returns-clause-in_order g c =
+    let points = contour_of g.I.IntNumber.value c.args.self.now.items in
+    let same : c.new.result.contour ≡ c.args.self.now.items = c.new.ensures.contour ∙ c.as_slice.ensures.value in
+    IfOk-weaker c.walk.result _ _ (λ r w. in_order_answered IsBack (λ kept. contour_of g.I.IntNumber.value kept.items) points r.0 r.1 w)
     (rw same at c.walk.ensures.answer)
