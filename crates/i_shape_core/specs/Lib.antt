@@ -14,5 +14,6 @@ pub mod Refusals
 pub mod Walk
 pub mod Stack
 pub mod Canonical
+pub mod Comparer
 pub mod Rounds
 pub mod RingWalk
