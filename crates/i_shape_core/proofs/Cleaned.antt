@@ -5,11 +5,13 @@ use Rattle.std.specs.Option.{IfSome}
 use Rattle.std.proofs.lemmas.Bool.{cases_lt}
 use Rattle.i_shape_core.specs.Point.{Point, IsZeroTurn, IsBack}
 use Rattle.i_shape_core.specs.Contour.{Test, Reach, stay, End, IsCollapsed, IsSimple}
+use Rattle.i_shape_core.specs.Sublist.{Sublist}
 use Rattle.i_shape_core.specs.Walk.{WalkAnswer}
 use Rattle.i_shape_core.specs.Edges.{shoelace, area_of_edge}
 use Rattle.i_shape_core.specs.Answers.{SimpleAnswer, SpikelessAnswer, KeptAnswer, IsKept, IsFlat}
 use Rattle.i_shape_core.proofs.CycleLaws.{every_order, agreed}
 use Rattle.i_shape_core.proofs.Ends.{all_left, reach_by_weaker}
+use Rattle.i_shape_core.proofs.Sublists.{sublist_reached}
 use Rattle.i_shape_core.proofs.Survive.{straightens}
 use Rattle.i_shape_core.proofs.Spikes.{spikeless_end}
 use Rattle.i_shape_core.proofs.Edges as edges
@@ -58,6 +60,11 @@ kept_answer c (Some e) visits w = kept c e w.ended.reached
 pub all_answered : (P : Test) {X : Type 0} (Q : Point → Type 0) (f : X → List Point) (c : List Point) (r : Option X) (visits : ℕ) → WalkAnswer P c (option_map f r) visits → All Q c → IfSome r (λ x. All Q (f x))
 all_answered P Q f c None visits w h = tt
 all_answered P Q f c (Some x) visits w h = all_left Q w.ended.reached h
+
+-- what is answered is a sublist of the contour
+pub in_order_answered : (P : Test) {X : Type 0} (f : X → List Point) (c : List Point) (r : Option X) (visits : ℕ) → WalkAnswer P c (option_map f r) visits → IfSome r (λ x. Sublist c (f x))
+in_order_answered P f c None visits w = tt
+in_order_answered P f c (Some x) visits w = sublist_reached w.ended.reached
 
 -- fewer than three points have collapsed before the first visit
 pub short_answer : (P : Test) (c : List Point) → length c < 3 → WalkAnswer P c None 0

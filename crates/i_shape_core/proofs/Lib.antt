@@ -15,6 +15,7 @@ pub mod Places
 pub mod Cycle
 pub mod Meets
 pub mod Ends
+pub mod Sublists
 pub mod Reversal
 pub mod Straight
 -- what removals keep

@@ -1,8 +1,9 @@
 -- Reading a rotation by places that go round twice.
-use Rattle.std.proofs.Common.{◌≡◌, ◌⊎◌, ℕ, ◌+◌, ◌-◌, ◌<◌, ◌≤◌, List, length, take, drop, get_or, inl, inr, refl, sym, ap, ◌∙◌, arith, length-append, length-take, length-drop}
+use Rattle.std.proofs.Common.{◌≡◌, ◌⊎◌, ℕ, ◌+◌, ◌-◌, ◌<◌, ◌≤◌, List, length, take, drop, get_or, inl, inr, refl, sym, ap, ◌∙◌, arith, add-zero, length-append, length-take, length-drop}
 use Rattle.std.proofs.lemmas.List.{get_or_append_left, get_or-append_right, get_or-take, get_or-drop, ext_get_or}
 use Rattle.std.proofs.lemmas.Bool.{cases_lt}
 use Rattle.i_shape_core.specs.Point.{Point, origin}
+use Rattle.i_shape_core.specs.Contour.{point_at}
 use Rattle.i_shape_core.specs.Rounds.{point_round}
 use Rattle.i_shape_core.specs.Canonical.{started_at}
 
@@ -17,6 +18,10 @@ round-high c e r h =
 pub round-place : (c : List Point) (e r : ℕ) → r < length c → (r ≡ e) ⊎ (r + length c ≡ e) → point_round c e ≡ get_or c r origin
 round-place c e r h (inl k) = round-low c e (omega arith) ∙ ap (λ (k : ℕ). get_or c k origin) (sym k)
 round-place c e r h (inr k) = round-high c e r k
+
+-- the first point of the rotation from k
+pub round-first : (c : List Point) (k : ℕ) → k < length c → point_at c k ≡ point_round c (k + 0)
+round-first c k h = sym (round-low c (k + 0) (omega arith) ∙ ap (λ (e : ℕ). get_or c e origin) (add-zero k))
 
 -- a place of the second round is the same of the first
 pub round-back : (c : List Point) (e r : ℕ) → r < length c → r + length c ≡ e → point_round c e ≡ point_round c r

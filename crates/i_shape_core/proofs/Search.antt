@@ -5,7 +5,7 @@ use Rattle.i_shape_core.specs.Point.{Point}
 use Rattle.i_shape_core.specs.Contour.{point_at}
 use Rattle.i_shape_core.specs.Rounds.{point_round, Agree, Precedes, AreAfter}
 use Rattle.i_shape_core.specs.Canonical.{IsBefore, IsLeast, started_at}
-use Rattle.i_shape_core.proofs.Rounds.{same-started, round-back, round-low}
+use Rattle.i_shape_core.proofs.Rounds.{same-started, round-back, round-first}
 use Rattle.i_shape_core.proofs.Starts.{StartsLeast, has_least_start, beaten}
 
 -- no start before the challenger but the kept one is least, of n starts
@@ -34,7 +34,7 @@ search_after c n i j r s above below h = record {
 }
   where
     start : (k : ℕ) → k < n → point_at c k ≡ point_round c (k + 0)
-    start k w = let e : k + 0 ≡ k = omega arith in sym (ap (point_round c) e ∙ round-low c k (omega (arith, s.long)))
+    start k w = round-first c k (omega (arith, s.long))
 
     first : (x : ℕ) → j ≤ x → x < r → x < n → IsBefore (point_round c (i + 0)) (point_round c (x + 0))
     first x b l w = subst₂ IsBefore (start i s.within) (start x w) (h x b l)

@@ -1,6 +1,7 @@
 pub mod Widths
 pub mod Point
 pub mod IntPoint
+pub mod Sublist
 pub mod Contour
 pub mod Edges
 pub mod Convex
@@ -13,5 +14,6 @@ pub mod Refusals
 pub mod Walk
 pub mod Stack
 pub mod Canonical
+pub mod Comparer
 pub mod Rounds
 pub mod RingWalk

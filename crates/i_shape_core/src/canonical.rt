@@ -1,15 +1,17 @@
 //! The canonical form of a contour: the least rotation of what is left of it without zero turns.
 
-ghost use Rattle.std.specs.Prelude.{◌≡◌, ◌⊎◌, ℕ, ◌+◌, ◌-◌, ◌*◌, ◌<◌, ◌≤◌, min, length, vec_len, IfOk, IsOkUnless, option_map};
+ghost use Rattle.std.specs.Prelude.{◌≡◌, ◌⊎◌, ℕ, ◌+◌, ◌-◌, ◌*◌, ◌<◌, ◌≤◌, min, max, length, vec_len, IfOk, IsOkUnless, option_map};
 ghost use Rattle.std.specs.Option.{IfSome};
 ghost use Rattle.std.specs.List.{All};
 ghost use Rattle.std.specs.Ordering.{MatchOrdering};
-ghost use Rattle.i_shape_core.specs.IntPoint.{point_of, contour_of, IsSafe};
+ghost use Rattle.i_shape_core.specs.IntPoint.{contour_of, IsSafe};
 ghost use Rattle.i_shape_core.specs.Contour.{point_at};
 ghost use Rattle.i_shape_core.specs.Answers.{KeptAnswer};
 ghost use Rattle.i_shape_core.specs.Canonical.{IsBefore, IsLeast, CanonicalAnswer, started_at};
+ghost use Rattle.i_shape_core.specs.Comparer.{IsOrder};
 ghost use Rattle.i_shape_core.specs.Rounds.{Agree, Precedes, AreAfter};
 
+use crate::comparer::Comparer;
 use crate::error::ShapeError;
 use crate::number::IntNumber;
 use crate::point::{IntContour, IntPoint};
@@ -51,8 +53,7 @@ fn turn_to_least<I: IntNumber>(contour: &mut IntContour<I>)
 /// but one, and fewer than three for each. Lists are compared point by point, points by x and then by y.
 ///
 /// Two starts are compared point by point, and the one that loses takes along each start up to the point where it lost, as
-/// Shiloach's algorithm does for circular strings. It takes linear time and no memory. The pair at which a pass over starts
-/// ends is read once more to go on from there, and counts once.
+/// Shiloach's algorithm does for circular strings. It takes linear time and no memory.
 pub fn least_start_counted<I: IntNumber>(contour: &[IntPoint<I>]) -> (usize, u128)
     requires { 0 < length contour.now }
     ensures within { result.0 < length contour.now }
@@ -60,18 +61,27 @@ pub fn least_start_counted<I: IntNumber>(contour: &[IntPoint<I>]) -> (usize, u12
     ensures fewest { length contour.now - 1 ≤ result.1 }
     ensures most { result.1 ≤ 3 * length contour.now - 4 }
 {
-    let count = contour.len();
+    search_starts(Comparer::new(contour))
+}
+
+/// The search over the starts of a contour, and its comparisons.
+fn search_starts<I: IntNumber>(mut comparer: Comparer<'_, I>) -> (usize, u128)
+    requires some { 0 < length comparer.contour }
+    requires fresh { comparer.comparisons ≡ 0 }
+    ensures within { result.0 < length comparer.entry.contour }
+    ensures least { let c = contour_of I.value comparer.entry.contour in IsLeast c (started_at c result.0) }
+    ensures fewest { length comparer.entry.contour - 1 ≤ result.1 }
+    ensures most { result.1 ≤ 3 * length comparer.entry.contour - 4 }
+{
+    let count = comparer.len();
     let mut kept = 0;
     let mut challenger = 1;
-    let mut comparisons = 0;
     while challenger < count {
-        let rival = next_rival(contour, kept, challenger);
-        comparisons += (rival - challenger) as u128;
+        let (rival, first) = next_rival(&mut comparer, kept, challenger);
         if rival == count {
             break;
         }
-        let (compared, order) = compare_starts(contour, kept, rival);
-        comparisons += compared as u128;
+        let (compared, order) = compare_starts(&mut comparer, kept, rival, first);
         match order {
             Ordering::Equal => break,
             Ordering::Less => {
@@ -86,42 +96,58 @@ pub fn least_start_counted<I: IntNumber>(contour: &[IntPoint<I>]) -> (usize, u12
             }
         }
     }
-    (kept, comparisons)
+    (kept, comparer.comparisons())
 }
 
-/// The first place from `from` on whose point doesn't come after that at `kept`, or the end.
-fn next_rival<I: IntNumber>(contour: &[IntPoint<I>], kept: usize, from: usize) -> usize
-    requires kept_within { kept < length contour.now }
-    requires from_within { from ≤ length contour.now }
-    ensures within { (from ≤ result) × (result ≤ length contour.now) }
-    ensures passed { let c = contour_of I.value contour.now in AreAfter c (point_at c kept) from result }
+/// The first place from `from` on whose point doesn't come after that at `kept`, and how the two are ordered; or the end.
+fn next_rival<I: IntNumber>(
+    comparer: &mut Comparer<'_, I>,
+    kept: usize,
+    from: usize,
+) -> (usize, Ordering)
+    requires kept_within { kept < length comparer.old.contour }
+    requires from_within { from ≤ length comparer.old.contour }
+    requires room { comparer.old.comparisons + length comparer.old.contour ≤ u128.MAX }
+    ensures contour { comparer.new.contour ≡ comparer.old.contour }
+    ensures within { (from ≤ result.0) × (result.0 ≤ length comparer.old.contour) }
+    ensures passed { let c = contour_of I.value comparer.old.contour in AreAfter c (point_at c kept) from result.0 }
+    ensures first { result.0 < length comparer.old.contour → IsOrder (contour_of I.value comparer.old.contour) kept result.0 result.1 }
+    ensures counted { comparer.new.comparisons + from ≡ comparer.old.comparisons + min (result.0 + 1) (length comparer.old.contour) }
 {
-    let first = contour[kept];
-    for place in from..contour.len() {
-        match compare_points(&first, &contour[place]) {
+    for place in from..comparer.len() {
+        match comparer.compare(kept, place) {
             Ordering::Less => {}
-            Ordering::Equal | Ordering::Greater => return place,
+            order => return (place, order),
         }
     }
-    contour.len()
+    (comparer.len(), Ordering::Less)
 }
 
 /// How many pairs of points were compared to order the rotations that start at `kept` and at `rival`, and the order.
+/// The first pair was compared before; `first` is its order.
 fn compare_starts<I: IntNumber>(
-    contour: &[IntPoint<I>],
+    comparer: &mut Comparer<'_, I>,
     kept: usize,
     rival: usize,
+    first: Ordering,
 ) -> (usize, Ordering)
-    requires kept_within { kept < length contour.now }
-    requires rival_within { rival < length contour.now }
-    ensures { let c = contour_of I.value contour.now in MatchOrdering result.1 (Precedes c kept rival result.0) (Agree c kept rival (length contour.now) × (result.0 ≡ length contour.now)) (Precedes c rival kept result.0) }
+    requires kept_within { kept < length comparer.old.contour }
+    requires rival_within { rival < length comparer.old.contour }
+    requires first { IsOrder (contour_of I.value comparer.old.contour) kept rival first }
+    requires room { comparer.old.comparisons + length comparer.old.contour ≤ u128.MAX }
+    ensures contour { comparer.new.contour ≡ comparer.old.contour }
+    ensures order { let c = contour_of I.value comparer.old.contour in MatchOrdering result.1 (Precedes c kept rival result.0) (Agree c kept rival (length comparer.old.contour) × (result.0 ≡ length comparer.old.contour)) (Precedes c rival kept result.0) }
+    ensures counted { comparer.new.comparisons + 1 ≡ comparer.old.comparisons + result.0 }
 {
-    let count = contour.len();
-    let mut matched = 0;
+    if first != Ordering::Equal {
+        return (1, first);
+    }
+    let count = comparer.len();
+    let mut matched = 1;
     while matched < count {
         let ours = place_after(count, kept, matched);
         let theirs = place_after(count, rival, matched);
-        let (agreed, order) = compare_runs(&contour[ours..], &contour[theirs..], count - matched);
+        let (agreed, order) = compare_runs(comparer, ours, theirs, count - matched);
         match order {
             Ordering::Equal => matched += agreed,
             Ordering::Less => return (matched + agreed + 1, Ordering::Less),
@@ -131,30 +157,30 @@ fn compare_starts<I: IntNumber>(
     (count, Ordering::Equal)
 }
 
-/// How many of the first `most` points of two lists agree before one of the lists ends, and how the next ones are ordered.
+/// How many pairs of points from two places on agree, of the first `most` and before the contour ends, and how the next one
+/// is ordered.
 fn compare_runs<I: IntNumber>(
-    ours: &[IntPoint<I>],
-    theirs: &[IntPoint<I>],
+    comparer: &mut Comparer<'_, I>,
+    ours: usize,
+    theirs: usize,
     most: usize,
 ) -> (usize, Ordering)
-    ensures agree { let c = contour_of I.value ours.now in let d = contour_of I.value theirs.now in (t : ℕ) → t < result.0 → point_at c t ≡ point_at d t }
-    ensures told { let c = contour_of I.value ours.now in let d = contour_of I.value theirs.now in let k = result.0 in let room = min (min (length ours.now) (length theirs.now)) most in MatchOrdering result.1 ((k < room) × IsBefore (point_at c k) (point_at d k)) (k ≡ room) ((k < room) × IsBefore (point_at d k) (point_at c k)) }
+    requires ours_within { ours < length comparer.old.contour }
+    requires theirs_within { theirs < length comparer.old.contour }
+    requires room { comparer.old.comparisons + most ≤ u128.MAX }
+    ensures contour { comparer.new.contour ≡ comparer.old.contour }
+    ensures agree { let c = contour_of I.value comparer.old.contour in (t : ℕ) → t < result.0 → point_at c (ours + t) ≡ point_at c (theirs + t) }
+    ensures order { let c = contour_of I.value comparer.old.contour in let k = result.0 in let room = min (length comparer.old.contour - max ours theirs) most in MatchOrdering result.1 ((k < room) × IsBefore (point_at c (ours + k)) (point_at c (theirs + k))) (k ≡ room) ((k < room) × IsBefore (point_at c (theirs + k)) (point_at c (ours + k))) }
+    ensures counted { comparer.new.comparisons ≡ comparer.old.comparisons + min (result.0 + 1) (min (length comparer.old.contour - max ours theirs) most) }
 {
-    let room = ours.len().min(theirs.len()).min(most);
-    for place in 0..room {
-        match compare_points(&ours[place], &theirs[place]) {
+    let room = (comparer.len() - ours.max(theirs)).min(most);
+    for step in 0..room {
+        match comparer.compare(ours + step, theirs + step) {
             Ordering::Equal => {}
-            order => return (place, order),
+            order => return (step, order),
         }
     }
     (room, Ordering::Equal)
-}
-
-/// How two points are ordered: by x, then by y.
-fn compare_points<I: IntNumber>(a: &IntPoint<I>, b: &IntPoint<I>) -> Ordering
-    ensures { let p = point_of I.value a.now in let q = point_of I.value b.now in MatchOrdering result (IsBefore p q) (p ≡ q) (IsBefore q p) }
-{
-    a.cmp(b)
 }
 
 /// The place `steps` after `start` on a cycle of `count` places.

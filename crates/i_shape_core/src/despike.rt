@@ -5,6 +5,7 @@ ghost use Rattle.std.specs.Option.{IfSome};
 ghost use Rattle.std.specs.List.{All, find};
 ghost use Rattle.i_shape_core.specs.IntPoint.{contour_of, point_of, IsSafe};
 ghost use Rattle.i_shape_core.specs.Point.{Point, IsBack};
+ghost use Rattle.i_shape_core.specs.Sublist.{Sublist};
 ghost use Rattle.i_shape_core.specs.Convex.{NoSpikes, is_same};
 ghost use Rattle.i_shape_core.specs.Answers.{SpikelessAnswer, KeptAnswer, VisitsAnswer};
 ghost use Rattle.i_shape_core.specs.Walk.{WalkAnswer};
@@ -37,6 +38,7 @@ pub trait DeSpikeContour<I: IntNumber> {
     fn despiked_contour(&self, alloc: Global) -> Result<Option<IntContour<I>>, ShapeError>
         requires { All (IsSafe I.width) (contour self.now) }
         ensures answer { IfOk result (λ r. SpikelessAnswer (contour self.now) (option_map (λ kept. contour_of I.value kept.items) r)) }
+        ensures in_order { IfOk result (λ r. IfSome r (λ kept. Sublist (contour self.now) (contour_of I.value kept.items))) }
         ensures kept { IfOk result (λ r. KeptAnswer (contour self.now) (option_map (λ kept. contour_of I.value kept.items) r)) }
         ensures safe { IfOk result (λ r. IfSome r (λ kept. All (IsSafe I.width) (contour_of I.value kept.items))) }
         ensures short { length (contour self.now) < 3 → result ≡ Ok None }
@@ -47,6 +49,7 @@ pub trait DeSpikeContour<I: IntNumber> {
     fn despiked_counted(&self, alloc: Global) -> Result<(Option<IntContour<I>>, u128), ShapeError>
         requires { All (IsSafe I.width) (contour self.now) }
         ensures answer { IfOk result (λ r. SpikelessAnswer (contour self.now) (option_map (λ kept. contour_of I.value kept.items) r.0)) }
+        ensures in_order { IfOk result (λ r. IfSome r.0 (λ kept. Sublist (contour self.now) (contour_of I.value kept.items))) }
         ensures kept { IfOk result (λ r. KeptAnswer (contour self.now) (option_map (λ kept. contour_of I.value kept.items) r.0)) }
         ensures safe { IfOk result (λ r. IfSome r.0 (λ kept. All (IsSafe I.width) (contour_of I.value kept.items))) }
         ensures visits { IfOk result (λ r. VisitsAnswer (contour self.now) (option_map (λ kept. contour_of I.value kept.items) r.0) r.1) }

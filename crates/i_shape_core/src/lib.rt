@@ -5,6 +5,7 @@
 pub mod area;
 mod bend;
 pub mod canonical;
+mod comparer;
 pub mod contour;
 pub mod despike;
 pub mod error;

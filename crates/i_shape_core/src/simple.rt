@@ -5,6 +5,7 @@ ghost use Rattle.std.specs.Option.{IfSome};
 ghost use Rattle.std.specs.List.{All};
 ghost use Rattle.i_shape_core.specs.IntPoint.{contour_of, IsSafe};
 ghost use Rattle.i_shape_core.specs.Point.{Point};
+ghost use Rattle.i_shape_core.specs.Sublist.{Sublist};
 ghost use Rattle.i_shape_core.specs.Contour.{IsSimple};
 ghost use Rattle.i_shape_core.specs.Answers.{SimpleAnswer, KeptAnswer};
 ghost use Rattle.i_shape_core.specs.Canonical.{CanonicalAnswer};
@@ -33,6 +34,7 @@ pub trait SimpleContour<I: IntNumber> {
     fn simplified(&self, alloc: Global) -> Result<Option<IntContour<I>>, ShapeError>
         requires { All (IsSafe I.width) (contour self.now) }
         ensures answer { IfOk result (λ r. SimpleAnswer (contour self.now) (option_map (λ kept. contour_of I.value kept.items) r)) }
+        ensures in_order { IfOk result (λ r. IfSome r (λ kept. Sublist (contour self.now) (contour_of I.value kept.items))) }
         ensures kept { IfOk result (λ r. KeptAnswer (contour self.now) (option_map (λ kept. contour_of I.value kept.items) r)) }
         ensures safe { IfOk result (λ r. IfSome r (λ kept. All (IsSafe I.width) (contour_of I.value kept.items))) }
         ensures short { length (contour self.now) < 3 → result ≡ Ok None }

@@ -5,6 +5,7 @@ ghost use Rattle.std.specs.Option.{IfSome};
 ghost use Rattle.std.specs.List.{All};
 ghost use Rattle.i_shape_core.specs.IntPoint.{contour_of, IsSafe};
 ghost use Rattle.i_shape_core.specs.Point.{IsZeroTurn};
+ghost use Rattle.i_shape_core.specs.Sublist.{Sublist};
 ghost use Rattle.i_shape_core.specs.Contour.{point_at};
 ghost use Rattle.i_shape_core.specs.Answers.{SimpleAnswer, KeptAnswer, VisitsAnswer};
 ghost use Rattle.i_shape_core.specs.Stack.{IsWalked, IsStacked, IsSettled};
@@ -39,6 +40,7 @@ impl ContourSimplifier {
     ) -> Result<Option<IntContour<I>>, ShapeError>
         requires { All (IsSafe I.width) (contour_of I.value contour.now) }
         ensures answer { IfOk result (λ r. SimpleAnswer (contour_of I.value contour.now) (option_map (λ kept. contour_of I.value kept.items) r)) }
+        ensures in_order { IfOk result (λ r. IfSome r (λ kept. Sublist (contour_of I.value contour.now) (contour_of I.value kept.items))) }
         ensures kept { IfOk result (λ r. KeptAnswer (contour_of I.value contour.now) (option_map (λ kept. contour_of I.value kept.items) r)) }
         ensures safe { IfOk result (λ r. IfSome r (λ kept. All (IsSafe I.width) (contour_of I.value kept.items))) }
         ensures short { length contour.now < 3 → result ≡ Ok None }
@@ -56,6 +58,7 @@ impl ContourSimplifier {
     ) -> Result<(Option<IntContour<I>>, u128), ShapeError>
         requires { All (IsSafe I.width) (contour_of I.value contour.now) }
         ensures answer { IfOk result (λ r. SimpleAnswer (contour_of I.value contour.now) (option_map (λ kept. contour_of I.value kept.items) r.0)) }
+        ensures in_order { IfOk result (λ r. IfSome r.0 (λ kept. Sublist (contour_of I.value contour.now) (contour_of I.value kept.items))) }
         ensures kept { IfOk result (λ r. KeptAnswer (contour_of I.value contour.now) (option_map (λ kept. contour_of I.value kept.items) r.0)) }
         ensures safe { IfOk result (λ r. IfSome r.0 (λ kept. All (IsSafe I.width) (contour_of I.value kept.items))) }
         ensures visits { IfOk result (λ r. VisitsAnswer (contour_of I.value contour.now) (option_map (λ kept. contour_of I.value kept.items) r.0) r.1) }

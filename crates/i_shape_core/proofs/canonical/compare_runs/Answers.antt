@@ -1,17 +1,16 @@
-use Rattle.std.proofs.Common.{◌≡◌, sym, ◌∙◌, arith}
-use Rattle.std.proofs.lemmas.Grind.{common_steps}
+use Rattle.std.proofs.Common.{◌≡◌, ◌+◌, ◌∙◌, arith}
 use borrow.Author.Count.{below_more}
 use Rattle.i_shape_core.specs.IntPoint.{contour_of}
 use Rattle.i_shape_core.specs.Contour.{point_at}
-use Rattle.i_shape_core.proofs.Contours.{read-point}
 use Rattle.i_shape_core.proofs.canonical.compare_runs.Goals as goal
 
-pub returns-in_default : goal.returns-in_default
-returns-in_default g c = grind (arith, common_steps)
-
-pub loop-place-preserved : goal.loop-place-preserved
-loop-place-preserved g c =
-    let value = g.I.IntNumber.value in
-    below_more (λ t. point_at (contour_of value c.args.ours.now) t ≡ point_at (contour_of value c.args.theirs.now) t) c.loop-place.place c.loop-place.invariant
-    (sym (read-point value c.args.ours.now c.loop-place.place _ (omega arith) c.index-ours-place.is) ∙ c.in-Equal.ensures
-    ∙ read-point value c.args.theirs.now c.loop-place.place _ (omega arith) c.index-theirs-place.is)
+pub loop-step-preserved : goal.loop-step-preserved
+loop-step-preserved g c =
+    let inv = c.loop-step.invariant in
+    let whole = contour_of g.I.IntNumber.value c.args.comparer.now.contour in
+    record {
+      contour = c.compare.ensures.contour ∙ inv.contour;
+      agree = below_more (λ t. point_at whole (c.args.ours + t) ≡ point_at whole (c.args.theirs + t)) c.loop-step.step inv.agree
+          (rw c.in-Equal.is at (rw inv.contour at c.compare.ensures.order));
+      counted = omega (arith, inv.counted, c.compare.ensures.comparisons);
+    }

@@ -1,7 +1,11 @@
-use Rattle.std.proofs.Common.{◌≡◌, ℕ, ◌<◌}
+use Rattle.std.proofs.Common.{◌≡◌, ◌+◌}
 use Rattle.i_shape_core.specs.IntPoint.{contour_of}
-use Rattle.i_shape_core.specs.Contour.{point_at}
+use Rattle.i_shape_core.proofs.Readings.{RunsAgree}
 use Rattle.i_shape_core.proofs.canonical.compare_runs.Given as goal
 
-abbrev pub invariant-loop-place : goal.invariant-loop-place
-invariant-loop-place g l = (t : ℕ) → t < l.place → point_at (contour_of g.I.IntNumber.value l.ours) t ≡ point_at (contour_of g.I.IntNumber.value l.theirs) t
+abbrev pub invariant-loop-step : goal.invariant-loop-step
+invariant-loop-step g l = record {
+  contour : l.comparer.contour ≡ l.initial.comparer.contour;
+  agree : RunsAgree (contour_of g.I.IntNumber.value l.initial.comparer.contour) l.ours l.theirs l.step;
+  counted : l.comparer.comparisons ≡ l.initial.comparer.comparisons + l.step;
+}

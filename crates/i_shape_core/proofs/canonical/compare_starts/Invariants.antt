@@ -1,12 +1,14 @@
-use Rattle.std.proofs.Common.{◌≤◌, ◌-◌}
+use Rattle.std.proofs.Common.{◌≡◌, ◌≤◌, ◌+◌, ◌-◌}
 use Rattle.i_shape_core.specs.IntPoint.{contour_of}
 use Rattle.i_shape_core.specs.Rounds.{Agree}
 use Rattle.i_shape_core.proofs.canonical.compare_starts.Given as goal
 
 abbrev pub invariant-loop-matched : goal.invariant-loop-matched
 invariant-loop-matched g l = record {
-  agree : Agree (contour_of g.I.IntNumber.value l.contour) l.kept l.rival l.matched;
+  contour : l.comparer.contour ≡ l.initial.comparer.contour;
+  agree : Agree (contour_of g.I.IntNumber.value l.initial.comparer.contour) l.kept l.rival l.matched;
   within : l.matched ≤ l.count;
+  counted : l.comparer.comparisons + 1 ≡ l.initial.comparer.comparisons + l.matched;
 }
 
 abbrev pub decreases-loop-matched : goal.decreases-loop-matched

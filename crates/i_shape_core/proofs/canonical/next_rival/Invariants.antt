@@ -1,7 +1,14 @@
+use Rattle.std.proofs.Common.{◌≡◌, ◌+◌}
 use Rattle.i_shape_core.specs.IntPoint.{contour_of}
 use Rattle.i_shape_core.specs.Contour.{point_at}
 use Rattle.i_shape_core.specs.Rounds.{AreAfter}
 use Rattle.i_shape_core.proofs.canonical.next_rival.Given as goal
 
 abbrev pub invariant-loop-place : goal.invariant-loop-place
-invariant-loop-place g l = let c = contour_of g.I.IntNumber.value l.contour in AreAfter c (point_at c l.kept) l.from l.place
+invariant-loop-place g l =
+    let c = contour_of g.I.IntNumber.value l.initial.comparer.contour in
+    record {
+      contour : l.comparer.contour ≡ l.initial.comparer.contour;
+      after : AreAfter c (point_at c l.kept) l.from l.place;
+      counted : l.comparer.comparisons + l.from ≡ l.initial.comparer.comparisons + l.place;
+    }

@@ -3,7 +3,7 @@ use Rattle.std.proofs.lemmas.Result.{IfOk-weaker}
 use Rattle.i_shape_core.specs.Point.{IsBack}
 use Rattle.i_shape_core.specs.IntPoint.{contour_of, IsSafe}
 use Rattle.i_shape_core.proofs.Contours.{length-contour}
-use Rattle.i_shape_core.proofs.Cleaned.{spikeless_answer, kept_spikeless, all_answered, short_answer}
+use Rattle.i_shape_core.proofs.Cleaned.{spikeless_answer, kept_spikeless, all_answered, in_order_answered, short_answer}
 use Rattle.i_shape_core.proofs.RingStates.{full_state}
 use Rattle.i_shape_core.proofs.despike.IntContourDeSpikeContour.despiked_counted.Goals as goal
 
@@ -57,3 +57,10 @@ returns-clause-safe g c =
 pub returns-clause-short : goal.returns-clause-short
 returns-clause-short g c = λ few.
     absurd (omega (arith, few, length-contour g.I.IntNumber.value c.args.self.now.items, c.if-len-lt3.false, c.len.ensures, c.args.self.now.ok.0))
+
+pub returns-clause-in_order : goal.returns-clause-in_order
+returns-clause-in_order g c =
+    let points = contour_of g.I.IntNumber.value c.args.self.now.items in
+    let same : c.new.result.contour ≡ c.args.self.now.items = c.new.ensures.contour ∙ c.as_slice.ensures.value in
+    IfOk-weaker c.walk.result _ _ (λ r w. in_order_answered IsBack (λ kept. contour_of g.I.IntNumber.value kept.items) points r.0 r.1 w)
+    (rw same at c.walk.ensures.answer)

@@ -3,7 +3,7 @@ use Rattle.std.proofs.lemmas.Result.{IfOk-weaker}
 use Rattle.i_shape_core.specs.Point.{IsZeroTurn}
 use Rattle.i_shape_core.specs.IntPoint.{contour_of, IsSafe}
 use Rattle.i_shape_core.proofs.Contours.{length-contour}
-use Rattle.i_shape_core.proofs.Cleaned.{simple_answer, kept_answer, all_answered, short_answer}
+use Rattle.i_shape_core.proofs.Cleaned.{simple_answer, kept_answer, all_answered, in_order_answered, short_answer}
 use Rattle.i_shape_core.proofs.simplifier.ContourSimplifier.simplify_counted.Goals as goal
 
 pub returns-then-contour-lt3-clause-answer : goal.returns-then-contour-lt3-clause-answer
@@ -36,4 +36,10 @@ pub returns-clause-safe : goal.returns-clause-safe
 returns-clause-safe g c =
     let same : c.stack_places-probe.result.contour ≡ c.args.contour.now = c.stack_places-probe.ensures.contour ∙ c.new.ensures.contour in
     IfOk-weaker c.close.result _ _ (λ r w. all_answered IsZeroTurn (IsSafe g.I.IntNumber.width) (λ kept. contour_of g.I.IntNumber.value kept.items) (contour_of g.I.IntNumber.value c.args.contour.now) r.0 r.1 w c.requires)
+    (rw same at c.close.ensures.answer)
+
+pub returns-clause-in_order : goal.returns-clause-in_order
+returns-clause-in_order g c =
+    let same : c.stack_places-probe.result.contour ≡ c.args.contour.now = c.stack_places-probe.ensures.contour ∙ c.new.ensures.contour in
+    IfOk-weaker c.close.result _ _ (λ r w. in_order_answered IsZeroTurn (λ kept. contour_of g.I.IntNumber.value kept.items) (contour_of g.I.IntNumber.value c.args.contour.now) r.0 r.1 w)
     (rw same at c.close.ensures.answer)

@@ -1,0 +1,71 @@
+use Rattle.std.proofs.Common.{◌+◌, ◌∙◌, arith}
+use Rattle.i_shape_core.proofs.Search.{search_after, search_less, search_greater, inside, search_past, search_round}
+use Rattle.i_shape_core.proofs.canonical.search_starts.Goals as goal
+use Rattle.i_shape_core.proofs.canonical.search_starts.Goals.{else-loop-challenger-test, then-loop-challenger-test+then-rival-count, then-loop-challenger-test+else-rival-count+in-Equal, then-loop-challenger-test+else-rival-count+in-Less+then-compared-count}
+
+pub loop-challenger-preserved-in-Less : goal.loop-challenger-preserved-in-Less
+loop-challenger-preserved-in-Less g c =
+    let inv = c.loop-challenger.invariant in
+    let passed = rw inv.contour at c.next_rival-rival.ensures in
+    let s = search_after _ _ _ _ _ inv.search passed.within.0 (omega (arith, passed.within, c.len-count.ensures)) passed.passed in
+    let ahead = rw c.in-Less.is at (rw passed.contour at c.compare_starts-compared.ensures.order) in
+    record {
+      contour = c.compare_starts-compared.ensures.contour ∙ passed.contour;
+      search = search_less _ _ _ _ _ _ s (omega arith) ahead (omega (arith, ahead.last)) (omega arith);
+      slow = omega arith;
+      moved = omega (arith, inv.moved);
+      short = omega arith;
+    }
+
+pub overflow_add-kept : goal.overflow_add-kept
+overflow_add-kept g c =
+    let inv = c.loop-challenger.invariant in
+    let passed = rw inv.contour at c.next_rival-rival.ensures in
+    let s = search_after _ _ _ _ _ inv.search passed.within.0 (omega (arith, passed.within, c.len-count.ensures)) passed.passed in
+    let room = inside _ _ _ _ _ s (omega arith) (rw c.in-Greater.is at (rw passed.contour at c.compare_starts-compared.ensures.order)) in
+    omega arith
+
+pub overflow_add-challenger-in-Greater : goal.overflow_add-challenger-in-Greater
+overflow_add-challenger-in-Greater g c =
+    let inv = c.loop-challenger.invariant in
+    let passed = rw inv.contour at c.next_rival-rival.ensures in
+    let s = search_after _ _ _ _ _ inv.search passed.within.0 (omega (arith, passed.within, c.len-count.ensures)) passed.passed in
+    let room = inside _ _ _ _ _ s (omega arith) (rw c.in-Greater.is at (rw passed.contour at c.compare_starts-compared.ensures.order)) in
+    omega (arith, c.max-kept.ensures)
+
+pub loop-challenger-preserved : goal.loop-challenger-preserved
+loop-challenger-preserved g c =
+    let inv = c.loop-challenger.invariant in
+    let passed = rw inv.contour at c.next_rival-rival.ensures in
+    let s = search_after _ _ _ _ _ inv.search passed.within.0 (omega (arith, passed.within, c.len-count.ensures)) passed.passed in
+    let ahead = rw c.in-Greater.is at (rw passed.contour at c.compare_starts-compared.ensures.order) in
+    let room = inside _ _ _ _ _ s (omega arith) ahead in
+    let counted = c.compare_starts-compared.ensures.counted in
+    record {
+      contour = c.compare_starts-compared.ensures.contour ∙ passed.contour;
+      search = search_greater _ _ _ _ _ s (omega arith) ahead _ c.max-kept.ensures;
+      slow = omega (arith, c.max-kept.ensures, inv.slow, s.apart, ahead.last, passed.within.0, passed.counted, counted);
+      moved = omega (arith, c.max-kept.ensures, inv.moved, ahead.last, passed.within.0, passed.counted, counted);
+      short = omega (arith, c.max-kept.ensures);
+    }
+
+pub returns-clause-least : goal.returns-clause-least
+returns-clause-least g c =
+    let inv = c.loop-challenger.invariant in
+    elim c.loop-challenger-test.branch [
+      | else-loop-challenger-test w ↦ search_past _ _ _ _ inv.search (omega arith)
+      | then-loop-challenger-test+then-rival-count w ↦
+          let passed = rw inv.contour at w.next_rival-rival.ensures in
+          search_past _ _ _ _ (search_after _ _ _ _ _ inv.search passed.within.0 (omega (arith, passed.within, c.len-count.ensures)) passed.passed) (omega arith)
+      | then-loop-challenger-test+else-rival-count+in-Equal w ↦
+          let passed = rw inv.contour at w.next_rival-rival.ensures in
+          let s = search_after _ _ _ _ _ inv.search passed.within.0 (omega (arith, passed.within, c.len-count.ensures)) passed.passed in
+          let same = rw w.in-Equal.is at (rw passed.contour at w.compare_starts-compared.ensures.order) in
+          search_round _ _ _ _ s (rw (← c.len-count.ensures) at same.0)
+      | then-loop-challenger-test+else-rival-count+in-Less+then-compared-count w ↦
+          let passed = rw inv.contour at w.next_rival-rival.ensures in
+          let s = search_after _ _ _ _ _ inv.search passed.within.0 (omega (arith, passed.within, c.len-count.ensures)) passed.passed in
+          let ahead = rw w.in-Less.is at (rw passed.contour at w.compare_starts-compared.ensures.order) in
+          search_past _ _ _ (w.next_rival-rival.result.0 + w.compare_starts-compared.result.0)
+          (search_less _ _ _ _ _ _ s (omega arith) ahead (omega (arith, ahead.last)) (omega arith)) (omega arith)
+    ]

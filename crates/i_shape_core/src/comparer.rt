@@ -1,0 +1,72 @@
+//! The view of a contour that the search for its least rotation is given, which counts its comparisons.
+
+ghost use Rattle.std.specs.Prelude.{◌≡◌, ◌+◌, ◌<◌, length};
+ghost use Rattle.std.specs.Ordering.{MatchOrdering};
+ghost use Rattle.i_shape_core.specs.IntPoint.{point_of, contour_of};
+ghost use Rattle.i_shape_core.specs.Canonical.{IsBefore};
+ghost use Rattle.i_shape_core.specs.Comparer.{Compared, IsOrder};
+
+use crate::number::IntNumber;
+use crate::point::IntPoint;
+use std::cmp::Ordering;
+use std::marker::Model;
+
+/// The only view of a contour that the search for its least rotation is given. It counts the pairs of points compared.
+#[derive(Drop)]
+pub(crate) struct Comparer<'a, I: IntNumber> {
+    points: &'a [IntPoint<I>],
+    count: u128,
+}
+
+impl<'a, I: IntNumber> Model for Comparer<'a, I> {
+    ghost Value = { Compared I };
+
+    ghost view = { λ p. record { contour = p.points.now; comparisons = p.count } };
+}
+
+impl<'a, I: IntNumber> Comparer<'a, I> {
+    /// A comparer of a contour, with nothing compared.
+    pub(crate) fn new(contour: &'a [IntPoint<I>]) -> Comparer<'a, I>
+        ensures contour { result.contour ≡ contour.now }
+        ensures comparisons { result.comparisons ≡ 0 }
+    {
+        Comparer {
+            points: contour,
+            count: 0,
+        }
+    }
+
+    /// The number of points.
+    pub(crate) fn len(&self) -> usize
+        ensures { result ≡ length self.now.contour }
+    {
+        self.points.len()
+    }
+
+    /// How the points at two places are ordered: by x, then by y. Counts one comparison.
+    pub(crate) fn compare(&mut self, first: usize, second: usize) -> Ordering
+        requires first_within { first < length self.old.contour }
+        requires second_within { second < length self.old.contour }
+        requires room { self.old.comparisons < u128.MAX }
+        ensures order { IsOrder (contour_of I.value self.old.contour) first second result }
+        ensures contour { self.new.contour ≡ self.old.contour }
+        ensures comparisons { self.new.comparisons ≡ self.old.comparisons + 1 }
+    {
+        self.count += 1;
+        compare_points(&self.points[first], &self.points[second])
+    }
+
+    /// The number of comparisons so far.
+    pub(crate) fn comparisons(&self) -> u128
+        ensures { result ≡ self.now.comparisons }
+    {
+        self.count
+    }
+}
+
+/// How two points are ordered: by x, then by y.
+fn compare_points<I: IntNumber>(a: &IntPoint<I>, b: &IntPoint<I>) -> Ordering
+    ensures { let p = point_of I.value a.now in let q = point_of I.value b.now in MatchOrdering result (IsBefore p q) (p ≡ q) (IsBefore q p) }
+{
+    a.cmp(b)
+}
