@@ -1,4 +1,5 @@
 use Rattle.std.proofs.Common.{◌++◌, ◌∷◌, [], string_bytes, ap, ◌∙◌, arith, rules}
+use Rattle.std.proofs.lemmas.Grind.{common_steps}
 use Rattle.std.proofs.lemmas.Result.{err_from_is_err_and}
 use Rattle.std.proofs.lemmas.Str.{encode_ascii}
 use Rattle.i_shape_tool.specs.declared.fault.ToolFault.TheVariants.{OutOfMemory}
@@ -37,3 +38,6 @@ loop-rest-preserved c =
       search rules,
       answer_more c.args.command c.args.text.now c.loop-rest.rest.now c.first_line.result.1.now (string_bytes c.loop-rest.output) (string_bytes c.push.new.self) c.first_line.result.0.now answer c.loop-rest.number c.loop-rest.invariant.1 c.first_line.ensures.lines c.first_line.ensures.shorter line grown,
     )
+
+pub returns-clause-ok : goal.returns-clause-ok
+returns-clause-ok c = grind (arith, common_steps)

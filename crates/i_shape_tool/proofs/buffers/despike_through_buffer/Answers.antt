@@ -1,4 +1,4 @@
-use Rattle.std.proofs.Common.{sym, subst}
+use Rattle.std.proofs.Common.{rules, sym, subst}
 use Rattle.i_shape.specs.Answers.{DespikeAnswer}
 use Rattle.i_shape.specs.ShapeLists.{shapes_of, IsSafeList}
 use Rattle.i_shape.specs.ShapeAnswers.{ListClean}
@@ -15,3 +15,6 @@ returns-clause-clean g c =
     let same = same_shapes g.I.IntNumber.value c.in_ok-kept.kept.items c.args.shapes.now c.in_ok-kept.ensures.same in
     let cleaned = despiked_in_place (shapes_of g.I.IntNumber.value c.in_ok-kept.kept.items) (shapes_of g.I.IntNumber.value c.remove_spikes.new.self.items) c.remove_spikes.result c.in_ok-remove_spikes.field-0 c.remove_spikes.ensures c.in_ok-remove_spikes.was in
     subst (λ shapes. ListClean DespikeAnswer shapes (shapes_of g.I.IntNumber.value c.remove_spikes.new.self.items)) same cleaned
+
+pub returns-in_err-kept-clause-too_many : goal.returns-in_err-kept-clause-too_many
+returns-in_err-kept-clause-too_many g c = search rules

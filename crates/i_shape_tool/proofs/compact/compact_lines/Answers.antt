@@ -19,3 +19,6 @@ pub returns-in_err-show_contours-clause-err : goal.returns-in_err-show_contours-
 returns-in_err-show_contours-clause-err c =
     let p = err_from_is_err_and c.from_residual-in_err-show_contours.result c.from_residual-in_err-show_contours.ensures.1 in
     rw (p.1, p.2) (refused_memory c.args.text.now c.in_ok-buffer.ensures.some)
+
+pub returns-clause-ok : goal.returns-clause-ok
+returns-clause-ok c = search rules

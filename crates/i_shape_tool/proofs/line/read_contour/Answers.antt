@@ -1,4 +1,5 @@
-use Rattle.std.proofs.Common.{◌<◌, ◌∷◌, [], length, sym, ap, ◌∙◌, subst, arith, is_ok, false-eqb}
+use Rattle.std.proofs.Common.{rules, ◌<◌, ◌∷◌, [], length, sym, ap, ◌∙◌, subst, arith, is_ok, false-eqb}
+use Rattle.std.proofs.lemmas.Grind.{common_steps}
 use Rattle.std.specs.Option.{option_copied}
 use Rattle.std.proofs.lemmas.List.{map-append}
 use Rattle.std.proofs.ResultArms.{chosen}
@@ -23,3 +24,9 @@ loop-rest-preserved c =
 
 pub returns : goal.returns
 returns c = read_all c.args.line.now (contour_of c.loop-rest.contour.items) (rw c.in_default.is at c.loop-rest.invariant)
+
+pub loop-rest-init : goal.loop-rest-init
+loop-rest-init c = search rules
+
+pub returns-then-is_empty : goal.returns-then-is_empty
+returns-then-is_empty c = grind (arith, common_steps)

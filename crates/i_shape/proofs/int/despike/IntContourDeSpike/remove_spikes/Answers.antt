@@ -1,4 +1,4 @@
-use Rattle.std.proofs.Common.{ap}
+use Rattle.std.proofs.Common.{arith, rules, ap}
 use Rattle.i_shape_core.specs.IntPoint.{contour_of}
 use Rattle.i_shape_core.proofs.Contours.{refuted}
 use Rattle.i_shape.proofs.SpikesLeft.{spikeless_stays, spikes_collapse}
@@ -10,3 +10,9 @@ returns-then-has_no_spikes g c = spikeless_stays (contour_of g.I.IntNumber.value
 pub returns-in-None : goal.returns-in-None
 returns-in-None g c = spikes_collapse (contour_of g.I.IntNumber.value c.args.self.now.items) (contour_of g.I.IntNumber.value c.clear.new.self.items)
     (refuted c.has_no_spikes.result c.has_no_spikes.ensures (λ h. h, λ h. h) c.if-has_no_spikes.false) (rw c.in-None.is at c.in_ok-contour.ensures.answer) (ap (contour_of g.I.IntNumber.value) c.clear.ensures.items)
+
+pub returns-in-Some : goal.returns-in-Some
+returns-in-Some g c = grind arith
+
+pub returns-in_err-contour : goal.returns-in_err-contour
+returns-in_err-contour g c = search rules

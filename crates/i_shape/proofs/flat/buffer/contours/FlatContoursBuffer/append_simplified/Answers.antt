@@ -1,4 +1,4 @@
-use Rattle.std.proofs.Common.{arith, refl, ap, length}
+use Rattle.std.proofs.Common.{rules, arith, refl, ap, length}
 use Rattle.i_shape_core.proofs.Cleaned.{simple_stays}
 use Rattle.i_shape.proofs.CompactLaws.{answer-shorter, appends-some}
 use Rattle.i_shape.proofs.flat.buffer.contours.FlatContoursBuffer.append_simplified.Goals as goal
@@ -22,3 +22,6 @@ pub returns-in-Some-clause-points_len : goal.returns-in-Some-clause-points_len
 returns-in-Some-clause-points_len g c =
     let shorter = answer-shorter g.T.IntNumber.value c.args.contour.now c.in-Some.kept.items (rw c.in-Some.is at c.in_ok-kept.ensures.answer) in
     omega (arith, shorter, ap length c.as_slice.ensures.value, c.append_contour-in-Some.ensures.points_len)
+
+pub returns-in_default-clause-ok : goal.returns-in_default-clause-ok
+returns-in_default-clause-ok g c = search rules

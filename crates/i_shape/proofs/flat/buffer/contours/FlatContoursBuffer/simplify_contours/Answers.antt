@@ -1,4 +1,4 @@
-use Rattle.std.proofs.Common.{◌≡◌, ap, ◌∙◌, IsTrue, Err}
+use Rattle.std.proofs.Common.{rules, ◌≡◌, ap, ◌∙◌, IsTrue, Err}
 use Rattle.std.specs.List.{All}
 use Rattle.std.proofs.lemmas.Result.{err_from_is_err_and}
 use Rattle.i_shape_core.specs.declared.error.ShapeError.TheVariants.{TooManyPoints}
@@ -30,3 +30,6 @@ returns-in_err-self-clause-too_many g c =
 pub returns-clause-clean : goal.returns-clause-clean
 returns-clause-clean g c =
     (λ e. absurd (cc), λ all. let told : IsTrue c.all_simple.result = c.all_simple.ensures.1 (rw (c.as_slice.ensures.value, c.as_slice-2.ensures.value) all) in absurd (cc))
+
+pub returns-clause-unchanged : goal.returns-clause-unchanged
+returns-clause-unchanged g c = search rules
