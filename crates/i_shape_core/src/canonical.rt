@@ -61,27 +61,29 @@ pub fn least_start_counted<I: IntNumber>(contour: &[IntPoint<I>]) -> (usize, u12
     ensures fewest { length contour.now - 1 ≤ result.1 }
     ensures most { result.1 ≤ 3 * length contour.now - 4 }
 {
-    search_starts(Comparer::new(contour))
+    let mut comparer = Comparer::new(contour);
+    let start = search_starts(&mut comparer);
+    (start, comparer.comparisons())
 }
 
-/// The search over the starts of a contour, and its comparisons.
-fn search_starts<I: IntNumber>(mut comparer: Comparer<'_, I>) -> (usize, u128)
-    requires some { 0 < length comparer.contour }
-    requires fresh { comparer.comparisons ≡ 0 }
-    ensures within { result.0 < length comparer.entry.contour }
-    ensures least { let c = contour_of I.value comparer.entry.contour in IsLeast c (started_at c result.0) }
-    ensures fewest { length comparer.entry.contour - 1 ≤ result.1 }
-    ensures most { result.1 ≤ 3 * length comparer.entry.contour - 4 }
+/// Where the least rotation of a contour starts of which nothing has been compared.
+fn search_starts<I: IntNumber>(comparer: &mut Comparer<'_, I>) -> usize
+    requires some { 0 < length comparer.old.contour }
+    requires fresh { comparer.old.comparisons ≡ 0 }
+    ensures within { result < length comparer.old.contour }
+    ensures least { let c = contour_of I.value comparer.old.contour in IsLeast c (started_at c result) }
+    ensures fewest { length comparer.old.contour - 1 ≤ comparer.new.comparisons }
+    ensures most { comparer.new.comparisons ≤ 3 * length comparer.old.contour - 4 }
 {
     let count = comparer.len();
     let mut kept = 0;
     let mut challenger = 1;
     while challenger < count {
-        let (rival, first) = next_rival(&mut comparer, kept, challenger);
+        let (rival, first) = next_rival(comparer, kept, challenger);
         if rival == count {
             break;
         }
-        let (compared, order) = compare_starts(&mut comparer, kept, rival, first);
+        let (compared, order) = compare_starts(comparer, kept, rival, first);
         match order {
             Ordering::Equal => break,
             Ordering::Less => {
@@ -96,7 +98,7 @@ fn search_starts<I: IntNumber>(mut comparer: Comparer<'_, I>) -> (usize, u128)
             }
         }
     }
-    (kept, comparer.comparisons())
+    kept
 }
 
 /// The first place from `from` on whose point doesn't come after that at `kept`, and how the two are ordered; or the end.

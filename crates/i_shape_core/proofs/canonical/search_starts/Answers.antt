@@ -1,7 +1,6 @@
 use Rattle.std.proofs.Common.{◌+◌, ◌∙◌, arith}
 use Rattle.i_shape_core.proofs.Search.{search_after, search_less, search_greater, inside, search_past, search_round}
 use Rattle.i_shape_core.proofs.canonical.search_starts.Goals as goal
-use Rattle.i_shape_core.proofs.canonical.search_starts.Goals.{else-loop-challenger-test, then-loop-challenger-test+then-rival-count, then-loop-challenger-test+else-rival-count+in-Equal, then-loop-challenger-test+else-rival-count+in-Less+then-compared-count}
 
 pub loop-challenger-preserved-in-Less : goal.loop-challenger-preserved-in-Less
 loop-challenger-preserved-in-Less g c =
@@ -49,23 +48,28 @@ loop-challenger-preserved g c =
       short = omega (arith, c.max-kept.ensures);
     }
 
-pub returns-clause-least : goal.returns-clause-least
-returns-clause-least g c =
+pub returns-after-loop-challenger-clause-least : goal.returns-after-loop-challenger-clause-least
+returns-after-loop-challenger-clause-least g c = search_past _ _ _ _ c.loop-challenger.invariant.search (omega arith)
+
+pub returns-then-rival-count-clause-least : goal.returns-then-rival-count-clause-least
+returns-then-rival-count-clause-least g c =
     let inv = c.loop-challenger.invariant in
-    elim c.loop-challenger-test.branch [
-      | else-loop-challenger-test w ↦ search_past _ _ _ _ inv.search (omega arith)
-      | then-loop-challenger-test+then-rival-count w ↦
-          let passed = rw inv.contour at w.next_rival-rival.ensures in
-          search_past _ _ _ _ (search_after _ _ _ _ _ inv.search passed.within.0 (omega (arith, passed.within, c.len-count.ensures)) passed.passed) (omega arith)
-      | then-loop-challenger-test+else-rival-count+in-Equal w ↦
-          let passed = rw inv.contour at w.next_rival-rival.ensures in
-          let s = search_after _ _ _ _ _ inv.search passed.within.0 (omega (arith, passed.within, c.len-count.ensures)) passed.passed in
-          let same = rw w.in-Equal.is at (rw passed.contour at w.compare_starts-compared.ensures.order) in
-          search_round _ _ _ _ s (rw (← c.len-count.ensures) at same.0)
-      | then-loop-challenger-test+else-rival-count+in-Less+then-compared-count w ↦
-          let passed = rw inv.contour at w.next_rival-rival.ensures in
-          let s = search_after _ _ _ _ _ inv.search passed.within.0 (omega (arith, passed.within, c.len-count.ensures)) passed.passed in
-          let ahead = rw w.in-Less.is at (rw passed.contour at w.compare_starts-compared.ensures.order) in
-          search_past _ _ _ (w.next_rival-rival.result.0 + w.compare_starts-compared.result.0)
-          (search_less _ _ _ _ _ _ s (omega arith) ahead (omega (arith, ahead.last)) (omega arith)) (omega arith)
-    ]
+    let passed = rw inv.contour at c.next_rival-rival.ensures in
+    let s = search_after _ _ _ _ _ inv.search passed.within.0 (omega (arith, passed.within, c.len-count.ensures)) passed.passed in
+    search_past _ _ _ _ s (omega arith)
+
+pub returns-in-Equal-clause-least : goal.returns-in-Equal-clause-least
+returns-in-Equal-clause-least g c =
+    let inv = c.loop-challenger.invariant in
+    let passed = rw inv.contour at c.next_rival-rival.ensures in
+    let s = search_after _ _ _ _ _ inv.search passed.within.0 (omega (arith, passed.within, c.len-count.ensures)) passed.passed in
+    let same = rw c.in-Equal.is at (rw passed.contour at c.compare_starts-compared.ensures.order) in
+    search_round _ _ _ _ s (rw (← c.len-count.ensures) at same.0)
+
+pub returns-then-compared-count-clause-least : goal.returns-then-compared-count-clause-least
+returns-then-compared-count-clause-least g c =
+    let inv = c.loop-challenger.invariant in
+    let passed = rw inv.contour at c.next_rival-rival.ensures in
+    let s = search_after _ _ _ _ _ inv.search passed.within.0 (omega (arith, passed.within, c.len-count.ensures)) passed.passed in
+    let ahead = rw c.in-Less.is at (rw passed.contour at c.compare_starts-compared.ensures.order) in
+    search_past _ _ _ (c.next_rival-rival.result.0 + c.compare_starts-compared.result.0) (search_less _ _ _ _ _ _ s (omega arith) ahead (omega (arith, ahead.last)) (omega arith)) (omega arith)
