@@ -138,8 +138,10 @@ fn set_flat_stores_what_is_handed_in(rt: HostRuntime) -> Result<(), Fail> {
     lends_shapes(&rt, name, &shapes, [&TWO, &[0..2]], &halves);
     let empty: [Vec<WholePoint>; 1] = [Vec::new(alloc)];
     let name = "an empty range";
+    let mut contours = FloatFlatContoursBuffer::new(alloc);
     contours.set_flat(&[], &[0..0])?;
     lends_contours(&rt, name, &contours, &[0..0], &empty);
+    let mut shapes = FloatFlatShapesBuffer::new(alloc);
     shapes.set_flat(&[], &[0..0], &[])?;
     lends_shapes(&rt, name, &shapes, [&[0..0], &[]], &empty);
     Ok(())
@@ -279,6 +281,7 @@ fn contours_are_added_to_shapes_at_the_end(rt: HostRuntime) -> Result<(), Fail> 
     shapes.clear_and_reserve(4, 4, 4)?;
     holds_no_shapes(&rt, "cleared", &shapes);
     let name = "each added contour opens a shape";
+    let mut shapes = FloatFlatShapesBuffer::new(rt.alloc());
     shapes.add_contour(&[at(0, 0), at(4, 0), at(4, 4)])?;
     shapes.add_contour(&[at(2, 2), at(3, 2)])?;
     has_ranges(&rt, name, &shapes, [&[0..3, 3..5], &[0..1, 1..2]]);
