@@ -1,171 +1,247 @@
-use crate::given::{contour, hostile_rings};
+use crate::given::{SQUARES_16, SQUARES_64, all_hold, hostile_rings, rotated, safe_contour};
 use i_shape::IntNumber;
+use i_shape::int::IntPoint;
 use i_shape::int::simple::{ContourSimplifier, SimpleContour};
 use i_shape_core::canonical::least_start_counted;
 use std::alloc::Global;
 use std::process::Abort;
-use std::test::Fail;
 
-/// The points have this canonical form, by both calls.
-fn has_canonical<I: IntNumber>(
+/// A name, a contour, and its canonical form: nothing where it collapses.
+type Row = (&'static str, &'static [[i32; 2]], &'static [[i32; 2]]);
+
+const ROWS: [Row; 10] = [
+    (
+        "a spike from one start",
+        &[[6, 0], [0, 0], [2, 0], [1, 0], [1, 5]],
+        &[[1, 0], [1, 5], [6, 0]],
+    ),
+    (
+        "a spike from another start",
+        &[[2, 0], [1, 0], [1, 5], [6, 0], [0, 0]],
+        &[[1, 0], [1, 5], [6, 0]],
+    ),
+    (
+        "the first point again at the end",
+        &[[0, 0], [4, 0], [4, 4], [0, 4], [0, 0]],
+        &[[0, 0], [4, 0], [4, 4], [0, 4]],
+    ),
+    (
+        "the first point again at the end, clockwise",
+        &[[0, 0], [0, 4], [4, 4], [4, 0], [0, 0]],
+        &[[0, 0], [0, 4], [4, 4], [4, 0]],
+    ),
+    (
+        "a ring that passes a point twice",
+        &[[0, 0], [4, 0], [4, 4], [0, 0], [2, 6], [0, 6]],
+        &[[0, 0], [2, 6], [0, 6], [0, 0], [4, 0], [4, 4]],
+    ),
+    ("no point", &[], &[]),
+    ("one point", &[[1, 1]], &[]),
+    ("two points", &[[1, 1], [2, 2]], &[]),
+    ("three points on a line", &[[0, 0], [0, 512], [0, 1]], &[]),
+    (
+        "one point five times",
+        &[[7, 7], [7, 7], [7, 7], [7, 7], [7, 7]],
+        &[],
+    ),
+];
+
+const A: [i32; 2] = [0, 0];
+
+const B: [i32; 2] = [4, 0];
+
+const C: [i32; 2] = [4, 4];
+
+const LATE: [i32; 2] = [5, 9];
+
+const EARLY: [i32; 2] = [2, 6];
+
+const NEXT: [i32; 2] = [0, 6];
+
+/// A name, a contour, and the canonical form that it has from each start.
+const ROTATED: [Row; 6] = [
+    (
+        "a triangle four times",
+        &[A, B, C, A, B, C, A, B, C, A, B, C],
+        &[A, B, C, A, B, C, A, B, C, A, B, C],
+    ),
+    (
+        "a triangle three times and a later one",
+        &[A, B, C, A, B, C, A, B, C, A, B, LATE],
+        &[A, B, C, A, B, C, A, B, C, A, B, LATE],
+    ),
+    (
+        "a triangle and a later one, twice",
+        &[A, B, C, A, B, LATE, A, B, C, A, B, LATE],
+        &[A, B, C, A, B, LATE, A, B, C, A, B, LATE],
+    ),
+    (
+        "an earlier triangle and one three times",
+        &[A, EARLY, NEXT, A, B, C, A, B, C, A, B, C],
+        &[A, EARLY, NEXT, A, B, C, A, B, C, A, B, C],
+    ),
+    (
+        "an earlier triangle and one, twice",
+        &[A, EARLY, NEXT, A, B, C, A, EARLY, NEXT, A, B, C],
+        &[A, EARLY, NEXT, A, B, C, A, EARLY, NEXT, A, B, C],
+    ),
+    (
+        "a sliver",
+        &[[3, -9], [-2, 7], [-5, 8], [-5, 6]],
+        &[[-5, 6], [3, -9], [-2, 7], [-5, 8]],
+    ),
+];
+
+/// Asks both calls for the canonical form of the points.
+macro_rules! has_canonical {
+    ($rt:expr, $alloc:expr, $simplifier:expr, $name:expr, $points:expr, $wanted:expr) => {
+        let given = safe_contour($rt, $alloc, $points);
+        let wanted = safe_contour($rt, $alloc, $wanted);
+        let wanted = if wanted.is_empty() {
+            None
+        } else {
+            Some(wanted)
+        };
+        let points = given.as_slice();
+        let own = points.canonical($alloc).expect($rt, $name);
+        let reused = $simplifier.canonical(points).expect($rt, $name);
+        let answers = [
+            (own == wanted, "the contour's canonical form"),
+            (reused == wanted, "a simplifier's canonical form"),
+        ];
+        all_hold($rt, $name, &answers);
+    };
+}
+
+fn narrow_has_canonical(
     rt: &impl Abort,
     alloc: Global,
     simplifier: &mut ContourSimplifier,
-    points: &[[I; 2]],
-    wanted: &[[I; 2]],
-) -> Result<(), Fail> {
-    let wanted = contour(rt, alloc, wanted)?;
-    let given = contour(rt, alloc, points)?;
-    let own = given.as_slice().canonical(alloc)?.ok_or("it collapsed")?;
-    assert!(rt; own == wanted);
-    let reused = simplifier
-        .canonical(given.as_slice())?
-        .ok_or("it collapsed")?;
-    assert!(rt; reused == wanted);
-    Ok(())
+    name: &str,
+    points: &[[i16; 2]],
+    wanted: &[[i16; 2]],
+) {
+    has_canonical!(rt, alloc, simplifier, name, points, wanted);
 }
 
-/// Each rotation of the points has this canonical form.
-fn assert_each_rotation<I: IntNumber>(
+fn has_canonical(
     rt: &impl Abort,
     alloc: Global,
-    points: &[[I; 2]],
-    wanted: &[[I; 2]],
-) -> Result<(), Fail> {
-    let mut simplifier = ContourSimplifier::new(alloc);
-    for start in 0..points.len() {
-        let mut turned = Vec::from_slice(alloc, points)?;
-        turned.rotate_left(start);
-        has_canonical(rt, alloc, &mut simplifier, turned.as_slice(), wanted)?;
-    }
-    Ok(())
+    simplifier: &mut ContourSimplifier,
+    name: &str,
+    points: &[[i32; 2]],
+    wanted: &[[i32; 2]],
+) {
+    has_canonical!(rt, alloc, simplifier, name, points, wanted);
+}
+
+fn wide_has_canonical(
+    rt: &impl Abort,
+    alloc: Global,
+    simplifier: &mut ContourSimplifier,
+    name: &str,
+    points: &[[i64; 2]],
+    wanted: &[[i64; 2]],
+) {
+    has_canonical!(rt, alloc, simplifier, name, points, wanted);
 }
 
 #[test]
-fn canonical_is_the_least_rotation_of_the_one_end(rt: HostRuntime) -> Result<(), Fail> {
+fn canonical_is_the_least_rotation_of_the_one_end(rt: HostRuntime) {
     let alloc = rt.alloc();
     let mut simplifier = ContourSimplifier::new(alloc);
-    for (given, wanted) in [
-        (
-            [[6, 0], [0, 0], [2, 0], [1, 0], [1, 5]].as_slice(),
-            [[1, 0], [1, 5], [6, 0]].as_slice(),
-        ),
-        (
-            [[2, 0], [1, 0], [1, 5], [6, 0], [0, 0]].as_slice(),
-            [[1, 0], [1, 5], [6, 0]].as_slice(),
-        ),
-        (
-            [[0, 0], [4, 0], [4, 4], [0, 4], [0, 0]].as_slice(),
-            [[0, 0], [4, 0], [4, 4], [0, 4]].as_slice(),
-        ),
-        (
-            [[0, 0], [0, 4], [4, 4], [4, 0], [0, 0]].as_slice(),
-            [[0, 0], [0, 4], [4, 4], [4, 0]].as_slice(),
-        ),
-        (
-            [[0, 0], [4, 0], [4, 4], [0, 0], [2, 6], [0, 6]].as_slice(),
-            [[0, 0], [2, 6], [0, 6], [0, 0], [4, 0], [4, 4]].as_slice(),
-        ),
-    ] {
-        has_canonical::<i32>(&rt, alloc, &mut simplifier, given, wanted)?;
+    for (name, given, wanted) in &ROWS {
+        has_canonical(&rt, alloc, &mut simplifier, name, given, wanted);
     }
-    Ok(())
 }
 
 #[test]
-fn canonical_is_none_where_the_contour_collapses(rt: HostRuntime) -> Result<(), Fail> {
+fn every_start_of_a_hostile_contour_has_one_canonical_form(rt: HostRuntime) {
     let alloc = rt.alloc();
     let mut simplifier = ContourSimplifier::new(alloc);
-    for given in [
-        [].as_slice(),
-        [[1, 1]].as_slice(),
-        [[1, 1], [2, 2]].as_slice(),
-        [[0, 0], [0, 512], [0, 1]].as_slice(),
-        [[7, 7], [7, 7], [7, 7], [7, 7], [7, 7]].as_slice(),
-    ] {
-        let given = contour::<i32>(&rt, alloc, given)?;
-        let own = given.as_slice().canonical(alloc)?;
-        let reused = simplifier.canonical(given.as_slice())?;
-        assert!(rt; own.is_none() && reused.is_none());
-    }
-    Ok(())
-}
-
-#[test]
-fn every_start_of_a_hostile_contour_has_one_canonical_form(rt: HostRuntime) -> Result<(), Fail> {
-    let alloc = rt.alloc();
-    let mut simplifier = ContourSimplifier::new(alloc);
-    for (list, ring) in &hostile_rings(alloc)? {
+    for (name, list, ring) in &hostile_rings(&rt, alloc) {
         let (list, ring) = (list.as_slice(), ring.as_slice());
-        has_canonical::<i32>(&rt, alloc, &mut simplifier, list, ring)?;
+        has_canonical(&rt, alloc, &mut simplifier, name, list, ring);
     }
-    Ok(())
 }
 
 #[test]
-fn rotations_of_periodic_rings_have_one_canonical_form(rt: HostRuntime) -> Result<(), Fail> {
+fn rotations_have_one_canonical_form(rt: HostRuntime) {
     let alloc = rt.alloc();
-    let [low, high] = [-16383, 16383];
-    let square = [[low, low], [high, low], [high, high], [low, high]];
-    let twice: [[i16; 2]; 8] = [
-        square[0], square[1], square[2], square[3], square[0], square[1], square[2], square[3],
-    ];
-    assert_each_rotation(&rt, alloc, twice.as_slice(), twice.as_slice())?;
-    let [low, high] = [-4611686018427387903, 4611686018427387903];
-    let square = [[low, low], [high, low], [high, high], [low, high]];
-    let twice: [[i64; 2]; 8] = [
-        square[0], square[1], square[2], square[3], square[0], square[1], square[2], square[3],
-    ];
-    assert_each_rotation(&rt, alloc, twice.as_slice(), twice.as_slice())?;
-    let [a, b, c] = [[0, 0], [4, 0], [4, 4]];
-    let (late, early) = ([5, 9], [2, 6]);
-    for wanted in [
-        [a, b, c, a, b, c, a, b, c, a, b, c],
-        [a, b, c, a, b, c, a, b, c, a, b, late],
-        [a, b, c, a, b, late, a, b, c, a, b, late],
-        [a, early, [0, 6], a, b, c, a, b, c, a, b, c],
-        [a, early, [0, 6], a, b, c, a, early, [0, 6], a, b, c],
-    ] {
-        assert_each_rotation::<i32>(&rt, alloc, wanted.as_slice(), wanted.as_slice())?;
+    let mut simplifier = ContourSimplifier::new(alloc);
+    for (name, list, wanted) in &ROTATED {
+        for start in 0..list.len() {
+            let turned = rotated(alloc, list, start).expect(&rt, name);
+            has_canonical(&rt, alloc, &mut simplifier, name, turned.as_slice(), wanted);
+        }
     }
-    Ok(())
 }
 
 #[test]
-fn canonical_forms_at_each_width(rt: HostRuntime) -> Result<(), Fail> {
-    let alloc = rt.alloc();
-    assert_each_rotation::<i16>(
-        &rt,
-        alloc,
-        [[-16383, -16383], [16383, 16383], [16383, -16383], [0, 0]].as_slice(),
-        [[0, 0], [16383, 16383], [16383, -16383]].as_slice(),
-    )?;
-    assert_each_rotation::<i32>(
-        &rt,
-        alloc,
-        [[3, -9], [-2, 7], [-5, 8], [-5, 6]].as_slice(),
-        [[-5, 6], [3, -9], [-2, 7], [-5, 8]].as_slice(),
-    )?;
-    assert_each_rotation::<i64>(
-        &rt,
-        alloc,
-        [[0, 0], [8, 0], [4, 0], [6, 0], [6, 4], [0, 4]].as_slice(),
-        [[0, 0], [6, 0], [6, 4], [0, 4]].as_slice(),
-    )
+fn narrow_rotations_have_one_canonical_form(rt: HostRuntime) {
+    let (square, twice) = SQUARES_16[1];
+    let rows: [(&str, &[[i16; 2]], &[[i16; 2]]); 2] = [
+        (square, twice, twice),
+        (
+            "a diagonal at the safe bound of 16 bits",
+            &[[-16383, -16383], [16383, 16383], [16383, -16383], [0, 0]],
+            &[[0, 0], [16383, 16383], [16383, -16383]],
+        ),
+    ];
+    let mut simplifier = ContourSimplifier::new(rt.alloc());
+    for (name, points, wanted) in &rows {
+        for start in 0..points.len() {
+            let mut turned = Vec::from_slice(rt.alloc(), points).expect(&rt, name);
+            turned.rotate_left(start);
+            let points = turned.as_slice();
+            narrow_has_canonical(&rt, rt.alloc(), &mut simplifier, name, points, wanted);
+        }
+    }
 }
 
 #[test]
-fn the_least_start_is_found_at_each_width(rt: HostRuntime) -> Result<(), Fail> {
+fn wide_rotations_have_one_canonical_form(rt: HostRuntime) {
+    let (square, twice) = SQUARES_64[1];
+    let rows: [(&str, &[[i64; 2]], &[[i64; 2]]); 2] = [
+        (square, twice, twice),
+        (
+            "a spike there and back",
+            &[[0, 0], [8, 0], [4, 0], [6, 0], [6, 4], [0, 4]],
+            &[[0, 0], [6, 0], [6, 4], [0, 4]],
+        ),
+    ];
+    let mut simplifier = ContourSimplifier::new(rt.alloc());
+    for (name, points, wanted) in &rows {
+        for start in 0..points.len() {
+            let mut turned = Vec::from_slice(rt.alloc(), points).expect(&rt, name);
+            turned.rotate_left(start);
+            let points = turned.as_slice();
+            wide_has_canonical(&rt, rt.alloc(), &mut simplifier, name, points, wanted);
+        }
+    }
+}
+
+/// The least start of the points.
+fn starts_at<I: IntNumber>(
+    rt: &impl Abort,
+    alloc: Global,
+    name: &str,
+    points: &[[I; 2]],
+    wanted: usize,
+) -> u128 {
+    let given: Vec<IntPoint<I>> = safe_contour(rt, alloc, points);
+    assert!(rt; !given.is_empty(), "{name}: no point");
+    let (start, visits) = least_start_counted(given.as_slice());
+    assert!(rt; start == wanted, "{name}: the least start");
+    visits
+}
+
+#[test]
+fn the_least_start_is_found_at_each_width(rt: HostRuntime) {
     let alloc = rt.alloc();
-    let square = contour::<i16>(&rt, alloc, [[4, 4], [0, 4], [0, 0], [4, 0]].as_slice())?;
-    assert!(rt; square.len() == 4);
-    assert!(rt; least_start_counted(square.as_slice()).0 == 2);
+    starts_at::<i16>(&rt, alloc, "a square", &[[4, 4], [0, 4], [0, 0], [4, 0]], 2);
     let points = [[0, 0], [4, 0], [4, 4], [0, 0], [2, 6], [0, 6]];
-    let ring = contour::<i32>(&rt, alloc, points.as_slice())?;
-    assert!(rt; ring.len() == 6);
-    assert!(rt; least_start_counted(ring.as_slice()).0 == 3);
-    let lone = contour::<i64>(&rt, alloc, [[5, 5]].as_slice())?;
-    assert!(rt; lone.len() == 1);
-    assert!(rt; least_start_counted(lone.as_slice()) == (0, 0));
-    Ok(())
+    starts_at::<i32>(&rt, alloc, "a point passed twice", &points, 3);
+    let visits = starts_at::<i64>(&rt, alloc, "one point", &[[5, 5]], 0);
+    assert!(rt; visits == 0);
 }

@@ -1,92 +1,34 @@
-use crate::given::{contour, reversed, rotated, squares, thousands};
-use i_shape::IntNumber;
+use crate::given::{
+    SQUARES_16, SQUARES_32, SQUARES_64, all_hold, reversed, rotated, safe_contour, thousands,
+};
 use i_shape::int::IntPoint;
 use i_shape::int::path::ContourExtension;
-use std::alloc::{AllocError, Global};
+use std::alloc::Global;
 use std::process::Abort;
-use std::test::Fail;
 
-const CLOCKWISE_SQUARE: [[i32; 2]; 4] = [[-10, -10], [-10, 10], [10, 10], [10, -10]];
+/// A name, a contour, and whether it is convex.
+type Row = (&'static str, &'static [[i32; 2]], bool);
 
-/// The points, with the one at `place` three times in a row.
-fn tripled(alloc: Global, points: &[[i32; 2]], place: usize) -> Result<Vec<[i32; 2]>, AllocError> {
-    let mut listed = Vec::new(alloc);
-    let mut at: usize = 0;
-    for point in points {
-        listed.push(*point)?;
-        if at == place {
-            listed.push(*point)?;
-            listed.push(*point)?;
-        }
-        at += 1;
-    }
-    Ok(listed)
-}
-
-/// The contour and its reversal are convex, or not.
-fn expect_convex(
-    rt: &impl Abort,
-    alloc: Global,
-    points: &[[i32; 2]],
-    wanted: bool,
-) -> Result<(), Fail> {
-    let forwards = contour::<i32>(rt, alloc, points)?;
-    assert!(rt; forwards.as_slice().is_convex() == wanted);
-    let turned = reversed(alloc, points)?;
-    let backwards = contour::<i32>(rt, alloc, turned.as_slice())?;
-    assert!(rt; backwards.as_slice().is_convex() == wanted);
-    Ok(())
-}
-
-fn expect_contains<I: IntNumber>(
-    rt: &impl Abort,
-    alloc: Global,
-    points: &[[I; 2]],
-    [x, y]: [I; 2],
-    wanted: bool,
-) -> Result<(), Fail> {
-    let given = contour::<I>(rt, alloc, points)?;
-    let point = IntPoint::new(x, y);
-    assert!(rt; point.is_in_safe_range(), "the point isn't in safe range");
-    assert!(rt; given.as_slice().contains_point(point) == wanted);
-    Ok(())
-}
-
-fn expect_clockwise<I: IntNumber>(
-    rt: &impl Abort,
-    alloc: Global,
-    points: &[[I; 2]],
-    wanted: bool,
-) -> Result<(), Fail> {
-    let given = contour::<I>(rt, alloc, points)?;
-    assert!(rt; !given.is_empty(), "the contour has no point");
-    assert!(rt; given.as_slice().is_clockwise_ordered() == wanted);
-    Ok(())
-}
-
-#[test]
-fn few_points_are_convex(rt: HostRuntime) -> Result<(), Fail> {
-    let alloc = rt.alloc();
-    for points in [
-        [].as_slice(),
-        [[1, 2]].as_slice(),
-        [[1, 2], [3, 4]].as_slice(),
-        [[0, 0], [0, 0], [0, 0]].as_slice(),
-        [[0, 0], [0, 0], [1, 0], [1, 0]].as_slice(),
-        [[0, 0], [0, 0], [1, 0], [1, 0], [0, 0]].as_slice(),
-    ] {
-        expect_convex(&rt, alloc, points, true)?;
-    }
-    Ok(())
-}
-
-#[test]
-fn convex_in_both_directions(rt: HostRuntime) -> Result<(), Fail> {
-    let alloc = rt.alloc();
-    for points in [
-        [[0, 0], [10, 0], [10, 10], [0, 10]].as_slice(),
-        CLOCKWISE_SQUARE.as_slice(),
-        [
+const CONVEX: [Row; 17] = [
+    ("no point", &[], true),
+    ("one point", &[[1, 2]], true),
+    ("two points", &[[1, 2], [3, 4]], true),
+    ("one point three times", &[[0, 0], [0, 0], [0, 0]], true),
+    ("two points twice", &[[0, 0], [0, 0], [1, 0], [1, 0]], true),
+    (
+        "two points twice and the first again",
+        &[[0, 0], [0, 0], [1, 0], [1, 0], [0, 0]],
+        true,
+    ),
+    ("a square", &[[0, 0], [10, 0], [10, 10], [0, 10]], true),
+    (
+        "a clockwise square",
+        &[[-10, -10], [-10, 10], [10, 10], [10, -10]],
+        true,
+    ),
+    (
+        "a square with midpoints",
+        &[
             [-10, -10],
             [-10, 0],
             [-10, 10],
@@ -95,26 +37,31 @@ fn convex_in_both_directions(rt: HostRuntime) -> Result<(), Fail> {
             [10, 0],
             [10, -10],
             [0, -10],
-        ]
-        .as_slice(),
-        [[0, 0], [1, 2], [3, 3], [4, 1], [2, 0]].as_slice(),
-        [[0, 0], [1, 2], [2, 3], [3, 2], [4, 1], [2, 0]].as_slice(),
-    ] {
-        expect_convex(&rt, alloc, points, true)?;
-    }
-    Ok(())
-}
-
-#[test]
-fn not_convex_in_both_directions(rt: HostRuntime) -> Result<(), Fail> {
-    let alloc = rt.alloc();
-    for points in [
-        [[-10, -10], [0, 10], [10, -10], [0, -5]].as_slice(),
-        [[0, 0], [4, 0], [2, 0], [2, 2], [0, 2]].as_slice(),
-        [[0, 0], [1, 0], [2, 0]].as_slice(),
-        [[2, 2], [0, 4], [0, 0], [4, 0], [4, 4], [2, 2]].as_slice(),
-        [[0, 0], [1, 2], [0, 4], [4, 2], [2, 0]].as_slice(),
-        [
+        ],
+        true,
+    ),
+    (
+        "five corners",
+        &[[0, 0], [1, 2], [3, 3], [4, 1], [2, 0]],
+        true,
+    ),
+    (
+        "six corners",
+        &[[0, 0], [1, 2], [2, 3], [3, 2], [4, 1], [2, 0]],
+        true,
+    ),
+    ("a dart", &[[-10, -10], [0, 10], [10, -10], [0, -5]], false),
+    ("a spike", &[[0, 0], [4, 0], [2, 0], [2, 2], [0, 2]], false),
+    ("three points on a line", &[[0, 0], [1, 0], [2, 0]], false),
+    (
+        "a dent at the start",
+        &[[2, 2], [0, 4], [0, 0], [4, 0], [4, 4], [2, 2]],
+        false,
+    ),
+    ("a dent", &[[0, 0], [1, 2], [0, 4], [4, 2], [2, 0]], false),
+    (
+        "a square with a midpoint within",
+        &[
             [-10, -10],
             [-9, 0],
             [-10, 10],
@@ -123,123 +70,235 @@ fn not_convex_in_both_directions(rt: HostRuntime) -> Result<(), Fail> {
             [10, 0],
             [10, -10],
             [0, -10],
-        ]
-        .as_slice(),
-    ] {
-        expect_convex(&rt, alloc, points, false)?;
-    }
-    Ok(())
+        ],
+        false,
+    ),
+];
+
+/// Contours that keep their answer from each start with each point repeated.
+const REPEATED: [Row; 3] = [
+    ("a square", &[[0, 0], [4, 0], [4, 4], [0, 4]], true),
+    (
+        "a square with a dent",
+        &[[0, 0], [4, 0], [4, 4], [2, 2], [0, 4]],
+        false,
+    ),
+    ("a spike", &[[0, 0], [4, 0], [2, 0], [2, 2], [0, 2]], false),
+];
+
+/// Whether the contour and its reversal are convex.
+fn expect_convex(rt: &impl Abort, alloc: Global, name: &str, points: &[[i32; 2]], wanted: bool) {
+    let forwards = safe_contour::<i32>(rt, alloc, points);
+    let turned = reversed(alloc, points).expect(rt, name);
+    let backwards = safe_contour::<i32>(rt, alloc, turned.as_slice());
+    let answers = [
+        (forwards.as_slice().is_convex() == wanted, "forwards"),
+        (backwards.as_slice().is_convex() == wanted, "backwards"),
+    ];
+    all_hold(rt, name, &answers);
 }
 
 #[test]
-fn repeated_points_and_rotations_keep_convexity(rt: HostRuntime) -> Result<(), Fail> {
+fn convex_or_not_in_both_directions(rt: HostRuntime) {
+    for (name, points, wanted) in &CONVEX {
+        expect_convex(&rt, rt.alloc(), name, points, *wanted);
+    }
+}
+
+#[test]
+fn repeated_points_and_rotations_keep_convexity(rt: HostRuntime) {
     let alloc = rt.alloc();
-    for (points, wanted) in [
-        ([[0, 0], [4, 0], [4, 4], [0, 4]].as_slice(), true),
-        ([[0, 0], [4, 0], [4, 4], [2, 2], [0, 4]].as_slice(), false),
-        ([[0, 0], [4, 0], [2, 0], [2, 2], [0, 2]].as_slice(), false),
-    ] {
+    for (name, points, wanted) in &REPEATED {
         for start in 0..points.len() {
-            for place in 0..points.len() {
-                let turned = rotated(alloc, points, start)?;
-                let mut listed = tripled(alloc, turned.as_slice(), place)?;
-                expect_convex(&rt, alloc, listed.as_slice(), wanted)?;
-                let first = *listed.first().ok_or("it has no point")?;
-                listed.push(first)?;
-                listed.push(first)?;
-                expect_convex(&rt, alloc, listed.as_slice(), wanted)?;
+            let turned = rotated(alloc, points, start).expect(&rt, name);
+            for place in 0..turned.len() {
+                let point = turned[place];
+                let mut listed = Vec::from_slice(alloc, &turned[..place]).expect(&rt, name);
+                listed.extend_from_slice(&[point, point]).expect(&rt, name);
+                listed.extend_from_slice(&turned[place..]).expect(&rt, name);
+                expect_convex(&rt, alloc, name, listed.as_slice(), *wanted);
+                let first = turned[0];
+                listed.extend_from_slice(&[first, first]).expect(&rt, name);
+                expect_convex(&rt, alloc, name, listed.as_slice(), *wanted);
             }
         }
     }
-    Ok(())
 }
 
 #[test]
-fn convex_at_each_width(rt: HostRuntime) -> Result<(), Fail> {
+fn convex_at_each_width(rt: HostRuntime) {
     let alloc = rt.alloc();
-    let narrow = contour::<i16>(&rt, alloc, [[0, 0], [4, 0], [0, 4]].as_slice())?;
-    assert!(rt; narrow.as_slice().is_convex());
-    let broad = contour::<i64>(&rt, alloc, [[0, 0], [4, 0], [1, 1], [0, 4]].as_slice())?;
-    assert!(rt; !broad.as_slice().is_convex());
-    Ok(())
+    let narrow = safe_contour::<i16>(&rt, alloc, &[[0, 0], [4, 0], [0, 4]]);
+    let broad = safe_contour::<i64>(&rt, alloc, &[[0, 0], [4, 0], [1, 1], [0, 4]]);
+    let answers = [
+        (narrow.as_slice().is_convex(), "a triangle of 16 bits"),
+        (!broad.as_slice().is_convex(), "a dent of 64 bits"),
+    ];
+    all_hold(&rt, "convex", &answers);
 }
 
+/// Contours, and whether they run clockwise.
+const CLOCKWISE: [Row; 5] = [
+    ("a square", &[[0, 0], [10, 0], [10, 10], [0, 10]], false),
+    (
+        "a square from its upper left corner",
+        &[[0, 10], [10, 10], [10, 0], [0, 0]],
+        true,
+    ),
+    (
+        "a clockwise square",
+        &[[-10, -10], [-10, 10], [10, 10], [10, -10]],
+        true,
+    ),
+    (
+        "its reversal",
+        &[[10, -10], [10, 10], [-10, 10], [-10, -10]],
+        false,
+    ),
+    ("one point", &[[3, 4]], true),
+];
+
 #[test]
-fn clockwise_where_the_double_area_is_not_above_zero(rt: HostRuntime) -> Result<(), Fail> {
-    let alloc = rt.alloc();
-    for (points, wanted) in [
-        ([[0, 0], [10, 0], [10, 10], [0, 10]].as_slice(), false),
-        ([[0, 10], [10, 10], [10, 0], [0, 0]].as_slice(), true),
-        (CLOCKWISE_SQUARE.as_slice(), true),
-        (
-            [[10, -10], [10, 10], [-10, 10], [-10, -10]].as_slice(),
-            false,
-        ),
-        ([[3, 4]].as_slice(), true),
-    ] {
-        expect_clockwise::<i32>(&rt, alloc, points, wanted)?;
+fn clockwise_where_the_double_area_is_not_above_zero(rt: HostRuntime) {
+    for (name, points, wanted) in &CLOCKWISE {
+        let given = safe_contour::<i32>(&rt, rt.alloc(), points);
+        assert!(rt; !given.is_empty(), "{name}: no point");
+        assert!(rt;
+            given.as_slice().is_clockwise_ordered() == *wanted,
+            "{name}"
+        );
     }
-    Ok(())
 }
 
-/// Once round, the square of these coordinates runs against the clock about its middle. Twice round, its area wraps.
-fn wraps_to_clockwise<I: IntNumber>(
+/// Asks whether the contour runs clockwise and whether it contains the zero point, which are opposites for the widest squares:
+/// once round, a square runs against the clock about its middle, and twice round, its area wraps.
+macro_rules! wraps_to_clockwise {
+    ($width:ty, $rt:expr, $alloc:expr, $name:expr, $list:expr, $is_clockwise:expr) => {
+        let middle = IntPoint::<$width>::new(0, 0);
+        assert!($rt; middle.is_in_safe_range());
+        let given = safe_contour::<$width>($rt, $alloc, $list);
+        let points = given.as_slice();
+        assert!($rt; !points.is_empty());
+        let answers = [
+            (points.is_clockwise_ordered() == $is_clockwise, "clockwise"),
+            (points.contains_point(middle) != $is_clockwise, "contains"),
+        ];
+        all_hold($rt, $name, &answers);
+    };
+}
+
+fn narrow_wraps(rt: &impl Abort, alloc: Global, name: &str, list: &[[i16; 2]], is_clockwise: bool) {
+    wraps_to_clockwise!(i16, rt, alloc, name, list, is_clockwise);
+}
+
+fn middle_wraps(rt: &impl Abort, alloc: Global, name: &str, list: &[[i32; 2]], is_clockwise: bool) {
+    wraps_to_clockwise!(i32, rt, alloc, name, list, is_clockwise);
+}
+
+fn wide_wraps(rt: &impl Abort, alloc: Global, name: &str, list: &[[i64; 2]], is_clockwise: bool) {
+    wraps_to_clockwise!(i64, rt, alloc, name, list, is_clockwise);
+}
+
+#[test]
+fn wound_twice_at_the_safe_limits_it_wraps_to_clockwise(rt: HostRuntime) {
+    for place in 0..2 {
+        let is_twice = place == 1;
+        let (name, list) = SQUARES_16[place];
+        narrow_wraps(&rt, rt.alloc(), name, list, is_twice);
+        let (name, list) = SQUARES_32[place];
+        middle_wraps(&rt, rt.alloc(), name, list, is_twice);
+        let (name, list) = SQUARES_64[place];
+        wide_wraps(&rt, rt.alloc(), name, list, is_twice);
+    }
+}
+
+/// The contour contains the point or not.
+fn expect_contains(
     rt: &impl Abort,
     alloc: Global,
-    [low, high]: [I; 2],
-) -> Result<(), Fail> {
-    let [once, twice] = squares(alloc, low, high)?;
-    expect_clockwise(rt, alloc, once.as_slice(), false)?;
-    expect_clockwise(rt, alloc, twice.as_slice(), true)?;
-    expect_contains(rt, alloc, once.as_slice(), [I::ZERO, I::ZERO], true)?;
-    expect_contains(rt, alloc, twice.as_slice(), [I::ZERO, I::ZERO], false)
+    name: &str,
+    points: &[[i32; 2]],
+    [x, y]: [i32; 2],
+    wanted: bool,
+) {
+    let given = safe_contour::<i32>(rt, alloc, points);
+    let point = IntPoint::new(x, y);
+    assert!(rt;
+        point.is_in_safe_range(),
+        "{name}: the point isn't in safe range"
+    );
+    assert!(rt; given.as_slice().contains_point(point) == wanted, "{name}");
 }
 
 #[test]
-fn wound_twice_at_the_safe_limits_it_wraps_to_clockwise(rt: HostRuntime) -> Result<(), Fail> {
+fn a_point_a_thousand_times_contains_nothing(rt: HostRuntime) {
+    let name = "a thousand points";
     let alloc = rt.alloc();
-    wraps_to_clockwise::<i16>(&rt, alloc, [-16383, 16383])?;
-    wraps_to_clockwise::<i32>(&rt, alloc, [-1073741823, 1073741823])?;
-    wraps_to_clockwise::<i64>(&rt, alloc, [-4611686018427387903, 4611686018427387903])
-}
-
-#[test]
-fn a_point_a_thousand_times_contains_nothing(rt: HostRuntime) -> Result<(), Fail> {
-    let alloc = rt.alloc();
-    for list in &thousands(alloc)? {
-        expect_contains::<i32>(&rt, alloc, list.as_slice(), [5, 5], false)?;
-        expect_contains::<i32>(&rt, alloc, list.as_slice(), [5, 0], false)?;
+    for list in &thousands(alloc).expect(&rt, name) {
+        for point in [[5, 5], [5, 0]] {
+            expect_contains(&rt, alloc, name, list.as_slice(), point, false);
+        }
     }
-    Ok(())
 }
 
+const SQUARE: &[[i32; 2]] = &[[0, 0], [4, 0], [4, 4], [0, 4]];
+
+const WITH_MIDPOINT: &[[i32; 2]] = &[[0, 0], [2, 0], [4, 0], [4, 4], [0, 4]];
+
+const SPREAD: &[[i32; 2]] = &[[0, 0], [100000, 100000], [200000, 0]];
+
+/// A name, a contour, a point, and whether the contour contains it.
+type Place = (&'static str, &'static [[i32; 2]], [i32; 2], bool);
+
+const PLACES: [Place; 13] = [
+    (
+        "within",
+        &[[0, 0], [10, 0], [10, 10], [0, 10]],
+        [5, 5],
+        true,
+    ),
+    ("within a wide triangle", SPREAD, [100000, 50000], true),
+    ("above a wide triangle", SPREAD, [100000, 150000], false),
+    (
+        "the left edge, with a midpoint",
+        WITH_MIDPOINT,
+        [0, 2],
+        true,
+    ),
+    (
+        "the right edge, with a midpoint",
+        WITH_MIDPOINT,
+        [4, 2],
+        false,
+    ),
+    ("a midpoint", WITH_MIDPOINT, [2, 0], true),
+    ("the left edge", SQUARE, [0, 2], true),
+    ("the right edge", SQUARE, [4, 2], false),
+    ("the lower edge", SQUARE, [2, 0], true),
+    (
+        "beside a triangle",
+        &[[0, 0], [2, 0], [1, 2]],
+        [0, 1],
+        false,
+    ),
+    (
+        "beside a clockwise triangle",
+        &[[1, 2], [2, 0], [0, 0]],
+        [0, 1],
+        false,
+    ),
+    (
+        "one point three times",
+        &[[5, 5], [5, 5], [5, 5]],
+        [5, 5],
+        false,
+    ),
+    ("no point", &[], [0, 0], false),
+];
+
 #[test]
-fn contains_the_points_with_an_odd_number_of_edges_to_the_right(
-    rt: HostRuntime,
-) -> Result<(), Fail> {
-    let alloc = rt.alloc();
-    let spread = [[0, 0], [100000, 100000], [200000, 0]];
-    let with_midpoint = [[0, 0], [2, 0], [4, 0], [4, 4], [0, 4]];
-    for (points, point, wanted) in [
-        (
-            [[0, 0], [10, 0], [10, 10], [0, 10]].as_slice(),
-            [5, 5],
-            true,
-        ),
-        (spread.as_slice(), [100000, 50000], true),
-        (spread.as_slice(), [100000, 150000], false),
-        (with_midpoint.as_slice(), [0, 2], true),
-        (with_midpoint.as_slice(), [4, 2], false),
-        (with_midpoint.as_slice(), [2, 0], true),
-        ([[0, 0], [4, 0], [4, 4], [0, 4]].as_slice(), [0, 2], true),
-        ([[0, 0], [4, 0], [4, 4], [0, 4]].as_slice(), [4, 2], false),
-        ([[0, 0], [4, 0], [4, 4], [0, 4]].as_slice(), [2, 0], true),
-        ([[0, 0], [2, 0], [1, 2]].as_slice(), [0, 1], false),
-        ([[1, 2], [2, 0], [0, 0]].as_slice(), [0, 1], false),
-        ([[5, 5], [5, 5], [5, 5]].as_slice(), [5, 5], false),
-        ([].as_slice(), [0, 0], false),
-    ] {
-        expect_contains::<i32>(&rt, alloc, points, point, wanted)?;
+fn contains_the_points_with_an_odd_number_of_edges_to_the_right(rt: HostRuntime) {
+    for (name, points, point, wanted) in &PLACES {
+        expect_contains(&rt, rt.alloc(), name, points, *point, *wanted);
     }
-    Ok(())
 }

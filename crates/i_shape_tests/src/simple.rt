@@ -1,22 +1,23 @@
-use crate::given::{contour, hostile_rings, pairs, squares, thousands};
+use crate::given::{
+    SQUARES_16, SQUARES_64, all_hold, hostile_rings, pairs, safe_contour, thousands,
+};
 use crate::plain::is_rotation;
-use i_shape::IntNumber;
 use i_shape::int::simple::{ContourSimplifier, SimpleContour};
 use std::alloc::Global;
 use std::process::Abort;
-use std::test::Fail;
 
-/// A contour and what is left of it without zero turns.
-type Row = (&'static [[i32; 2]], &'static [[i32; 2]]);
+/// A name, a contour, what is left of it without zero turns (nothing where it collapses), and the visits that this takes.
+type Row = (&'static str, &'static [[i32; 2]], &'static [[i32; 2]], u128);
 
-const LEFT: [Row; 11] = [
-    // the first run
+const ROWS: [Row; 22] = [
     (
+        "a straight vertex",
         &[[0, 0], [2, 0], [4, 0], [4, 4], [0, 4]],
         &[[0, 0], [4, 0], [4, 4], [0, 4]],
+        5,
     ),
-    // doubled corners
     (
+        "doubled corners",
         &[
             [0, 0],
             [0, 1024],
@@ -27,38 +28,46 @@ const LEFT: [Row; 11] = [
             [1024, 0],
         ],
         &[[0, 0], [0, 1024], [1024, 1024], [1024, 0]],
+        9,
     ),
-    // a spike, from two starts
     (
+        "a spike from one start",
         &[[6, 0], [0, 0], [2, 0], [1, 0], [1, 5]],
         &[[6, 0], [1, 0], [1, 5]],
+        5,
     ),
     (
+        "a spike from another start",
         &[[2, 0], [1, 0], [1, 5], [6, 0], [0, 0]],
         &[[1, 0], [1, 5], [6, 0]],
+        8,
     ),
-    // the first point again at the end
     (
+        "the first point again at the end",
         &[[0, 0], [4, 0], [4, 4], [0, 4], [0, 0]],
         &[[4, 0], [4, 4], [0, 4], [0, 0]],
+        6,
     ),
-    // repeated points and a straight one
     (
+        "repeated points and a straight one",
         &[[0, 0], [1, 0], [1, 0], [2, 0], [2, 2], [0, 2], [0, 0]],
         &[[2, 0], [2, 2], [0, 2], [0, 0]],
+        8,
     ),
-    // a spike there and back
     (
+        "a spike there and back",
         &[[0, 0], [8, 0], [4, 0], [6, 0], [6, 4], [0, 4]],
         &[[0, 0], [6, 0], [6, 4], [0, 4]],
+        6,
     ),
-    // a spike whose removal makes another zero turn
     (
+        "a spike whose removal makes another zero turn",
         &[[0, 0], [2, 0], [2, 5], [2, 0], [4, 0], [4, 4], [0, 4]],
         &[[0, 0], [4, 0], [4, 4], [0, 4]],
+        8,
     ),
-    // a spike of six points on a line
     (
+        "a spike of six points on a line",
         &[
             [0, 0],
             [10, 0],
@@ -70,172 +79,247 @@ const LEFT: [Row; 11] = [
             [0, 6],
         ],
         &[[0, 0], [6, 0], [6, 6], [0, 6]],
+        8,
     ),
-    // a clockwise square is its own answer
     (
+        "a clockwise square",
         &[[0, 0], [0, 1], [1, 1], [1, 0]],
         &[[0, 0], [0, 1], [1, 1], [1, 0]],
+        4,
     ),
-    // a diagonal at the safe bound of 16 bits
     (
+        "a square",
+        &[[0, 0], [10, 0], [10, 10], [0, 10]],
+        &[[0, 0], [10, 0], [10, 10], [0, 10]],
+        4,
+    ),
+    (
+        "a diagonal at the safe bound of 16 bits",
         &[[-16383, -16383], [16383, 16383], [16383, -16383], [0, 0]],
         &[[16383, 16383], [16383, -16383], [0, 0]],
+        5,
+    ),
+    (
+        "a ring that passes a point twice",
+        &[[0, 0], [4, 0], [4, 4], [0, 0], [2, 6], [0, 6]],
+        &[[0, 0], [4, 0], [4, 4], [0, 0], [2, 6], [0, 6]],
+        6,
+    ),
+    (
+        "the widest square of 32 bits",
+        &[
+            [-1073741823, -1073741823],
+            [1073741823, -1073741823],
+            [1073741823, 1073741823],
+            [-1073741823, 1073741823],
+        ],
+        &[
+            [-1073741823, -1073741823],
+            [1073741823, -1073741823],
+            [1073741823, 1073741823],
+            [-1073741823, 1073741823],
+        ],
+        4,
+    ),
+    (
+        "the widest square of 32 bits, twice",
+        &[
+            [-1073741823, -1073741823],
+            [1073741823, -1073741823],
+            [1073741823, 1073741823],
+            [-1073741823, 1073741823],
+            [-1073741823, -1073741823],
+            [1073741823, -1073741823],
+            [1073741823, 1073741823],
+            [-1073741823, 1073741823],
+        ],
+        &[
+            [-1073741823, -1073741823],
+            [1073741823, -1073741823],
+            [1073741823, 1073741823],
+            [-1073741823, 1073741823],
+            [-1073741823, -1073741823],
+            [1073741823, -1073741823],
+            [1073741823, 1073741823],
+            [-1073741823, 1073741823],
+        ],
+        8,
+    ),
+    ("no point", &[], &[], 0),
+    ("one point", &[[3, 4]], &[], 0),
+    ("two points", &[[3, 4], [5, 6]], &[], 0),
+    (
+        "three points on a line",
+        &[[0, 0], [0, 512], [0, 1]],
+        &[],
+        1,
+    ),
+    (
+        "one point five times",
+        &[[7, 7], [7, 7], [7, 7], [7, 7], [7, 7]],
+        &[],
+        3,
+    ),
+    (
+        "two ways there and back",
+        &[
+            [-10, -10],
+            [-10, 10],
+            [10, 10],
+            [-10, 10],
+            [-10, -10],
+            [10, -10],
+        ],
+        &[],
+        5,
+    ),
+    (
+        "a triangle",
+        &[[1, 0], [1, 5], [6, 0]],
+        &[[1, 0], [1, 5], [6, 0]],
+        3,
     ),
 ];
 
-const COLLAPSING: [&[[i32; 2]]; 6] = [
-    &[],
-    &[[3, 4]],
-    &[[3, 4], [5, 6]],
-    &[[0, 0], [0, 512], [0, 1]],
-    &[[7, 7], [7, 7], [7, 7], [7, 7], [7, 7]],
-    &[
-        [-10, -10],
-        [-10, 10],
-        [10, 10],
-        [-10, 10],
-        [-10, -10],
-        [10, -10],
-    ],
-];
-
-#[test]
-fn leaves_the_one_end(rt: HostRuntime) -> Result<(), Fail> {
-    let alloc = rt.alloc();
-    let mut simplifier = ContourSimplifier::new(alloc);
-    for (given, wanted) in LEFT {
-        let given = contour::<i32>(&rt, alloc, given)?;
-        let wanted = contour::<i32>(&rt, alloc, wanted)?;
-        let kept = given.as_slice().simplified(alloc)?.ok_or("it collapsed")?;
-        assert_eq!(rt; kept, wanted);
-        for _ in 0..2 {
-            let again = simplifier
-                .simplify_contour(given.as_slice())?
-                .ok_or("it collapsed")?;
-            assert_eq!(rt; again, wanted);
-        }
-        assert!(rt; wanted.as_slice().is_simple());
-        assert_eq!(rt; given.as_slice().is_simple(), given == wanted);
-    }
-    Ok(())
-}
-
-#[test]
-fn collapses(rt: HostRuntime) -> Result<(), Fail> {
-    let alloc = rt.alloc();
-    for given in COLLAPSING {
-        let given = contour::<i32>(&rt, alloc, given)?;
-        assert!(rt; given.as_slice().simplified(alloc)?.is_none());
-        assert!(rt; !given.as_slice().is_simple());
-    }
-    Ok(())
-}
-
-#[test]
-fn every_start_and_direction_leaves_the_same_ring(rt: HostRuntime) -> Result<(), Fail> {
-    let alloc = rt.alloc();
-    let mut simplifier = ContourSimplifier::new(alloc);
-    for (list, ring) in &hostile_rings(alloc)? {
-        let given = contour::<i32>(&rt, alloc, list.as_slice())?;
-        let kept = given.as_slice().simplified(alloc)?.ok_or("it collapsed")?;
-        assert!(rt; is_rotation(pairs(alloc, kept.as_slice())?.as_slice(), ring.as_slice()));
-        let again = simplifier
-            .simplify_contour(given.as_slice())?
-            .ok_or("it collapsed")?;
-        assert_eq!(rt; again, kept);
-    }
-    Ok(())
-}
-
-#[test]
-fn counts_its_visits(rt: HostRuntime) -> Result<(), Fail> {
-    let alloc = rt.alloc();
-    let mut simplifier = ContourSimplifier::new(alloc);
-    let rows: [(&[[i32; 2]], u128); 6] = [
-        (&[], 0),
-        (&[[3, 4]], 0),
-        (&[[3, 4], [5, 6]], 0),
-        (&[[0, 0], [10, 0], [10, 10], [0, 10]], 4),
+/// Each call answers what the row says.
+fn leaves(rt: &impl Abort, alloc: Global, simplifier: &mut ContourSimplifier, row: &Row) {
+    let (name, given, left, wanted_visits) = *row;
+    let given = safe_contour::<i32>(rt, alloc, given);
+    let left = safe_contour::<i32>(rt, alloc, left);
+    let points = given.as_slice();
+    let is_left_simple = left.as_slice().is_simple() == !left.is_empty();
+    let is_simple = points.is_simple() == (!left.is_empty() && given == left);
+    let wanted = if left.is_empty() { None } else { Some(left) };
+    let (counted, visits) = simplifier.simplify_counted(points).expect(rt, name);
+    let answers = [
+        (is_left_simple, "is_simple of what is left"),
+        (is_simple, "is_simple"),
+        (counted == wanted, "simplify_counted"),
+        (visits == wanted_visits, "visits"),
         (
-            &[
-                [0, 0],
-                [0, 1024],
-                [0, 1024],
-                [512, 1024],
-                [1024, 1024],
-                [1024, 1024],
-                [1024, 0],
-            ],
-            9,
+            points.simplified(alloc).expect(rt, name) == wanted,
+            "simplified",
         ),
-        (&[[7, 7], [7, 7], [7, 7], [7, 7], [7, 7]], 3),
+        (
+            simplifier.simplify_contour(points).expect(rt, name) == wanted,
+            "simplify_contour",
+        ),
     ];
-    for (given, wanted) in rows {
-        let given = contour::<i32>(&rt, alloc, given)?;
-        let (_kept, visits) = simplifier.simplify_counted(given.as_slice())?;
-        assert_eq!(rt; visits, wanted);
-    }
-    Ok(())
+    all_hold(rt, name, &answers);
 }
 
 #[test]
-fn a_thousand_points_on_a_line_or_at_one_place_collapse(rt: HostRuntime) -> Result<(), Fail> {
+fn each_contour_leaves_its_one_end(rt: HostRuntime) {
     let alloc = rt.alloc();
     let mut simplifier = ContourSimplifier::new(alloc);
-    for list in &thousands(alloc)? {
-        let given = contour::<i32>(&rt, alloc, list.as_slice())?;
-        let (kept, visits) = simplifier.simplify_counted(given.as_slice())?;
-        assert!(rt; kept.is_none());
-        assert!(rt; 998 <= visits && visits <= 3000);
+    for row in &ROWS {
+        for _ in 0..2 {
+            leaves(&rt, alloc, &mut simplifier, row);
+        }
     }
-    Ok(())
 }
 
-/// The contour is simple, and its own answer.
-fn stays<I: IntNumber>(rt: &impl Abort, alloc: Global, list: &[[I; 2]]) -> Result<(), Fail> {
-    let given = contour(rt, alloc, list)?;
-    assert!(rt; given.as_slice().is_simple());
-    let kept = given.as_slice().simplified(alloc)?.ok_or("it collapsed")?;
-    assert!(rt; kept == given);
+#[test]
+fn every_start_and_direction_leaves_the_same_ring(rt: HostRuntime) {
+    let alloc = rt.alloc();
     let mut simplifier = ContourSimplifier::new(alloc);
-    let kept = simplifier
-        .simplify_contour(given.as_slice())?
-        .ok_or("it collapsed")?;
-    assert!(rt; kept == given);
-    Ok(())
+    for (name, list, ring) in &hostile_rings(&rt, alloc) {
+        let given = safe_contour::<i32>(&rt, alloc, list.as_slice());
+        let kept = given.as_slice().simplified(alloc).expect(&rt, name);
+        let again = simplifier
+            .simplify_contour(given.as_slice())
+            .expect(&rt, name);
+        let is_same = kept == again;
+        let kept = pairs(alloc, kept.expect(&rt, name).as_slice()).expect(&rt, name);
+        let is_ring = is_rotation(kept.as_slice(), ring.as_slice());
+        all_hold(
+            &rt,
+            name,
+            &[(is_same, "the same by both calls"), (is_ring, "the ring")],
+        );
+    }
 }
 
-/// The square of these two coordinates, wound once and twice.
-fn squares_stay<I: IntNumber>(
+#[test]
+fn a_thousand_points_on_a_line_or_at_one_place_collapse(rt: HostRuntime) {
+    let name = "a thousand points";
+    let alloc = rt.alloc();
+    let mut simplifier = ContourSimplifier::new(alloc);
+    for list in &thousands(alloc).expect(&rt, name) {
+        let given = safe_contour::<i32>(&rt, alloc, list.as_slice());
+        let counted = simplifier.simplify_counted(given.as_slice());
+        let (kept, visits) = counted.expect(&rt, name);
+        let answers = [
+            (kept.is_none(), "it collapses"),
+            (998 <= visits && visits <= 3000, "visits"),
+        ];
+        all_hold(&rt, name, &answers);
+    }
+}
+
+/// Asks each call of a contour that doesn't collapse what is left of it.
+macro_rules! leaves_at {
+    ($rt:expr, $alloc:expr, $simplifier:expr, $name:expr, $given:expr, $left:expr) => {
+        let given = safe_contour($rt, $alloc, $given);
+        let left = safe_contour($rt, $alloc, $left);
+        let points = given.as_slice();
+        let is_simple = points.is_simple() == (given == left);
+        let own = points.simplified($alloc).expect($rt, $name);
+        let reused = $simplifier.simplify_contour(points).expect($rt, $name);
+        let wanted = Some(left);
+        let answers = [
+            (is_simple, "is_simple"),
+            (own == wanted, "simplified"),
+            (reused == wanted, "simplify_contour"),
+        ];
+        all_hold($rt, $name, &answers);
+    };
+}
+
+fn narrow_leaves(
     rt: &impl Abort,
     alloc: Global,
-    [low, high]: [I; 2],
-) -> Result<(), Fail> {
-    let [once, twice] = squares(alloc, low, high)?;
-    stays(rt, alloc, once.as_slice())?;
-    stays(rt, alloc, twice.as_slice())
+    simplifier: &mut ContourSimplifier,
+    name: &str,
+    given: &[[i16; 2]],
+    left: &[[i16; 2]],
+) {
+    leaves_at!(rt, alloc, simplifier, name, given, left);
+}
+
+fn wide_leaves(
+    rt: &impl Abort,
+    alloc: Global,
+    simplifier: &mut ContourSimplifier,
+    name: &str,
+    given: &[[i64; 2]],
+    left: &[[i64; 2]],
+) {
+    leaves_at!(rt, alloc, simplifier, name, given, left);
 }
 
 #[test]
-fn the_widest_squares_of_each_width_are_simple(rt: HostRuntime) -> Result<(), Fail> {
-    let alloc = rt.alloc();
-    squares_stay::<i16>(&rt, alloc, [-16383, 16383])?;
-    squares_stay::<i32>(&rt, alloc, [-1073741823, 1073741823])?;
-    squares_stay::<i64>(&rt, alloc, [-4611686018427387903, 4611686018427387903])
+fn narrow_contours_leave_their_one_end(rt: HostRuntime) {
+    let mut simplifier = ContourSimplifier::new(rt.alloc());
+    let spiked: [[i16; 2]; 4] = [[-16383, -16383], [16383, 16383], [16383, -16383], [0, 0]];
+    let rows: [(&str, &[[i16; 2]], &[[i16; 2]]); 3] = [
+        (SQUARES_16[0].0, SQUARES_16[0].1, SQUARES_16[0].1),
+        (SQUARES_16[1].0, SQUARES_16[1].1, SQUARES_16[1].1),
+        (
+            "a diagonal at the safe bound of 16 bits",
+            &spiked,
+            &spiked[1..],
+        ),
+    ];
+    for (name, given, left) in &rows {
+        narrow_leaves(&rt, rt.alloc(), &mut simplifier, name, given, left);
+    }
 }
 
 #[test]
-fn a_ring_may_pass_a_point_twice(rt: HostRuntime) -> Result<(), Fail> {
-    let ring = [[0, 0], [4, 0], [4, 4], [0, 0], [2, 6], [0, 6]];
-    stays::<i32>(&rt, rt.alloc(), &ring)
-}
-
-#[test]
-fn a_diagonal_at_the_safe_bound_of_16_bits(rt: HostRuntime) -> Result<(), Fail> {
-    let alloc = rt.alloc();
-    let spiked = [[-16383, -16383], [16383, 16383], [16383, -16383], [0, 0]];
-    let given = contour::<i16>(&rt, alloc, &spiked)?;
-    let kept = given.as_slice().simplified(alloc)?.ok_or("it collapsed")?;
-    assert_eq!(rt; kept, contour::<i16>(&rt, alloc, &spiked[1..])?);
-    Ok(())
+fn wide_contours_are_their_one_end(rt: HostRuntime) {
+    let mut simplifier = ContourSimplifier::new(rt.alloc());
+    for (name, list) in &SQUARES_64 {
+        wide_leaves(&rt, rt.alloc(), &mut simplifier, name, list, list);
+    }
 }

@@ -1,13 +1,22 @@
-use crate::given::{contour, pairs};
+use crate::given::{all_hold, pairs, safe_contour};
 use crate::plain::{Order, Pair, deleted, is_rotation, ring_walk, visits_of_stack};
 use i_shape::int::despike::DeSpikeContour;
 use i_shape::int::simple::ContourSimplifier;
 use std::alloc::{AllocError, Global};
 use std::process::Abort;
-use std::test::Fail;
 
 /// The points with x in 0..=2 and y in 0..=1.
 const GRID: usize = 6;
+
+/// A name, a number of points, and how many lists of so many points of the grid there are.
+const LISTS: [(&str, usize, usize); 6] = [
+    ("no point", 0, 1),
+    ("one point", 1, 6),
+    ("two points", 2, 36),
+    ("three points", 3, 216),
+    ("four points", 4, 1296),
+    ("five points", 5, 7776),
+];
 
 /// The list of so many points of the grid whose places in the grid are the digits of the code.
 fn list_of(alloc: Global, count: usize, code: usize) -> Result<Vec<Pair>, AllocError> {
@@ -27,28 +36,40 @@ fn list_of(alloc: Global, count: usize, code: usize) -> Result<Vec<Pair>, AllocE
     Ok(list)
 }
 
+/// Whether one list is the other from another start, or too short where there is no other.
+fn is_end(left: &[Pair], kept: &Option<Vec<Pair>>) -> bool {
+    match kept {
+        Some(kept) => is_rotation(left, kept.as_slice()),
+        None => left.len() < 3,
+    }
+}
+
 /// Both orders of deletion end in rotations of what `simplified` answers, or collapse where it is `None`; the visits are
 /// those of the plain walk.
 fn simplifies_as_each_order(
     rt: &impl Abort,
     alloc: Global,
     simplifier: &mut ContourSimplifier,
+    name: &str,
     list: &[Pair],
-) -> Result<(), Fail> {
-    let points = contour::<i32>(rt, alloc, list)?;
-    let (kept, visits) = simplifier.simplify_counted(points.as_slice())?;
-    assert_eq!(rt; visits, visits_of_stack(alloc, list)?);
-    for order in [Order::First, Order::Last] {
-        let left = deleted(alloc, list, order)?;
-        match &kept {
-            Some(kept) => {
-                let kept = pairs(alloc, kept.as_slice())?;
-                assert!(rt; is_rotation(left.as_slice(), kept.as_slice()));
-            }
-            None => assert!(rt; left.len() < 3),
-        }
-    }
-    Ok(())
+) {
+    let points = safe_contour::<i32>(rt, alloc, list);
+    let (kept, visits) = simplifier
+        .simplify_counted(points.as_slice())
+        .expect(rt, name);
+    let kept = match kept {
+        Some(kept) => Some(pairs(alloc, kept.as_slice()).expect(rt, name)),
+        None => None,
+    };
+    let first = deleted(alloc, list, Order::First).expect(rt, name);
+    let last = deleted(alloc, list, Order::Last).expect(rt, name);
+    let walked = visits_of_stack(alloc, list).expect(rt, name);
+    let answers = [
+        (visits == walked, "the visits of the plain walk"),
+        (is_end(first.as_slice(), &kept), "the first zero turn first"),
+        (is_end(last.as_slice(), &kept), "the last zero turn first"),
+    ];
+    all_hold(rt, name, &answers);
 }
 
 /// `despiked_counted` is `None` exactly where `simplified` is, its `Some` is what the plain walk round the ring leaves and is
@@ -57,58 +78,51 @@ fn despikes_as_the_ring_walk(
     rt: &impl Abort,
     alloc: Global,
     simplifier: &mut ContourSimplifier,
+    name: &str,
     list: &[Pair],
-) -> Result<(), Fail> {
-    let points = contour::<i32>(rt, alloc, list)?;
-    let kept = simplifier.simplify_contour(points.as_slice())?;
-    let (despiked, visits) = points.despiked_counted(alloc)?;
-    let (left, walked) = ring_walk(alloc, list)?;
-    assert_eq!(rt; visits, walked);
-    match despiked {
-        Some(despiked) => {
-            let despiked = pairs(alloc, despiked.as_slice())?;
-            assert!(rt; despiked == left);
-            let again = contour::<i32>(rt, alloc, despiked.as_slice())?;
-            let again = simplifier
-                .simplify_contour(again.as_slice())?
-                .ok_or("it collapsed")?;
-            let kept = kept.ok_or("the contour collapsed")?;
-            let again = pairs(alloc, again.as_slice())?;
-            assert!(rt; is_rotation(again.as_slice(), pairs(alloc, kept.as_slice())?.as_slice()));
-        }
-        None => {
-            assert!(rt; kept.is_none());
-            assert!(rt; left.len() < 3);
-        }
-    }
-    Ok(())
+) {
+    let points = safe_contour::<i32>(rt, alloc, list);
+    let kept = simplifier
+        .simplify_contour(points.as_slice())
+        .expect(rt, name);
+    let (despiked, visits) = points.despiked_counted(alloc).expect(rt, name);
+    let (left, walked) = ring_walk(alloc, list).expect(rt, name);
+    assert!(rt;
+        visits == walked,
+        "{name}: the visits of the walk round the ring"
+    );
+    let Some(despiked) = despiked else {
+        assert!(rt; kept.is_none() && left.len() < 3, "{name}: it collapsed");
+        return;
+    };
+    let survivors = pairs(alloc, despiked.as_slice()).expect(rt, name);
+    let again = simplifier
+        .simplify_contour(despiked.as_slice())
+        .expect(rt, name);
+    let again = pairs(alloc, again.expect(rt, name).as_slice()).expect(rt, name);
+    let kept = pairs(alloc, kept.expect(rt, name).as_slice()).expect(rt, name);
+    let answers = [
+        (survivors == left, "what the walk round the ring leaves"),
+        (
+            is_rotation(again.as_slice(), kept.as_slice()),
+            "the ring that the contour is simplified to",
+        ),
+    ];
+    all_hold(rt, name, &answers);
 }
 
 #[test]
-fn every_small_list_is_despiked_as_round_the_ring(rt: HostRuntime) -> Result<(), Fail> {
-    let alloc = rt.alloc();
-    let mut simplifier = ContourSimplifier::new(alloc);
-    for (count, codes) in [(0, 1), (1, 6), (2, 36), (3, 216), (4, 1296), (5, 7776)] {
-        for code in 0..codes {
-            let list = list_of(alloc, count, code)?;
-            despikes_as_the_ring_walk(&rt, alloc, &mut simplifier, list.as_slice())?;
-        }
-    }
-    Ok(())
-}
-
-#[test]
-fn every_small_list_has_the_end_of_each_order(rt: HostRuntime) -> Result<(), Fail> {
+fn every_small_list_is_cleaned_as_by_plain_loops(rt: HostRuntime) {
     let alloc = rt.alloc();
     let mut simplifier = ContourSimplifier::new(alloc);
     let mut lists: usize = 0;
-    for (count, codes) in [(0, 1), (1, 6), (2, 36), (3, 216), (4, 1296), (5, 7776)] {
-        for code in 0..codes {
-            let list = list_of(alloc, count, code)?;
-            simplifies_as_each_order(&rt, alloc, &mut simplifier, list.as_slice())?;
+    for (name, count, codes) in &LISTS {
+        for code in 0..*codes {
+            let list = list_of(alloc, *count, code).expect(&rt, name);
+            despikes_as_the_ring_walk(&rt, alloc, &mut simplifier, name, list.as_slice());
+            simplifies_as_each_order(&rt, alloc, &mut simplifier, name, list.as_slice());
             lists = lists.wrapping_add(1);
         }
     }
-    assert_eq!(rt; lists, 9331);
-    Ok(())
+    assert!(rt; lists == 9331);
 }
