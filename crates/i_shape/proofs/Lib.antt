@@ -1,3 +1,5 @@
+-- lists that are compared
+pub mod EqualLists
 pub mod Surviving
 pub mod EndToEnd
 pub mod ContoursHeld
@@ -9,3 +11,5 @@ pub mod CompactLaws
 pub mod WrappedSums
 pub mod SpikesLeft
 pub mod Examples
+-- what callers cite
+pub mod CallerLemmas

@@ -4,6 +4,7 @@
 pub mod base;
 pub mod flat;
 pub mod int;
+pub mod laws;
 mod macros;
 pub mod source;
 

@@ -6,6 +6,8 @@ mod area;
 #[cfg(test)]
 mod buffer;
 #[cfg(test)]
+mod buffer_equality;
+#[cfg(test)]
 mod callers;
 #[cfg(test)]
 mod canonical;

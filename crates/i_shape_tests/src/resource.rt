@@ -34,6 +34,8 @@ impl<'p> IntShapeResource<'p, i32> for Outline<'p> {
 
     ghost paths = { λ outline. outline.points.now ∷ [] };
 
+    ghost safe = { λ outline. All (IsSafe I32IntNumber.width) };
+
     fn iter_paths(self) -> ContourResourceIterator<'p, IntPoint<i32>> {
         self.points.iter_paths()
     }

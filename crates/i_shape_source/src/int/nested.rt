@@ -1,4 +1,5 @@
-//! Slices, vectors and arrays as resources.
+//! Slices, vectors and arrays as resources. What is told safe of a vector or an array is told of its slices too.
+ghost use Rattle.i_shape_source.specs.ShapeLists.{HoldsOfEqual};
 
 use crate::int::member::IntResourceMember;
 use crate::int::resource::IntShapeResource;
@@ -38,7 +39,7 @@ impl<'a, I: IntNumber + 'a, T: IntResourceMember<'a, I>> IntShapeResource<'a, I>
 
     ghost paths = { λ members. T.member_paths members.now.items };
 
-    ghost safe = { λ members. T.safe members.now.items };
+    ghost safe = { λ members. HoldsOfEqual T.safe members.now.items };
 
     ghost begins = { λ members iter. T.begins members.now.items iter };
 
@@ -53,7 +54,7 @@ impl<'a, I: IntNumber + 'a, T: IntResourceMember<'a, I>> IntShapeResource<'a, I>
 
     ghost paths = { λ members. T.member_paths members.now.now.items };
 
-    ghost safe = { λ members. T.safe members.now.now.items };
+    ghost safe = { λ members. HoldsOfEqual T.safe members.now.now.items };
 
     ghost begins = { λ members iter. T.begins members.now.now.items iter };
 
@@ -68,7 +69,7 @@ impl<'a, I: IntNumber + 'a, T: IntResourceMember<'a, I>, const N: usize> IntShap
 
     ghost paths = { λ members. T.member_paths members.now };
 
-    ghost safe = { λ members. T.safe members.now };
+    ghost safe = { λ members. HoldsOfEqual T.safe members.now };
 
     ghost begins = { λ members iter. T.begins members.now iter };
 
@@ -83,7 +84,7 @@ impl<'a, I: IntNumber + 'a, T: IntResourceMember<'a, I>, const N: usize> IntShap
 
     ghost paths = { λ members. T.member_paths members.now.now };
 
-    ghost safe = { λ members. T.safe members.now.now };
+    ghost safe = { λ members. HoldsOfEqual T.safe members.now.now };
 
     ghost begins = { λ members iter. T.begins members.now.now iter };
 
