@@ -213,7 +213,7 @@ fn set_with_resource_puts_all_paths_in_one_shape(rt: HostRuntime) -> Result<(), 
         "as contours",
     );
     let list = shapes.to_shapes()?;
-    equal(&rt, list.len(), 1, name, "the number of shapes");
+    assert!(rt; list.len() == 1, "another number of shapes");
     holds(
         &rt,
         list[0].as_slice() == shape.as_slice(),
