@@ -6,7 +6,7 @@ mod area;
 #[cfg(test)]
 mod buffer;
 #[cfg(test)]
-mod callers;
+mod calling;
 #[cfg(test)]
 mod canonical;
 #[cfg(test)]
