@@ -1,6 +1,6 @@
 ghost use Rattle.std.specs.Prelude.{◌<◌};
 
-use crate::callers::assert_safe;
+use crate::calling::assert_safe;
 use crate::claims::{equal, holds};
 use crate::given_shapes::{shape, shapes};
 use i_shape::flat::buffer::{FlatContoursBuffer, FlatShapesBuffer};

@@ -8,7 +8,7 @@ mod buffer;
 #[cfg(test)]
 mod buffer_equality;
 #[cfg(test)]
-mod callers;
+mod calling;
 #[cfg(test)]
 mod canonical;
 #[cfg(test)]

@@ -309,6 +309,10 @@ const CLEANED_LISTS: [LeftOfList; 6] = [
     ),
 ];
 
+const CLOSED_LIST: Shapes = &[&[CLOSED]];
+
+const OPENED_LIST: Shapes = &[&[CLOSED_SIMPLIFIED]];
+
 #[test]
 fn lists_without_zero_turns_and_without_spikes(rt: HostRuntime) -> Result<(), Fail> {
     let alloc = rt.alloc();
@@ -316,9 +320,8 @@ fn lists_without_zero_turns_and_without_spikes(rt: HostRuntime) -> Result<(), Fa
         simplifies_list::<i32>(&rt, alloc, name, given, wanted)?;
         despikes_list::<i32>(&rt, alloc, name, given, wanted)?;
     }
-    let closed: Shapes = &[&[CLOSED]];
-    simplifies_list::<i32>(&rt, alloc, "closed", closed, &[&[CLOSED_SIMPLIFIED]])?;
-    despikes_list::<i32>(&rt, alloc, "closed", closed, closed)
+    simplifies_list::<i32>(&rt, alloc, "closed", CLOSED_LIST, OPENED_LIST)?;
+    despikes_list::<i32>(&rt, alloc, "closed", CLOSED_LIST, CLOSED_LIST)
 }
 
 /// Each call once, as points of one width: a flat hole is left out.
@@ -326,27 +329,39 @@ fn cleans_at_width<I: IntNumber>(
     rt: &impl Abort,
     alloc: Global,
     name: &str,
-    given: &[&[[I; 2]]],
-    kept: &[&[[I; 2]]],
+    given: &[&[&[[I; 2]]]],
+    wanted: &[&[&[[I; 2]]]],
 ) -> Result<(), Fail> {
-    simplifies_shape(rt, alloc, name, given, Some(kept))?;
-    despikes_shape(rt, alloc, name, given, Some(kept))?;
-    simplifies_list(rt, alloc, name, &[given], &[kept])?;
-    despikes_list(rt, alloc, name, &[given], &[kept])
+    for (shape, kept) in given.iter().zip(wanted) {
+        simplifies_shape(rt, alloc, name, *shape, Some(*kept))?;
+        despikes_shape(rt, alloc, name, *shape, Some(*kept))?;
+    }
+    simplifies_list(rt, alloc, name, given, wanted)?;
+    despikes_list(rt, alloc, name, given, wanted)
 }
 
-const MIXED_16: &[&[[i16; 2]]] = &[&[[0, 0], [4, 0], [4, 4], [0, 4]], &[[1, 1], [2, 2], [3, 3]]];
+const MIXED_16: &[&[&[[i16; 2]]]] = &[&[
+    &[[0, 0], [4, 0], [4, 4], [0, 4]],
+    &[[1, 1], [2, 2], [3, 3]],
+]];
 
-const KEPT_16: &[&[[i16; 2]]] = &[&[[0, 0], [4, 0], [4, 4], [0, 4]]];
+const KEPT_16: &[&[&[[i16; 2]]]] = &[&[&[[0, 0], [4, 0], [4, 4], [0, 4]]]];
 
-const MIXED_64: &[&[[i64; 2]]] = &[&[[0, 0], [4, 0], [4, 4], [0, 4]], &[[1, 1], [2, 2], [3, 3]]];
+const MIXED_32: &[&[&[[i32; 2]]]] = &[&[SQUARE, DIAGONAL]];
 
-const KEPT_64: &[&[[i64; 2]]] = &[&[[0, 0], [4, 0], [4, 4], [0, 4]]];
+const KEPT_32: &[&[&[[i32; 2]]]] = &[&[SQUARE]];
+
+const MIXED_64: &[&[&[[i64; 2]]]] = &[&[
+    &[[0, 0], [4, 0], [4, 4], [0, 4]],
+    &[[1, 1], [2, 2], [3, 3]],
+]];
+
+const KEPT_64: &[&[&[[i64; 2]]]] = &[&[&[[0, 0], [4, 0], [4, 4], [0, 4]]]];
 
 #[test]
 fn each_width_is_cleaned(rt: HostRuntime) -> Result<(), Fail> {
     let alloc = rt.alloc();
     cleans_at_width::<i16>(&rt, alloc, "16 bits", MIXED_16, KEPT_16)?;
-    cleans_at_width::<i32>(&rt, alloc, "32 bits", &[SQUARE, DIAGONAL], &[SQUARE])?;
+    cleans_at_width::<i32>(&rt, alloc, "32 bits", MIXED_32, KEPT_32)?;
     cleans_at_width::<i64>(&rt, alloc, "64 bits", MIXED_64, KEPT_64)
 }

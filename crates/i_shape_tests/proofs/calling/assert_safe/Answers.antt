@@ -1,6 +1,6 @@
 use Rattle.std.proofs.Common.{rules, IsTrue}
 use Rattle.i_shape_tests.proofs.SafeContours.{safe_contour}
-use Rattle.i_shape_tests.proofs.callers.assert_safe.Goals as goal
+use Rattle.i_shape_tests.proofs.calling.assert_safe.Goals as goal
 
 pub returns : goal.returns
 returns g c =
