@@ -8,6 +8,8 @@ mod buffer;
 #[cfg(test)]
 mod canonical;
 #[cfg(test)]
+mod comparisons;
+#[cfg(test)]
 mod contour;
 #[cfg(test)]
 mod count;
