@@ -66,7 +66,7 @@ pub fn least_start_counted<I: IntNumber>(contour: &[IntPoint<I>]) -> (usize, u12
     (start, comparer.comparisons())
 }
 
-/// Where the least rotation of a contour starts of which nothing has been compared.
+/// Where the least rotation starts. Of the contour nothing has been compared before.
 fn search_starts<I: IntNumber>(comparer: &mut Comparer<'_, I>) -> usize
     requires some { 0 < length comparer.old.contour }
     requires fresh { comparer.old.comparisons ≡ 0 }

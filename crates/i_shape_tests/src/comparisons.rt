@@ -1,0 +1,117 @@
+//! How many pairs of points the search for the least rotation compares.
+
+ghost use Rattle.std.specs.Prelude.{◌<◌, length};
+
+use crate::given::contour;
+use crate::plain::Pair;
+use i_shape_core::canonical::least_start_counted;
+use std::alloc::{AllocError, Global};
+use std::cmp::Ordering;
+use std::process::Abort;
+use std::test::Fail;
+
+/// The search answers this start and this number of comparisons.
+fn has_count(
+    rt: &impl Abort,
+    alloc: Global,
+    list: &[Pair],
+    wanted: (usize, u128),
+) -> Result<(), Fail> {
+    let points = contour::<i32>(rt, alloc, list)?;
+    assert!(rt; !points.is_empty());
+    assert_eq!(rt; least_start_counted(points.as_slice()), wanted);
+    Ok(())
+}
+
+/// How the rotations of a list from two places are ordered, and how many pairs of points tell it.
+fn compared(list: &[Pair], one: usize, other: usize) -> (usize, Ordering) {
+    let count = list.len();
+    for step in 0..count {
+        let ours = list[one.wrapping_add(step) % count];
+        let theirs = list[other.wrapping_add(step) % count];
+        let order = ours.cmp(&theirs);
+        if order != Ordering::Equal {
+            return (step + 1, order);
+        }
+    }
+    (count, Ordering::Equal)
+}
+
+/// Where the least rotation starts, and the pairs of points compared: each start in turn against the best one so far, where
+/// the one that loses takes along the starts up to where it lost.
+fn plain_search(list: &[Pair]) -> (usize, u128) {
+    let count = list.len();
+    let mut best = 0;
+    let mut next = 1;
+    let mut pairs: u128 = 0;
+    for _ in 0..count {
+        if next >= count {
+            break;
+        }
+        let (told, order) = compared(list, best, next);
+        pairs = pairs.wrapping_add(told as u128);
+        match order {
+            Ordering::Equal => break,
+            Ordering::Less => next = next.wrapping_add(told),
+            Ordering::Greater => {
+                best = next.max(best.wrapping_add(told));
+                next = best.wrapping_add(1);
+            }
+        }
+    }
+    (best, pairs)
+}
+
+/// The list of so many points on a line whose x are the digits of the code to base 3.
+fn list_of(alloc: Global, count: usize, code: usize) -> Result<Vec<Pair>, AllocError> {
+    let mut list = Vec::new(alloc);
+    let mut rest = code;
+    for _ in 0..count {
+        list.push([(rest % 3) as i32, 0])?;
+        rest = rest / 3;
+    }
+    Ok(list)
+}
+
+#[test]
+fn comparisons_of_worked_contours(rt: HostRuntime) -> Result<(), Fail> {
+    let alloc = rt.alloc();
+    let [a, b, c, d] = [[0, 0], [0, 4], [4, 4], [4, 0]];
+    for (list, start, comparisons) in [
+        // one point: nothing to compare
+        ([c].as_slice(), 0, 0),
+        // two points, then a point twice: both pairs of its rotations
+        ([a, b].as_slice(), 0, 1),
+        ([b, a].as_slice(), 1, 1),
+        ([a, a].as_slice(), 0, 2),
+        // each other corner of a square loses at its first point
+        ([a, b, c, d].as_slice(), 0, 3),
+        // a corner that comes before the kept one is kept from there on
+        ([c, d, a, b].as_slice(), 2, 3),
+        ([d, c, b, a].as_slice(), 3, 3),
+        // one point five times: all five pairs of the first two rotations
+        ([a, a, a, a, a].as_slice(), 0, 5),
+        // a square twice: three corners that lose, and then all eight pairs
+        ([a, b, c, d, a, b, c, d].as_slice(), 0, 11),
+        // a and b in turn: b loses, and then all six pairs
+        ([a, b, a, b, a, b].as_slice(), 0, 7),
+        // lists of five and of eight points with the most comparisons: 2 and 3 and 4, then 5 and 6 and 7
+        ([a, a, b, a, a].as_slice(), 3, 9),
+        ([a, a, a, a, a, b, a, a].as_slice(), 6, 18),
+    ] {
+        has_count(&rt, alloc, list, (start, comparisons))?;
+    }
+    Ok(())
+}
+
+#[test]
+fn comparisons_of_each_short_list_are_those_of_a_plain_loop(rt: HostRuntime) -> Result<(), Fail> {
+    let alloc = rt.alloc();
+    for (count, codes) in [(1, 3), (2, 9), (3, 27), (4, 81), (5, 243), (6, 729)] {
+        for code in 0..codes {
+            let list = list_of(alloc, count, code)?;
+            has_count(&rt, alloc, list.as_slice(), plain_search(list.as_slice()))?;
+        }
+    }
+    Ok(())
+}
