@@ -1,32 +1,22 @@
 #!/usr/bin/env bash
 # Refuses the growths of memory of the calls in crates/refusals one by one: runs each test with its Nth growth refused, for
 # N = 1, 2, .. up to the first run in which no growth is refused. A test prints 'NAME done' or 'NAME refused' of its call, and
-# nothing where what the call is given was refused. A call passes that was refused, and done in that last run. It's a fault where
-# a run fails, tells of two calls, or tells that one was done though a growth was refused; where a test has more growths than the
-# limit; and where a call isn't listed here or two tests tell of it. The last line is 'refusals: N passed, M failed'.
+# nothing where what the call is given was refused; calls that take no memory may share a test. growths.txt there lists how many
+# growths each call makes. A call passes that was refused so often, and then done in that last run. It's a fault where a run fails,
+# or tells that a call was done though a growth was refused; where a test has more growths than the limit; and where a call isn't
+# listed or two tests tell of it. The last line is 'refusals: N passed, M failed'.
 set -u
 cd "$(dirname "$0")/.." || exit 1
 export LC_ALL=C
 ulimit -c 0
 limit=24
+list=crates/refusals/growths.txt
 program=crates/refusals/out/refusals_tests
-
-calls() {
-    printf '%s\n' SimpleContour::{simplified,canonical} ContourSimplifier::{simplify_counted,canonical} \
-        DeSpikeContour::despiked_contour {IntContour,IntShape,IntShapes}::{simplify_contour,remove_spikes} \
-        SimpleShape::simplified SimpleShapes::simplified DeSpikeShape::despiked_shape DeSpikeShapes::despiked_shapes \
-        {,Float}Flat{Contours,Shapes}Buffer::{with_capacity,clone,clear_and_reserve,to_contours} \
-        Flat{Contours,Shapes}Buffer::set_with_{contour,shape,shapes} \
-        FlatContoursBuffer::{add_contour,simplify_contours} FlatShapesBuffer::{add_shape,to_shapes} \
-        FloatFlat{Contours,Shapes}Buffer::{add_contour,add_contour_iter,set_flat,set_with_iter,set_with_resource} \
-        FloatFlatShapesBuffer::to_shapes path! paths! int_path! int_shape! int_shapes! \
-        clean_through_buffer despike_through_buffer serve
-    printf 'run of %s\n' Simplify Despike Area Canonical Compact
-}
 
 # Whether the tests' program is there, and newer than the crates.
 is_built() {
-    [ -x "$program" ] && [ -z "$(find crates crates.txt -name out -prune -o -type f -newer "$program" -print -quit)" ]
+    [ -x "$program" ] &&
+        [ -z "$(find crates crates.txt \( -name out -o -path "$list" \) -prune -o -type f -newer "$program" -print -quit)" ]
 }
 
 # Builds the tests, where they aren't built, and by the kit's compiler the library that refuses a growth.
@@ -42,15 +32,24 @@ run() {
         grep -qx 'test result: ok' "$work/out"
 }
 
-# Refuses the growths of the test $1, keeps how its call ended, and answers whether no run has a fault. The last is run $growth.
+# Keeps what the run tells of its calls, where each was done, or one at most was refused in a run with a refused growth; otherwise
+# the answer is that there is a fault. $end says which of the two it was.
+keep_told() {
+    sed -nE 's/^ *(.* (done|refused))$/\1/p' "$work/out" > "$work/run"
+    if grep -qx 'growth refused' "$work/errors"; then
+        end=refused
+        [ "$(wc -l < "$work/run")" -le 1 ] || return
+    else
+        end='done'
+    fi
+    if grep -qv " $end\$" "$work/run"; then return 1; fi
+    cat "$work/run" >> "$work/told"
+}
+
+# Refuses the growths of the test $1, and answers whether no run has a fault. The last is run $growth.
 refuse() {
-    local end
     for ((growth = 1; growth <= limit; growth++)); do
-        run "$1" "$growth" || return
-        if grep -qx 'growth refused' "$work/errors"; then end=refused; else end='done'; fi
-        grep -E ' (done|refused)$' "$work/out" > "$work/told"
-        if [ "$(wc -l < "$work/told")" -gt 1 ] || grep -qv " $end\$" "$work/told"; then return 1; fi
-        sed "s/ $end\$//" "$work/told" >> "$work/$end"
+        run "$1" "$growth" && keep_told || return
         if [ "$end" = 'done' ]; then return 0; fi
     done
     echo "more growths than $limit" > "$work/errors"
@@ -58,26 +57,44 @@ refuse() {
 }
 
 # Refuses the growths of each test, and prints a line for each fault.
-judge() {
+refuse_all() {
     local test
     for test in $("$program" --list | sed -n 's/: test$//p'); do
         refuse "$test" || echo "$test, growth $growth: $(cat "$work/out" "$work/errors" | tr '\n' ' ')"
     done
-    sort "$work/done" | uniq -d | sed 's/$/: told of by two tests/'
-    sort -u "$work/done" "$work/refused" | comm -23 - "$work/calls" | sed 's/$/: not listed/'
-    sort -u "$work/refused" | comm -12 - <(sort "$work/done" | uniq -u) | comm -12 - "$work/calls" > "$work/passed"
-    comm -23 "$work/calls" "$work/passed" | sed 's/$/: not seen refused and then done/'
+}
+
+# How often it is told that the call $1 ended as $2 says.
+times() {
+    grep -cxF -- "$1 $2" "$work/told"
+}
+
+# Compares what is told of each call with the list, counts those that agree, and prints a line for each other.
+compare() {
+    local growths call
+    while read -r growths call; do
+        echo "$call" >> "$work/calls"
+        if [ "$(times "$call" 'done')" != 1 ]; then
+            echo "$call: done $(times "$call" 'done') times, and not once"
+        elif [ "$(times "$call" refused)" != "$growths" ]; then
+            echo "$call: refused at $(times "$call" refused) growths, and not at $growths"
+        else
+            passed=$((passed + 1))
+        fi
+    done < <(grep '^[^#]' "$list")
+    sort "$work/calls" | uniq -d | sed 's/$/: listed twice/'
+    sed -E 's/ (done|refused)$//' "$work/told" | sort -u | comm -23 - <(sort -u "$work/calls") | sed 's/$/: not listed/'
 }
 
 work=$(mktemp -d) || exit 1
 trap 'rm -rf "$work"' EXIT
-calls | sort > "$work/calls"
-touch "$work/done" "$work/refused"
+touch "$work/told" "$work/calls"
+passed=0
 build > "$work/log" 2>&1 || cat "$work/log"
-judge > "$work/faults"
+refuse_all > "$work/faults"
+compare >> "$work/faults"
 cat "$work/faults"
-passed=$(wc -l < "$work/passed")
 failed=$(wc -l < "$work/faults")
-echo "growths refused within the calls: $(wc -l < "$work/refused")"
+echo "growths refused within the calls: $(grep -c ' refused$' "$work/told")"
 echo "refusals: $passed passed, $failed failed"
 [ "$failed" -eq 0 ]

@@ -1,5 +1,5 @@
 use crate::given::{SPIKED, SQUARE, TRIANGLE, contour, safe};
-use crate::told::told;
+use crate::told::{told, told_unrefused};
 use i_shape::int::IntPoint;
 use i_shape::int::despike::DeSpikeContour;
 use i_shape::int::simple::{ContourSimplifier, SimpleContour};
@@ -37,6 +37,16 @@ fn simplify_counted(rt: HostRuntime) -> Result<(), Fail> {
 }
 
 #[test]
+fn simplify_contour(rt: HostRuntime) -> Result<(), Fail> {
+    let points = safe(&rt, SPIKED.as_slice());
+    let result = ContourSimplifier::new(rt.alloc()).simplify_contour(points);
+    if let Some(kept) = told(&rt, "ContourSimplifier::simplify_contour", result)? {
+        assert!(rt; kept.ok_or("it collapsed")?.as_slice() == SQUARE.as_slice());
+    }
+    Ok(())
+}
+
+#[test]
 fn despiked_contour(rt: HostRuntime) -> Result<(), Fail> {
     let alloc = rt.alloc();
     let Ok(given) = contour(&rt, alloc, SPIKED.as_slice()) else {
@@ -44,6 +54,19 @@ fn despiked_contour(rt: HostRuntime) -> Result<(), Fail> {
     };
     let result = given.despiked_contour(alloc);
     if let Some(kept) = told(&rt, "DeSpikeContour::despiked_contour", result)? {
+        assert!(rt; kept.ok_or("it collapsed")?.as_slice() == SQUARE.as_slice());
+    }
+    Ok(())
+}
+
+#[test]
+fn despiked_counted(rt: HostRuntime) -> Result<(), Fail> {
+    let alloc = rt.alloc();
+    let Ok(given) = contour(&rt, alloc, SPIKED.as_slice()) else {
+        return Ok(());
+    };
+    let result = given.despiked_counted(alloc);
+    if let Some((kept, _visits)) = told(&rt, "DeSpikeContour::despiked_counted", result)? {
         assert!(rt; kept.ok_or("it collapsed")?.as_slice() == SQUARE.as_slice());
     }
     Ok(())
@@ -81,5 +104,65 @@ fn canonical_of_a_simplifier(rt: HostRuntime) -> Result<(), Fail> {
     if let Some(kept) = told(&rt, "ContourSimplifier::canonical", result)? {
         assert!(rt; kept.ok_or("it collapsed")?.as_slice() == CANONICAL.as_slice());
     }
+    Ok(())
+}
+
+#[test]
+fn below_three_points(rt: HostRuntime) -> Result<(), Fail> {
+    let alloc = rt.alloc();
+    let Ok(given) = contour(&rt, alloc, &SQUARE[..2]) else {
+        return Ok(());
+    };
+    let points = given.as_slice();
+    let mut simplifier = ContourSimplifier::new(alloc);
+    let result = points.simplified(alloc);
+    told_unrefused(
+        &rt,
+        "SimpleContour::simplified below three points",
+        result,
+        None,
+    )?;
+    let result = points.canonical(alloc);
+    told_unrefused(
+        &rt,
+        "SimpleContour::canonical below three points",
+        result,
+        None,
+    )?;
+    let result = simplifier.simplify_contour(points);
+    told_unrefused(
+        &rt,
+        "ContourSimplifier::simplify_contour below three points",
+        result,
+        None,
+    )?;
+    let result = simplifier.simplify_counted(points);
+    told_unrefused(
+        &rt,
+        "ContourSimplifier::simplify_counted below three points",
+        result,
+        (None, 0),
+    )?;
+    let result = simplifier.canonical(points);
+    told_unrefused(
+        &rt,
+        "ContourSimplifier::canonical below three points",
+        result,
+        None,
+    )?;
+    let result = given.despiked_contour(alloc);
+    told_unrefused(
+        &rt,
+        "DeSpikeContour::despiked_contour below three points",
+        result,
+        None,
+    )?;
+    let result = given.despiked_counted(alloc);
+    told_unrefused(
+        &rt,
+        "DeSpikeContour::despiked_counted below three points",
+        result,
+        (None, 0),
+    )?;
     Ok(())
 }

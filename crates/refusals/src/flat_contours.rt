@@ -1,7 +1,7 @@
 use crate::given::{
     BOTH, MARK, SPIKED_AND_TRIANGLE, SQUARE, TRIANGLE, are_safe, two_contours, two_shapes,
 };
-use crate::told::{Lists, has_contours, told, told_of_buffer};
+use crate::told::{Lists, has_contours, told, told_of_buffer, told_unrefused};
 use i_shape::flat::buffer::FlatContoursBuffer;
 use i_shape::int::IntPoint;
 use i_shape::{IntNumber, ShapeError};
@@ -30,7 +30,7 @@ fn lists_of<'a>(
 }
 
 /// A buffer with no room left.
-fn full(
+pub fn full(
     alloc: Global,
     points: &[IntPoint<i32>],
     ranges: &[Range<usize>],
@@ -180,5 +180,16 @@ fn simplify_contours(rt: HostRuntime) -> Result<(), Fail> {
         None => lists_of(&SPIKED_AND_TRIANGLE, &[0..6, 6..9]),
     };
     assert!(rt; lists(&buffer) == wanted);
+    Ok(())
+}
+
+#[test]
+fn simplify_clean_contours(rt: HostRuntime) -> Result<(), Fail> {
+    let Ok(mut buffer) = full(rt.alloc(), &BOTH, &[0..4, 4..7]) else {
+        return Ok(());
+    };
+    let result = simplify(&rt, &mut buffer);
+    let name = "FlatContoursBuffer::simplify_contours of a clean value";
+    told_unrefused(&rt, name, result, false)?;
     Ok(())
 }

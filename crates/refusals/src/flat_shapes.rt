@@ -27,7 +27,7 @@ fn lists_of<'a>(
 }
 
 /// A buffer with no room left.
-fn full(
+pub fn full(
     alloc: Global,
     points: &[IntPoint<i32>],
     contour_ranges: &[Range<usize>],

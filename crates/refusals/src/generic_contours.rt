@@ -18,7 +18,7 @@ fn lists_of<'a>(points: &'a [Spot], ranges: &'a [Range<usize>]) -> Lists<'a, Spo
 }
 
 /// A buffer with no room left.
-fn full(
+pub fn full(
     alloc: Global,
     points: &[Spot],
     ranges: &[Range<usize>],
@@ -98,6 +98,22 @@ fn add_contour_iter(rt: HostRuntime) -> Result<(), Fail> {
 }
 
 #[test]
+fn add_contour_of_a_counted_iterator(rt: HostRuntime) -> Result<(), Fail> {
+    let Ok(mut buffer) = full(rt.alloc(), &PAIR, &[0..2]) else {
+        return Ok(());
+    };
+    told_of_buffer(
+        &rt,
+        "FloatFlatContoursBuffer::add_contour_iter of a counted iterator",
+        buffer.add_contour_iter(TRIPLE.as_slice().iter().copied()),
+        lists(&buffer),
+        lists_of(&PAIR, &[0..2]),
+        lists_of(&BOTH, &[0..2, 2..5]),
+    )?;
+    Ok(())
+}
+
+#[test]
 fn set_flat(rt: HostRuntime) -> Result<(), Fail> {
     let Ok(mut buffer) = full(rt.alloc(), &MARK, &[0..1]) else {
         return Ok(());
@@ -122,6 +138,22 @@ fn set_with_iter(rt: HostRuntime) -> Result<(), Fail> {
         &rt,
         "FloatFlatContoursBuffer::set_with_iter",
         buffer.set_with_iter(Repeated { left: 5 }, &[0..1, 1..2]),
+        lists(&buffer),
+        lists_of(&[], &[]),
+        lists_of(&SEVENS, &[0..1, 1..2]),
+    )?;
+    Ok(())
+}
+
+#[test]
+fn set_with_a_counted_iterator(rt: HostRuntime) -> Result<(), Fail> {
+    let Ok(mut buffer) = full(rt.alloc(), &MARK, &[0..1]) else {
+        return Ok(());
+    };
+    told_of_buffer(
+        &rt,
+        "FloatFlatContoursBuffer::set_with_iter of a counted iterator",
+        buffer.set_with_iter(SEVENS.as_slice().iter().copied(), &[0..1, 1..2]),
         lists(&buffer),
         lists_of(&[], &[]),
         lists_of(&SEVENS, &[0..1, 1..2]),

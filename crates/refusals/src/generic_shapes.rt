@@ -26,7 +26,7 @@ fn lists_of<'a>(
 }
 
 /// A buffer with no room left.
-fn full(
+pub fn full(
     alloc: Global,
     points: &[Spot],
     contour_ranges: &[Range<usize>],
@@ -108,6 +108,22 @@ fn add_contour_iter(rt: HostRuntime) -> Result<(), Fail> {
 }
 
 #[test]
+fn add_contour_of_a_counted_iterator(rt: HostRuntime) -> Result<(), Fail> {
+    let Ok(mut buffer) = full(rt.alloc(), &PAIR, &[0..2], &[0..1]) else {
+        return Ok(());
+    };
+    told_of_buffer(
+        &rt,
+        "FloatFlatShapesBuffer::add_contour_iter of a counted iterator",
+        buffer.add_contour_iter(TRIPLE.as_slice().iter().copied()),
+        lists(&buffer),
+        lists_of(&PAIR, &[0..2], &[0..1]),
+        lists_of(&BOTH, &[0..2, 2..5], &[0..1, 1..2]),
+    )?;
+    Ok(())
+}
+
+#[test]
 fn set_flat(rt: HostRuntime) -> Result<(), Fail> {
     let Ok(mut buffer) = full(rt.alloc(), &MARK, &[0..1], &[0..1]) else {
         return Ok(());
@@ -132,6 +148,23 @@ fn set_with_iter(rt: HostRuntime) -> Result<(), Fail> {
         &rt,
         "FloatFlatShapesBuffer::set_with_iter",
         buffer.set_with_iter(Repeated { left: 5 }, &[0..1, 1..2], &[0..1, 1..2]),
+        lists(&buffer),
+        lists_of(&[], &[], &[]),
+        lists_of(&SEVENS, &[0..1, 1..2], &[0..1, 1..2]),
+    )?;
+    Ok(())
+}
+
+#[test]
+fn set_with_a_counted_iterator(rt: HostRuntime) -> Result<(), Fail> {
+    let Ok(mut buffer) = full(rt.alloc(), &MARK, &[0..1], &[0..1]) else {
+        return Ok(());
+    };
+    let points = SEVENS.as_slice().iter().copied();
+    told_of_buffer(
+        &rt,
+        "FloatFlatShapesBuffer::set_with_iter of a counted iterator",
+        buffer.set_with_iter(points, &[0..1, 1..2], &[0..1, 1..2]),
         lists(&buffer),
         lists_of(&[], &[], &[]),
         lists_of(&SEVENS, &[0..1, 1..2], &[0..1, 1..2]),

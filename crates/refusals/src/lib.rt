@@ -1,7 +1,9 @@
-//! Calls whose growths are refused one by one. Each test makes one call and prints `NAME done` or `NAME refused`; where what
-//! the call is given can't be had, it prints nothing. Without a refusal each call is done.
+//! Calls whose growths are refused one by one. Each test makes one call, or several that take no memory, and prints `NAME done` or
+//! `NAME refused`; where what the call is given can't be had, it prints nothing. Without a refusal each call is done.
 #![tactic(auto)]
 
+#[cfg(test)]
+mod buffers;
 #[cfg(test)]
 mod cleaners;
 #[cfg(test)]
@@ -21,8 +23,14 @@ mod in_place;
 #[cfg(test)]
 mod macros;
 #[cfg(test)]
+mod measures;
+#[cfg(test)]
+mod probe;
+#[cfg(test)]
 mod program;
 #[cfg(test)]
 mod spots;
 #[cfg(test)]
 mod told;
+#[cfg(test)]
+mod walks;

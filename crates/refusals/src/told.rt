@@ -25,6 +25,25 @@ pub fn told<T: Drop>(
     }
 }
 
+/// Tells that a call was done that takes no memory. The test stops where it didn't answer so.
+pub fn told_done(rt: &(impl Abort + Print), name: &str, is_answered: bool) -> io::Result<()> {
+    println!(rt; "{name} done")?;
+    assert!(rt; is_answered, "{name}");
+    Ok(())
+}
+
+/// Tells how a call ended that may be refused, and is to take no memory. The test stops where it didn't give `wanted`.
+pub fn told_unrefused<T: Drop + PartialEq>(
+    rt: &(impl Abort + Print),
+    name: &str,
+    outcome: Result<T, ShapeError>,
+    wanted: T,
+) -> io::Result<()> {
+    let value = told(rt, name, outcome)?;
+    assert!(rt; value == Some(wanted), "{name}");
+    Ok(())
+}
+
 /// The lists of a buffer. One of contours alone has no ranges of shapes.
 #[derive(Clone, Copy, PartialEq)]
 pub struct Lists<'a, P> {
