@@ -1,4 +1,3 @@
 pub mod SamePoints
 pub mod HeldContours
 pub mod StoredForms
-pub mod SafeContours
