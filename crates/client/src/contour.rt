@@ -6,7 +6,7 @@ use i_shape::int::IntPoint;
 use i_shape::int::despike::{DeSpike, DeSpikeContour};
 use i_shape::int::safe_range::IntSafeRange;
 use i_shape::int::shape::IntContour;
-use i_shape::int::simple::{ContourSimplifier, Simplify, SimpleContour};
+use i_shape::int::simple::{ContourSimplifier, SimpleContour, Simplify};
 use i_shape_core::contour::ContourExtension;
 use i_shape_core::probe::Probe;
 use std::alloc::Global;
