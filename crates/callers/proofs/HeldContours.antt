@@ -4,7 +4,6 @@ use Rattle.std.proofs.Common.{refl, sym, ap, ◌∙◌, subst, arith, length-app
 use Rattle.std.specs.Global.{Vec}
 use Rattle.std.specs.List.{All}
 use Rattle.std.proofs.lemmas.List.Sums.{sum_by-cons}
-use Rattle.std.proofs.lemmas.Simd.{map-map}
 use Rattle.i_shape.specs.IntPoint.{contour_of}
 use Rattle.i_shape.specs.IntPoints.{IntPoint}
 use Rattle.i_shape.specs.ShapeLists.{shape_of}
@@ -12,19 +11,11 @@ use Rattle.i_shape.specs.Paths.{paths_of_shape, joined}
 use Rattle.i_shape.specs.Flat.{InOrder, end_to_end, slices}
 use Rattle.i_shape.specs.ContoursBuffer.{HoldsContours}
 use Rattle.i_shape.specs.Compact.{Compact, contours_in, range_len}
+use Rattle.i_shape.proofs.CallerLemmas.{shape_by_paths, held_contours}
 use Rattle.i_shape.specs.declared.ShapeError.{ShapeError}
 use Rattle.i_shape.specs.declared.flat.buffer.contours.FlatContoursBuffer.{FlatContoursBuffer}
 
-shape_by_lists : {T : Type 0} (value : T → ℤ) (contours : List (Vec (IntPoint T)))
-    → map (contour_of value) (paths_of_shape contours) ≡ shape_of value contours
-shape_by_lists value contours = map-map (contour_of value) (λ contour. contour.items) contours
-
--- a buffer names the contours that it was filled with
-pub held_contours : {T : Type 0} (value : T → ℤ) (buffer : FlatContoursBuffer T) (contours : List (Vec (IntPoint T)))
-    → HoldsContours buffer (paths_of_shape contours) → contours_in value buffer ≡ shape_of value contours
-held_contours value buffer contours held = ap (map (contour_of value)) held.slices ∙ shape_by_lists value contours
-
--- its ranges name as many points as the contours have
+-- the ranges of a filled buffer name as many points as the contours have
 named_points : {P : Type 0} (start : ℕ) (contours : List (List P))
     → sum_by range_len (end_to_end start contours) ≡ length (joined contours)
 named_points start [] = refl
@@ -52,6 +43,6 @@ pub compact_read : {T : Type 0} (value : T → ℤ) (contours : List (Vec (IntPo
     → IfOk r (λ back. paths_of_shape back.items ≡ slices new.points.items new.ranges.items)
     → IfOk r (λ kept. Compact (shape_of value contours) (shape_of value kept.items))
 compact_read value contours old new (Ok back) held compact same =
-    let named = ap (map (contour_of value)) (sym same) ∙ shape_by_lists value back.items in
+    let named = ap (map (contour_of value)) (sym same) ∙ shape_by_paths value back.items in
     rw (held_contours value old contours held, named) at compact
 compact_read value contours old new (Err e) held compact same = tt

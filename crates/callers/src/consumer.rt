@@ -2,7 +2,7 @@
 
 ghost use Rattle.std.specs.Prelude.{◌≡◌, ◌≤◌, ◌↔◌, IfOk, IsTrue, length};
 ghost use Rattle.std.specs.List.{flat_map};
-ghost use Rattle.i_shape.specs.SafePaths.{AreSafePaths};
+ghost use Rattle.i_shape.specs.ShapeLists.{AreSafePaths};
 
 use i_shape::IntNumber;
 use i_shape::int::IntPoint;

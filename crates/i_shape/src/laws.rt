@@ -11,10 +11,7 @@ use crate::flat::float::{FloatFlatContoursBuffer, FloatFlatShapesBuffer};
 use i_shape_core::number::IntNumber;
 
 /// Buffers of contours are told equal exactly where they have the same points and the same ranges.
-pub fn contours_buffers_equal<T: IntNumber>(
-    _a: &FlatContoursBuffer<T>,
-    _b: &FlatContoursBuffer<T>,
-)
+pub fn contours_buffers_equal<T: IntNumber>(_a: &FlatContoursBuffer<T>, _b: &FlatContoursBuffer<T>)
     ensures { IsTrue (⟦<FlatContoursBuffer<T> as PartialEq>⟧.eq _a.now _b.now) ↔ SameLists _a.now _b.now }
 {}
 

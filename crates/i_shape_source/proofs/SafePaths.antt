@@ -41,9 +41,10 @@ module _ {I : Type 0} (width : Width) (value : I → ℤ) where
   pub safe_paths : (paths : List (List (IntPoint I))) → All (λ path. AreSafePaths width value (path ∷ [])) paths ↔ AreSafePaths width value paths
   unfolding AreSafePaths
   safe_paths paths =
-      let same = mapped (All (IsSafe width)) (contour_of value) paths in
-      (λ h. same.0 (All-weaker _ _ (λ path. (alone (All (IsSafe width)) (contour_of value path)).0) paths h),
-      λ h. All-weaker _ _ (λ path. (alone (All (IsSafe width)) (contour_of value path)).1) paths (same.1 h))
+      let same = mapped (All (IsSafe width)) (contour_of value) paths in (
+        λ h. same.0 (All-weaker _ _ (λ path. (alone (All (IsSafe width)) (contour_of value path)).0) paths h),
+        λ h. All-weaker _ _ (λ path. (alone (All (IsSafe width)) (contour_of value path)).1) paths (same.1 h),
+      )
 
   -- the paths of a shape are safe where the shape is
   pub safe_shape : (shape : List (Vec (IntPoint I))) → AreSafePaths width value (paths_of_shape shape) ↔ IsSafeShape width (shape_of value shape)

@@ -1,4 +1,3 @@
 pub mod GivenLemmas
 pub mod GivenShapes
 pub mod FilledLemmas
-pub mod SafeContours

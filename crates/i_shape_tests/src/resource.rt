@@ -34,7 +34,7 @@ impl<'p> IntShapeResource<'p, i32> for Outline<'p> {
 
     ghost paths = { λ outline. outline.points.now ∷ [] };
 
-    ghost safe = { λ outline. All (IsSafe I32IntNumber.width) };
+    ghost safe = { λ outline. ⟦<&'p [IntPoint<i32>] as IntShapeResource<'p, i32>>⟧.safe outline.points };
 
     fn iter_paths(self) -> ContourResourceIterator<'p, IntPoint<i32>> {
         self.points.iter_paths()

@@ -4,7 +4,8 @@ use Rattle.i_shape.specs.Point.{Point}
 use Rattle.i_shape.specs.Paths.{paths_of_shape}
 use Rattle.i_shape.specs.ShapeLists.{IsSafeShape}
 use Rattle.i_shape.specs.declared.ShapeError.TheVariants.{TooManyPoints}
-use Rattle.callers.proofs.HeldContours.{held_contours, held_points, readable_after, compact_read}
+use Rattle.i_shape.proofs.CallerLemmas.{held_contours}
+use Rattle.callers.proofs.HeldContours.{held_points, readable_after, compact_read}
 use Rattle.callers.proofs.pipeline.cleaned_contours.Goals as goal
 
 pub simplify_contours-requires-clause-safe : goal.simplify_contours-requires-clause-safe

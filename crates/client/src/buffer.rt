@@ -1,0 +1,44 @@
+//! Flat buffers that are tested, and then cleaned.
+
+use crate::refusal::Refusal;
+use i_shape::IntNumber;
+use i_shape::flat::buffer::FlatContoursBuffer;
+use i_shape::int::IntPoint;
+use i_shape::int::safe_range::IntSafeRange;
+use i_shape::int::shape::IntContour;
+
+/// Removes zero turns inside the buffer, whatever ranges it was given.
+pub fn simplify<I: IntNumber>(buffer: &mut FlatContoursBuffer<I>) -> Result<bool, Refusal> {
+    if !buffer.can_read_contours() {
+        return Err(Refusal::Unreadable);
+    }
+    if !buffer.is_in_safe_range() {
+        return Err(Refusal::OutOfRange);
+    }
+    Ok(buffer.simplify_contours()?)
+}
+
+/// Puts the contour into the buffer, and removes zero turns there.
+pub fn set_contour<I: IntNumber>(
+    buffer: &mut FlatContoursBuffer<I>,
+    contour: &[IntPoint<I>],
+) -> Result<bool, Refusal> {
+    if !contour.is_in_safe_range() {
+        return Err(Refusal::OutOfRange);
+    }
+    buffer.set_with_contour(contour)?;
+    Ok(buffer.simplify_contours()?)
+}
+
+/// Puts the contours of the shape into the buffer, and removes zero turns there.
+#[tactic(auto, using(i_shape::proofs::CallerLemmas::held_contours))]
+pub fn set_shape<I: IntNumber>(
+    buffer: &mut FlatContoursBuffer<I>,
+    shape: &[IntContour<I>],
+) -> Result<bool, Refusal> {
+    if !shape.is_in_safe_range() {
+        return Err(Refusal::OutOfRange);
+    }
+    buffer.set_with_shape(shape)?;
+    Ok(buffer.simplify_contours()?)
+}

@@ -1,0 +1,68 @@
+//! Lists of shapes that are tested, and then asked about or cleaned.
+
+use crate::refusal::Refusal;
+use i_shape::IntNumber;
+use i_shape::int::despike::{DeSpike, DeSpikeShapes};
+use i_shape::int::safe_range::IntSafeRange;
+use i_shape::int::shape::{IntShape, IntShapes};
+use i_shape::int::simple::{SimpleShapes, Simplify};
+use std::alloc::Global;
+
+/// Whether the points are safe, and each contour of each shape simple.
+pub fn is_simple<I: IntNumber>(shapes: &[IntShape<I>]) -> bool {
+    shapes.is_in_safe_range() && shapes.is_simple()
+}
+
+/// Whether the points are safe, and no contour of any shape has spikes.
+pub fn has_no_spikes<I: IntNumber>(shapes: &IntShapes<I>) -> bool {
+    shapes.is_in_safe_range() && shapes.has_no_spikes()
+}
+
+/// The shapes without zero turns.
+pub fn simplified<I: IntNumber>(
+    alloc: Global,
+    shapes: &[IntShape<I>],
+) -> Result<IntShapes<I>, Refusal> {
+    if !shapes.is_in_safe_range() {
+        return Err(Refusal::OutOfRange);
+    }
+    Ok(shapes.simplified(alloc)?)
+}
+
+/// The shapes of a vector without zero turns.
+pub fn simplified_vector<I: IntNumber>(
+    alloc: Global,
+    shapes: &IntShapes<I>,
+) -> Result<IntShapes<I>, Refusal> {
+    if !shapes.is_in_safe_range() {
+        return Err(Refusal::OutOfRange);
+    }
+    Ok(shapes.as_slice().simplified(alloc)?)
+}
+
+/// The shapes without spikes.
+pub fn despiked<I: IntNumber>(
+    alloc: Global,
+    shapes: &IntShapes<I>,
+) -> Result<IntShapes<I>, Refusal> {
+    if !shapes.is_in_safe_range() {
+        return Err(Refusal::OutOfRange);
+    }
+    Ok(shapes.despiked_shapes(alloc)?)
+}
+
+/// Removes zero turns in place.
+pub fn simplify<I: IntNumber>(shapes: &mut IntShapes<I>) -> Result<bool, Refusal> {
+    if !shapes.is_in_safe_range() {
+        return Err(Refusal::OutOfRange);
+    }
+    Ok(shapes.simplify_contour()?)
+}
+
+/// Removes spikes in place.
+pub fn despike<I: IntNumber>(shapes: &mut IntShapes<I>) -> Result<bool, Refusal> {
+    if !shapes.is_in_safe_range() {
+        return Err(Refusal::OutOfRange);
+    }
+    Ok(shapes.remove_spikes()?)
+}

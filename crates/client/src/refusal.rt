@@ -1,0 +1,20 @@
+//! Why there is no answer.
+
+use i_shape::ShapeError;
+
+/// Why a caller has no answer.
+#[derive(Clone, Copy, PartialEq, Eq, Debug)]
+pub enum Refusal {
+    /// A point isn't safe.
+    OutOfRange,
+    /// A range of a buffer runs backwards, or out of its points.
+    Unreadable,
+    /// The call was refused.
+    Call(ShapeError),
+}
+
+impl From<ShapeError> for Refusal {
+    fn from(error: ShapeError) -> Refusal {
+        Refusal::Call(error)
+    }
+}
