@@ -1,4 +1,5 @@
 pub mod Surviving
+pub mod Keeping
 pub mod EndToEnd
 pub mod ContoursHeld
 pub mod ShapeRanges
@@ -7,5 +8,6 @@ pub mod LentPaths
 pub mod FloatHeld
 pub mod CompactLaws
 pub mod WrappedSums
+pub mod LeftInPlace
 pub mod SpikesLeft
 pub mod Examples

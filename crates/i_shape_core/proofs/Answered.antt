@@ -1,5 +1,5 @@
 -- What an answer of a cleaner keeps of its contour, whatever gave it.
-use Rattle.std.proofs.Common.{◌≡◌, ℕ, zero, suc, ◌<◌, ◌≤◌, ◌⊎◌, List, length, Option, Some, None, Bool, true, false, inl, inr, refl, subst, arith, eq-or-lt_of_le, le_of_suc-le-suc}
+use Rattle.std.proofs.Common.{◌≡◌, ℕ, zero, suc, ◌<◌, ◌≤◌, ◌⊎◌, List, [], length, Option, Some, None, Bool, true, false, inl, inr, refl, sym, ◌∙◌, subst, arith, eq-or-lt_of_le, le_of_suc-le-suc}
 use Rattle.std.specs.List.{All}
 use native.Mathlib.Decide.{dec_le, dec_lt}
 use Rattle.i_shape_core.specs.Point.{Point}
@@ -9,7 +9,8 @@ use Rattle.i_shape_core.specs.Answers.{SimpleAnswer, SpikelessAnswer, DespikeAns
 use Rattle.i_shape_core.proofs.Ends.{has_end, all_left, reach_by_weaker}
 use Rattle.i_shape_core.proofs.CycleLaws.{zero_turn_decided}
 use Rattle.i_shape_core.proofs.Survive.{straightens}
-use Rattle.i_shape_core.proofs.Cleaned.{kept, flat}
+use Rattle.i_shape_core.proofs.Cleaned.{kept, flat, no_area}
+use Rattle.i_shape_core.proofs.Inside.{inside_laws}
 use Rattle.i_shape_core.proofs.Spikes.{reversal_yes, reversal_no}
 
 -- a number that passes, or none below m
@@ -49,12 +50,16 @@ spikes_decided c = go (dec_le 3 (length (dedup c))) (find_number (IsReversal (de
     go (yes h) (inr n) = yes (record { enough = h; none = λ k r. n k r.within r })
     go (no h) f = no (λ s. h s.enough)
 
--- what is its own answer keeps itself
-itself : (c : List Point) → IsKept c c
+-- a contour keeps what it has
+pub itself : (c : List Point) → IsKept c c
 itself c = record { area = refl; inside = λ p. (λ i. i, λ i. i) }
 
+-- where it has no area, and no point inside, nothing keeps it
+pub nothing_keeps : (c : List Point) → IsFlat c → IsKept c []
+nothing_keeps c f = record { area = no_area [] (omega arith) ∙ sym f.area; inside = λ p. (λ i. absurd ((inside_laws [] []).none (omega arith) p i), λ i. absurd (f.inside p i)) }
+
 -- what collapses has no area, and no point inside
-collapsed_flat : (c : List Point) → EachEndCollapses c → IsFlat c
+pub collapsed_flat : (c : List Point) → EachEndCollapses c → IsFlat c
 collapsed_flat c h = let w = has_end zero_turn_decided c in flat c w.0 w.1.reached (h w.0 w.1)
 
 -- what a simple answer keeps
