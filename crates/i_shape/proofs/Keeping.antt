@@ -1,10 +1,10 @@
 -- What the answers of a cleaner keep of contours together, of shapes and of lists.
-use Rattle.std.proofs.Common.{◌≡◌, ℕ, ◌+◌, ◌%◌, ◌↔◌, ◌≤◌, List, [], ◌∷◌, refl, sym, ◌∙◌, subst, arith, Option, Some, None, IfSome}
+use Rattle.std.proofs.Common.{◌≡◌, ℕ, ◌+◌, ◌%◌, ◌↔◌, ◌≤◌, List, [], ◌∷◌, ◌++◌, refl, sym, ◌∙◌, subst, arith, Option, Some, None, IfSome}
 use Rattle.std.specs.List.{All, AllZip, filter_map, count_by, sum_by}
 use Rattle.std.specs.Int.{Width}
 use native.Mathlib.Decide.{dec_le}
 use Rattle.std.proofs.lemmas.Int.{ints}
-use Rattle.std.proofs.lemmas.List.Sums.{sum_by-cons}
+use Rattle.std.proofs.lemmas.List.Sums.{sum_by-cons, sum_by-append}
 use Rattle.std.proofs.lemmas.List.Elements.{All-cons, All-head, All-tail}
 use Rattle.i_shape_core.specs.Point.{Point}
 use Rattle.i_shape_core.specs.IntPoint.{IsSafe}
@@ -23,6 +23,11 @@ parity c p = count_by (is_right p) (edges c) % 2
 inside_count-cons : (c : List Point) (cs : List (List Point)) (p : Point) → inside_count (c ∷ cs) p ≡ parity c p + inside_count cs p
 unfolding inside_count
 inside_count-cons c cs p = sum_by-cons (λ c. parity c p) c cs
+
+-- of contours of two lists together, a point is inside of those of either
+pub inside_count-append : (cs ds : List (List Point)) (p : Point) → inside_count (cs ++ ds) p ≡ inside_count cs p + inside_count ds p
+unfolding inside_count
+inside_count-append cs ds p = sum_by-append (λ c. parity c p) cs ds
 
 -- contours keep themselves
 pub same_kept : (contours : List (List Point)) → AreKept contours contours
@@ -75,7 +80,9 @@ module _ (Answer : List Point → Option (List Point) → Type 0) (keeps : (c : 
 
   -- and each shape of a cleaned list
   pub list_keeps : (shapes kept : List (List (List Point))) → ListClean Answer shapes kept → ListKept Answer shapes kept
-  list_keeps shapes kept = survivors_weaker (ShapeClean Answer) (λ shape r. ShapeClean Answer shape r × IfSome r (AreKept shape)) (λ shape r a. (a, shape_keeps shape r a)) shapes kept
+  list_keeps shapes kept clean = record {
+    each = survivors_weaker (ShapeClean Answer) (λ shape r. ShapeClean Answer shape r × IfSome r (AreKept shape)) (λ shape r a. (a, shape_keeps shape r a)) shapes kept clean;
+  }
 
 module _ (Answer : List Point → Option (List Point) → Type 0) (w : Width) (stays_safe : (c e : List Point) → Answer c (Some e) → All (IsSafe w) c → All (IsSafe w) e) where
   -- what is left of safe contours is safe

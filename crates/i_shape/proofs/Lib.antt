@@ -1,5 +1,6 @@
 pub mod Surviving
 pub mod Keeping
+pub mod CallerLemmas
 pub mod EndToEnd
 pub mod ContoursHeld
 pub mod ShapeRanges

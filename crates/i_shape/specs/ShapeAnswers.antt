@@ -22,8 +22,8 @@ pub record AreKept (contours left : List (List Point)) : Type 0 where
   pub inside : (p : Point) → inside_count left p ≡ inside_count contours p
 
 -- the cleaned shapes, each of which keeps this of the shape that it was
-abbrev pub ListKept : (List Point → Option (List Point) → Type 0) → List (List (List Point)) → List (List (List Point)) → Type 0
-ListKept Answer shapes kept = Survivors (λ shape r. ShapeClean Answer shape r × IfSome r (AreKept shape)) shapes kept
+pub record ListKept (Answer : List Point → Option (List Point) → Type 0) (shapes kept : List (List (List Point))) : Type 0 where
+  pub each : Survivors (λ shape r. ShapeClean Answer shape r × IfSome r (AreKept shape)) shapes kept
 
 -- each contour of the shape passes its test
 abbrev pub EachContour : (List Point → Type 0) → List (List Point) → Type 0
