@@ -1,21 +1,19 @@
 -- Contours that go through a flat buffer.
-use Rattle.std.proofs.Common.{◌≡◌, ℕ, ◌+◌, ℤ, List, [], ◌∷◌, length, map, Bool, true, false, Ok, Err, Result, IfOk, sum_by}
-use Rattle.std.proofs.Common.{refl, sym, ap, ◌∙◌, subst, arith, length-append}
+use Rattle.std.proofs.Common.{◌≡◌, ℕ, ◌+◌, ℤ, List, [], ◌∷◌, length, Ok, Err, Result, IfOk, sum_by}
+use Rattle.std.proofs.Common.{refl, sym, ap, ◌∙◌, arith, length-append}
 use Rattle.std.specs.Global.{Vec}
-use Rattle.std.specs.List.{All}
 use Rattle.std.proofs.lemmas.List.Sums.{sum_by-cons}
-use Rattle.i_shape.specs.IntPoint.{contour_of}
 use Rattle.i_shape.specs.IntPoints.{IntPoint}
 use Rattle.i_shape.specs.ShapeLists.{shape_of}
 use Rattle.i_shape.specs.Paths.{paths_of_shape, joined}
-use Rattle.i_shape.specs.Flat.{InOrder, end_to_end, slices}
+use Rattle.i_shape.specs.Flat.{end_to_end, slices}
 use Rattle.i_shape.specs.ContoursBuffer.{HoldsContours}
 use Rattle.i_shape.specs.Compact.{Compact, contours_in, range_len}
-use Rattle.i_shape.proofs.CallerLemmas.{shape_by_paths, held_contours}
 use Rattle.i_shape.specs.declared.ShapeError.{ShapeError}
 use Rattle.i_shape.specs.declared.flat.buffer.contours.FlatContoursBuffer.{FlatContoursBuffer}
+use Rattle.i_shape.proofs.CallerLemmas.{contours_held, contours_read}
 
--- the ranges of a filled buffer name as many points as the contours have
+-- its ranges name as many points as the contours have
 named_points : {P : Type 0} (start : ℕ) (contours : List (List P))
     → sum_by range_len (end_to_end start contours) ≡ length (joined contours)
 named_points start [] = refl
@@ -27,15 +25,6 @@ pub held_points : {T : Type 0} (buffer : FlatContoursBuffer T) (contours : List 
     → HoldsContours buffer contours → sum_by range_len buffer.ranges.items ≡ length (joined contours)
 held_points buffer contours held = ap (sum_by range_len) held.ranges ∙ named_points 0 contours
 
--- it can be read after it was cleaned
-pub readable_after : {T : Type 0} (old new : FlatContoursBuffer T) (contours : List (List (IntPoint T)))
-    (r : Result Bool ShapeError) (changed : Bool) → r ≡ Ok changed → HoldsContours old contours → (r ≡ Ok false → new ≡ old)
-    → (r ≡ Ok true → HoldsContours new (slices new.points.items new.ranges.items))
-    → All (InOrder (length new.points.items)) new.ranges.items
-readable_after {T} old new contours r false is held same renewed =
-    subst (λ (b : FlatContoursBuffer T). All (InOrder (length b.points.items)) b.ranges.items) (sym (same is)) held.readable
-readable_after old new contours r true is held same renewed = (renewed is).readable
-
 -- what is read back are the contours that it names
 pub compact_read : {T : Type 0} (value : T → ℤ) (contours : List (Vec (IntPoint T))) (old new : FlatContoursBuffer T)
     (r : Result (Vec (Vec (IntPoint T))) ShapeError) → HoldsContours old (paths_of_shape contours)
@@ -43,6 +32,5 @@ pub compact_read : {T : Type 0} (value : T → ℤ) (contours : List (Vec (IntPo
     → IfOk r (λ back. paths_of_shape back.items ≡ slices new.points.items new.ranges.items)
     → IfOk r (λ kept. Compact (shape_of value contours) (shape_of value kept.items))
 compact_read value contours old new (Ok back) held compact same =
-    let named = ap (map (contour_of value)) (sym same) ∙ shape_by_paths value back.items in
-    rw (held_contours value old contours held, named) at compact
+    rw (contours_held value old contours held, sym (contours_read value new back.items same)) at compact
 compact_read value contours old new (Err e) held compact same = tt

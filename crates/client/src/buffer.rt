@@ -31,7 +31,7 @@ pub fn set_contour<I: IntNumber>(
 }
 
 /// Puts the contours of the shape into the buffer, and removes zero turns there.
-#[tactic(auto, using(i_shape::proofs::CallerLemmas::held_contours))]
+#[tactic(auto, using(i_shape::proofs::CallerLemmas::contours_held))]
 pub fn set_shape<I: IntNumber>(
     buffer: &mut FlatContoursBuffer<I>,
     shape: &[IntContour<I>],

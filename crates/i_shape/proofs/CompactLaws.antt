@@ -20,7 +20,7 @@ use Rattle.i_shape.specs.Compact.{Compact, contours_in, range_len}
 use Rattle.i_shape.specs.ContoursBuffer.{HoldsContours}
 use Rattle.i_shape.specs.AppendedAnswers.{AppendsAnswer}
 use Rattle.i_shape.proofs.ContoursHeld.{HoldsContours-more}
-use Rattle.i_shape.proofs.Surviving.{mapped-read, mapped-more, survivors-more}
+use Rattle.i_shape.proofs.Surviving.{mapped-read, mapped-more, survivors-more, survivors_stay}
 
 -- an answer is no longer than its contour
 pub answer-shorter : {T : Type 0} (value : T → ℤ) (contour clean : List (IntPoint T)) → SimpleAnswer (contour_of value contour) (Some (contour_of value clean)) → length clean ≤ length contour
@@ -95,10 +95,7 @@ module _ {T : Type 0} (value : T → ℤ) (contour : List (IntPoint T)) (old new
 
 -- simple contours are all kept as they are
 pub all-kept : (contours : List (List Point)) → All IsSimple contours → Compact contours contours
-all-kept [] simple = ([], tt, refl)
-all-kept (c ∷ contours) simple =
-    let rest = all-kept contours (All-tail IsSimple c contours simple) in
-    (Some c ∷ rest.0, (simple_stays c (All-head IsSimple c contours simple), rest.1), ap (λ w. c ∷ w) rest.2)
+all-kept = survivors_stay IsSimple SimpleAnswer simple_stays
 
 -- where all points are safe, those of each contour are
 pub safe-slices : {T : Type 0} (value : T → ℤ) (P : Point → Type 0) (points : List (IntPoint T)) (ranges : List (Range ℕ)) → All P (contour_of value points) →

@@ -1,8 +1,8 @@
 -- The definitions of flat lists, shapes and ranges at values that are written out.
 use Rattle.std.proofs.Common.{◌≡◌, ℕ, List, [], ◌∷◌, ◌<◌, Option, Some, None, pos, refl, lit≤, lit<, arith, length}
 use Rattle.std.specs.declared.ops.Range.{Range}
-use Rattle.i_shape_core.specs.Point.{Point}
-use Rattle.i_shape_core.specs.Edges.{shoelace, area_of_edge}
+use Rattle.i_shape_core.specs.Point.{Point, cross}
+use Rattle.i_shape_core.specs.Edges.{shoelace, area_of_edge, is_right}
 use Rattle.i_shape_source.specs.Paths.{joined}
 use Rattle.i_shape.specs.Flat.{InOrder, part_of, slices, shapes, IsReadableShape, end_to_end}
 use Rattle.i_shape.specs.ContoursBuffer.{CanReadFirst, first_contour}
@@ -10,7 +10,7 @@ use Rattle.i_shape.specs.LentRanges.{readable_slices}
 use Rattle.i_shape.specs.FloatBuffers.{in_one_shape}
 use Rattle.i_shape.specs.Compact.{range_len}
 use Rattle.i_shape.specs.ShapeAnswers.{ShapeClean, ListClean}
-use Rattle.i_shape.specs.ShapeAreas.{shape_shoelace, shapes_shoelace}
+use Rattle.i_shape.specs.ShapeAreas.{shape_shoelace, shapes_shoelace, inside_count}
 
 abbrev from_to : ℕ → ℕ → Range ℕ
 from_to start end = record { start = start; end = end }
@@ -88,3 +88,11 @@ half = at 0 0 ∷ at 1 0 ∷ at 0 1 ∷ []
 sums : (shape_shoelace [] ≡ pos 0) × (shapes_shoelace ([] ∷ []) ≡ pos 0) × (shape_shoelace (half ∷ half ∷ []) ≡ pos 2) × (shapes_shoelace ((half ∷ half ∷ []) ∷ [] ∷ (half ∷ []) ∷ []) ≡ pos 3)
 unfolding shoelace area_of_edge half
 sums = (refl, refl, refl, refl)
+
+-- ---- how many contours a point is inside of
+corners : List Point
+corners = at 0 0 ∷ at 4 0 ∷ at 0 4 ∷ []
+
+counted : (inside_count [] (at 1 1) ≡ 0) × (inside_count (corners ∷ half ∷ corners ∷ []) (at 1 1) ≡ 2) × (inside_count (corners ∷ []) (at 9 1) ≡ 0)
+unfolding inside_count is_right cross half corners
+counted = (refl, refl, refl)

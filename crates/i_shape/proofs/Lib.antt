@@ -1,6 +1,8 @@
 -- lists that are compared
 pub mod EqualLists
 pub mod Surviving
+pub mod Keeping
+pub mod CallerLemmas
 pub mod EndToEnd
 pub mod ContoursHeld
 pub mod ShapeRanges
@@ -9,6 +11,7 @@ pub mod LentPaths
 pub mod FloatHeld
 pub mod CompactLaws
 pub mod WrappedSums
+pub mod LeftInPlace
 pub mod SpikesLeft
 pub mod Examples
 -- what callers cite

@@ -41,6 +41,7 @@ pub mod Walked
 pub mod Around
 pub mod Spikes
 pub mod LastEdge
+pub mod Answered
 -- measures
 pub mod Compared
 pub mod Bends

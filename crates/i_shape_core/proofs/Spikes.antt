@@ -22,7 +22,7 @@ use Rattle.i_shape_core.proofs.Dedup.{IsApart, same_yes, same_no, same_self, las
 use Rattle.i_shape_core.proofs.Back.{back_cases, back_from_cases}
 use Rattle.i_shape_core.proofs.Contours.{safe-at, rest-read, rest-none}
 
-reversal_yes : (a b c : Point) → is_reversal a b c ≡ true → IsReversed a b c
+pub reversal_yes : (a b c : Point) → is_reversal a b c ≡ true → IsReversed a b c
 unfolding is_reversal
 reversal_yes a b c e = go (int_eq (cross a b c) (pos 0)) refl (int_lt (dot a b c) (pos 0)) refl e
   where
@@ -31,7 +31,7 @@ reversal_yes a b c e = go (int_eq (cross a b c) (pos 0)) refl (int_lt (dot a b c
     go true e false f h = absurd (cc)
     go false e t f h = absurd (cc)
 
-reversal_no : (a b c : Point) → is_reversal a b c ≡ false → IsReversed a b c → ⊥
+pub reversal_no : (a b c : Point) → is_reversal a b c ≡ false → IsReversed a b c → ⊥
 unfolding is_reversal
 reversal_no a b c e h = go (int_eq (cross a b c) (pos 0)) ((signed_Decides (cross a b c) (pos 0)).1 h.0) (int_lt (dot a b c) (pos 0)) (below (dot a b c) h.1) e
   where

@@ -9,8 +9,6 @@ pub mod Showing
 pub mod Running
 pub mod Serving
 pub mod Compacting
--- shapes through a flat buffer
-pub mod Buffered
 -- the definitions at texts that are written out
 pub mod Examples
 -- the laws

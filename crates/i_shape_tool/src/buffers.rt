@@ -4,7 +4,7 @@ ghost use Rattle.std.specs.Prelude.{◌≡◌, ◌<◌, ◌↔◌, ◌⊎◌, le
 ghost use Rattle.i_shape.specs.Answers.{SimpleAnswer, DespikeAnswer};
 ghost use Rattle.i_shape.specs.Paths.{shape_lists, joined};
 ghost use Rattle.i_shape.specs.ShapeLists.{shapes_of, IsSafeList};
-ghost use Rattle.i_shape.specs.ShapeAnswers.{ListClean};
+ghost use Rattle.i_shape.specs.ShapeAnswers.{ListClean, ListKept};
 
 use i_shape::flat::buffer::FlatShapesBuffer;
 use i_shape::int::despike::DeSpike;
@@ -22,6 +22,8 @@ pub fn clean_through_buffer<I: IntNumber>(
 ) -> Result<IntShapes<I>, ShapeError>
     requires { IsSafeList I.width (shapes_of I.value shapes.now) }
     ensures clean { IfOk result (λ r. ListClean SimpleAnswer (shapes_of I.value shapes.now) (shapes_of I.value r.items)) }
+    ensures kept { IfOk result (λ r. ListKept SimpleAnswer (shapes_of I.value shapes.now) (shapes_of I.value r.items)) }
+    ensures safe { IfOk result (λ r. IsSafeList I.width (shapes_of I.value r.items)) }
     ensures too_many { IsErrOf result ShapeError.TooManyPoints
         ↔ ((usize.MAX < length (joined (joined (shape_lists shapes.now))))
         ⊎ (usize.MAX < length (joined (shape_lists shapes.now)))) }
@@ -37,6 +39,8 @@ pub fn despike_through_buffer<I: IntNumber>(
 ) -> Result<IntShapes<I>, ShapeError>
     requires { IsSafeList I.width (shapes_of I.value shapes.now) }
     ensures clean { IfOk result (λ r. ListClean DespikeAnswer (shapes_of I.value shapes.now) (shapes_of I.value r.items)) }
+    ensures kept { IfOk result (λ r. ListKept DespikeAnswer (shapes_of I.value shapes.now) (shapes_of I.value r.items)) }
+    ensures safe { IfOk result (λ r. IsSafeList I.width (shapes_of I.value r.items)) }
     ensures too_many { IsErrOf result ShapeError.TooManyPoints
         ↔ ((usize.MAX < length (joined (joined (shape_lists shapes.now))))
         ⊎ (usize.MAX < length (joined (shape_lists shapes.now)))) }

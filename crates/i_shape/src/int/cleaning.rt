@@ -1,14 +1,15 @@
 //! Shapes and shape lists, cleaned by any cleaner of contours.
 
-ghost use Rattle.std.specs.Prelude.{◌≡◌, ◌↔◌, ◌++◌, List, [], Option, Some, IsTrue, IfOk, OnOk, IsOkUnless, option_map};
+ghost use Rattle.std.specs.Prelude.{◌≡◌, ◌↔◌, ◌++◌, List, Option, Some, IsTrue, IfOk, IfSome, OnOk, IsOkUnless, option_map};
 ghost use Rattle.std.specs.List.{All};
 ghost use Rattle.std.specs.Option.{option_to_list};
 ghost use Rattle.i_shape_core.specs.Point.{Point};
 ghost use Rattle.i_shape_core.specs.IntPoint.{contour_of, IsSafe};
+ghost use Rattle.i_shape_core.specs.Answers.{KeptAnswer};
 ghost use Rattle.i_shape.specs.Survivors.{Survivors};
 ghost use Rattle.i_shape.specs.ShapeLists.{shape_of, shapes_of, IsSafeShape, IsSafeList};
-ghost use Rattle.i_shape.specs.ShapeAnswers.{ShapeClean, ListClean, ListAnswer, EachContour, EachShape};
-ghost use Rattle.i_shape.specs.InPlace.{CleansInPlace};
+ghost use Rattle.i_shape.specs.ShapeAnswers.{ShapeClean, ListClean, EachContour, EachShape, AreKept, ListKept};
+ghost use Rattle.i_shape.specs.InPlace.{CleansShape, CleansList};
 
 use crate::int::shape::{IntContour, IntShape, IntShapes};
 use i_shape_core::error::ShapeError;
@@ -40,6 +41,12 @@ pub trait ContourCleaner<I: IntNumber>: Drop {
 
     /// A contour that needs no cleaning is its own answer.
     ghost stays: { (c : List Point) → clean c → answers c (Some c) };
+
+    /// An answer keeps the double area and the points inside.
+    ghost keeps: { (c : List Point) (r : Option (List Point)) → answers c r → KeptAnswer c r };
+
+    /// An answer has safe points where the contour has.
+    ghost stays_safe: { (c e : List Point) → answers c (Some e) → All (IsSafe I.width) c → All (IsSafe I.width) e };
 }
 
 /// Whether no contour of the shape needs cleaning.
@@ -128,6 +135,8 @@ pub fn clean_shape<I: IntNumber, C: ContourCleaner<I>>(
 ) -> Result<Option<IntShape<I>>, ShapeError>
     requires { IsSafeShape I.width (shape_of I.value shape.now) }
     ensures answer { IfOk result (λ r. ShapeClean C.answers (shape_of I.value shape.now) (option_map (λ kept. shape_of I.value kept.items) r)) }
+    ensures kept { IfOk result (λ r. IfSome r (λ kept. AreKept (shape_of I.value shape.now) (shape_of I.value kept.items))) }
+    ensures safe { IfOk result (λ r. IfSome r (λ kept. IsSafeShape I.width (shape_of I.value kept.items))) }
     ensures memory { IsOkUnless result ShapeError.OutOfMemory }
 {
     let Some((outer, holes)) = shape.split_first() else {
@@ -170,6 +179,8 @@ pub fn clean_list<I: IntNumber, C: ContourCleaner<I>>(
 ) -> Result<IntShapes<I>, ShapeError>
     requires { IsSafeList I.width (shapes_of I.value shapes.now) }
     ensures answer { IfOk result (λ r. ListClean C.answers (shapes_of I.value shapes.now) (shapes_of I.value r.items)) }
+    ensures kept { IfOk result (λ r. ListKept C.answers (shapes_of I.value shapes.now) (shapes_of I.value r.items)) }
+    ensures safe { IfOk result (λ r. IsSafeList I.width (shapes_of I.value r.items)) }
     ensures memory { IsOkUnless result ShapeError.OutOfMemory }
 {
     let mut kept = Vec::with_capacity(alloc, shapes.len())?;
@@ -185,7 +196,8 @@ pub fn clean_shape_in_place<I: IntNumber, C: ContourCleaner<I>>(
     shape: &mut IntShape<I>,
 ) -> Result<bool, ShapeError>
     requires { IsSafeShape I.width (shape_of I.value shape.old.items) }
-    ensures { CleansInPlace (EachContour C.clean) (ShapeClean C.answers) [] (shape_of I.value shape.old.items) (shape_of I.value shape.new.items) result }
+    ensures gives { CleansShape C.clean C.answers (shape_of I.value shape.old.items) (shape_of I.value shape.new.items) result }
+    ensures safe { IsSafeShape I.width (shape_of I.value shape.new.items) }
 {
     if is_clean_shape::<I, C>(shape.as_slice()) {
         return Ok(false);
@@ -205,7 +217,8 @@ pub fn clean_list_in_place<I: IntNumber, C: ContourCleaner<I>>(
     shapes: &mut IntShapes<I>,
 ) -> Result<bool, ShapeError>
     requires { IsSafeList I.width (shapes_of I.value shapes.old.items) }
-    ensures { CleansInPlace (EachShape C.clean) (ListAnswer C.answers) [] (shapes_of I.value shapes.old.items) (shapes_of I.value shapes.new.items) result }
+    ensures gives { CleansList C.clean C.answers (shapes_of I.value shapes.old.items) (shapes_of I.value shapes.new.items) result }
+    ensures safe { IsSafeList I.width (shapes_of I.value shapes.new.items) }
 {
     if is_clean_list::<I, C>(shapes.as_slice()) {
         return Ok(false);

@@ -24,9 +24,11 @@ pub trait DeSpike {
 
     /// Removes spikes. False where there are none; then nothing changes, and no memory is taken.
     /// The new value is built whole before the old one goes: after `OutOfMemory`, the only error, the value is as it was.
+    /// Whatever it answers, the points are safe still.
     fn remove_spikes(&mut self) -> Result<bool, ShapeError>
         requires { can_despike self.old }
-        ensures { despike_gives self.old result self.new };
+        ensures gives { despike_gives self.old result self.new }
+        ensures safe { can_despike self.new };
 }
 
 /// A contour that collapses is left empty. Fewer than three points collapse, without memory.

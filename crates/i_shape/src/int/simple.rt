@@ -27,9 +27,11 @@ pub trait Simplify {
 
     /// Removes zero turns. False where there are none; then nothing changes, and no memory is taken.
     /// The new value is built whole before the old one goes: after `OutOfMemory`, the only error, the value is as it was.
+    /// Whatever it answers, the points are safe still.
     fn simplify_contour(&mut self) -> Result<bool, ShapeError>
         requires { can_simplify self.old }
-        ensures { simplify_gives self.old result self.new };
+        ensures gives { simplify_gives self.old result self.new }
+        ensures safe { can_simplify self.new };
 }
 
 /// A contour that collapses is left empty. Fewer than three points collapse, without memory.

@@ -7,6 +7,7 @@ ghost use Rattle.i_shape_core.specs.Contour.{IsSimple};
 ghost use Rattle.i_shape.specs.Flat.{InOrder, part_of, slices};
 ghost use Rattle.i_shape.specs.ContoursBuffer.{HoldsContours};
 ghost use Rattle.i_shape.specs.Compact.{Compact, contours_in, range_len};
+ghost use Rattle.i_shape.specs.ShapeAnswers.{AreKept};
 ghost use Rattle.i_shape.specs.AppendedAnswers.{AppendsAnswer};
 
 use crate::ShapeError;
@@ -23,13 +24,17 @@ impl<T: IntNumber> FlatContoursBuffer<T> {
     /// Where none had, nothing changes, and no memory is taken. Otherwise the buffer has the cleaned contours end to end,
     /// in order, and nothing else. `TooManyPoints` where a contour has to be cleaned and the ranges name more than `usize::MAX` points
     /// together, tested before any memory is taken; else `OutOfMemory`. After an error the lists are as they were.
+    /// Whatever it answers, the contours can be read still, have safe points, and keep double area and containment together.
     pub fn simplify_contours(&mut self) -> Result<bool, ShapeError>
         requires readable { All (InOrder (length self.old.points.items)) self.old.ranges.items }
         requires safe { All (All (IsSafe T.width)) (contours_in T.value self.old) }
         ensures compact { OnOk result (Compact (contours_in T.value self.old) (contours_in T.value self.new)) }
         ensures clean { result ≡ Ok false ↔ All IsSimple (contours_in T.value self.old) }
+        ensures kept { AreKept (contours_in T.value self.old) (contours_in T.value self.new) }
         ensures unchanged { result ≡ Ok false → self.new ≡ self.old }
         ensures end_to_end { result ≡ Ok true → HoldsContours self.new (slices self.new.points.items self.new.ranges.items) }
+        ensures readable { All (InOrder (length self.new.points.items)) self.new.ranges.items }
+        ensures safe { All (All (IsSafe T.width)) (contours_in T.value self.new) }
         ensures err { OnErr result (self.new ≡ self.old) }
         ensures too_many { IsErrOf result ShapeError.TooManyPoints
             ↔ ((usize.MAX < sum_by range_len self.old.ranges.items)

@@ -1,13 +1,14 @@
 //! Shapes and shape lists without spikes: the tests, the cleaned copies, and the cleaning in place.
 
-ghost use Rattle.std.specs.Prelude.{◌≡◌, ◌↔◌, List, [], IsTrue, IfOk, IsOkUnless, option_map, refl};
+ghost use Rattle.std.specs.Prelude.{◌≡◌, ◌↔◌, List, IsTrue, IfOk, IfSome, IsOkUnless, option_map, refl};
 ghost use Rattle.i_shape_core.specs.Point.{Point};
-ghost use Rattle.i_shape_core.specs.IntPoint.{contour_of};
+ghost use Rattle.i_shape_core.specs.IntPoint.{contour_of, IsSafe};
 ghost use Rattle.i_shape_core.specs.Convex.{NoSpikes};
 ghost use Rattle.i_shape_core.specs.Answers.{DespikeAnswer};
+ghost use Rattle.i_shape_core.proofs.Answered.{despike_kept, despike_left};
 ghost use Rattle.i_shape.specs.ShapeLists.{shape_of, shapes_of, IsSafeShape, IsSafeList};
-ghost use Rattle.i_shape.specs.ShapeAnswers.{ShapeClean, ListClean, ListAnswer, EachContour, EachShape};
-ghost use Rattle.i_shape.specs.InPlace.{CleansInPlace};
+ghost use Rattle.i_shape.specs.ShapeAnswers.{ShapeClean, ListClean, EachContour, EachShape, AreKept, ListKept};
+ghost use Rattle.i_shape.specs.InPlace.{CleansShape, CleansList};
 
 use crate::int::cleaning::{
     ContourCleaner, clean_list, clean_list_in_place, clean_shape, clean_shape_in_place,
@@ -36,6 +37,8 @@ pub trait DeSpikeShape<I: IntNumber> {
     fn despiked_shape(&self, alloc: Global) -> Result<Option<IntShape<I>>, ShapeError>
         requires { IsSafeShape I.width (shape self.now) }
         ensures answer { IfOk result (λ r. ShapeClean DespikeAnswer (shape self.now) (option_map (λ kept. shape_of I.value kept.items) r)) }
+        ensures kept { IfOk result (λ r. IfSome r (λ kept. AreKept (shape self.now) (shape_of I.value kept.items))) }
+        ensures safe { IfOk result (λ r. IfSome r (λ kept. IsSafeShape I.width (shape_of I.value kept.items))) }
         ensures memory { IsOkUnless result ShapeError.OutOfMemory };
 }
 
@@ -55,6 +58,8 @@ pub trait DeSpikeShapes<I: IntNumber> {
     fn despiked_shapes(&self, alloc: Global) -> Result<IntShapes<I>, ShapeError>
         requires { IsSafeList I.width (shapes self.now) }
         ensures answer { IfOk result (λ r. ListClean DespikeAnswer (shapes self.now) (shapes_of I.value r.items)) }
+        ensures kept { IfOk result (λ r. ListKept DespikeAnswer (shapes self.now) (shapes_of I.value r.items)) }
+        ensures safe { IfOk result (λ r. IsSafeList I.width (shapes_of I.value r.items)) }
         ensures memory { IsOkUnless result ShapeError.OutOfMemory };
 }
 
@@ -82,6 +87,10 @@ impl<I: IntNumber> ContourCleaner<I> for SpikeRemover {
     }
 
     ghost stays = { λ c clean. record { clean = λ _. refl; cleaned = λ unclean. absurd (unclean clean) } };
+
+    ghost keeps = { despike_kept };
+
+    ghost stays_safe = { despike_left (IsSafe I.width) };
 }
 
 impl<I: IntNumber> DeSpikeShape<I> for IntShape<I> {
@@ -112,7 +121,7 @@ impl<I: IntNumber> DeSpikeShapes<I> for IntShapes<I> {
 impl<I: IntNumber> DeSpike for IntShape<I> {
     ghost can_despike = { λ shape. IsSafeShape I.width (shape_of I.value shape.items) };
 
-    ghost despike_gives = { λ old r new. CleansInPlace (EachContour NoSpikes) (ShapeClean DespikeAnswer) [] (shape_of I.value old.items) (shape_of I.value new.items) r };
+    ghost despike_gives = { λ old r new. CleansShape NoSpikes DespikeAnswer (shape_of I.value old.items) (shape_of I.value new.items) r };
 
     fn remove_spikes(&mut self) -> Result<bool, ShapeError> {
         clean_shape_in_place::<I, SpikeRemover>(self)
@@ -123,7 +132,7 @@ impl<I: IntNumber> DeSpike for IntShape<I> {
 impl<I: IntNumber> DeSpike for IntShapes<I> {
     ghost can_despike = { λ shapes. IsSafeList I.width (shapes_of I.value shapes.items) };
 
-    ghost despike_gives = { λ old r new. CleansInPlace (EachShape NoSpikes) (ListAnswer DespikeAnswer) [] (shapes_of I.value old.items) (shapes_of I.value new.items) r };
+    ghost despike_gives = { λ old r new. CleansList NoSpikes DespikeAnswer (shapes_of I.value old.items) (shapes_of I.value new.items) r };
 
     fn remove_spikes(&mut self) -> Result<bool, ShapeError> {
         clean_list_in_place::<I, SpikeRemover>(self)

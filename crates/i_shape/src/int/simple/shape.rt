@@ -1,15 +1,16 @@
 //! Shapes and shape lists without zero turns: the tests, and the cleaned copies.
 
-ghost use Rattle.std.specs.Prelude.{◌≡◌, ◌↔◌, List, [], IsTrue, IfOk, IsOkUnless, option_map};
+ghost use Rattle.std.specs.Prelude.{◌≡◌, ◌↔◌, List, IsTrue, IfOk, IfSome, IsOkUnless, option_map};
 ghost use Rattle.std.specs.List.{All};
 ghost use Rattle.i_shape_core.specs.Point.{Point};
 ghost use Rattle.i_shape_core.specs.IntPoint.{contour_of, IsSafe};
 ghost use Rattle.i_shape_core.specs.Contour.{IsSimple};
 ghost use Rattle.i_shape_core.specs.Answers.{SimpleAnswer};
 ghost use Rattle.i_shape_core.proofs.Cleaned.{simple_stays};
+ghost use Rattle.i_shape_core.proofs.Answered.{simple_kept, simple_left};
 ghost use Rattle.i_shape.specs.ShapeLists.{shape_of, shapes_of, IsSafeShape, IsSafeList};
-ghost use Rattle.i_shape.specs.ShapeAnswers.{ShapeClean, ListClean, ListAnswer, EachContour, EachShape};
-ghost use Rattle.i_shape.specs.InPlace.{CleansInPlace};
+ghost use Rattle.i_shape.specs.ShapeAnswers.{ShapeClean, ListClean, EachContour, EachShape, AreKept, ListKept};
+ghost use Rattle.i_shape.specs.InPlace.{CleansShape, CleansList};
 
 use crate::int::cleaning::{
     ContourCleaner, clean_list, clean_list_in_place, clean_shape, clean_shape_in_place,
@@ -38,6 +39,8 @@ pub trait SimpleShape<I: IntNumber> {
     fn simplified(&self, alloc: Global) -> Result<Option<IntShape<I>>, ShapeError>
         requires { IsSafeShape I.width (shape self.now) }
         ensures answer { IfOk result (λ r. ShapeClean SimpleAnswer (shape self.now) (option_map (λ kept. shape_of I.value kept.items) r)) }
+        ensures kept { IfOk result (λ r. IfSome r (λ kept. AreKept (shape self.now) (shape_of I.value kept.items))) }
+        ensures safe { IfOk result (λ r. IfSome r (λ kept. IsSafeShape I.width (shape_of I.value kept.items))) }
         ensures memory { IsOkUnless result ShapeError.OutOfMemory };
 }
 
@@ -56,6 +59,8 @@ pub trait SimpleShapes<I: IntNumber> {
     fn simplified(&self, alloc: Global) -> Result<IntShapes<I>, ShapeError>
         requires { IsSafeList I.width (shapes self.now) }
         ensures answer { IfOk result (λ r. ListClean SimpleAnswer (shapes self.now) (shapes_of I.value r.items)) }
+        ensures kept { IfOk result (λ r. ListKept SimpleAnswer (shapes self.now) (shapes_of I.value r.items)) }
+        ensures safe { IfOk result (λ r. IsSafeList I.width (shapes_of I.value r.items)) }
         ensures memory { IsOkUnless result ShapeError.OutOfMemory };
 }
 
@@ -77,6 +82,10 @@ impl<I: IntNumber> ContourCleaner<I> for ContourSimplifier {
     }
 
     ghost stays = { simple_stays };
+
+    ghost keeps = { simple_kept };
+
+    ghost stays_safe = { simple_left (IsSafe I.width) };
 }
 
 impl<I: IntNumber> SimpleShape<I> for &[IntContour<I>] {
@@ -107,7 +116,7 @@ impl<I: IntNumber> SimpleShapes<I> for &[IntShape<I>] {
 impl<I: IntNumber> Simplify for IntShape<I> {
     ghost can_simplify = { λ shape. IsSafeShape I.width (shape_of I.value shape.items) };
 
-    ghost simplify_gives = { λ old r new. CleansInPlace (EachContour IsSimple) (ShapeClean SimpleAnswer) [] (shape_of I.value old.items) (shape_of I.value new.items) r };
+    ghost simplify_gives = { λ old r new. CleansShape IsSimple SimpleAnswer (shape_of I.value old.items) (shape_of I.value new.items) r };
 
     fn simplify_contour(&mut self) -> Result<bool, ShapeError> {
         clean_shape_in_place::<I, ContourSimplifier>(self)
@@ -118,7 +127,7 @@ impl<I: IntNumber> Simplify for IntShape<I> {
 impl<I: IntNumber> Simplify for IntShapes<I> {
     ghost can_simplify = { λ shapes. IsSafeList I.width (shapes_of I.value shapes.items) };
 
-    ghost simplify_gives = { λ old r new. CleansInPlace (EachShape IsSimple) (ListAnswer SimpleAnswer) [] (shapes_of I.value old.items) (shapes_of I.value new.items) r };
+    ghost simplify_gives = { λ old r new. CleansList IsSimple SimpleAnswer (shapes_of I.value old.items) (shapes_of I.value new.items) r };
 
     fn simplify_contour(&mut self) -> Result<bool, ShapeError> {
         clean_list_in_place::<I, ContourSimplifier>(self)

@@ -5,6 +5,7 @@ use Rattle.i_shape_core.specs.declared.point.IntPoint.{IntPoint}
 use Rattle.i_shape.specs.ShapeLists.{shape_of, shapes_of, IsSafeShape}
 use Rattle.i_shape.specs.ShapeAnswers.{ShapeClean}
 use Rattle.i_shape.proofs.Surviving.{mapped-read, survivors-more}
+use Rattle.i_shape.proofs.Keeping.{list_keeps, list_safe}
 use Rattle.i_shape.proofs.int.cleaning.clean_list.Goals as goal
 
 pub append_shape-requires : goal.append_shape-requires
@@ -25,3 +26,13 @@ pub returns-clause-answer : goal.returns-clause-answer
 returns-clause-answer g c =
     let whole = take_all c.loop-shape.shape-index c.args.shapes.now c.loop-shape-test.false in
     rw whole at c.loop-shape.invariant
+
+pub returns-clause-kept : goal.returns-clause-kept
+returns-clause-kept g c =
+    let whole = take_all c.loop-shape.shape-index c.args.shapes.now c.loop-shape-test.false in
+    list_keeps g.C.ContourCleaner.answers g.met.C.ContourCleaner.keeps _ _ (rw whole at c.loop-shape.invariant)
+
+pub returns-clause-safe : goal.returns-clause-safe
+returns-clause-safe g c =
+    let whole = take_all c.loop-shape.shape-index c.args.shapes.now c.loop-shape-test.false in
+    list_safe g.C.ContourCleaner.answers g.I.IntNumber.width g.met.C.ContourCleaner.stays_safe _ _ (rw whole at c.loop-shape.invariant) c.requires

@@ -1,4 +1,4 @@
-use Rattle.std.proofs.Common.{arith, List, subst}
+use Rattle.std.proofs.Common.{rules, arith, List, Some, subst}
 use Rattle.std.proofs.lemmas.Grind.{common_steps}
 use Rattle.std.specs.List.{All}
 use Rattle.std.specs.Global.{Vec}
@@ -6,6 +6,8 @@ use Rattle.std.proofs.lemmas.List.Elements.{All-head, All-tail}
 use Rattle.i_shape_core.specs.declared.point.IntPoint.{IntPoint}
 use Rattle.i_shape_core.specs.IntPoint.{contour_of, IsSafe}
 use Rattle.i_shape.specs.ShapeLists.{shape_of, IsSafeShape}
+use Rattle.i_shape.specs.ShapeAnswers.{ShapeClean}
+use Rattle.i_shape.proofs.Keeping.{shape_keeps, shape_safe}
 use Rattle.i_shape.proofs.int.cleaning.clean_shape.Goals as goal
 
 pub clean_contour-requires : goal.clean_contour-requires
@@ -22,3 +24,15 @@ append_holes-requires g c =
 
 pub returns-in_default-clause-answer : goal.returns-in_default-clause-answer
 returns-in_default-clause-answer g c = grind (arith, common_steps)
+
+pub returns-clause-kept : goal.returns-clause-kept
+returns-clause-kept g c =
+    let value = g.I.IntNumber.value in
+    let answer : ShapeClean g.C.ContourCleaner.answers (shape_of value c.args.shape.now) (Some (shape_of value c.append_holes.new.kept.items)) = search rules in
+    shape_keeps g.C.ContourCleaner.answers g.met.C.ContourCleaner.keeps _ _ answer
+
+pub returns-clause-safe : goal.returns-clause-safe
+returns-clause-safe g c =
+    let value = g.I.IntNumber.value in
+    let answer : ShapeClean g.C.ContourCleaner.answers (shape_of value c.args.shape.now) (Some (shape_of value c.append_holes.new.kept.items)) = search rules in
+    shape_safe g.C.ContourCleaner.answers g.I.IntNumber.width g.met.C.ContourCleaner.stays_safe _ _ answer c.requires

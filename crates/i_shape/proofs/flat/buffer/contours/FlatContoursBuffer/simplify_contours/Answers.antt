@@ -2,9 +2,13 @@ use Rattle.std.proofs.Common.{rules, ◌≡◌, ap, ◌∙◌, IsTrue, Err}
 use Rattle.std.specs.List.{All}
 use Rattle.std.proofs.lemmas.Result.{err_from_is_err_and}
 use Rattle.i_shape_core.specs.declared.error.ShapeError.TheVariants.{TooManyPoints}
+use Rattle.i_shape_core.specs.IntPoint.{IsSafe}
 use Rattle.i_shape_core.specs.Contour.{IsSimple}
-use Rattle.i_shape.specs.Compact.{contours_in}
+use Rattle.i_shape_core.specs.Answers.{SimpleAnswer}
+use Rattle.i_shape_core.proofs.Answered.{simple_kept, simple_left}
+use Rattle.i_shape.specs.Compact.{Compact, contours_in}
 use Rattle.i_shape.proofs.CompactLaws.{all-kept}
+use Rattle.i_shape.proofs.Keeping.{survivors_keep, survivors_safe}
 use Rattle.i_shape.proofs.flat.buffer.contours.FlatContoursBuffer.simplify_contours.Goals as goal
 
 pub returns-then-all_simple-clause-compact : goal.returns-then-all_simple-clause-compact
@@ -33,3 +37,13 @@ returns-clause-clean g c =
 
 pub returns-clause-unchanged : goal.returns-clause-unchanged
 returns-clause-unchanged g c = search rules
+
+pub returns-clause-kept : goal.returns-clause-kept
+returns-clause-kept g c =
+    let compact : Compact (contours_in g.T.IntNumber.value c.args.self.now) (contours_in g.T.IntNumber.value c.in_ok-self.field-0) = search rules in
+    survivors_keep SimpleAnswer simple_kept _ _ compact
+
+pub returns-clause-safe : goal.returns-clause-safe
+returns-clause-safe g c =
+    let compact : Compact (contours_in g.T.IntNumber.value c.args.self.now) (contours_in g.T.IntNumber.value c.in_ok-self.field-0) = search rules in
+    survivors_safe SimpleAnswer g.T.IntNumber.width (simple_left (IsSafe g.T.IntNumber.width)) _ _ compact c.requires.safe
