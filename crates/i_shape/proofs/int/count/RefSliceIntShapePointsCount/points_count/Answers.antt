@@ -13,8 +13,5 @@ loop-shape-preserved g c =
 pub points_count-count-requires : goal.points_count-count-requires
 points_count-count-requires g c = grind (arith, common_steps)
 
-pub overflow_add-count : goal.overflow_add-count
-overflow_add-count g c = grind (arith, common_steps)
-
 pub returns : goal.returns
 returns g c = grind (arith, common_steps)

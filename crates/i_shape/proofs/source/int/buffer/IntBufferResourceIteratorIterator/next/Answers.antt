@@ -1,7 +1,7 @@
 use Rattle.std.proofs.Common.{arith, rules, length}
 use Rattle.std.proofs.lemmas.Grind.{common_steps}
 use Rattle.std.specs.List.{All}
-use Rattle.std.proofs.lemmas.List.Elements.{All-head, All-tail}
+use Rattle.std.proofs.lemmas.List.Elements.{All-tail}
 use Rattle.i_shape.specs.Flat.{InOrder}
 use Rattle.i_shape.proofs.source.int.buffer.IntBufferResourceIteratorIterator.next.Goals as goal
 
@@ -15,21 +15,3 @@ returns g c = search rules
 
 pub returns-in_err-range-clause-steps : goal.returns-in_err-range-clause-steps
 returns-in_err-range-clause-steps g c = grind (arith, common_steps)
-
-pub slice_bounds-result-count : goal.slice_bounds-result-count
-slice_bounds-result-count g c =
-    let readable : All (InOrder (length c.self.inside.points.now)) c.self.inside.ranges.now = c.self.invariant in
-    let first = All-head (InOrder (length c.self.inside.points.now)) _ _ (rw c.in_ok-range.ensures.cases.0 at readable) in
-    omega (arith, first.0, first.1)
-
-pub slice_bounds-result-start : goal.slice_bounds-result-start
-slice_bounds-result-start g c =
-    let readable : All (InOrder (length c.self.inside.points.now)) c.self.inside.ranges.now = c.self.invariant in
-    let first = All-head (InOrder (length c.self.inside.points.now)) _ _ (rw c.in_ok-range.ensures.cases.0 at readable) in
-    omega (arith, first.0, first.1)
-
-pub slice_bounds-result-end : goal.slice_bounds-result-end
-slice_bounds-result-end g c =
-    let readable : All (InOrder (length c.self.inside.points.now)) c.self.inside.ranges.now = c.self.invariant in
-    let first = All-head (InOrder (length c.self.inside.points.now)) _ _ (rw c.in_ok-range.ensures.cases.0 at readable) in
-    omega (arith, first.0, first.1)
