@@ -4,3 +4,6 @@ use Rattle.i_shape.proofs.flat.float.fill.append_items.Goals as goal
 
 pub returns-then-is_err-clause-err : goal.returns-then-is_err-clause-err
 returns-then-is_err-clause-err g c = grind (arith, common_steps)
+
+pub loop-item-preserved : goal.loop-item-preserved
+loop-item-preserved g c = grind (arith, common_steps)

@@ -1,4 +1,6 @@
-use Rattle.std.proofs.Common.{rules, arith, refl}
+use Rattle.std.proofs.Common.{rules, arith, refl, subst}
+use Rattle.std.specs.Iterator.{Yields}
+use Rattle.i_shape_source.proofs.Lent.{saw_all}
 use Rattle.i_shape_source.specs.LentPaths.{path_of}
 use Rattle.i_shape.proofs.EndToEnd.{count_push, length_push, points_push, ranges_push}
 use Rattle.i_shape.proofs.LentPaths.{points_within}
@@ -22,3 +24,15 @@ loop-path-preserved g c =
       points_capacity = omega arith;
       ranges_capacity = omega arith;
     }
+
+pub returns-clause-points : goal.returns-clause-points
+returns-clause-points g c =
+    let given = subst (λ s. Yields g.R.ResourceIter.Iterator.next_gives s c.loop-path.yielded c.loop-path.path-iterator) c.into_iter-path-iterator.ensures.into_iter_gives c.loop-path.yielded_by in
+    let all = saw_all c.iter_paths-path-items.ensures.lends c.loop-path.yielded _ given _ _ c.in-None.is c.next.ensures.steps in
+    rw all at c.loop-path.invariant.points
+
+pub returns-clause-ranges : goal.returns-clause-ranges
+returns-clause-ranges g c =
+    let given = subst (λ s. Yields g.R.ResourceIter.Iterator.next_gives s c.loop-path.yielded c.loop-path.path-iterator) c.into_iter-path-iterator.ensures.into_iter_gives c.loop-path.yielded_by in
+    let all = saw_all c.iter_paths-path-items.ensures.lends c.loop-path.yielded _ given _ _ c.in-None.is c.next.ensures.steps in
+    rw all at c.loop-path.invariant.ranges

@@ -1,4 +1,6 @@
-use Rattle.std.proofs.Common.{rules, arith, ◌≡◌, ◌+◌, length}
+use Rattle.std.proofs.Common.{rules, arith, subst, ◌≡◌, ◌+◌, length}
+use Rattle.std.specs.Iterator.{Yields}
+use Rattle.i_shape_source.proofs.Lent.{saw_all}
 use Rattle.i_shape_source.specs.LentPaths.{path_of}
 use Rattle.i_shape.proofs.EndToEnd.{count_push, length_push}
 use Rattle.i_shape.proofs.LentPaths.{points_within}
@@ -21,3 +23,9 @@ loop-path-preserved g c =
       points = omega (arith, length_push path_of seen path);
       contours = omega (arith, count_push path_of seen path);
     }
+
+pub returns : goal.returns
+returns g c =
+    let given = subst (λ s. Yields g.R.ResourceIter.Iterator.next_gives s c.loop-path.yielded c.loop-path.path-iterator) c.into_iter-path-iterator.ensures.into_iter_gives c.loop-path.yielded_by in
+    let all = saw_all c.iter_paths-path-items.ensures.lends c.loop-path.yielded _ given _ _ c.in-None.is c.next.ensures.steps in
+    (rw all at c.loop-path.invariant.points, rw all at c.loop-path.invariant.contours)

@@ -1,4 +1,5 @@
-use Rattle.std.proofs.Common.{rules, length}
+use Rattle.std.proofs.Common.{arith, rules, length}
+use Rattle.std.proofs.lemmas.Grind.{common_steps}
 use Rattle.std.specs.List.{All}
 use Rattle.std.proofs.lemmas.List.Elements.{All-tail}
 use Rattle.i_shape.specs.Flat.{InOrder}
@@ -11,3 +12,6 @@ invariant_of-self g c =
 
 pub returns : goal.returns
 returns g c = search rules
+
+pub returns-in_err-range-clause-steps : goal.returns-in_err-range-clause-steps
+returns-in_err-range-clause-steps g c = grind (arith, common_steps)
