@@ -1,6 +1,7 @@
 -- What the search reads.
-use Rattle.std.proofs.Common.{◌≡◌, ◌⊎◌, ℕ, ◌+◌, ◌-◌, ◌<◌, ◌≤◌, ℤ, List, ◌++◌, map, take, drop, length, inl, inr, refl, sym, ap, subst, subst₂, ◌∙◌, arith}
-use Rattle.std.specs.Ordering.{MatchOrdering}
+use Rattle.std.proofs.Common.{not, false, ◌≡◌, ◌⊎◌, ℕ, ◌+◌, ◌-◌, ◌<◌, ◌≤◌, ℤ, List, ◌++◌, map, take, drop, length, inl, inr, refl, sym, ap, subst, subst₂, ◌∙◌, arith}
+use Rattle.std.specs.Bool.{◌==◌}
+use Rattle.std.specs.Ordering.{MatchOrdering, ordering_index}
 use Rattle.std.specs.declared.cmp.Ordering.{Ordering}
 use Rattle.std.specs.declared.cmp.Ordering.TheVariants.{Less, Equal, Greater}
 use Rattle.std.proofs.lemmas.List.{map-append, drop-map, take-map}
@@ -15,6 +16,11 @@ use Rattle.i_shape_core.specs.declared.point.IntPoint.{IntPoint}
 use Rattle.i_shape_core.proofs.Rounds.{round-first, round-place}
 
 -- rotations of which the first points are compared alone
+agree-first : (c : List Point) (i j : ℕ) → i < length c → j < length c → point_at c i ≡ point_at c j → Agree c i j 1
+agree-first c i j wi wj e t l =
+    let z : 0 ≡ t = omega arith in
+    subst (λ (u : ℕ). point_round c (i + u) ≡ point_round c (j + u)) z (sym (round-first c i wi) ∙ e ∙ round-first c j wj)
+
 precedes-first : (c : List Point) (i j : ℕ) → i < length c → j < length c → IsBefore (point_at c i) (point_at c j) → Precedes c i j 1
 precedes-first c i j wi wj h = record {
   matched = 0;
@@ -29,6 +35,12 @@ pub first-tells : (c : List Point) (i j : ℕ) (Q : Type 0) (order : Ordering) �
 first-tells c i j Q Less wi wj h n = precedes-first c i j wi wj h
 first-tells c i j Q Equal wi wj h n = absurd (n refl)
 first-tells c i j Q Greater wi wj h n = precedes-first c j i wj wi h
+
+pub first-agrees : (c : List Point) (i j : ℕ) (order : Ordering) → i < length c → j < length c → IsOrder c i j order → not (ordering_index order == 1) ≡ false
+    → Agree c i j 1
+first-agrees c i j Less wi wj h e = absurd (cc)
+first-agrees c i j Equal wi wj h e = agree-first c i j wi wj h
+first-agrees c i j Greater wi wj h e = absurd (cc)
 
 -- place a is that of step m from place s, where n places go round twice
 abbrev pub IsStep : ℕ → ℕ → ℕ → ℕ → Type 0

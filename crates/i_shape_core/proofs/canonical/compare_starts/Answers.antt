@@ -1,8 +1,8 @@
-use Rattle.std.proofs.Common.{◌≡◌, length, sym, ◌∙◌, arith}
+use Rattle.std.proofs.Common.{◌≡◌, length, refl, sym, ◌∙◌, arith}
 use Rattle.i_shape_core.specs.IntPoint.{contour_of}
 use Rattle.i_shape_core.specs.Rounds.{Agree}
 use Rattle.i_shape_core.proofs.Contours.{length-contour}
-use Rattle.i_shape_core.proofs.Readings.{first-tells, agree-on, precedes-on}
+use Rattle.i_shape_core.proofs.Readings.{first-agrees, first-tells, agree-on, precedes-on}
 use Rattle.i_shape_core.proofs.canonical.compare_starts.Goals as goal
 
 pub returns-then-ne-clause-order : goal.returns-then-ne-clause-order
@@ -53,3 +53,14 @@ returns-in-Greater-clause-order g c =
     precedes-on whole c.args.rival c.args.kept c.loop-matched.matched c.place_after-theirs.result c.place_after-ours.result c.compare_runs-agreed.result.0
     (rw (long ∙ sym count) c.place_after-theirs.ensures.value) (rw (long ∙ sym count) c.place_after-ours.ensures.value)
     (omega (arith, long, run.0)) (omega (arith, long, run.0)) (omega (arith, long, run.0)) (λ t l. sym (inv.agree t l)) (λ t l. sym (agree t l)) run.1
+
+pub loop-matched-init : goal.loop-matched-init
+loop-matched-init g c =
+    let points = c.args.comparer.now.contour in
+    let long = length-contour g.I.IntNumber.value points in
+    record {
+      contour = refl;
+      agree = first-agrees _ c.args.kept c.args.rival c.args.first (omega (arith, long)) (omega (arith, long)) c.requires.first (sym c.ne.ensures ∙ c.if-ne.false);
+      within = omega (arith, c.len-count.ensures);
+      counted = omega arith;
+    }

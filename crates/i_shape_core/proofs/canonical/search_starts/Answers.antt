@@ -73,3 +73,27 @@ returns-then-compared-count-clause-least g c =
     let s = search_after _ _ _ _ _ inv.search passed.within.0 (omega (arith, passed.within, c.len-count.ensures)) passed.passed in
     let ahead = rw c.in-Less.is at (rw passed.contour at c.compare_starts-compared.ensures.order) in
     search_past _ _ _ (c.next_rival-rival.result.0 + c.compare_starts-compared.result.0) (search_less _ _ _ _ _ _ s (omega arith) ahead (omega (arith, ahead.last)) (omega arith)) (omega arith)
+
+pub returns-after-loop-challenger-clause-most : goal.returns-after-loop-challenger-clause-most
+returns-after-loop-challenger-clause-most g c =
+    let inv = c.loop-challenger.invariant in
+    omega (arith, inv.moved, inv.short, inv.search.within, inv.search.apart, c.len-count.ensures)
+
+pub returns-then-rival-count-clause-most : goal.returns-then-rival-count-clause-most
+returns-then-rival-count-clause-most g c =
+    let inv = c.loop-challenger.invariant in
+    let passed = rw inv.contour at c.next_rival-rival.ensures in
+    omega (arith, inv.moved, inv.search.within, inv.search.apart, passed.within.0, passed.counted, c.len-count.ensures)
+
+pub returns-in-Equal-clause-most : goal.returns-in-Equal-clause-most
+returns-in-Equal-clause-most g c =
+    let inv = c.loop-challenger.invariant in
+    let passed = rw inv.contour at c.next_rival-rival.ensures in
+    let same = rw c.in-Equal.is at (rw passed.contour at c.compare_starts-compared.ensures.order) in
+    omega (arith, same.1, inv.moved, inv.search.apart, passed.within, passed.counted, c.compare_starts-compared.ensures.counted, c.len-count.ensures)
+
+pub compare_starts-compared-requires-clause-room : goal.compare_starts-compared-requires-clause-room
+compare_starts-compared-requires-clause-room g c =
+    let inv = c.loop-challenger.invariant in
+    let passed = rw inv.contour at c.next_rival-rival.ensures in
+    rw passed.contour (omega (arith, inv.moved, inv.search.apart, inv.short, passed.within, passed.counted, c.len-count.ensures))
