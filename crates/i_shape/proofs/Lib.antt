@@ -2,7 +2,6 @@
 pub mod EqualLists
 pub mod Surviving
 pub mod Keeping
-pub mod CallerLemmas
 pub mod EndToEnd
 pub mod ContoursHeld
 pub mod ShapeRanges
