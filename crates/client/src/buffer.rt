@@ -5,7 +5,7 @@ use i_shape::IntNumber;
 use i_shape::flat::buffer::FlatContoursBuffer;
 use i_shape::int::IntPoint;
 use i_shape::int::safe_range::IntSafeRange;
-use i_shape::int::shape::IntContour;
+use i_shape::int::shape::{IntContour, IntShape};
 
 /// Removes zero turns inside the buffer, whatever ranges it was given.
 pub fn simplify<I: IntNumber>(buffer: &mut FlatContoursBuffer<I>) -> Result<bool, Refusal> {
@@ -40,5 +40,18 @@ pub fn set_shape<I: IntNumber>(
         return Err(Refusal::OutOfRange);
     }
     buffer.set_with_shape(shape)?;
+    Ok(buffer.simplify_contours()?)
+}
+
+/// The same of a shape in a vector.
+#[tactic(auto, using(i_shape::proofs::CallerLemmas::held_contours))]
+pub fn set_shape_vector<I: IntNumber>(
+    buffer: &mut FlatContoursBuffer<I>,
+    shape: &IntShape<I>,
+) -> Result<bool, Refusal> {
+    if !shape.is_in_safe_range() {
+        return Err(Refusal::OutOfRange);
+    }
+    buffer.set_with_shape(shape.as_slice())?;
     Ok(buffer.simplify_contours()?)
 }

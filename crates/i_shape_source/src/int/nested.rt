@@ -1,4 +1,4 @@
-//! Slices, vectors and arrays as resources. What is told safe of a vector or an array is told of its slices too.
+//! Slices, vectors and arrays as resources. What is told safe of one of them is told of each that lists the same.
 ghost use Rattle.i_shape_source.specs.ShapeLists.{HoldsOfEqual};
 
 use crate::int::member::IntResourceMember;
@@ -11,7 +11,7 @@ impl<'a, I: IntNumber + 'a, T: IntResourceMember<'a, I>> IntShapeResource<'a, I>
 
     ghost paths = { λ members. T.member_paths members.now };
 
-    ghost safe = { λ members. T.safe members.now };
+    ghost safe = { λ members. HoldsOfEqual T.safe members.now };
 
     ghost begins = { λ members iter. T.begins members.now iter };
 
@@ -25,7 +25,7 @@ impl<'a, I: IntNumber + 'a, T: IntResourceMember<'a, I>> IntShapeResource<'a, I>
 
     ghost paths = { λ members. T.member_paths members.now.now };
 
-    ghost safe = { λ members. T.safe members.now.now };
+    ghost safe = { λ members. HoldsOfEqual T.safe members.now.now };
 
     ghost begins = { λ members iter. T.begins members.now.now iter };
 
