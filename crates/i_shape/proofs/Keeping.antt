@@ -1,6 +1,6 @@
 -- What the answers of a cleaner keep of contours together, of shapes and of lists.
 use Rattle.std.proofs.Common.{◌≡◌, ℕ, ◌+◌, ◌%◌, ◌↔◌, ◌≤◌, List, [], ◌∷◌, ◌++◌, refl, sym, ◌∙◌, subst, arith, Option, Some, None, IfSome}
-use Rattle.std.specs.List.{All, AllZip, filter_map, count_by, sum_by}
+use Rattle.std.specs.List.{All, AllZip, filter_map, count_by}
 use Rattle.std.specs.Int.{Width}
 use native.Mathlib.Decide.{dec_le}
 use Rattle.std.proofs.lemmas.Int.{ints}
@@ -8,11 +8,11 @@ use Rattle.std.proofs.lemmas.List.Sums.{sum_by-cons, sum_by-append}
 use Rattle.std.proofs.lemmas.List.Elements.{All-cons, All-head, All-tail}
 use Rattle.i_shape_core.specs.Point.{Point}
 use Rattle.i_shape_core.specs.IntPoint.{IsSafe}
-use Rattle.i_shape_core.specs.Edges.{edges, is_right, shoelace, Inside}
+use Rattle.i_shape_core.specs.Edges.{edges, is_right, Inside}
 use Rattle.i_shape_core.specs.Answers.{IsKept, IsFlat, KeptAnswer}
 use Rattle.i_shape.specs.Survivors.{Survivors}
 use Rattle.i_shape.specs.ShapeLists.{IsSafeShape, IsSafeList}
-use Rattle.i_shape.specs.ShapeAreas.{shape_shoelace, inside_count}
+use Rattle.i_shape.specs.ShapeAreas.{inside_count}
 use Rattle.i_shape.specs.ShapeAnswers.{ShapeClean, ListClean, EachContour, AreKept, ListKept}
 use Rattle.i_shape.proofs.Surviving.{survivors_weaker, survivors_stay, survivors_have}
 

@@ -1,5 +1,5 @@
 -- What cleaning in place leaves.
-use Rattle.std.proofs.Common.{◌≡◌, ◌<◌, ◌≤◌, true, false, Ok, Option, Some, None, List, [], length, refl, arith}
+use Rattle.std.proofs.Common.{◌≡◌, ◌≤◌, true, false, Ok, Option, Some, None, List, [], length, refl, arith}
 use Rattle.i_shape_core.specs.Point.{Point}
 use Rattle.i_shape_core.specs.Answers.{IsFlat, KeptAnswer}
 use Rattle.i_shape_core.proofs.Answered.{itself, nothing_keeps}
