@@ -32,8 +32,8 @@ run() {
         grep -qx 'test result: ok' "$work/out"
 }
 
-# Keeps what the run tells of its calls, where each was done, or one at most was refused in a run with a refused growth; otherwise
-# the answer is that there is a fault. $end says which of the two it was.
+# Keeps what the run tells of its calls, and answers whether that is in order: at most one call, and that refused, where a growth was
+# refused, and else calls that were done. $end says which of the two it was.
 keep_told() {
     sed -nE 's/^ *(.* (done|refused))$/\1/p' "$work/out" > "$work/run"
     if grep -qx 'growth refused' "$work/errors"; then
@@ -46,7 +46,7 @@ keep_told() {
     cat "$work/run" >> "$work/told"
 }
 
-# Refuses the growths of the test $1, and answers whether no run has a fault. The last is run $growth.
+# Refuses the growths of the test $1, and answers whether no run has a fault. The last run's number is left in $growth.
 refuse() {
     for ((growth = 1; growth <= limit; growth++)); do
         run "$1" "$growth" && keep_told || return
@@ -65,7 +65,7 @@ refuse_all() {
 }
 
 # How often it is told that the call $1 ended as $2 says.
-times() {
+count_told() {
     grep -cxF -- "$1 $2" "$work/told"
 }
 
@@ -74,10 +74,10 @@ compare() {
     local growths call
     while read -r growths call; do
         echo "$call" >> "$work/calls"
-        if [ "$(times "$call" 'done')" != 1 ]; then
-            echo "$call: done $(times "$call" 'done') times, and not once"
-        elif [ "$(times "$call" refused)" != "$growths" ]; then
-            echo "$call: refused at $(times "$call" refused) growths, and not at $growths"
+        if [ "$(count_told "$call" 'done')" != 1 ]; then
+            echo "$call: done $(count_told "$call" 'done') times, and not once"
+        elif [ "$(count_told "$call" refused)" != "$growths" ]; then
+            echo "$call: refused at $(count_told "$call" refused) growths, and not at $growths"
         else
             passed=$((passed + 1))
         fi
@@ -90,7 +90,11 @@ work=$(mktemp -d) || exit 1
 trap 'rm -rf "$work"' EXIT
 touch "$work/told" "$work/calls"
 passed=0
-build > "$work/log" 2>&1 || cat "$work/log"
+if ! build > "$work/log" 2>&1; then
+    cat "$work/log"
+    echo 'refusals: 0 passed, 1 failed'
+    exit 1
+fi
 refuse_all > "$work/faults"
 compare >> "$work/faults"
 cat "$work/faults"

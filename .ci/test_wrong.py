@@ -9,7 +9,7 @@ import subprocess
 import sys
 import tempfile
 
-CODE = """#![tactic(auto)]
+DOUBLES = """#![tactic(auto)]
 
 ghost use Rattle.std.specs.Prelude.{◌≡◌, ◌+◌, ◌<◌};
 
@@ -30,8 +30,41 @@ pub fn quadrupled(number: u32) -> u32
 }
 """
 
-# name, the function that it says is refused, old text, new text, the start of what is told of it
-EDITS = [
+STEPS = """#![tactic(auto)]
+
+ghost use Rattle.std.specs.Prelude.{◌≡◌, ◌+◌, ◌<◌};
+
+/// What a step adds.
+const STEP: u32 = 3;
+
+/// One step on.
+pub fn stepped(number: u32) -> u32
+    requires { number < 1000 }
+    ensures { result ≡ number + 3 }
+{
+    number + STEP
+}
+
+/// Two steps on, by the constant.
+pub fn stepped_twice(number: u32) -> u32
+    requires { number < 1000 }
+    ensures { result ≡ number + 6 }
+{
+    STEP + STEP + number
+}
+
+/// Three steps on, by calls.
+pub fn stepped_thrice(number: u32) -> u32
+    requires { number < 900 }
+    ensures { result ≡ number + 9 }
+{
+    stepped(stepped(stepped(number)))
+}
+"""
+
+# Edits of DOUBLES: name, the function that it says is refused, old text, new text, the start of what is told of it. Some of
+# them can't be compiled, so that each is tried alone in the end.
+EDITS_OF_DOUBLES = [
     ("adds_one", "doubled", "    number + number", "    number + 1", "refused at doubled"),
     ("adds_itself_to_the_double", "quadrupled", "doubled(doubled(number))", "doubled(number) + number", "refused at quadrupled"),
     ("changes_nothing", "quadrupled", "doubled(doubled(number))", "doubled(number) + doubled(number)", "NOT REFUSED at quadrupled"),
@@ -42,7 +75,22 @@ EDITS = [
     ("has_another_type", "doubled", "    number + number", "    number < number", "BAD EDIT: it did not reach the prover"),
     ("names_no_function", "tripled", "    number + number", "    number", "BAD EDIT: it did not reach the prover"),
     ("names_none_at_all", None, "    number + number", "    number", "BAD EDIT: it has no line 'refused:'"),
+    ("has_an_old_text_too_many", "doubled", "number\nold: number + number", "number", "BAD EDIT: its lines are not"),
 ]
+
+# Edits of STEPS, all of which can be compiled. The first turns a constant, which is why another function would fail beside it;
+# the last but one calls a function that fails beside it.
+EDITS_OF_STEPS = [
+    ("adds_four_a_step", "stepped", "STEP: u32 = 3", "STEP: u32 = 4", "refused at stepped"),
+    ("stands_still", "stepped", "number + STEP", "number", "refused at stepped"),
+    ("turns_nothing_above_a_call", "stepped_thrice", "stepped(stepped(stepped(number)))", "stepped(stepped(number)) + STEP", "NOT REFUSED at stepped_thrice"),
+    ("turns_nothing_by_a_constant", "stepped_twice", "STEP + STEP + number", "number + STEP + STEP", "NOT REFUSED at stepped_twice"),
+]
+
+EDITS_OF_NO_CRATE = [("adds_one", "doubled", "    number + number", "    number + 1", "BAD EDIT: crates.txt does not list its crate")]
+
+# each crate with its code and its edits
+CRATES = [("doubles", DOUBLES, EDITS_OF_DOUBLES), ("steps", STEPS, EDITS_OF_STEPS), ("unlisted", DOUBLES, EDITS_OF_NO_CRATE)]
 
 
 def write(file, text):
@@ -53,29 +101,38 @@ def write(file, text):
 
 def lay(root):
     """Writes the small repository, with a copy of wrong.py."""
-    write(f"{root}/crates.txt", "small:\n")
-    write(f"{root}/crates/small/src/lib.rt", CODE)
-    for name, function, old, new, _ in EDITS:
-        refused = f"refused: {function}\n" if function else ""
-        write(f"{root}/crates/small/wrong/{name}.edit", f"file: src/lib.rt\n{refused}old: {old}\nnew: {new}\n")
+    write(f"{root}/crates.txt", "doubles:\nsteps:\n")
+    for crate, code, edits in CRATES:
+        write(f"{root}/crates/{crate}/src/lib.rt", code)
+        for name, function, old, new, _ in edits:
+            refused = f"refused: {function}\n" if function else ""
+            write(f"{root}/crates/{crate}/wrong/{name}.edit", f"file: src/lib.rt\n{refused}old: {old}\nnew: {new}\n")
     os.mkdir(f"{root}/.ci")
     shutil.copy(f"{os.path.dirname(os.path.realpath(__file__))}/wrong.py", f"{root}/.ci/wrong.py")
+
+
+def run(root, *words):
+    """Runs wrong.py with these words, and returns its status and what it said."""
+    ran = subprocess.run([sys.executable, f"{root}/.ci/wrong.py", *words], stdout=subprocess.PIPE, stderr=subprocess.STDOUT, text=True)
+    return ran.returncode, ran.stdout
 
 
 def main():
     with tempfile.TemporaryDirectory(prefix="wrong-test-") as root:
         lay(root)
-        ran = subprocess.run([sys.executable, f"{root}/.ci/wrong.py"], stdout=subprocess.PIPE, stderr=subprocess.STDOUT, text=True)
-    lines = ran.stdout.splitlines()
-    rows = [(name, f"wrong small/{name}: {told}") for name, _, _, _, told in EDITS]
-    passing = sum(told.startswith("refused") for *_, told in EDITS)
-    rows += [("the count", f"wrong bodies: {passing} passed, {len(EDITS) - passing} failed")]
-    failed = [name for name, wanted in rows if not any(it.startswith(wanted) for it in lines)]
-    failed += [] if ran.returncode == 1 else ["the exit status"]
+        status, said = run(root)
+        rows = [("the status of a run", status == 1)]
+        rows += [(f"a word that names nothing: {word}", run(root, "--only", word)[0] == 2) for word in ("tripled", "adds_two")]
+    told = [(f"{crate}/{name}", what) for crate, _, edits in CRATES for name, _, _, _, what in edits]
+    passing = sum(what.startswith("refused") for _, what in told)
+    wanted = [(name, f"wrong {name}: {what}") for name, what in told]
+    wanted += [("the count", f"wrong bodies: {passing} passed, {len(told) - passing} failed")]
+    rows += [(name, any(it.startswith(line) for it in said.splitlines())) for name, line in wanted]
+    failed = [name for name, is_right in rows if not is_right]
     if failed:
-        print(ran.stdout, end="")
-        print(f"wrong.py tells otherwise: {', '.join(failed)}")
-    print(f"tests of wrong.py: {len(rows) + 1 - len(failed)} passed, {len(failed)} failed")
+        print(said, end="")
+        print(f"wrong.py does otherwise: {', '.join(failed)}")
+    print(f"tests of wrong.py: {len(rows) - len(failed)} passed, {len(failed)} failed")
     return 1 if failed else 0
 
 

@@ -7,11 +7,11 @@ An edit is a file crates/NAME/wrong/WHAT_IT_DOES.edit: a line 'file: src/..', a 
 the function whose fault it must be, and pairs of lines 'old: TEXT' and 'new: TEXT'. Each old text stands in its file once.
 
 Edits are put into a copy of their crate, at most one for each function, and checked together, over what earlier checks
-kept. An edit passes where the prover finds a fault in its own function: not in one that it calls, and not that a text
-could not be read. Rounds go on until each edit is judged. The last line is 'wrong bodies: N passed, M failed'.
+kept. An edit passes where the prover does not prove its own function; a fault of a function that it calls, or a text that
+cannot be read, is not enough. Rounds go on until each edit is judged. The last line is 'wrong bodies: N passed, M failed'.
 
 --gate         takes the libraries below a crate as 'rt ci' has just left them; otherwise what changed is proved first
---only WORD..  tries the edits of these crates, and those whose names have one of these words
+--only WORD..  tries the edits of these crates, and those whose names contain one of these words
 """
 import argparse
 import glob
@@ -52,8 +52,9 @@ class Edit:
         # the functions beside whose edits it is not tried, and whether it is tried beside none
         self.apart_from, self.is_alone = set(), False
         path = old = None
-        for line in read(file).splitlines():
-            word, _, text = line.partition(":")
+        lines = [line.partition(":") for line in read(file).splitlines() if line]
+        self.is_well_formed = bool(re.fullmatch("(file |refused |old new )+", "".join(f"{word} " for word, _, _ in lines)))
+        for word, _, text in lines:
             if word == "file":
                 path = text.strip()
             elif word == "refused":
@@ -67,7 +68,7 @@ class Edit:
         """Returns what keeps it from being tried on the crate in this folder, or None."""
         if not self.function:
             return "it has no line 'refused:'"
-        if not self.pairs or any(not path or not old for path, old, _ in self.pairs):
+        if not self.is_well_formed or not self.pairs or any(not path or not old for path, old, _ in self.pairs):
             return "its lines are not 'file:', and then pairs of 'old:' and 'new:'"
         for path in {path for path, _, _ in self.pairs}:
             if os.path.normpath(path) != path or not path.startswith("src/") or not os.path.isfile(f"{folder}/{path}"):
@@ -85,12 +86,16 @@ class Edit:
         return texts, None
 
     def stays_inside(self, folder):
-        """Whether each old text lies below the name of its function, so that it can turn no other."""
+        """Whether each old text lies in the function itself, so that it can turn no other. A constant can, where others read it."""
         own = self.function.rpartition("::")[2]
         for path, old, _ in self.pairs:
             text = read(f"{folder}/{path}")
-            above = re.findall(r"\b(?:fn|const) (\w+)", text[: text.find(old) + len(old)])
-            if above[-1:] != [own]:
+            above = text[: text.find(old) + len(old)]
+            *_, item = [None, *re.finditer(r"^( *)(?:[\w()]+ )*(fn|const) (\w+)", above, re.M)]
+            if not item or (item[2], item[3]) != ("fn", own):
+                return False
+            # a line that stands no deeper than the function's first one, its braces and the end of its arguments aside
+            if re.search(rf"\n {{0,{len(item[1])}}}(?!where\b)[^ {{)\n]", above[item.end() :]):
                 return False
         return True
 
@@ -123,12 +128,16 @@ class Found:
         return next((it for it in self.lines if "error" in it), (self.lines or ["the check said nothing"])[-1])
 
 
+def tell(edit, what):
+    print(f"wrong {edit.crate}/{edit.name}: {what}", flush=True)
+
+
 class Trial:
     """The wrong bodies of one crate, tried in rounds on one copy of it."""
 
     def __init__(self, crate, edits, room):
         self.crate, self.left, self.room, self.kept = crate, edits, room, f"{room}/kept"
-        self.passed = self.failed = 0
+        self.passed = 0
         if os.path.isdir(f"{crate.folder}/out/incremental"):
             shutil.copytree(f"{crate.folder}/out/incremental", self.kept)
 
@@ -147,8 +156,8 @@ class Trial:
 
     def judge(self, edit, why_not, told=""):
         self.left.remove(edit)
-        self.passed, self.failed = self.passed + (not why_not), self.failed + bool(why_not)
-        print(f"wrong {self.crate.name}/{edit.name}: {why_not or told}", flush=True)
+        self.passed += not why_not
+        tell(edit, why_not or told)
 
     def lay_round(self):
         """Lays a copy of the crate with as many of the edits that are left as can be tried beside one another, and returns those."""
@@ -177,11 +186,11 @@ class Trial:
         how = {"stdin": subprocess.DEVNULL, "stdout": subprocess.PIPE, "stderr": subprocess.STDOUT, "errors": "replace"}
         return Found(self.crate.name, subprocess.run([*KIT.guarded(), *words], cwd=self.room, **how).stdout)
 
-    def look_at(self, edit, found, is_alone):
+    def look_at(self, edit, found, was_alone):
         """Judges the edit by what a check found. Where that may be another edit's doing, it is left for a later round."""
         own, unread = edit.function, found.unread({path for path, _, _ in edit.pairs})
         is_judged = found.has_ended and not unread and (own in found.at_fault or found.told.get(own) == "proved")
-        if not is_judged and not is_alone:
+        if not is_judged and not was_alone:
             edit.apart_from |= found.at_fault - {own}
             edit.is_alone = not found.has_ended or bool(unread) or not edit.apart_from
         elif not found.has_ended:
@@ -189,7 +198,7 @@ class Trial:
         elif unread:
             self.judge(edit, f"BAD EDIT: the prover cannot read the edited text: {unread[:200]}")
         elif own not in found.at_fault:
-            others = f", but at {', '.join(sorted(found.at_fault))}" if found.at_fault and is_alone else ""
+            others = f", but at {', '.join(sorted(found.at_fault))}" if found.at_fault and was_alone else ""
             self.judge(edit, f"NOT REFUSED at {own}{others}")
         elif found.names_what_is_gone(own):
             self.judge(edit, f"NOT REFUSED at a goal of {own}: its proof names what the edit took away")
@@ -197,18 +206,22 @@ class Trial:
             self.judge(edit, None, f"refused at {own}")
 
 
+def is_named(edit, word):
+    return word == edit.crate or word in edit.name
+
+
 def edits_by_crate(root, words):
-    """Returns the edits that the words name, all where there are none, by their crate."""
+    """Returns the edits that the words name, or all where there are no words, by their crate."""
     found = {}
     for file in sorted(glob.glob(f"{root}/crates/*/wrong/*.edit")):
         edit = Edit(file)
-        if not words or any(it == edit.crate or it in edit.name for it in words):
+        if not words or any(is_named(edit, word) for word in words):
             found.setdefault(edit.crate, []).append(edit)
     return found
 
 
 def has_libraries(crates, is_gate):
-    """Whether the libraries below these crates are proved. Those that 'rt ci' left have no stamp."""
+    """Proves the libraries below these crates where they are not, and returns whether all are. Those that 'rt ci' left have no stamp."""
     for library in dict.fromkeys(it for crate in crates for it in crate.below()):
         is_left = is_gate and os.path.isdir(library.rlib) and not os.path.isfile(f"{library.folder}/out/rlib/stamp")
         if not is_left and library.build_rlib(["--jobs", str(processors())], anew=False):
@@ -232,15 +245,24 @@ def main():
     asked = parser.parse_args()
     root = os.path.dirname(os.path.dirname(os.path.realpath(__file__)))
     os.chdir(root)
+    listed = {it.name: it for it in KIT.crates_below(root)}
     edits = edits_by_crate(root, asked.only)
-    crates = sorted((it for it in KIT.crates_below(root) if it.name in edits), key=lambda it: -len(edits[it.name]))
+    chosen = [it for of_crate in edits.values() for it in of_crate]
+    for word in asked.only:
+        if word not in listed and not any(is_named(it, word) for it in chosen):
+            parser.error(f"no crate and no wrong body is named {word}")
+    for edit in chosen:
+        if edit.crate not in listed:
+            tell(edit, "BAD EDIT: crates.txt does not list its crate")
+    crates = sorted((listed[it] for it in edits if it in listed), key=lambda it: -len(edits[it.name]))
     # its first call sets a signal's handler, which only the main thread may
     KIT.guarded()
-    passed, failed = 0, sum(map(len, edits.values()))
+    passed = 0
     if has_libraries(crates, asked.gate):
         with ThreadPoolExecutor(processors()) as pool:
-            done = list(pool.map(lambda it: try_crate(it, edits[it.name]), crates))
-        passed, failed = sum(it.passed for it in done), sum(it.failed for it in done)
+            passed = sum(it.passed for it in pool.map(lambda it: try_crate(it, edits[it.name]), crates))
+    # an edit that was not judged counts as failed
+    failed = len(chosen) - passed
     print(f"wrong bodies: {passed} passed, {failed} failed")
     return 1 if failed else 0
 
