@@ -2,7 +2,7 @@ PREFIX ?= /usr/local
 
 .PHONY: test check fmt install clean
 
-# The whole gate: proves everything from nothing, runs all tests, and checks that wrong bodies and refused memory are told.
+# The whole gate: proves everything from nothing, runs all tests, and checks that wrong bodies are refused and refused memory is told.
 test:
 	@sh .ci/test.sh
 

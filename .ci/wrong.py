@@ -94,8 +94,8 @@ class Edit:
             *_, item = [None, *re.finditer(r"^( *)(?:[\w()]+ )*(fn|const) (\w+)", above, re.M)]
             if not item or (item[2], item[3]) != ("fn", own):
                 return False
-            # a line that stands no deeper than the function's first one, its braces and the end of its arguments aside
-            if re.search(rf"\n {{0,{len(item[1])}}}(?!where\b)[^ {{)\n]", above[item.end() :]):
+            # a line that stands no deeper than the function's first one, and is no further line of its head or the brace below that
+            if re.search(rf"\n {{0,{len(item[1])}}}(?!where\b)[^ {{)>\n]", above[item.end() :]):
                 return False
         return True
 
