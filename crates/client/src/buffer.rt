@@ -44,7 +44,7 @@ pub fn set_shape<I: IntNumber>(
 }
 
 /// The same of a shape in a vector.
-#[tactic(auto, using(i_shape::proofs::CallerLemmas::held_contours))]
+#[tactic(auto, using(i_shape::proofs::CallerLemmas::contours_held))]
 pub fn set_shape_vector<I: IntNumber>(
     buffer: &mut FlatContoursBuffer<I>,
     shape: &IntShape<I>,

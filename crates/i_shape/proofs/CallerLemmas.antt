@@ -1,21 +1,27 @@
 -- What callers need beside the contracts: from a buffer to the contours that it holds, from lists of points to shapes, and what whole lists keep.
-use Rattle.std.proofs.Common.{◌≡◌, ◌≤◌, ℤ, List, [], ◌∷◌, length, map, refl, sym, ap, subst, ◌∙◌, arith, Option, Some, None, IfSome}
+use Rattle.std.proofs.Common.{◌≡◌, ◌≤◌, ℤ, List, [], ◌∷◌, length, map, refl, sym, ap, subst, ◌∙◌, arith, Option, Some, None, IfSome, Bool, Result, Ok, Err}
 use Rattle.std.specs.Global.{Vec}
 use Rattle.std.specs.Int.{Width}
-use Rattle.std.specs.List.{AllZip, filter_map}
+use Rattle.std.specs.List.{All, AllZip, filter_map}
 use Rattle.std.proofs.lemmas.Int.{ints}
+use Rattle.std.proofs.lemmas.List.Elements.{All-nil, All-cons}
 use Rattle.std.proofs.lemmas.Simd.{map-map}
 use Rattle.i_shape_core.specs.Point.{Point}
 use Rattle.i_shape_core.specs.IntPoint.{contour_of}
+use Rattle.i_shape_core.specs.Contour.{IsSimple}
+use Rattle.i_shape_core.specs.Convex.{NoSpikes}
+use Rattle.i_shape_core.specs.Answers.{SimpleAnswer, DespikeAnswer}
+use Rattle.i_shape_core.specs.declared.error.ShapeError.{ShapeError}
 use Rattle.i_shape_core.specs.declared.point.IntPoint.{IntPoint}
 use Rattle.i_shape_source.specs.Paths.{paths_of_shape, shape_lists, joined}
 use Rattle.i_shape.specs.declared.flat.buffer.contours.FlatContoursBuffer.{FlatContoursBuffer}
 use Rattle.i_shape.specs.Flat.{slices}
-use Rattle.i_shape.specs.Compact.{contours_in}
+use Rattle.i_shape.specs.Compact.{Compact, contours_in}
 use Rattle.i_shape.specs.ContoursBuffer.{HoldsContours}
 use Rattle.i_shape.specs.ShapeLists.{shape_of, shapes_of, IsSafeShape}
-use Rattle.i_shape.specs.ShapeAreas.{inside_count, shapes_shoelace}
+use Rattle.i_shape.specs.ShapeAreas.{HasPoints, inside_count, shapes_shoelace}
 use Rattle.i_shape.specs.ShapeAnswers.{ShapeClean, AreKept, ListKept}
+use Rattle.i_shape.specs.InPlace.{CleansList}
 use Rattle.i_shape.proofs.Keeping.{inside_count-append}
 
 -- the contours of a shape are read from the lists of its points
@@ -41,6 +47,22 @@ safe_held width value buffer contours held safe = subst (IsSafeShape width) (sym
 -- the contours that are read from a buffer are those that it names
 pub contours_read : {I : Type 0} (value : I → ℤ) (buffer : FlatContoursBuffer I) (contours : List (Vec (IntPoint I))) → paths_of_shape contours ≡ slices buffer.points.items buffer.ranges.items → shape_of value contours ≡ contours_in value buffer
 contours_read value buffer contours same = shape_of_paths value contours ∙ ap (map (contour_of value)) same
+
+pointed : (contours : List (List Point)) (answers : List (Option (List Point))) → AllZip SimpleAnswer contours answers → All HasPoints (filter_map (λ answer. answer) answers)
+pointed [] [] h = All-nil HasPoints
+pointed [] (a ∷ answers) h = absurd h
+pointed (c ∷ contours) [] h = absurd h
+pointed (c ∷ contours) (None ∷ answers) h = pointed contours answers h.1
+pointed (c ∷ contours) (Some e ∷ answers) h = let kept = h.0 in All-cons HasPoints e _ (omega (arith, kept.enough)) (pointed contours answers h.1)
+
+-- the contours that cleaning leaves in a buffer have points, as their area asks
+pub points_left : (contours kept : List (List Point)) → Compact contours kept → All HasPoints kept
+points_left contours kept compact = let (answers, zipped, are) = compact in subst (All HasPoints) (sym are) (pointed contours answers zipped)
+
+-- and so have those that are read from it
+pub points_read : {I : Type 0} (value : I → ℤ) (before : List (List Point)) (buffer : FlatContoursBuffer I) (contours : List (Vec (IntPoint I)))
+    → Compact before (contours_in value buffer) → paths_of_shape contours ≡ slices buffer.points.items buffer.ranges.items → All HasPoints (shape_of value contours)
+points_read value before buffer contours compact same = subst (All HasPoints) (sym (contours_read value buffer contours same)) (points_left before (contours_in value buffer) compact)
 
 module _ (Answer : List Point → Option (List Point) → Type 0) where
   -- a shape and its answer, and what it keeps
@@ -88,3 +110,32 @@ list_inside {Answer} {shapes} kept_list whole p =
 pub list_area_twice : {First Second : List Point → Option (List Point) → Type 0} {shapes between kept : List (List (List Point))} → ListKept First shapes between → ListKept Second between kept
     → length kept ≡ length shapes → shapes_shoelace kept ≡ shapes_shoelace shapes
 list_area_twice first second whole = list_area second (omega (arith, list_shorter first, list_shorter second)) ∙ list_area first (omega (arith, list_shorter first, list_shorter second))
+
+module _ {Passes : List Point → Type 0} {Answer : List Point → Option (List Point) → Type 0} {shapes kept : List (List (List Point))} where
+  -- a list that is cleaned in place has no more shapes than before, whatever the call answers
+  pub list_in_place_shorter : {r : Result Bool ShapeError} → CleansList Passes Answer shapes kept r → length kept ≤ length shapes
+  list_in_place_shorter {r = Ok b} cleans = list_shorter cleans.kept
+  list_in_place_shorter {r = Err e} cleans = omega (arith, ap length (cleans.cleans.refused e refl).1)
+
+  -- and its double area where it has as many
+  pub list_in_place_area : {r : Result Bool ShapeError} → CleansList Passes Answer shapes kept r → length kept ≡ length shapes → shapes_shoelace kept ≡ shapes_shoelace shapes
+  list_in_place_area {r = Ok b} cleans whole = list_area cleans.kept whole
+  list_in_place_area {r = Err e} cleans whole = ap shapes_shoelace (cleans.cleans.refused e refl).1
+
+-- the same where zero turns are removed, in the form that a function names
+pub simplified_list_area : {shapes kept : List (List (List Point))} {r : Result Bool ShapeError}
+    → CleansList IsSimple SimpleAnswer shapes kept r → length kept ≡ length shapes → shapes_shoelace kept ≡ shapes_shoelace shapes
+simplified_list_area cleans whole = list_in_place_area cleans whole
+
+-- where spikes are
+pub despiked_list_area : {shapes kept : List (List (List Point))} {r : Result Bool ShapeError}
+    → CleansList NoSpikes DespikeAnswer shapes kept r → length kept ≡ length shapes → shapes_shoelace kept ≡ shapes_shoelace shapes
+despiked_list_area cleans whole = list_in_place_area cleans whole
+
+-- and where zero turns are, and spikes after them
+pub cleaned_list_area : {shapes between kept : List (List (List Point))} {r t : Result Bool ShapeError}
+    → CleansList IsSimple SimpleAnswer shapes between r → CleansList NoSpikes DespikeAnswer between kept t
+    → length kept ≡ length shapes → shapes_shoelace kept ≡ shapes_shoelace shapes
+cleaned_list_area simplified despiked whole =
+    list_in_place_area despiked (omega (arith, list_in_place_shorter simplified, list_in_place_shorter despiked))
+    ∙ list_in_place_area simplified (omega (arith, list_in_place_shorter simplified, list_in_place_shorter despiked))

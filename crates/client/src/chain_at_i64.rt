@@ -1,0 +1,121 @@
+//! The same straight programs at one width. A coordinate stands for itself there, and `w128` is the width of an area.
+
+ghost use Rattle.std.specs.Prelude.{◌≡◌, ◌<◌, ◌↔◌, length, IsTrue, IfOk, IfSome};
+ghost use Rattle.std.specs.Int.{int_wrap, w128};
+ghost use Rattle.i_shape_core.specs.Point.{Point};
+ghost use Rattle.i_shape_core.specs.IntPoint.{point_of, contour_of};
+ghost use Rattle.i_shape_core.specs.Edges.{shoelace, Inside};
+ghost use Rattle.i_shape.specs.ShapeLists.{shape_of, shapes_of};
+ghost use Rattle.i_shape.specs.ShapeAreas.{shape_shoelace, shapes_shoelace};
+
+use crate::refusal::Refusal;
+use i_shape::flat::buffer::FlatContoursBuffer;
+use i_shape::int::IntPoint;
+use i_shape::int::area::Area;
+use i_shape::int::despike::DeSpike;
+use i_shape::int::safe_range::IntSafeRange;
+use i_shape::int::shape::{IntContour, IntShape, IntShapes};
+use i_shape::int::simple::{SimpleContour, Simplify};
+use i_shape_core::contour::ContourExtension;
+use std::alloc::Global;
+
+/// Twice the area of a contour, told by its copy without zero turns. `None` where the contour collapses.
+pub fn cleaned_area(alloc: Global, contour: &[IntPoint<i64>]) -> Result<Option<i128>, Refusal>
+    ensures area { IfOk result (λ r. IfSome r (λ area. area ≡ int_wrap w128 (shoelace (contour_of (λ z. z) contour.now)))) }
+{
+    if !contour.is_in_safe_range() {
+        return Err(Refusal::OutOfRange);
+    }
+    match contour.simplified(alloc)? {
+        Some(kept) => Ok(Some(kept.as_slice().area_two())),
+        None => Ok(None),
+    }
+}
+
+/// Whether a point is inside a contour, told by its copy without zero turns.
+pub fn cleaned_contains(
+    alloc: Global,
+    contour: &[IntPoint<i64>],
+    point: IntPoint<i64>,
+) -> Result<bool, Refusal>
+    ensures inside { IfOk result (λ r. IsTrue r ↔ Inside (contour_of (λ z. z) contour.now) (point_of (λ z. z) point)) }
+{
+    if !contour.is_in_safe_range() || !point.is_in_safe_range() {
+        return Err(Refusal::OutOfRange);
+    }
+    match contour.simplified(alloc)? {
+        Some(kept) => Ok(kept.as_slice().contains_point(point)),
+        None => Ok(false),
+    }
+}
+
+/// Removes zero turns from a contour in place, and then spikes.
+pub fn clean_contour(contour: &mut IntContour<i64>) -> Result<bool, Refusal>
+    ensures area { shoelace (contour_of (λ z. z) contour.new.items) ≡ shoelace (contour_of (λ z. z) contour.old.items) }
+    ensures inside { (p : Point) → Inside (contour_of (λ z. z) contour.new.items) p ↔ Inside (contour_of (λ z. z) contour.old.items) p }
+{
+    if !contour.is_in_safe_range() {
+        return Err(Refusal::OutOfRange);
+    }
+    let simplified = contour.simplify_contour()?;
+    let despiked = contour.remove_spikes()?;
+    Ok(simplified || despiked)
+}
+
+/// Removes zero turns from a shape in place, and then spikes. The shape is empty where its first contour collapses.
+pub fn clean_shape(shape: &mut IntShape<i64>) -> Result<bool, Refusal>
+    ensures area { 0 < length (shape_of (λ z. z) shape.new.items) → shape_shoelace (shape_of (λ z. z) shape.new.items) ≡ shape_shoelace (shape_of (λ z. z) shape.old.items) }
+{
+    if !shape.is_in_safe_range() {
+        return Err(Refusal::OutOfRange);
+    }
+    let simplified = shape.simplify_contour()?;
+    let despiked = shape.remove_spikes()?;
+    Ok(simplified || despiked)
+}
+
+/// Removes zero turns from each shape in place, and then spikes. The double area is kept where as many shapes are left.
+#[tactic(auto, using(i_shape::proofs::CallerLemmas::cleaned_list_area))]
+pub fn clean_list(shapes: &mut IntShapes<i64>) -> Result<bool, Refusal>
+    ensures area { length (shapes_of (λ z. z) shapes.new.items) ≡ length (shapes_of (λ z. z) shapes.old.items) → shapes_shoelace (shapes_of (λ z. z) shapes.new.items) ≡ shapes_shoelace (shapes_of (λ z. z) shapes.old.items) }
+{
+    if !shapes.is_in_safe_range() {
+        return Err(Refusal::OutOfRange);
+    }
+    let simplified = shapes.simplify_contour()?;
+    let despiked = shapes.remove_spikes()?;
+    Ok(simplified || despiked)
+}
+
+/// The contours of a shape, cleaned inside a buffer and read back.
+#[tactic(auto, using(i_shape::proofs::CallerLemmas::contours_held))]
+pub fn cleaned_by_buffer(
+    buffer: &mut FlatContoursBuffer<i64>,
+    shape: &[IntContour<i64>],
+) -> Result<IntShape<i64>, Refusal>
+    ensures area { IfOk result (λ kept. shape_shoelace (shape_of (λ z. z) kept.items) ≡ shape_shoelace (shape_of (λ z. z) shape.now)) }
+{
+    if !shape.is_in_safe_range() {
+        return Err(Refusal::OutOfRange);
+    }
+    buffer.set_with_shape(shape)?;
+    buffer.simplify_contours()?;
+    Ok(buffer.to_contours()?)
+}
+
+/// Twice the area of a shape, told by its contours without zero turns, in a buffer.
+#[tactic(auto, using(i_shape::proofs::CallerLemmas::contours_held))]
+pub fn area_by_buffer(
+    buffer: &mut FlatContoursBuffer<i64>,
+    shape: &[IntContour<i64>],
+) -> Result<i128, Refusal>
+    ensures area { IfOk result (λ area. area ≡ int_wrap w128 (shape_shoelace (shape_of (λ z. z) shape.now))) }
+{
+    if !shape.is_in_safe_range() {
+        return Err(Refusal::OutOfRange);
+    }
+    buffer.set_with_shape(shape)?;
+    buffer.simplify_contours()?;
+    let kept = buffer.to_contours()?;
+    Ok(kept.as_slice().area_two())
+}
