@@ -6,7 +6,7 @@ ghost use Rattle.i_shape_core.specs.Point.{Point};
 ghost use Rattle.i_shape_core.specs.IntPoint.{point_of, contour_of};
 ghost use Rattle.i_shape_core.specs.Edges.{shoelace, Inside};
 ghost use Rattle.i_shape.specs.ShapeLists.{shape_of, shapes_of};
-ghost use Rattle.i_shape.specs.ShapeAreas.{shape_shoelace, shapes_shoelace};
+ghost use Rattle.i_shape.specs.ShapeAreas.{inside_count, shape_shoelace, shapes_shoelace};
 
 use crate::refusal::Refusal;
 use i_shape::IntNumber;
@@ -98,6 +98,7 @@ pub fn cleaned_by_buffer<I: IntNumber>(
     shape: &[IntContour<I>],
 ) -> Result<IntShape<I>, Refusal>
     ensures area { IfOk result (λ kept. shape_shoelace (shape_of I.value kept.items) ≡ shape_shoelace (shape_of I.value shape.now)) }
+    ensures inside { IfOk result (λ kept. (p : Point) → inside_count (shape_of I.value kept.items) p ≡ inside_count (shape_of I.value shape.now) p) }
 {
     if !shape.is_in_safe_range() {
         return Err(Refusal::OutOfRange);

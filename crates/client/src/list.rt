@@ -1,5 +1,9 @@
 //! Lists of shapes that are tested, and then asked about or cleaned.
 
+ghost use Rattle.std.specs.Prelude.{◌≡◌, length};
+ghost use Rattle.i_shape.specs.ShapeLists.{shapes_of};
+ghost use Rattle.i_shape.specs.ShapeAreas.{shapes_shoelace};
+
 use crate::refusal::Refusal;
 use i_shape::IntNumber;
 use i_shape::int::despike::{DeSpike, DeSpikeShapes};
@@ -51,16 +55,22 @@ pub fn despiked<I: IntNumber>(
     Ok(shapes.despiked_shapes(alloc)?)
 }
 
-/// Removes zero turns in place.
-pub fn simplify<I: IntNumber>(shapes: &mut IntShapes<I>) -> Result<bool, Refusal> {
+/// Removes zero turns in place. The double area is kept where as many shapes are left.
+#[tactic(auto, using(i_shape::proofs::CallerLemmas::simplified_list_area))]
+pub fn simplify<I: IntNumber>(shapes: &mut IntShapes<I>) -> Result<bool, Refusal>
+    ensures area { length (shapes_of I.value shapes.new.items) ≡ length (shapes_of I.value shapes.old.items) → shapes_shoelace (shapes_of I.value shapes.new.items) ≡ shapes_shoelace (shapes_of I.value shapes.old.items) }
+{
     if !shapes.is_in_safe_range() {
         return Err(Refusal::OutOfRange);
     }
     Ok(shapes.simplify_contour()?)
 }
 
-/// Removes spikes in place.
-pub fn despike<I: IntNumber>(shapes: &mut IntShapes<I>) -> Result<bool, Refusal> {
+/// Removes spikes in place. The double area is kept where as many shapes are left.
+#[tactic(auto, using(i_shape::proofs::CallerLemmas::despiked_list_area))]
+pub fn despike<I: IntNumber>(shapes: &mut IntShapes<I>) -> Result<bool, Refusal>
+    ensures area { length (shapes_of I.value shapes.new.items) ≡ length (shapes_of I.value shapes.old.items) → shapes_shoelace (shapes_of I.value shapes.new.items) ≡ shapes_shoelace (shapes_of I.value shapes.old.items) }
+{
     if !shapes.is_in_safe_range() {
         return Err(Refusal::OutOfRange);
     }
