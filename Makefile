@@ -1,6 +1,6 @@
 PREFIX ?= /usr/local
 
-.PHONY: test check fmt install clean
+.PHONY: test check fmt c install install-program install-c clean
 
 # The whole gate: proves everything from nothing, runs all tests, and checks that wrong bodies are refused and refused memory is told.
 test:
@@ -12,10 +12,24 @@ check:
 fmt:
 	@for crate in crates/*/; do (cd $$crate && rt fmt) || exit 1; done
 
-install:
+# The C library, in bindings/c/out.
+c:
+	@sh bindings/c/build.sh
+
+install: install-program install-c
+
+install-program:
 	@printf '' | ./i_shape_tool simplify
 	install -d $(DESTDIR)$(PREFIX)/bin
 	install -m 755 crates/i_shape_tool_main/out/i_shape_tool_main $(DESTDIR)$(PREFIX)/bin/i_shape_tool
 
+install-c: c
+	install -d $(DESTDIR)$(PREFIX)/include $(DESTDIR)$(PREFIX)/lib/pkgconfig
+	install -m 644 include/i_shape.h $(DESTDIR)$(PREFIX)/include
+	install -m 644 bindings/c/out/libi_shape.a $(DESTDIR)$(PREFIX)/lib
+	install -m 755 bindings/c/out/libi_shape.so $(DESTDIR)$(PREFIX)/lib
+	sed 's|@PREFIX@|$(PREFIX)|' bindings/c/out/i_shape.pc.in > bindings/c/out/i_shape.pc
+	install -m 644 bindings/c/out/i_shape.pc $(DESTDIR)$(PREFIX)/lib/pkgconfig
+
 clean:
-	rm -rf crates/*/out
+	rm -rf crates/*/out bindings/c/out bindings/rust/target

@@ -1,6 +1,6 @@
 #!/bin/sh
-# The gate: the tests of wrong.py; proofs, tests and named wrong bodies by rt ci; the other wrong bodies; the refusals. Each part ends
-# in a line '.. N passed, M failed', and the last line adds them up.
+# The gate: the tests of wrong.py; proofs, tests and named wrong bodies by rt ci; the other wrong bodies; the refusals; the C library,
+# over the libraries that the refusals have built. Each part ends in a line '.. N passed, M failed', and the last line adds them up.
 log=$(mktemp)
 trap 'rm -f "$log" "$log.bad"' EXIT
 passed=0
@@ -27,5 +27,6 @@ part python3 .ci/test_wrong.py
 part rt ci
 part python3 .ci/wrong.py --gate
 part ./.ci/refusals.sh
+part ./.ci/c_library.sh
 echo "$passed passed, $failed failed"
 [ "$failed" -eq 0 ]

@@ -91,7 +91,7 @@ class Edit:
         for path, old, _ in self.pairs:
             text = read(f"{folder}/{path}")
             above = text[: text.find(old) + len(old)]
-            *_, item = [None, *re.finditer(r"^( *)(?:[\w()]+ )*(fn|const) (\w+)", above, re.M)]
+            *_, item = [None, *re.finditer(r'^( *)(?:[\w()"]+ )*(fn|const) (\w+)', above, re.M)]
             if not item or (item[2], item[3]) != ("fn", own):
                 return False
             # a line that stands no deeper than the function's first one, and is no further line of its head or the brace below that

@@ -1,3 +1,3 @@
 pub mod SamePoints
-pub mod HeldContours
 pub mod StoredForms
+pub mod StoredPolygons

@@ -5,7 +5,7 @@ use Rattle.std.proofs.lemmas.List.{map-append}
 use Rattle.std.proofs.lemmas.List.Elements.{All-push, All-contains, Contains-append_left, Contains-push, Contains-push_cases}
 use Rattle.i_shape_core.specs.Point.{Point, IsZeroTurn}
 use Rattle.i_shape_core.specs.Contour.{SameEnd, collapsed, turned, IsCollapsed}
-use Rattle.i_shape_core.specs.Answers.{EachEndCollapses}
+use Rattle.i_shape_core.specs.Cleaners.{EachEndCollapses}
 use Rattle.i_shape_core.specs.Canonical.{IsCanonical, Joined}
 use Rattle.i_shape_core.proofs.Ends.{has_end}
 use Rattle.i_shape_core.proofs.CycleLaws.{zero_turn_slides, zero_turn_decided}
@@ -27,7 +27,7 @@ one_form {c} {d} {l} {m} a b joined =
     (canonical_joined c d a.end b.end l m a.ends.ended a.ends.enough b.ends.ended b.ends.enough a.least b.least).1 joined
 
 -- a contour that collapses is joined to none that has a form
-never_joined : {c d l : List Point} → IsCanonical c l → EachEndCollapses d → Joined IsZeroTurn c d → ⊥
+pub never_joined : {c d l : List Point} → IsCanonical c l → EachEndCollapses d → Joined IsZeroTurn c d → ⊥
 never_joined {c} {d} a collapses joined =
     let end = has_end zero_turn_decided d in
     go (collapses end.0 end.1) (ends_of_joined zero_turn_slides zero_turn_decided joined a.ends.ended end.1)

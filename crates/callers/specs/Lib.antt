@@ -1,2 +1,4 @@
 pub mod Forms
 pub mod Store
+pub mod PolygonForms
+pub mod Polygons

@@ -2,7 +2,7 @@
 use Rattle.std.specs.Prelude.{◌≡◌, ◌⊎◌, ◌↔◌, List, [], ◌∷◌, ◌++◌}
 use Rattle.std.specs.List.{Contains}
 use Rattle.i_shape.specs.Point.{Point, IsZeroTurn}
-use Rattle.i_shape.specs.Answers.{EachEndCollapses}
+use Rattle.i_shape.specs.Cleaners.{EachEndCollapses}
 use Rattle.i_shape.specs.Canonical.{IsCanonical, Joined}
 use Rattle.callers.specs.declared.store.Insertion.{Insertion}
 use Rattle.callers.specs.declared.store.Insertion.TheVariants.{New, Known, Collapsed}

@@ -2,6 +2,8 @@
 #![tactic(auto)]
 
 pub mod consumer;
+pub mod copies;
 pub mod corners;
 pub mod pipeline;
+pub mod polygons;
 pub mod store;

@@ -1,11 +1,14 @@
 //! Straight programs: each tests the points, cleans, and goes on with what is left. The double area stays what it was.
 
-ghost use Rattle.std.specs.Prelude.{◌≡◌, ◌<◌, ◌↔◌, length, IsTrue, IfOk, IfSome};
+ghost use Rattle.std.specs.Prelude.{◌≡◌, ◌<◌, ◌↔◌, length, IsTrue, IfOk, IfSome, OnOk, OnErr};
 ghost use Rattle.std.specs.Int.{int_wrap};
 ghost use Rattle.i_shape_core.specs.Point.{Point};
 ghost use Rattle.i_shape_core.specs.IntPoint.{point_of, contour_of};
 ghost use Rattle.i_shape_core.specs.Edges.{shoelace, Inside};
+ghost use Rattle.i_shape_core.specs.Cleaners.{SimpleAnswer};
 ghost use Rattle.i_shape.specs.ShapeLists.{shape_of, shapes_of};
+ghost use Rattle.i_shape.specs.ShapeAnswers.{ShapeClean, ListKept};
+ghost use Rattle.i_shape.specs.InPlace.{Leaves};
 ghost use Rattle.i_shape.specs.ShapeAreas.{inside_count, shape_shoelace, shapes_shoelace};
 
 use crate::refusal::Refusal;
@@ -53,8 +56,11 @@ pub fn cleaned_contains<I: IntNumber>(
     }
 }
 
-/// Removes zero turns from a contour in place, and then spikes.
+/// Removes zero turns from a contour in place, and then spikes, of which none is left by then. It answers what the first call did.
+#[tactic(auto, using(i_shape::proofs::CallerLemmas::contour_cleaned, i_shape::proofs::CallerLemmas::contour_never_refused))]
 pub fn clean_contour<I: IntNumber>(contour: &mut IntContour<I>) -> Result<bool, Refusal>
+    ensures cleaned { OnOk result (Leaves SimpleAnswer (contour_of I.value contour.old.items) (contour_of I.value contour.new.items)) }
+    ensures err { OnErr result (contour_of I.value contour.new.items ≡ contour_of I.value contour.old.items) }
     ensures area { shoelace (contour_of I.value contour.new.items) ≡ shoelace (contour_of I.value contour.old.items) }
     ensures inside { (p : Point) → Inside (contour_of I.value contour.new.items) p ↔ Inside (contour_of I.value contour.old.items) p }
 {
@@ -62,33 +68,38 @@ pub fn clean_contour<I: IntNumber>(contour: &mut IntContour<I>) -> Result<bool, 
         return Err(Refusal::OutOfRange);
     }
     let simplified = contour.simplify_contour()?;
-    let despiked = contour.remove_spikes()?;
-    Ok(simplified || despiked)
+    contour.remove_spikes()?;
+    Ok(simplified)
 }
 
 /// Removes zero turns from a shape in place, and then spikes. The shape is empty where its first contour collapses.
+#[tactic(auto, using(i_shape::proofs::CallerLemmas::shape_cleaned, i_shape::proofs::CallerLemmas::shape_never_refused))]
 pub fn clean_shape<I: IntNumber>(shape: &mut IntShape<I>) -> Result<bool, Refusal>
+    ensures cleaned { OnOk result (Leaves (ShapeClean SimpleAnswer) (shape_of I.value shape.old.items) (shape_of I.value shape.new.items)) }
+    ensures err { OnErr result (shape_of I.value shape.new.items ≡ shape_of I.value shape.old.items) }
     ensures area { 0 < length (shape_of I.value shape.new.items) → shape_shoelace (shape_of I.value shape.new.items) ≡ shape_shoelace (shape_of I.value shape.old.items) }
 {
     if !shape.is_in_safe_range() {
         return Err(Refusal::OutOfRange);
     }
     let simplified = shape.simplify_contour()?;
-    let despiked = shape.remove_spikes()?;
-    Ok(simplified || despiked)
+    shape.remove_spikes()?;
+    Ok(simplified)
 }
 
 /// Removes zero turns from each shape in place, and then spikes. The double area is kept where as many shapes are left.
-#[tactic(auto, using(i_shape::proofs::CallerLemmas::cleaned_list_area))]
+#[tactic(auto, using(i_shape::proofs::CallerLemmas::list_cleaned, i_shape::proofs::CallerLemmas::list_never_refused, i_shape::proofs::CallerLemmas::list_cleaned_area))]
 pub fn clean_list<I: IntNumber>(shapes: &mut IntShapes<I>) -> Result<bool, Refusal>
+    ensures kept { OnOk result (ListKept SimpleAnswer (shapes_of I.value shapes.old.items) (shapes_of I.value shapes.new.items)) }
+    ensures err { OnErr result (shapes_of I.value shapes.new.items ≡ shapes_of I.value shapes.old.items) }
     ensures area { length (shapes_of I.value shapes.new.items) ≡ length (shapes_of I.value shapes.old.items) → shapes_shoelace (shapes_of I.value shapes.new.items) ≡ shapes_shoelace (shapes_of I.value shapes.old.items) }
 {
     if !shapes.is_in_safe_range() {
         return Err(Refusal::OutOfRange);
     }
     let simplified = shapes.simplify_contour()?;
-    let despiked = shapes.remove_spikes()?;
-    Ok(simplified || despiked)
+    shapes.remove_spikes()?;
+    Ok(simplified)
 }
 
 /// The contours of a shape, cleaned inside a buffer and read back.
@@ -123,4 +134,24 @@ pub fn area_by_buffer<I: IntNumber>(
     buffer.simplify_contours()?;
     let kept = buffer.to_contours()?;
     Ok(kept.as_slice().area_two())
+}
+
+/// Whether a point is inside a contour, told by what is left of it in a buffer.
+pub fn contains_by_buffer<I: IntNumber>(
+    buffer: &mut FlatContoursBuffer<I>,
+    contour: &[IntPoint<I>],
+    point: IntPoint<I>,
+) -> Result<bool, Refusal>
+    ensures inside { IfOk result (λ r. IsTrue r ↔ Inside (contour_of I.value contour.now) (point_of I.value point)) }
+{
+    if !contour.is_in_safe_range() || !point.is_in_safe_range() {
+        return Err(Refusal::OutOfRange);
+    }
+    buffer.set_with_contour(contour)?;
+    buffer.simplify_contours()?;
+    let kept = buffer.to_contours()?;
+    match kept.first() {
+        Some(first) => Ok(first.as_slice().contains_point(point)),
+        None => Ok(false),
+    }
 }

@@ -1,13 +1,17 @@
 //! The same straight programs at one width. A coordinate stands for itself there, and `w128` is the width of an area.
 
-ghost use Rattle.std.specs.Prelude.{◌≡◌, ◌<◌, ◌↔◌, length, IsTrue, IfOk, IfSome};
+ghost use Rattle.std.specs.Prelude.{◌≡◌, ◌<◌, ◌↔◌, length, IsTrue, IfOk, IfSome, OnOk, OnErr};
 ghost use Rattle.std.specs.Int.{int_wrap, w128};
 ghost use Rattle.i_shape_core.specs.Point.{Point};
 ghost use Rattle.i_shape_core.specs.IntPoint.{point_of, contour_of};
 ghost use Rattle.i_shape_core.specs.Edges.{shoelace, Inside};
+ghost use Rattle.i_shape_core.specs.Cleaners.{SimpleAnswer};
 ghost use Rattle.i_shape.specs.ShapeLists.{shape_of, shapes_of};
+ghost use Rattle.i_shape.specs.ShapeAnswers.{ShapeClean, ListKept};
+ghost use Rattle.i_shape.specs.InPlace.{Leaves};
 ghost use Rattle.i_shape.specs.ShapeAreas.{inside_count, shape_shoelace, shapes_shoelace};
 
+use crate::chain;
 use crate::refusal::Refusal;
 use i_shape::flat::buffer::FlatContoursBuffer;
 use i_shape::int::IntPoint;
@@ -49,8 +53,11 @@ pub fn cleaned_contains(
     }
 }
 
-/// Removes zero turns from a contour in place, and then spikes.
+/// Removes zero turns from a contour in place, and then spikes, of which none is left by then. It answers what the first call did.
+#[tactic(auto, using(i_shape::proofs::CallerLemmas::contour_cleaned, i_shape::proofs::CallerLemmas::contour_never_refused))]
 pub fn clean_contour(contour: &mut IntContour<i64>) -> Result<bool, Refusal>
+    ensures cleaned { OnOk result (Leaves SimpleAnswer (contour_of (λ z. z) contour.old.items) (contour_of (λ z. z) contour.new.items)) }
+    ensures err { OnErr result (contour_of (λ z. z) contour.new.items ≡ contour_of (λ z. z) contour.old.items) }
     ensures area { shoelace (contour_of (λ z. z) contour.new.items) ≡ shoelace (contour_of (λ z. z) contour.old.items) }
     ensures inside { (p : Point) → Inside (contour_of (λ z. z) contour.new.items) p ↔ Inside (contour_of (λ z. z) contour.old.items) p }
 {
@@ -58,33 +65,33 @@ pub fn clean_contour(contour: &mut IntContour<i64>) -> Result<bool, Refusal>
         return Err(Refusal::OutOfRange);
     }
     let simplified = contour.simplify_contour()?;
-    let despiked = contour.remove_spikes()?;
-    Ok(simplified || despiked)
+    contour.remove_spikes()?;
+    Ok(simplified)
 }
 
-/// Removes zero turns from a shape in place, and then spikes. The shape is empty where its first contour collapses.
+/// Removes zero turns from a shape in place, and then spikes, by the call that serves each width. The shape is empty where its first
+/// contour collapses.
 pub fn clean_shape(shape: &mut IntShape<i64>) -> Result<bool, Refusal>
+    ensures cleaned { OnOk result (Leaves (ShapeClean SimpleAnswer) (shape_of (λ z. z) shape.old.items) (shape_of (λ z. z) shape.new.items)) }
+    ensures err { OnErr result (shape_of (λ z. z) shape.new.items ≡ shape_of (λ z. z) shape.old.items) }
     ensures area { 0 < length (shape_of (λ z. z) shape.new.items) → shape_shoelace (shape_of (λ z. z) shape.new.items) ≡ shape_shoelace (shape_of (λ z. z) shape.old.items) }
 {
-    if !shape.is_in_safe_range() {
-        return Err(Refusal::OutOfRange);
-    }
-    let simplified = shape.simplify_contour()?;
-    let despiked = shape.remove_spikes()?;
-    Ok(simplified || despiked)
+    chain::clean_shape(shape)
 }
 
 /// Removes zero turns from each shape in place, and then spikes. The double area is kept where as many shapes are left.
-#[tactic(auto, using(i_shape::proofs::CallerLemmas::cleaned_list_area))]
+#[tactic(auto, using(i_shape::proofs::CallerLemmas::list_cleaned, i_shape::proofs::CallerLemmas::list_never_refused, i_shape::proofs::CallerLemmas::list_cleaned_area))]
 pub fn clean_list(shapes: &mut IntShapes<i64>) -> Result<bool, Refusal>
+    ensures kept { OnOk result (ListKept SimpleAnswer (shapes_of (λ z. z) shapes.old.items) (shapes_of (λ z. z) shapes.new.items)) }
+    ensures err { OnErr result (shapes_of (λ z. z) shapes.new.items ≡ shapes_of (λ z. z) shapes.old.items) }
     ensures area { length (shapes_of (λ z. z) shapes.new.items) ≡ length (shapes_of (λ z. z) shapes.old.items) → shapes_shoelace (shapes_of (λ z. z) shapes.new.items) ≡ shapes_shoelace (shapes_of (λ z. z) shapes.old.items) }
 {
     if !shapes.is_in_safe_range() {
         return Err(Refusal::OutOfRange);
     }
     let simplified = shapes.simplify_contour()?;
-    let despiked = shapes.remove_spikes()?;
-    Ok(simplified || despiked)
+    shapes.remove_spikes()?;
+    Ok(simplified)
 }
 
 /// The contours of a shape, cleaned inside a buffer and read back.
@@ -104,19 +111,23 @@ pub fn cleaned_by_buffer(
     Ok(buffer.to_contours()?)
 }
 
-/// Twice the area of a shape, told by its contours without zero turns, in a buffer.
-#[tactic(auto, using(i_shape::proofs::CallerLemmas::contours_held))]
+/// Twice the area of a shape, told by its contours without zero turns, in a buffer, by the call that serves each width.
 pub fn area_by_buffer(
     buffer: &mut FlatContoursBuffer<i64>,
     shape: &[IntContour<i64>],
 ) -> Result<i128, Refusal>
     ensures area { IfOk result (λ area. area ≡ int_wrap w128 (shape_shoelace (shape_of (λ z. z) shape.now))) }
 {
-    if !shape.is_in_safe_range() {
-        return Err(Refusal::OutOfRange);
-    }
-    buffer.set_with_shape(shape)?;
-    buffer.simplify_contours()?;
-    let kept = buffer.to_contours()?;
-    Ok(kept.as_slice().area_two())
+    chain::area_by_buffer(buffer, shape)
+}
+
+/// Whether a point is inside a contour, told by what is left of it in a buffer, by the call that serves each width.
+pub fn contains_by_buffer(
+    buffer: &mut FlatContoursBuffer<i64>,
+    contour: &[IntPoint<i64>],
+    point: IntPoint<i64>,
+) -> Result<bool, Refusal>
+    ensures inside { IfOk result (λ r. IsTrue r ↔ Inside (contour_of (λ z. z) contour.now) (point_of (λ z. z) point)) }
+{
+    chain::contains_by_buffer(buffer, contour, point)
 }

@@ -1,8 +1,10 @@
 //! Lists of shapes that are tested, and then asked about or cleaned.
 
-ghost use Rattle.std.specs.Prelude.{◌≡◌, length};
+ghost use Rattle.std.specs.Prelude.{◌≡◌, length, IfOk, OnOk, OnErr};
+ghost use Rattle.i_shape_core.specs.Cleaners.{SimpleAnswer, DespikeAnswer};
 ghost use Rattle.i_shape.specs.ShapeLists.{shapes_of};
 ghost use Rattle.i_shape.specs.ShapeAreas.{shapes_shoelace};
+ghost use Rattle.i_shape.specs.ShapeAnswers.{ListKept};
 
 use crate::refusal::Refusal;
 use i_shape::IntNumber;
@@ -26,7 +28,9 @@ pub fn has_no_spikes<I: IntNumber>(shapes: &IntShapes<I>) -> bool {
 pub fn simplified<I: IntNumber>(
     alloc: Global,
     shapes: &[IntShape<I>],
-) -> Result<IntShapes<I>, Refusal> {
+) -> Result<IntShapes<I>, Refusal>
+    ensures kept { IfOk result (λ kept. ListKept SimpleAnswer (shapes_of I.value shapes.now) (shapes_of I.value kept.items)) }
+{
     if !shapes.is_in_safe_range() {
         return Err(Refusal::OutOfRange);
     }
@@ -37,7 +41,9 @@ pub fn simplified<I: IntNumber>(
 pub fn simplified_vector<I: IntNumber>(
     alloc: Global,
     shapes: &IntShapes<I>,
-) -> Result<IntShapes<I>, Refusal> {
+) -> Result<IntShapes<I>, Refusal>
+    ensures kept { IfOk result (λ kept. ListKept SimpleAnswer (shapes_of I.value shapes.now.items) (shapes_of I.value kept.items)) }
+{
     if !shapes.is_in_safe_range() {
         return Err(Refusal::OutOfRange);
     }
@@ -45,10 +51,9 @@ pub fn simplified_vector<I: IntNumber>(
 }
 
 /// The shapes without spikes.
-pub fn despiked<I: IntNumber>(
-    alloc: Global,
-    shapes: &IntShapes<I>,
-) -> Result<IntShapes<I>, Refusal> {
+pub fn despiked<I: IntNumber>(alloc: Global, shapes: &IntShapes<I>) -> Result<IntShapes<I>, Refusal>
+    ensures kept { IfOk result (λ kept. ListKept DespikeAnswer (shapes_of I.value shapes.now.items) (shapes_of I.value kept.items)) }
+{
     if !shapes.is_in_safe_range() {
         return Err(Refusal::OutOfRange);
     }
@@ -58,6 +63,8 @@ pub fn despiked<I: IntNumber>(
 /// Removes zero turns in place. The double area is kept where as many shapes are left.
 #[tactic(auto, using(i_shape::proofs::CallerLemmas::simplified_list_area))]
 pub fn simplify<I: IntNumber>(shapes: &mut IntShapes<I>) -> Result<bool, Refusal>
+    ensures kept { OnOk result (ListKept SimpleAnswer (shapes_of I.value shapes.old.items) (shapes_of I.value shapes.new.items)) }
+    ensures err { OnErr result (shapes_of I.value shapes.new.items ≡ shapes_of I.value shapes.old.items) }
     ensures area { length (shapes_of I.value shapes.new.items) ≡ length (shapes_of I.value shapes.old.items) → shapes_shoelace (shapes_of I.value shapes.new.items) ≡ shapes_shoelace (shapes_of I.value shapes.old.items) }
 {
     if !shapes.is_in_safe_range() {
@@ -69,6 +76,8 @@ pub fn simplify<I: IntNumber>(shapes: &mut IntShapes<I>) -> Result<bool, Refusal
 /// Removes spikes in place. The double area is kept where as many shapes are left.
 #[tactic(auto, using(i_shape::proofs::CallerLemmas::despiked_list_area))]
 pub fn despike<I: IntNumber>(shapes: &mut IntShapes<I>) -> Result<bool, Refusal>
+    ensures kept { OnOk result (ListKept DespikeAnswer (shapes_of I.value shapes.old.items) (shapes_of I.value shapes.new.items)) }
+    ensures err { OnErr result (shapes_of I.value shapes.new.items ≡ shapes_of I.value shapes.old.items) }
     ensures area { length (shapes_of I.value shapes.new.items) ≡ length (shapes_of I.value shapes.old.items) → shapes_shoelace (shapes_of I.value shapes.new.items) ≡ shapes_shoelace (shapes_of I.value shapes.old.items) }
 {
     if !shapes.is_in_safe_range() {

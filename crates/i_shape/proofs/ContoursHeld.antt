@@ -1,5 +1,5 @@
 -- When a buffer holds contours.
-use Rattle.std.proofs.Common.{◌≡◌, ◌+◌, List, [], ◌++◌, length, vec_len, sym, ap, arith}
+use Rattle.std.proofs.Common.{◌≡◌, ◌+◌, List, [], ◌∷◌, ◌++◌, length, vec_len, sym, ap, ◌∙◌, arith, append-nil}
 use Rattle.i_shape_core.specs.declared.point.IntPoint.{IntPoint}
 use Rattle.i_shape.specs.declared.flat.buffer.contours.FlatContoursBuffer.{FlatContoursBuffer}
 use Rattle.i_shape_source.specs.Paths.{joined}
@@ -27,6 +27,13 @@ HoldsContours-more old new contours more held points_are ranges_are =
     HoldsContours-from_lists new (contours ++ more)
     (rw (points_are, held.points) (sym (joined-append contours more)))
     (rw (ranges_are, held.ranges, start) (sym (end_to_end-append 0 contours more)))
+
+-- where a contour was added to a buffer that holds some
+pub HoldsContours-added : {T : Type 0} (old new : FlatContoursBuffer T) (contours : List (List (IntPoint T))) (contour : List (IntPoint T)) → HoldsContours old contours →
+    new.points.items ≡ old.points.items ++ contour → new.ranges.items ≡ old.ranges.items ++ record { start = vec_len old.points; end = vec_len old.points + length contour } ∷ [] →
+    HoldsContours new (contours ++ contour ∷ [])
+HoldsContours-added old new contours contour held points_are ranges_are =
+    HoldsContours-more old new contours (contour ∷ []) held (points_are ∙ ap (λ l. old.points.items ++ l) (sym (append-nil contour))) ranges_are
 
 -- where the contours were appended to an empty buffer
 pub HoldsContours-appended : {T : Type 0} (empty buffer : FlatContoursBuffer T) (contours : List (List (IntPoint T))) → HoldsContours empty [] →

@@ -9,10 +9,12 @@ use Rattle.i_shape_source.specs.Paths.{paths_of_shape, joined}
 use Rattle.i_shape.specs.Flat.{InOrder, part_of, slices, end_to_end}
 use Rattle.i_shape.proofs.Surviving.{taken}
 
+-- two lists of parts, joined one after the other
 pub joined-append : {P : Type 0} (cs ds : List (List P)) → joined (cs ++ ds) ≡ joined cs ++ joined ds
 joined-append [] ds = refl
 joined-append (a ∷ cs) ds = rw (joined-append cs ds) (sym (append_assoc a (joined cs) (joined ds)))
 
+-- the ranges of more parts begin where those before them end
 pub end_to_end-append : {P : Type 0} (start : ℕ) (cs ds : List (List P)) →
     end_to_end start (cs ++ ds) ≡ end_to_end start cs ++ end_to_end (start + length (joined cs)) ds
 end_to_end-append start [] ds = rw add-zero refl
@@ -20,6 +22,7 @@ end_to_end-append start (a ∷ cs) ds =
     let e : start + length a + length (joined cs) ≡ start + length (a ++ joined cs) = omega (arith, length-append a (joined cs)) in
     rw (end_to_end-append (start + length a) cs ds, e) refl
 
+-- there is one range for each part
 pub length-end_to_end : {P : Type 0} (start : ℕ) (cs : List (List P)) → length (end_to_end start cs) ≡ length cs
 length-end_to_end start [] = refl
 length-end_to_end start (a ∷ cs) = ap (λ n. suc n) (length-end_to_end (start + length a) cs)
@@ -28,6 +31,7 @@ length-end_to_end start (a ∷ cs) = ap (λ n. suc n) (length-end_to_end (start 
 pub joined_take_drop : {X P : Type 0} (f : X → List P) (xs : List X) (i : ℕ) → joined (map f xs) ≡ joined (map f (take i xs)) ++ joined (map f (drop i xs))
 joined_take_drop f xs i = ap (λ w. joined (map f w)) (sym (take-append-drop i xs)) ∙ ap joined (map-append f (take i xs) (drop i xs)) ∙ joined-append (map f (take i xs)) (map f (drop i xs))
 
+-- the first parts have no more members than all
 pub length_joined_take : {X P : Type 0} (f : X → List P) (xs : List X) (i : ℕ) → length (joined (map f (take i xs))) ≤ length (joined (map f xs))
 length_joined_take f xs i =
     omega (arith, ap length (joined_take_drop f xs i), length-append (joined (map f (take i xs))) (joined (map f (drop i xs))))
@@ -48,6 +52,7 @@ slices-end_to_end before after (a ∷ cs) start e =
     ap (λ w. slices w (end_to_end (start + length a) cs)) regroup ∙ slices-end_to_end (before ++ a) after cs (start + length a) next in
     ap (λ w. w ∷ slices (before ++ (a ++ joined cs ++ after)) (end_to_end (start + length a) cs)) head ∙ ap (λ w. a ∷ w) rest
 
+-- ranges end to end lie in each list that is long enough
 pub InOrder-end_to_end : {P : Type 0} (cs : List (List P)) (start n : ℕ) → start + length (joined cs) ≤ n →
     All (InOrder n) (end_to_end start cs)
 InOrder-end_to_end [] start n le = All-nil (InOrder n)
@@ -60,6 +65,7 @@ InOrder-end_to_end (a ∷ cs) start n le =
 pub slices_joined : {P : Type 0} (cs : List (List P)) → slices (joined cs) (end_to_end 0 cs) ≡ cs
 slices_joined cs = ap (λ w. slices w (end_to_end 0 cs)) (sym (append-nil (joined cs))) ∙ slices-end_to_end [] [] cs 0 refl
 
+-- ranges end to end lie in the parts joined
 pub InOrder_joined : {P : Type 0} (cs : List (List P)) → All (InOrder (length (joined cs))) (end_to_end 0 cs)
 InOrder_joined cs = InOrder-end_to_end cs 0 (length (joined cs)) (omega arith)
 

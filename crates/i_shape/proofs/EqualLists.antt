@@ -40,5 +40,6 @@ range_decided r s =
     Decides-like _ (λ h. λ i. record { start = h.0 i; end = h.1 i }) (λ e. (ap (λ q. q.start) e, ap (λ q. q.end) e))
     (Decides-and (r.start == s.start) (r.end == s.end) (Decides-eqb r.start s.start) (Decides-eqb r.end s.end))
 
+-- comparing ranges member by member tells whether the lists are equal
 pub ranges_decided : (rs ss : List (Range ℕ)) → Decides (pointwise (λ r s. r.start == s.start && r.end == s.end) rs ss) (rs ≡ ss)
 ranges_decided rs ss = lists_decided (λ r s. r.start == s.start && r.end == s.end) range_decided rs ss

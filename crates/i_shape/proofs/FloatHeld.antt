@@ -51,11 +51,7 @@ one_shape_range (path ∷ paths) n count some =
     let whole : 0 + length (path ∷ paths) ≡ n = omega (arith, count) in
     ap (λ end. record { start = 0; end = end } ∷ []) whole
 
--- and none where there are none
-pub no_shape_range : {P : Type 0} (paths : List (List P)) → length paths ≡ 0 → end_to_end 0 (in_one_shape paths) ≡ []
-no_shape_range [] none = refl
-no_shape_range (path ∷ paths) none = absurd (omega arith)
-
+-- where its lists are those of paths end to end, in one shape
 pub FormOneShape-from_lists : {P : Type 0} (buffer : FloatFlatShapesBuffer P) (paths : List (List P)) →
     buffer.points.items ≡ joined paths → buffer.contour_ranges.items ≡ end_to_end 0 paths → buffer.shape_ranges.items ≡ end_to_end 0 (in_one_shape paths) →
     FormOneShape buffer paths

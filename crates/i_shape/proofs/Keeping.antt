@@ -9,7 +9,7 @@ use Rattle.std.proofs.lemmas.List.Elements.{All-cons, All-head, All-tail}
 use Rattle.i_shape_core.specs.Point.{Point}
 use Rattle.i_shape_core.specs.IntPoint.{IsSafe}
 use Rattle.i_shape_core.specs.Edges.{edges, is_right, Inside}
-use Rattle.i_shape_core.specs.Answers.{IsKept, IsFlat, KeptAnswer}
+use Rattle.i_shape_core.specs.Cleaners.{IsKept, IsFlat, KeptAnswer}
 use Rattle.i_shape.specs.Survivors.{Survivors}
 use Rattle.i_shape.specs.ShapeLists.{IsSafeShape, IsSafeList}
 use Rattle.i_shape.specs.ShapeAreas.{inside_count}
@@ -17,10 +17,10 @@ use Rattle.i_shape.specs.ShapeAnswers.{ShapeClean, ListClean, EachContour, AreKe
 use Rattle.i_shape.proofs.Surviving.{survivors_weaker, survivors_stay, survivors_have}
 
 -- the number of edges to the right of p, modulo 2
-abbrev parity : List Point → Point → ℕ
+abbrev pub parity : List Point → Point → ℕ
 parity c p = count_by (is_right p) (edges c) % 2
 
-inside_count-cons : (c : List Point) (cs : List (List Point)) (p : Point) → inside_count (c ∷ cs) p ≡ parity c p + inside_count cs p
+pub inside_count-cons : (c : List Point) (cs : List (List Point)) (p : Point) → inside_count (c ∷ cs) p ≡ parity c p + inside_count cs p
 unfolding inside_count
 inside_count-cons c cs p = sum_by-cons (λ c. parity c p) c cs
 
@@ -33,7 +33,7 @@ inside_count-append cs ds p = sum_by-append (λ c. parity c p) cs ds
 pub same_kept : (contours : List (List Point)) → AreKept contours contours
 same_kept contours = record { area = refl; inside = λ p. refl }
 
-same_parity : (m n : ℕ) → (m % 2 ≡ 1) ↔ (n % 2 ≡ 1) → m % 2 ≡ n % 2
+pub same_parity : (m n : ℕ) → (m % 2 ≡ 1) ↔ (n % 2 ≡ 1) → m % 2 ≡ n % 2
 same_parity m n h = go (dec_le 1 (m % 2)) (dec_le 1 (n % 2))
   where
     go : Dec (1 ≤ m % 2) → Dec (1 ≤ n % 2) → m % 2 ≡ n % 2

@@ -9,9 +9,18 @@ pub mod ShapesHeld
 pub mod LentPaths
 pub mod FloatHeld
 pub mod CompactLaws
+pub mod ShapesCleaned
 pub mod WrappedSums
 pub mod LeftInPlace
 pub mod SpikesLeft
+-- canonical forms
+pub mod Shuffles
+pub mod Uniqueness
+pub mod SortedLists
+pub mod ShapeOrder
+pub mod Orders
+pub mod Matches
+pub mod ShapeForms
 pub mod Examples
 -- what callers cite
 pub mod CallerLemmas

@@ -9,6 +9,7 @@ use Rattle.i_shape_source.specs.Paths.{joined}
 use Rattle.i_shape.specs.Flat.{InOrder, IsReadableShape, part_of, slices, shapes, end_to_end}
 use Rattle.i_shape.proofs.EndToEnd.{slices-end_to_end, slices_joined, InOrder-end_to_end, InOrder_joined, length-end_to_end}
 
+-- the slices of some of the ranges are some of the slices
 pub slices-part_of : {P : Type 0} (points : List P) (ranges : List (Range ℕ)) (range : Range ℕ) → slices points (part_of ranges range) ≡ part_of (slices points ranges) range
 slices-part_of points ranges range =
     sym (ap (take (range.end - range.start)) (drop-map (part_of points) range.start ranges) ∙ take-map (part_of points) (range.end - range.start) (drop range.start ranges))
@@ -20,17 +21,20 @@ part_of-append list more range within =
     let fits : range.end - range.start ≤ length (drop range.start list) = omega (arith, length-drop range.start list) in
     ap (take (range.end - range.start)) (drop-append-le range.start list more begins) ∙ take-append-le (range.end - range.start) (drop range.start list) more fits
 
+-- ranges within the points name the same slices where points are appended
 pub slices-append : {P : Type 0} (points more : List P) (ranges : List (Range ℕ)) → All (InOrder (length points)) ranges → slices (points ++ more) ranges ≡ slices points ranges
 slices-append points more [] within = refl
 slices-append points more (range ∷ ranges) within =
     ap (λ w. w ∷ slices (points ++ more) ranges) (part_of-append points more range (All-head (InOrder (length points)) range ranges within))
     ∙ ap (λ w. part_of points range ∷ w) (slices-append points more ranges (All-tail (InOrder (length points)) range ranges within))
 
+-- an empty or reversed range names no member
 pub part_of-empty : {P : Type 0} (list : List P) (range : Range ℕ) → range.end ≤ range.start → part_of list range ≡ []
 part_of-empty list range backwards =
     let none : range.end - range.start ≡ 0 = omega arith in
     ap (λ n. take n (drop range.start list)) none
 
+-- a readable shape stays the same where points and ranges are appended
 pub shape-append : {P : Type 0} (points more : List P) (ranges more_ranges : List (Range ℕ)) (range : Range ℕ) → IsReadableShape (length points) ranges range →
     slices (points ++ more) (part_of (ranges ++ more_ranges) range) ≡ slices points (part_of ranges range)
 shape-append points more ranges more_ranges range readable =
@@ -40,6 +44,7 @@ shape-append points more ranges more_ranges range readable =
       | inr backwards ↦ ap (slices (points ++ more)) (part_of-empty (ranges ++ more_ranges) range backwards) ∙ sym (ap (slices points) (part_of-empty ranges range backwards))
     ]
 
+-- readable shapes stay the same where points and ranges are appended
 pub shapes-append : {P : Type 0} (points more : List P) (ranges more_ranges shape_ranges : List (Range ℕ)) → All (IsReadableShape (length points) ranges) shape_ranges →
     shapes (points ++ more) (ranges ++ more_ranges) shape_ranges ≡ shapes points ranges shape_ranges
 shapes-append points more ranges more_ranges [] readable = refl
@@ -55,6 +60,7 @@ last_part ranges shape at n range count is_range =
     let fits : length (end_to_end at shape) ≤ length ranges + n - length ranges = omega (arith, length-end_to_end at shape) in
     ap (part_of (ranges ++ end_to_end at shape)) is_range ∙ ap (take (length ranges + n - length ranges)) dropped ∙ take_all _ (end_to_end at shape) fits
 
+-- a shape that is appended to a buffer is named by the range of its contour ranges
 pub last_shape : {P : Type 0} (points : List P) (ranges : List (Range ℕ)) (shape : List (List P)) (n : ℕ) (range : Range ℕ) → n ≡ length shape → range ≡ record { start = length ranges; end = length ranges + n } →
     slices (points ++ joined shape) (part_of (ranges ++ end_to_end (length points) shape) range) ≡ shape
 last_shape points ranges shape n range count is_range =
@@ -69,6 +75,7 @@ readable_from_within n contour_ranges shape_ranges contours_within shapes_within
     All-weaker (InOrder (length contour_ranges)) (IsReadableShape n contour_ranges)
     (λ range within forwards. (within.1, All-take (InOrder n) _ _ (All-drop (InOrder n) _ _ contours_within))) shape_ranges shapes_within
 
+-- the shape ranges of shapes end to end can be read
 pub readable_joined : {P : Type 0} (list : List (List (List P))) → All (IsReadableShape (length (joined (joined list))) (end_to_end 0 (joined list))) (end_to_end 0 list)
 readable_joined list =
     let fits : 0 + length (joined list) ≤ length (end_to_end 0 (joined list)) = omega (arith, length-end_to_end 0 (joined list)) in
@@ -105,6 +112,7 @@ shapes-push points ranges shape_ranges shape n range count is_range readable =
     ∙ ap (λ w. w ++ slices (points ++ joined shape) (part_of (ranges ++ end_to_end (length points) shape) range) ∷ []) (shapes-append points (joined shape) ranges (end_to_end (length points) shape) shape_ranges readable)
     ∙ ap (λ w. shapes points ranges shape_ranges ++ w ∷ []) (last_shape points ranges shape n range count is_range)
 
+-- the shapes are parts of the slices
 pub shapes_by_parts : {P : Type 0} (points : List P) (ranges shape_ranges : List (Range ℕ)) → shapes points ranges shape_ranges ≡ slices (slices points ranges) shape_ranges
 shapes_by_parts points ranges [] = refl
 shapes_by_parts points ranges (range ∷ shape_ranges) =

@@ -2,12 +2,13 @@
 use Rattle.std.proofs.Common.{◌≡◌, ◌≤◌, true, false, Ok, List, [], length, ap, refl, arith}
 use Rattle.i_shape_core.specs.Point.{Point, origin}
 use Rattle.i_shape_core.specs.Convex.{NoSpikes, dedup, last_of}
-use Rattle.i_shape_core.specs.Answers.{EachEndCollapses, DespikeAnswer}
+use Rattle.i_shape_core.specs.Cleaners.{EachEndCollapses, DespikeAnswer}
 use Rattle.i_shape_core.proofs.Dedup.{fewer}
 use Rattle.i_shape_core.proofs.Answered.{collapsed_flat}
 use Rattle.i_shape.specs.InPlace.{DespikesContour}
 use Rattle.i_shape.proofs.LeftInPlace.{contour_stays, contour_collapses}
 
+-- a contour without spikes has three points
 pub spikeless_points : (c : List Point) → NoSpikes c → 3 ≤ length c
 unfolding dedup
 spikeless_points c s = omega (arith, s.enough, fewer (last_of origin c) c)

@@ -7,20 +7,24 @@ use Rattle.std.proofs.lemmas.List.Elements.{All-nil, All-cons, All-head, All-tai
 use Rattle.std.proofs.lemmas.Slice.Zip.{all_zipped_more}
 use Rattle.i_shape.specs.Survivors.{Survivors}
 
+-- what holds of all members holds of the one that is read
 pub mapped-read : {X Y : Type 0} (f : X → Y) (P : Y → Type 0) (xs : List X) (i : ℕ) (x : X) → i < length xs → x ≡ get_or xs i x → All P (map f xs) → P (f x)
 mapped-read f P xs i x lt read holds =
     let lt' : i < length (map f xs) = rw (length-map xs f) lt in
     subst (λ z. P (f z)) (sym read) (rw (get_or-map f xs i x (f x) lt) at (holds i (f x) lt'))
 
+-- the first members, and the one that is read after them
 pub taken : {X : Type 0} (xs : List X) (i : ℕ) (x : X) → i < length xs → x ≡ get_or xs i x → take (i + 1) xs ≡ take i xs ++ x ∷ []
 taken xs i x lt read = take_more xs i x lt ∙ ap (λ z. take i xs ++ z ∷ []) (sym read)
 
 mapped-taken : {X Y : Type 0} (f : X → Y) (xs : List X) (i : ℕ) (x : X) → i < length xs → x ≡ get_or xs i x → map f (take (i + 1) xs) ≡ map f (take i xs) ++ f x ∷ []
 mapped-taken f xs i x lt read = ap (map f) (taken xs i x lt read) ∙ map-append f (take i xs) (x ∷ [])
 
+-- what holds of the first members and of the next holds of one more
 pub mapped-more : {X Y : Type 0} (f : X → Y) (P : Y → Type 0) (xs : List X) (i : ℕ) (x : X) → i < length xs → x ≡ get_or xs i x → All P (map f (take i xs)) → P (f x) → All P (map f (take (i + 1) xs))
 mapped-more f P xs i x lt read holds here = rw (mapped-taken f xs i x lt read) (All-push P (map f (take i xs)) (f x) holds here)
 
+-- nothing is left of no members
 pub survivors-none : {X Y : Type 0} (Answer : X → Option Y → Type 0) → Survivors Answer [] []
 survivors-none Answer = ([], tt, refl)
 
@@ -28,13 +32,15 @@ last-kept : {Y : Type 0} (kept : List Y) (a : Option Y) → kept ++ filter_map (
 last-kept kept None = refl
 last-kept kept (Some y) = refl
 
-survivors-push : {X Y : Type 0} (Answer : X → Option Y → Type 0) (xs : List X) (x : X) (kept : List Y) (a : Option Y) → Survivors Answer xs kept → Answer x a → Survivors Answer (xs ++ x ∷ []) (kept ++ option_to_list a)
+-- a member more, with its answer
+pub survivors-push : {X Y : Type 0} (Answer : X → Option Y → Type 0) (xs : List X) (x : X) (kept : List Y) (a : Option Y) → Survivors Answer xs kept → Answer x a → Survivors Answer (xs ++ x ∷ []) (kept ++ option_to_list a)
 survivors-push Answer xs x kept a (answers, zipped, is_kept) answer = (
   answers ++ a ∷ [],
   all_zipped_more Answer xs answers x a zipped answer,
   sym (filter_map-append (λ r. r) answers (a ∷ []) ∙ ap (λ w. w ++ filter_map (λ r. r) (a ∷ [])) (sym is_kept) ∙ last-kept kept a),
 )
 
+-- the member that is read, with its answer
 pub survivors-more : {X Y Z : Type 0} (f : X → Y) (Answer : Y → Option Z → Type 0) (xs : List X) (i : ℕ) (x : X) (kept : List Z) (a : Option Z) → i < length xs → x ≡ get_or xs i x
     → Survivors Answer (map f (take i xs)) kept → Answer (f x) a → Survivors Answer (map f (take (i + 1) xs)) (kept ++ option_to_list a)
 survivors-more f Answer xs i x kept a lt read survive answer = rw (mapped-taken f xs i x lt read) (survivors-push Answer (map f (take i xs)) (f x) kept a survive answer)

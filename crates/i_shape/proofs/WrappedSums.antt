@@ -1,24 +1,17 @@
 -- Sums over the items of a list that wrap at each item, and counts.
-use Rattle.std.proofs.Common.{◌≡◌, ℕ, ◌+◌, ◌<◌, ◌≤◌, ℤ, pos, ◌+ℤ◌, ◌-ℤ◌, List, map, length, drop, get_or, sym, ap, ◌∙◌, arith}
+use Rattle.std.proofs.Common.{◌≡◌, ℕ, ◌+◌, ◌<◌, ℤ, ◌+ℤ◌, ◌-ℤ◌, List, map, length, drop, get_or, sym, ap, ◌∙◌, arith}
 use Rattle.std.proofs.lemmas.Int.{ints, int_wrap-add_left, int_wrap-add_right}
-use Rattle.std.proofs.lemmas.List.{drop_all}
 use Rattle.std.proofs.lemmas.List.Sums.{sum_by-cons}
 use Rattle.std.specs.Int.{Width, int_wrap}
 use Rattle.std.specs.List.{sum_by}
 use Rattle.i_shape.specs.ShapeAreas.{sum_of}
 use Rattle.i_shape_core.proofs.Contours.{drop-read}
-use Rattle.i_shape_core.proofs.SummedArea.{wrapped-zero}
 
 -- what a walk has summed up before place k
 abbrev pub IsSummedUp : {A X : Type 0} → Width → (X → ℤ) → (A → X) → List A → ℕ → ℤ → Type 0
 IsSummedUp w f view xs k s = s ≡ int_wrap w (sum_of f (map view xs) -ℤ sum_of f (map view (drop k xs)))
 
-pub sum-first : {A X : Type 0} (w : Width) (f : X → ℤ) (view : A → X) (xs : List A) (zero : ℤ) → zero ≡ pos 0 → IsSummedUp w f view xs 0 zero
-sum-first w f view xs zero e = wrapped-zero w zero e ∙ ap (int_wrap w) (none (sum_of f (map view xs)))
-  where
-    none : (t : ℤ) → pos 0 ≡ t -ℤ t
-    none t = omega (arith, ints)
-
+-- an item more is summed up
 pub sum-more : {A X : Type 0} (w : Width) (f : X → ℤ) (view : A → X) (xs : List A) (k : ℕ) (a : A) (before item after : ℤ) → k < length xs → a ≡ get_or xs k a
     → IsSummedUp w f view xs k before → item ≡ int_wrap w (f (view a)) → after ≡ int_wrap w (before +ℤ item) → IsSummedUp w f view xs (k + 1) after
 sum-more w f view xs k a before item after within read so_far here now =
@@ -32,16 +25,11 @@ sum-more w f view xs k a before item after within read so_far here now =
     moved : (t r x q : ℤ) → r ≡ x +ℤ q → (t -ℤ r) +ℤ x ≡ t -ℤ q
     moved t r x q e = omega (arith, ints)
 
-pub sum-last : {A X : Type 0} (w : Width) (f : X → ℤ) (view : A → X) (xs : List A) (k : ℕ) (s : ℤ) → length xs ≤ k → IsSummedUp w f view xs k s → s ≡ int_wrap w (sum_of f (map view xs))
-sum-last w f view xs k s past so_far = so_far ∙ ap (int_wrap w) (nothing (sum_of f (map view xs)) (sum_of f (map view (drop k xs))) (ap (λ ys. sum_of f (map view ys)) (drop_all k xs past)))
-  where
-    nothing : (t r : ℤ) → r ≡ pos 0 → t -ℤ r ≡ t
-    nothing t r e = omega (arith, ints)
-
 -- what a walk has counted before place k, with what is still to come
 abbrev pub IsCounted : {A : Type 0} → (A → ℕ) → List A → ℕ → ℕ → Type 0
 IsCounted f xs k n = n + sum_by f (drop k xs) ≡ sum_by f xs
 
+-- an item and what comes after it make up the count
 pub count-rest : {A : Type 0} (f : A → ℕ) (xs : List A) (k n : ℕ) (a : A) → k < length xs → a ≡ get_or xs k a → IsCounted f xs k n → n + f a + sum_by f (drop (k + 1) xs) ≡ sum_by f xs
 count-rest {A} f xs k n a within read so_far = regroup n (f a) (sum_by f (drop (k + 1) xs)) (sum_by f xs) (sym (ap (λ (m : ℕ). n + m) rest) ∙ so_far)
   where
@@ -50,9 +38,3 @@ count-rest {A} f xs k n a within read so_far = regroup n (f a) (sum_by f (drop (
 
     regroup : (n x r t : ℕ) → n + (x + r) ≡ t → n + x + r ≡ t
     regroup n x r t e = omega arith
-
-pub count-last : {A : Type 0} (f : A → ℕ) (xs : List A) (k n : ℕ) → length xs ≤ k → IsCounted f xs k n → n ≡ sum_by f xs
-count-last f xs k n past so_far = plus_zero n ∙ ap (λ ys. n + sum_by f ys) (sym (drop_all k xs past)) ∙ so_far
-  where
-    plus_zero : (n : ℕ) → n ≡ n + 0
-    plus_zero n = omega arith

@@ -2,7 +2,7 @@
 use Rattle.std.specs.Prelude.{◌≡◌, ◌↔◌, ◌<◌, Bool, true, false, Option, Result, Ok, Err, List, [], length, unwrap_or, OnOk}
 use Rattle.i_shape_core.specs.Point.{Point}
 use Rattle.i_shape_core.specs.Convex.{NoSpikes}
-use Rattle.i_shape_core.specs.Answers.{DespikeAnswer, IsKept}
+use Rattle.i_shape_core.specs.Cleaners.{DespikeAnswer, IsKept}
 use Rattle.i_shape_core.specs.declared.error.ShapeError.{ShapeError}
 use Rattle.i_shape_core.specs.declared.error.ShapeError.TheVariants.{OutOfMemory}
 use Rattle.i_shape.specs.ShapeAnswers.{ShapeClean, ListClean, EachContour, EachShape, AreKept, ListKept}

@@ -5,11 +5,12 @@ pub use Rattle.i_shape_core.specs.Contour
 pub use Rattle.i_shape_core.specs.Edges
 pub use Rattle.i_shape_core.specs.Convex
 pub use Rattle.i_shape_core.specs.Laws
-pub use Rattle.i_shape_core.specs.Answers
+pub use Rattle.i_shape_core.specs.Cleaners
 pub use Rattle.i_shape_core.specs.Turn
 pub use Rattle.i_shape_core.specs.Probe
 pub use Rattle.i_shape_core.specs.Refusals
 pub use Rattle.i_shape_core.specs.Canonical
+pub use Rattle.i_shape_core.specs.Unoriented
 pub use Rattle.i_shape_source.specs.LentPaths
 pub use Rattle.i_shape_source.specs.Paths
 pub use Rattle.i_shape_source.specs.ShapeLists
@@ -25,4 +26,7 @@ pub mod InPlace
 pub mod IntPoints
 pub mod ShapeAreas
 pub mod Compact
+pub mod NamedShapes
 pub mod AppendedAnswers
+pub mod Matching
+pub mod CanonicalShapes

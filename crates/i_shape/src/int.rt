@@ -1,7 +1,8 @@
 //! Contours, shapes and shape lists of whole-number points.
 
 pub mod area;
-mod cleaning;
+pub mod canonical;
+pub(crate) mod cleaning;
 pub mod count;
 pub mod despike;
 pub mod path;

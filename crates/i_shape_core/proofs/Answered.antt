@@ -5,7 +5,7 @@ use native.Mathlib.Decide.{dec_le, dec_lt}
 use Rattle.i_shape_core.specs.Point.{Point}
 use Rattle.i_shape_core.specs.Contour.{point_at, place_before, place_after}
 use Rattle.i_shape_core.specs.Convex.{dedup, turn_at, is_reversal, IsReversal, NoSpikes}
-use Rattle.i_shape_core.specs.Answers.{SimpleAnswer, SpikelessAnswer, DespikeAnswer, EachEndCollapses, KeptAnswer, IsKept, IsFlat}
+use Rattle.i_shape_core.specs.Cleaners.{SimpleAnswer, SpikelessAnswer, DespikeAnswer, EachEndCollapses, KeptAnswer, IsKept, IsFlat}
 use Rattle.i_shape_core.proofs.Ends.{has_end, all_left, reach_by_weaker}
 use Rattle.i_shape_core.proofs.CycleLaws.{zero_turn_decided}
 use Rattle.i_shape_core.proofs.Survive.{straightens}

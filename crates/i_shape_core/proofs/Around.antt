@@ -57,6 +57,7 @@ has_passed P d h (k, r) =
       one_behind d (point_at d (length d - 1)) k (place_after (length d) k) r.within refl A,
     ) r.passes)
 
+-- a place that passes the test on a walk from the last two points passes it in the contour
 pub passed_has : (P : Test) (d : List Point) → 3 ≤ length d → Passed P (point_at d (length d - 2)) (point_at d (length d - 1)) d → Has P d
 unfolding Has
 passed_has P d h x = go (passed_at P (point_at d (length d - 2)) (point_at d (length d - 1)) d x)
@@ -90,6 +91,7 @@ abbrev pub Met : Test → Point → Point → List Point → Type 0
 Met P o p [] = ⊥
 Met P o p (q ∷ qs) = cond (is_same p q) (Met P o p qs) (P o p q ⊎ Met P p q qs)
 
+-- what a walk meets over a list, it passes over the list without repeated points
 pub met_is : (P : Test) (o p : Point) (qs : List Point) → Met P o p qs ≡ Passed P o p (changes_after p qs)
 met_is P o p [] = refl
 met_is P o p (q ∷ qs) = go (met_is P o q qs) (met_is P p q qs) (is_same p q) refl
@@ -99,6 +101,7 @@ met_is P o p (q ∷ qs) = go (met_is P o q qs) (met_is P p q qs) (is_same p q) r
     go skip keep true e = subst (λ (x : Point). Met P o x qs ≡ Passed P o x (changes_after q qs)) (sym (same_yes p q e)) skip
     go skip keep false e = ap (λ (X : Type 0). P o p q ⊎ X) keep
 
+-- without repeated points a contour ends at the same point
 pub last_of_dedup : (c : List Point) → 1 ≤ length (dedup c) → point_at (dedup c) (length (dedup c) - 1) ≡ last_of origin c
 unfolding dedup
 last_of_dedup c h = last_place (changes_after (last_of origin c) c) h ∙ changes_last (last_of origin c) c ∙ last_again origin c
@@ -119,16 +122,19 @@ has_met P c o h e = (λ x. subst (λ (X : Type 0). X) (sym same) (has_passed P (
 abbrev pub Changed : List Point → ℕ → Point → List Point → Type 0
 Changed c n p rest = n + length (changes_after p rest) ≡ length (dedup c)
 
+-- before the first point no change is counted
 pub changed_start : (c : List Point) → Changed c 0 (last_of origin c) c
 unfolding dedup
 changed_start c = omega arith
 
+-- a repeated point is no change
 pub changed_skip : (c : List Point) (n : ℕ) (p q : Point) (rest : List Point) → is_same p q ≡ true → Changed c n p (q ∷ rest) → Changed c n p rest
 changed_skip c n p q rest e w = ap (λ (xs : List Point). n + length xs) (sym skipped) ∙ w
   where
     skipped : changes_after p (q ∷ rest) ≡ changes_after p rest
     skipped = ap (λ (t : Bool). cond t (changes_after q rest) (q ∷ changes_after q rest)) e ∙ ap (λ (x : Point). changes_after x rest) (sym (same_yes p q e))
 
+-- another point is a change more
 pub changed_on : (c : List Point) (n : ℕ) (p q : Point) (rest : List Point) → is_same p q ≡ false → Changed c n p (q ∷ rest) → Changed c (n + 1) q rest
 changed_on c n p q rest e w = one_more n (length (changes_after q rest)) (length (dedup c)) (ap (λ (xs : List Point). n + length xs) (sym kept) ∙ w)
   where
@@ -138,6 +144,7 @@ changed_on c n p q rest e w = one_more n (length (changes_after q rest)) (length
     one_more : (n m k : ℕ) → n + suc m ≡ k → n + 1 + m ≡ k
     one_more n m k e = omega arith
 
+-- after the last point the changes are as many as the points without repeats
 pub changed_end : (c : List Point) (n : ℕ) (p : Point) → Changed c n p [] → n ≡ length (dedup c)
 changed_end c n p w = omega (arith, w)
 
@@ -164,6 +171,7 @@ changes-append q (x ∷ u) t = go (changes-append x u t) (is_same q x)
     go e true = e
     go e false = ap (λ (xs : List Point). x ∷ xs) e
 
+-- there is no change over copies of the same point
 pub none_change : (p : Point) (xs : List Point) → AllSame p xs → changes_after p xs ≡ []
 none_change p [] a = refl
 none_change p (x ∷ xs) a = go (is_same p x) (subst (λ (y : Point). is_same p y ≡ true) (sym a.0) (same_self p)) (subst (λ (y : Point). changes_after y xs ≡ []) (sym a.0) (none_change p xs a.1))

@@ -13,10 +13,12 @@ square a b = (b.x -ℤ a.x) *ℤ (b.x -ℤ a.x) +ℤ (b.y -ℤ a.y) *ℤ (b.y -�
 abbrev square_term : Place → Place → Term
 square_term a b = plus (times (plus b.x (minus a.x)) (plus b.x (minus a.x))) (times (plus b.y (minus a.y)) (plus b.y (minus a.y)))
 
+-- a squared distance isn't negative
 pub square_at_least : (a b : Point) → pos 0 ≤ℤ square a b
 unfolding square
 square_at_least a b = squares_not_negative (b.x -ℤ a.x) (b.y -ℤ a.y)
 
+-- points without a distance are the same
 pub no_way : (a b : Point) → square a b ≡ pos 0 → a ≡ b
 unfolding square
 no_way a b e = let z = squares_zero (b.x -ℤ a.x) (b.y -ℤ a.y) e in
@@ -35,6 +37,7 @@ dot_same-first : (a p : Point) → dot a a p ≡ pos 0
 unfolding dot
 dot_same-first a p = ring (coordinates (a ∷ p ∷ [])) (dot_term A A B) (number (pos 0)) refl
 
+-- standing still first isn't a turn
 pub cross_same-first : (a p : Point) → cross a a p ≡ pos 0
 unfolding cross
 cross_same-first a p = ring (coordinates (a ∷ p ∷ [])) (cross_term A A B) (number (pos 0)) refl
@@ -59,6 +62,7 @@ back_cases a b c h = go (sign (dot a b c) h.1)
     go (inr l) = inr (inr (h.0, l))
     go (inl e) = points (zero_product (square a b) (square b c) (squares a b c ∙ zeros_squared (cross a b c) (dot a b c) h.0 e))
 
+-- a path goes back at a point that equals a neighbour, or at a reversal
 pub back_from_cases : (a b c : Point) → (a ≡ b) ⊎ ((b ≡ c) ⊎ ((cross a b c ≡ pos 0) × (dot a b c <ℤ pos 0))) → IsBack a b c
 back_from_cases a b c (inl e) = subst (λ (q : Point). IsBack a q c) e (cross_same-first a c, at_most (dot a a c) (dot_same-first a c))
   where
@@ -74,6 +78,7 @@ back_from_cases a b c (inr (inr h)) = (h.0, omega (arith, ints, h.1))
 pub back_reversed : (a b c : Point) → IsBack c b a → IsBack a b c
 back_reversed a b c h = (zero_reversed c b a h.0, subst (λ (d : ℤ). d ≤ℤ pos 0) (dot_reversed a b c) h.1)
 
+-- the turn over a to b, by the turns over a to p and over p to b
 pub straight_cross : (x a p b : Point) → square a p *ℤ cross x a b ≡ (square a p +ℤ dot a p b) *ℤ cross x a p +ℤ dot x a p *ℤ cross a p b
 unfolding square cross dot
 straight_cross x a p b = ring (coordinates (x ∷ a ∷ p ∷ b ∷ []))
@@ -102,6 +107,7 @@ back_before_straight x a p b e l h = (
     times_zero : (a : ℤ) → a *ℤ pos 0 ≡ pos 0
     times_zero a = omega (arith, ints)
 
+-- where p lies straight between a and b, a path from a that turns back at b does so from p
 pub back_after_straight : (a p b y : Point) → cross a p b ≡ pos 0 → pos 0 <ℤ dot a p b → IsBack a b y → IsBack p b y
 back_after_straight a p b y e l h =
     back_reversed p b y (back_before_straight y b p a (zero_reversed a p b e) (subst (λ (d : ℤ). pos 0 <ℤ d) (sym (dot_reversed a p b)) l) (back_reversed y b a h))
@@ -113,11 +119,13 @@ three_dots a b c = ring (coordinates (a ∷ b ∷ c ∷ []))
     (plus (plus (plus (dot_term A B C) (dot_term B C A)) (dot_term C A B)) (plus (plus (dot_term A B C) (dot_term B C A)) (dot_term C A B)))
     (minus (plus (plus (square_term A B) (square_term B C)) (square_term C A))) refl
 
+-- each number is at most zero or above it
 pub low_or_above : (d : ℤ) → (d ≤ℤ pos 0) ⊎ (pos 0 <ℤ d)
 low_or_above (pos zero) = inl (omega (arith, ints))
 low_or_above (pos (suc n)) = inr (omega (arith, ints))
 low_or_above (negsuc n) = inl (omega (arith, ints))
 
+-- a flat triangle turns back at one of its points
 pub flat_triangle : (a b c : Point) → cross a b c ≡ pos 0 → IsBack a b c ⊎ (IsBack b c a ⊎ IsBack c a b)
 flat_triangle a b c e = go (low_or_above (dot a b c)) (low_or_above (dot b c a)) (low_or_above (dot c a b))
   where

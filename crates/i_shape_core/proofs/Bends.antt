@@ -6,7 +6,7 @@ use Rattle.i_shape_core.specs.Contour.{Test, point_at}
 use Rattle.i_shape_core.specs.Convex.{is_same, last_of, dedup, Bulges, Convex}
 use Rattle.i_shape_core.specs.IntPoint.{point_of, contour_of}
 use Rattle.i_shape_core.specs.declared.point.IntPoint.{IntPoint}
-use Rattle.i_shape_core.specs.Bend.{IsBend, joined}
+use Rattle.i_shape_core.specs.Bend.{IsBend, bend_of_both}
 use Rattle.i_shape_core.specs.declared.bend.Bend.{Bend}
 use Rattle.i_shape_core.specs.declared.bend.Bend.TheVariants.{Straight, Left, Right, Reversal}
 use Rattle.i_shape_core.proofs.Polynomials.{number, ring}
@@ -36,7 +36,7 @@ is-reversed o p q Right h = (λ e. absurd (cc), λ l. let z = l.0 in absurd (ome
 is-reversed o p q Reversal h = (λ e. h, λ l. refl)
 
 -- of two bends that join, the one or the other is of a kind where both together are
-joins : (kind s b t : Bend) → kind ≢ Straight → joined s b ≡ Some t → (t ≡ kind) ↔ ((s ≡ kind) ⊎ (b ≡ kind))
+joins : (kind s b t : Bend) → kind ≢ Straight → bend_of_both s b ≡ Some t → (t ≡ kind) ↔ ((s ≡ kind) ⊎ (b ≡ kind))
 joins kind Straight b t n e = let h : b ≡ t = cc in (λ f. inr (h ∙ f), λ x. elim x [ inl f ↦ absurd (n (sym f)) | inr f ↦ sym h ∙ f ])
 joins kind Left Straight t n e = let h : Left ≡ t = cc in (λ f. inl (h ∙ f), λ x. elim x [ inl f ↦ sym h ∙ f | inr f ↦ absurd (n (sym f)) ])
 joins kind Right Straight t n e = let h : Right ≡ t = cc in (λ f. inl (h ∙ f), λ x. elim x [ inl f ↦ sym h ∙ f | inr f ↦ absurd (n (sym f)) ])
@@ -56,7 +56,7 @@ abbrev Clashes : Bend → Bend → Type 0
 Clashes s b = (((s ≡ Left) ⊎ (b ≡ Left)) × ((s ≡ Right) ⊎ (b ≡ Right)))
     ⊎ (((s ≡ Reversal) ⊎ (b ≡ Reversal)) × (((s ≡ Left) ⊎ (b ≡ Left)) ⊎ ((s ≡ Right) ⊎ (b ≡ Right))))
 
-clashes : (s b : Bend) → joined s b ≡ None → Clashes s b
+clashes : (s b : Bend) → bend_of_both s b ≡ None → Clashes s b
 clashes Straight b e = absurd (cc)
 clashes Left Straight e = absurd (cc)
 clashes Left Left e = absurd (cc)
@@ -128,7 +128,7 @@ bending_skip c seen n o p q rest e w = record {
   reversed = told-skip IsReversed c (seen ≡ Reversal) o p q rest e w.reversed;
 }
 
-bending_on : (c : List Point) (seen b both : Bend) (n : ℕ) (o p q : Point) (rest : List Point) → is_same p q ≡ false → IsBend o p q b → joined seen b ≡ Some both
+bending_on : (c : List Point) (seen b both : Bend) (n : ℕ) (o p q : Point) (rest : List Point) → is_same p q ≡ false → IsBend o p q b → bend_of_both seen b ≡ Some both
     → Bending c seen n o p (q ∷ rest) → Bending c both (n + 1) p q rest
 bending_on c seen b both n o p q rest e h j w = record {
   changes = changed_on c n p q rest e w.changes;
@@ -138,7 +138,7 @@ bending_on c seen b both n o p q rest e h j w = record {
 }
 
 -- two bends that do not join
-bending_clash : (c : List Point) (seen b : Bend) (n : ℕ) (o p q : Point) (rest : List Point) → is_same p q ≡ false → IsBend o p q b → joined seen b ≡ None
+bending_clash : (c : List Point) (seen b : Bend) (n : ℕ) (o p q : Point) (rest : List Point) → is_same p q ≡ false → IsBend o p q b → bend_of_both seen b ≡ None
     → Bending c seen n o p (q ∷ rest) → Convex c → ⊥
 bending_clash c seen b n o p q rest e h j w convex = go (clashes seen b j)
   where
@@ -204,6 +204,7 @@ pub bending_begins : {I : Type 0} (value : I → ℤ) (cs : List (IntPoint I)) (
     → Some behind ≡ found_differing value last cs → Bending (contour_of value cs) Straight 0 (point_of value behind) (point_of value last) (contour_of value cs)
 bending_begins value cs last behind h e f = begins value cs last behind h e f (λ o p. Bending (contour_of value cs) Straight 0 o p (contour_of value cs)) (bending_start (contour_of value cs))
 
+-- the walk stays as it is at a repeated point
 pub bending_repeat : {I : Type 0} (value : I → ℤ) (cs : List (IntPoint I)) (seen : Bend) (n i : ℕ) (o p x : IntPoint I) → i < length cs → x ≡ get_or cs i x
     → is_same (point_of value p) (point_of value x) ≡ true
     → Bending (contour_of value cs) seen n (point_of value o) (point_of value p) (contour_of value (drop i cs))
@@ -212,16 +213,18 @@ bending_repeat value cs seen n i o p x h e a w =
     bending_skip (contour_of value cs) seen n (point_of value o) (point_of value p) (point_of value x) (contour_of value (drop (i + 1) cs)) a
     (subst (Bending (contour_of value cs) seen n (point_of value o) (point_of value p)) (rest-read value cs i x h e) w)
 
+-- the walk takes the bend at a point in
 pub bending_item : {I : Type 0} (value : I → ℤ) (cs : List (IntPoint I)) (seen b both : Bend) (n i : ℕ) (o p x : IntPoint I) → i < length cs → x ≡ get_or cs i x
-    → is_same (point_of value p) (point_of value x) ≡ false → IsBend (point_of value o) (point_of value p) (point_of value x) b → joined seen b ≡ Some both
+    → is_same (point_of value p) (point_of value x) ≡ false → IsBend (point_of value o) (point_of value p) (point_of value x) b → bend_of_both seen b ≡ Some both
     → Bending (contour_of value cs) seen n (point_of value o) (point_of value p) (contour_of value (drop i cs))
     → Bending (contour_of value cs) both (n + 1) (point_of value p) (point_of value x) (contour_of value (drop (i + 1) cs))
 bending_item value cs seen b both n i o p x h e a k j w =
     bending_on (contour_of value cs) seen b both n (point_of value o) (point_of value p) (point_of value x) (contour_of value (drop (i + 1) cs)) a k j
     (subst (Bending (contour_of value cs) seen n (point_of value o) (point_of value p)) (rest-read value cs i x h e) w)
 
+-- bends that clash make the contour not convex
 pub clash_item : {I : Type 0} (value : I → ℤ) (cs : List (IntPoint I)) (seen b : Bend) (n i : ℕ) (o p x : IntPoint I) → i < length cs → x ≡ get_or cs i x
-    → is_same (point_of value p) (point_of value x) ≡ false → IsBend (point_of value o) (point_of value p) (point_of value x) b → joined seen b ≡ None
+    → is_same (point_of value p) (point_of value x) ≡ false → IsBend (point_of value o) (point_of value p) (point_of value x) b → bend_of_both seen b ≡ None
     → Bending (contour_of value cs) seen n (point_of value o) (point_of value p) (contour_of value (drop i cs)) → IsTrue false ↔ Convex (contour_of value cs)
 clash_item value cs seen b n i o p x h e a k j w = (
   λ t. absurd (cc),
@@ -229,6 +232,7 @@ clash_item value cs seen b n i o p x h e a k j w = (
       (subst (Bending (contour_of value cs) seen n (point_of value o) (point_of value p)) (rest-read value cs i x h e) w) s),
 )
 
+-- after the last point the walk tells whether the contour is convex
 pub bending_over : {I : Type 0} (value : I → ℤ) (cs : List (IntPoint I)) (seen : Bend) (n i : ℕ) (o p : Point) → length cs ≤ i
     → Bending (contour_of value cs) seen n o p (contour_of value (drop i cs)) → ((n ≤ 2) ⊎ (seen ≢ Reversal)) ↔ Convex (contour_of value cs)
 bending_over value cs seen n i o p h w =

@@ -14,6 +14,7 @@ joined_first : {P : Test} {c d : List Point} → Joined P c d → 3 ≤ length c
 joined_first (alone h) = h
 joined_first (link h l j) = h
 
+-- being joined is transitive
 pub joined_trans : {P : Test} {c d e : List Point} → Joined P c d → Joined P d e → Joined P c e
 joined_trans (alone h) k = k
 joined_trans (link h l j) k = link h l (joined_trans j k)
@@ -23,14 +24,17 @@ link_sym (by_rotation r) = by_rotation (rotation_sym r)
 link_sym (by_removal s) = by_insertion s
 link_sym (by_insertion s) = by_removal s
 
+-- being joined is symmetric
 pub joined_sym : {P : Test} {c d : List Point} → Joined P c d → Joined P d c
 joined_sym (alone h) = alone h
 joined_sym (link h l j) = joined_trans (joined_sym j) (link (joined_first j) (link_sym l) (alone h))
 
+-- a contour is joined to what removals leave of it, where that has three points
 pub joined_by_reach : {P : Test} {c e : List Point} → Reach P c e → 3 ≤ length e → Joined P c e
 joined_by_reach stay h = alone h
 joined_by_reach (step s r) h = link (omega (arith, step_length s, reach_shrinks r)) (by_removal s) (joined_by_reach r h)
 
+-- a contour is joined to its rotations
 pub joined_by_rotation : {P : Test} {c d : List Point} → Rotation c d → 3 ≤ length c → Joined P c d
 joined_by_rotation r h = link h (by_rotation r) (alone (omega (arith, rotation_length r)))
 
@@ -40,6 +44,7 @@ ends_of_link sl dec (by_rotation r) a b = ends_alike sl dec r a b
 ends_of_link sl dec (by_removal s) a b = one_end sl dec a (end_of_step s b)
 ends_of_link sl dec (by_insertion s) a b = one_end sl dec (end_of_step s a) b
 
+-- the ends of joined contours are the same
 pub ends_of_joined : {P : Test} → Slides P → Decided P → {c d e f : List Point} → Joined P c d → End P c e → End P d f → SameEnd e f
 ends_of_joined sl dec (alone h) a b = one_end sl dec a b
 ends_of_joined sl dec (link {d = m} h l j) a b =
@@ -50,6 +55,7 @@ ends_of_joined sl dec (link {d = m} h l j) a b =
 least_alone : {c d l m : List Point} → Rotation c d → IsLeast c l → IsLeast d m → l ≡ m
 least_alone {l = l} {m = m} r a b = at_most_antisym l m (a.first m (rotation_trans r b.rotation)) (b.first l (rotation_trans (rotation_sym r) a.rotation))
 
+-- contours have the same canonical form exactly where they are joined
 pub canonical_joined : (c d : List Point) → CanonicalJoined c d
 canonical_joined c d e f l m a i b j x y = (to, from)
   where

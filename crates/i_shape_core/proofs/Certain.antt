@@ -70,6 +70,7 @@ part_of_reach : {P : Test} {c e : List Point} → Reach P c e → Part e c
 part_of_reach {c = c} stay = part_refl c
 part_of_reach {c = c} (step s r) = part_trans (part_of_reach r) (subst (λ (x : List Point). Part x c) (sym s.left) (part_of_removal c s.place))
 
+-- of a contour without repeated points there is one end as a list
 pub one_certain_end : {P : Test} → Slides P → Decided P → {c e f : List Point} → Distinct c → End P c e → 3 ≤ length e → End P c f → f ≡ e
 one_certain_end sl dec {c} {e} {f} n a h b = go (one_end sl dec a b)
   where

@@ -8,7 +8,7 @@ use Rattle.i_shape_core.specs.Contour.{Test, Reach, stay, End, IsCollapsed, IsSi
 use Rattle.i_shape_core.specs.Sublist.{Sublist}
 use Rattle.i_shape_core.specs.Walk.{WalkAnswer}
 use Rattle.i_shape_core.specs.Edges.{shoelace, area_of_edge}
-use Rattle.i_shape_core.specs.Answers.{SimpleAnswer, SpikelessAnswer, KeptAnswer, IsKept, IsFlat}
+use Rattle.i_shape_core.specs.Cleaners.{SimpleAnswer, SpikelessAnswer, KeptAnswer, IsKept, IsFlat}
 use Rattle.i_shape_core.proofs.CycleLaws.{every_order, agreed}
 use Rattle.i_shape_core.proofs.Ends.{all_left, reach_by_weaker}
 use Rattle.i_shape_core.proofs.Sublists.{sublist_reached}
@@ -34,6 +34,7 @@ no_area (a ∷ []) h = ring (coordinates (a ∷ [])) (plus (area_term A A) (numb
 no_area (a ∷ b ∷ []) h = ring (coordinates (a ∷ b ∷ [])) (plus (area_term A B) (plus (area_term B A) (number (pos 0)))) (number (pos 0)) refl
 no_area (a ∷ b ∷ d ∷ ds) h = absurd (omega arith)
 
+-- a contour that collapses has no area and no point inside
 pub flat : (c d : List Point) → Reach IsZeroTurn c d → IsCollapsed d → IsFlat c
 flat c d r h = record {
   area = edges.area_kept c d r ∙ no_area d h;
@@ -44,6 +45,7 @@ flat c d r h = record {
 one_answer : (c e : List Point) → End IsZeroTurn c e → 3 ≤ length e → SimpleAnswer c (Some e)
 one_answer c e ended enough = record { ended = ended; enough = enough; alone = λ f g. ((every_order c).some e f ended enough g).1 }
 
+-- what a walk by zero turns answers is the one end
 pub simple_answer : (c : List Point) (r : Option (List Point)) (visits : ℕ) → WalkAnswer IsZeroTurn c r visits → SimpleAnswer c r
 simple_answer c None visits w = λ e f. (every_order c).none w.rest e w.reached w.few f
 simple_answer c (Some e) visits w = one_answer c e w.ended w.enough
@@ -52,6 +54,7 @@ simple_answer c (Some e) visits w = one_answer c e w.ended w.enough
 pub simple_stays : (c : List Point) → IsSimple c → SimpleAnswer c (Some c)
 simple_stays c s = one_answer c c (record { reached = stay; none_left = s.none }) s.enough
 
+-- what it answers keeps double area and containment
 pub kept_answer : (c : List Point) (r : Option (List Point)) (visits : ℕ) → WalkAnswer IsZeroTurn c r visits → KeptAnswer c r
 kept_answer c None visits w = flat c w.rest w.reached w.few
 kept_answer c (Some e) visits w = kept c e w.ended.reached
@@ -88,6 +91,7 @@ spikeless_answer c (Some d) visits w = record {
         go (inl h) = absurd (omega (arith, w.enough, ((agreed c d).alike e w.ended a).1 h))
         go (inr h) = h
 
+-- and so does what a walk by back vertices answers
 pub kept_spikeless : (c : List Point) (r : Option (List Point)) (visits : ℕ) → WalkAnswer IsBack c r visits → KeptAnswer c r
 kept_spikeless c None visits w = flat c w.rest (reach_by_weaker straightens.weaker w.reached) w.few
 kept_spikeless c (Some d) visits w = kept c d (reach_by_weaker straightens.weaker w.ended.reached)

@@ -17,9 +17,11 @@ pub read-point : {I : Type 0} (value : I → ℤ) (xs : List (IntPoint I)) (k : 
 read-point value xs k p within read =
     ap (point_of value) read ∙ sym (get_or-map (point_of value) xs k p origin within)
 
+-- a contour has as many points as the program's list
 pub length-contour : {I : Type 0} (value : I → ℤ) (xs : List (IntPoint I)) → length (contour_of value xs) ≡ length xs
 length-contour value xs = length-map xs (point_of value)
 
+-- each point of a safe list is safe
 pub safe-at : {I : Type 0} (w : Width) (value : I → ℤ) (xs : List (IntPoint I)) (k : ℕ) (d : IntPoint I) → All (IsSafe w) (contour_of value xs)
     → k < length xs → IsSafe w (point_of value (get_or xs k d))
 safe-at w value xs k d safe within =
@@ -27,6 +29,7 @@ safe-at w value xs k d safe within =
     let long : k < length (contour_of value xs) = omega (arith, length-contour value xs) in
     subst (IsSafe w) e (All-get_or (IsSafe w) (contour_of value xs) k origin long safe)
 
+-- a point that is read from a safe list is safe
 pub read-safe : {I : Type 0} (w : Width) (value : I → ℤ) (xs : List (IntPoint I)) (k : ℕ) (p : IntPoint I) → All (IsSafe w) (contour_of value xs)
     → k < length xs → p ≡ get_or xs k p → IsSafe w (point_of value p)
 read-safe w value xs k p safe within read =
@@ -49,6 +52,7 @@ points-same {I} value one p q e f =
 pub drop-read : {A : Type 0} (xs : List A) (k : ℕ) (a : A) → k < length xs → a ≡ get_or xs k a → drop k xs ≡ a ∷ drop (k + 1) xs
 drop-read {A} xs k a within read = rw (add-one k) (drop-cons xs k a within ∙ ap (λ (b : A). b ∷ drop (suc k) xs) (sym read))
 
+-- the rest of a list from a place on begins with the point that is read there
 pub rest-read : {I : Type 0} (value : I → ℤ) (xs : List (IntPoint I)) (k : ℕ) (p : IntPoint I) → k < length xs → p ≡ get_or xs k p
     → contour_of value (drop k xs) ≡ point_of value p ∷ contour_of value (drop (k + 1) xs)
 rest-read value xs k p within read = ap (contour_of value) (drop-read xs k p within read)

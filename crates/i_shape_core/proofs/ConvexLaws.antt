@@ -11,17 +11,20 @@ use Rattle.i_shape_core.proofs.Reversal.{turn_of_reversed}
 use Rattle.i_shape_core.proofs.Rotations.{rotation_sym}
 use Rattle.i_shape_core.proofs.Ends.{has_end, reach_trans}
 use Rattle.i_shape_core.proofs.Repeats.{SameRing, few, ring, dedup_rotated, dedup_reversed, dedup_leads}
-use Rattle.i_shape_core.proofs.Kept.{convex_of_reached}
+use Rattle.i_shape_core.proofs.ConvexEnds.{convex_of_reached}
 use Rattle.i_shape_core.specs.Laws.{ConvexKept}
 use Rattle.i_shape_core.proofs.CycleLaws.{one_end, zero_turn_decided}
 use Rattle.i_shape_core.proofs.Dedup.{same_self}
 
+-- the path turns left
 abbrev pub IsLeft : Test
 IsLeft a b c = pos 0 <ℤ cross a b c
 
+-- the path turns right
 abbrev pub IsRight : Test
 IsRight a b c = cross a b c <ℤ pos 0
 
+-- the path turns back
 abbrev pub IsReversed : Test
 IsReversed a b c = (cross a b c ≡ pos 0) × (dot a b c <ℤ pos 0)
 
@@ -62,6 +65,7 @@ reversed_backwards a b c h = (zero_reversed a b c h.0, subst (λ (d : ℤ). d <�
 abbrev pub Plain : List Point → Type 0
 Plain c = (Has IsReversed c → ⊥) × (Has IsLeft c → Has IsRight c → ⊥)
 
+-- a contour that bulges has no reversal, and turns to one side
 pub plain_from_bulges : (c : List Point) → Bulges c → Plain c
 unfolding Has turn_at
 plain_from_bulges c b = (
@@ -69,6 +73,7 @@ plain_from_bulges c b = (
   λ l r. b.turns.one_way l.0 r.0 l.1.within r.1.within l.1.passes r.1.passes,
 )
 
+-- a contour of three points without a reversal that turns to one side bulges
 pub bulges_from_plain : (c : List Point) → 3 ≤ length c → Plain c → Bulges c
 unfolding Has turn_at
 bulges_from_plain c h p = record {
@@ -123,6 +128,7 @@ dedup_repeated : (u : List Point) (p : Point) (t : List Point) → dedup (u ++ p
 unfolding dedup
 dedup_repeated u p t = ap (λ (z : Point). changes_after z (u ++ p ∷ p ∷ t)) (last_repeated origin u p t) ∙ repeated_after (last_of origin (u ++ p ∷ t)) u p t
 
+-- a repeated point changes nothing about convexity
 pub convex_repeated : (u : List Point) (p : Point) (t : List Point) → Convex (u ++ p ∷ t) ↔ Convex (u ++ p ∷ p ∷ t)
 convex_repeated u p t = subst (λ (d : List Point). ((length (dedup (u ++ p ∷ t)) ≤ 2) ⊎ Bulges (dedup (u ++ p ∷ t))) ↔ ((length d ≤ 2) ⊎ Bulges d)) (sym (dedup_repeated u p t)) (λ x. x, λ x. x)
 
@@ -139,6 +145,7 @@ convex_kept c e h r = go (has_end zero_turn_decided (dedup c))
             let y = convex_rotated f e t in
             (b, (λ z. y.0 (x.1.0 z), λ z. x.1.1 (y.1 z)))
 
+-- rotation, reading backwards, a repeated point and, without spikes, removing zero turns keep convexity
 pub convex_laws : (c d : List Point) → ConvexKept c d
 convex_laws c d = record {
   ends = λ h e r. convex_kept c e h r;

@@ -7,18 +7,21 @@ use Rattle.i_shape_core.specs.Contour.{point_at, place_before, place_after, Test
 use Rattle.i_shape_core.proofs.Places.{before_first, before_later, after_earlier, after_last}
 use Rattle.i_shape_core.proofs.Rotations.{rotation_sym, rotation_trans, Cut, cut_from_rotation, rotation_from_cut}
 
+-- the first point of a list
 abbrev pub first : List Point → Point
 first c = get_or c 0 origin
 
 unfoldable pub last : List Point → Point
 last c = get_or c (length c - 1) origin
 
+-- two lists end as the second does, where that isn't empty
 pub last-append : (x y : List Point) → 0 < length y → last (x ++ y) ≡ last y
 unfolding last
 last-append x y h =
     let e : length (x ++ y) - 1 ≡ length x + (length y - 1) = omega (arith, length-append x y) in
     ap (λ (n : ℕ). get_or (x ++ y) n origin) e ∙ get_or-append-add x y (length y - 1) origin
 
+-- a list ends with the point that is put at its end
 pub last-push : (x : List Point) (p : Point) → last (x ++ p ∷ []) ≡ p
 unfolding last
 last-push x p = last-append x (p ∷ []) (omega arith)
@@ -27,6 +30,7 @@ last-push x p = last-append x (p ∷ []) (omega arith)
 pub last_two : (l : List Point) (b x : Point) (a : List Point) → last (l ++ b ∷ x ∷ a) ≡ last (x ∷ a)
 last_two l b x a = last-append l (b ∷ x ∷ a) (omega arith) ∙ last-append (b ∷ []) (x ∷ a) (omega arith)
 
+-- what stands before the last point doesn't matter
 pub last_over : (l : List Point) (r s : Point) (m : List Point) → last (l ++ r ∷ s ∷ m) ≡ last (l ++ s ∷ m)
 last_over l r s m = last_two l r s m ∙ sym (last-append l (s ∷ m) (omega arith))
 
@@ -43,6 +47,7 @@ pub record Turn (P : Test) (c d : List Point) : Type 0 where
 pub at_seam : (u : List Point) (p : Point) (t : List Point) → point_at (u ++ p ∷ t) (length u) ≡ p
 at_seam u p t = get_or_at u p t origin (length u) refl
 
+-- the neighbour before a place is the last point of the cycle cut there
 pub before_seam : (u : List Point) (p : Point) (t : List Point) → 0 < length (t ++ u) → point_at (u ++ p ∷ t) (place_before (length (u ++ p ∷ t)) (length u)) ≡ last (t ++ u)
 unfolding last
 before_seam [] p [] h = absurd (omega arith)
@@ -55,6 +60,7 @@ before_seam (a ∷ u) p t h =
     let l : length (t ++ a ∷ u) - 1 ≡ length t + length u = omega (arith, length-append t (a ∷ u)) in
     ap (λ (m : ℕ). get_or ((a ∷ u) ++ p ∷ t) m origin) e ∙ (get_or_append_left (a ∷ u) (p ∷ t) origin (length u) (omega arith) ∙ (sym (get_or-append-add t (a ∷ u) (length u) origin) ∙ ap (λ (m : ℕ). get_or (t ++ a ∷ u) m origin) (sym l)))
 
+-- the neighbour after it is the first point of that cycle
 pub after_seam : (u : List Point) (p : Point) (t : List Point) → 0 < length (t ++ u) → point_at (u ++ p ∷ t) (place_after (length (u ++ p ∷ t)) (length u)) ≡ first (t ++ u)
 after_seam [] p [] h = absurd (omega arith)
 after_seam (a ∷ u) p [] h =
@@ -69,6 +75,7 @@ pub record Around (c u : List Point) (p : Point) (t : List Point) (k : ℕ) : Ty
   pub at : point_at c k ≡ p
   pub after : point_at c (place_after (length c) k) ≡ first (t ++ u)
 
+-- a place with both its neighbours, read at the cut
 pub around : (c u : List Point) (p : Point) (t : List Point) (k : ℕ) → c ≡ u ++ p ∷ t → k ≡ length u → 0 < length (t ++ u) → Around c u p t k
 around c u p t k w e h = record {
   before = cc (before_seam u p t h);
@@ -83,6 +90,7 @@ passes_from_removable {P} c u p t k w e r =
     let a = around c u p t k w e h in
     subst (λ (x : Point). P (last (t ++ u)) x (first (t ++ u))) a.at (subst₂ (λ (x y : Point). P x (point_at c k) y) a.before a.after r.passes)
 
+-- a point that passes the test between the ends of the cut can be removed
 pub removable_from_passes : {P : Test} (c u : List Point) (p : Point) (t : List Point) → c ≡ u ++ p ∷ t → 2 ≤ length (t ++ u) → P (last (t ++ u)) p (first (t ++ u)) → IsRemovable P c (length u)
 removable_from_passes {P} c u p t w two h =
     let a = around c u p t (length u) w refl (omega arith) in
@@ -92,6 +100,7 @@ removable_from_passes {P} c u p t w two h =
       passes = subst (λ (x : Point). P (point_at c (place_before (length c) (length u))) x (point_at c (place_after (length c) (length u)))) (sym a.at) (subst₂ (λ (x y : Point). P x p y) (sym a.before) (sym a.after) h);
     }
 
+-- removing a point leaves what stands before and after it
 pub remove_at_seam : (c u : List Point) (p : Point) (t : List Point) → c ≡ u ++ p ∷ t → remove c (length u) ≡ u ++ t
 remove_at_seam c u p t w =
     let a : take (length u) (u ++ p ∷ t) ≡ u = take_at u (p ∷ t) (length u) refl in
@@ -99,6 +108,7 @@ remove_at_seam c u p t w =
     let n : length (u ++ p ∷ []) ≡ suc (length u) = omega (arith, length-append u (p ∷ [])) in
     cc (append_assoc u (p ∷ []) t)
 
+-- a step is a turn of the cycle
 pub turn_from_step : {P : Test} {c d : List Point} → Step P c d → Turn P c d
 turn_from_step {P} {c} {d} s = record {
   point = p;
@@ -121,12 +131,14 @@ turn_from_step {P} {c} {d} s = record {
     whole : c ≡ u ++ p ∷ t
     whole = split_at c s.place origin s.removable.within
 
+-- a turn of the cycle is a step, up to rotation
 pub step_from_turn : {P : Test} {c d : List Point} → Turn P c d → (e : List Point) × Step P c e × Rotation d e
 step_from_turn {P} {c} {d} t = go (cut_from_rotation t.start)
   where
     go : Cut c t.point t.rest → (e : List Point) × Step P c e × Rotation d e
     go k = (k.ahead ++ k.behind, record { place = length k.ahead; removable = removable_from_passes c k.ahead t.point k.behind k.whole (omega (arith, t.two, ap length k.others)) (subst (λ (x : List Point). P (last x) t.point (first x)) k.others t.passes); left = sym (remove_at_seam c k.ahead t.point k.behind k.whole) }, rotation_trans t.finish (record { front = k.behind; back = k.ahead; before = k.others; after = refl }))
 
+-- a rotation has the same turns
 pub turn_of_rotated : {P : Test} {c d e : List Point} → Rotation c d → Turn P c e → Turn P d e
 turn_of_rotated r t = record { point = t.point; rest = t.rest; start = rotation_trans (rotation_sym r) t.start; two = t.two; passes = t.passes; finish = t.finish }
 

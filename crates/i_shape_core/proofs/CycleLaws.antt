@@ -14,12 +14,15 @@ use Rattle.i_shape_core.proofs.Ends.{ends_alike, has_end, no_step, reach_by_weak
 use Rattle.i_shape_core.proofs.Straight.{end_by_weaker, keeps_three}
 use Rattle.i_shape_core.proofs.Survive.{straightens}
 
+-- whether three points turn can be told
 pub zero_turn_decided : Decided IsZeroTurn
 zero_turn_decided a b c = ℤ_discrete (cross a b c) (pos 0)
 
+-- of two zero turns side by side each is one without the other, unless they are at the same point
 pub zero_turn_slides : Slides IsZeroTurn
 zero_turn_slides = slide
 
+-- a zero turn is one backwards too
 pub zero_turn_both_ways : BothWays IsZeroTurn
 zero_turn_both_ways = zero_reversed
 
@@ -27,9 +30,11 @@ zero_turn_both_ways = zero_reversed
 pub one_end : (c e f : List Point) → End IsZeroTurn c e → End IsZeroTurn c f → SameEnd e f
 one_end c e f a b = ends.one_end zero_turn_slides zero_turn_decided a b
 
+-- rotations have the same ends
 pub rotated_ends : (c d : List Point) → RotatedEnds c d
 rotated_ends c d r e f a b = ends_alike zero_turn_slides zero_turn_decided r a b
 
+-- a contour read backwards has the ends read backwards
 pub reversed_ends : (c : List Point) → ReversedEnds c
 reversed_ends c e f a b = reversed_alike zero_turn_slides zero_turn_decided zero_turn_both_ways a b
 
@@ -38,6 +43,7 @@ reach_from_done : {P : Test} (c d : List Point) → ((k : ℕ) → IsRemovable P
 reach_from_done c d n stay = refl
 reach_from_done c d n (step s r) = absurd (no_step n s)
 
+-- an end is its own end
 pub twice : (c : List Point) → Twice c
 twice c = record {
   again = λ e f a b. reach_from_done e f a.none_left b.reached;
@@ -56,6 +62,7 @@ turned_by (turned a b r) h = r
 end_of_collapsed : {P : Test} {c d : List Point} → Reach P c d → IsCollapsed d → End P c d
 end_of_collapsed r h = record { reached = r; none_left = λ k m. absurd (omega (arith, m.enough)) }
 
+-- the ends without back vertices agree with those without zero turns
 pub agreed : (c d : List Point) → Agreed c d
 agreed c d = record {
   alike = λ e w a. (collapses e w a, stands e w a);
@@ -80,6 +87,7 @@ is_turned : {e f : List Point} → SameEnd e f → 3 ≤ length e → (3 ≤ len
 is_turned (collapsed a b) h = absurd (omega arith)
 is_turned (turned a b r) h = (b, r)
 
+-- a contour collapses in every order of removal or in none
 pub every_order : (c : List Point) → EveryOrder c
 every_order c = record {
   some = λ e f a h b. is_turned (one_end c e f a b) h;
@@ -87,5 +95,6 @@ every_order c = record {
   exists = has_end zero_turn_decided c;
 }
 
+-- of a contour without repeated points there is one end as a list
 pub one_certain_end : (c : List Point) → OneCertainEnd c
 one_certain_end c n e f a h b = certain.one_certain_end zero_turn_slides zero_turn_decided n a h b

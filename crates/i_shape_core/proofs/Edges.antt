@@ -59,6 +59,7 @@ area_after_step c d s = let r = s.removable in
     area_after _ _ _ _ _ (sum_without area_of_edge c s.place (omega (arith, r.enough)) r.within) (area_of_two _ _ _) r.passes
     ∙ ap (λ (e : List Point). sum_of_edges area_of_edge (edges e)) (sym s.left)
 
+-- removing zero turns keeps the double area
 pub area_kept : (c d : List Point) → Reach IsZeroTurn c d → shoelace c ≡ shoelace d
 area_kept c d stay = refl
 area_kept c d (step {d = m} s r) = area_after_step c m s ∙ area_kept m d r

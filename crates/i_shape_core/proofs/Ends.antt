@@ -14,10 +14,12 @@ use Rattle.i_shape_core.proofs.Meets.{Meets, same, small, common, meets}
 pub step_length : {P : Test} {c d : List Point} → Step P c d → length c ≡ suc (length d)
 step_length {P} {c} {d} s = omega (arith, ap length s.left, length-append (take s.place c) (drop (suc s.place) c), length-take s.place c, length-drop (suc s.place) c, s.removable.within)
 
+-- removals leave no more points
 pub reach_shrinks : {P : Test} {c e : List Point} → Reach P c e → length e ≤ length c
 reach_shrinks stay = omega arith
 reach_shrinks (step s r) = let h = reach_shrinks r in omega (arith, step_length s)
 
+-- removals after removals
 pub reach_trans : {P : Test} {c d e : List Point} → Reach P c d → Reach P d e → Reach P c e
 reach_trans stay s = s
 reach_trans (step a r) s = step a (reach_trans r s)
@@ -33,6 +35,7 @@ pub reach_by_weaker : {B Z : Test} → ((a p q : Point) → B a p q → Z a p q)
 reach_by_weaker w stay = stay
 reach_by_weaker w (step s r) = step (record { place = s.place; removable = record { enough = s.removable.enough; within = s.removable.within; passes = w _ _ _ s.removable.passes }; left = s.left }) (reach_by_weaker w r)
 
+-- an end after a step is an end before it
 pub end_of_step : {P : Test} {c d e : List Point} → Step P c d → End P d e → End P c e
 end_of_step s w = record { reached = step s w.reached; none_left = w.none_left }
 
@@ -43,6 +46,7 @@ same_end_trans (collapsed a b) (turned x y r) = absurd (omega arith)
 same_end_trans (turned a b r) (collapsed x y) = absurd (omega arith)
 same_end_trans (turned a b r) (turned x y s) = turned a y (rotation_trans r s)
 
+-- rotations are the same end
 pub same_end_of_rotation : {e f : List Point} → Rotation e f → SameEnd e f
 same_end_of_rotation {e} {f} r = go (dec_le 3 (length e))
   where
@@ -68,6 +72,7 @@ find_below {P} dec c (suc m) = go (find_below dec c m) (dec_le 3 (length c)) (de
     go (inr n) (yes a) (no b) p = inr (none n (λ r. b r.within))
     go (inr n) (yes a) (yes b) (no p) = inr (none n (λ r. p r.passes))
 
+-- a contour of at most n points has an end
 pub end_within : {P : Test} → Decided P → (n : ℕ) (c : List Point) → length c ≤ n → (e : List Point) × End P c e
 end_within {P} dec zero c h = (c, record { reached = stay; none_left = λ k r. absurd (omega (arith, r.enough)) })
 end_within {P} dec (suc n) c h = go (λ d l. end_within dec n d l) (find_below dec c (length c))
@@ -79,9 +84,11 @@ end_within {P} dec (suc n) c h = go (λ d l. end_within dec n d l) (find_below d
         (w.0, end_of_step s w.1)
     go more (inr none) = (c, record { reached = stay; none_left = λ k r. none k r.within r })
 
+-- each contour has an end
 pub has_end : {P : Test} → Decided P → (c : List Point) → (e : List Point) × End P c e
 has_end dec c = end_within dec (length c) c (omega arith)
 
+-- where no point can be removed there is no step
 pub no_step : {P : Test} {c d : List Point} → ((k : ℕ) → IsRemovable P c k → ⊥) → Step P c d → ⊥
 no_step n s = n s.place s.removable
 
@@ -117,5 +124,6 @@ ends_within sl dec (suc n) c d e f h r (step {d = v} s a) x (step {d = w} t b) y
 pub ends_alike : {P : Test} → Slides P → Decided P → {c d e f : List Point} → Rotation c d → End P c e → End P d f → SameEnd e f
 ends_alike sl dec {c} {d} {e} {f} r a b = ends_within sl dec (length c) c d e f (omega arith) r a.reached a.none_left b.reached b.none_left
 
+-- two ends of a contour are the same up to rotation
 pub one_end : {P : Test} → Slides P → Decided P → {c e f : List Point} → End P c e → End P c f → SameEnd e f
 one_end sl dec {c} a b = ends_alike sl dec (rotation_refl c) a b

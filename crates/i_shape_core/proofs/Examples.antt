@@ -5,6 +5,7 @@ use Rattle.i_shape_core.specs.Contour.{Reach, stay, step}
 use Rattle.i_shape_core.specs.Edges.{shoelace, area_of_edge, Inside, is_right}
 use Rattle.i_shape_core.specs.Convex.{dedup, is_same, turn_at}
 
+-- a point by its coordinates
 abbrev pub at : ℕ → ℕ → Point
 at x y = record { x = pos x; y = pos y }
 

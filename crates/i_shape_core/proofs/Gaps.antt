@@ -7,6 +7,7 @@ use Rattle.std.proofs.Math.Seq.{take-set-lt, take-suc-set}
 use Rattle.std.proofs.lemmas.Bool.{cases_lt}
 use Rattle.i_shape_core.specs.RingWalk.{Standing, LeadKept, LeadRemoved, around_gap, lead_over_gap, in_order}
 
+-- how long the ring is
 pub length-gap : (xs : List ℕ) (b a e : ℕ) → b ≤ a → a < e → e ≤ length xs → length (around_gap xs b a e) ≡ b + (e - a)
 unfolding around_gap
 length-gap xs b a e h k l = omega (arith, length-append (drop a (take e xs)) (take b xs), length-drop a (take e xs), length-take e xs, length-take b xs)
@@ -20,6 +21,7 @@ gap_cons xs b a e k l =
     let g : get_or (take e xs) a 0 ≡ get_or xs a 0 = get_or-take e xs a 0 k in
     cc
 
+-- the ring begins behind the gap
 pub gap_first : (xs : List ℕ) (b a e : ℕ) → a < e → e ≤ length xs → get_or (around_gap xs b a e) 0 0 ≡ get_or xs a 0
 gap_first xs b a e k l = ap (λ (r : List ℕ). get_or r 0 0) (gap_cons xs b a e k l)
 
@@ -32,6 +34,7 @@ gap_second xs b a e k l =
     let s : suc a ≡ a + 1 = omega arith in
     ap (λ (r : List ℕ). get_or r 1 0) (gap_cons xs b a e (omega arith) l) ∙ (ap (λ (r : List ℕ). get_or (r ++ take b xs) 0 0) d ∙ (g ∙ ap (λ (i : ℕ). get_or xs i 0) s))
 
+-- where one place stands behind the gap, the list's first comes after it
 pub gap_second-behind : (xs : List ℕ) (b a e : ℕ) → 0 < b → e ≡ a + 1 → e ≤ length xs → get_or (around_gap xs b a e) 1 0 ≡ get_or xs 0 0
 gap_second-behind xs b a e h k l =
     let d : drop (suc a) (take e xs) ≡ [] = drop_all (suc a) (take e xs) (omega (arith, length-take e xs)) in
@@ -75,6 +78,7 @@ gap_last-behind xs (suc b) a e k l o h =
     let s : b ≡ suc b - 1 = omega arith in
     between_last (around_gap xs (suc b) a e) (get_or xs a 0) (drop (suc a) (take e xs) ++ take b xs) (get_or xs b 0) (gap_behind xs b a e k l h) ∙ ap (λ (i : ℕ). get_or xs i 0) s
 
+-- where none stands before the gap, the ring ends with the list
 pub gap_last-end : (xs : List ℕ) (b a e : ℕ) → a < e → e ≤ length xs → b ≡ 0 → get_or (around_gap xs b a e) (length (around_gap xs b a e) - 1) 0 ≡ get_or xs (e - 1) 0
 gap_last-end xs b a zero k l o = absurd (omega arith)
 gap_last-end xs b a (suc e) k l o = rw o (go (cases_lt a e))
@@ -126,6 +130,7 @@ gap_removed-behind xs (suc b) a e x o h k l f =
     let i : a + 1 ≡ suc a = omega arith in
     cc
 
+-- where the last place of the ring is taken out and its first written anew
 pub gap_removed-end : (xs : List ℕ) (b a e x : ℕ) → b ≡ 0 → a + 1 < e → e ≤ length xs → x ≡ get_or (around_gap xs b a e) (length (around_gap xs b a e) - 1) 0
     → around_gap (set xs a x) b a (e - 1) ≡ get_or (around_gap xs b a e) (length (around_gap xs b a e) - 1) 0 ∷ drop 1 (take (length (around_gap xs b a e) - 1) (around_gap xs b a e))
 unfolding around_gap
@@ -159,6 +164,7 @@ range_push a (suc n) =
     let e : a + 1 + n ≡ a + suc n = omega arith in
     ap (λ (r : List ℕ). a ∷ r) (range_push (a + 1) n) ∙ ap (λ (i : ℕ). a ∷ (range_with_len (a + 1) n ++ i ∷ [])) e
 
+-- the places up to k, and one more
 pub full_more : (xs ys : List ℕ) (k : ℕ) → xs ≡ range_with_len 0 k → ys ≡ xs ++ k ∷ [] → ys ≡ range_with_len 0 (k + 1)
 full_more xs ys k e f =
     let p = range_push 0 k in
@@ -166,6 +172,7 @@ full_more xs ys k e f =
     let s : k + 1 ≡ suc k = omega arith in
     f ∙ (ap (λ (r : List ℕ). r ++ k ∷ []) e ∙ (sym (p ∙ ap (λ (i : ℕ). range_with_len 0 k ++ i ∷ []) z) ∙ ap (range_with_len 0) (sym s)))
 
+-- without a gap the ring is the whole list
 pub full_ring : (xs : List ℕ) (n k u : ℕ) → xs ≡ range_with_len 0 k → length xs ≡ k → n ≡ k
     → record { places = around_gap xs 0 0 n; untested = u; lead = lead_over_gap (0 + (n - 0)) 0 0 } ≡ (let s : Standing = record { places = range_with_len 0 n; untested = u; lead = n } in s)
 unfolding around_gap
@@ -180,6 +187,7 @@ full_ring xs n k u e l m =
     whole l (inl x) = absurd (omega (arith, x.0))
     whole l (inr x) = omega (arith, x.1)
 
+-- where the lead stands after a place was kept
 pub kept_lead : (p n m f b b' : ℕ) → p ≡ n → m ≡ n → b < n → f < n → ((b + 1 < n) × (b' ≡ b + 1)) ⊎ ((b + 1 ≡ n) × (b' ≡ 0)) → LeadKept p (lead_over_gap n f b) (lead_over_gap m f b')
 kept_lead p n m f b b' i j h g moved = go (lead_over_gap n f b) (lead_over_gap m f b') (lead_cases n f b) (lead_cases m f b')
   where
@@ -190,6 +198,7 @@ kept_lead p n m f b b' i j h g moved = go (lead_over_gap n f b) (lead_over_gap m
 abbrev pub IsMoved : ℕ → ℕ → ℕ → Type 0
 IsMoved f b m = ((b ≡ 0) × (m ≡ max f 1)) ⊎ (((0 < b) × (b < f) × (m + 1 ≡ f)) ⊎ ((0 < b) × (f ≤ b) × (m ≡ f)))
 
+-- where the lead stands after a place was taken out
 pub removed_lead : (n f b m f' : ℕ) → 0 < n → f ≤ n → b ≤ n → IsMoved f b m → ((m ≡ n) × (f' ≡ 0)) ⊎ ((m ≢ n) × (f' ≡ m)) → LeadRemoved (n + 1) (lead_over_gap (n + 1) f b) (lead_over_gap n f' (b - 1))
 removed_lead n f b m f' o h g moved wrapped = go (lead_over_gap (n + 1) f b) (lead_over_gap n f' (b - 1)) moved wrapped (lead_cases (n + 1) f b) (lead_cases n f' (b - 1))
   where

@@ -39,6 +39,7 @@ right_high a b c p e f g h = (alike_scaled (a.y -ℤ c.y) (b.y -ℤ c.y) (cross 
 abbrev pub bit : Bool → ℕ
 bit t = cond t 1 0
 
+-- 1 for an edge that passes the point on its right, and else 0
 abbrev pub tally : Point → Edge → ℕ
 tally p e = bit (is_right p e)
 
@@ -76,6 +77,7 @@ pub counted : (p : Point) (es : List Edge) → sum_of_edges (λ e. pos (tally p 
 counted p [] = refl
 counted p (e ∷ es) = ap (λ (z : ℤ). pos (tally p e) +ℤ z) (counted p es) ∙ ap pos (sym (sum_by-cons (tally p) e es))
 
+-- two counts that differ by an even number have the same parity
 pub parity : (m n a b c t : ℕ) → pos m +ℤ pos c ≡ pos n +ℤ (pos a +ℤ pos b) → a + b ≡ c + 2 * t → m % 2 ≡ n % 2
 parity m n a b c t e f = omega (arith, ints)
 
@@ -103,6 +105,7 @@ pub inside_kept : (c d : List Point) → Reach IsZeroTurn c d → (p : Point) �
 unfolding Inside
 inside_kept c d r p = (λ h. sym (parity_kept p c d r) ∙ h, λ h. parity_kept p c d r ∙ h)
 
+-- an edge passes a point on the same side backwards
 pub right_reversed : (p a b : Point) → is_right p (edge a b) ≡ is_right p (edge b a)
 right_reversed p a b = go (int_lt p.y a.y) (int_lt p.y b.y) refl refl
   where
@@ -131,5 +134,6 @@ none_inside (a ∷ []) l p h = let e = not_right p a in absurd (omega (arith, rw
 none_inside (a ∷ b ∷ []) l p h = let e = even (is_right p (edge a b)) (is_right p (edge b a)) (right_reversed p a b) in omega arith
 none_inside (a ∷ b ∷ c ∷ cs) l p h = omega arith
 
+-- removing zero turns keeps the points inside, and fewer than three points have none
 pub inside_laws : (c d : List Point) → InsideKept c d
 inside_laws c d = record { kept = inside_kept c d; none = none_inside c }

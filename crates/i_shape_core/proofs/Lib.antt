@@ -24,7 +24,7 @@ pub mod Inside
 pub mod Survive
 pub mod Convex
 pub mod Dedup
-pub mod Kept
+pub mod ConvexEnds
 pub mod Repeats
 -- the laws
 pub mod Certain
@@ -55,6 +55,11 @@ pub mod Order
 pub mod Rounds
 pub mod Starts
 pub mod Search
+pub mod SearchSteps
 pub mod Readings
+pub mod StartSteps
 pub mod RotatedEdges
 pub mod CanonicalForm
+pub mod BothDirections
+pub mod ContourForms
+pub mod ContourOrder

@@ -63,6 +63,7 @@ seated sl p q [] (y ∷ v) h a b = beside sl p q (y ∷ v) (omega arith) a b
 seated sl p q (x ∷ u) [] h a b = meets_sym (beside sl q p (x ∷ u) (omega arith) b a)
 seated sl p q (x ∷ u) (y ∷ v) h a b = apart p q x y u v a b
 
+-- two steps from one cycle meet again
 pub meets : {P : Test} → Slides P → {c d e : List Point} → Turn P c d → Turn P c e → Meets P d e
 meets {P} sl {c} {d} {e} s t = go r.front r.back r.before r.after
   where

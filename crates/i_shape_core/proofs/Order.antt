@@ -5,6 +5,7 @@ use Rattle.i_shape_core.specs.Point.{Point}
 use Rattle.i_shape_core.specs.Canonical.{IsBefore, IsAtMost}
 use Rattle.i_shape_core.proofs.Turns.{same_point}
 
+-- one point comes before the other, or they are equal
 pub data Order3 (p q : Point) : Type 0 where
   less : IsBefore p q → Order3 p q
   same : p ≡ q → Order3 p q
@@ -22,25 +23,30 @@ antisym_z a b h k = omega (arith, ints)
 order3_y : (p q : Point) → p.x ≡ q.x → Order3 p q
 order3_y p q e = by_lt_z p.y q.y (λ h. less (before_by_y p q e h)) (λ h. by_lt_z q.y p.y (λ k. more (before_by_y q p (sym e) k)) (λ k. same (same_point p q e (antisym_z p.y q.y k h))))
 
+-- of two points one of the three holds
 pub order3 : (p q : Point) → Order3 p q
 order3 p q = by_lt_z p.x q.x (λ h. less (before_by_x p q h)) (λ h. by_lt_z q.x p.x (λ k. more (before_by_x q p k)) (λ k. order3_y p q (antisym_z p.x q.x k h)))
 
+-- coming before is transitive
 pub before_trans : (p q r : Point) → IsBefore p q → IsBefore q r → IsBefore p r
 before_trans p q r (inl a) (inl b) = inl (omega (arith, ints))
 before_trans p q r (inl a) (inr b) = inl (omega (arith, ints))
 before_trans p q r (inr a) (inl b) = inl (omega (arith, ints))
 before_trans p q r (inr a) (inr b) = inr (omega (arith, ints), omega (arith, ints))
 
+-- two points don't each come before the other
 pub before_clash : (p q : Point) → IsBefore p q → IsBefore q p → ⊥
 before_clash p q (inl a) (inl b) = omega (arith, ints)
 before_clash p q (inl a) (inr b) = omega (arith, ints)
 before_clash p q (inr a) (inl b) = omega (arith, ints)
 before_clash p q (inr a) (inr b) = omega (arith, ints)
 
+-- a list is at most itself
 pub at_most_refl : (c : List Point) → IsAtMost c c
 at_most_refl [] = tt
 at_most_refl (p ∷ c) = inr (refl, at_most_refl c)
 
+-- of two lists one is at most the other
 pub at_most_total : (c d : List Point) → IsAtMost c d ⊎ IsAtMost d c
 at_most_total [] d = inl tt
 at_most_total (p ∷ c) [] = inr tt
@@ -52,6 +58,7 @@ at_most_total (p ∷ c) (q ∷ d) = go (order3 p q) (at_most_total c d)
     go (same e) (inl t) = inl (inr (e, t))
     go (same e) (inr t) = inr (inr (sym e, t))
 
+-- being at most is transitive
 pub at_most_trans : (c d e : List Point) → IsAtMost c d → IsAtMost d e → IsAtMost c e
 at_most_trans [] d e h k = tt
 at_most_trans (p ∷ c) [] e h k = absurd h
@@ -61,6 +68,7 @@ at_most_trans (p ∷ c) (q ∷ d) (r ∷ e) (inl h) (inr k) = inl (subst (λ (x 
 at_most_trans (p ∷ c) (q ∷ d) (r ∷ e) (inr h) (inl k) = inl (subst (λ (x : Point). IsBefore x r) (sym h.0) k)
 at_most_trans (p ∷ c) (q ∷ d) (r ∷ e) (inr h) (inr k) = inr (h.0 ∙ k.0, at_most_trans c d e h.1 k.1)
 
+-- lists that are at most each other are equal
 pub at_most_antisym : (c d : List Point) → IsAtMost c d → IsAtMost d c → c ≡ d
 at_most_antisym [] [] h k = refl
 at_most_antisym [] (q ∷ d) h k = absurd k

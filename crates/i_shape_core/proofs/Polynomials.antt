@@ -5,6 +5,7 @@ use Rattle.std.proofs.lemmas.Int.{ints}
 use lib.Dec.{eqb→eq}
 use Rattle.i_shape_core.proofs.WholeNumbers.{add-mul, mul-add, mul_assoc, mul_comm, zero-mul, one-mul, zero_add, equal_of_difference}
 
+-- a polynomial as it is written
 pub data Term : Type 0 where
   number : ℤ → Term
   variable : ℕ → Term
@@ -25,53 +26,64 @@ pub record Monomial : Type 0 where
   pub factor : ℤ
   pub places : List ℕ
 
+-- the value of a product of variables
 abbrev pub product : List ℤ → List ℕ → ℤ
 product v [] = pos 1
 product v (k ∷ ks) = get_or v k (pos 0) *ℤ product v ks
 
+-- the value of a sum of monomials
 abbrev pub total : List ℤ → List Monomial → ℤ
 total v [] = pos 0
 total v (m ∷ ms) = m.factor *ℤ product v m.places +ℤ total v ms
 
+-- whether two products have the same variables
 abbrev pub same : List ℕ → List ℕ → Bool
 same [] [] = true
 same [] (k ∷ ks) = false
 same (j ∷ js) [] = false
 same (j ∷ js) (k ∷ ks) = cond (eqb j k) (same js ks) false
 
+-- whether a coefficient is zero
 abbrev pub is_zero : ℤ → Bool
 is_zero (pos zero) = true
 is_zero (pos (suc n)) = false
 is_zero (negsuc n) = false
 
+-- a monomial before others, unless its coefficient is zero
 abbrev pub kept : ℤ → List ℕ → List Monomial → List Monomial
 kept n ks ms = cond (is_zero n) ms (record { factor = n; places = ks } ∷ ms)
 
 -- the sum of a monomial and a sum of monomials
-abbrev pub joined : ℤ → List ℕ → List Monomial → List Monomial
-joined n ks [] = record { factor = n; places = ks } ∷ []
-joined n ks (m ∷ ms) = cond (same ks m.places) (kept (n +ℤ m.factor) ks ms) (m ∷ joined n ks ms)
+abbrev pub with_monomial : ℤ → List ℕ → List Monomial → List Monomial
+with_monomial n ks [] = record { factor = n; places = ks } ∷ []
+with_monomial n ks (m ∷ ms) = cond (same ks m.places) (kept (n +ℤ m.factor) ks ms) (m ∷ with_monomial n ks ms)
 
+-- the sum of two sums
 abbrev pub sum_of : List Monomial → List Monomial → List Monomial
 sum_of [] qs = qs
-sum_of (m ∷ ms) qs = joined m.factor m.places (sum_of ms qs)
+sum_of (m ∷ ms) qs = with_monomial m.factor m.places (sum_of ms qs)
 
+-- a variable put into a product in its order
 abbrev pub inserted : ℕ → List ℕ → List ℕ
 inserted k [] = k ∷ []
 inserted k (j ∷ js) = cond (ltb j k) (j ∷ inserted k js) (k ∷ j ∷ js)
 
+-- the variables of two products in order
 abbrev pub merged : List ℕ → List ℕ → List ℕ
 merged [] js = js
 merged (k ∷ ks) js = inserted k (merged ks js)
 
+-- a sum times a monomial
 abbrev pub scaled : ℤ → List ℕ → List Monomial → List Monomial
 scaled n ks [] = []
-scaled n ks (m ∷ ms) = joined (n *ℤ m.factor) (merged ks m.places) (scaled n ks ms)
+scaled n ks (m ∷ ms) = with_monomial (n *ℤ m.factor) (merged ks m.places) (scaled n ks ms)
 
+-- the product of two sums
 abbrev pub product_of : List Monomial → List Monomial → List Monomial
 product_of [] qs = []
 product_of (m ∷ ms) qs = sum_of (scaled m.factor m.places qs) (product_of ms qs)
 
+-- the polynomial as a sum of monomials
 abbrev pub normal : Term → List Monomial
 normal (number n) = kept n [] []
 normal (variable k) = record { factor = pos 1; places = k ∷ [] } ∷ []
@@ -104,11 +116,11 @@ kept_total v (pos zero) ks ms = sym (ap (λ (z : ℤ). z +ℤ total v ms) (zero-
 kept_total v (pos (suc n)) ks ms = refl
 kept_total v (negsuc n) ks ms = refl
 
-joined_total : (v : List ℤ) (n : ℤ) (ks : List ℕ) (ms : List Monomial) → total v (joined n ks ms) ≡ n *ℤ product v ks +ℤ total v ms
-joined_total v n ks [] = refl
-joined_total v n ks (m ∷ ms) = step (joined_total v n ks ms) (same ks m.places) refl
+with_monomial_total : (v : List ℤ) (n : ℤ) (ks : List ℕ) (ms : List Monomial) → total v (with_monomial n ks ms) ≡ n *ℤ product v ks +ℤ total v ms
+with_monomial_total v n ks [] = refl
+with_monomial_total v n ks (m ∷ ms) = step (with_monomial_total v n ks ms) (same ks m.places) refl
   where
-    step : total v (joined n ks ms) ≡ n *ℤ product v ks +ℤ total v ms → (t : Bool) → same ks m.places ≡ t → total v (cond t (kept (n +ℤ m.factor) ks ms) (m ∷ joined n ks ms)) ≡ n *ℤ product v ks +ℤ (m.factor *ℤ product v m.places +ℤ total v ms)
+    step : total v (with_monomial n ks ms) ≡ n *ℤ product v ks +ℤ total v ms → (t : Bool) → same ks m.places ≡ t → total v (cond t (kept (n +ℤ m.factor) ks ms) (m ∷ with_monomial n ks ms)) ≡ n *ℤ product v ks +ℤ (m.factor *ℤ product v m.places +ℤ total v ms)
     step rest true e = kept_total v (n +ℤ m.factor) ks ms
         ∙ ap (λ (z : ℤ). z +ℤ total v ms) (add-mul n m.factor (product v ks))
         ∙ regrouped (n *ℤ product v ks) (m.factor *ℤ product v ks) (total v ms)
@@ -118,7 +130,7 @@ joined_total v n ks (m ∷ ms) = step (joined_total v n ks ms) (same ks m.places
 
 sum_of_total : (v : List ℤ) (ms qs : List Monomial) → total v (sum_of ms qs) ≡ total v ms +ℤ total v qs
 sum_of_total v [] qs = sym (zero_add (total v qs))
-sum_of_total v (m ∷ ms) qs = joined_total v m.factor m.places (sum_of ms qs)
+sum_of_total v (m ∷ ms) qs = with_monomial_total v m.factor m.places (sum_of ms qs)
     ∙ ap (λ (z : ℤ). m.factor *ℤ product v m.places +ℤ z) (sum_of_total v ms qs)
     ∙ sym (regrouped (m.factor *ℤ product v m.places) (total v ms) (total v qs))
 
@@ -144,7 +156,7 @@ four_factors a b c d = mul_assoc a b (c *ℤ d) ∙ ap (λ (z : ℤ). a *ℤ z) 
 
 scaled_total : (v : List ℤ) (n : ℤ) (ks : List ℕ) (ms : List Monomial) → total v (scaled n ks ms) ≡ (n *ℤ product v ks) *ℤ total v ms
 scaled_total v n ks [] = sym (mul_comm (n *ℤ product v ks) (pos 0) ∙ zero-mul (n *ℤ product v ks))
-scaled_total v n ks (m ∷ ms) = joined_total v (n *ℤ m.factor) (merged ks m.places) (scaled n ks ms)
+scaled_total v n ks (m ∷ ms) = with_monomial_total v (n *ℤ m.factor) (merged ks m.places) (scaled n ks ms)
     ∙ ap (λ (z : ℤ). (n *ℤ m.factor) *ℤ z +ℤ total v (scaled n ks ms)) (merged_product v ks m.places)
     ∙ ap (λ (z : ℤ). z +ℤ total v (scaled n ks ms)) (four_factors n m.factor (product v ks) (product v m.places))
     ∙ ap (λ (z : ℤ). (n *ℤ product v ks) *ℤ (m.factor *ℤ product v m.places) +ℤ z) (scaled_total v n ks ms)

@@ -1,12 +1,13 @@
 -- What the search reads.
-use Rattle.std.proofs.Common.{not, false, ◌≡◌, ◌⊎◌, ℕ, ◌+◌, ◌-◌, ◌<◌, ◌≤◌, ℤ, List, ◌++◌, map, take, drop, length, inl, inr, refl, sym, ap, subst, subst₂, ◌∙◌, arith}
+use Rattle.std.proofs.Common.{Fits, not, false, ◌≡◌, ◌⊎◌, ℕ, ◌+◌, ◌-◌, ◌<◌, ◌≤◌, ℤ, List, ◌++◌, map, take, drop, get_or, length, inl, inr, refl, sym, ap, subst, subst₂, ◌∙◌, arith}
 use Rattle.std.specs.Bool.{◌==◌}
+use Rattle.std.specs.Int.{w128}
 use Rattle.std.specs.Ordering.{MatchOrdering, ordering_index}
 use Rattle.std.specs.declared.cmp.Ordering.{Ordering}
 use Rattle.std.specs.declared.cmp.Ordering.TheVariants.{Less, Equal, Greater}
-use Rattle.std.proofs.lemmas.List.{map-append, drop-map, take-map}
+use Rattle.std.proofs.lemmas.List.{get_or-map, map-append, drop-map, take-map}
 use Rattle.std.proofs.lemmas.Bool.{cases_lt}
-use Rattle.i_shape_core.specs.Point.{Point}
+use Rattle.i_shape_core.specs.Point.{Point, origin}
 use Rattle.i_shape_core.specs.Contour.{point_at}
 use Rattle.i_shape_core.specs.Rounds.{point_round, Agree, Precedes}
 use Rattle.i_shape_core.specs.Canonical.{IsBefore, IsLeast, started_at}
@@ -30,17 +31,30 @@ precedes-first c i j wi wj h = record {
   before = subst₂ IsBefore (round-first c i wi) (round-first c j wj) h;
 }
 
+-- where the first points differ, their order is that of the rotations
 pub first-tells : (c : List Point) (i j : ℕ) (Q : Type 0) (order : Ordering) → i < length c → j < length c → IsOrder c i j order → (order ≡ Equal → ⊥)
     → MatchOrdering order (Precedes c i j 1) Q (Precedes c j i 1)
 first-tells c i j Q Less wi wj h n = precedes-first c i j wi wj h
 first-tells c i j Q Equal wi wj h n = absurd (n refl)
 first-tells c i j Q Greater wi wj h n = precedes-first c j i wj wi h
 
+-- where they don't, the rotations agree so far
 pub first-agrees : (c : List Point) (i j : ℕ) (order : Ordering) → i < length c → j < length c → IsOrder c i j order → not (ordering_index order == 1) ≡ false
     → Agree c i j 1
 first-agrees c i j Less wi wj h e = absurd (cc)
 first-agrees c i j Equal wi wj h e = agree-first c i j wi wj h
 first-agrees c i j Greater wi wj h e = absurd (cc)
+
+-- one more comparison can be counted
+pub count_fits : (count shown : ℕ) → count ≡ shown → shown < 340282366920938463463374607431768211455 → Fits w128 (count + 1)
+count_fits count shown e room = omega arith
+
+-- how two points that were read are ordered
+pub read-order : {I : Type 0} (value : I → ℤ) (xs points : List (IntPoint I)) (i j : ℕ) (p q : IntPoint I) (order : Ordering) → points ≡ xs → i < length xs → j < length xs
+    → MatchOrdering order (IsBefore (point_of value (get_or points i p)) (point_of value (get_or points j q))) (point_of value (get_or points i p) ≡ point_of value (get_or points j q)) (IsBefore (point_of value (get_or points j q)) (point_of value (get_or points i p)))
+    → IsOrder (contour_of value xs) i j order
+read-order value xs points i j p q order same wi wj told =
+    subst₂ (λ (a b : Point). MatchOrdering order (IsBefore a b) (a ≡ b) (IsBefore b a)) (sym (get_or-map (point_of value) xs i p origin wi)) (sym (get_or-map (point_of value) xs j q origin wj)) (rw same at told)
 
 -- place a is that of step m from place s, where n places go round twice
 abbrev pub IsStep : ℕ → ℕ → ℕ → ℕ → Type 0
@@ -55,6 +69,7 @@ run-point c s m a t (inr h) within = sym (round-place c (s + (m + t)) (a + t) wi
 abbrev pub RunsAgree : List Point → ℕ → ℕ → ℕ → Type 0
 RunsAgree c a b k = (t : ℕ) → t < k → point_at c (a + t) ≡ point_at c (b + t)
 
+-- rotations that agree, and agree over a run, agree so much longer
 pub agree-on : (c : List Point) (i j m a b k : ℕ) → IsStep (length c) i m a → IsStep (length c) j m b
     → a + k ≤ length c → b + k ≤ length c → Agree c i j m → RunsAgree c a b k → Agree c i j (m + k)
 agree-on c i j m a b k ours theirs wa wb before run t l = go (cases_lt t m)
@@ -66,6 +81,7 @@ agree-on c i j m a b k ours theirs wa wb before run t l = go (cases_lt t m)
         ap (λ (u : ℕ). point_round c (i + u)) (sym e) ∙ sym (run-point c i m a (t - m) ours (omega arith))
         ∙ run (t - m) (omega arith) ∙ run-point c j m b (t - m) theirs (omega arith) ∙ ap (λ (u : ℕ). point_round c (j + u)) e
 
+-- where they differ behind that run, the lesser point tells the lesser rotation
 pub precedes-on : (c : List Point) (i j m a b k : ℕ) → IsStep (length c) i m a → IsStep (length c) j m b
     → a + k < length c → b + k < length c → m + k < length c → Agree c i j m → RunsAgree c a b k
     → IsBefore (point_at c (a + k)) (point_at c (b + k)) → Precedes c i j (m + k + 1)

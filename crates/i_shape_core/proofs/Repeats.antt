@@ -129,12 +129,14 @@ same_ring e f c d (inr x) (inl y) (collapsed a b) = few x.1 (subst (λ (xs : Lis
 same_ring e f c d (inr x) (inl y) (turned a b r) = absurd (omega (arith, x.0))
 same_ring e f c d (inr x) (inr y) s = few x.1 y.1
 
+-- without repeated points rotations are the same ring
 pub dedup_rotated : (c d : List Point) → Rotation c d → SameRing (dedup c) (dedup d)
 dedup_rotated c d r =
     let a = dedup_end c in
     let b = dedup_end d in
     same_ring a.0 b.0 (dedup c) (dedup d) a.2 b.2 (ends_alike repeat_slides repeat_decided r a.1 b.1)
 
+-- and a contour read backwards is the ring read backwards
 pub dedup_reversed : (c : List Point) → SameRing (reverse (dedup c)) (dedup (reverse c))
 dedup_reversed c =
     let a = dedup_end c in

@@ -8,6 +8,7 @@ use Rattle.i_shape_core.proofs.Rotations.{rotation_refl, rotation_sym, rotation_
 use Rattle.i_shape_core.proofs.Cycle.{first, last, Turn, turn_from_step, turn_of_rotated, step_from_turn}
 use Rattle.i_shape_core.proofs.Ends.{ends_alike, same_end_trans, same_end_of_rotation, no_step}
 
+-- rotations read backwards are rotations
 pub rotation_of_reversed : {c d : List Point} → Rotation c d → Rotation (reverse c) (reverse d)
 rotation_of_reversed {c} {d} r = record {
   front = reverse r.back;
@@ -28,6 +29,7 @@ first_of_reversed x h =
     let e : length x - 1 - 0 ≡ length x - 1 = omega arith in
     get_or-reverse x 0 origin h ∙ ap (λ (n : ℕ). get_or x n origin) e
 
+-- a step read backwards is a step by the test read backwards
 pub turn_of_reversed : {P Q : Test} {c d : List Point} → ((a p b : Point) → P a p b → Q b p a) → Turn P c d → Turn Q (reverse c) (reverse d)
 turn_of_reversed {Q = Q} back t = record {
   point = t.point;
@@ -46,6 +48,7 @@ reach_of_reversed both (step s a) r =
     let m = reach_of_reversed both a t.2 in
     (m.0, step t.1 m.1, m.2)
 
+-- an end read backwards is, up to rotation, an end of the contour read backwards
 pub end_of_reversed : {P : Test} {c e : List Point} → BothWays P → End P c e → (f : List Point) × End P (reverse c) f × Rotation (reverse e) f
 end_of_reversed {P} {c} {e} both w = (m.0, record { reached = m.1; none_left = none }, m.2)
   where
@@ -58,6 +61,7 @@ end_of_reversed {P} {c} {e} both w = (m.0, record { reached = m.1; none_left = n
         let t = turn_of_reversed both (turn_of_rotated (rotation_sym m.2) (turn_from_step s)) in
         no_step w.none_left (step_from_turn (subst (λ (x : List Point). Turn P x (reverse (remove m.0 k))) (reverse-reverse e) t)).1
 
+-- each end of the contour read backwards is an end read backwards
 pub reversed_alike : {P : Test} → Slides P → Decided P → BothWays P → {c e f : List Point} → End P c e → End P (reverse c) f → SameEnd (reverse e) f
 reversed_alike sl dec both {c} a b =
     let m = end_of_reversed both a in

@@ -50,6 +50,7 @@ passes_as P c p r h a = subst₂ (λ (y z : Point). P y (point_at c p) z) (sym (
 passes_back : (P : Test) (c : List Point) (p : ℕ) (r : List ℕ) → 0 < length r → P (last (points_at c r)) (point_at c p) (first (points_at c r)) → PassesAtPlace P c (p ∷ r)
 passes_back P c p r h a = subst₂ (λ (y z : Point). P y (point_at c p) z) (same_last c p r h) (first_of_places c r h) a
 
+-- before the first event all places stand in the ring, untested
 pub state_starts : {P : Test} (c : List Point) → 3 ≤ length c → IsState P c (range_with_len 0 (length c)) (length c) (length c) 0
 state_starts {P} c h = record {
   walk = subst (λ (x : List Point). IsRingWalk P c x (length c) (length c)) (points_of_all c) (walk_starts c (length c) (length c) h refl refl);
@@ -59,6 +60,7 @@ state_starts {P} c h = record {
   left_each = omega (arith, length-range_with_len 0 (length c));
 }
 
+-- the place at hand is kept, and goes to the end of the ring
 pub state_keeps : {P : Test} (c : List Point) (places kept : List ℕ) (u v l m n : ℕ) → IsState P c places u l n → 0 < u → (PassesAtPlace P c places → ⊥) →
     kept ≡ drop 1 places ++ get_or places 0 0 ∷ [] → v + 1 ≡ u → LeadKept (length places) l m → IsState P c kept v m (n + 1)
 state_keeps c [] kept u v l m n s h here e f lead = absurd (omega (arith, s.walk.enough))
@@ -84,6 +86,7 @@ state_keeps {P} c (p ∷ r) kept u v l m n s h here e f lead = record {
     below : All (IsBelow c) kept
     below = All-same (IsBelow c) kept (r ++ p ∷ []) e (All-push (IsBelow c) r p (All-drop (IsBelow c) 1 (p ∷ r) s.below) (All-get_or (IsBelow c) (p ∷ r) 0 0 (omega arith) s.below))
 
+-- the place at hand is taken out
 pub state_removes : {P : Test} (c : List Point) (places kept : List ℕ) (u v l m n : ℕ) → IsState P c places u l n → 0 < u → PassesAtPlace P c places → 3 < length places →
     kept ≡ get_or places (length places - 1) 0 ∷ drop 1 (take (length places - 1) places) → v ≡ min (length places - 1) (max u 2) → LeadRemoved (length places) l m → IsState P c kept v m (n + 1)
 state_removes c [] kept u v l m n s o a more e f lead = absurd (omega arith)
@@ -138,12 +141,14 @@ state_removes {P} c (p ∷ r) kept u v l m n s o a more e f lead = record {
     below = All-same (IsBelow c) kept (get_or (p ∷ r) (length (p ∷ r) - 1) 0 ∷ drop 1 (take (length (p ∷ r) - 1) (p ∷ r))) e (All-cons (IsBelow c) (get_or (p ∷ r) (length (p ∷ r) - 1) 0) (drop 1 (take (length (p ∷ r) - 1) (p ∷ r)))
         (All-get_or (IsBelow c) (p ∷ r) (length (p ∷ r) - 1) 0 (omega arith) s.below) (All-drop (IsBelow c) 1 (take (length (p ∷ r) - 1) (p ∷ r)) (All-take (IsBelow c) (length (p ∷ r) - 1) (p ∷ r) s.below)))
 
+-- where three places are left and one passes, the contour collapses
 pub state_collapses : {P : Test} (c : List Point) (places : List ℕ) (u l n : ℕ) → IsState P c places u l n → PassesAtPlace P c places → length places ≡ 3 → Falls P c (n + 1)
 state_collapses c [] u l n s a three = absurd (omega arith)
 state_collapses {P} c (p ∷ r) u l n s a three =
     let d = walk_collapses c (points_at c (p ∷ r)) (points_at c r) (point_at c p) u l s.walk refl (passes_as P c p r (omega arith) a) (omega (arith, three, length-map (p ∷ r) (point_at c))) in
     record { rest = d.0; reached = d.1; few = d.2; least = omega (arith, s.left_each, three); most = omega (arith, s.at_most, three) }
 
+-- where no place is untested, the ring is the end
 pub state_ends : {P : Test} (c e : List Point) (places : List ℕ) (u l n : ℕ) → IsState P c places u l n → u ≡ 0 → e ≡ map (point_at c) (in_order places l) → Finds P c e n
 state_ends {P} c e places u l n s none shown =
     let w = walk_ends c (points_at c places) u l s.walk none in

@@ -20,6 +20,7 @@ pub record Place (q : List Point) (k : ℕ) : Type 0 where
   pub whole : q ≡ ahead ++ at ∷ behind
   pub place : k ≡ length ahead
 
+-- each place of a list, with the parts around it
 pub place_of : (q : List Point) (k : ℕ) → k < length q → Place q k
 place_of q k h = record { ahead = take k q; at = point_at q k; behind = drop (suc k) q; whole = split_at q k origin h; place = sym (length-take-le k q (omega arith)) }
 
@@ -97,6 +98,7 @@ removed_order_round r b l h =
 
 -- The four events of the walk.
 
+-- the walk starts with all points
 pub walk_starts : {P : Test} (c : List Point) (u l : ℕ) → 3 ≤ length c → u ≡ length c → l ≡ length c → IsRingWalk P c c u l
 walk_starts {P} c u l h e f = record {
   enough = h;
@@ -111,6 +113,7 @@ walk_starts {P} c u l h e f = record {
   tested = λ k g m. absurd (omega (arith, m.within));
 }
 
+-- a point that doesn't pass goes to the end of the ring
 pub walk_keeps : {P : Test} (c q r : List Point) (p : Point) (u v l m : ℕ) → IsRingWalk P c q u l → q ≡ p ∷ r → u ≡ suc v → (P (last r) p (first r) → ⊥) →
     ((l ≡ 1) × (m ≡ length q)) ⊎ ((1 < l) × (l ≡ suc m)) → IsRingWalk P c (r ++ p ∷ []) v m
 walk_keeps {P} c q r p u v l m w e f here lead = record {
@@ -146,6 +149,7 @@ removed_reach {P} c q r p u l w e passes =
     reach_trans w.reached (step (subst (λ (y : List Point). Step P y (drop (l - 1) r ++ take (l - 1) r)) (sym x)
     (removed_step p r (l - 1) (omega (arith, w.lead_within, ap length e)) (omega (arith, w.enough, ap length e)) passes)) stay)
 
+-- a point that passes is taken out, and the walk steps back
 pub walk_removes : {P : Test} (c q r : List Point) (p b : Point) (u v l m : ℕ) → IsRingWalk P c q u l → q ≡ p ∷ (r ++ b ∷ []) → P b p (first (r ++ b ∷ [])) → 3 < length q →
     v ≡ min (length (b ∷ r)) (max u 2) → ((l ≡ length q) × (m ≡ 1)) ⊎ ((l < length q) × (m ≡ l)) → IsRingWalk P c (b ∷ r) v m
 walk_removes {P} c q r p b u v l m w e passes more f lead = record {
@@ -170,6 +174,7 @@ walk_removes {P} c q r p b u v l m w e passes more f lead = record {
         let y = removed_order r b (l - 1) (omega (arith, a.0, size)) in
         cc
 
+-- where one of three points passes, the contour collapses
 pub walk_collapses : {P : Test} (c q r : List Point) (p : Point) (u l : ℕ) → IsRingWalk P c q u l → q ≡ p ∷ r → P (last r) p (first r) → length q ≡ 3 → (d : List Point) × Reach P c d × IsCollapsed d
 walk_collapses c q r p u l w e passes three = (
   drop (l - 1) r ++ take (l - 1) r,
@@ -177,6 +182,7 @@ walk_collapses c q r p u l w e passes three = (
   omega (arith, three, ap length e, length-append (drop (l - 1) r) (take (l - 1) r), length-drop (l - 1) r, length-take (l - 1) r),
 )
 
+-- where no point is untested, the ring in the order of the input is an end
 pub walk_ends : {P : Test} (c q : List Point) (u l : ℕ) → IsRingWalk P c q u l → u ≡ 0 → End P c (in_order q l) × (3 ≤ length (in_order q l))
 walk_ends {P} c q u l w e = (record { reached = w.reached; none_left = none }, omega (arith, w.enough, length-append (drop l q) (take l q), length-drop l q, length-take l q, w.lead_within))
   where

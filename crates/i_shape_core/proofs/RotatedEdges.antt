@@ -5,11 +5,11 @@ use Rattle.std.proofs.lemmas.Int.{ints}
 use Rattle.i_shape_core.specs.Point.{Point}
 use Rattle.i_shape_core.specs.Contour.{Rotation}
 use Rattle.i_shape_core.specs.Edges.{Edge, edges_between, edges, sum_of_edges, area_of_edge, shoelace, is_right, Inside}
-use Rattle.i_shape_core.specs.Answers.{IsKept}
+use Rattle.i_shape_core.specs.Cleaners.{IsKept}
 use Rattle.i_shape_core.proofs.Inside.{tally, counted}
 
 -- a sum over the edges of a path is that up to one of its points and that from there on
-cut_path : (f : Edge → ℤ) (a : Point) (u : List Point) (b : Point) (t : List Point) (z : Point)
+pub cut_path : (f : Edge → ℤ) (a : Point) (u : List Point) (b : Point) (t : List Point) (z : Point)
     → sum_of_edges f (edges_between a (u ++ b ∷ t) z) ≡ sum_of_edges f (edges_between a u b) +ℤ sum_of_edges f (edges_between b t z)
 cut_path f a [] b t z = omega (arith, ints)
 cut_path f a (p ∷ u) b t z = let e = cut_path f p u b t z in omega (arith, ints)
@@ -22,7 +22,7 @@ same_sum_cut f (a ∷ u) (b ∷ t) =
     let back = cut_path f b t a u b in
     omega (arith, ints)
 
-same_sum : (f : Edge → ℤ) (c d : List Point) → Rotation c d → sum_of_edges f (edges c) ≡ sum_of_edges f (edges d)
+pub same_sum : (f : Edge → ℤ) (c d : List Point) → Rotation c d → sum_of_edges f (edges c) ≡ sum_of_edges f (edges d)
 same_sum f c d r =
     ap (λ (e : List Point). sum_of_edges f (edges e)) r.before ∙ same_sum_cut f r.front r.back ∙ sym (ap (λ (e : List Point). sum_of_edges f (edges e)) r.after)
 

@@ -6,12 +6,15 @@ use Rattle.i_shape_core.specs.Point.{Point}
 use Rattle.i_shape_core.specs.Contour.{Rotation}
 use Rattle.i_shape_core.proofs.Lists.{two_seams, Seams}
 
+-- each list is a rotation of itself
 pub rotation_refl : (c : List Point) → Rotation c c
 rotation_refl c = record { front = []; back = c; before = refl; after = sym (append-nil c) }
 
+-- rotations are rotations of each other
 pub rotation_sym : {c d : List Point} → Rotation c d → Rotation d c
 rotation_sym r = record { front = r.back; back = r.front; before = r.after; after = r.before }
 
+-- a rotation of a rotation is a rotation
 pub rotation_trans : {c d e : List Point} → Rotation c d → Rotation d e → Rotation c e
 rotation_trans {c} {d} {e} r s = go (two_seams r.back r.front s.front s.back (sym r.after ∙ s.before))
   where
@@ -19,6 +22,7 @@ rotation_trans {c} {d} {e} r s = go (two_seams r.back r.front s.front s.back (sy
     go (inl w) = record { front = w.0; back = s.back ++ r.back; before = cc (append_assoc w.0 s.back r.back); after = cc (append_assoc s.back r.back w.0) }
     go (inr w) = record { front = r.front ++ s.front; back = w.0; before = cc (append_assoc r.front s.front w.0); after = cc (append_assoc w.0 r.front s.front) }
 
+-- rotations have the same length
 pub rotation_length : {c d : List Point} → Rotation c d → length c ≡ length d
 rotation_length {c} {d} r = omega (arith, ap length r.before, ap length r.after, length-append r.front r.back, length-append r.back r.front)
 
@@ -37,6 +41,7 @@ pub record Cut (c : List Point) (p : Point) (rest : List Point) : Type 0 where
   pub whole : c ≡ ahead ++ p ∷ behind
   pub others : rest ≡ behind ++ ahead
 
+-- a rotation that begins with a point is a cut at that point
 pub cut_from_rotation : {c : List Point} {p : Point} {rest : List Point} → Rotation c (p ∷ rest) → Cut c p rest
 cut_from_rotation {c} {p} {rest} r = go r.front r.back r.before r.after
   where
@@ -44,5 +49,6 @@ cut_from_rotation {c} {p} {rest} r = go r.front r.back r.before r.after
     go u [] b a = record { ahead = []; behind = rest; whole = cc (append-nil u); others = sym (append-nil rest) }
     go u (q ∷ t) b a = record { ahead = u; behind = t; whole = cc; others = cc }
 
+-- a cut at a point is a rotation
 pub rotation_from_cut : {c : List Point} {p : Point} {rest : List Point} → Cut c p rest → Rotation c (p ∷ rest)
 rotation_from_cut {c} {p} {rest} k = record { front = k.ahead; back = p ∷ k.behind; before = k.whole; after = cc }

@@ -7,14 +7,17 @@ use Rattle.i_shape_core.specs.Contour.{point_at}
 use Rattle.i_shape_core.specs.Rounds.{point_round}
 use Rattle.i_shape_core.specs.Canonical.{started_at}
 
+-- in the first round a place is its own
 pub round-low : (c : List Point) (e : ℕ) → e < length c → point_round c e ≡ get_or c e origin
 round-low c e h = get_or_append_left c c origin e h
 
+-- in the second round it is less by the length
 pub round-high : (c : List Point) (e r : ℕ) → r + length c ≡ e → point_round c e ≡ get_or c r origin
 round-high c e r h =
     let s : e - length c ≡ r = omega arith in
     get_or-append_right c c (length c) e origin refl (omega arith) ∙ ap (λ (k : ℕ). get_or c k origin) s
 
+-- a place is read alike in both rounds
 pub round-place : (c : List Point) (e r : ℕ) → r < length c → (r ≡ e) ⊎ (r + length c ≡ e) → point_round c e ≡ get_or c r origin
 round-place c e r h (inl k) = round-low c e (omega arith) ∙ ap (λ (k : ℕ). get_or c k origin) (sym k)
 round-place c e r h (inr k) = round-high c e r k
@@ -27,9 +30,11 @@ round-first c k h = sym (round-low c (k + 0) (omega arith) ∙ ap (λ (e : ℕ).
 pub round-back : (c : List Point) (e r : ℕ) → r < length c → r + length c ≡ e → point_round c e ≡ point_round c r
 round-back c e r h k = round-high c e r k ∙ sym (round-low c r h)
 
+-- a list has the same length from another start
 pub length-started : (c : List Point) (s : ℕ) → s ≤ length c → length (started_at c s) ≡ length c
 length-started c s h = omega (arith, length-append (drop s c) (take s c), length-drop s c, length-take s c)
 
+-- a list from another start, read by places that go round
 pub started-round : (c : List Point) (s t : ℕ) → s ≤ length c → t < length c → get_or (started_at c s) t origin ≡ point_round c (s + t)
 started-round c s t h k = go (cases_lt t (length c - s))
   where
@@ -46,6 +51,7 @@ pub record Start (c : List Point) (e : ℕ) : Type 0 where
   pub within : place < length c
   pub reads : (t : ℕ) → e + t < length c + length c → t < length c → get_or (started_at c place) t origin ≡ point_round c (e + t)
 
+-- each place of the two rounds is a start
 pub start_at : (c : List Point) (e : ℕ) → e < length c + length c → Start c e
 start_at c e h = go (cases_lt e (length c))
   where

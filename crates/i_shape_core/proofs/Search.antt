@@ -15,6 +15,7 @@ pub record IsSearch (c : List Point) (n kept challenger : ℕ) : Type 0 where
   pub apart : kept < challenger
   pub others : (s : ℕ) → s < challenger → s < n → StartsLeast c s → s ≡ kept
 
+-- a place more whose point comes after p
 pub after-more : (c : List Point) (p : Point) (j k : ℕ) → AreAfter c p j k → IsBefore p (point_at c k) → AreAfter c p j (k + 1)
 after-more c p j k before here s above below = elim (cases_lt s k) [
   | inl l ↦ before s above l
@@ -39,6 +40,7 @@ search_after c n i j r s above below h = record {
     first : (x : ℕ) → j ≤ x → x < r → x < n → IsBefore (point_round c (i + 0)) (point_round c (x + 0))
     first x b l w = subst₂ IsBefore (start i s.within) (start x w) (h x b l)
 
+-- where the kept rotation comes before the challenger's at m points, none of the next m starts is least
 pub search_less : (c : List Point) (n i j m next : ℕ) → IsSearch c n i j → j < n → Precedes c i j m → j < next → next ≤ j + m → IsSearch c n i next
 search_less c n i j m next s wj h above below = record {
   long = s.long;

@@ -28,6 +28,7 @@ pub drained-slice : {A : Type 0} (s : Copied (Iter A)) (items : List A) → Drai
 drained-slice s items (u, (t, yields, none)) =
     sym (same-items items) ∙ items_from_drains items (t, yields, λ _. (u, none)) (YieldsList-from_copied (YieldsList-from_slice (iter_rest (copied_source s)) refl))
 
+-- the area over what an iterator gives is that of the slice's points
 pub slice-area : {I : Type 0} (value : I → ℤ) (w : Width) (s : Copied (Iter (IntPoint I))) (points items : List (IntPoint I)) (area : ℤ) → iter_rest (copied_source s) ≡ points
     → Drains (copied_steps iter_steps) s items → area ≡ int_wrap w (shoelace (contour_of value items)) → area ≡ int_wrap w (shoelace (contour_of value points))
 slice-area {I} value w s points items area e drains h =

@@ -22,6 +22,7 @@ use Rattle.i_shape_core.proofs.Dedup.{IsApart, same_yes, same_no, same_self, las
 use Rattle.i_shape_core.proofs.Back.{back_cases, back_from_cases}
 use Rattle.i_shape_core.proofs.Contours.{safe-at, rest-read, rest-none}
 
+-- what is told a reversal is one
 pub reversal_yes : (a b c : Point) → is_reversal a b c ≡ true → IsReversed a b c
 unfolding is_reversal
 reversal_yes a b c e = go (int_eq (cross a b c) (pos 0)) refl (int_lt (dot a b c) (pos 0)) refl e
@@ -31,6 +32,7 @@ reversal_yes a b c e = go (int_eq (cross a b c) (pos 0)) refl (int_lt (dot a b c
     go true e false f h = absurd (cc)
     go false e t f h = absurd (cc)
 
+-- what isn't told a reversal is none
 pub reversal_no : (a b c : Point) → is_reversal a b c ≡ false → IsReversed a b c → ⊥
 unfolding is_reversal
 reversal_no a b c e h = go (int_eq (cross a b c) (pos 0)) ((signed_Decides (cross a b c) (pos 0)).1 h.0) (int_lt (dot a b c) (pos 0)) (below (dot a b c) h.1) e
@@ -90,9 +92,11 @@ first_behind c = last_differing (last_of origin c) (last_of origin c) c
 abbrev pub Told : Test → List Point → Type 0 → Point → Point → List Point → Type 0
 Told P c S o p rest = Met P (first_behind c) (last_of origin c) c ↔ (S ⊎ Met P o p rest)
 
+-- before the first point nothing is told
 pub told-start : (P : Test) (c : List Point) (S : Type 0) → (S → ⊥) → Told P c S (first_behind c) (last_of origin c) c
 told-start P c S n = (λ m. inr m, λ x. elim x [ inl s ↦ absurd (n s) | inr m ↦ m ])
 
+-- another point adds what the test says there
 pub told-on : (P : Test) (c : List Point) (S T N : Type 0) (o p q : Point) (rest : List Point) → is_same p q ≡ false → N ↔ P o p q → T ↔ (S ⊎ N)
     → Told P c S o p (q ∷ rest) → Told P c T p q rest
 told-on P c S T N o p q rest e n t w = (λ m. to (w.0 m), λ x. w.1 (from x))
@@ -116,6 +120,7 @@ told-on P c S T N o p q rest e n t w = (λ m. to (w.0 m), λ x. w.1 (from x))
     from (inl y) = earlier (t.0 y)
     from (inr m) = inr (subst (λ (X : Type 0). X) (sym same) (inr m))
 
+-- a repeated point adds nothing
 pub told-skip : (P : Test) (c : List Point) (S : Type 0) (o p q : Point) (rest : List Point) → is_same p q ≡ true → Told P c S o p (q ∷ rest) → Told P c S o p rest
 told-skip P c S o p q rest e w = subst (λ (X : Type 0). Met P (first_behind c) (last_of origin c) c ↔ (S ⊎ X)) same w
   where
@@ -175,11 +180,13 @@ no_spike_found c n o p w = (λ h. spikeless (subst (λ (m : ℕ). 3 ≤ m) count
 pub walking_over : {I : Type 0} (value : I → ℤ) (cs : List (IntPoint I)) (n i : ℕ) (o p : Point) → length cs ≤ i → Walking (contour_of value cs) n o p (contour_of value (drop i cs)) → (3 ≤ n) ↔ NoSpikes (contour_of value cs)
 walking_over value cs n i o p h w = no_spike_found (contour_of value cs) n o p (subst (Walking (contour_of value cs) n o p) (rest-none value cs i h) w)
 
+-- without points a contour isn't one without spikes
 pub none_without_points : {I : Type 0} (value : I → ℤ) (cs : List (IntPoint I)) → length cs ≤ 0 → NoSpikes (contour_of value cs) → ⊥
 unfolding dedup
 none_without_points value [] h s = let e = s.enough in omega arith
 none_without_points value (x ∷ xs) h s = omega arith
 
+-- the walk goes on over another point that is no reversal
 pub walking_item : {I : Type 0} (value : I → ℤ) (cs : List (IntPoint I)) (n i : ℕ) (o p x : IntPoint I) (n' : ℕ) (o' p' : IntPoint I) → i < length cs → x ≡ get_or cs i x
     → is_same (point_of value p) (point_of value x) ≡ false → is_reversal (point_of value o) (point_of value p) (point_of value x) ≡ false
     → n' ≡ n + 1 → o' ≡ p → p' ≡ x
@@ -187,12 +194,14 @@ pub walking_item : {I : Type 0} (value : I → ℤ) (cs : List (IntPoint I)) (n 
 walking_item value cs n i o p x n' o' p' h e a b en eo ep w = rw (en, eo, ep) (walking_on (contour_of value cs) n (point_of value o) (point_of value p) (point_of value x) (contour_of value (drop (i + 1) cs)) a b
     (subst (λ (r : List Point). Walking (contour_of value cs) n (point_of value o) (point_of value p) r) (rest-read value cs i x h e) w))
 
+-- the walk stays as it is at a repeated point
 pub walking_repeat : {I : Type 0} (value : I → ℤ) (cs : List (IntPoint I)) (n i : ℕ) (o p x : IntPoint I) (n' : ℕ) (o' p' : IntPoint I) → i < length cs → x ≡ get_or cs i x
     → is_same (point_of value p) (point_of value x) ≡ true → n' ≡ n → o' ≡ o → p' ≡ p
     → Walking (contour_of value cs) n (point_of value o) (point_of value p) (contour_of value (drop i cs)) → Walking (contour_of value cs) n' (point_of value o') (point_of value p') (contour_of value (drop (i + 1) cs))
 walking_repeat value cs n i o p x n' o' p' h e a en eo ep w = rw (en, eo, ep) (walking_skip (contour_of value cs) n (point_of value o) (point_of value p) (point_of value x) (contour_of value (drop (i + 1) cs)) a
     (subst (λ (r : List Point). Walking (contour_of value cs) n (point_of value o) (point_of value p) r) (rest-read value cs i x h e) w))
 
+-- a reversal is a spike
 pub spike_item : {I : Type 0} (value : I → ℤ) (cs : List (IntPoint I)) (n i : ℕ) (o p x : IntPoint I) → i < length cs → x ≡ get_or cs i x
     → is_same (point_of value p) (point_of value x) ≡ false → is_reversal (point_of value o) (point_of value p) (point_of value x) ≡ true
     → Walking (contour_of value cs) n (point_of value o) (point_of value p) (contour_of value (drop i cs)) → IsTrue false ↔ NoSpikes (contour_of value cs)
@@ -202,6 +211,7 @@ spike_item value cs n i o p x h e a b w = (
       (subst (λ (r : List Point). Walking (contour_of value cs) n (point_of value o) (point_of value p) r) (rest-read value cs i x h e) w) s),
 )
 
+-- three or more, as the program tells it
 pub answer : (n : ℕ) {P : Type 0} → (3 ≤ n) ↔ P → IsTrue (leb 3 n) ↔ P
 answer n e = (λ t. e.0 (leb→le 3 n (subst T (sym t) tt)), λ x. is_so (leb 3 n) (le→leb 3 n (e.1 x)))
   where
@@ -209,6 +219,7 @@ answer n e = (λ t. e.0 (leb→le 3 n (subst T (sym t) tt)), λ x. is_so (leb 3 
     is_so true h = refl
     is_so false h = absurd h
 
+-- without points the answer is no
 pub nothing_told : {I : Type 0} (value : I → ℤ) (cs : List (IntPoint I)) → length cs ≤ 0 → IsTrue false ↔ NoSpikes (contour_of value cs)
 nothing_told value cs h = (λ t. absurd (cc), λ s. absurd (none_without_points value cs h s))
 
@@ -233,6 +244,7 @@ same-told {I} value equal law p q = ap (λ (b : Bool). b && equal p.y q.y) (alik
 abbrev pub found_differing : {I : Type 0} → (I → ℤ) → IntPoint I → List (IntPoint I) → Option (IntPoint I)
 found_differing value p xs = find (λ q. not (is_same (point_of value p) (point_of value q))) (reverse xs)
 
+-- the last point that differs is the one that a search from behind finds
 pub differing-found : {I : Type 0} (value : I → ℤ) (p : IntPoint I) (o : Point) (xs : List (IntPoint I))
     → last_differing (point_of value p) o (contour_of value xs) ≡ unwrap_or (option_map (point_of value) (found_differing value p xs)) o
 differing-found value p o [] = refl
@@ -264,6 +276,7 @@ begins value cs last behind h e f F x =
     at : last_differing (point_of value last) (point_of value last) (contour_of value cs) ≡ point_of value behind
     at = differing-found value last (point_of value last) cs ∙ ap (λ r. unwrap_or (option_map (point_of value) r) (point_of value last)) (sym f)
 
+-- the walk begins with the last point, and the last that differs from it
 pub walking_begins : {I : Type 0} (value : I → ℤ) (cs : List (IntPoint I)) (last behind : IntPoint I) → 0 < length cs → last ≡ get_or cs (length cs - 1) last
     → Some behind ≡ found_differing value last cs → Walking (contour_of value cs) 0 (point_of value behind) (point_of value last) (contour_of value cs)
 walking_begins value cs last behind h e f = begins value cs last behind h e f (λ o p. Walking (contour_of value cs) 0 o p (contour_of value cs)) (walking_start (contour_of value cs))
@@ -313,6 +326,7 @@ found_safe {I} w value cs last behind safe e =
     let P : IntPoint I → Type 0 = λ p. IsSafe w (point_of value p) in
     (found_one (λ q. not (is_same (point_of value last) (point_of value q))) P (reverse cs) behind e (all_backwards P cs (points_safe w value cs safe))).0
 
+-- the point that is found differs
 pub found_apart : {I : Type 0} (value : I → ℤ) (cs : List (IntPoint I)) (last behind : IntPoint I) → Some behind ≡ found_differing value last cs → point_of value behind ≢ point_of value last
 found_apart {I} value cs last behind e same =
     let P : IntPoint I → Type 0 = λ p. Unit {0} in
@@ -339,6 +353,7 @@ back_reverses o p q n e h = go (is_reversal o p q) refl
 not_above : (d : ℤ) → d <ℤ pos 0 → d ≤ℤ pos 0
 not_above d h = omega (arith, ints)
 
+-- a path that doesn't go back has no reversal
 pub onward_stays : (o p q : Point) → (IsBack o p q → ⊥) → is_reversal o p q ≡ false
 onward_stays o p q n = go (is_reversal o p q) refl
   where

@@ -13,6 +13,7 @@ use Rattle.i_shape_core.proofs.Rounds.{length-started, started-round, start_at}
 abbrev pub StartsLeast : List Point → ℕ → Type 0
 StartsLeast c s = IsLeast c (started_at c s)
 
+-- a contour from another start is a rotation of it
 pub rotation_at : (c : List Point) (k : ℕ) → Rotation c (started_at c k)
 rotation_at c k = record { front = take k c; back = drop k c; before = sym (take-append-drop k c); after = refl }
 
@@ -59,11 +60,13 @@ least_among c (suc m) = go (least_among c m)
       | inr h ↦ (suc m, omega arith, next (suc m) (λ k l. at_most_trans (started_at c (suc m)) (started_at c w.0) (started_at c k) h (w.2 k l)) (at_most_refl (started_at c (suc m))))
     ]
 
+-- a start whose rotation is at most all others
 pub record LeastStart (c : List Point) : Type 0 where
   pub place : ℕ
   pub within : place < length c
   pub least : StartsLeast c place
 
+-- each contour that has a point has one
 pub has_least_start : (c : List Point) → 0 < length c → LeastStart c
 has_least_start c some = go (least_among c (length c - 1))
   where

@@ -82,13 +82,16 @@ stays_done st h n (step s r) =
     let m = straight_step st n (turn_from_step s) in
     stays_done st m.0 m.1 r
 
+-- where no back point is left, removing zero turns makes none, and leaves three points
 pub keeps_none : {B Z : Test} → Straightens B Z → {c e : List Point} → 3 ≤ length c → ((k : ℕ) → IsRemovable B c k → ⊥) → Reach Z c e → (3 ≤ length e) × ((k : ℕ) → IsRemovable B e k → ⊥)
 keeps_none st {c} {e} h n r =
     let m = stays_done st h (done_from_none_left c n) r in
     (m.0, λ k b. m.1 (remove e k) (turn_from_step (record { place = k; removable = b; left = refl })))
 
+-- an end after back points were removed is an end of the contour
 pub end_by_weaker : {B Z : Test} → Straightens B Z → {c d f : List Point} → Reach B c d → End Z d f → End Z c f
 end_by_weaker st r w = record { reached = reach_trans (reach_by_weaker st.weaker r) w.reached; none_left = w.none_left }
 
+-- and it has three points where three were left
 pub keeps_three : {B Z : Test} → Straightens B Z → {c d f : List Point} → End B c d → 3 ≤ length d → End Z d f → 3 ≤ length f
 keeps_three st w h a = (keeps_none st h w.none_left a.reached).0

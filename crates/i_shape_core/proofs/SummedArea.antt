@@ -52,6 +52,7 @@ pub record IsSummed {I : Type 0} (value : I → ℤ) (w : Width) (first : IntPoi
   pub here : point_of value previous ≡ last_of (point_of value first) (contour_of value taken)
   pub sum : area ≡ int_wrap w (area_along (point_of value first) (contour_of value taken))
 
+-- a point more is summed up
 pub summed-more : {I : Type 0} (value : I → ℤ) (w : Width) (first : IntPoint I) (taken : List (IntPoint I)) (previous point : IntPoint I) (before product after : ℤ)
     → IsSummed value w first taken previous before → product ≡ cross_of (point_of value previous) (point_of value point) → after ≡ int_wrap w (before +ℤ product)
     → IsSummed value w first (taken ++ point ∷ []) point after

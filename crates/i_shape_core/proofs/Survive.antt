@@ -15,6 +15,7 @@ onward a p q z n = go (low_or_above (dot a p q))
     go (inl d) = absurd (n (z, d))
     go (inr d) = d
 
+-- back points and zero turns are such tests as Straightens wants
 pub straightens : Straightens IsBack IsZeroTurn
 straightens = record {
   weaker = λ a p q b. b.0;
@@ -33,9 +34,11 @@ pub record HasNoBack (c : List Point) : Type 0 where
   pub enough : 3 ≤ length c
   pub none : (k : ℕ) → IsRemovable IsBack c k → ⊥
 
+-- removals of zero turns make no back point
 pub no_back_kept : (c d : List Point) → HasNoBack c → Reach IsZeroTurn c d → HasNoBack d
 no_back_kept c d h r = let m = keeps_none straightens h.enough h.none r in record { enough = m.0; none = m.1 }
 
+-- and neither does one of them
 pub no_back_after_step : (c d : List Point) → HasNoBack c → Step IsZeroTurn c d → HasNoBack d
 no_back_after_step c d h s = no_back_kept c d h (step s stay)
 

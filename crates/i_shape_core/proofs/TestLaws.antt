@@ -7,6 +7,7 @@ use Rattle.i_shape_core.specs.Contour.{Test}
 abbrev pub Slides : Test → Type 0
 Slides P = (a p q b : Point) → P a p q → P p q b → (p ≡ q) ⊎ (P a q b × P a p b)
 
+-- whether three points pass the test can be told
 abbrev pub Decided : Test → Type 0
 Decided P = (a b c : Point) → Dec (P a b c)
 

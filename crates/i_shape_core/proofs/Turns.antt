@@ -11,12 +11,15 @@ pub record Place : Type 0 where
   pub x : Term
   pub y : Term
 
+-- the turn of three points as a polynomial
 abbrev pub cross_term : Place → Place → Place → Term
 cross_term a b c = plus (times (plus b.x (minus a.x)) (plus c.y (minus b.y))) (minus (times (plus b.y (minus a.y)) (plus c.x (minus b.x))))
 
+-- the dot product at three points as a polynomial
 abbrev pub dot_term : Place → Place → Place → Term
 dot_term a b c = plus (times (plus b.x (minus a.x)) (plus c.x (minus b.x))) (times (plus b.y (minus a.y)) (plus c.y (minus b.y)))
 
+-- what an edge adds to the double area, as a polynomial
 abbrev pub area_term : Place → Place → Term
 area_term a b = plus (times a.x b.y) (minus (times a.y b.x))
 
@@ -24,15 +27,19 @@ area_term a b = plus (times a.x b.y) (minus (times a.y b.x))
 abbrev pub A : Place
 A = record { x = variable 0; y = variable 1 }
 
+-- the second point
 abbrev pub B : Place
 B = record { x = variable 2; y = variable 3 }
 
+-- the third
 abbrev pub C : Place
 C = record { x = variable 4; y = variable 5 }
 
+-- the fourth
 abbrev pub D : Place
 D = record { x = variable 6; y = variable 7 }
 
+-- the values of the variables
 abbrev pub coordinates : List Point → List ℤ
 coordinates [] = []
 coordinates (p ∷ ps) = p.x ∷ p.y ∷ coordinates ps
@@ -42,24 +49,29 @@ pub triangle : (a b c : Point) → cross a b c ≡ cross b c a
 unfolding cross
 triangle a b c = ring (coordinates (a ∷ b ∷ c ∷ [])) (cross_term A B C) (cross_term B C A) refl
 
+-- read backwards a turn has the other sign
 pub cross_reversed : (a b c : Point) → cross c b a ≡ neg_ℤ (cross a b c)
 unfolding cross
 cross_reversed a b c = ring (coordinates (a ∷ b ∷ c ∷ [])) (cross_term C B A) (minus (cross_term A B C)) refl
 
+-- a zero turn is one backwards too
 pub zero_reversed : (a b c : Point) → cross a b c ≡ pos 0 → cross c b a ≡ pos 0
 zero_reversed a b c e = back (cross a b c) (cross c b a) (cross_reversed a b c) e
   where
     back : (x y : ℤ) → y ≡ neg_ℤ x → x ≡ pos 0 → y ≡ pos 0
     back x y e f = omega (arith, ints)
 
+-- the dot product is the same backwards
 pub dot_reversed : (a b c : Point) → dot c b a ≡ dot a b c
 unfolding dot
 dot_reversed a b c = ring (coordinates (a ∷ b ∷ c ∷ [])) (dot_term C B A) (dot_term A B C) refl
 
+-- standing still last isn't a turn
 pub cross-same : (a p : Point) → cross a p p ≡ pos 0
 unfolding cross
 cross-same a p = ring (coordinates (a ∷ p ∷ [])) (cross_term A B B) (number (pos 0)) refl
 
+-- the edge between two points
 abbrev pub edge : Point → Point → Edge
 edge a b = record { start = a; end = b }
 
@@ -82,6 +94,7 @@ pub four_points : (a p q b : Point) → cross a p b +ℤ cross p q b ≡ cross a
 unfolding cross
 four_points a p q b = ring (coordinates (a ∷ p ∷ q ∷ b ∷ [])) (plus (cross_term A B D) (cross_term B C D)) (plus (cross_term A B C) (cross_term A C D)) refl
 
+-- points of the same coordinates are the same
 pub same_point : (p q : Point) → p.x ≡ q.x → p.y ≡ q.y → p ≡ q
 same_point p q e f = λ i. record { x = e i; y = f i }
 

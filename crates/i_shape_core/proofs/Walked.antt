@@ -11,17 +11,20 @@ use Rattle.i_shape_core.proofs.Contours.{rest-read, rest-none}
 use Rattle.i_shape_core.proofs.Turns.{edge}
 use Rattle.i_shape_core.proofs.Inside.{bit, tally, right_when}
 
+-- an edge between points on one side of the line through p doesn't count
 pub right_flat : (p a b : Point) (s t : Bool) → s ≡ int_lt p.y a.y → t ≡ int_lt p.y b.y → beq s t ≡ true → false ≡ is_right p (edge a b)
 right_flat p a b true true e f h = sym (right_when p a b true true (sym e) (sym f))
 right_flat p a b false false e f h = sym (right_when p a b false false (sym e) (sym f))
 right_flat p a b true false e f h = absurd (cc)
 right_flat p a b false true e f h = absurd (cc)
 
+-- an edge that goes down counts by the turn at p
 pub right_down : (p a b : Point) (s t r : Bool) → s ≡ int_lt p.y a.y → t ≡ int_lt p.y b.y → beq s t ≡ false → s ≡ true → r ≡ int_lt (cross b p a) (pos 0) → r ≡ is_right p (edge a b)
 right_down p a b true false r e f h k g = g ∙ sym (right_when p a b true false (sym e) (sym f))
 right_down p a b true true r e f h k g = absurd (cc)
 right_down p a b false t r e f h k g = absurd (cc)
 
+-- and one that goes up too
 pub right_up : (p a b : Point) (s t r : Bool) → s ≡ int_lt p.y a.y → t ≡ int_lt p.y b.y → beq s t ≡ false → s ≡ false → r ≡ int_lt (cross a p b) (pos 0) → r ≡ is_right p (edge a b)
 right_up p a b false true r e f h k g = g ∙ sym (right_when p a b false true (sym e) (sym f))
 right_up p a b false false r e f h k g = absurd (cc)
@@ -32,6 +35,7 @@ abbrev pub path_over : Point → List Point → List Edge
 path_over q [] = []
 path_over q (p ∷ ps) = edge q p ∷ path_over p ps
 
+-- the edges of a closed path are those of the open path, and the closing one
 pub between_is : (a : Point) (bs : List Point) (z : Point) → edges_between a bs z ≡ path_over a bs ++ edge (last_of a bs) z ∷ []
 between_is a [] z = refl
 between_is a (b ∷ bs) z = ap (λ (es : List Edge). edge a b ∷ es) (between_is b bs z)
@@ -56,11 +60,13 @@ flipped true false n m e = omega arith
 flipped false true n m e = omega arith
 flipped false false n m e = omega arith
 
+-- an edge more is counted
 pub walk_more : (p q x : Point) (rest : List Point) (s : Bool) (m : ℕ) → (bit s + count_by (is_right p) (path_over q (x ∷ rest))) % 2 ≡ m
     → (bit (cond (is_right p (edge q x)) (not s) s) + count_by (is_right p) (path_over x rest)) % 2 ≡ m
 walk_more p q x rest s m e = flipped s (is_right p (edge q x)) (count_by (is_right p) (path_over x rest)) m
     (ap (λ (n : ℕ). (bit s + n) % 2) (sym (sum_by-cons (tally p) (edge q x) (path_over x rest))) ∙ e)
 
+-- after the last edge the parity tells whether the point is inside
 pub walk_done : (c : List Point) (p : Point) (s : Bool) → (bit s + 0) % 2 ≡ count_by (is_right p) (edges c) % 2 → IsTrue s ↔ Inside c p
 unfolding Inside
 walk_done c p true e = (λ h. sym e ∙ refl, λ h. refl)
@@ -74,6 +80,7 @@ last_item : {I : Type 0} (value : I → ℤ) (x : IntPoint I) (xs : List (IntPoi
 last_item value x [] d = refl
 last_item value x (y ∷ xs) d = last_item value y xs d
 
+-- the last point that the program reads is that of the contour
 pub last_point : {I : Type 0} (value : I → ℤ) (cs : List (IntPoint I)) (last : IntPoint I) → 0 < length cs → last ≡ get_or cs (length cs - 1) last → point_of value last ≡ last_of origin (contour_of value cs)
 last_point value [] last h e = absurd (omega arith)
 last_point value (x ∷ xs) last h e = ap (point_of value) (e ∙ ap (λ (i : ℕ). get_or (x ∷ xs) i last) (less_one (length xs))) ∙ last_item value x xs last
@@ -81,6 +88,7 @@ last_point value (x ∷ xs) last h e = ap (point_of value) (e ∙ ap (λ (i : �
     less_one : (n : ℕ) → suc n - 1 ≡ n
     less_one n = omega arith
 
+-- before the first point nothing is counted
 pub walk_start : {I : Type 0} (value : I → ℤ) (p : Point) (cs : List (IntPoint I)) (last : IntPoint I) → 0 < length cs → last ≡ get_or cs (length cs - 1) last → Counted value p cs 0 last false
 walk_start value p [] last h e = absurd (omega arith)
 walk_start value p (x ∷ xs) last h e = ap (λ (n : ℕ). n % 2) (zero_plus (count_by (is_right p) (path_over (point_of value last) (contour_of value (x ∷ xs)))))
@@ -90,16 +98,19 @@ walk_start value p (x ∷ xs) last h e = ap (λ (n : ℕ). n % 2) (zero_plus (co
     zero_plus : (n : ℕ) → 0 + n ≡ n
     zero_plus n = omega arith
 
+-- a point more is walked to
 pub walk_step : {I : Type 0} (value : I → ℤ) (p : Point) (cs : List (IntPoint I)) (i : ℕ) (start x : IntPoint I) (s s' : Bool) → i < length cs → x ≡ get_or cs i x
     → Counted value p cs i start s → s' ≡ cond (is_right p (edge (point_of value start) (point_of value x))) (not s) s → Counted value p cs (i + 1) x s'
 walk_step {I} value p cs i start x s s' h e k f =
     rw f (walk_more p (point_of value start) (point_of value x) (contour_of value (drop (i + 1) cs)) s (count_by (is_right p) (edges (contour_of value cs)) % 2)
     (subst (λ (ps : List Point). (bit s + count_by (is_right p) (path_over (point_of value start) ps)) % 2 ≡ count_by (is_right p) (edges (contour_of value cs)) % 2) (rest-read value cs i x h e) k))
 
+-- after the last point the parity tells whether p is inside
 pub walk_end : {I : Type 0} (value : I → ℤ) (p : Point) (cs : List (IntPoint I)) (i : ℕ) (start : IntPoint I) (s : Bool) → length cs ≤ i → Counted value p cs i start s → IsTrue s ↔ Inside (contour_of value cs) p
 walk_end {I} value p cs i start s h k = walk_done (contour_of value cs) p s
     (subst (λ (ps : List Point). (bit s + count_by (is_right p) (path_over (point_of value start) ps)) % 2 ≡ count_by (is_right p) (edges (contour_of value cs)) % 2) (rest-none value cs i h) k)
 
+-- without points nothing is inside
 pub nothing_inside : {I : Type 0} (value : I → ℤ) (p : Point) (cs : List (IntPoint I)) → length cs ≤ 0 → IsTrue false ↔ Inside (contour_of value cs) p
 unfolding Inside
 nothing_inside value p [] h = (λ e. absurd (cc), λ e. absurd (omega arith))

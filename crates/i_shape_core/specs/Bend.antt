@@ -12,17 +12,17 @@ IsBend a b c Right = cross a b c <ℤ pos 0
 IsBend a b c Reversal = (cross a b c ≡ pos 0) × (dot a b c <ℤ pos 0)
 
 -- the bend of a way that bends so and then so, where there is one
-abbrev pub joined : Bend → Bend → Option Bend
-joined Straight next = Some next
-joined Left Straight = Some Left
-joined Left Left = Some Left
-joined Left Right = None
-joined Left Reversal = None
-joined Right Straight = Some Right
-joined Right Left = None
-joined Right Right = Some Right
-joined Right Reversal = None
-joined Reversal Straight = Some Reversal
-joined Reversal Left = None
-joined Reversal Right = None
-joined Reversal Reversal = Some Reversal
+abbrev pub bend_of_both : Bend → Bend → Option Bend
+bend_of_both Straight next = Some next
+bend_of_both Left Straight = Some Left
+bend_of_both Left Left = Some Left
+bend_of_both Left Right = None
+bend_of_both Left Reversal = None
+bend_of_both Right Straight = Some Right
+bend_of_both Right Left = None
+bend_of_both Right Right = Some Right
+bend_of_both Right Reversal = None
+bend_of_both Reversal Straight = Some Reversal
+bend_of_both Reversal Left = None
+bend_of_both Reversal Right = None
+bend_of_both Reversal Reversal = Some Reversal

@@ -2,7 +2,7 @@
 use Rattle.std.specs.Prelude.{◌≡◌, ◌≤◌, ◌⊎◌, ◌↔◌, ◌<ℤ◌, ℕ, List, [], ◌∷◌, ◌++◌, take, drop, length, Option, Some, None}
 use Rattle.i_shape_core.specs.Point.{Point, IsZeroTurn}
 use Rattle.i_shape_core.specs.Contour.{Test, Step, End, Rotation}
-use Rattle.i_shape_core.specs.Answers.{IsOneEnd, EachEndCollapses}
+use Rattle.i_shape_core.specs.Cleaners.{IsOneEnd, EachEndCollapses}
 
 -- p comes before q: by x, and then by y
 abbrev pub IsBefore : Point → Point → Type 0

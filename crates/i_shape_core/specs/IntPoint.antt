@@ -1,5 +1,6 @@
 -- Points of the program, as points over whole numbers.
-use Rattle.std.specs.Prelude.{ℤ, ◌<ℤ◌, ◌-◌, ◌^◌, pos, neg_ℤ, List, map}
+use Rattle.std.specs.Prelude.{ℤ, ◌<ℤ◌, ◌-◌, ◌^◌, pos, neg_ℤ, List, map, Option, option_map}
+use Rattle.std.specs.Global.{Vec}
 use Rattle.std.specs.Int.{Width}
 use Rattle.std.specs.List.{All}
 use Rattle.i_shape_core.specs.Point.{Point}
@@ -13,6 +14,10 @@ point_of value p = record { x = value p.x; y = value p.y }
 -- the contour that a list of the program's points stands for
 abbrev pub contour_of : {I : Type 0} → (I → ℤ) → List (IntPoint I) → List Point
 contour_of value points = map (point_of value) points
+
+-- what an answer stands for, where `read` is what its items stand for: none where there is no answer
+abbrev pub answered : {X Y : Type 0} → (List X → Y) → Option (Vec X) → Option Y
+answered read answer = option_map (λ kept. read kept.items) answer
 
 -- a coordinate lies strictly between -2^(B-2) and 2^(B-2), where B is the number of bits
 abbrev pub IsSafeCoordinate : Width → ℤ → Type 0

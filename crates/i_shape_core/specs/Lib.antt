@@ -6,7 +6,7 @@ pub mod Contour
 pub mod Edges
 pub mod Convex
 pub mod Laws
-pub mod Answers
+pub mod Cleaners
 pub mod Turn
 pub mod Bend
 pub mod Probe
@@ -17,3 +17,4 @@ pub mod Canonical
 pub mod Comparer
 pub mod Rounds
 pub mod RingWalk
+pub mod Unoriented

@@ -2,7 +2,7 @@
 
 ghost use Rattle.std.specs.Prelude.{◌≡◌};
 ghost use Rattle.i_shape_core.specs.IntPoint.{point_of, IsSafe};
-ghost use Rattle.i_shape_core.specs.Bend.{IsBend, joined};
+ghost use Rattle.i_shape_core.specs.Bend.{IsBend, bend_of_both};
 
 use crate::number::{IntNumber, WideIntNumber};
 use crate::point::IntPoint;
@@ -23,7 +23,7 @@ pub enum Bend {
 impl Bend {
     /// The bend of a way that bends so and then so. There is none where the two differ, unless one of them is straight.
     pub fn joined_with(self, next: Bend) -> Option<Bend>
-        ensures { result ≡ joined self next }
+        ensures { result ≡ bend_of_both self next }
     {
         match (self, next) {
             (Bend::Straight, _) => Some(next),

@@ -1,12 +1,12 @@
 //! The canonical form of a contour: the least rotation of what is left of it without zero turns.
 
-ghost use Rattle.std.specs.Prelude.{◌≡◌, ◌⊎◌, ℕ, ◌+◌, ◌-◌, ◌*◌, ◌<◌, ◌≤◌, min, max, length, vec_len, IfOk, IsOkUnless, option_map};
+ghost use Rattle.std.specs.Prelude.{◌≡◌, ◌⊎◌, ℕ, ◌+◌, ◌-◌, ◌*◌, ◌<◌, ◌≤◌, min, max, length, vec_len, IfOk, IsOkUnless};
 ghost use Rattle.std.specs.Option.{IfSome};
 ghost use Rattle.std.specs.List.{All};
 ghost use Rattle.std.specs.Ordering.{MatchOrdering};
-ghost use Rattle.i_shape_core.specs.IntPoint.{contour_of, IsSafe};
+ghost use Rattle.i_shape_core.specs.IntPoint.{contour_of, IsSafe, answered};
 ghost use Rattle.i_shape_core.specs.Contour.{point_at};
-ghost use Rattle.i_shape_core.specs.Answers.{KeptAnswer};
+ghost use Rattle.i_shape_core.specs.Cleaners.{KeptAnswer};
 ghost use Rattle.i_shape_core.specs.Canonical.{IsBefore, IsLeast, CanonicalAnswer, started_at};
 ghost use Rattle.i_shape_core.specs.Comparer.{IsOrder};
 ghost use Rattle.i_shape_core.specs.Rounds.{Agree, Precedes, AreAfter};
@@ -26,8 +26,8 @@ impl ContourSimplifier {
         contour: &[IntPoint<I>],
     ) -> Result<Option<IntContour<I>>, ShapeError>
         requires { All (IsSafe I.width) (contour_of I.value contour.now) }
-        ensures answer { IfOk result (λ r. CanonicalAnswer (contour_of I.value contour.now) (option_map (λ kept. contour_of I.value kept.items) r)) }
-        ensures kept { IfOk result (λ r. KeptAnswer (contour_of I.value contour.now) (option_map (λ kept. contour_of I.value kept.items) r)) }
+        ensures answer { IfOk result (λ r. CanonicalAnswer (contour_of I.value contour.now) (answered (contour_of I.value) r)) }
+        ensures kept { IfOk result (λ r. KeptAnswer (contour_of I.value contour.now) (answered (contour_of I.value) r)) }
         ensures safe { IfOk result (λ r. IfSome r (λ kept. All (IsSafe I.width) (contour_of I.value kept.items))) }
         ensures short { length contour.now < 3 → result ≡ Ok None }
         ensures memory { IsOkUnless result ShapeError.OutOfMemory }
@@ -41,7 +41,7 @@ impl ContourSimplifier {
 }
 
 /// Turns a contour in place to its least rotation.
-fn turn_to_least<I: IntNumber>(contour: &mut IntContour<I>)
+pub(crate) fn turn_to_least<I: IntNumber>(contour: &mut IntContour<I>)
     requires { 0 < vec_len contour.old }
     ensures { IsLeast (contour_of I.value contour.old.items) (contour_of I.value contour.new.items) }
 {
@@ -147,8 +147,8 @@ fn compare_starts<I: IntNumber>(
     let count = comparer.len();
     let mut matched = 1;
     while matched < count {
-        let ours = place_after(count, kept, matched);
-        let theirs = place_after(count, rival, matched);
+        let ours = place_at_step(count, kept, matched);
+        let theirs = place_at_step(count, rival, matched);
         let (agreed, order) = compare_runs(comparer, ours, theirs, count - matched);
         match order {
             Ordering::Equal => matched += agreed,
@@ -186,7 +186,7 @@ fn compare_runs<I: IntNumber>(
 }
 
 /// The place `steps` after `start` on a cycle of `count` places.
-fn place_after(count: usize, start: usize, steps: usize) -> usize
+fn place_at_step(count: usize, start: usize, steps: usize) -> usize
     requires start_within { start < count }
     requires steps_within { steps < count }
     ensures within { result < count }

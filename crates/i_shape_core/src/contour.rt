@@ -10,9 +10,9 @@ ghost use Rattle.i_shape_core.specs.Convex.{Convex};
 
 use crate::area::UnsafeArea;
 use crate::bend::{Bend, bend_of};
-use crate::despike::{are_same, last_other};
 use crate::number::{IntNumber, WideIntNumber};
 use crate::point::IntPoint;
+use crate::same::{are_same, last_other};
 use crate::triangle::Triangle;
 
 /// Tests of a contour as a whole. Each is one pass and takes no memory.

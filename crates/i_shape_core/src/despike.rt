@@ -1,13 +1,13 @@
 //! Contours without spikes: the test, and the cleaned copy.
 
-ghost use Rattle.std.specs.Prelude.{◌≡◌, ◌↔◌, ◌+◌, ◌-◌, ◌*◌, ◌^◌, ◌<◌, ◌≤◌, List, length, reverse, IsTrue, IfOk, IsOkUnless, not, option_map};
+ghost use Rattle.std.specs.Prelude.{◌≡◌, ◌↔◌, ◌+◌, ◌-◌, ◌*◌, ◌^◌, ◌<◌, ◌≤◌, List, length, IsTrue, IfOk, IsOkUnless};
 ghost use Rattle.std.specs.Option.{IfSome};
-ghost use Rattle.std.specs.List.{All, find};
-ghost use Rattle.i_shape_core.specs.IntPoint.{contour_of, point_of, IsSafe};
+ghost use Rattle.std.specs.List.{All};
+ghost use Rattle.i_shape_core.specs.IntPoint.{contour_of, point_of, IsSafe, answered};
 ghost use Rattle.i_shape_core.specs.Point.{Point, IsBack};
 ghost use Rattle.i_shape_core.specs.Sublist.{Sublist};
-ghost use Rattle.i_shape_core.specs.Convex.{NoSpikes, is_same};
-ghost use Rattle.i_shape_core.specs.Answers.{SpikelessAnswer, KeptAnswer, VisitsAnswer};
+ghost use Rattle.i_shape_core.specs.Convex.{NoSpikes};
+ghost use Rattle.i_shape_core.specs.Cleaners.{SpikelessAnswer, KeptAnswer, VisitsAnswer};
 ghost use Rattle.i_shape_core.specs.Walk.{WalkAnswer};
 ghost use Rattle.i_shape_core.specs.RingWalk.{IsRingState, PassesAtPlace};
 
@@ -16,6 +16,7 @@ use crate::number::IntNumber;
 use crate::point::{IntContour, IntPoint};
 use crate::probe::Probe;
 use crate::ring::Ring;
+use crate::same::{are_same, last_other};
 use crate::turn::{Turn, turn_of};
 use std::alloc::Global;
 
@@ -37,9 +38,9 @@ pub trait DeSpikeContour<I: IntNumber> {
     /// The only error is `OutOfMemory`; below three points no memory is taken.
     fn despiked_contour(&self, alloc: Global) -> Result<Option<IntContour<I>>, ShapeError>
         requires { All (IsSafe I.width) (contour self.now) }
-        ensures answer { IfOk result (λ r. SpikelessAnswer (contour self.now) (option_map (λ kept. contour_of I.value kept.items) r)) }
+        ensures answer { IfOk result (λ r. SpikelessAnswer (contour self.now) (answered (contour_of I.value) r)) }
         ensures in_order { IfOk result (λ r. IfSome r (λ kept. Sublist (contour self.now) (contour_of I.value kept.items))) }
-        ensures kept { IfOk result (λ r. KeptAnswer (contour self.now) (option_map (λ kept. contour_of I.value kept.items) r)) }
+        ensures kept { IfOk result (λ r. KeptAnswer (contour self.now) (answered (contour_of I.value) r)) }
         ensures safe { IfOk result (λ r. IfSome r (λ kept. All (IsSafe I.width) (contour_of I.value kept.items))) }
         ensures short { length (contour self.now) < 3 → result ≡ Ok None }
         ensures memory { IsOkUnless result ShapeError.OutOfMemory };
@@ -48,20 +49,20 @@ pub trait DeSpikeContour<I: IntNumber> {
     /// but for two where the contour collapses, and none where it has fewer than three.
     fn despiked_counted(&self, alloc: Global) -> Result<(Option<IntContour<I>>, u128), ShapeError>
         requires { All (IsSafe I.width) (contour self.now) }
-        ensures answer { IfOk result (λ r. SpikelessAnswer (contour self.now) (option_map (λ kept. contour_of I.value kept.items) r.0)) }
+        ensures answer { IfOk result (λ r. SpikelessAnswer (contour self.now) (answered (contour_of I.value) r.0)) }
         ensures in_order { IfOk result (λ r. IfSome r.0 (λ kept. Sublist (contour self.now) (contour_of I.value kept.items))) }
-        ensures kept { IfOk result (λ r. KeptAnswer (contour self.now) (option_map (λ kept. contour_of I.value kept.items) r.0)) }
+        ensures kept { IfOk result (λ r. KeptAnswer (contour self.now) (answered (contour_of I.value) r.0)) }
         ensures safe { IfOk result (λ r. IfSome r.0 (λ kept. All (IsSafe I.width) (contour_of I.value kept.items))) }
-        ensures visits { IfOk result (λ r. VisitsAnswer (contour self.now) (option_map (λ kept. contour_of I.value kept.items) r.0) r.1) }
+        ensures visits { IfOk result (λ r. VisitsAnswer (contour self.now) (answered (contour_of I.value) r.0) r.1) }
         ensures short { length (contour self.now) < 3 → result ≡ Ok (None, 0) }
         ensures memory { IsOkUnless result ShapeError.OutOfMemory };
 }
 
-impl<I: IntNumber> DeSpikeContour<I> for IntContour<I> {
-    ghost contour = { λ contour. contour_of I.value contour.items };
+impl<I: IntNumber> DeSpikeContour<I> for &[IntPoint<I>] {
+    ghost contour = { λ points. contour_of I.value points.now };
 
     fn has_no_spikes(&self) -> bool {
-        has_no_reversal(self.as_slice())
+        has_no_reversal(*self)
     }
 
     fn despiked_contour(&self, alloc: Global) -> Result<Option<IntContour<I>>, ShapeError> {
@@ -70,11 +71,28 @@ impl<I: IntNumber> DeSpikeContour<I> for IntContour<I> {
     }
 
     fn despiked_counted(&self, alloc: Global) -> Result<(Option<IntContour<I>>, u128), ShapeError> {
-        if self.len() < 3 {
+        let points: &[IntPoint<I>] = *self;
+        if points.len() < 3 {
             return Ok((None, 0));
         }
-        let ring = Ring::full(alloc, self.len())?;
-        walk(alloc, Probe::new(self.as_slice()), ring)
+        let ring = Ring::full(alloc, points.len())?;
+        walk(alloc, Probe::new(points), ring)
+    }
+}
+
+impl<I: IntNumber> DeSpikeContour<I> for IntContour<I> {
+    ghost contour = { λ contour. contour_of I.value contour.items };
+
+    fn has_no_spikes(&self) -> bool {
+        self.as_slice().has_no_spikes()
+    }
+
+    fn despiked_contour(&self, alloc: Global) -> Result<Option<IntContour<I>>, ShapeError> {
+        self.as_slice().despiked_contour(alloc)
+    }
+
+    fn despiked_counted(&self, alloc: Global) -> Result<(Option<IntContour<I>>, u128), ShapeError> {
+        self.as_slice().despiked_counted(alloc)
     }
 }
 
@@ -97,7 +115,7 @@ fn walk<I: IntNumber>(
     mut ring: Ring,
 ) -> Result<(Option<IntContour<I>>, u128), ShapeError>
     requires { IsRingState IsBack (contour_of I.value probe.contour) ring probe.visits }
-    ensures answer { IfOk result (λ r. WalkAnswer IsBack (contour_of I.value probe.entry.contour) (option_map (λ kept. contour_of I.value kept.items) r.0) r.1) }
+    ensures answer { IfOk result (λ r. WalkAnswer IsBack (contour_of I.value probe.entry.contour) (answered (contour_of I.value) r.0) r.1) }
     ensures memory { IsOkUnless result ShapeError.OutOfMemory }
 {
     while ring.untested() > 0 {
@@ -113,12 +131,6 @@ fn walk<I: IntNumber>(
     Ok((Some(kept), visits))
 }
 
-pub(crate) fn are_same<I: IntNumber>(a: IntPoint<I>, b: IntPoint<I>) -> bool
-    ensures { result ≡ is_same (point_of I.value a) (point_of I.value b) }
-{
-    a == b
-}
-
 /// Whether the way from `a` over `b` to `c` turns back at `b`, or stands still there.
 fn goes_back<I: IntNumber>(a: IntPoint<I>, b: IntPoint<I>, c: IntPoint<I>) -> bool
     requires a_safe { IsSafe I.width (point_of I.value a) }
@@ -127,20 +139,6 @@ fn goes_back<I: IntNumber>(a: IntPoint<I>, b: IntPoint<I>, c: IntPoint<I>) -> bo
     ensures { IsTrue result ↔ IsBack (point_of I.value a) (point_of I.value b) (point_of I.value c) }
 {
     turn_of(a, b, c) == Turn::Back
-}
-
-/// The last of the points that isn't `point`.
-pub(crate) fn last_other<I: IntNumber>(
-    points: &[IntPoint<I>],
-    point: IntPoint<I>,
-) -> Option<IntPoint<I>>
-    ensures { result ≡ find (λ other. not (is_same (point_of I.value point) (point_of I.value other))) (reverse points.now) }
-{
-    points
-        .iter()
-        .rev()
-        .copied()
-        .find(|other| !are_same(point, *other))
 }
 
 /// Whether at least three points are left without repeated ones, and the way over them nowhere goes back.

@@ -18,6 +18,7 @@ ghost use Rattle.i_shape_core.specs.Laws.{
   RotatedEnds,
   Twice,
 };
+ghost use Rattle.i_shape_core.specs.Unoriented.{UnorientedJoined};
 
 use crate::number::IntNumber;
 use crate::point::IntPoint;
@@ -79,6 +80,12 @@ pub fn convex_kept<I: IntNumber>(_c: &[IntPoint<I>], _d: &[IntPoint<I>])
 /// removals and insertions of zero-turn vertices, in which each contour has at least three points.
 pub fn canonical_joined<I: IntNumber>(_c: &[IntPoint<I>], _d: &[IntPoint<I>])
     ensures { CanonicalJoined (contour_of I.value _c.now) (contour_of I.value _d.now) }
+{}
+
+/// Two contours that don't collapse have equal unoriented forms exactly where such a chain joins them, or one to the other read
+/// backwards.
+pub fn unoriented_joined<I: IntNumber>(_c: &[IntPoint<I>], _d: &[IntPoint<I>])
+    ensures { UnorientedJoined (contour_of I.value _c.now) (contour_of I.value _d.now) }
 {}
 
 /// Points are told equal by `==` exactly where they are the same point.

@@ -1,14 +1,15 @@
-//! Contours without zero turns: the test, the cleaned copy and its canonical form.
+//! Contours without zero turns: the test, the cleaned copy and its canonical forms.
 
-ghost use Rattle.std.specs.Prelude.{◌≡◌, ◌↔◌, ◌<◌, List, length, IsTrue, IfOk, IsOkUnless, option_map};
+ghost use Rattle.std.specs.Prelude.{◌≡◌, ◌↔◌, ◌<◌, List, length, IsTrue, IfOk, IsOkUnless};
 ghost use Rattle.std.specs.Option.{IfSome};
 ghost use Rattle.std.specs.List.{All};
-ghost use Rattle.i_shape_core.specs.IntPoint.{contour_of, IsSafe};
+ghost use Rattle.i_shape_core.specs.IntPoint.{contour_of, IsSafe, answered};
 ghost use Rattle.i_shape_core.specs.Point.{Point};
 ghost use Rattle.i_shape_core.specs.Sublist.{Sublist};
 ghost use Rattle.i_shape_core.specs.Contour.{IsSimple};
-ghost use Rattle.i_shape_core.specs.Answers.{SimpleAnswer, KeptAnswer};
+ghost use Rattle.i_shape_core.specs.Cleaners.{SimpleAnswer, KeptAnswer};
 ghost use Rattle.i_shape_core.specs.Canonical.{CanonicalAnswer};
+ghost use Rattle.i_shape_core.specs.Unoriented.{UnorientedAnswer, KeptEitherWay};
 
 use crate::error::ShapeError;
 use crate::number::{IntNumber, WideIntNumber};
@@ -33,9 +34,9 @@ pub trait SimpleContour<I: IntNumber> {
     /// The only error is `OutOfMemory`; below three points no memory is taken.
     fn simplified(&self, alloc: Global) -> Result<Option<IntContour<I>>, ShapeError>
         requires { All (IsSafe I.width) (contour self.now) }
-        ensures answer { IfOk result (λ r. SimpleAnswer (contour self.now) (option_map (λ kept. contour_of I.value kept.items) r)) }
+        ensures answer { IfOk result (λ r. SimpleAnswer (contour self.now) (answered (contour_of I.value) r)) }
         ensures in_order { IfOk result (λ r. IfSome r (λ kept. Sublist (contour self.now) (contour_of I.value kept.items))) }
-        ensures kept { IfOk result (λ r. KeptAnswer (contour self.now) (option_map (λ kept. contour_of I.value kept.items) r)) }
+        ensures kept { IfOk result (λ r. KeptAnswer (contour self.now) (answered (contour_of I.value) r)) }
         ensures safe { IfOk result (λ r. IfSome r (λ kept. All (IsSafe I.width) (contour_of I.value kept.items))) }
         ensures short { length (contour self.now) < 3 → result ≡ Ok None }
         ensures memory { IsOkUnless result ShapeError.OutOfMemory };
@@ -47,8 +48,21 @@ pub trait SimpleContour<I: IntNumber> {
     /// The only error is `OutOfMemory`; below three points no memory is taken.
     fn canonical(&self, alloc: Global) -> Result<Option<IntContour<I>>, ShapeError>
         requires { All (IsSafe I.width) (contour self.now) }
-        ensures answer { IfOk result (λ r. CanonicalAnswer (contour self.now) (option_map (λ kept. contour_of I.value kept.items) r)) }
-        ensures kept { IfOk result (λ r. KeptAnswer (contour self.now) (option_map (λ kept. contour_of I.value kept.items) r)) }
+        ensures answer { IfOk result (λ r. CanonicalAnswer (contour self.now) (answered (contour_of I.value) r)) }
+        ensures kept { IfOk result (λ r. KeptAnswer (contour self.now) (answered (contour_of I.value) r)) }
+        ensures safe { IfOk result (λ r. IfSome r (λ kept. All (IsSafe I.width) (contour_of I.value kept.items))) }
+        ensures short { length (contour self.now) < 3 → result ≡ Ok None }
+        ensures memory { IsOkUnless result ShapeError.OutOfMemory };
+
+    /// The canonical form whichever way round the contour is wound: the one that comes first of the canonical forms of the contour
+    /// and of the contour read backwards. Two contours that don't collapse have the same such form exactly where removals and
+    /// insertions of zero-turn vertices, and rotations, lead from one to the other, or to the other read backwards.
+    /// `None` exactly where `simplified` is. Double area but for its sign, and containment, are kept, and the points are safe again.
+    /// The only error is `OutOfMemory`; below three points no memory is taken.
+    fn canonical_unoriented(&self, alloc: Global) -> Result<Option<IntContour<I>>, ShapeError>
+        requires { All (IsSafe I.width) (contour self.now) }
+        ensures answer { IfOk result (λ r. UnorientedAnswer (contour self.now) (answered (contour_of I.value) r)) }
+        ensures kept { IfOk result (λ r. KeptEitherWay (contour self.now) (answered (contour_of I.value) r)) }
         ensures safe { IfOk result (λ r. IfSome r (λ kept. All (IsSafe I.width) (contour_of I.value kept.items))) }
         ensures short { length (contour self.now) < 3 → result ≡ Ok None }
         ensures memory { IsOkUnless result ShapeError.OutOfMemory };
@@ -82,5 +96,9 @@ impl<I: IntNumber> SimpleContour<I> for &[IntPoint<I>] {
 
     fn canonical(&self, alloc: Global) -> Result<Option<IntContour<I>>, ShapeError> {
         ContourSimplifier::new(alloc).canonical(*self)
+    }
+
+    fn canonical_unoriented(&self, alloc: Global) -> Result<Option<IntContour<I>>, ShapeError> {
+        ContourSimplifier::new(alloc).canonical_unoriented(*self)
     }
 }

@@ -1,13 +1,13 @@
 //! The cleaner that removes zero turns.
 
-ghost use Rattle.std.specs.Prelude.{◌≡◌, ◌↔◌, ◌+◌, ◌-◌, ◌*◌, ◌^◌, ◌<◌, ◌≤◌, [], take, drop, min, IsTrue, length, vec_len, vec_capacity, IfOk, IsOkUnless, option_map};
+ghost use Rattle.std.specs.Prelude.{◌≡◌, ◌↔◌, ◌+◌, ◌-◌, ◌*◌, ◌^◌, ◌<◌, ◌≤◌, [], take, drop, min, IsTrue, length, vec_len, vec_capacity, IfOk, IsOkUnless};
 ghost use Rattle.std.specs.Option.{IfSome};
 ghost use Rattle.std.specs.List.{All};
-ghost use Rattle.i_shape_core.specs.IntPoint.{contour_of, IsSafe};
+ghost use Rattle.i_shape_core.specs.IntPoint.{contour_of, IsSafe, answered};
 ghost use Rattle.i_shape_core.specs.Point.{IsZeroTurn};
 ghost use Rattle.i_shape_core.specs.Sublist.{Sublist};
 ghost use Rattle.i_shape_core.specs.Contour.{point_at};
-ghost use Rattle.i_shape_core.specs.Answers.{SimpleAnswer, KeptAnswer, VisitsAnswer};
+ghost use Rattle.i_shape_core.specs.Cleaners.{SimpleAnswer, KeptAnswer, VisitsAnswer};
 ghost use Rattle.i_shape_core.specs.Stack.{IsWalked, IsStacked, IsSettled};
 ghost use Rattle.i_shape_core.specs.Walk.{WalkAnswer};
 
@@ -39,9 +39,9 @@ impl ContourSimplifier {
         contour: &[IntPoint<I>],
     ) -> Result<Option<IntContour<I>>, ShapeError>
         requires { All (IsSafe I.width) (contour_of I.value contour.now) }
-        ensures answer { IfOk result (λ r. SimpleAnswer (contour_of I.value contour.now) (option_map (λ kept. contour_of I.value kept.items) r)) }
+        ensures answer { IfOk result (λ r. SimpleAnswer (contour_of I.value contour.now) (answered (contour_of I.value) r)) }
         ensures in_order { IfOk result (λ r. IfSome r (λ kept. Sublist (contour_of I.value contour.now) (contour_of I.value kept.items))) }
-        ensures kept { IfOk result (λ r. KeptAnswer (contour_of I.value contour.now) (option_map (λ kept. contour_of I.value kept.items) r)) }
+        ensures kept { IfOk result (λ r. KeptAnswer (contour_of I.value contour.now) (answered (contour_of I.value) r)) }
         ensures safe { IfOk result (λ r. IfSome r (λ kept. All (IsSafe I.width) (contour_of I.value kept.items))) }
         ensures short { length contour.now < 3 → result ≡ Ok None }
         ensures memory { IsOkUnless result ShapeError.OutOfMemory }
@@ -57,11 +57,11 @@ impl ContourSimplifier {
         contour: &[IntPoint<I>],
     ) -> Result<(Option<IntContour<I>>, u128), ShapeError>
         requires { All (IsSafe I.width) (contour_of I.value contour.now) }
-        ensures answer { IfOk result (λ r. SimpleAnswer (contour_of I.value contour.now) (option_map (λ kept. contour_of I.value kept.items) r.0)) }
+        ensures answer { IfOk result (λ r. SimpleAnswer (contour_of I.value contour.now) (answered (contour_of I.value) r.0)) }
         ensures in_order { IfOk result (λ r. IfSome r.0 (λ kept. Sublist (contour_of I.value contour.now) (contour_of I.value kept.items))) }
-        ensures kept { IfOk result (λ r. KeptAnswer (contour_of I.value contour.now) (option_map (λ kept. contour_of I.value kept.items) r.0)) }
+        ensures kept { IfOk result (λ r. KeptAnswer (contour_of I.value contour.now) (answered (contour_of I.value) r.0)) }
         ensures safe { IfOk result (λ r. IfSome r.0 (λ kept. All (IsSafe I.width) (contour_of I.value kept.items))) }
-        ensures visits { IfOk result (λ r. VisitsAnswer (contour_of I.value contour.now) (option_map (λ kept. contour_of I.value kept.items) r.0) r.1) }
+        ensures visits { IfOk result (λ r. VisitsAnswer (contour_of I.value contour.now) (answered (contour_of I.value) r.0) r.1) }
         ensures short { length contour.now < 3 → result ≡ Ok (None, 0) }
         ensures memory { IsOkUnless result ShapeError.OutOfMemory }
     {
@@ -136,7 +136,7 @@ fn close<I: IntNumber>(
     stack: &[usize],
 ) -> Result<(Option<IntContour<I>>, u128), ShapeError>
     requires { let c = contour_of I.value probe.contour in IsWalked IsZeroTurn c stack.now (length c) probe.visits }
-    ensures answer { IfOk result (λ r. WalkAnswer IsZeroTurn (contour_of I.value probe.entry.contour) (option_map (λ kept. contour_of I.value kept.items) r.0) r.1) }
+    ensures answer { IfOk result (λ r. WalkAnswer IsZeroTurn (contour_of I.value probe.entry.contour) (answered (contour_of I.value) r.0) r.1) }
     ensures memory { IsOkUnless result ShapeError.OutOfMemory }
 {
     let mut left = stack;

@@ -8,6 +8,7 @@ use crate::given::contour;
 use crate::given_shapes::shape;
 use crate::resource::WholePoint;
 use callers::consumer::{all_points, count_paths, count_shape_paths, same_safe_range};
+use callers::copies::{copied_as_one_shape, copied_paths};
 use callers::corners::corners;
 use callers::pipeline::cleaned_contours;
 use callers::store::{CanonicalStore, Insertion};
@@ -37,6 +38,32 @@ fn consumers_answer_from_the_law(rt: HostRuntime) -> Result<(), Fail> {
     equal(&rt, count_shape_paths(&whole), 1, "a point", "paths");
     let both = same_safe_range(&points, points.as_slice());
     holds(&rt, both == (true, true), name, "whether they are safe");
+    Ok(())
+}
+
+#[test]
+fn a_resource_is_read_back_from_the_generic_buffers(rt: HostRuntime) -> Result<(), Fail> {
+    let alloc = rt.alloc();
+    let name = "two points, and a path without points";
+    let whole = [WholePoint { x: 7, y: 1 }, WholePoint { x: 2, y: -3 }];
+    let paths = [whole.to_vec(alloc)?, Vec::new(alloc)];
+    let copies = copied_paths(alloc, &paths)?;
+    holds(
+        &rt,
+        copies.as_slice() == paths.as_slice(),
+        name,
+        "the copies",
+    );
+    let list = copied_as_one_shape(alloc, &paths)?;
+    assert!(rt; list.len() == 1, "another number of shapes");
+    holds(
+        &rt,
+        list[0].as_slice() == paths.as_slice(),
+        name,
+        "the shape",
+    );
+    let list = copied_as_one_shape(alloc, &paths[..0])?;
+    equal(&rt, list.len(), 0, "no paths", "shapes");
     Ok(())
 }
 

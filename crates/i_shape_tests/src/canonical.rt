@@ -58,8 +58,17 @@ const EARLY: [i32; 2] = [2, 6];
 
 const NEXT: [i32; 2] = [0, 6];
 
+/// The corners of the widest square of 32 bits.
+const SOUTHWEST: [i32; 2] = [-1073741823, -1073741823];
+
+const SOUTHEAST: [i32; 2] = [1073741823, -1073741823];
+
+const NORTHEAST: [i32; 2] = [1073741823, 1073741823];
+
+const NORTHWEST: [i32; 2] = [-1073741823, 1073741823];
+
 /// A name, a contour, and the canonical form that it has from each start.
-const ROTATED: [Row; 6] = [
+const ROTATED: [Row; 7] = [
     (
         "a triangle four times",
         &[A, B, C, A, B, C, A, B, C, A, B, C],
@@ -89,6 +98,17 @@ const ROTATED: [Row; 6] = [
         "a sliver",
         &[[3, -9], [-2, 7], [-5, 8], [-5, 6]],
         &[[-5, 6], [3, -9], [-2, 7], [-5, 8]],
+    ),
+    (
+        "the widest square of 32 bits, three times",
+        &[
+            SOUTHWEST, SOUTHEAST, NORTHEAST, NORTHWEST, SOUTHWEST, SOUTHEAST, NORTHEAST, NORTHWEST,
+            SOUTHWEST, SOUTHEAST, NORTHEAST, NORTHWEST,
+        ],
+        &[
+            SOUTHWEST, SOUTHEAST, NORTHEAST, NORTHWEST, SOUTHWEST, SOUTHEAST, NORTHEAST, NORTHWEST,
+            SOUTHWEST, SOUTHEAST, NORTHEAST, NORTHWEST,
+        ],
     ),
 ];
 

@@ -5,6 +5,7 @@ ghost use Rattle.std.specs.Iterator.SizeHint.{IsWithinCount};
 use crate::claims::{equal, holds};
 use crate::resource::{WholePoint, lends_points};
 use i_shape::flat::float::{FloatFlatContoursBuffer, FloatFlatShapesBuffer};
+use i_shape::source::float::resource::ShapeResource;
 use i_shape::{ShapeError, path};
 use std::alloc::{AllocError, Global};
 use std::ops::Range;
@@ -323,6 +324,24 @@ fn bad_ranges_are_passed_over(rt: HostRuntime) -> Result<(), Fail> {
     let wanted = [one, Vec::new(alloc), both];
     let ranges = &[1..2, 0..0, 0..2];
     passes_over(&rt, alloc, "an empty range stays", ranges, &wanted, true)
+}
+
+#[test]
+fn count_is_the_number_of_readable_paths_left(rt: HostRuntime) -> Result<(), Fail> {
+    let alloc = rt.alloc();
+    let points = [at(1, 2), at(3, 4)];
+    let ranges = &[5..6, 0..1, 2..1, 1..2, 0..2, 0..3];
+    let mut contours = FloatFlatContoursBuffer::new(alloc);
+    contours.set_flat(&points, ranges)?;
+    let mut walk = (&contours).iter_paths();
+    walk.next();
+    equal(&rt, walk.count(), 2, "contours", "paths after one");
+    let mut shapes = FloatFlatShapesBuffer::new(alloc);
+    shapes.set_flat(&points, ranges, &[])?;
+    let mut walk = (&shapes).iter_paths();
+    walk.next();
+    equal(&rt, walk.count(), 2, "shapes", "paths after one");
+    Ok(())
 }
 
 /// So many items, and what a hint says of them: so many at least, and at most.

@@ -7,9 +7,9 @@ use std::alloc::Global;
 use std::process::Abort;
 use std::test::Fail;
 
-/// Without zero turns the contour of `given` becomes that of `wanted` in place, which is told. What is left of it then stays,
-/// which is told too.
-fn simplifies<I: IntNumber>(
+/// Without zero turns the contour of `given` becomes that of `wanted` in place, which is told. A second call changes nothing, and
+/// tells again that a contour collapses.
+pub fn simplifies<I: IntNumber>(
     rt: &impl Abort,
     alloc: Global,
     name: &str,
@@ -17,19 +17,18 @@ fn simplifies<I: IntNumber>(
     wanted: &[[I; 2]],
 ) -> Result<(), Fail> {
     let mut cleaned = contour(rt, alloc, given)?;
-    let mut wanted = contour(rt, alloc, wanted)?;
+    let wanted = contour(rt, alloc, wanted)?;
     holds(rt, cleaned.simplify_contour()?, name, "no change is told");
     holds(rt, cleaned == wanted, name, "without zero turns");
-    if !wanted.is_empty() {
-        holds(rt, !wanted.simplify_contour()?, name, "a change is told");
-        holds(rt, cleaned == wanted, name, "without zero turns, again");
-    }
+    let again = cleaned.simplify_contour()?;
+    equal(rt, again, wanted.is_empty(), name, "what is told again");
+    holds(rt, cleaned == wanted, name, "without zero turns, again");
     Ok(())
 }
 
-/// Without spikes the contour of `given` becomes that of `wanted` in place, and `answer` tells whether there were any. What is
-/// left of it then stays, which is told too.
-fn despikes<I: IntNumber>(
+/// Without spikes the contour of `given` becomes that of `wanted` in place, and `answer` tells whether there were any. A second
+/// call changes nothing, and tells again that a contour collapses.
+pub fn despikes<I: IntNumber>(
     rt: &impl Abort,
     alloc: Global,
     name: &str,
@@ -38,13 +37,12 @@ fn despikes<I: IntNumber>(
     wanted: &[[I; 2]],
 ) -> Result<(), Fail> {
     let mut cleaned = contour(rt, alloc, given)?;
-    let mut wanted = contour(rt, alloc, wanted)?;
+    let wanted = contour(rt, alloc, wanted)?;
     equal(rt, cleaned.remove_spikes()?, answer, name, "what is told");
     holds(rt, cleaned == wanted, name, "without spikes");
-    if !wanted.is_empty() {
-        holds(rt, !wanted.remove_spikes()?, name, "a change is told");
-        holds(rt, cleaned == wanted, name, "without spikes, again");
-    }
+    let again = cleaned.remove_spikes()?;
+    equal(rt, again, wanted.is_empty(), name, "what is told again");
+    holds(rt, cleaned == wanted, name, "without spikes, again");
     Ok(())
 }
 

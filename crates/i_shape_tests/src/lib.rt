@@ -20,6 +20,8 @@ mod contour;
 #[cfg(test)]
 mod count;
 #[cfg(test)]
+mod debug;
+#[cfg(test)]
 mod despike;
 #[cfg(test)]
 mod generic_buffer;
@@ -32,11 +34,15 @@ mod in_place;
 #[cfg(test)]
 mod laws;
 #[cfg(test)]
+mod long_contours;
+#[cfg(test)]
 mod macros;
 #[cfg(test)]
 mod number;
 #[cfg(test)]
 mod plain;
+#[cfg(test)]
+mod polygons;
 #[cfg(test)]
 mod probe;
 #[cfg(test)]
@@ -49,5 +55,7 @@ mod simple;
 mod small_grid;
 #[cfg(test)]
 mod through_buffer;
+#[cfg(test)]
+mod too_many_points;
 #[cfg(test)]
 mod tool;

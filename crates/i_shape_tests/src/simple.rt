@@ -2,6 +2,7 @@ use crate::given::{
     SQUARES_16, SQUARES_64, all_hold, hostile_rings, pairs, safe_contour, thousands,
 };
 use crate::plain::is_rotation;
+use i_shape::IntNumber;
 use i_shape::int::simple::{ContourSimplifier, SimpleContour};
 use std::alloc::Global;
 use std::process::Abort;
@@ -257,45 +258,30 @@ fn a_thousand_points_on_a_line_or_at_one_place_collapse(rt: HostRuntime) {
     }
 }
 
-/// Asks each call of a contour that doesn't collapse what is left of it.
-macro_rules! leaves_at {
-    ($rt:expr, $alloc:expr, $simplifier:expr, $name:expr, $given:expr, $left:expr) => {
-        let given = safe_contour($rt, $alloc, $given);
-        let left = safe_contour($rt, $alloc, $left);
-        let points = given.as_slice();
-        let is_simple = points.is_simple() == (given == left);
-        let own = points.simplified($alloc).expect($rt, $name);
-        let reused = $simplifier.simplify_contour(points).expect($rt, $name);
-        let wanted = Some(left);
-        let answers = [
-            (is_simple, "is_simple"),
-            (own == wanted, "simplified"),
-            (reused == wanted, "simplify_contour"),
-        ];
-        all_hold($rt, $name, &answers);
-    };
-}
-
-fn narrow_leaves(
+/// Each call leaves this of a contour, and nothing where it collapses. The simplifier may have cleaned others before.
+fn leaves_at<I: IntNumber>(
     rt: &impl Abort,
     alloc: Global,
     simplifier: &mut ContourSimplifier,
     name: &str,
-    given: &[[i16; 2]],
-    left: &[[i16; 2]],
+    given: &[[I; 2]],
+    left: &[[I; 2]],
 ) {
-    leaves_at!(rt, alloc, simplifier, name, given, left);
-}
-
-fn wide_leaves(
-    rt: &impl Abort,
-    alloc: Global,
-    simplifier: &mut ContourSimplifier,
-    name: &str,
-    given: &[[i64; 2]],
-    left: &[[i64; 2]],
-) {
-    leaves_at!(rt, alloc, simplifier, name, given, left);
+    let given = safe_contour(rt, alloc, given);
+    let left = safe_contour(rt, alloc, left);
+    let points = given.as_slice();
+    let is_simple = points.is_simple() == (!left.is_empty() && given == left);
+    let wanted = if left.is_empty() { None } else { Some(left) };
+    let own = points.simplified(alloc).expect(rt, name);
+    let reused = simplifier.simplify_contour(points).expect(rt, name);
+    let (counted, _) = simplifier.simplify_counted(points).expect(rt, name);
+    let answers = [
+        (is_simple, "is_simple"),
+        (own == wanted, "simplified"),
+        (reused == wanted, "simplify_contour"),
+        (counted == wanted, "simplify_counted"),
+    ];
+    all_hold(rt, name, &answers);
 }
 
 #[test]
@@ -312,7 +298,7 @@ fn narrow_contours_leave_their_one_end(rt: HostRuntime) {
         ),
     ];
     for (name, given, left) in &rows {
-        narrow_leaves(&rt, rt.alloc(), &mut simplifier, name, given, left);
+        leaves_at::<i16>(&rt, rt.alloc(), &mut simplifier, name, given, left);
     }
 }
 
@@ -320,6 +306,91 @@ fn narrow_contours_leave_their_one_end(rt: HostRuntime) {
 fn wide_contours_are_their_one_end(rt: HostRuntime) {
     let mut simplifier = ContourSimplifier::new(rt.alloc());
     for (name, list) in &SQUARES_64 {
-        wide_leaves(&rt, rt.alloc(), &mut simplifier, name, list, list);
+        leaves_at::<i64>(&rt, rt.alloc(), &mut simplifier, name, list, list);
+    }
+}
+
+/// Contours of one width, and what is left of them: a long one, a short one and one that collapses.
+type Mixed<I> = [(&'static str, &'static [[I; 2]], &'static [[I; 2]]); 3];
+
+const MIXED_16: Mixed<i16> = [
+    (
+        "a long one of 16 bits",
+        &[
+            [0, 0],
+            [0, 1024],
+            [0, 1024],
+            [512, 1024],
+            [1024, 1024],
+            [1024, 1024],
+            [1024, 0],
+        ],
+        &[[0, 0], [0, 1024], [1024, 1024], [1024, 0]],
+    ),
+    ("two points of 16 bits", &[[3, 4], [5, 6]], &[]),
+    (
+        "a line of 16 bits",
+        &[[0, 0], [0, 512], [0, 1], [0, 7]],
+        &[],
+    ),
+];
+
+const MIXED_32: Mixed<i32> = [
+    (
+        "a long one of 32 bits",
+        &[
+            [0, 0],
+            [10, 0],
+            [2, 0],
+            [8, 0],
+            [4, 0],
+            [6, 0],
+            [6, 6],
+            [0, 6],
+            [0, 3],
+        ],
+        &[[0, 0], [6, 0], [6, 6], [0, 6]],
+    ),
+    ("two points of 32 bits", &[[3, 4], [5, 6]], &[]),
+    (
+        "a line of 32 bits",
+        &[[0, 0], [0, 512], [0, 1], [0, 7]],
+        &[],
+    ),
+];
+
+const MIXED_64: Mixed<i64> = [
+    (
+        "a long one of 64 bits",
+        &[
+            [0, 0],
+            [0, 1024],
+            [0, 1024],
+            [512, 1024],
+            [1024, 1024],
+            [1024, 1024],
+            [1024, 0],
+        ],
+        &[[0, 0], [0, 1024], [1024, 1024], [1024, 0]],
+    ),
+    ("two points of 64 bits", &[[3, 4], [5, 6]], &[]),
+    (
+        "a line of 64 bits",
+        &[[0, 0], [0, 512], [0, 1], [0, 7]],
+        &[],
+    ),
+];
+
+#[test]
+fn one_simplifier_serves_the_three_widths_in_turn(rt: HostRuntime) {
+    let alloc = rt.alloc();
+    let mut simplifier = ContourSimplifier::new(alloc);
+    for turn in 0..6 {
+        let (name, given, left) = MIXED_64[turn % 3];
+        leaves_at(&rt, alloc, &mut simplifier, name, given, left);
+        let (name, given, left) = MIXED_16[(turn + 1) % 3];
+        leaves_at(&rt, alloc, &mut simplifier, name, given, left);
+        let (name, given, left) = MIXED_32[(turn + 2) % 3];
+        leaves_at(&rt, alloc, &mut simplifier, name, given, left);
     }
 }

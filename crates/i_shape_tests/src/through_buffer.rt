@@ -8,7 +8,7 @@ use std::process::Abort;
 use std::test::Fail;
 
 /// Both cleaners leave `wanted` of `given`, through a buffer as without one.
-fn both_leave<I: IntNumber>(
+pub fn both_leave<I: IntNumber>(
     rt: &impl Abort,
     alloc: Global,
     name: &str,

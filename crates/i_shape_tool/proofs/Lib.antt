@@ -13,3 +13,4 @@ pub mod Compacting
 pub mod Examples
 -- the laws
 pub mod LineLaws
+pub mod Splitting

@@ -41,6 +41,7 @@ one_of : (line : List ℕ) → (length line ≡ 0) ⊎ (0 < length line)
 one_of [] = inl refl
 one_of (b ∷ bs) = inr (omega arith)
 
+-- a line reads one contour at most
 pub one_reading : (line : List ℕ) (c d : List Point) → Reads line c → Reads line d → c ≡ d
 one_reading line c d (words, is, says) (others, same, again) =
     ⊎_elim
@@ -75,5 +76,6 @@ shown_says : (c : List Point) → AllByRecursion FitPoint c → SayPoints (map s
 shown_says [] fit = tt
 shown_says (p ∷ c) fit = (shown_is_decimal p.x fit.0.0, shown_is_decimal p.y fit.0.1, shown_says c fit.1)
 
+-- what is shown of a contour reads that contour
 pub shown_reads : (c : List Point) → AllByRecursion FitPoint c → Reads (shown c) c
 shown_reads c fit = (map signed_decimal (coordinates c), refl, shown_says c fit)

@@ -48,9 +48,6 @@ pub record HasRead (words left : List (List ℕ)) (done : List Point) : Type 0 w
   pub split : words ≡ front ++ left
   pub says : SayPoints front done
 
-pub read_nothing : (words : List (List ℕ)) → HasRead words words []
-read_nothing words = record { front = []; split = refl; says = tt }
-
 says-append : (front words : List (List ℕ)) (done c : List Point) → SayPoints front done → SayPoints words c → SayPoints (front ++ words) (done ++ c)
 says-append [] words [] c says more = more
 says-append [] words (p ∷ done) c says more = absurd says

@@ -3,9 +3,11 @@ use Rattle.std.proofs.Common.{◌≡◌, ℕ, ◌+◌, ◌<◌, ◌≤◌, List,
 use Rattle.std.specs.List.{flat_map, AllByRecursion}
 use Rattle.std.proofs.lemmas.Grind.{flat_map-append}
 use Rattle.i_shape_tool.specs.declared.command.Command.{Command}
+use Rattle.i_shape_tool.specs.declared.command.LineCommand.{LineCommand}
 use Rattle.i_shape_tool.specs.declared.fault.ToolFault.{ToolFault}
+use Rattle.i_shape_tool.specs.Command.{command_of}
 use Rattle.i_shape_tool.specs.Text.{lines_of, newline}
-use Rattle.i_shape_tool.specs.Run.{IsGood, AnswersLine, AnswersEach, AnswersLines, ended, IsFaultOfLine, IsFirstFault}
+use Rattle.i_shape_tool.specs.Run.{IsGood, AnswersLine, AnswersEach, ended, IsFaultOfLine, IsFirstFault}
 
 -- the lines before those of what is left, and their number
 pub record HasPassed (text left : List ℕ) (before : List (List ℕ)) (number : ℕ) : Type 0 where
@@ -13,6 +15,7 @@ pub record HasPassed (text left : List ℕ) (before : List (List ℕ)) (number :
   pub counted : number ≡ length before
   pub room : number + length left ≤ length text
 
+-- before the first line none is passed
 pub passed_nothing : (text : List ℕ) → HasPassed text text [] 0
 passed_nothing text = record { split = refl; counted = refl; room = omega arith }
 
@@ -35,27 +38,28 @@ first_fault command text left after line before number fault passed good is wron
     (before, line, lines_of after, passed.split ∙ ap (λ l. before ++ l) is, good, subst (λ n. IsFaultOfLine command line n fault) (ap (λ n. n + 1) passed.counted) wrong)
 
 -- the lines before those of what is left are answered by the output so far
-pub record HasAnswered (command : Command) (text left output : List ℕ) (number : ℕ) : Type 0 where
+pub record HasAnswered (command : LineCommand) (text left output : List ℕ) (number : ℕ) : Type 0 where
   pub before : List (List ℕ)
   pub answers : List (List ℕ)
   pub passed : HasPassed text left before number
   pub answered : AnswersEach command before answers
   pub written : output ≡ flat_map ended answers
 
-answers-append : (command : Command) (before lines answers more : List (List ℕ)) → AnswersEach command before answers → AnswersEach command lines more → AnswersEach command (before ++ lines) (answers ++ more)
+pub answers-append : (command : LineCommand) (before lines answers more : List (List ℕ)) → AnswersEach command before answers → AnswersEach command lines more → AnswersEach command (before ++ lines) (answers ++ more)
 answers-append command [] lines [] more each others = others
 answers-append command [] lines (answer ∷ answers) more each others = absurd each
 answers-append command (line ∷ before) lines [] more each others = absurd each
 answers-append command (line ∷ before) lines (answer ∷ answers) more each others = (each.0, answers-append command before lines answers more each.1 others)
 
-all_good : (command : Command) (lines answers : List (List ℕ)) → AnswersEach command lines answers → AllByRecursion (IsGood command) lines
+all_good : (command : LineCommand) (lines answers : List (List ℕ)) → AnswersEach command lines answers → AllByRecursion (IsGood (command_of command)) lines
 all_good command [] answers each = tt
 all_good command (line ∷ lines) [] each = absurd each
 all_good command (line ∷ lines) (answer ∷ answers) each =
     let (c, gives, says) = each.0 in
     ((c, gives), all_good command lines answers each.1)
 
-pub answered_nothing : (command : Command) (text output : List ℕ) → output ≡ [] → HasAnswered command text text output 0
+-- and none is answered
+pub answered_nothing : (command : LineCommand) (text output : List ℕ) → output ≡ [] → HasAnswered command text text output 0
 answered_nothing command text output is = record {
   before = [];
   answers = [];
@@ -65,7 +69,7 @@ answered_nothing command text output is = record {
 }
 
 -- an answer more
-pub answer_more : (command : Command) (text left after output new line answer : List ℕ) (number : ℕ) → HasAnswered command text left output number → lines_of left ≡ line ∷ lines_of after → length after < length left → AnswersLine command line answer → new ≡ (output ++ answer) ++ newline ∷ [] → HasAnswered command text after new (number + 1)
+pub answer_more : (command : LineCommand) (text left after output new line answer : List ℕ) (number : ℕ) → HasAnswered command text left output number → lines_of left ≡ line ∷ lines_of after → length after < length left → AnswersLine command line answer → new ≡ (output ++ answer) ++ newline ∷ [] → HasAnswered command text after new (number + 1)
 answer_more command text left after output new line answer number done is shorter says grown = record {
   before = done.before ++ line ∷ [];
   answers = done.answers ++ answer ∷ [];
@@ -74,12 +78,7 @@ answer_more command text left after output new line answer number done is shorte
   written = grown ∙ append_assoc output answer (newline ∷ []) ∙ (λ i. done.written i ++ sym (append-nil (ended answer)) i) ∙ sym (flat_map-append ended done.answers (answer ∷ []));
 }
 
--- where nothing is left, the output answers the text
-pub answered_all : (command : Command) (text left output : List ℕ) (number : ℕ) → HasAnswered command text left output number → length left ≡ 0 → AnswersLines command text output
-answered_all command text left output number done none =
-    (done.answers, subst (λ l. AnswersEach command l done.answers) (sym (passed_all text left done.before number done.passed none)) done.answered, done.written)
-
 -- a fault of the next line is the first
-pub fault_after : (command : Command) (text left after output line : List ℕ) (number : ℕ) (fault : ToolFault) → HasAnswered command text left output number → lines_of left ≡ line ∷ lines_of after → IsFaultOfLine command line (number + 1) fault → IsFirstFault command text fault
+pub fault_after : (command : LineCommand) (text left after output line : List ℕ) (number : ℕ) (fault : ToolFault) → HasAnswered command text left output number → lines_of left ≡ line ∷ lines_of after → IsFaultOfLine (command_of command) line (number + 1) fault → IsFirstFault (command_of command) text fault
 fault_after command text left after output line number fault done is wrong =
-    first_fault command text left after line done.before number fault done.passed (all_good command done.before done.answers done.answered) is wrong
+    first_fault (command_of command) text left after line done.before number fault done.passed (all_good command done.before done.answers done.answered) is wrong

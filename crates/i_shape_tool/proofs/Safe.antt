@@ -21,6 +21,7 @@ told_safe items points told same tells is =
     let all : All (λ p. IsSafePoint (point_of p)) points = tells.0 is in
     (points_safe items).0 (subst (All (λ p. IsSafePoint (point_of p))) same all)
 
+-- and what it says where it fails
 pub told_unsafe : (items points : List (IntPoint ℤ)) (told : Bool) → points ≡ items → IsTrue told ↔ All (λ p. IsSafePoint (point_of p)) points → told ≡ false → IsSafe (contour_of items) → ⊥
 told_unsafe items points told same tells is safe =
     let isnt : told ≡ true = tells.1 (subst (All (λ p. IsSafePoint (point_of p))) (sym same) ((points_safe items).1 safe)) in

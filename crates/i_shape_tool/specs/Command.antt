@@ -2,6 +2,15 @@
 use Rattle.std.specs.Prelude.{ℕ, List, codes}
 use Rattle.i_shape_tool.specs.declared.command.Command.{Command}
 use Rattle.i_shape_tool.specs.declared.command.Command.TheVariants.{Simplify, Despike, Area, Canonical, Compact}
+use Rattle.i_shape_tool.specs.declared.command.LineCommand.{LineCommand}
+use Rattle.i_shape_tool.specs.declared.command.LineCommand.TheVariants as lines
+
+-- the command among all
+abbrev pub command_of : LineCommand → Command
+command_of lines.Simplify = Simplify
+command_of lines.Despike = Despike
+command_of lines.Area = Area
+command_of lines.Canonical = Canonical
 
 -- the word for a command on the command line
 abbrev pub word_of : Command → List ℕ

@@ -3,3 +3,4 @@ pub mod Command
 pub mod Text
 pub mod Run
 pub mod Serve
+pub mod PartedTexts

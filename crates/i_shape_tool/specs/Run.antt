@@ -5,15 +5,17 @@ use Rattle.std.specs.Fmt.{signed_decimal}
 use Rattle.std.specs.Int.{w64, int_wrap}
 use Rattle.i_shape.specs.Point.{Point}
 use Rattle.i_shape.specs.Edges.{shoelace}
-use Rattle.i_shape.specs.Answers.{SimpleAnswer, SpikelessAnswer}
+use Rattle.i_shape.specs.Cleaners.{SimpleAnswer, SpikelessAnswer}
 use Rattle.i_shape.specs.Canonical.{CanonicalAnswer}
 use Rattle.i_shape.specs.Compact as cleaned
 use Rattle.i_shape_tool.specs.declared.command.Command.{Command}
 use Rattle.i_shape_tool.specs.declared.command.Command.TheVariants.{Simplify, Despike, Area, Canonical, Compact}
+use Rattle.i_shape_tool.specs.declared.command.LineCommand.{LineCommand}
+use Rattle.i_shape_tool.specs.declared.command.LineCommand.TheVariants as lines
 use Rattle.i_shape_tool.specs.declared.fault.ToolFault.{ToolFault}
 use Rattle.i_shape_tool.specs.declared.fault.ToolFault.TheVariants.{NotAContour, OutOfRange, OutOfMemory}
 use Rattle.i_shape_tool.specs.Points.{IsSafe}
-use Rattle.i_shape_tool.specs.Command.{IsCleaner}
+use Rattle.i_shape_tool.specs.Command.{IsCleaner, command_of}
 use Rattle.i_shape_tool.specs.Text.{Reads, ReadsNone, shown, lines_of, newline}
 
 -- the line reads c, which a cleaner wants safe
@@ -34,7 +36,7 @@ IsFaultOfLine command line number (NotAContour n) = (n ≡ number) × ReadsNone 
 IsFaultOfLine command line number (OutOfRange n) = (n ≡ number) × ReadsUnsafe command line
 IsFaultOfLine command line number OutOfMemory = Unit {0}
 
--- the fault is that of some line, counted from 1, and no line before it is faulty; memory can always be refused
+-- the fault is that of some line, counted from 1, and no line before it is faulty; memory can be refused at any line, and a text without lines has no fault
 abbrev pub IsFirstFault : Command → List ℕ → ToolFault → Type 0
 IsFirstFault command text fault =
     (before : List (List ℕ)) × (line : List ℕ) × (after : List (List ℕ))
@@ -52,20 +54,19 @@ abbrev pub shown_area : List Point → List ℕ
 shown_area [] = codes "empty"
 shown_area (p ∷ c) = signed_decimal (int_wrap w64 (shoelace (p ∷ c)))
 
--- the answer is what the command says of the contour; of one contour alone `compact` says what `simplify` says
-abbrev pub Answers : Command → List Point → List ℕ → Type 0
-Answers Simplify c answer = (r : Option (List Point)) × SimpleAnswer c r × (answer ≡ shown_or_none r)
-Answers Despike c answer = (r : Option (List Point)) × SpikelessAnswer c r × (answer ≡ shown_or_none r)
-Answers Area c answer = answer ≡ shown_area c
-Answers Canonical c answer = (r : Option (List Point)) × CanonicalAnswer c r × (answer ≡ shown_or_none r)
-Answers Compact c answer = (r : Option (List Point)) × SimpleAnswer c r × (answer ≡ shown_or_none r)
+-- the answer is what the command says of the contour
+abbrev pub AnswersContour : LineCommand → List Point → List ℕ → Type 0
+AnswersContour lines.Simplify c answer = (r : Option (List Point)) × SimpleAnswer c r × (answer ≡ shown_or_none r)
+AnswersContour lines.Despike c answer = (r : Option (List Point)) × SpikelessAnswer c r × (answer ≡ shown_or_none r)
+AnswersContour lines.Area c answer = answer ≡ shown_area c
+AnswersContour lines.Canonical c answer = (r : Option (List Point)) × CanonicalAnswer c r × (answer ≡ shown_or_none r)
 
 -- the answer is what the command says of the contour that the line reads
-abbrev pub AnswersLine : Command → List ℕ → List ℕ → Type 0
-AnswersLine command line answer = (c : List Point) × Gives command line c × Answers command c answer
+abbrev pub AnswersLine : LineCommand → List ℕ → List ℕ → Type 0
+AnswersLine command line answer = (c : List Point) × Gives (command_of command) line c × AnswersContour command c answer
 
 -- an answer for each line, in order
-abbrev pub AnswersEach : Command → List (List ℕ) → List (List ℕ) → Type 0
+abbrev pub AnswersEach : LineCommand → List (List ℕ) → List (List ℕ) → Type 0
 AnswersEach command [] [] = Unit {0}
 AnswersEach command [] (answer ∷ answers) = ⊥
 AnswersEach command (line ∷ lines) [] = ⊥
@@ -81,7 +82,7 @@ abbrev pub shown_line : List Point → List ℕ
 shown_line c = ended (shown c)
 
 -- the output holds one line for each line of the text, in order, and nothing else
-abbrev pub AnswersLines : Command → List ℕ → List ℕ → Type 0
+abbrev pub AnswersLines : LineCommand → List ℕ → List ℕ → Type 0
 AnswersLines command text output =
     (answers : List (List ℕ)) × AnswersEach command (lines_of text) answers × (output ≡ flat_map ended answers)
 
@@ -95,8 +96,8 @@ ShowsCompact text output =
 
 -- the output is what the command answers for the text: all but `compact` answer line by line
 abbrev pub AnswersText : Command → List ℕ → List ℕ → Type 0
-AnswersText Simplify text output = AnswersLines Simplify text output
-AnswersText Despike text output = AnswersLines Despike text output
-AnswersText Area text output = AnswersLines Area text output
-AnswersText Canonical text output = AnswersLines Canonical text output
+AnswersText Simplify text output = AnswersLines lines.Simplify text output
+AnswersText Despike text output = AnswersLines lines.Despike text output
+AnswersText Area text output = AnswersLines lines.Area text output
+AnswersText Canonical text output = AnswersLines lines.Canonical text output
 AnswersText Compact text output = ShowsCompact text output

@@ -1,7 +1,7 @@
 //! Shapes that are cleaned after they went through a flat buffer.
 
 ghost use Rattle.std.specs.Prelude.{◌≡◌, ◌<◌, ◌↔◌, ◌⊎◌, length, IfOk, IsErrOf};
-ghost use Rattle.i_shape.specs.Answers.{SimpleAnswer, DespikeAnswer};
+ghost use Rattle.i_shape.specs.Cleaners.{SimpleAnswer, DespikeAnswer};
 ghost use Rattle.i_shape.specs.Paths.{shape_lists, joined};
 ghost use Rattle.i_shape.specs.ShapeLists.{shapes_of, IsSafeList};
 ghost use Rattle.i_shape.specs.ShapeAnswers.{ListClean, ListKept};

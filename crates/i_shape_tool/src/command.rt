@@ -45,3 +45,28 @@ impl Command {
         }
     }
 }
+
+/// A command that answers each line by itself.
+#[derive(Clone, Copy)]
+pub(crate) enum LineCommand {
+    Simplify,
+    Despike,
+    Area,
+    Canonical,
+}
+
+impl LineCommand {
+    ghost use Rattle.i_shape_tool.specs.Command.{command_of};
+
+    /// The same among all commands.
+    pub(crate) fn command(self) -> Command
+        ensures { result ≡ command_of self }
+    {
+        match self {
+            LineCommand::Simplify => Command::Simplify,
+            LineCommand::Despike => Command::Despike,
+            LineCommand::Area => Command::Area,
+            LineCommand::Canonical => Command::Canonical,
+        }
+    }
+}

@@ -1,9 +1,12 @@
 //! The contours that cleaning leaves of a text.
 
-ghost use Rattle.std.specs.Prelude.{◌≡◌, ◌<◌, length, IfOk, IfErr, string_bytes};
-ghost use Rattle.std.specs.List.{All, AllZip, flat_map};
-ghost use Rattle.i_shape.specs.Flat.{InOrder};
+ghost use Rattle.std.specs.Prelude.{◌≡◌, ◌<◌, ℤ, List, length, IfOk, IfErr, string_bytes};
+ghost use Rattle.std.specs.List.{AllZip, flat_map};
+ghost use Rattle.i_shape.specs.Point.{Point};
+ghost use Rattle.i_shape.specs.IntPoints.{IntPoint};
+ghost use Rattle.i_shape.specs.ContoursBuffer.{HoldsContours};
 ghost use Rattle.i_shape.specs.Compact.{contours_in};
+ghost use Rattle.i_shape.specs.Compact as cleaned;
 ghost use Rattle.i_shape_tool.specs.declared.command.Command.TheVariants.{Compact};
 ghost use Rattle.i_shape_tool.specs.Text.{lines_of};
 ghost use Rattle.i_shape_tool.specs.Run.{Gives, IsFirstFault, ShowsCompact, shown_line};
@@ -13,6 +16,7 @@ use crate::fault::ToolFault;
 use crate::line::{first_line, read_line};
 use crate::show::show_contour;
 use i_shape::flat::buffer::FlatContoursBuffer;
+use i_shape::int::simple::SimpleContour;
 use i_shape::source::int::resource::IntShapeResource;
 use std::alloc::{AllocError, Global};
 
@@ -24,16 +28,16 @@ pub fn compact_lines(alloc: Global, text: &str) -> Result<String, ToolFault>
     if text.is_empty() {
         return Ok(String::new(alloc));
     }
-    let mut buffer = read_lines(alloc, text)?;
-    buffer.simplify_contours()?;
+    let buffer = clean_lines(alloc, text)?;
     Ok(show_contours(alloc, &buffer)?)
 }
 
-/// The contours of all lines, in one buffer.
-fn read_lines(alloc: Global, text: &str) -> Result<FlatContoursBuffer<i32>, ToolFault>
+/// What cleaning leaves of the contours of all lines, in one buffer. Of a contour that collapses it keeps nothing.
+fn clean_lines(alloc: Global, text: &str) -> Result<FlatContoursBuffer<i32>, ToolFault>
     requires { 0 < length text.now }
-    ensures readable { IfOk result (λ buffer. All (InOrder (length buffer.points.items)) buffer.ranges.items) }
-    ensures read { IfOk result (λ buffer. AllZip (Gives Compact) (lines_of text.now) (contours_in (λ z. z) buffer)) }
+    ensures held { IfOk result (λ buffer. (lists : List (List (IntPoint ℤ))) × HoldsContours buffer lists) }
+    ensures left { IfOk result (λ buffer. (contours : List (List Point)) × AllZip (Gives Compact) (lines_of text.now) contours
+        × cleaned.Compact contours (contours_in (λ z. z) buffer)) }
     ensures some { IfOk result (λ _. 0 < length (lines_of text.now)) }
     ensures err { IfErr result (IsFirstFault Compact text.now) }
 {
@@ -45,7 +49,9 @@ fn read_lines(alloc: Global, text: &str) -> Result<FlatContoursBuffer<i32>, Tool
         let (line, after) = first_line(rest);
         number += 1;
         read_line(Command::Compact, line, number, &mut contour)?;
-        buffer.add_contour(contour.as_slice())?;
+        if let Some(kept) = contour.as_slice().simplified(alloc)? {
+            buffer.add_contour(kept.as_slice())?;
+        }
         rest = after;
     }
     Ok(buffer)
@@ -53,7 +59,7 @@ fn read_lines(alloc: Global, text: &str) -> Result<FlatContoursBuffer<i32>, Tool
 
 /// The contours of a buffer, each on a line of its own.
 fn show_contours(alloc: Global, buffer: &FlatContoursBuffer<i32>) -> Result<String, AllocError>
-    requires { All (InOrder (length buffer.now.points.items)) buffer.now.ranges.items }
+    requires { (lists : List (List (IntPoint ℤ))) × HoldsContours buffer.now lists }
     ensures { IfOk result (λ output. string_bytes output ≡ flat_map shown_line (contours_in (λ z. z) buffer.now)) }
 {
     let mut output = String::new(alloc);

@@ -1,7 +1,6 @@
 //! Cleans the contours of a text.
 #![tactic(auto)]
 
-mod answers;
 mod buffers;
 mod command;
 mod compact;
@@ -10,9 +9,10 @@ pub mod laws;
 mod line;
 mod program;
 mod show;
+mod text;
 
-pub use answers::run;
 pub use buffers::{clean_through_buffer, despike_through_buffer};
 pub use command::Command;
 pub use fault::ToolFault;
 pub use program::{Complaint, serve};
+pub use text::run;

@@ -15,8 +15,8 @@ fn main(rt: HostRuntime) -> ExitCode {
             &mut rt.stdout(),
             &mut errors,
         ),
-        Err(_) => {
-            let complaint = Complaint::InputOrOutput;
+        Err(error) => {
+            let complaint = Complaint::of_read(error);
             let _ = complaint.tell(&mut errors);
             complaint.status()
         }

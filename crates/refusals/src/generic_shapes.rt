@@ -190,6 +190,23 @@ fn set_with_resource(rt: HostRuntime) -> Result<(), Fail> {
 }
 
 #[test]
+fn set_with_a_resource_without_paths(rt: HostRuntime) -> Result<(), Fail> {
+    let Ok(mut buffer) = full(rt.alloc(), &MARK, &[0..1], &[]) else {
+        return Ok(());
+    };
+    let paths: [&[Spot]; 0] = [];
+    told_of_buffer(
+        &rt,
+        "FloatFlatShapesBuffer::set_with_resource without paths",
+        buffer.set_with_resource(&paths),
+        lists(&buffer),
+        lists_of(&MARK, &[0..1], &[]),
+        lists_of(&[], &[], &[]),
+    )?;
+    Ok(())
+}
+
+#[test]
 fn to_contours(rt: HostRuntime) -> Result<(), Fail> {
     let Ok(buffer) = full(rt.alloc(), &BOTH, &[0..2, 2..5], &[]) else {
         return Ok(());

@@ -106,15 +106,11 @@ fn served(rt: HostRuntime) -> Result<(), Fail> {
     let status = serve(alloc, &[word], &mut input, &mut output, &mut errors);
     let (wanted, line, end) = match status {
         0 => ("0 0 4 0 4 4\n", "", "done"),
-        3 => ("", "out of memory\n", "refused"),
-        _ => ("", "input or output failed\n", "refused"),
+        _ => ("", "out of memory\n", "refused"),
     };
     println!(rt; "serve {end}")?;
     assert_eq!(rt; output.as_slice(), wanted.as_bytes());
     assert_eq!(rt; errors.as_slice(), line.as_bytes());
-    assert!(rt;
-        status == 0 || status == if input.is_empty() { 3 } else { 4 },
-        "{status}"
-    );
+    assert!(rt; status == 0 || status == 3, "{status}");
     Ok(())
 }

@@ -1,11 +1,11 @@
 //! Shapes and shape lists, cleaned by any cleaner of contours.
 
-ghost use Rattle.std.specs.Prelude.{◌≡◌, ◌↔◌, ◌++◌, List, Option, Some, IsTrue, IfOk, IfSome, OnOk, IsOkUnless, option_map};
+ghost use Rattle.std.specs.Prelude.{◌≡◌, ◌↔◌, ◌++◌, List, Option, Some, IsTrue, IfOk, IfSome, OnOk, IsOkUnless};
 ghost use Rattle.std.specs.List.{All};
 ghost use Rattle.std.specs.Option.{option_to_list};
 ghost use Rattle.i_shape_core.specs.Point.{Point};
-ghost use Rattle.i_shape_core.specs.IntPoint.{contour_of, IsSafe};
-ghost use Rattle.i_shape_core.specs.Answers.{KeptAnswer};
+ghost use Rattle.i_shape_core.specs.IntPoint.{contour_of, IsSafe, answered};
+ghost use Rattle.i_shape_core.specs.Cleaners.{KeptAnswer};
 ghost use Rattle.i_shape.specs.Survivors.{Survivors};
 ghost use Rattle.i_shape.specs.ShapeLists.{shape_of, shapes_of, IsSafeShape, IsSafeList};
 ghost use Rattle.i_shape.specs.ShapeAnswers.{ShapeClean, ListClean, EachContour, EachShape, AreKept, ListKept};
@@ -14,6 +14,7 @@ ghost use Rattle.i_shape.specs.InPlace.{CleansShape, CleansList};
 use crate::int::shape::{IntContour, IntShape, IntShapes};
 use i_shape_core::error::ShapeError;
 use i_shape_core::number::IntNumber;
+use i_shape_core::point::IntPoint;
 use std::alloc::Global;
 
 /// A cleaner of contours of safe points. One value cleans any number of them, and may keep its memory from one to the next.
@@ -28,15 +29,15 @@ pub trait ContourCleaner<I: IntNumber>: Drop {
     fn start(alloc: Global) -> Self;
 
     /// Whether the contour needs no cleaning. It takes no memory.
-    fn is_clean(contour: &IntContour<I>) -> bool
-        requires { All (IsSafe I.width) (contour_of I.value contour.now.items) }
-        ensures { IsTrue result ↔ clean (contour_of I.value contour.now.items) };
+    fn is_clean(contour: &[IntPoint<I>]) -> bool
+        requires { All (IsSafe I.width) (contour_of I.value contour.now) }
+        ensures { IsTrue result ↔ clean (contour_of I.value contour.now) };
 
     /// The cleaned contour, of one that needs cleaning. The only error is `OutOfMemory`.
-    fn cleaned(&mut self, contour: &IntContour<I>) -> Result<Option<IntContour<I>>, ShapeError>
-        requires safe { All (IsSafe I.width) (contour_of I.value contour.now.items) }
-        requires unclean { clean (contour_of I.value contour.now.items) → ⊥ }
-        ensures answer { IfOk result (λ r. answers (contour_of I.value contour.now.items) (option_map (λ kept. contour_of I.value kept.items) r)) }
+    fn cleaned(&mut self, contour: &[IntPoint<I>]) -> Result<Option<IntContour<I>>, ShapeError>
+        requires safe { All (IsSafe I.width) (contour_of I.value contour.now) }
+        requires unclean { clean (contour_of I.value contour.now) → ⊥ }
+        ensures answer { IfOk result (λ r. answers (contour_of I.value contour.now) (answered (contour_of I.value) r)) }
         ensures memory { IsOkUnless result ShapeError.OutOfMemory };
 
     /// A contour that needs no cleaning is its own answer.
@@ -55,7 +56,7 @@ pub fn is_clean_shape<I: IntNumber, C: ContourCleaner<I>>(shape: &[IntContour<I>
     ensures { IsTrue result ↔ EachContour C.clean (shape_of I.value shape.now) }
 {
     for contour in shape {
-        if !C::is_clean(contour) {
+        if !C::is_clean(contour.as_slice()) {
             return false;
         }
     }
@@ -79,14 +80,14 @@ pub fn is_clean_list<I: IntNumber, C: ContourCleaner<I>>(shapes: &[IntShape<I>])
 fn clean_contour<I: IntNumber, C: ContourCleaner<I>>(
     cleaner: &mut C,
     alloc: Global,
-    contour: &IntContour<I>,
+    contour: &[IntPoint<I>],
 ) -> Result<Option<IntContour<I>>, ShapeError>
-    requires { All (IsSafe I.width) (contour_of I.value contour.now.items) }
-    ensures answer { IfOk result (λ r. C.answers (contour_of I.value contour.now.items) (option_map (λ kept. contour_of I.value kept.items) r)) }
+    requires { All (IsSafe I.width) (contour_of I.value contour.now) }
+    ensures answer { IfOk result (λ r. C.answers (contour_of I.value contour.now) (answered (contour_of I.value) r)) }
     ensures memory { IsOkUnless result ShapeError.OutOfMemory }
 {
     if C::is_clean(contour) {
-        return Ok(Some(Vec::from_slice(alloc, contour.as_slice())?));
+        return Ok(Some(Vec::from_slice(alloc, contour)?));
     }
     cleaner.cleaned(contour)
 }
@@ -95,10 +96,10 @@ fn clean_contour<I: IntNumber, C: ContourCleaner<I>>(
 fn append_hole<I: IntNumber, C: ContourCleaner<I>>(
     cleaner: &mut C,
     kept: &mut IntShape<I>,
-    contour: &IntContour<I>,
+    contour: &[IntPoint<I>],
 ) -> Result<(), ShapeError>
-    requires { All (IsSafe I.width) (contour_of I.value contour.now.items) }
-    ensures ok { OnOk result ((answer : Option (List Point)) × C.answers (contour_of I.value contour.now.items) answer × (shape_of I.value kept.new.items ≡ shape_of I.value kept.old.items ++ option_to_list answer)) }
+    requires { All (IsSafe I.width) (contour_of I.value contour.now) }
+    ensures ok { OnOk result ((answer : Option (List Point)) × C.answers (contour_of I.value contour.now) answer × (shape_of I.value kept.new.items ≡ shape_of I.value kept.old.items ++ option_to_list answer)) }
     ensures memory { IsOkUnless result ShapeError.OutOfMemory }
 {
     let alloc = *kept.allocator();
@@ -122,7 +123,7 @@ fn append_holes<I: IntNumber, C: ContourCleaner<I>>(
     ensures memory { IsOkUnless result ShapeError.OutOfMemory }
 {
     for contour in contours {
-        append_hole(cleaner, kept, contour)?;
+        append_hole(cleaner, kept, contour.as_slice())?;
     }
     Ok(())
 }
@@ -134,7 +135,7 @@ pub fn clean_shape<I: IntNumber, C: ContourCleaner<I>>(
     shape: &[IntContour<I>],
 ) -> Result<Option<IntShape<I>>, ShapeError>
     requires { IsSafeShape I.width (shape_of I.value shape.now) }
-    ensures answer { IfOk result (λ r. ShapeClean C.answers (shape_of I.value shape.now) (option_map (λ kept. shape_of I.value kept.items) r)) }
+    ensures answer { IfOk result (λ r. ShapeClean C.answers (shape_of I.value shape.now) (answered (shape_of I.value) r)) }
     ensures kept { IfOk result (λ r. IfSome r (λ kept. AreKept (shape_of I.value shape.now) (shape_of I.value kept.items))) }
     ensures safe { IfOk result (λ r. IfSome r (λ kept. IsSafeShape I.width (shape_of I.value kept.items))) }
     ensures memory { IsOkUnless result ShapeError.OutOfMemory }
@@ -142,7 +143,7 @@ pub fn clean_shape<I: IntNumber, C: ContourCleaner<I>>(
     let Some((outer, holes)) = shape.split_first() else {
         return Ok(Some(Vec::new(alloc)));
     };
-    let Some(contour) = clean_contour(cleaner, alloc, outer)? else {
+    let Some(contour) = clean_contour(cleaner, alloc, outer.as_slice())? else {
         return Ok(None);
     };
     let mut kept = Vec::with_capacity(alloc, shape.len())?;

@@ -4,7 +4,7 @@ ghost use Rattle.std.specs.Prelude.{Bool, Result};
 ghost use Rattle.std.specs.List.{All};
 ghost use Rattle.i_shape_core.specs.IntPoint.{contour_of, IsSafe};
 ghost use Rattle.i_shape_core.specs.Contour.{IsSimple};
-ghost use Rattle.i_shape_core.specs.Answers.{SimpleAnswer};
+ghost use Rattle.i_shape_core.specs.Cleaners.{SimpleAnswer};
 ghost use Rattle.i_shape_core.specs.declared.error.ShapeError.{ShapeError};
 ghost use Rattle.i_shape.specs.InPlace.{CleansContour};
 

@@ -2,8 +2,7 @@ use Rattle.std.proofs.Common.{◌≡◌, Err, ap, arith}
 use Rattle.std.proofs.lemmas.Result.{err_from_is_err_and}
 use Rattle.i_shape.specs.Paths.{paths_of_shape}
 use Rattle.i_shape.specs.declared.ShapeError.TheVariants.{TooManyPoints}
-use Rattle.i_shape.proofs.CallerLemmas.{safe_held}
-use Rattle.callers.proofs.HeldContours.{held_points, compact_read}
+use Rattle.i_shape.proofs.CallerLemmas.{safe_held, points_held, compact_read}
 use Rattle.callers.proofs.pipeline.cleaned_contours.Goals as goal
 
 pub simplify_contours-requires-clause-safe : goal.simplify_contours-requires-clause-safe
@@ -12,7 +11,7 @@ simplify_contours-requires-clause-safe g c =
 
 pub returns-in_err-simplify_contours-clause-too_many : goal.returns-in_err-simplify_contours-clause-too_many
 returns-in_err-simplify_contours-clause-too_many g c =
-    let count = held_points c.set_with_shape.new.self (paths_of_shape c.args.contours.now) c.in_ok-set_with_shape.ensures.ok in
+    let count = points_held c.set_with_shape.new.self (paths_of_shape c.args.contours.now) c.in_ok-set_with_shape.ensures.ok in
     let told = c.in_err-simplify_contours.ensures.too_many in
     let error = err_from_is_err_and c.from_residual-in_err-simplify_contours.result c.from_residual-in_err-simplify_contours.ensures.1 in (
       λ e.

@@ -1,6 +1,6 @@
 //! The flat buffer over points of any kind whose shape ranges name contour ranges.
 
-ghost use Rattle.std.specs.Prelude.{◌≡◌, ◌+◌, ◌<◌, ◌≤◌, ◌++◌, ◌∷◌, ◌↔◌, ◌⊎◌, [], List, length, vec_capacity, IfOk, OnOk, OnErr, IsOkUnless, IsErrOf, IsTrue};
+ghost use Rattle.std.specs.Prelude.{◌≡◌, ◌+◌, ◌<◌, ◌≤◌, ◌++◌, ◌∷◌, ◌↔◌, ◌⊎◌, [], List, length, vec_capacity, IfOk, OnOk, OnErr, IsOk, IsOkUnless, IsErrOf, IsTrue};
 ghost use Rattle.std.specs.List.{All};
 ghost use Rattle.std.specs.Iterator.{Drains, IsFinite};
 ghost use Rattle.i_shape_source.specs.Paths.{paths_of_shape, shape_lists, joined};
@@ -250,7 +250,8 @@ impl<P: Copy> FloatFlatShapesBuffer<P> {
 }
 
 impl<P: ShapePoint> FloatFlatShapesBuffer<P> {
-    /// Puts the paths of a resource, end to end, in place of all others: all in one shape, and no shape where there are no paths.
+    /// Puts the paths of a resource, end to end, in place of all others: all in one shape, and no shape where there are no paths,
+    /// which takes no memory.
     /// `TooManyPoints` where there are more than `usize::MAX` paths or points, tested first; else `OutOfMemory`.
     /// After an error the lists are as they were.
     pub fn set_with_resource<'a, R: ShapeResource<'a, P> + Copy>(
@@ -262,15 +263,18 @@ impl<P: ShapePoint> FloatFlatShapesBuffer<P> {
         requires { R.can_read resource }
         ensures ok { OnOk result (LieEndToEnd self.new.points.items self.new.contour_ranges.items (R.paths resource)) }
         ensures one_shape { OnOk result (FormOneShape self.new (R.paths resource)) }
+        ensures no_paths { R.paths resource ≡ [] → IsOk result }
         ensures err { OnErr result (HasShapeLists self.new self.old.points.items self.old.contour_ranges.items self.old.shape_ranges.items) }
         ensures too_many { IsErrOf result ShapeError.TooManyPoints ↔ ((usize.MAX < length (joined (R.paths resource))) ⊎ (usize.MAX < length (R.paths resource))) }
     {
         let counts = checked_path_counts(resource).ok_or(ShapeError::TooManyPoints)?;
+        if counts.contours == 0 {
+            self.clear();
+            return Ok(());
+        }
         self.clear_and_reserve(counts.points, counts.contours, 1)?;
         append_paths(&mut self.points, &mut self.contour_ranges, resource);
-        if counts.contours > 0 {
-            self.shape_ranges.push_reserved(0..counts.contours);
-        }
+        self.shape_ranges.push_reserved(0..counts.contours);
         Ok(())
     }
 }

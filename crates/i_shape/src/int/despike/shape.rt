@@ -1,10 +1,10 @@
 //! Shapes and shape lists without spikes: the tests, the cleaned copies, and the cleaning in place.
 
-ghost use Rattle.std.specs.Prelude.{◌≡◌, ◌↔◌, List, IsTrue, IfOk, IfSome, IsOkUnless, option_map, refl};
+ghost use Rattle.std.specs.Prelude.{◌≡◌, ◌↔◌, List, IsTrue, IfOk, IfSome, IsOkUnless, refl};
 ghost use Rattle.i_shape_core.specs.Point.{Point};
-ghost use Rattle.i_shape_core.specs.IntPoint.{contour_of, IsSafe};
+ghost use Rattle.i_shape_core.specs.IntPoint.{contour_of, IsSafe, answered};
 ghost use Rattle.i_shape_core.specs.Convex.{NoSpikes};
-ghost use Rattle.i_shape_core.specs.Answers.{DespikeAnswer};
+ghost use Rattle.i_shape_core.specs.Cleaners.{DespikeAnswer};
 ghost use Rattle.i_shape_core.proofs.Answered.{despike_kept, despike_left};
 ghost use Rattle.i_shape.specs.ShapeLists.{shape_of, shapes_of, IsSafeShape, IsSafeList};
 ghost use Rattle.i_shape.specs.ShapeAnswers.{ShapeClean, ListClean, EachContour, EachShape, AreKept, ListKept};
@@ -19,6 +19,7 @@ use crate::int::shape::{IntContour, IntShape, IntShapes};
 use i_shape_core::despike::DeSpikeContour;
 use i_shape_core::error::ShapeError;
 use i_shape_core::number::IntNumber;
+use i_shape_core::point::IntPoint;
 use std::alloc::Global;
 
 /// The test of a shape of safe points for spikes, and its copy without them.
@@ -36,7 +37,7 @@ pub trait DeSpikeShape<I: IntNumber> {
     /// A contour without spikes is copied as it is, and an empty shape stays empty. The only error is `OutOfMemory`.
     fn despiked_shape(&self, alloc: Global) -> Result<Option<IntShape<I>>, ShapeError>
         requires { IsSafeShape I.width (shape self.now) }
-        ensures answer { IfOk result (λ r. ShapeClean DespikeAnswer (shape self.now) (option_map (λ kept. shape_of I.value kept.items) r)) }
+        ensures answer { IfOk result (λ r. ShapeClean DespikeAnswer (shape self.now) (answered (shape_of I.value) r)) }
         ensures kept { IfOk result (λ r. IfSome r (λ kept. AreKept (shape self.now) (shape_of I.value kept.items))) }
         ensures safe { IfOk result (λ r. IfSome r (λ kept. IsSafeShape I.width (shape_of I.value kept.items))) }
         ensures memory { IsOkUnless result ShapeError.OutOfMemory };
@@ -65,7 +66,7 @@ pub trait DeSpikeShapes<I: IntNumber> {
 
 /// The cleaner that removes spikes.
 #[derive(Drop)]
-struct SpikeRemover {
+pub struct SpikeRemover {
     alloc: Global,
 }
 
@@ -78,11 +79,11 @@ impl<I: IntNumber> ContourCleaner<I> for SpikeRemover {
         SpikeRemover { alloc }
     }
 
-    fn is_clean(contour: &IntContour<I>) -> bool {
+    fn is_clean(contour: &[IntPoint<I>]) -> bool {
         contour.has_no_spikes()
     }
 
-    fn cleaned(&mut self, contour: &IntContour<I>) -> Result<Option<IntContour<I>>, ShapeError> {
+    fn cleaned(&mut self, contour: &[IntPoint<I>]) -> Result<Option<IntContour<I>>, ShapeError> {
         contour.despiked_contour(self.alloc)
     }
 

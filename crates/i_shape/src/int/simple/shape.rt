@@ -1,11 +1,11 @@
 //! Shapes and shape lists without zero turns: the tests, and the cleaned copies.
 
-ghost use Rattle.std.specs.Prelude.{◌≡◌, ◌↔◌, List, IsTrue, IfOk, IfSome, IsOkUnless, option_map};
+ghost use Rattle.std.specs.Prelude.{◌≡◌, ◌↔◌, List, IsTrue, IfOk, IfSome, IsOkUnless};
 ghost use Rattle.std.specs.List.{All};
 ghost use Rattle.i_shape_core.specs.Point.{Point};
-ghost use Rattle.i_shape_core.specs.IntPoint.{contour_of, IsSafe};
+ghost use Rattle.i_shape_core.specs.IntPoint.{contour_of, IsSafe, answered};
 ghost use Rattle.i_shape_core.specs.Contour.{IsSimple};
-ghost use Rattle.i_shape_core.specs.Answers.{SimpleAnswer};
+ghost use Rattle.i_shape_core.specs.Cleaners.{SimpleAnswer};
 ghost use Rattle.i_shape_core.proofs.Cleaned.{simple_stays};
 ghost use Rattle.i_shape_core.proofs.Answered.{simple_kept, simple_left};
 ghost use Rattle.i_shape.specs.ShapeLists.{shape_of, shapes_of, IsSafeShape, IsSafeList};
@@ -20,6 +20,7 @@ use crate::int::shape::{IntContour, IntShape, IntShapes};
 use crate::int::simple::Simplify;
 use i_shape_core::error::ShapeError;
 use i_shape_core::number::IntNumber;
+use i_shape_core::point::IntPoint;
 use i_shape_core::simple::SimpleContour;
 use i_shape_core::simplifier::ContourSimplifier;
 use std::alloc::Global;
@@ -38,7 +39,7 @@ pub trait SimpleShape<I: IntNumber> {
     /// A simple contour is copied as it is, and an empty shape stays empty. The only error is `OutOfMemory`.
     fn simplified(&self, alloc: Global) -> Result<Option<IntShape<I>>, ShapeError>
         requires { IsSafeShape I.width (shape self.now) }
-        ensures answer { IfOk result (λ r. ShapeClean SimpleAnswer (shape self.now) (option_map (λ kept. shape_of I.value kept.items) r)) }
+        ensures answer { IfOk result (λ r. ShapeClean SimpleAnswer (shape self.now) (answered (shape_of I.value) r)) }
         ensures kept { IfOk result (λ r. IfSome r (λ kept. AreKept (shape self.now) (shape_of I.value kept.items))) }
         ensures safe { IfOk result (λ r. IfSome r (λ kept. IsSafeShape I.width (shape_of I.value kept.items))) }
         ensures memory { IsOkUnless result ShapeError.OutOfMemory };
@@ -73,12 +74,12 @@ impl<I: IntNumber> ContourCleaner<I> for ContourSimplifier {
         ContourSimplifier::new(alloc)
     }
 
-    fn is_clean(contour: &IntContour<I>) -> bool {
-        contour.as_slice().is_simple()
+    fn is_clean(contour: &[IntPoint<I>]) -> bool {
+        contour.is_simple()
     }
 
-    fn cleaned(&mut self, contour: &IntContour<I>) -> Result<Option<IntContour<I>>, ShapeError> {
-        self.simplify_contour(contour.as_slice())
+    fn cleaned(&mut self, contour: &[IntPoint<I>]) -> Result<Option<IntContour<I>>, ShapeError> {
+        self.simplify_contour(contour)
     }
 
     ghost stays = { simple_stays };

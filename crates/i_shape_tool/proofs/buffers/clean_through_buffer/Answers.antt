@@ -1,5 +1,5 @@
 use Rattle.std.proofs.Common.{rules, ◌∙◌, ap, sym, subst, IfOk}
-use Rattle.i_shape.specs.Answers.{SimpleAnswer}
+use Rattle.i_shape.specs.Cleaners.{SimpleAnswer}
 use Rattle.i_shape.specs.Paths.{shape_lists}
 use Rattle.i_shape.specs.ShapeLists.{shapes_of, IsSafeList}
 use Rattle.i_shape.specs.ShapeAnswers.{ListClean, ListKept}

@@ -1,5 +1,5 @@
 use Rattle.std.proofs.Common.{rules, sym, subst}
-use Rattle.i_shape.specs.Answers.{DespikeAnswer}
+use Rattle.i_shape.specs.Cleaners.{DespikeAnswer}
 use Rattle.i_shape.specs.ShapeLists.{shapes_of, IsSafeList}
 use Rattle.i_shape.specs.ShapeAnswers.{ListClean, ListKept}
 use Rattle.i_shape.proofs.CallerLemmas.{same_shapes}

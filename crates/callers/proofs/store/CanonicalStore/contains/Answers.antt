@@ -1,6 +1,6 @@
 use Rattle.std.proofs.Common.{ℤ}
 use Rattle.i_shape.specs.IntPoint.{contour_of}
-use Rattle.i_shape.specs.Answers.{EachEndCollapses}
+use Rattle.i_shape.specs.Cleaners.{EachEndCollapses}
 use Rattle.i_shape.specs.Canonical.{IsCanonical}
 use Rattle.callers.specs.Forms.{AreForms}
 use Rattle.callers.proofs.StoredForms.{found_by_form, none_found}

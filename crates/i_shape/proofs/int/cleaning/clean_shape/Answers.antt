@@ -1,4 +1,4 @@
-use Rattle.std.proofs.Common.{rules, arith, List, Some, subst}
+use Rattle.std.proofs.Common.{rules, arith, List, Some, sym, subst}
 use Rattle.std.proofs.lemmas.Grind.{common_steps}
 use Rattle.std.specs.List.{All}
 use Rattle.std.specs.Global.{Vec}
@@ -14,7 +14,9 @@ pub clean_contour-requires : goal.clean_contour-requires
 clean_contour-requires g c =
     let value = g.I.IntNumber.value in
     let Safe : List (Vec (IntPoint g.row.I.Denot)) → Type 0 = λ w. IsSafeShape g.I.IntNumber.width (shape_of value w) in
-    All-head (All (IsSafe g.I.IntNumber.width)) (contour_of value c.in-Some.outer.now.items) (shape_of value c.in-Some.holes.now) (subst Safe c.in-Some.ensures.cases.0 c.requires)
+    let SafeContour : List (IntPoint g.row.I.Denot) → Type 0 = λ w. All (IsSafe g.I.IntNumber.width) (contour_of value w) in
+    subst SafeContour (sym c.as_slice.ensures.value)
+    (All-head (All (IsSafe g.I.IntNumber.width)) (contour_of value c.in-Some.outer.now.items) (shape_of value c.in-Some.holes.now) (subst Safe c.in-Some.ensures.cases.0 c.requires))
 
 pub append_holes-requires : goal.append_holes-requires
 append_holes-requires g c =

@@ -2,7 +2,7 @@ use Rattle.std.proofs.Common.{rules, arith, ap}
 use Rattle.std.proofs.lemmas.Grind.{common_steps}
 use Rattle.i_shape_core.specs.IntPoint.{contour_of}
 use Rattle.i_shape_core.specs.Contour.{IsSimple}
-use Rattle.i_shape_core.specs.Answers.{SimpleAnswer}
+use Rattle.i_shape_core.specs.Cleaners.{SimpleAnswer}
 use Rattle.i_shape_core.proofs.Answered.{itself, collapsed_flat}
 use Rattle.i_shape_core.proofs.Cleaned.{simple_stays}
 use Rattle.i_shape_core.proofs.Contours.{refuted}

@@ -1,0 +1,87 @@
+#!/usr/bin/env bash
+# Builds the C library and runs its sample and its tests: as C11 and as C++17, each warning an error; with an allocator of the tests' own, which refuses
+# each growth in turn; against the shared library; and under the address sanitizer and valgrind, where these are at hand. The names of the
+# archive are those of the header. The last line is 'c library: N passed, M failed'.
+set -u
+cd "$(dirname "$0")/.." || exit 1
+export LC_ALL=C
+library=bindings/c/out
+warnings=(-Wall -Wextra -Wpedantic -Wconversion -Werror)
+passed=0
+failed=0
+
+# Adds up what a run of the tests counts. A run that counts nothing, or fails though it counts no failure, is one failure.
+add() {
+    local counts
+    counts=$(sed -nE 's/^([0-9]+) passed, ([0-9]+) failed$/\1 \2/p' "$work/log" | tail -n 1)
+    if [ -z "$counts" ] || { [ "$1" != 0 ] && [ "${counts#* }" = 0 ]; }; then
+        echo "$2: it ended with status $1"
+        tail -n 5 "$work/log"
+        counts="${counts% *} 1"
+    fi
+    grep -v ' passed, ' "$work/log"
+    passed=$((passed + ${counts%% *} + 0))
+    failed=$((failed + ${counts##* }))
+}
+
+# Compiles the tests by the words from $2 on, and runs them by the words of the array runner.
+test_as() {
+    local name=$1
+    shift
+    echo "c library: $name"
+    if "$@" -O1 -g "${warnings[@]}" -Iinclude -pthread -o "$work/tests" > "$work/log" 2>&1; then
+        "${runner[@]}" "$work/tests" > "$work/log" 2>&1
+    fi
+    add $? "$name"
+}
+
+# The names that the archive exports are those that the header declares.
+test_names() {
+    "$(dirname "$(rt doc)")/toolchain/bin/llvm-ar" p crates/i_shape_c/out/libi_shape_c.a > "$work/all.o"
+    nm -g --defined-only "$work/all.o" | sed -nE 's/^.* T (.*)$/\1/p' | sort > "$work/exported"
+    "${CC:-cc}" -E -Iinclude include/i_shape.h | grep -oE '\bi_shape_[a-z0-9_]+ ?\(' | tr -d ' (' | sort > "$work/declared"
+    if diff "$work/exported" "$work/declared"; then
+        echo '1 passed, 0 failed' > "$work/log"
+    else
+        echo '0 passed, 1 failed' > "$work/log"
+    fi
+    add 0 'the names'
+}
+
+# The sample prints the corners of its contour.
+test_sample() {
+    if "${CC:-cc}" "${warnings[@]}" -Iinclude bindings/c/sample.c "$library/libi_shape.a" -o "$work/sample" &&
+        [ "$("$work/sample")" = "$(printf '0 0\n4 0\n4 4\n0 4')" ]; then
+        echo '1 passed, 0 failed' > "$work/log"
+    else
+        echo '0 passed, 1 failed' > "$work/log"
+    fi
+    add 0 'the sample'
+}
+
+work=$(mktemp -d) || exit 1
+trap 'rm -rf "$work"' EXIT
+if ! sh bindings/c/build.sh > "$work/log" 2>&1; then
+    cat "$work/log"
+    echo 'c library: 0 passed, 1 failed'
+    exit 1
+fi
+c=("${CC:-cc}" -std=c11 bindings/c/test.c)
+cpp=("${CXX:-c++}" -std=c++17 -x c++ bindings/c/test.c -x none)
+runner=()
+test_names
+test_sample
+test_as 'C11' "${c[@]}" "$library/libi_shape.a"
+test_as 'C++17' "${cpp[@]}" "$library/libi_shape.a"
+test_as 'C11, shared' "${c[@]}" "$library/libi_shape.so" "-Wl,-rpath,$PWD/$library"
+test_as 'each growth refused' "${c[@]}" -DOWN_ALLOCATOR "$library/libi_shape.a"
+if echo 'int main(void) { return 0; }' | "${CC:-cc}" -x c -fsanitize=address,undefined -o "$work/probe" - 2> /dev/null && "$work/probe"; then
+    test_as 'address sanitizer' "${c[@]}" -fsanitize=address,undefined "$library/libi_shape.a"
+    test_as 'address sanitizer, each growth refused' "${c[@]}" -fsanitize=address,undefined -DOWN_ALLOCATOR "$library/libi_shape.a"
+fi
+if command -v valgrind > /dev/null; then
+    runner=(valgrind -q --error-exitcode=9 --leak-check=full)
+    test_as 'valgrind' "${c[@]}" -DOWN_ALLOCATOR "$library/libi_shape.a"
+fi
+echo "c library: $passed passed, $failed failed"
+[ "$failed" -eq 0 ]

@@ -1,0 +1,159 @@
+/* Tests of the C library: worked contours by each call and width, each code, each growth of memory refused in turn, and four threads.
+ * It is C11 and C++17. The allocator is this program's own, in place of the archive's. */
+#include "i_shape.h"
+
+#include <pthread.h>
+#include <stdio.h>
+#include <stdlib.h>
+#include <string.h>
+
+static int passed, failed;
+
+static void check(int holds, int width, const char *call, const char *what) {
+    if (holds) {
+        passed++;
+    } else {
+        failed++;
+        printf("%s at %d bits: %s\n", call, width, what);
+    }
+}
+
+/* Memory that is written can be told from memory that is not. */
+static void fill(void *at, size_t size) {
+    memset(at, 0x5a, size);
+}
+
+static int is_filled(const void *at, size_t size) {
+    const unsigned char *bytes = (const unsigned char *)at;
+    for (size_t k = 0; k < size; k++)
+        if (bytes[k] != 0x5a) return 0;
+    return 1;
+}
+
+#ifdef OWN_ALLOCATOR
+/* The growth of this number is refused; none at 0. */
+static size_t refused, growths, blocks;
+static char nothing;
+
+struct tried {
+    uintptr_t ok;
+    void *at;
+};
+
+#ifdef __cplusplus
+extern "C" {
+#endif
+struct tried rattle_alloc(size_t size, size_t align);
+struct tried rattle_realloc(void *at, size_t kept, size_t size, size_t align);
+void rattle_dealloc(void *at);
+
+struct tried rattle_alloc(size_t size, size_t align) {
+    void *at = ++growths == refused ? NULL : malloc(size ? size : align);
+    struct tried answer = {at != NULL, at ? at : &nothing};
+    if (at) blocks++;
+    return answer;
+}
+
+struct tried rattle_realloc(void *before, size_t kept, size_t size, size_t align) {
+    (void)kept;
+    void *at = ++growths == refused ? NULL : realloc(before, size ? size : align);
+    struct tried answer = {at != NULL, at ? at : &nothing};
+    return answer;
+}
+
+void rattle_dealloc(void *at) {
+    blocks--;
+    free(at);
+}
+#ifdef __cplusplus
+}
+#endif
+
+enum { MOST_GROWTHS = 32 };
+
+#define WITH_EACH_GROWTH_REFUSED(CALLED, IS_KEPT, WIDTH, NAME) \
+    do { \
+        long long answer = I_SHAPE_NO_MEMORY; \
+        for (refused = 1; answer == I_SHAPE_NO_MEMORY && refused <= MOST_GROWTHS; refused++) { \
+            growths = 0; \
+            answer = (CALLED); \
+            check(blocks == 0, WIDTH, NAME, "a block is lost"); \
+            check(answer != I_SHAPE_NO_MEMORY || (IS_KEPT), WIDTH, NAME, "what a refusal leaves"); \
+            check((answer == I_SHAPE_NO_MEMORY) == (growths >= refused), WIDTH, NAME, "a refusal is told"); \
+        } \
+        check(answer >= 0 && refused > 2, WIDTH, NAME, "it is done where no growth is refused"); \
+        refused = 0; \
+    } while (0)
+#else
+#define WITH_EACH_GROWTH_REFUSED(CALLED, IS_KEPT, WIDTH, NAME) check((CALLED) >= 0, WIDTH, NAME, "it is done")
+#endif
+
+#include "rows.h"
+
+#define W 16
+#define AREA int32_t
+#define AREA_IS(area, expected) ((area) == (expected))
+#include "width.h"
+
+#define W 32
+#define AREA int64_t
+#define AREA_IS(area, expected) ((area) == (expected))
+#include "width.h"
+
+#define W 64
+#define AREA i_shape_halves
+#define AREA_IS(area, expected) ((area).low == (uint64_t)(expected) && (area).high == ((expected) < 0 ? UINT64_MAX : 0))
+#include "width.h"
+
+/* A square of 2^61 by 2^61 has a double area of 2^123. */
+static void test_great_area(void) {
+    const int64_t side = INT64_C(1) << 61;
+    const i_shape_point_i64 square[4] = {{0, 0}, {side, 0}, {side, side}, {0, side}};
+    i_shape_halves area;
+    check(i_shape_area_two_i64(square, 4, &area) && area.low == 0 && area.high == UINT64_C(1) << 59, 64, "area_two", "a great square");
+}
+
+#ifndef OWN_ALLOCATOR
+enum { THREADS = 4, POINTS = 20000, TURNS = 20 };
+
+static i_shape_point_i32 shared[POINTS], expected[POINTS], answers[THREADS][POINTS];
+static ptrdiff_t expected_count, counts[THREADS];
+
+static void *clean_often(void *number) {
+    size_t own = *(const size_t *)number;
+    for (int turn = 0; turn < TURNS; turn++) counts[own] = i_shape_simplify_i32(shared, POINTS, answers[own], POINTS);
+    return NULL;
+}
+
+static void test_threads(void) {
+    pthread_t threads[THREADS];
+    size_t numbers[THREADS];
+    for (int k = 0; k < POINTS; k++) {
+        shared[k].x = k * 7919 % 5 + k / 9;
+        shared[k].y = k * 104729 % 7;
+    }
+    expected_count = i_shape_simplify_i32(shared, POINTS, expected, POINTS);
+    for (size_t k = 0; k < THREADS; k++) {
+        numbers[k] = k;
+        if (pthread_create(&threads[k], NULL, clean_often, &numbers[k]) != 0) abort();
+    }
+    for (size_t k = 0; k < THREADS; k++) {
+        pthread_join(threads[k], NULL);
+        check(expected_count > 0 && counts[k] == expected_count && memcmp(answers[k], expected, (size_t)expected_count * sizeof *expected) == 0,
+              32, "simplify", "side by side");
+    }
+}
+#else
+static void test_threads(void) {}
+#endif
+
+int main(void) {
+    check(i_shape_version() == I_SHAPE_VERSION, 0, "version", "of the archive and of the header");
+    test_width_i16();
+    test_width_i32();
+    test_width_i64();
+    test_great_area();
+    test_threads();
+    printf("%d passed, %d failed\n", passed, failed);
+    return failed != 0;
+}

@@ -1,0 +1,178 @@
+/* The tests of the calls at one width. A file that includes it defines W (16, 32 or 64) and AREA_IS(area, expected). */
+#define JOINED(a, b, c) a##b##c
+#define JOIN(a, b, c) JOINED(a, b, c)
+#define AT(name) JOIN(name, _i, W)
+#define CALL(name) AT(i_shape_##name)
+#define POINT AT(i_shape_point)
+#define COORDINATE JOIN(int, W, _t)
+#define LEAST_UNSAFE ((COORDINATE)((COORDINATE)1 << (W - 2)))
+
+typedef ptrdiff_t (*AT(clean_one))(const POINT *, size_t, POINT *, size_t);
+typedef ptrdiff_t (*AT(clean_many))(const POINT *, size_t, const size_t *, size_t, POINT *, size_t, size_t *, size_t);
+
+static AT(clean_one) const AT(cleaners)[] = {CALL(simplify), CALL(despike), CALL(canonical)};
+static AT(clean_many) const AT(batches)[] = {CALL(simplify_contours), CALL(despike_contours), CALL(canonical_contours)};
+
+static void AT(points_of)(const int (*from)[2], size_t count, POINT *to) {
+    for (size_t k = 0; k < count; k++) {
+        to[k].x = (COORDINATE)from[k][0];
+        to[k].y = (COORDINATE)from[k][1];
+    }
+}
+
+/* Whether the points are these, and behind them, up to room, nothing was written. */
+static int AT(is_answer)(const POINT *out, const int (*points)[2], size_t count, size_t room) {
+    for (size_t k = 0; k < count; k++)
+        if (out[k].x != points[k][0] || out[k].y != points[k][1]) return 0;
+    return is_filled(out + count, (room - count) * sizeof *out);
+}
+
+static void AT(test_one)(void) {
+    for (size_t r = 0; r < ROWS; r++) {
+        const struct row *row = &rows[r];
+        for (int k = 0; k < CLEANERS; k++) {
+            POINT given[MOST], out[MOST + 1];
+            AT(points_of)(row->points, row->count, given);
+            fill(out, sizeof out);
+            ptrdiff_t answer = AT(cleaners)[k](given, row->count, out, row->count);
+            check(answer == (ptrdiff_t)row->left[k].count && AT(is_answer)(out, row->left[k].points, row->left[k].count, MOST + 1),
+                  W, cleaner_names[k], row->name);
+        }
+    }
+}
+
+static void AT(test_codes)(void) {
+    for (int k = 0; k < CLEANERS; k++) {
+        POINT given[3] = {{0, 0}, {4, 0}, {0, 4}}, out[3];
+        fill(out, sizeof out);
+        check(AT(cleaners)[k](given, 3, out, 2) == I_SHAPE_UNFIT && is_filled(out, sizeof out), W, cleaner_names[k], "room for two of three points");
+        given[1].x = LEAST_UNSAFE;
+        check(AT(cleaners)[k](given, 3, out, 3) == I_SHAPE_UNSAFE && is_filled(out, sizeof out), W, cleaner_names[k], "a point that isn't safe");
+        check(AT(cleaners)[k](given, 3, out, 2) == I_SHAPE_UNFIT, W, cleaner_names[k], "the room is tested first");
+        given[1].x = (COORDINATE)-LEAST_UNSAFE;
+        check(AT(cleaners)[k](given, 3, out, 3) == I_SHAPE_UNSAFE, W, cleaner_names[k], "the least coordinate that isn't safe");
+        given[1].x = (COORDINATE)(1 - LEAST_UNSAFE);
+        check(AT(cleaners)[k](given, 3, out, 3) == 3, W, cleaner_names[k], "the least safe coordinate");
+        check(AT(cleaners)[k](given, 0, out, 0) == 0, W, cleaner_names[k], "no point");
+    }
+}
+
+/* The worked contours in one call, the first one left out by the first offset and the last one by the last. */
+static void AT(test_many)(void) {
+    POINT given[ROWS * MOST], out[ROWS * MOST];
+    size_t offsets[ROWS + 1], out_offsets[ROWS + 2];
+    offsets[0] = 0;
+    for (size_t r = 0; r < ROWS; r++) {
+        AT(points_of)(rows[r].points, rows[r].count, given + offsets[r]);
+        offsets[r + 1] = offsets[r] + rows[r].count;
+    }
+    for (int k = 0; k < CLEANERS; k++) {
+        fill(out, sizeof out);
+        fill(out_offsets, sizeof out_offsets);
+        ptrdiff_t answer = AT(batches)[k](given, offsets[ROWS], offsets + 1, ROWS - 1, out, ROWS * MOST, out_offsets, ROWS + 2);
+        size_t at = 0;
+        int is_right = out_offsets[0] == 0;
+        for (size_t r = 1; r + 1 < ROWS; r++) {
+            is_right &= AT(is_answer)(out + at, rows[r].left[k].points, rows[r].left[k].count, rows[r].left[k].count);
+            at += rows[r].left[k].count;
+            is_right &= out_offsets[r] == at;
+        }
+        check(is_right && answer == (ptrdiff_t)at && is_filled(out + at, sizeof out - at * sizeof *out)
+                  && is_filled(out_offsets + ROWS - 1, 3 * sizeof *out_offsets),
+              W, cleaner_names[k], "many contours");
+    }
+}
+
+static void AT(test_many_codes)(void) {
+    for (int k = 0; k < CLEANERS; k++) {
+        POINT given[6] = {{LEAST_UNSAFE, 0}, {0, 0}, {4, 0}, {0, 4}, {0, 0}, {0, LEAST_UNSAFE}}, out[6];
+        const size_t inner[] = {1, 5}, low[] = {0, 5}, high[] = {1, 6}, backwards[] = {1, 4, 3}, outside[] = {1, 7}, none[] = {3};
+        size_t out_offsets[3];
+        AT(clean_many) call = AT(batches)[k];
+        const char *name = cleaner_names[k];
+        fill(out, sizeof out);
+        fill(out_offsets, sizeof out_offsets);
+        check(call(given, 6, inner, 0, out, 6, out_offsets, 3) == I_SHAPE_UNFIT, W, name, "no offset");
+        check(call(given, 6, backwards, 3, out, 6, out_offsets, 3) == I_SHAPE_UNFIT, W, name, "offsets that run backwards");
+        check(call(given, 6, outside, 2, out, 6, out_offsets, 3) == I_SHAPE_UNFIT, W, name, "an offset out of the points");
+        check(call(given, 6, inner, 2, out, 5, out_offsets, 3) == I_SHAPE_UNFIT, W, name, "room for five of six points");
+        check(call(given, 6, inner, 2, out, 6, out_offsets, 1) == I_SHAPE_UNFIT, W, name, "room for one of two offsets");
+        check(call(given, 6, low, 2, out, 6, out_offsets, 3) == I_SHAPE_UNSAFE, W, name, "a first point that isn't safe");
+        check(call(given, 6, high, 2, out, 6, out_offsets, 3) == I_SHAPE_UNSAFE, W, name, "a last point that isn't safe");
+        check(is_filled(out, sizeof out) && is_filled(out_offsets, sizeof out_offsets), W, name, "codes leave the arrays as they were");
+        check(call(given, 6, none, 1, out, 6, out_offsets, 1) == 0 && out_offsets[0] == 0, W, name, "no contour");
+        check(call(given, 6, inner, 2, out, 6, out_offsets, 2) > 0, W, name, "points outside the offsets aren't read");
+    }
+}
+
+static void AT(test_tests)(void) {
+    for (size_t r = 0; r < ROWS; r++) {
+        const struct row *row = &rows[r];
+        POINT given[MOST];
+        AT(points_of)(row->points, row->count, given);
+        check(CALL(is_simple)(given, row->count) == row->is_simple, W, "is_simple", row->name);
+        check(CALL(has_no_spikes)(given, row->count) == row->has_no_spikes, W, "has_no_spikes", row->name);
+        check(CALL(is_convex)(given, row->count) == row->is_convex, W, "is_convex", row->name);
+        check(CALL(is_safe)(given, row->count) == 1, W, "is_safe", row->name);
+    }
+    POINT square[4] = {{0, 0}, {4, 0}, {4, 4}, {0, 4}};
+    check(CALL(contains)(square, 4, 1, 1) == 1, W, "contains", "a point inside");
+    check(CALL(contains)(square, 4, 5, 1) == 0, W, "contains", "a point outside");
+    check(CALL(contains)(square, 0, 5, 1) == 0, W, "contains", "no contour");
+    check(CALL(contains)(square, 4, LEAST_UNSAFE, 1) == I_SHAPE_UNSAFE, W, "contains", "a point that isn't safe");
+    square[3].y = LEAST_UNSAFE;
+    check(CALL(is_safe)(square, 4) == 0, W, "is_safe", "a vertex that isn't safe");
+    check(CALL(is_simple)(square, 4) == I_SHAPE_UNSAFE, W, "is_simple", "a vertex that isn't safe");
+    check(CALL(has_no_spikes)(square, 4) == I_SHAPE_UNSAFE, W, "has_no_spikes", "a vertex that isn't safe");
+    check(CALL(is_convex)(square, 4) == I_SHAPE_UNSAFE, W, "is_convex", "a vertex that isn't safe");
+    check(CALL(contains)(square, 4, 1, 1) == I_SHAPE_UNSAFE, W, "contains", "a vertex that isn't safe");
+}
+
+static void AT(test_area)(void) {
+    const POINT square[4] = {{0, 0}, {4, 0}, {4, 4}, {0, 4}}, turned[4] = {{0, 0}, {0, 4}, {4, 4}, {4, 0}};
+    AREA area;
+    fill(&area, sizeof area);
+    check(!CALL(area_two)(square, 0, &area) && is_filled(&area, sizeof area), W, "area_two", "no point");
+    check(CALL(area_two)(square, 4, &area) && AREA_IS(area, 32), W, "area_two", "a square that turns left");
+    check(CALL(area_two)(turned, 4, &area) && AREA_IS(area, -32), W, "area_two", "a square that turns right");
+}
+
+static void AT(test_refusals)(void) {
+    const POINT given[6] = {{0, 0}, {2, 0}, {4, 0}, {4, 4}, {0, 4}, {0, 2}};
+    const size_t offsets[3] = {0, 6, 6};
+    for (int k = 0; k < CLEANERS; k++) {
+        POINT out[7];
+        size_t out_offsets[4];
+        fill(out, sizeof out);
+        WITH_EACH_GROWTH_REFUSED(AT(cleaners)[k](given, 6, out, 6), is_filled(out, sizeof out), W, cleaner_names[k]);
+        fill(out, sizeof out);
+        fill(out_offsets, sizeof out_offsets);
+        WITH_EACH_GROWTH_REFUSED(AT(batches)[k](given, 6, offsets, 3, out, 6, out_offsets, 3),
+                                 is_filled(out + 6, sizeof *out) && is_filled(out_offsets + 3, sizeof *out_offsets), W, cleaner_names[k]);
+    }
+    WITH_EACH_GROWTH_REFUSED(CALL(is_simple)(given, 6), 1, W, "is_simple");
+    WITH_EACH_GROWTH_REFUSED(CALL(has_no_spikes)(given, 6), 1, W, "has_no_spikes");
+    WITH_EACH_GROWTH_REFUSED(CALL(is_convex)(given, 6), 1, W, "is_convex");
+    WITH_EACH_GROWTH_REFUSED(CALL(contains)(given, 6, 1, 1), 1, W, "contains");
+}
+
+static void AT(test_width)(void) {
+    AT(test_one)();
+    AT(test_codes)();
+    AT(test_many)();
+    AT(test_many_codes)();
+    AT(test_tests)();
+    AT(test_area)();
+    AT(test_refusals)();
+}
+
+#undef LEAST_UNSAFE
+#undef COORDINATE
+#undef POINT
+#undef CALL
+#undef AT
+#undef JOIN
+#undef JOINED
+#undef W
+#undef AREA
+#undef AREA_IS

@@ -1,0 +1,10 @@
+use Rattle.std.proofs.Common.{take}
+use Rattle.i_shape.specs.ShapeLists.{shapes_of}
+use Rattle.i_shape.specs.Survivors.{Survivors}
+use Rattle.i_shape.specs.CanonicalShapes.{ShapeForm}
+use Rattle.i_shape.proofs.int.canonical.forms.list_form.Given as goal
+
+abbrev pub invariant-loop-shape : goal.invariant-loop-shape
+invariant-loop-shape g l =
+    let value = g.I.IntNumber.value in
+    Survivors (ShapeForm g.F.ContourForm.forms) (shapes_of value (take l.shape-index l.shapes)) (shapes_of value l.forms.items)

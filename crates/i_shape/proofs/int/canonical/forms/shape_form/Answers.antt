@@ -1,0 +1,30 @@
+use Rattle.std.proofs.Common.{List, Some, rules, sym, subst}
+use Rattle.std.specs.List.{All}
+use Rattle.std.specs.Global.{Vec}
+use Rattle.std.proofs.lemmas.List.Elements.{All-head, All-tail}
+use Rattle.i_shape_core.specs.declared.point.IntPoint.{IntPoint}
+use Rattle.i_shape_core.specs.IntPoint.{contour_of, IsSafe}
+use Rattle.i_shape.specs.ShapeLists.{shape_of, IsSafeShape}
+use Rattle.i_shape.specs.CanonicalShapes.{ShapeForm}
+use Rattle.i_shape.proofs.ShapeForms.{form_safe}
+use Rattle.i_shape.proofs.int.canonical.forms.shape_form.Goals as goal
+
+pub form-requires : goal.form-requires
+form-requires g c =
+    let value = g.I.IntNumber.value in
+    let Safe : List (Vec (IntPoint g.row.I.Denot)) → Type 0 = λ w. IsSafeShape g.I.IntNumber.width (shape_of value w) in
+    let SafeContour : List (IntPoint g.row.I.Denot) → Type 0 = λ w. All (IsSafe g.I.IntNumber.width) (contour_of value w) in
+    subst SafeContour (sym c.as_slice.ensures.value)
+    (All-head (All (IsSafe g.I.IntNumber.width)) (contour_of value c.in-Some.outer.now.items) (shape_of value c.in-Some.holes.now) (subst Safe c.in-Some.ensures.cases.0 c.requires))
+
+pub sorted_forms-requires : goal.sorted_forms-requires
+sorted_forms-requires g c =
+    let value = g.I.IntNumber.value in
+    let Safe : List (Vec (IntPoint g.row.I.Denot)) → Type 0 = λ w. IsSafeShape g.I.IntNumber.width (shape_of value w) in
+    All-tail (All (IsSafe g.I.IntNumber.width)) (contour_of value c.in-Some.outer.now.items) (shape_of value c.in-Some.holes.now) (subst Safe c.in-Some.ensures.cases.0 c.requires)
+
+pub returns-clause-safe : goal.returns-clause-safe
+returns-clause-safe g c =
+    let value = g.I.IntNumber.value in
+    let answer : ShapeForm g.F.ContourForm.forms (shape_of value c.args.shape.now) (Some (shape_of value c.insert.new.self.items)) = search rules in
+    form_safe g.F.ContourForm.forms g.I.IntNumber.width g.met.F.ContourForm.stays_safe _ _ answer c.requires

@@ -1,0 +1,40 @@
+use Rattle.std.proofs.Common.{List, sym, subst}
+use Rattle.std.specs.List.{All}
+use Rattle.std.proofs.lemmas.List.{take_all}
+use Rattle.i_shape_core.specs.declared.point.IntPoint.{IntPoint}
+use Rattle.std.specs.Cmp.Lexicographic.{slice_cmp}
+use Rattle.std.proofs.lemmas.Cmp.{on_total, lists_total}
+use Rattle.std.proofs.lemmas.List.Sorted.{IsPermutation-map}
+use Rattle.i_shape_core.proofs.ContourOrder.{point_cmp, points_told, points_total, contours_told, contour_told}
+use Rattle.i_shape.proofs.Orders.{sorted_pairs}
+use Rattle.i_shape_core.specs.IntPoint.{point_of, contour_of, IsSafe}
+use Rattle.i_shape_core.specs.Canonical.{IsAtMost}
+use Rattle.i_shape.specs.ShapeLists.{shape_of}
+use Rattle.i_shape.proofs.Surviving.{mapped-read, survivors-more}
+use Rattle.i_shape.proofs.int.canonical.forms.sorted_forms.Goals as goal
+
+pub append_contour-requires : goal.append_contour-requires
+append_contour-requires g c =
+    let value = g.I.IntNumber.value in
+    let Safe : List (IntPoint g.row.I.Denot) → Type 0 = λ w. All (IsSafe g.I.IntNumber.width) (contour_of value w) in
+    subst Safe (sym c.as_slice.ensures.value) (mapped-read (λ v. contour_of value v.items) (All (IsSafe g.I.IntNumber.width)) c.args.contours.now c.loop-contour.contour-index c.contour-item.result c.loop-contour-test.true c.contour-item.is c.requires)
+
+pub loop-contour-preserved : goal.loop-contour-preserved
+loop-contour-preserved g c =
+    let value = g.I.IntNumber.value in
+    let step = c.in_ok-append_contour.ensures.ok in
+    let Clean : List (IntPoint g.row.I.Denot) → Type 0 = λ w. g.F.ContourForm.forms (contour_of value w) step.0 in
+    rw step.2 (survivors-more (λ v. contour_of value v.items) g.F.ContourForm.forms c.args.contours.now c.loop-contour.contour-index c.contour-item.result (shape_of value c.loop-contour.sorted.items) step.0 c.loop-contour-test.true c.contour-item.is c.loop-contour.invariant (subst Clean c.as_slice.ensures.value step.1))
+
+pub returns-clause-answer : goal.returns-clause-answer
+returns-clause-answer g c =
+    let value = g.I.IntNumber.value in
+    let cmp = point_cmp value g.I.Ord.cmp g.met.I.IntNumber.order in
+    let told = points_told value g.I.Ord.cmp g.met.I.IntNumber.order in
+    let total = points_total value g.I.Ord.cmp g.met.I.IntNumber.order g.met.I.Ord.total in
+    let whole = take_all c.loop-contour.contour-index c.args.contours.now c.loop-contour-test.false in (
+      shape_of value c.loop-contour.sorted.items,
+      rw whole at c.loop-contour.invariant,
+      IsPermutation-map (λ v. contour_of value v.items) _ _ c.sort_unstable.ensures.permutation,
+      sorted_pairs _ (λ v. contour_of value v.items) IsAtMost (on_total (λ v. v.items) (lists_total total)) (λ x y h. contour_told (slice_cmp cmp) (contour_of value) (contours_told cmp (point_of value) told) x.items y.items h) _ c.sort_unstable.ensures.sorted,
+    )

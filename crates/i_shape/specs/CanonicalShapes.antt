@@ -1,0 +1,77 @@
+-- One form for all polygons whose contours lead to one another, and for all lists of such polygons. `Form` relates a contour to its form, and to none where it collapses.
+use Rattle.std.specs.Prelude.{◌≡◌, ◌⊎◌, ◌↔◌, nat_abs, List, [], ◌∷◌, Option, Some, None, IfSome, IsPermutation}
+use Rattle.std.specs.List.{AllPairs, sum_by}
+use Rattle.i_shape_core.specs.Point.{Point}
+use Rattle.i_shape_core.specs.Edges.{shoelace}
+use Rattle.i_shape_core.specs.Cleaners.{EachEndCollapses}
+use Rattle.i_shape_core.specs.Canonical.{IsAtMost}
+use Rattle.i_shape.specs.Survivors.{Survivors}
+use Rattle.i_shape.specs.Matching.{MatchedStanding}
+use Rattle.i_shape.specs.ShapeAreas.{inside_count}
+
+-- the answers at the members that have one, in order by AtMost
+abbrev pub SortedForms : {X Y : Type 0} → (X → Option Y → Type 0) → (Y → Y → Type 0) → List X → List Y → Type 0
+SortedForms {X} {Y} Answer AtMost xs sorted = (forms : List Y) × Survivors Answer xs forms × IsPermutation forms sorted × AllPairs AtMost sorted
+
+-- the form of a shape: that of its outer contour, and then those of the holes that don't collapse, in order; none where the outer contour collapses; an empty shape stays
+abbrev pub ShapeForm : (List Point → Option (List Point) → Type 0) → List (List Point) → Option (List (List Point)) → Type 0
+ShapeForm Form [] r = r ≡ Some []
+ShapeForm Form (outer ∷ holes) None = Form outer None
+ShapeForm Form (outer ∷ holes) (Some []) = ⊥
+ShapeForm Form (outer ∷ holes) (Some (contour ∷ sorted)) = Form outer (Some contour) × SortedForms Form IsAtMost holes sorted
+
+-- s is t or comes before it, contour by contour
+abbrev pub IsShapeAtMost : List (List Point) → List (List Point) → Type 0
+IsShapeAtMost [] t = Unit {0}
+IsShapeAtMost (c ∷ s) [] = ⊥
+IsShapeAtMost (c ∷ s) (d ∷ t) = (IsAtMost c d × (c ≡ d → ⊥)) ⊎ ((c ≡ d) × IsShapeAtMost s t)
+
+-- the form of a list: those of the shapes that have one, in order
+abbrev pub ListForm : (List Point → Option (List Point) → Type 0) → List (List (List Point)) → List (List (List Point)) → Type 0
+ListForm Form shapes sorted = SortedForms (ShapeForm Form) IsShapeAtMost shapes sorted
+
+-- the outer contour collapses
+abbrev pub OuterCollapses : List (List Point) → Type 0
+OuterCollapses [] = ⊥
+OuterCollapses (outer ∷ holes) = EachEndCollapses outer
+
+-- the outer contours are related, and so are the holes that don't collapse, one to one
+abbrev pub SameShape : (List Point → List Point → Type 0) → List (List Point) → List (List Point) → Type 0
+SameShape Same [] [] = Unit {0}
+SameShape Same [] (d ∷ t) = ⊥
+SameShape Same (c ∷ s) [] = ⊥
+SameShape Same (c ∷ s) (d ∷ t) = Same c d × MatchedStanding EachEndCollapses Same s t
+
+-- so are the shapes of two lists whose outer contours don't collapse, one to one
+abbrev pub SameList : (List Point → List Point → Type 0) → List (List (List Point)) → List (List (List Point)) → Type 0
+SameList Same s t = MatchedStanding OuterCollapses (SameShape Same) s t
+
+-- the contours that are left have the same double areas together, each without its sign, and each point is inside of as many of them
+pub record AreKeptEitherWay (contours left : List (List Point)) : Type 0 where
+  pub area : sum_by (λ c. nat_abs (shoelace c)) left ≡ sum_by (λ c. nat_abs (shoelace c)) contours
+  pub inside : (p : Point) → inside_count left p ≡ inside_count contours p
+
+-- the forms of the shapes, each of which keeps this of the shape that it was, in some order
+pub record FormsKept (Form : List Point → Option (List Point) → Type 0) (Kept : List (List Point) → List (List Point) → Type 0) (shapes sorted : List (List (List Point))) : Type 0 where
+  pub forms : List (List (List Point))
+  pub each : Survivors (λ shape r. ShapeForm Form shape r × IfSome r (Kept shape)) shapes forms
+  pub same : IsPermutation forms sorted
+
+-- where two shapes have forms, these are one exactly where the shapes are the same
+abbrev pub OneShapeForm : (List Point → Option (List Point) → Type 0) → (List Point → List Point → Type 0) → List (List Point) → List (List Point) → Type 0
+OneShapeForm Form Same s t = (l m : List (List Point)) → ShapeForm Form s (Some l) → ShapeForm Form t (Some m) → (l ≡ m) ↔ SameShape Same s t
+
+-- the forms of two lists are one exactly where the lists are the same
+abbrev pub OneListForm : (List Point → Option (List Point) → Type 0) → (List Point → List Point → Type 0) → List (List (List Point)) → List (List (List Point)) → Type 0
+OneListForm Form Same s t = (l m : List (List (List Point))) → ListForm Form s l → ListForm Form t m → (l ≡ m) ↔ SameList Same s t
+
+-- a shape has a form exactly where its outer contour doesn't collapse, and each form is its own form
+pub record HasShapeForm (Form : List Point → Option (List Point) → Type 0) (s : List (List Point)) : Type 0 where
+  pub none : ShapeForm Form s None ↔ OuterCollapses s
+  pub some : ((l : List (List Point)) × ShapeForm Form s (Some l)) ↔ (OuterCollapses s → ⊥)
+  pub again : (l : List (List Point)) → ShapeForm Form s (Some l) → ShapeForm Form l (Some l)
+
+-- a list has a form, and each is its own form
+pub record HasListForm (Form : List Point → Option (List Point) → Type 0) (s : List (List (List Point))) : Type 0 where
+  pub some : (l : List (List (List Point))) × ListForm Form s l
+  pub again : (l : List (List (List Point))) → ListForm Form s l → ListForm Form l l

@@ -1,0 +1,94 @@
+//! The canonical forms of shapes and of lists of shapes, as their contours are wound and whichever way round they are.
+
+ghost use Rattle.std.specs.Prelude.{List, IfOk, IfSome, IsOkUnless};
+ghost use Rattle.i_shape_core.specs.Point.{Point};
+ghost use Rattle.i_shape_core.specs.IntPoint.{answered};
+ghost use Rattle.i_shape_core.specs.Canonical.{CanonicalAnswer};
+ghost use Rattle.i_shape_core.specs.Unoriented.{UnorientedAnswer};
+ghost use Rattle.i_shape.specs.ShapeLists.{shape_of, shapes_of, IsSafeShape, IsSafeList};
+ghost use Rattle.i_shape.specs.ShapeAnswers.{AreKept};
+ghost use Rattle.i_shape.specs.CanonicalShapes.{ShapeForm, ListForm, FormsKept, AreKeptEitherWay};
+
+mod forms;
+pub mod laws;
+
+use crate::int::canonical::forms::{Oriented, Unoriented, list_form, shape_form};
+use crate::int::shape::{IntContour, IntShape, IntShapes};
+use i_shape_core::error::ShapeError;
+use i_shape_core::number::IntNumber;
+use std::alloc::Global;
+
+/// The canonical forms of a shape of safe points.
+pub trait CanonicalShape<I: IntNumber> {
+    /// The contours over whole numbers.
+    ghost shape: { Self → List (List Point) };
+
+    /// The canonical form: that of the first contour, and then those of the other contours, without those that collapse, in order of
+    /// their lists of points. `None` where the first contour collapses; an empty shape stays empty. Two shapes that have forms have the
+    /// same one exactly where they are the same polygon: where their first contours lead to each other by removals and insertions of
+    /// zero-turn vertices and rotations, and so do the others that don't collapse, one to one in some order.
+    /// Double area and containment are kept, and the points are safe again. The only error is `OutOfMemory`.
+    fn canonical(&self, alloc: Global) -> Result<Option<IntShape<I>>, ShapeError>
+        requires { IsSafeShape I.width (shape self.now) }
+        ensures answer { IfOk result (λ r. ShapeForm CanonicalAnswer (shape self.now) (answered (shape_of I.value) r)) }
+        ensures kept { IfOk result (λ r. IfSome r (λ form. AreKept (shape self.now) (shape_of I.value form.items))) }
+        ensures safe { IfOk result (λ r. IfSome r (λ form. IsSafeShape I.width (shape_of I.value form.items))) }
+        ensures memory { IsOkUnless result ShapeError.OutOfMemory };
+
+    /// The same, of forms that don't tell which way round a contour is wound: two shapes that have forms have the same one exactly
+    /// where they are the same polygon but for the direction of each contour. The contours' double areas are kept but for their signs.
+    fn canonical_unoriented(&self, alloc: Global) -> Result<Option<IntShape<I>>, ShapeError>
+        requires { IsSafeShape I.width (shape self.now) }
+        ensures answer { IfOk result (λ r. ShapeForm UnorientedAnswer (shape self.now) (answered (shape_of I.value) r)) }
+        ensures kept { IfOk result (λ r. IfSome r (λ form. AreKeptEitherWay (shape self.now) (shape_of I.value form.items))) }
+        ensures safe { IfOk result (λ r. IfSome r (λ form. IsSafeShape I.width (shape_of I.value form.items))) }
+        ensures memory { IsOkUnless result ShapeError.OutOfMemory };
+}
+
+/// The canonical forms of a list of shapes of safe points.
+pub trait CanonicalShapes<I: IntNumber> {
+    /// The shapes over whole numbers.
+    ghost shapes: { Self → List (List (List Point)) };
+
+    /// The canonical form: those of the shapes, without the shapes whose first contour collapses, in order, contour by contour. Two
+    /// lists have the same one exactly where their other shapes are the same polygons, one to one in some order.
+    /// Each form keeps double area and containment of its shape, and the points are safe again. The only error is `OutOfMemory`.
+    fn canonical(&self, alloc: Global) -> Result<IntShapes<I>, ShapeError>
+        requires { IsSafeList I.width (shapes self.now) }
+        ensures answer { IfOk result (λ r. ListForm CanonicalAnswer (shapes self.now) (shapes_of I.value r.items)) }
+        ensures kept { IfOk result (λ r. FormsKept CanonicalAnswer AreKept (shapes self.now) (shapes_of I.value r.items)) }
+        ensures safe { IfOk result (λ r. IsSafeList I.width (shapes_of I.value r.items)) }
+        ensures memory { IsOkUnless result ShapeError.OutOfMemory };
+
+    /// The same, of forms that don't tell which way round a contour is wound.
+    fn canonical_unoriented(&self, alloc: Global) -> Result<IntShapes<I>, ShapeError>
+        requires { IsSafeList I.width (shapes self.now) }
+        ensures answer { IfOk result (λ r. ListForm UnorientedAnswer (shapes self.now) (shapes_of I.value r.items)) }
+        ensures kept { IfOk result (λ r. FormsKept UnorientedAnswer AreKeptEitherWay (shapes self.now) (shapes_of I.value r.items)) }
+        ensures safe { IfOk result (λ r. IsSafeList I.width (shapes_of I.value r.items)) }
+        ensures memory { IsOkUnless result ShapeError.OutOfMemory };
+}
+
+impl<I: IntNumber> CanonicalShape<I> for &[IntContour<I>] {
+    ghost shape = { λ contours. shape_of I.value contours.now };
+
+    fn canonical(&self, alloc: Global) -> Result<Option<IntShape<I>>, ShapeError> {
+        shape_form(&mut Oriented::new(alloc), alloc, *self)
+    }
+
+    fn canonical_unoriented(&self, alloc: Global) -> Result<Option<IntShape<I>>, ShapeError> {
+        shape_form(&mut Unoriented::new(alloc), alloc, *self)
+    }
+}
+
+impl<I: IntNumber> CanonicalShapes<I> for &[IntShape<I>] {
+    ghost shapes = { λ list. shapes_of I.value list.now };
+
+    fn canonical(&self, alloc: Global) -> Result<IntShapes<I>, ShapeError> {
+        list_form(&mut Oriented::new(alloc), alloc, *self)
+    }
+
+    fn canonical_unoriented(&self, alloc: Global) -> Result<IntShapes<I>, ShapeError> {
+        list_form(&mut Unoriented::new(alloc), alloc, *self)
+    }
+}

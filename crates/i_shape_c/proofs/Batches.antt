@@ -1,0 +1,152 @@
+-- Contours in one array of points, parted by offsets.
+use Rattle.std.proofs.Common.{◌≡◌, ℕ, ◌+◌, ◌-◌, ◌≤◌, ◌<◌, suc, zero, List, map, length, take, drop, set, slice_range, ap, sym, subst, ◌∙◌, arith, Option, ◌⊎◌, inl, inr, eq-or-lt_of_le}
+use Rattle.std.specs.Int.{Width}
+use Rattle.std.specs.Prelude.{Result, Ok, Err, OnErr}
+use Rattle.std.proofs.lemmas.List.{take-take, drop-take, drop-drop, get_or-set_same, get_or-set_other}
+use Rattle.std.proofs.lemmas.List.Elements.{All-take, All-drop}
+use Rattle.i_shape.specs.Point.{Point}
+use Rattle.i_shape.specs.IntPoint.{IsSafe}
+use Rattle.i_shape_c.specs.Cleaned.{IsCleaned, AreSafe}
+use Rattle.i_shape_c.specs.Batch.{offset, ring, InOrder, AreSafeContours, IsCleanedBatch}
+
+-- what stands behind a place is the same further on too
+pub further : {X : Type 0} (xs ys : List X) (n m : ℕ) → n ≤ m → drop n xs ≡ drop n ys → drop m xs ≡ drop m ys
+further xs ys n m less same =
+    let split : n + (m - n) ≡ m = omega (arith, less) in
+    subst (λ k. drop k xs ≡ drop k ys) split (sym (drop-drop (m - n) n xs) ∙ ap (drop (m - n)) same ∙ drop-drop (m - n) n ys)
+
+-- what holds whatever a call answers holds where it answers an error
+pub on_err : {T E Q : Type 0} (r : Result T E) → Q → OnErr r Q
+on_err (Ok t) q = tt
+on_err (Err e) q = q
+
+-- a part of what is the same is the same
+same_part_at : {X : Type 0} (xs ys : List X) (n a m : ℕ) → a + m ≤ n → take n xs ≡ take n ys → take m (drop a xs) ≡ take m (drop a ys)
+same_part_at xs ys n a m within same =
+    sym (drop-take a m xs) ∙ ap (drop a) (sym (take-take (a + m) n xs within) ∙ ap (take (a + m)) same ∙ take-take (a + m) n ys within) ∙ drop-take a m ys
+
+same_part : {X : Type 0} (xs ys : List X) (n a b : ℕ) → a ≤ b → b ≤ n → take n xs ≡ take n ys → slice_range xs a b ≡ slice_range ys a b
+same_part xs ys n a b some within same = same_part_at xs ys n a (b - a) (omega (arith, some, within)) same
+
+-- offsets in order
+ordered_by : (offsets : List ℕ) (n a d : ℕ) → InOrder offsets n → a + d < n → offset offsets a ≤ offset offsets (a + d)
+ordered_by offsets n a zero order within =
+    let same : a ≡ a + 0 = omega arith in
+    subst (λ k. offset offsets a ≤ offset offsets k) same (omega arith)
+ordered_by offsets n a (suc d) order within =
+    let before = ordered_by offsets n a d order (omega (arith, within)) in
+    let here : offset offsets (a + d) ≤ offset offsets (a + d + 1) = order (a + d) (omega (arith, within)) in
+    let same : a + d + 1 ≡ a + suc d = omega arith in
+    subst (λ k. offset offsets a ≤ offset offsets k) same (omega (arith, before, here))
+
+pub ordered : (offsets : List ℕ) (n a b : ℕ) → InOrder offsets n → a ≤ b → b < n → offset offsets a ≤ offset offsets b
+ordered offsets n a b order some within =
+    let same : a + (b - a) ≡ b = omega (arith, some) in
+    subst (λ k. offset offsets a ≤ offset offsets k) same (ordered_by offsets n a (b - a) order (omega (arith, within, same)))
+
+-- a part of a part
+inner_part : {X : Type 0} (xs : List X) (a b c d : ℕ) → a ≤ b → b ≤ c → c ≤ d → slice_range xs b c ≡ take (c - b) (drop (b - a) (slice_range xs a d))
+inner_part xs a b c d ab bc cd =
+    let up : a + (b - a) ≡ b = omega (arith, ab) in
+    let fit : (b - a) + (c - b) ≤ d - a = omega (arith, ab, bc, cd) in
+    let behind : drop b xs ≡ drop (b - a) (drop a xs) = subst (λ k. drop k xs ≡ drop (b - a) (drop a xs)) up (sym (drop-drop (b - a) a xs)) in
+    ap (take (c - b)) behind ∙ sym (drop-take (b - a) (c - b) (drop a xs)) ∙ ap (drop (b - a)) (sym (take-take ((b - a) + (c - b)) (d - a) (drop a xs) fit)) ∙ drop-take (b - a) (c - b) (take (d - a) (drop a xs))
+
+-- where all the points are safe, those of each contour are
+pub safe_part : {P : Type 0} (width : Width) (point : P → Point) (points : List P) (offsets : List ℕ) (a b : ℕ) → InOrder offsets (length offsets) → a ≤ b → b < length offsets
+    → AreSafeContours width point points offsets → AreSafe width point (slice_range points (offset offsets a) (offset offsets b))
+safe_part {P} width point points offsets a b order less within safe =
+    let low = ordered offsets (length offsets) 0 a order (omega arith) (omega (arith, less, within)) in
+    let mid = ordered offsets (length offsets) a b order less within in
+    let high = ordered offsets (length offsets) b (length offsets - 1) order (omega (arith, within)) (omega (arith, within)) in
+    let Q : P → Type 0 = λ p. IsSafe width (point p) in
+    rw (inner_part points (offset offsets 0) (offset offsets a) (offset offsets b) (offset offsets (length offsets - 1)) low mid high)
+    (All-take Q _ _ (All-drop Q _ _ safe))
+
+module _ {P : Type 0} (Answer : List Point → Option (List Point) → Type 0) (width : Width) (point : P → Point) where
+  -- the contours before a place are done
+  pub record Done (points : List P) (offsets : List ℕ) (out_points : List P) (out_offsets : List ℕ) (place written : ℕ) : Type 0 where
+    pub some : 0 < place
+    pub first : offset out_offsets 0 ≡ 0
+    pub order : InOrder out_offsets place
+    pub last : offset out_offsets (place - 1) ≡ written
+    pub fewer : written ≤ offset offsets (place - 1)
+    pub cleaned : (k : ℕ) → k + 1 < place → IsCleaned Answer width (map point (ring points offsets k)) (map point (ring out_points out_offsets k))
+
+  pub nothing_done : (points : List P) (offsets : List ℕ) (out_points : List P) (out_offsets : List ℕ)
+      → offset out_offsets 0 ≡ 0 → Done points offsets out_points out_offsets 1 0
+  nothing_done points offsets out_points out_offsets first = record {
+    some = omega arith;
+    first = first;
+    order = λ k less. absurd (omega (arith, less));
+    last = first;
+    fewer = omega arith;
+    cleaned = λ k less. absurd (omega (arith, less));
+  }
+
+  module _ (points : List P) (offsets : List ℕ) (old new : List P) (parts : List ℕ) (place written end : ℕ)
+      (done : Done points offsets old parts place written) (room : place < length parts) (above : written ≤ end) (under : end ≤ offset offsets place)
+      (same : take written new ≡ take written old)
+      (answer : IsCleaned Answer width (map point (slice_range points (offset offsets (place - 1)) (offset offsets place))) (map point (slice_range new written end))) where
+    abbrev grown : List ℕ
+    grown = set parts place end
+
+    kept_at : (k : ℕ) → k < place → offset grown k ≡ offset parts k
+    kept_at k less = get_or-set_other parts place k end 0 (λ e. absurd (omega (arith, e, less)))
+
+    put_at : offset grown place ≡ end
+    put_at = get_or-set_same parts place end 0 room
+
+    at_place : (k : ℕ) → k + 1 ≡ place → (offset grown k ≡ written) × (offset grown (k + 1) ≡ end)
+    at_place k is =
+        let here : k ≡ place - 1 = omega (arith, is) in
+        (kept_at k (omega (arith, is)) ∙ ap (offset parts) here ∙ done.last, ap (offset grown) is ∙ put_at)
+
+    order_at : (k : ℕ) → (k + 1 ≡ place) ⊎ (k + 1 < place) → offset grown k ≤ offset grown (k + 1)
+    order_at k (inr less) = rw (kept_at k (omega (arith, less)), kept_at (k + 1) less) (done.order k less)
+    order_at k (inl is) = omega (arith, (at_place k is).0, (at_place k is).1, above)
+
+    cleaned_at : (k : ℕ) → (k + 1 ≡ place) ⊎ (k + 1 < place) → IsCleaned Answer width (map point (ring points offsets k)) (map point (ring new grown k))
+    cleaned_at k (inr less) =
+        let low = kept_at k (omega (arith, less)) in
+        let high = kept_at (k + 1) less in
+        let up : offset parts (k + 1) ≤ written = subst (λ n. offset parts (k + 1) ≤ n) done.last (ordered parts place (k + 1) (place - 1) done.order (omega (arith, less)) (omega (arith, less))) in
+        let part = same_part new old written (offset parts k) (offset parts (k + 1)) (done.order k less) up same in
+        rw (low, high, part) (done.cleaned k less)
+    cleaned_at k (inl is) =
+        let here : place - 1 ≡ k = omega (arith, is) in
+        let part : List P = slice_range new written end in
+        let low = subst (λ m. IsCleaned Answer width (map point (slice_range points (offset offsets m) (offset offsets place))) (map point part)) here answer in
+        let both = subst (λ m. IsCleaned Answer width (map point (slice_range points (offset offsets k) (offset offsets m))) (map point part)) (sym is) low in
+        rw ((at_place k is).0, (at_place k is).1) both
+
+    split : (k : ℕ) → k + 1 < place + 1 → (k + 1 ≡ place) ⊎ (k + 1 < place)
+    split k less = eq-or-lt_of_le (let most : k + 1 ≤ place = omega (arith, less) in most)
+
+    pub done_more : Done points offsets new grown (place + 1) end
+    done_more = record {
+      some = omega arith;
+      first = kept_at 0 done.some ∙ done.first;
+      order = λ k less. order_at k (split k less);
+      last = ap (offset grown) (let e : place + 1 - 1 ≡ place = omega arith in e) ∙ put_at;
+      fewer = subst (λ n. end ≤ offset offsets n) (let e : place ≡ place + 1 - 1 = omega arith in e) under;
+      cleaned = λ k less. cleaned_at k (split k less);
+    }
+
+  -- the contours before the last place are all of them
+  pub all_done : (points : List P) (offsets : List ℕ) (old_points new_points : List P) (old_offsets new_offsets : List ℕ) (place written : ℕ)
+      → length offsets ≤ place → place ≤ length offsets → offset offsets (length offsets - 1) ≤ length points → Done points offsets new_points new_offsets place written
+      → drop written new_points ≡ drop written old_points → drop place new_offsets ≡ drop place old_offsets
+      → IsCleanedBatch Answer width point points offsets old_points new_points old_offsets new_offsets written
+  all_done points offsets old_points new_points old_offsets new_offsets place written least most within done rest offsets_rest =
+      let same : place ≡ length offsets = omega (arith, least, most) in
+      let whole : Done points offsets new_points new_offsets (length offsets) written = subst (λ n. Done points offsets new_points new_offsets n written) same done in
+      record {
+        first = whole.first;
+        order = whole.order;
+        last = whole.last;
+        fewer = omega (arith, whole.fewer, within);
+        cleaned = whole.cleaned;
+        rest = rest;
+        offsets_rest = subst (λ n. drop n new_offsets ≡ drop n old_offsets) same offsets_rest;
+      }

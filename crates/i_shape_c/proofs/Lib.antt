@@ -1,0 +1,4 @@
+pub mod Boundary
+pub mod Parts
+pub mod Batches
+pub mod Areas

@@ -1,0 +1,10 @@
+use Rattle.std.proofs.Common.{refl, rules, ◌≡◌, to_z, of_z}
+use Rattle.std.specs.Int.{w32}
+use Rattle.i_shape_c.proofs.tests.contains.Goals as goal
+
+pub returns-clause-unsafe_points : goal.returns-clause-unsafe_points
+returns-clause-unsafe_points g c =
+    let here = rw (c.to_point-point.ensures) at (c.if-not-is_in_safe_range.ensures.0 refl) in
+    let round : to_z w32 (of_z w32 c.test_contour.result) ≡ c.test_contour.result = search rules in
+    let told = rw (← round) at c.test_contour.ensures.unsafe_points in
+    (λ is both. told.0 is both.0, λ not_safe. told.1 (λ safe. not_safe (safe, here)))

@@ -1,0 +1,6 @@
+pub mod Points
+pub mod Cleaners
+pub mod Cleaned
+pub mod Batch
+pub mod Tests
+pub mod Areas

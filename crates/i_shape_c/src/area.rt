@@ -1,0 +1,49 @@
+//! Twice the area of a contour, at any width.
+
+ghost use Rattle.std.specs.Prelude.{◌≡◌, ◌↔◌, ◌<◌, length, map, IfSome, IsSome};
+ghost use Rattle.std.specs.Int.{int_wrap};
+ghost use Rattle.i_shape.specs.Edges.{shoelace};
+ghost use Rattle.i_shape.specs.IntPoint.{point_of};
+ghost use Rattle.i_shape_c.specs.Areas.{AreHalves};
+
+use crate::point::CPoint;
+use i_shape::IntNumber;
+use i_shape_core::number::WideIntNumber;
+
+/// Twice the area, above zero where the contour turns left, and `None` where there is no point. No safe range is asked: a sum that
+/// doesn't fit wraps. It takes no memory.
+pub fn area_two<P: CPoint>(points: &[P]) -> Option<<P::Coordinate as IntNumber>::Wide>
+    ensures some { IsSome result ↔ (0 < length points.now) }
+    ensures area { IfSome result (λ area. P.Coordinate.Wide.value area ≡ int_wrap P.Coordinate.Wide.width (shoelace (map (λ p. point_of P.Coordinate.value (P.point p)) points.now))) }
+{
+    let (start, rest) = points.split_first()?;
+    let first = (*start).to_point();
+    let mut previous = first;
+    let mut area = <<P::Coordinate as IntNumber>::Wide as WideIntNumber>::ZERO;
+    for given in rest {
+        let point = (*given).to_point();
+        area = area.wrapping_add(previous.cross_product(point));
+        previous = point;
+    }
+    Some(area.wrapping_add(previous.cross_product(first)))
+}
+
+/// A whole number of 128 bits, as the two halves of its bits.
+#[repr(C)]
+#[derive(Copy, Clone)]
+pub struct Halves {
+    pub low: u64,
+    pub high: u64,
+}
+
+impl Halves {
+    pub fn of(number: i128) -> Halves
+        ensures { AreHalves number result }
+    {
+        let bits = number.cast_unsigned();
+        Halves {
+            low: (bits % (1 << 64)) as u64,
+            high: (bits / (1 << 64)) as u64,
+        }
+    }
+}

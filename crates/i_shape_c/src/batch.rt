@@ -1,0 +1,90 @@
+//! The cleaning of many contours, which lie end to end in one array and are parted by offsets.
+
+ghost use Rattle.std.specs.Prelude.{◌≡◌, ◌↔◌, ◌+◌, ◌^◌, ◌<◌, ◌≤◌, length, slice_range, IsTrue, IfOk, OnErr};
+ghost use Rattle.i_shape.specs.IntPoint.{point_of};
+ghost use Rattle.i_shape_c.specs.Cleaned.{unsafe_code, unfit_code};
+ghost use Rattle.i_shape_c.specs.Batch.{CanClean, AreSafeContours, IsCleanedBatch, IsWithin, BatchAnswer};
+
+use crate::cleaner::Cleaner;
+use crate::codes::{NO_MEMORY, UNFIT, UNSAFE};
+use crate::contour::clean_into;
+use crate::lists::are_safe;
+use crate::point::CPoint;
+use i_shape::ShapeError;
+use std::alloc::Global;
+
+/// Writes what is left of each contour to the front of `out_points`, and to `out_offsets` where it starts and ends. Answers how many
+/// points these are, or a code below 0.
+pub fn clean_contours<P: CPoint, C: Cleaner<P::Coordinate>>(
+    alloc: Global,
+    points: &[P],
+    offsets: &[usize],
+    out_points: &mut [P],
+    out_offsets: &mut [usize],
+) -> isize
+    requires { length out_points.old < 2 ^ 63 }
+    ensures answer { BatchAnswer C.gives P.Coordinate.width (λ p. point_of P.Coordinate.value (P.point p)) points.now offsets.now out_points.old out_points.new out_offsets.old out_offsets.new result }
+    ensures unfit { result ≡ unfit_code ↔ (CanClean (length points.now) offsets.now (length out_points.old) (length out_offsets.old) → ⊥) }
+    ensures unsafe_points { result ≡ unsafe_code ↔ (CanClean (length points.now) offsets.now (length out_points.old) (length out_offsets.old) × (AreSafeContours P.Coordinate.width (λ p. point_of P.Coordinate.value (P.point p)) points.now offsets.now → ⊥)) }
+{
+    if !can_clean(points.len(), offsets, out_points.len(), out_offsets.len()) {
+        return UNFIT;
+    }
+    if !are_safe(part(points, offsets[0], offsets[offsets.len() - 1])) {
+        return UNSAFE;
+    }
+    match clean_all::<P, C>(alloc, points, offsets, out_points, out_offsets) {
+        Ok(total) => total as isize,
+        Err(_) => NO_MEMORY,
+    }
+}
+
+/// Whether the offsets part the points, and there is room for as many of both.
+fn can_clean(points: usize, offsets: &[usize], out_points: usize, out_offsets: usize) -> bool
+    ensures { IsTrue result ↔ CanClean points offsets.now out_points out_offsets }
+{
+    if offsets.is_empty() || out_offsets < offsets.len() || out_points < points {
+        return false;
+    }
+    for place in 1..offsets.len() {
+        if offsets[place] < offsets[place - 1] {
+            return false;
+        }
+    }
+    offsets[offsets.len() - 1] <= points
+}
+
+/// Cleans one contour after another. One cleaner and one copy of a contour serve them all.
+fn clean_all<P: CPoint, C: Cleaner<P::Coordinate>>(
+    alloc: Global,
+    points: &[P],
+    offsets: &[usize],
+    out_points: &mut [P],
+    out_offsets: &mut [usize],
+) -> Result<usize, ShapeError>
+    requires can { CanClean (length points.now) offsets.now (length out_points.old) (length out_offsets.old) }
+    requires points_safe { AreSafeContours P.Coordinate.width (λ p. point_of P.Coordinate.value (P.point p)) points.now offsets.now }
+    ensures ok { IfOk result (λ n. IsCleanedBatch C.gives P.Coordinate.width (λ p. point_of P.Coordinate.value (P.point p)) points.now offsets.now out_points.old out_points.new out_offsets.old out_offsets.new n) }
+    ensures err { OnErr result (IsWithin (length points.now) (length offsets.now) out_points.old out_points.new out_offsets.old out_offsets.new) }
+{
+    let mut cleaner = C::new(alloc);
+    let mut copy = Vec::new(alloc);
+    let mut written: usize = 0;
+    out_offsets[0] = 0;
+    for place in 1..offsets.len() {
+        let ring = part(points, offsets[place - 1], offsets[place]);
+        written = clean_into(&mut cleaner, &mut copy, ring, out_points, written)?;
+        out_offsets[place] = written;
+    }
+    Ok(written)
+}
+
+/// The points from one place to another.
+fn part<P: CPoint>(points: &[P], from: usize, to: usize) -> &[P]
+    requires order { from ≤ to }
+    requires within { to ≤ length points.now }
+    ensures part { result.now ≡ slice_range points.now from to }
+    ensures len { length result.now + from ≡ to }
+{
+    &points[from..to]
+}

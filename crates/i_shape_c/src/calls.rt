@@ -1,0 +1,5 @@
+//! The calls of C, a file for each width.
+
+mod i16;
+mod i32;
+mod i64;

@@ -1,0 +1,173 @@
+//! The calls at 16 bits.
+
+ghost use Rattle.std.specs.Prelude.{◌≡◌, ◌↔◌, ◌<◌, ◌≤◌, length, map, IsTrue};
+ghost use Rattle.std.specs.Int.{int_wrap, w16, w32};
+ghost use Rattle.i_shape.specs.Cleaners.{SimpleAnswer, SpikelessAnswer};
+ghost use Rattle.i_shape.specs.Canonical.{CanonicalAnswer};
+ghost use Rattle.i_shape.specs.Contour.{IsSimple};
+ghost use Rattle.i_shape.specs.Convex.{Convex, NoSpikes};
+ghost use Rattle.i_shape.specs.Edges.{Inside, shoelace};
+ghost use Rattle.i_shape.specs.IntPoint.{IsSafe};
+ghost use Rattle.i_shape_c.specs.Points.{point_i16};
+ghost use Rattle.i_shape_c.specs.Cleaned.{AreSafe, CleanAnswer, unsafe_code, unfit_code};
+ghost use Rattle.i_shape_c.specs.Batch.{AreSafeContours, BatchAnswer, CanClean};
+ghost use Rattle.i_shape_c.specs.Tests.{IsTold, TestAnswer};
+
+use crate::area::area_two;
+use crate::batch::clean_contours;
+use crate::cleaner::{Canonicalizer, DeSpiker, Simplifier};
+use crate::contour::clean_contour;
+use crate::point::PointI16;
+use crate::tests::{Bulging, Simple, Spikeless, contains, is_safe, test_contour};
+use std::alloc::Global;
+
+/// The contour without zero turns. Answers how many points are
+/// written to the front of `out`, 0 where the contour collapses.
+#[unsafe(no_mangle)]
+pub extern "C" fn i_shape_simplify_i16(
+    alloc: Global,
+    points: &[PointI16],
+    out: &mut [PointI16],
+) -> isize
+    ensures answer { CleanAnswer SimpleAnswer w16 point_i16 points.now out.old out.new result }
+    ensures unfit { result ≡ unfit_code ↔ (length out.old < length points.now) }
+    ensures unsafe_points { result ≡ unsafe_code ↔ ((length points.now ≤ length out.old) × (AreSafe w16 point_i16 points.now → ⊥)) }
+{
+    clean_contour::<PointI16, Simplifier>(alloc, points, out)
+}
+
+/// The contour without the points at which the way turns back or stands still. Answers how many points are
+/// written to the front of `out`, 0 where the contour collapses.
+#[unsafe(no_mangle)]
+pub extern "C" fn i_shape_despike_i16(
+    alloc: Global,
+    points: &[PointI16],
+    out: &mut [PointI16],
+) -> isize
+    ensures answer { CleanAnswer SpikelessAnswer w16 point_i16 points.now out.old out.new result }
+    ensures unfit { result ≡ unfit_code ↔ (length out.old < length points.now) }
+    ensures unsafe_points { result ≡ unsafe_code ↔ ((length points.now ≤ length out.old) × (AreSafe w16 point_i16 points.now → ⊥)) }
+{
+    clean_contour::<PointI16, DeSpiker>(alloc, points, out)
+}
+
+/// The contour without zero turns, from the start at which it is least. Answers how many points are
+/// written to the front of `out`, 0 where the contour collapses.
+#[unsafe(no_mangle)]
+pub extern "C" fn i_shape_canonical_i16(
+    alloc: Global,
+    points: &[PointI16],
+    out: &mut [PointI16],
+) -> isize
+    ensures answer { CleanAnswer CanonicalAnswer w16 point_i16 points.now out.old out.new result }
+    ensures unfit { result ≡ unfit_code ↔ (length out.old < length points.now) }
+    ensures unsafe_points { result ≡ unsafe_code ↔ ((length points.now ≤ length out.old) × (AreSafe w16 point_i16 points.now → ⊥)) }
+{
+    clean_contour::<PointI16, Canonicalizer>(alloc, points, out)
+}
+
+/// Each contour as `i_shape_simplify_i16` leaves it, one that collapses empty. Answers how many points are written.
+#[unsafe(no_mangle)]
+pub extern "C" fn i_shape_simplify_contours_i16(
+    alloc: Global,
+    points: &[PointI16],
+    offsets: &[usize],
+    out_points: &mut [PointI16],
+    out_offsets: &mut [usize],
+) -> isize
+    ensures answer { BatchAnswer SimpleAnswer w16 point_i16 points.now offsets.now out_points.old out_points.new out_offsets.old out_offsets.new result }
+    ensures unfit { result ≡ unfit_code ↔ (CanClean (length points.now) offsets.now (length out_points.old) (length out_offsets.old) → ⊥) }
+    ensures unsafe_points { result ≡ unsafe_code ↔ (CanClean (length points.now) offsets.now (length out_points.old) (length out_offsets.old) × (AreSafeContours w16 point_i16 points.now offsets.now → ⊥)) }
+{
+    clean_contours::<PointI16, Simplifier>(alloc, points, offsets, out_points, out_offsets)
+}
+
+/// Each contour as `i_shape_despike_i16` leaves it, one that collapses empty. Answers how many points are written.
+#[unsafe(no_mangle)]
+pub extern "C" fn i_shape_despike_contours_i16(
+    alloc: Global,
+    points: &[PointI16],
+    offsets: &[usize],
+    out_points: &mut [PointI16],
+    out_offsets: &mut [usize],
+) -> isize
+    ensures answer { BatchAnswer SpikelessAnswer w16 point_i16 points.now offsets.now out_points.old out_points.new out_offsets.old out_offsets.new result }
+    ensures unfit { result ≡ unfit_code ↔ (CanClean (length points.now) offsets.now (length out_points.old) (length out_offsets.old) → ⊥) }
+    ensures unsafe_points { result ≡ unsafe_code ↔ (CanClean (length points.now) offsets.now (length out_points.old) (length out_offsets.old) × (AreSafeContours w16 point_i16 points.now offsets.now → ⊥)) }
+{
+    clean_contours::<PointI16, DeSpiker>(alloc, points, offsets, out_points, out_offsets)
+}
+
+/// Each contour as `i_shape_canonical_i16` leaves it, one that collapses empty. Answers how many points are written.
+#[unsafe(no_mangle)]
+pub extern "C" fn i_shape_canonical_contours_i16(
+    alloc: Global,
+    points: &[PointI16],
+    offsets: &[usize],
+    out_points: &mut [PointI16],
+    out_offsets: &mut [usize],
+) -> isize
+    ensures answer { BatchAnswer CanonicalAnswer w16 point_i16 points.now offsets.now out_points.old out_points.new out_offsets.old out_offsets.new result }
+    ensures unfit { result ≡ unfit_code ↔ (CanClean (length points.now) offsets.now (length out_points.old) (length out_offsets.old) → ⊥) }
+    ensures unsafe_points { result ≡ unsafe_code ↔ (CanClean (length points.now) offsets.now (length out_points.old) (length out_offsets.old) × (AreSafeContours w16 point_i16 points.now offsets.now → ⊥)) }
+{
+    clean_contours::<PointI16, Canonicalizer>(alloc, points, offsets, out_points, out_offsets)
+}
+
+/// Whether there are at least three points, and none of them is a zero turn. Answers 1 or 0, or a code below 0.
+#[unsafe(no_mangle)]
+pub extern "C" fn i_shape_is_simple_i16(alloc: Global, points: &[PointI16]) -> i32
+    ensures answer { TestAnswer (IsSimple (map point_i16 points.now)) result }
+    ensures unsafe_points { result ≡ unsafe_code ↔ (AreSafe w16 point_i16 points.now → ⊥) }
+{
+    test_contour(alloc, points, Simple {})
+}
+
+/// Whether at least three points are left without repeated ones, and the way over them nowhere goes back. Answers 1 or 0, or a code below 0.
+#[unsafe(no_mangle)]
+pub extern "C" fn i_shape_has_no_spikes_i16(alloc: Global, points: &[PointI16]) -> i32
+    ensures answer { TestAnswer (NoSpikes (map point_i16 points.now)) result }
+    ensures unsafe_points { result ≡ unsafe_code ↔ (AreSafe w16 point_i16 points.now → ⊥) }
+{
+    test_contour(alloc, points, Spikeless {})
+}
+
+/// Whether the way nowhere goes back, and doesn't bend to both sides. Answers 1 or 0, or a code below 0.
+#[unsafe(no_mangle)]
+pub extern "C" fn i_shape_is_convex_i16(alloc: Global, points: &[PointI16]) -> i32
+    ensures answer { TestAnswer (Convex (map point_i16 points.now)) result }
+    ensures unsafe_points { result ≡ unsafe_code ↔ (AreSafe w16 point_i16 points.now → ⊥) }
+{
+    test_contour(alloc, points, Bulging {})
+}
+
+/// Whether the point (x, y) is inside. Answers 1 or 0, or a code below 0.
+#[unsafe(no_mangle)]
+pub extern "C" fn i_shape_contains_i16(alloc: Global, points: &[PointI16], x: i16, y: i16) -> i32
+    ensures answer { TestAnswer (Inside (map point_i16 points.now) (record { x = x; y = y })) result }
+    ensures unsafe_points { result ≡ unsafe_code ↔ ((AreSafe w16 point_i16 points.now × IsSafe w16 (record { x = x; y = y })) → ⊥) }
+{
+    contains(alloc, points, PointI16 { x, y })
+}
+
+/// Whether each point is safe. Answers 1 or 0.
+#[unsafe(no_mangle)]
+pub extern "C" fn i_shape_is_safe_i16(points: &[PointI16]) -> i32
+    ensures { IsTold (AreSafe w16 point_i16 points.now) result }
+{
+    is_safe(points)
+}
+
+/// Twice the area, above 0 where the contour turns left. Answers whether there is a point. No safe range is asked: a sum that doesn't fit wraps.
+#[unsafe(no_mangle)]
+pub extern "C" fn i_shape_area_two_i16(points: &[PointI16], area: &mut i32) -> bool
+    ensures some { IsTrue result ↔ (0 < length points.now) }
+    ensures area { IsTrue result → area.new ≡ int_wrap w32 (shoelace (map point_i16 points.now)) }
+    ensures none { (IsTrue result → ⊥) → area.new ≡ area.old }
+{
+    let Some(twice) = area_two(points) else {
+        return false;
+    };
+    *area = twice;
+    true
+}

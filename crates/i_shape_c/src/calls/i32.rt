@@ -1,0 +1,173 @@
+//! The calls at 32 bits.
+
+ghost use Rattle.std.specs.Prelude.{◌≡◌, ◌↔◌, ◌<◌, ◌≤◌, length, map, IsTrue};
+ghost use Rattle.std.specs.Int.{int_wrap, w32, w64};
+ghost use Rattle.i_shape.specs.Cleaners.{SimpleAnswer, SpikelessAnswer};
+ghost use Rattle.i_shape.specs.Canonical.{CanonicalAnswer};
+ghost use Rattle.i_shape.specs.Contour.{IsSimple};
+ghost use Rattle.i_shape.specs.Convex.{Convex, NoSpikes};
+ghost use Rattle.i_shape.specs.Edges.{Inside, shoelace};
+ghost use Rattle.i_shape.specs.IntPoint.{IsSafe};
+ghost use Rattle.i_shape_c.specs.Points.{point_i32};
+ghost use Rattle.i_shape_c.specs.Cleaned.{AreSafe, CleanAnswer, unsafe_code, unfit_code};
+ghost use Rattle.i_shape_c.specs.Batch.{AreSafeContours, BatchAnswer, CanClean};
+ghost use Rattle.i_shape_c.specs.Tests.{IsTold, TestAnswer};
+
+use crate::area::area_two;
+use crate::batch::clean_contours;
+use crate::cleaner::{Canonicalizer, DeSpiker, Simplifier};
+use crate::contour::clean_contour;
+use crate::point::PointI32;
+use crate::tests::{Bulging, Simple, Spikeless, contains, is_safe, test_contour};
+use std::alloc::Global;
+
+/// The contour without zero turns. Answers how many points are
+/// written to the front of `out`, 0 where the contour collapses.
+#[unsafe(no_mangle)]
+pub extern "C" fn i_shape_simplify_i32(
+    alloc: Global,
+    points: &[PointI32],
+    out: &mut [PointI32],
+) -> isize
+    ensures answer { CleanAnswer SimpleAnswer w32 point_i32 points.now out.old out.new result }
+    ensures unfit { result ≡ unfit_code ↔ (length out.old < length points.now) }
+    ensures unsafe_points { result ≡ unsafe_code ↔ ((length points.now ≤ length out.old) × (AreSafe w32 point_i32 points.now → ⊥)) }
+{
+    clean_contour::<PointI32, Simplifier>(alloc, points, out)
+}
+
+/// The contour without the points at which the way turns back or stands still. Answers how many points are
+/// written to the front of `out`, 0 where the contour collapses.
+#[unsafe(no_mangle)]
+pub extern "C" fn i_shape_despike_i32(
+    alloc: Global,
+    points: &[PointI32],
+    out: &mut [PointI32],
+) -> isize
+    ensures answer { CleanAnswer SpikelessAnswer w32 point_i32 points.now out.old out.new result }
+    ensures unfit { result ≡ unfit_code ↔ (length out.old < length points.now) }
+    ensures unsafe_points { result ≡ unsafe_code ↔ ((length points.now ≤ length out.old) × (AreSafe w32 point_i32 points.now → ⊥)) }
+{
+    clean_contour::<PointI32, DeSpiker>(alloc, points, out)
+}
+
+/// The contour without zero turns, from the start at which it is least. Answers how many points are
+/// written to the front of `out`, 0 where the contour collapses.
+#[unsafe(no_mangle)]
+pub extern "C" fn i_shape_canonical_i32(
+    alloc: Global,
+    points: &[PointI32],
+    out: &mut [PointI32],
+) -> isize
+    ensures answer { CleanAnswer CanonicalAnswer w32 point_i32 points.now out.old out.new result }
+    ensures unfit { result ≡ unfit_code ↔ (length out.old < length points.now) }
+    ensures unsafe_points { result ≡ unsafe_code ↔ ((length points.now ≤ length out.old) × (AreSafe w32 point_i32 points.now → ⊥)) }
+{
+    clean_contour::<PointI32, Canonicalizer>(alloc, points, out)
+}
+
+/// Each contour as `i_shape_simplify_i32` leaves it, one that collapses empty. Answers how many points are written.
+#[unsafe(no_mangle)]
+pub extern "C" fn i_shape_simplify_contours_i32(
+    alloc: Global,
+    points: &[PointI32],
+    offsets: &[usize],
+    out_points: &mut [PointI32],
+    out_offsets: &mut [usize],
+) -> isize
+    ensures answer { BatchAnswer SimpleAnswer w32 point_i32 points.now offsets.now out_points.old out_points.new out_offsets.old out_offsets.new result }
+    ensures unfit { result ≡ unfit_code ↔ (CanClean (length points.now) offsets.now (length out_points.old) (length out_offsets.old) → ⊥) }
+    ensures unsafe_points { result ≡ unsafe_code ↔ (CanClean (length points.now) offsets.now (length out_points.old) (length out_offsets.old) × (AreSafeContours w32 point_i32 points.now offsets.now → ⊥)) }
+{
+    clean_contours::<PointI32, Simplifier>(alloc, points, offsets, out_points, out_offsets)
+}
+
+/// Each contour as `i_shape_despike_i32` leaves it, one that collapses empty. Answers how many points are written.
+#[unsafe(no_mangle)]
+pub extern "C" fn i_shape_despike_contours_i32(
+    alloc: Global,
+    points: &[PointI32],
+    offsets: &[usize],
+    out_points: &mut [PointI32],
+    out_offsets: &mut [usize],
+) -> isize
+    ensures answer { BatchAnswer SpikelessAnswer w32 point_i32 points.now offsets.now out_points.old out_points.new out_offsets.old out_offsets.new result }
+    ensures unfit { result ≡ unfit_code ↔ (CanClean (length points.now) offsets.now (length out_points.old) (length out_offsets.old) → ⊥) }
+    ensures unsafe_points { result ≡ unsafe_code ↔ (CanClean (length points.now) offsets.now (length out_points.old) (length out_offsets.old) × (AreSafeContours w32 point_i32 points.now offsets.now → ⊥)) }
+{
+    clean_contours::<PointI32, DeSpiker>(alloc, points, offsets, out_points, out_offsets)
+}
+
+/// Each contour as `i_shape_canonical_i32` leaves it, one that collapses empty. Answers how many points are written.
+#[unsafe(no_mangle)]
+pub extern "C" fn i_shape_canonical_contours_i32(
+    alloc: Global,
+    points: &[PointI32],
+    offsets: &[usize],
+    out_points: &mut [PointI32],
+    out_offsets: &mut [usize],
+) -> isize
+    ensures answer { BatchAnswer CanonicalAnswer w32 point_i32 points.now offsets.now out_points.old out_points.new out_offsets.old out_offsets.new result }
+    ensures unfit { result ≡ unfit_code ↔ (CanClean (length points.now) offsets.now (length out_points.old) (length out_offsets.old) → ⊥) }
+    ensures unsafe_points { result ≡ unsafe_code ↔ (CanClean (length points.now) offsets.now (length out_points.old) (length out_offsets.old) × (AreSafeContours w32 point_i32 points.now offsets.now → ⊥)) }
+{
+    clean_contours::<PointI32, Canonicalizer>(alloc, points, offsets, out_points, out_offsets)
+}
+
+/// Whether there are at least three points, and none of them is a zero turn. Answers 1 or 0, or a code below 0.
+#[unsafe(no_mangle)]
+pub extern "C" fn i_shape_is_simple_i32(alloc: Global, points: &[PointI32]) -> i32
+    ensures answer { TestAnswer (IsSimple (map point_i32 points.now)) result }
+    ensures unsafe_points { result ≡ unsafe_code ↔ (AreSafe w32 point_i32 points.now → ⊥) }
+{
+    test_contour(alloc, points, Simple {})
+}
+
+/// Whether at least three points are left without repeated ones, and the way over them nowhere goes back. Answers 1 or 0, or a code below 0.
+#[unsafe(no_mangle)]
+pub extern "C" fn i_shape_has_no_spikes_i32(alloc: Global, points: &[PointI32]) -> i32
+    ensures answer { TestAnswer (NoSpikes (map point_i32 points.now)) result }
+    ensures unsafe_points { result ≡ unsafe_code ↔ (AreSafe w32 point_i32 points.now → ⊥) }
+{
+    test_contour(alloc, points, Spikeless {})
+}
+
+/// Whether the way nowhere goes back, and doesn't bend to both sides. Answers 1 or 0, or a code below 0.
+#[unsafe(no_mangle)]
+pub extern "C" fn i_shape_is_convex_i32(alloc: Global, points: &[PointI32]) -> i32
+    ensures answer { TestAnswer (Convex (map point_i32 points.now)) result }
+    ensures unsafe_points { result ≡ unsafe_code ↔ (AreSafe w32 point_i32 points.now → ⊥) }
+{
+    test_contour(alloc, points, Bulging {})
+}
+
+/// Whether the point (x, y) is inside. Answers 1 or 0, or a code below 0.
+#[unsafe(no_mangle)]
+pub extern "C" fn i_shape_contains_i32(alloc: Global, points: &[PointI32], x: i32, y: i32) -> i32
+    ensures answer { TestAnswer (Inside (map point_i32 points.now) (record { x = x; y = y })) result }
+    ensures unsafe_points { result ≡ unsafe_code ↔ ((AreSafe w32 point_i32 points.now × IsSafe w32 (record { x = x; y = y })) → ⊥) }
+{
+    contains(alloc, points, PointI32 { x, y })
+}
+
+/// Whether each point is safe. Answers 1 or 0.
+#[unsafe(no_mangle)]
+pub extern "C" fn i_shape_is_safe_i32(points: &[PointI32]) -> i32
+    ensures { IsTold (AreSafe w32 point_i32 points.now) result }
+{
+    is_safe(points)
+}
+
+/// Twice the area, above 0 where the contour turns left. Answers whether there is a point. No safe range is asked: a sum that doesn't fit wraps.
+#[unsafe(no_mangle)]
+pub extern "C" fn i_shape_area_two_i32(points: &[PointI32], area: &mut i64) -> bool
+    ensures some { IsTrue result ↔ (0 < length points.now) }
+    ensures area { IsTrue result → area.new ≡ int_wrap w64 (shoelace (map point_i32 points.now)) }
+    ensures none { (IsTrue result → ⊥) → area.new ≡ area.old }
+{
+    let Some(twice) = area_two(points) else {
+        return false;
+    };
+    *area = twice;
+    true
+}

@@ -1,0 +1,65 @@
+//! The cleaning of one contour, at any width and by any cleaner.
+
+ghost use Rattle.std.specs.Prelude.{◌≡◌, ◌↔◌, ◌+◌, ◌^◌, ◌<◌, ◌≤◌, length, map, take, drop, slice_range, IfOk, OnErr};
+ghost use Rattle.i_shape.specs.IntPoint.{point_of};
+ghost use Rattle.i_shape_c.specs.Cleaned.{AreSafe, IsCleaned, CleanAnswer, unsafe_code, unfit_code};
+
+use crate::cleaner::Cleaner;
+use crate::codes::{NO_MEMORY, UNFIT, UNSAFE};
+use crate::lists::{are_safe, copy_in, copy_out};
+use crate::point::CPoint;
+use i_shape::ShapeError;
+use i_shape::int::shape::IntContour;
+use std::alloc::Global;
+
+/// Writes what is left of the points to the front of `out`, and answers how many these are, or a code below 0.
+pub fn clean_contour<P: CPoint, C: Cleaner<P::Coordinate>>(
+    alloc: Global,
+    points: &[P],
+    out: &mut [P],
+) -> isize
+    requires { length out.old < 2 ^ 63 }
+    ensures answer { CleanAnswer C.gives P.Coordinate.width (λ p. point_of P.Coordinate.value (P.point p)) points.now out.old out.new result }
+    ensures unfit { result ≡ unfit_code ↔ (length out.old < length points.now) }
+    ensures unsafe_points { result ≡ unsafe_code ↔ ((length points.now ≤ length out.old) × (AreSafe P.Coordinate.width (λ p. point_of P.Coordinate.value (P.point p)) points.now → ⊥)) }
+{
+    if out.len() < points.len() {
+        return UNFIT;
+    }
+    if !are_safe(points) {
+        return UNSAFE;
+    }
+    let mut cleaner = C::new(alloc);
+    let mut copy = Vec::new(alloc);
+    match clean_into(&mut cleaner, &mut copy, points, out, 0) {
+        Ok(end) => end as isize,
+        Err(_) => NO_MEMORY,
+    }
+}
+
+/// Writes what is left of the points from place `at` on, and answers where it ends.
+pub fn clean_into<P: CPoint, C: Cleaner<P::Coordinate>>(
+    cleaner: &mut C,
+    copy: &mut IntContour<P::Coordinate>,
+    given: &[P],
+    out: &mut [P],
+    at: usize,
+) -> Result<usize, ShapeError>
+    requires points_safe { AreSafe P.Coordinate.width (λ p. point_of P.Coordinate.value (P.point p)) given.now }
+    requires room { at + length given.now ≤ length out.old }
+    ensures end { IfOk result (λ end. (at ≤ end) × (end ≤ at + length given.now)) }
+    ensures cleaned { IfOk result (λ end. IsCleaned C.gives P.Coordinate.width (map (λ p. point_of P.Coordinate.value (P.point p)) given.now) (map (λ p. point_of P.Coordinate.value (P.point p)) (slice_range out.new at end))) }
+    ensures before { take at out.new ≡ take at out.old }
+    ensures after { IfOk result (λ end. drop end out.new ≡ drop end out.old) }
+    ensures len { length out.new ≡ length out.old }
+    ensures err { OnErr result (out.new ≡ out.old) }
+{
+    copy_in(given, copy)?;
+    match cleaner.clean(copy)? {
+        None => Ok(at),
+        Some(kept) => {
+            copy_out(kept.as_slice(), out, at);
+            Ok(at + kept.len())
+        }
+    }
+}

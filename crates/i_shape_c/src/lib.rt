@@ -1,0 +1,14 @@
+//! The cleaners, tests and measures of contours for callers in C: points and answers lie in arrays of the caller's. Each call is total: it
+//! tests what it needs, and answers a code where it isn't met.
+#![tactic(auto)]
+
+mod area;
+mod batch;
+mod calls;
+mod cleaner;
+mod codes;
+mod contour;
+mod lists;
+mod point;
+mod tests;
+mod version;

@@ -1,0 +1,47 @@
+//! Points of C, and points of the library.
+
+ghost use Rattle.std.specs.Prelude.{◌≡◌, ◌+◌, ◌≤◌, ◌↔◌, length, map, take, drop, slice_range, IfOk, IsTrue};
+ghost use Rattle.i_shape.specs.IntPoint.{point_of};
+ghost use Rattle.i_shape_c.specs.Cleaned.{AreSafe};
+
+use crate::point::CPoint;
+use i_shape::int::IntPoint;
+use i_shape::int::shape::IntContour;
+use std::alloc::AllocError;
+
+/// Fills `copy` with the points, as the library has them. It takes no memory where `copy` has room for them.
+pub fn copy_in<P: CPoint>(
+    given: &[P],
+    copy: &mut IntContour<P::Coordinate>,
+) -> Result<(), AllocError>
+    ensures { IfOk result (λ _. copy.new.items ≡ map P.point given.now) }
+{
+    copy.clear();
+    copy.reserve(given.len())?;
+    for point in given {
+        copy.push_reserved((*point).to_point());
+    }
+    Ok(())
+}
+
+/// Writes the points from place `at` on.
+pub fn copy_out<P: CPoint>(points: &[IntPoint<P::Coordinate>], out: &mut [P], at: usize)
+    requires { at + length points.now ≤ length out.old }
+    ensures before { take at out.new ≡ take at out.old }
+    ensures out { slice_range out.new at (at + length points.now) ≡ map P.c_point points.now }
+    ensures after { drop (at + length points.now) out.new ≡ drop (at + length points.now) out.old }
+    ensures len { length out.new ≡ length out.old }
+{
+    for place in 0..points.len() {
+        out[at + place] = P::of_point(points[place]);
+    }
+}
+
+/// Whether each point is safe.
+pub fn are_safe<P: CPoint>(points: &[P]) -> bool
+    ensures { IsTrue result ↔ AreSafe P.Coordinate.width (λ p. point_of P.Coordinate.value (P.point p)) points.now }
+{
+    points
+        .iter()
+        .all(|given| (*given).to_point().is_in_safe_range())
+}

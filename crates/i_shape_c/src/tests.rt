@@ -1,0 +1,133 @@
+//! The tests of a contour, at any width. Each answers 1 or 0, or a code below 0.
+
+ghost use Rattle.std.specs.Prelude.{◌≡◌, ◌↔◌, List, map, IsTrue};
+ghost use Rattle.std.specs.List.{All};
+ghost use Rattle.i_shape.specs.Contour.{IsSimple};
+ghost use Rattle.i_shape.specs.Convex.{Convex, NoSpikes};
+ghost use Rattle.i_shape.specs.Edges.{Inside};
+ghost use Rattle.i_shape.specs.IntPoint.{contour_of, point_of, IsSafe};
+ghost use Rattle.i_shape.specs.Point.{Point};
+ghost use Rattle.i_shape_c.specs.Cleaned.{AreSafe, unsafe_code};
+ghost use Rattle.i_shape_c.specs.Tests.{IsTold, TestAnswer};
+
+use crate::codes::{NO_MEMORY_TEST, UNSAFE_TEST};
+use crate::lists::{are_safe, copy_in};
+use crate::point::CPoint;
+use i_shape::IntNumber;
+use i_shape::int::IntPoint;
+use i_shape::int::despike::DeSpikeContour;
+use i_shape::int::shape::IntContour;
+use i_shape::int::simple::SimpleContour;
+use i_shape_core::contour::ContourExtension;
+use std::alloc::Global;
+
+/// A test of a contour of safe points.
+pub trait ContourTest<I: IntNumber>: Copy {
+    /// What is asked of the test.
+    ghost can_test: { Self → Type 0 };
+
+    /// What is told of a contour.
+    ghost holds: { Self → List Point → Type 0 };
+
+    fn test(self, contour: &IntContour<I>) -> bool
+        requires can { can_test self }
+        requires points_safe { All (IsSafe I.width) (contour_of I.value contour.now.items) }
+        ensures { IsTrue result ↔ holds self (contour_of I.value contour.now.items) };
+}
+
+/// Whether there are at least three points, and none of them is a zero turn.
+#[derive(Clone, Copy)]
+pub struct Simple {}
+
+impl<I: IntNumber> ContourTest<I> for Simple {
+    ghost can_test = { λ test. Unit {0} };
+
+    ghost holds = { λ test. IsSimple };
+
+    fn test(self, contour: &IntContour<I>) -> bool {
+        contour.as_slice().is_simple()
+    }
+}
+
+/// Whether at least three points are left without repeated ones, and the way over them nowhere goes back.
+#[derive(Clone, Copy)]
+pub struct Spikeless {}
+
+impl<I: IntNumber> ContourTest<I> for Spikeless {
+    ghost can_test = { λ test. Unit {0} };
+
+    ghost holds = { λ test. NoSpikes };
+
+    fn test(self, contour: &IntContour<I>) -> bool {
+        contour.has_no_spikes()
+    }
+}
+
+/// Whether the way nowhere goes back, and doesn't bend to both sides.
+#[derive(Clone, Copy)]
+pub struct Bulging {}
+
+impl<I: IntNumber> ContourTest<I> for Bulging {
+    ghost can_test = { λ test. Unit {0} };
+
+    ghost holds = { λ test. Convex };
+
+    fn test(self, contour: &IntContour<I>) -> bool {
+        contour.as_slice().is_convex()
+    }
+}
+
+/// Whether a safe point is inside.
+#[derive(Clone, Copy)]
+pub struct Around<I> {
+    point: IntPoint<I>,
+}
+
+impl<I: IntNumber> ContourTest<I> for Around<I> {
+    ghost can_test = { λ test. IsSafe I.width (point_of I.value test.point) };
+
+    ghost holds = { λ test c. Inside c (point_of I.value test.point) };
+
+    fn test(self, contour: &IntContour<I>) -> bool {
+        contour.as_slice().contains_point(self.point)
+    }
+}
+
+/// The answer of a test of the points.
+pub fn test_contour<P: CPoint, T: ContourTest<P::Coordinate>>(
+    alloc: Global,
+    points: &[P],
+    test: T,
+) -> i32
+    requires { T.can_test test }
+    ensures answer { TestAnswer (T.holds test (map (λ p. point_of P.Coordinate.value (P.point p)) points.now)) result }
+    ensures unsafe_points { result ≡ unsafe_code ↔ (AreSafe P.Coordinate.width (λ p. point_of P.Coordinate.value (P.point p)) points.now → ⊥) }
+{
+    if !are_safe(points) {
+        return UNSAFE_TEST;
+    }
+    let mut copy = Vec::new(alloc);
+    let Ok(()) = copy_in(points, &mut copy) else {
+        return NO_MEMORY_TEST;
+    };
+    if test.test(&copy) { 1 } else { 0 }
+}
+
+/// Whether the point is inside the contour.
+pub fn contains<P: CPoint>(alloc: Global, points: &[P], given: P) -> i32
+    ensures answer { TestAnswer (Inside (map (λ p. point_of P.Coordinate.value (P.point p)) points.now) (point_of P.Coordinate.value (P.point given))) result }
+    ensures unsafe_points { result ≡ unsafe_code ↔ ((AreSafe P.Coordinate.width (λ p. point_of P.Coordinate.value (P.point p)) points.now × IsSafe P.Coordinate.width (point_of P.Coordinate.value (P.point given))) → ⊥) }
+{
+    let point = given.to_point();
+    if !point.is_in_safe_range() {
+        return UNSAFE_TEST;
+    }
+    test_contour(alloc, points, Around { point })
+}
+
+/// Whether each point is safe. It takes no memory.
+pub fn is_safe<P: CPoint>(points: &[P]) -> i32
+    ensures { IsTold (AreSafe P.Coordinate.width (λ p. point_of P.Coordinate.value (P.point p)) points.now) result }
+{
+    if are_safe(points) { 1 } else { 0 }
+}

@@ -1,0 +1,27 @@
+//! Whether points are the same, for walks that pass over repeated points.
+
+ghost use Rattle.std.specs.Prelude.{◌≡◌, reverse, not};
+ghost use Rattle.std.specs.List.{find};
+ghost use Rattle.i_shape_core.specs.IntPoint.{point_of};
+ghost use Rattle.i_shape_core.specs.Convex.{is_same};
+
+use crate::number::IntNumber;
+use crate::point::IntPoint;
+
+/// Whether the points are equal.
+pub fn are_same<I: IntNumber>(a: IntPoint<I>, b: IntPoint<I>) -> bool
+    ensures { result ≡ is_same (point_of I.value a) (point_of I.value b) }
+{
+    a == b
+}
+
+/// The last of the points that isn't `point`.
+pub fn last_other<I: IntNumber>(points: &[IntPoint<I>], point: IntPoint<I>) -> Option<IntPoint<I>>
+    ensures { result ≡ find (λ other. not (is_same (point_of I.value point) (point_of I.value other))) (reverse points.now) }
+{
+    points
+        .iter()
+        .rev()
+        .copied()
+        .find(|other| !are_same(point, *other))
+}

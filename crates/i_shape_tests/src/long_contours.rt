@@ -1,0 +1,143 @@
+//! Contours of a hundred thousand points, at each width: one that stays, one that loses a spike, and one that collapses.
+
+use crate::buffer::{cleans, flat};
+use crate::given::{all_hold, safe_contour};
+use crate::in_place::{despikes, simplifies};
+use crate::through_buffer::both_leave;
+use i_shape::IntNumber;
+use i_shape::int::despike::DeSpikeContour;
+use i_shape::int::simple::{ContourSimplifier, SimpleContour};
+use std::alloc::{AllocError, Global};
+use std::process::Abort;
+use std::test::Fail;
+
+/// These points, and then those points so many times.
+fn followed_by<I: IntNumber>(
+    alloc: Global,
+    first: &[[I; 2]],
+    then: &[[I; 2]],
+    times: usize,
+) -> Result<Vec<[I; 2]>, AllocError> {
+    let mut points = Vec::from_slice(alloc, first)?;
+    for _ in 0..times {
+        points.extend_from_slice(then)?;
+    }
+    Ok(points)
+}
+
+/// Each call that makes a cleaned copy leaves these points, or collapses where there are none.
+fn copies_leave<I: IntNumber>(
+    rt: &impl Abort,
+    alloc: Global,
+    name: &str,
+    given: &[[I; 2]],
+    left: &[[I; 2]],
+) -> Result<(), Fail> {
+    let given = safe_contour(rt, alloc, given);
+    let left = safe_contour(rt, alloc, left);
+    let wanted = if left.is_empty() { None } else { Some(left) };
+    let points = given.as_slice();
+    let mut simplifier = ContourSimplifier::new(alloc);
+    let answers = [
+        (points.simplified(alloc)? == wanted, "simplified"),
+        (
+            simplifier.simplify_contour(points)? == wanted,
+            "simplify_contour",
+        ),
+        (
+            simplifier.simplify_counted(points)?.0 == wanted,
+            "simplify_counted",
+        ),
+        (points.canonical(alloc)? == wanted, "canonical"),
+        (
+            simplifier.canonical(points)? == wanted,
+            "a simplifier's canonical",
+        ),
+        (given.despiked_contour(alloc)? == wanted, "despiked_contour"),
+        (
+            given.despiked_counted(alloc)?.0 == wanted,
+            "despiked_counted",
+        ),
+    ];
+    all_hold(rt, name, &answers);
+    Ok(())
+}
+
+/// What is cleaned in place or inside a buffer changes to these points.
+fn changes_to<I: IntNumber>(
+    rt: &impl Abort,
+    alloc: Global,
+    name: &str,
+    given: &[[I; 2]],
+    left: &[[I; 2]],
+) -> Result<(), Fail> {
+    simplifies(rt, alloc, name, given, left)?;
+    despikes(rt, alloc, name, given, true, left)?;
+    let given = safe_contour(rt, alloc, given);
+    let left = safe_contour(rt, alloc, left);
+    let buffer = flat(alloc, given.as_slice(), &[0..given.len()])?;
+    let ranges = [0..left.len()];
+    let kept = flat(alloc, left.as_slice(), &ranges[..left.len().min(1)])?;
+    cleans(rt, alloc, name, buffer, true, kept)
+}
+
+/// The first contour stays, the second one loses its spike, which leaves the first, and the third one collapses.
+fn are_cleaned<'a, I: IntNumber>(
+    rt: &impl Abort,
+    alloc: Global,
+    name: &str,
+    stays: &'a [[I; 2]],
+    spiked: &'a [[I; 2]],
+    flat: &'a [[I; 2]],
+) -> Result<(), Fail> {
+    copies_leave(rt, alloc, name, stays, stays)?;
+    copies_leave(rt, alloc, name, flat, &[])?;
+    changes_to(rt, alloc, name, spiked, stays)?;
+    changes_to(rt, alloc, name, flat, &[])?;
+    both_leave(rt, alloc, name, &[&[spiked], &[flat]], &[&[stays]])
+}
+
+/// A square again and again is cleaned, also with a spike at its first edge, and its first edge there and back again and again.
+fn squares_are_cleaned<I: IntNumber>(
+    rt: &impl Abort,
+    alloc: Global,
+    name: &str,
+    square: &[[I; 2]; 4],
+    spiked: &[[I; 2]; 5],
+) -> Result<(), Fail> {
+    let stays = followed_by(alloc, &[], square, 25000)?;
+    let spiked = followed_by(alloc, spiked, square, 24999)?;
+    let flat = followed_by(alloc, &[], &square[..2], 50000)?;
+    are_cleaned(
+        rt,
+        alloc,
+        name,
+        stays.as_slice(),
+        spiked.as_slice(),
+        flat.as_slice(),
+    )
+}
+
+#[test]
+fn a_hundred_thousand_points_of_16_bits_are_cleaned(rt: HostRuntime) -> Result<(), Fail> {
+    let [near, far] = [16382, 16383];
+    let [a, b, c, d] = [[-far, -far], [near, -far], [near, far], [-far, far]];
+    let spiked = [a, [far, -far], b, c, d];
+    squares_are_cleaned::<i16>(&rt, rt.alloc(), "16 bits", &[a, b, c, d], &spiked)
+}
+
+#[test]
+fn a_hundred_thousand_points_of_32_bits_are_cleaned(rt: HostRuntime) -> Result<(), Fail> {
+    let [near, far] = [1073741822, 1073741823];
+    let [a, b, c, d] = [[-far, -far], [near, -far], [near, far], [-far, far]];
+    let spiked = [a, [far, -far], b, c, d];
+    squares_are_cleaned::<i32>(&rt, rt.alloc(), "32 bits", &[a, b, c, d], &spiked)
+}
+
+#[test]
+fn a_hundred_thousand_points_of_64_bits_are_cleaned(rt: HostRuntime) -> Result<(), Fail> {
+    let [near, far] = [4611686018427387902, 4611686018427387903];
+    let [a, b, c, d] = [[-far, -far], [near, -far], [near, far], [-far, far]];
+    let spiked = [a, [far, -far], b, c, d];
+    squares_are_cleaned::<i64>(&rt, rt.alloc(), "64 bits", &[a, b, c, d], &spiked)
+}

@@ -1,0 +1,91 @@
+/* i_shape: contours of whole-number points, cleaned and measured. Each call is proved to answer what is said of it here; docs/C.md says
+ * by which clause.
+ *
+ * Each call is total: it tests what it needs, and answers a code where that isn't met. Nothing is kept between calls. There is no
+ * callback, and no call ends the program. Calls may run side by side.
+ *
+ * What a caller owes, as ever in C: each pointer is aligned and not null, even at a count of 0; behind it lie as many items as its
+ * count says; an array that a call writes overlaps none that it is given; there is stack left.
+ *
+ * A contour is an array of points, read as a cycle: the last point isn't the first one again. A point is safe where both
+ * coordinates lie strictly between -2^(W-2) and 2^(W-2), and W is 16, 32 or 64. */
+#ifndef I_SHAPE_H
+#define I_SHAPE_H
+
+#include <stdbool.h>
+#include <stddef.h>
+#include <stdint.h>
+
+#ifdef __cplusplus
+extern "C" {
+#endif
+
+/* 2^16 times the major, and 2^8 times the minor version, and the patch. */
+#define I_SHAPE_VERSION 0x000100
+
+uint32_t i_shape_version(void);
+
+/* The answers below 0. */
+enum {
+    I_SHAPE_UNSAFE = -1,   /* a point that the call reads isn't safe */
+    I_SHAPE_UNFIT = -2,    /* the offsets don't part the points, or an array of the answer is too short; this is tested first */
+    I_SHAPE_NO_MEMORY = -3 /* memory was refused */
+};
+
+typedef struct { int16_t x, y; } i_shape_point_i16;
+typedef struct { int32_t x, y; } i_shape_point_i32;
+typedef struct { int64_t x, y; } i_shape_point_i64;
+
+/* The two halves of the 128 bits of a whole number. */
+typedef struct { uint64_t low, high; } i_shape_halves;
+
+#define I_SHAPE_CLEAN_ONE(NAME, W) \
+    ptrdiff_t i_shape_##NAME##_i##W(const i_shape_point_i##W *points, size_t count, i_shape_point_i##W *out, size_t room);
+
+#define I_SHAPE_CLEAN_MANY(NAME, W) \
+    ptrdiff_t i_shape_##NAME##_contours_i##W(const i_shape_point_i##W *points, size_t count, \
+                                             const size_t *offsets, size_t offset_count, \
+                                             i_shape_point_i##W *out_points, size_t room, \
+                                             size_t *out_offsets, size_t offset_room);
+
+#define I_SHAPE_TEST(NAME, W) int32_t i_shape_##NAME##_i##W(const i_shape_point_i##W *points, size_t count);
+
+#define I_SHAPE_CALLS(W, AREA) \
+    /* One contour. They answer how many points are written to the front of out: at least 3, at most count, and 0 where the contour \
+       collapses. I_SHAPE_UNFIT: room is below count. Behind these points, and after a code, out is as it was. */ \
+    I_SHAPE_CLEAN_ONE(simplify, W)  /* without zero turns: the one end of removing them in any order */ \
+    I_SHAPE_CLEAN_ONE(despike, W)   /* without the points at which the way turns back or stands still */ \
+    I_SHAPE_CLEAN_ONE(canonical, W) /* simplified, from the start at which it is least by x and then y, point by point */ \
+    /* Many contours, end to end in one array: contour k is points[offsets[k]] .. points[offsets[k + 1]], so that m contours have \
+       offset_count = m + 1. The answer lies in the same way in out_points and out_offsets, from 0 on, a contour that collapses empty at \
+       its place. They answer how many points are written. I_SHAPE_UNFIT: offset_count is 0, an offset is below the one before it or \
+       above count, room is below count, or offset_room below offset_count. Behind these points and offsets nothing is written, nor \
+       after I_SHAPE_UNSAFE and I_SHAPE_UNFIT; after I_SHAPE_NO_MEMORY the first count points and offset_count offsets may be. */ \
+    I_SHAPE_CLEAN_MANY(simplify, W) \
+    I_SHAPE_CLEAN_MANY(despike, W) \
+    I_SHAPE_CLEAN_MANY(canonical, W) \
+    /* Tests. They answer 1 or 0, I_SHAPE_UNSAFE or I_SHAPE_NO_MEMORY. */ \
+    I_SHAPE_TEST(is_simple, W)      /* at least three points, and no zero turn */ \
+    I_SHAPE_TEST(has_no_spikes, W)  /* at least three points without repeated ones, and the way over them nowhere goes back */ \
+    I_SHAPE_TEST(is_convex, W)      /* the way nowhere goes back, and doesn't bend to both sides */ \
+    /* Whether an odd number of edges pass the height of (x, y) to the right of it. I_SHAPE_UNSAFE: that point isn't safe either. */ \
+    int32_t i_shape_contains_i##W(const i_shape_point_i##W *points, size_t count, int##W##_t x, int##W##_t y); \
+    /* Whether each point is safe: 1 or 0. It takes no memory. */ \
+    I_SHAPE_TEST(is_safe, W) \
+    /* Twice the area, above 0 where the contour turns left; false, and *area as it was, where there is no point. No safe range is \
+       asked: a sum that doesn't fit wraps. It takes no memory. */ \
+    bool i_shape_area_two_i##W(const i_shape_point_i##W *points, size_t count, AREA *area);
+
+I_SHAPE_CALLS(16, int32_t)
+I_SHAPE_CALLS(32, int64_t)
+I_SHAPE_CALLS(64, i_shape_halves)
+
+#undef I_SHAPE_CALLS
+#undef I_SHAPE_TEST
+#undef I_SHAPE_CLEAN_MANY
+#undef I_SHAPE_CLEAN_ONE
+
+#ifdef __cplusplus
+}
+#endif
+#endif
