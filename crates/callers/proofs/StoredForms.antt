@@ -9,13 +9,11 @@ use Rattle.i_shape_core.specs.Cleaners.{EachEndCollapses}
 use Rattle.i_shape_core.specs.Canonical.{IsCanonical, Joined}
 use Rattle.i_shape_core.proofs.Ends.{has_end}
 use Rattle.i_shape_core.proofs.CycleLaws.{zero_turn_slides, zero_turn_decided}
-use Rattle.i_shape_core.proofs.CanonicalForm.{canonical_joined, ends_of_joined}
-use Rattle.i_shape_core.proofs.CanonicalForm.{joined_trans, joined_sym, joined_by_reach, joined_by_rotation}
+use Rattle.i_shape_core.proofs.CanonicalForm.{canonical_joined, ends_of_joined, joined_trans, joined_sym, joined_by_reach, joined_by_rotation}
 use Rattle.i_shape.specs.IntPoint.{contour_of}
 use Rattle.i_shape.specs.IntPoints.{IntPoint}
 use Rattle.i_shape.specs.ShapeLists.{shape_of}
-use Rattle.callers.specs.Forms.{AreForms}
-use Rattle.callers.specs.Store.{IsFound, AlsoFinds}
+use Rattle.callers.specs.Store.{AreForms, IsFound, AlsoFinds}
 
 -- a contour is joined to its form
 form_joined : {c l : List Point} → IsCanonical c l → Joined IsZeroTurn c l

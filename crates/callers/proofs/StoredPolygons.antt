@@ -20,8 +20,7 @@ use Rattle.i_shape_core.proofs.ContourOrder.{point_cmp, points_told}
 use Rattle.i_shape.specs.ShapeLists.{shape_of}
 use Rattle.i_shape.specs.CanonicalShapes.{ShapeForm, OuterCollapses}
 use Rattle.i_shape.proofs.ShapeForms.{canonical_shapes, canonical_has_shape}
-use Rattle.callers.specs.PolygonForms.{AreOwnForms}
-use Rattle.callers.specs.Polygons.{IsPolygonFound, AlsoFindsPolygon, SamePolygon}
+use Rattle.callers.specs.Polygons.{AreOwnForms, IsPolygonFound, AlsoFindsPolygon, SamePolygon}
 use Rattle.callers.proofs.StoredForms.{never_joined}
 
 -- a comparison tells equality of what the members stand for

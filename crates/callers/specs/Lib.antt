@@ -1,4 +1,2 @@
-pub mod Forms
 pub mod Store
-pub mod PolygonForms
 pub mod Polygons

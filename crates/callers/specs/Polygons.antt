@@ -1,11 +1,15 @@
 -- What a store of polygons answers. A store is the list of its forms, whose order says nothing.
-use Rattle.std.specs.Prelude.{◌≡◌, ◌⊎◌, ◌↔◌, List}
-use Rattle.std.specs.List.{Contains}
+use Rattle.std.specs.Prelude.{List, Some, ◌≡◌, ◌⊎◌, ◌↔◌}
+use Rattle.std.specs.List.{All, Contains}
 use Rattle.i_shape.specs.Point.{Point, IsZeroTurn}
-use Rattle.i_shape.specs.Canonical.{Joined}
-use Rattle.i_shape.specs.CanonicalShapes.{SameShape, OuterCollapses}
+use Rattle.i_shape.specs.Canonical.{CanonicalAnswer, Joined}
+use Rattle.i_shape.specs.CanonicalShapes.{ShapeForm, SameShape, OuterCollapses}
 use Rattle.callers.specs.declared.store.Insertion.{Insertion}
 use Rattle.callers.specs.declared.store.Insertion.TheVariants.{New, Known, Collapsed}
+
+-- each is a form, and so its own form
+abbrev pub AreOwnForms : List (List (List Point)) → Type 0
+AreOwnForms forms = All (λ form. ShapeForm CanonicalAnswer form (Some form)) forms
 
 -- the outer contours are joined, and the holes that don't collapse are, one to one
 abbrev pub SamePolygon : List (List Point) → List (List Point) → Type 0

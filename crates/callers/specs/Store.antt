@@ -1,11 +1,15 @@
 -- What a store of contours answers. A store is the list of its canonical forms.
-use Rattle.std.specs.Prelude.{◌≡◌, ◌⊎◌, ◌↔◌, List, [], ◌∷◌, ◌++◌}
-use Rattle.std.specs.List.{Contains}
+use Rattle.std.specs.Prelude.{List, ◌≡◌, ◌⊎◌, ◌↔◌, [], ◌∷◌, ◌++◌}
+use Rattle.std.specs.List.{All, Contains}
 use Rattle.i_shape.specs.Point.{Point, IsZeroTurn}
-use Rattle.i_shape.specs.Cleaners.{EachEndCollapses}
 use Rattle.i_shape.specs.Canonical.{IsCanonical, Joined}
+use Rattle.i_shape.specs.Cleaners.{EachEndCollapses}
 use Rattle.callers.specs.declared.store.Insertion.{Insertion}
 use Rattle.callers.specs.declared.store.Insertion.TheVariants.{New, Known, Collapsed}
+
+-- each is the canonical form of some contour
+abbrev pub AreForms : List (List Point) → Type 0
+AreForms forms = All (λ form. (c : List Point) × IsCanonical c form) forms
 
 -- a contour of the store is joined to c
 abbrev pub IsFound : List (List Point) → List Point → Type 0

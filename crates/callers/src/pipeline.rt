@@ -1,7 +1,7 @@
 //! Cleaning through a flat buffer.
 
 ghost use Rattle.std.specs.Prelude.{◌<◌, ◌↔◌, length, IfOk, IsErrOf};
-ghost use Rattle.i_shape.specs.Compact.{Compact};
+ghost use Rattle.i_shape.specs.Buffers.{Compact};
 ghost use Rattle.i_shape.specs.Paths.{joined, paths_of_shape};
 ghost use Rattle.i_shape.specs.ShapeLists.{shape_of, IsSafeShape};
 

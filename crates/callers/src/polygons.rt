@@ -24,7 +24,7 @@ impl<I: IntNumber> Model for PolygonStore<I> {
     ghost use Rattle.std.specs.Prelude.{List};
     ghost use Rattle.i_shape.specs.Point.{Point};
     ghost use Rattle.i_shape.specs.ShapeLists.{shapes_of};
-    ghost use Rattle.callers.specs.PolygonForms.{AreOwnForms};
+    ghost use Rattle.callers.specs.Polygons.{AreOwnForms};
 
     ghost Value = { List (List (List Point)) };
 

@@ -35,7 +35,7 @@ impl<I: IntNumber> Model for CanonicalStore<I> {
     ghost use Rattle.std.specs.Prelude.{List};
     ghost use Rattle.i_shape.specs.Point.{Point};
     ghost use Rattle.i_shape.specs.ShapeLists.{shape_of};
-    ghost use Rattle.callers.specs.Forms.{AreForms};
+    ghost use Rattle.callers.specs.Store.{AreForms};
 
     ghost Value = { List (List Point) };
 

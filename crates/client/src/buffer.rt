@@ -4,7 +4,7 @@ ghost use Rattle.std.specs.Prelude.{◌≡◌, [], ◌∷◌, OnOk, OnErr};
 ghost use Rattle.i_shape_core.specs.IntPoint.{contour_of};
 ghost use Rattle.i_shape.specs.Paths.{joined};
 ghost use Rattle.i_shape.specs.ShapeLists.{shape_of, shapes_of};
-ghost use Rattle.i_shape.specs.Compact.{Compact, contours_in};
+ghost use Rattle.i_shape.specs.Buffers.{Compact, contours_in};
 
 use crate::refusal::Refusal;
 use i_shape::IntNumber;
@@ -42,7 +42,7 @@ pub fn set_contour<I: IntNumber>(
 }
 
 /// Puts the contours of the shape into the buffer, and removes zero turns there.
-#[tactic(auto, using(i_shape::proofs::CallerLemmas::contours_held))]
+#[tactic(auto, using(i_shape_int::proofs::CallerLemmas::contours_held))]
 pub fn set_shape<I: IntNumber>(
     buffer: &mut FlatContoursBuffer<I>,
     shape: &[IntContour<I>],
@@ -57,7 +57,7 @@ pub fn set_shape<I: IntNumber>(
 }
 
 /// The same of a shape in a vector.
-#[tactic(auto, using(i_shape::proofs::CallerLemmas::contours_held))]
+#[tactic(auto, using(i_shape_int::proofs::CallerLemmas::contours_held))]
 pub fn set_shape_vector<I: IntNumber>(
     buffer: &mut FlatContoursBuffer<I>,
     shape: &IntShape<I>,
@@ -72,7 +72,7 @@ pub fn set_shape_vector<I: IntNumber>(
 }
 
 /// Puts the contours of the shapes into the buffer, and removes zero turns there.
-#[tactic(auto, using(i_shape::proofs::CallerLemmas::shapes_held))]
+#[tactic(auto, using(i_shape_int::proofs::CallerLemmas::shapes_held))]
 pub fn set_shapes<I: IntNumber>(
     buffer: &mut FlatContoursBuffer<I>,
     shapes: &[IntShape<I>],

@@ -1,15 +1,15 @@
 //! Straight programs: each tests the points, cleans, and goes on with what is left. The double area stays what it was.
 
-ghost use Rattle.std.specs.Prelude.{◌≡◌, ◌<◌, ◌↔◌, length, IsTrue, IfOk, IfSome, OnOk, OnErr};
+ghost use Rattle.std.specs.Prelude.{◌≡◌, ◌<◌, ◌↔◌, None, length, IsTrue, IfOk, IfSome, OnOk, OnErr, IsErrOf};
+ghost use Rattle.std.specs.List.{All};
 ghost use Rattle.std.specs.Int.{int_wrap};
 ghost use Rattle.i_shape_core.specs.Point.{Point};
-ghost use Rattle.i_shape_core.specs.IntPoint.{point_of, contour_of};
+ghost use Rattle.i_shape_core.specs.IntPoint.{point_of, contour_of, IsSafe};
 ghost use Rattle.i_shape_core.specs.Edges.{shoelace, Inside};
-ghost use Rattle.i_shape_core.specs.Cleaners.{SimpleAnswer};
-ghost use Rattle.i_shape.specs.ShapeLists.{shape_of, shapes_of};
-ghost use Rattle.i_shape.specs.ShapeAnswers.{ShapeClean, ListKept};
+ghost use Rattle.i_shape_core.specs.Cleaners.{SimpleAnswer, EachEndCollapses};
+ghost use Rattle.i_shape.specs.ShapeLists.{shape_of, shapes_of, IsSafeShape, IsSafeList};
+ghost use Rattle.i_shape.specs.ShapeAnswers.{ShapeClean, ListKept, inside_count, shape_shoelace, shapes_shoelace};
 ghost use Rattle.i_shape.specs.InPlace.{Leaves};
-ghost use Rattle.i_shape.specs.ShapeAreas.{inside_count, shape_shoelace, shapes_shoelace};
 
 use crate::refusal::Refusal;
 use i_shape::IntNumber;
@@ -28,6 +28,8 @@ pub fn cleaned_area<I: IntNumber>(
     alloc: Global,
     contour: &[IntPoint<I>],
 ) -> Result<Option<I::Wide>, Refusal>
+    ensures range { IsErrOf result Refusal.OutOfRange ↔ (All (IsSafe I.width) (contour_of I.value contour.now) → ⊥) }
+    ensures none { IfOk result (λ r. (r ≡ None) ↔ EachEndCollapses (contour_of I.value contour.now)) }
     ensures area { IfOk result (λ r. IfSome r (λ area. I.Wide.value area ≡ int_wrap I.Wide.width (shoelace (contour_of I.value contour.now)))) }
 {
     if !contour.is_in_safe_range() {
@@ -45,6 +47,7 @@ pub fn cleaned_contains<I: IntNumber>(
     contour: &[IntPoint<I>],
     point: IntPoint<I>,
 ) -> Result<bool, Refusal>
+    ensures range { IsErrOf result Refusal.OutOfRange ↔ (All (IsSafe I.width) (contour_of I.value contour.now) × IsSafe I.width (point_of I.value point) → ⊥) }
     ensures inside { IfOk result (λ r. IsTrue r ↔ Inside (contour_of I.value contour.now) (point_of I.value point)) }
 {
     if !contour.is_in_safe_range() || !point.is_in_safe_range() {
@@ -57,8 +60,9 @@ pub fn cleaned_contains<I: IntNumber>(
 }
 
 /// Removes zero turns from a contour in place, and then spikes, of which none is left by then. It answers what the first call did.
-#[tactic(auto, using(i_shape::proofs::CallerLemmas::contour_cleaned, i_shape::proofs::CallerLemmas::contour_never_refused))]
+#[tactic(auto, using(i_shape_int::proofs::CallerLemmas::contour_cleaned, i_shape_int::proofs::CallerLemmas::contour_never_refused))]
 pub fn clean_contour<I: IntNumber>(contour: &mut IntContour<I>) -> Result<bool, Refusal>
+    ensures range { IsErrOf result Refusal.OutOfRange ↔ (All (IsSafe I.width) (contour_of I.value contour.old.items) → ⊥) }
     ensures cleaned { OnOk result (Leaves SimpleAnswer (contour_of I.value contour.old.items) (contour_of I.value contour.new.items)) }
     ensures err { OnErr result (contour_of I.value contour.new.items ≡ contour_of I.value contour.old.items) }
     ensures area { shoelace (contour_of I.value contour.new.items) ≡ shoelace (contour_of I.value contour.old.items) }
@@ -73,8 +77,9 @@ pub fn clean_contour<I: IntNumber>(contour: &mut IntContour<I>) -> Result<bool, 
 }
 
 /// Removes zero turns from a shape in place, and then spikes. The shape is empty where its first contour collapses.
-#[tactic(auto, using(i_shape::proofs::CallerLemmas::shape_cleaned, i_shape::proofs::CallerLemmas::shape_never_refused))]
+#[tactic(auto, using(i_shape_int::proofs::CallerLemmas::shape_cleaned, i_shape_int::proofs::CallerLemmas::shape_never_refused))]
 pub fn clean_shape<I: IntNumber>(shape: &mut IntShape<I>) -> Result<bool, Refusal>
+    ensures range { IsErrOf result Refusal.OutOfRange ↔ (IsSafeShape I.width (shape_of I.value shape.old.items) → ⊥) }
     ensures cleaned { OnOk result (Leaves (ShapeClean SimpleAnswer) (shape_of I.value shape.old.items) (shape_of I.value shape.new.items)) }
     ensures err { OnErr result (shape_of I.value shape.new.items ≡ shape_of I.value shape.old.items) }
     ensures area { 0 < length (shape_of I.value shape.new.items) → shape_shoelace (shape_of I.value shape.new.items) ≡ shape_shoelace (shape_of I.value shape.old.items) }
@@ -88,8 +93,9 @@ pub fn clean_shape<I: IntNumber>(shape: &mut IntShape<I>) -> Result<bool, Refusa
 }
 
 /// Removes zero turns from each shape in place, and then spikes. The double area is kept where as many shapes are left.
-#[tactic(auto, using(i_shape::proofs::CallerLemmas::list_cleaned, i_shape::proofs::CallerLemmas::list_never_refused, i_shape::proofs::CallerLemmas::list_cleaned_area))]
+#[tactic(auto, using(i_shape_int::proofs::CallerLemmas::list_cleaned, i_shape_int::proofs::CallerLemmas::list_never_refused, i_shape_int::proofs::CallerLemmas::list_cleaned_area))]
 pub fn clean_list<I: IntNumber>(shapes: &mut IntShapes<I>) -> Result<bool, Refusal>
+    ensures range { IsErrOf result Refusal.OutOfRange ↔ (IsSafeList I.width (shapes_of I.value shapes.old.items) → ⊥) }
     ensures kept { OnOk result (ListKept SimpleAnswer (shapes_of I.value shapes.old.items) (shapes_of I.value shapes.new.items)) }
     ensures err { OnErr result (shapes_of I.value shapes.new.items ≡ shapes_of I.value shapes.old.items) }
     ensures area { length (shapes_of I.value shapes.new.items) ≡ length (shapes_of I.value shapes.old.items) → shapes_shoelace (shapes_of I.value shapes.new.items) ≡ shapes_shoelace (shapes_of I.value shapes.old.items) }
@@ -103,11 +109,12 @@ pub fn clean_list<I: IntNumber>(shapes: &mut IntShapes<I>) -> Result<bool, Refus
 }
 
 /// The contours of a shape, cleaned inside a buffer and read back.
-#[tactic(auto, using(i_shape::proofs::CallerLemmas::contours_held))]
+#[tactic(auto, using(i_shape_int::proofs::CallerLemmas::contours_held))]
 pub fn cleaned_by_buffer<I: IntNumber>(
     buffer: &mut FlatContoursBuffer<I>,
     shape: &[IntContour<I>],
 ) -> Result<IntShape<I>, Refusal>
+    ensures range { IsErrOf result Refusal.OutOfRange ↔ (IsSafeShape I.width (shape_of I.value shape.now) → ⊥) }
     ensures area { IfOk result (λ kept. shape_shoelace (shape_of I.value kept.items) ≡ shape_shoelace (shape_of I.value shape.now)) }
     ensures inside { IfOk result (λ kept. (p : Point) → inside_count (shape_of I.value kept.items) p ≡ inside_count (shape_of I.value shape.now) p) }
 {
@@ -120,11 +127,12 @@ pub fn cleaned_by_buffer<I: IntNumber>(
 }
 
 /// Twice the area of a shape, told by its contours without zero turns, in a buffer.
-#[tactic(auto, using(i_shape::proofs::CallerLemmas::contours_held))]
+#[tactic(auto, using(i_shape_int::proofs::CallerLemmas::contours_held))]
 pub fn area_by_buffer<I: IntNumber>(
     buffer: &mut FlatContoursBuffer<I>,
     shape: &[IntContour<I>],
 ) -> Result<I::Wide, Refusal>
+    ensures range { IsErrOf result Refusal.OutOfRange ↔ (IsSafeShape I.width (shape_of I.value shape.now) → ⊥) }
     ensures area { IfOk result (λ area. I.Wide.value area ≡ int_wrap I.Wide.width (shape_shoelace (shape_of I.value shape.now))) }
 {
     if !shape.is_in_safe_range() {
@@ -142,6 +150,7 @@ pub fn contains_by_buffer<I: IntNumber>(
     contour: &[IntPoint<I>],
     point: IntPoint<I>,
 ) -> Result<bool, Refusal>
+    ensures range { IsErrOf result Refusal.OutOfRange ↔ (All (IsSafe I.width) (contour_of I.value contour.now) × IsSafe I.width (point_of I.value point) → ⊥) }
     ensures inside { IfOk result (λ r. IsTrue r ↔ Inside (contour_of I.value contour.now) (point_of I.value point)) }
 {
     if !contour.is_in_safe_range() || !point.is_in_safe_range() {

@@ -3,8 +3,7 @@
 ghost use Rattle.std.specs.Prelude.{◌≡◌, length, IfOk, OnOk, OnErr};
 ghost use Rattle.i_shape_core.specs.Cleaners.{SimpleAnswer, DespikeAnswer};
 ghost use Rattle.i_shape.specs.ShapeLists.{shapes_of};
-ghost use Rattle.i_shape.specs.ShapeAreas.{shapes_shoelace};
-ghost use Rattle.i_shape.specs.ShapeAnswers.{ListKept};
+ghost use Rattle.i_shape.specs.ShapeAnswers.{shapes_shoelace, ListKept};
 
 use crate::refusal::Refusal;
 use i_shape::IntNumber;
@@ -61,7 +60,7 @@ pub fn despiked<I: IntNumber>(alloc: Global, shapes: &IntShapes<I>) -> Result<In
 }
 
 /// Removes zero turns in place. The double area is kept where as many shapes are left.
-#[tactic(auto, using(i_shape::proofs::CallerLemmas::simplified_list_area))]
+#[tactic(auto, using(i_shape_int::proofs::CallerLemmas::simplified_list_area))]
 pub fn simplify<I: IntNumber>(shapes: &mut IntShapes<I>) -> Result<bool, Refusal>
     ensures kept { OnOk result (ListKept SimpleAnswer (shapes_of I.value shapes.old.items) (shapes_of I.value shapes.new.items)) }
     ensures err { OnErr result (shapes_of I.value shapes.new.items ≡ shapes_of I.value shapes.old.items) }
@@ -74,7 +73,7 @@ pub fn simplify<I: IntNumber>(shapes: &mut IntShapes<I>) -> Result<bool, Refusal
 }
 
 /// Removes spikes in place. The double area is kept where as many shapes are left.
-#[tactic(auto, using(i_shape::proofs::CallerLemmas::despiked_list_area))]
+#[tactic(auto, using(i_shape_int::proofs::CallerLemmas::despiked_list_area))]
 pub fn despike<I: IntNumber>(shapes: &mut IntShapes<I>) -> Result<bool, Refusal>
     ensures kept { OnOk result (ListKept DespikeAnswer (shapes_of I.value shapes.old.items) (shapes_of I.value shapes.new.items)) }
     ensures err { OnErr result (shapes_of I.value shapes.new.items ≡ shapes_of I.value shapes.old.items) }

@@ -1,5 +1,8 @@
 //! Why there is no answer.
 
+ghost use Rattle.std.specs.Prelude.{◌≡◌};
+ghost use Rattle.client.specs.declared.refusal.Refusal.TheVariants.{Call};
+
 use i_shape::ShapeError;
 
 /// Why a caller has no answer.
@@ -14,6 +17,8 @@ pub enum Refusal {
 }
 
 impl From<ShapeError> for Refusal {
+    ghost from_gives = { λ error refusal. refusal ≡ Call error };
+
     fn from(error: ShapeError) -> Refusal {
         Refusal::Call(error)
     }

@@ -1,10 +1,9 @@
 -- A loop over the paths that a resource lends, at the path that comes next.
 use Rattle.std.proofs.Common.{◌≡◌, ◌∙◌, ◌++◌, ◌+◌, ◌≤◌, List, ◌∷◌, map, length, Option, Some, refl, subst, ap, Bor, arith, length-append}
 use Rattle.std.specs.Iterator.{Yields}
-use Rattle.i_shape_source.specs.LentPaths.{LendsExactly, path_of}
+use Rattle.i_shape_source.specs.Paths.{LendsExactly, path_of, joined}
 use Rattle.i_shape_source.proofs.Lent.{saw_next}
-use Rattle.i_shape_source.specs.Paths.{joined}
-use Rattle.i_shape.proofs.EndToEnd.{joined-append}
+use Rattle.i_shape_int.proofs.EndToEnd.{joined-append}
 
 -- the paths up to this one have no more points than all of them
 pub points_within : {S P : Type 0} {steps : S → Option (Bor (List P)) → S → Type 0} {s : S} {paths : List (List P)} → LendsExactly steps s paths

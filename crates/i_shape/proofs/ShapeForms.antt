@@ -9,17 +9,14 @@ use Rattle.i_shape_core.specs.Point.{Point, IsZeroTurn}
 use Rattle.i_shape_core.specs.IntPoint.{IsSafe}
 use Rattle.i_shape_core.specs.Edges.{edges, is_right, shoelace, Inside}
 use Rattle.i_shape_core.specs.Cleaners.{EachEndCollapses}
-use Rattle.i_shape_core.specs.Canonical.{IsAtMost, CanonicalAnswer, Joined}
-use Rattle.i_shape_core.specs.Unoriented.{UnorientedAnswer, JoinedEitherWay}
+use Rattle.i_shape_core.specs.Canonical.{IsAtMost, CanonicalAnswer, Joined, UnorientedAnswer, JoinedEitherWay}
 use Rattle.i_shape_core.proofs.Order.{at_most_refl, at_most_total, at_most_trans, at_most_antisym}
 use Rattle.i_shape_core.proofs.ContourForms.{canonical_stands, canonical_one, has_canonical, canonical_again, canonical_kept, unoriented_stands, unoriented_one, has_unoriented, unoriented_again, unoriented_kept}
-use Rattle.i_shape.specs.Survivors.{Survivors}
+use Rattle.i_shape_int.specs.ShapeAnswers.{Survivors, sum_of, inside_count, ShapeClean, AreKept}
 use Rattle.i_shape.specs.ShapeLists.{IsSafeShape, IsSafeList}
-use Rattle.i_shape.specs.ShapeAreas.{sum_of, inside_count}
-use Rattle.i_shape.specs.ShapeAnswers.{ShapeClean, AreKept}
 use Rattle.i_shape.specs.CanonicalShapes.{SortedForms, ShapeForm, ListForm, IsShapeAtMost, OuterCollapses, SameShape, OneShapeForm, OneListForm, HasShapeForm, HasListForm, AreKeptEitherWay, FormsKept}
-use Rattle.i_shape.proofs.Surviving.{survivors_weaker, survivors_stay, survivors_have}
-use Rattle.i_shape.proofs.Keeping.{parity, same_parity, shape_keeps, shape_safe}
+use Rattle.i_shape_int.proofs.Surviving.{survivors_weaker, survivors_stay, survivors_have}
+use Rattle.i_shape_int.proofs.Keeping.{parity, same_parity, shape_keeps, shape_safe}
 use Rattle.i_shape.proofs.Shuffles.{along_permutation}
 use Rattle.i_shape.proofs.SortedLists.{sorted_exists}
 use Rattle.i_shape.proofs.ShapeOrder.{contour_decided, shape_decided, shape_itself, shape_antisym, shape_total, shape_trans}

@@ -1,13 +1,30 @@
 -- One form for all polygons whose contours lead to one another, and for all lists of such polygons. `Form` relates a contour to its form, and to none where it collapses.
-use Rattle.std.specs.Prelude.{◌≡◌, ◌⊎◌, ◌↔◌, nat_abs, List, [], ◌∷◌, Option, Some, None, IfSome, IsPermutation}
-use Rattle.std.specs.List.{AllPairs, sum_by}
+use Rattle.std.specs.Prelude.{◌≡◌, List, Option, Some, None, IsPermutation, ◌⊎◌, ◌↔◌, nat_abs, [], ◌∷◌, IfSome}
+use Rattle.std.specs.List.{AllZip, AllPairs, sum_by}
+use Rattle.i_shape_int.specs.ShapeAnswers.{Survivors, inside_count}
 use Rattle.i_shape_core.specs.Point.{Point}
 use Rattle.i_shape_core.specs.Edges.{shoelace}
 use Rattle.i_shape_core.specs.Cleaners.{EachEndCollapses}
 use Rattle.i_shape_core.specs.Canonical.{IsAtMost}
-use Rattle.i_shape.specs.Survivors.{Survivors}
-use Rattle.i_shape.specs.Matching.{MatchedStanding}
-use Rattle.i_shape.specs.ShapeAreas.{inside_count}
+
+-- the members of xs, in some order, are related to those of ys place by place
+pub record Matched {X : Type 0} (R : X → X → Type 0) (xs ys : List X) : Type 0 where
+  pub order : List X
+  pub same : IsPermutation xs order
+  pub pairs : AllZip R order ys
+
+-- a member that collapses is left out, and another stays as it is
+abbrev pub Stays : {X : Type 0} → (X → Type 0) → X → Option X → Type 0
+Stays Collapses x None = Collapses x
+Stays Collapses x (Some y) = (Collapses x → ⊥) × (y ≡ x)
+
+-- the members of xs that don't collapse are matched one to one with those of ys that don't
+pub record MatchedStanding {X : Type 0} (Collapses : X → Type 0) (R : X → X → Type 0) (xs ys : List X) : Type 0 where
+  pub left : List X
+  pub right : List X
+  pub stand_left : Survivors (Stays Collapses) xs left
+  pub stand_right : Survivors (Stays Collapses) ys right
+  pub matched : Matched R left right
 
 -- the answers at the members that have one, in order by AtMost
 abbrev pub SortedForms : {X Y : Type 0} → (X → Option Y → Type 0) → (Y → Y → Type 0) → List X → List Y → Type 0

@@ -1,12 +1,19 @@
 -- What a flat buffer over points of any kind holds.
-use Rattle.std.specs.Prelude.{◌≡◌, ℕ, List, [], ◌∷◌, length}
-use Rattle.std.specs.List.{All}
+use Rattle.std.specs.Prelude.{ℕ, List, length, Bool, ◌&&◌, nat_le, ◌≡◌, [], ◌∷◌}
+use Rattle.std.specs.List.{filter, All}
 use Rattle.std.specs.declared.ops.Range.{Range}
+use Rattle.i_shape_int.specs.Flat.{slices, InOrder, IsReadableShape, shapes, end_to_end}
 use Rattle.i_shape.specs.declared.flat.float.contours.FloatFlatContoursBuffer.{FloatFlatContoursBuffer}
 use Rattle.i_shape.specs.declared.flat.float.shapes.FloatFlatShapesBuffer.{FloatFlatShapesBuffer}
 use Rattle.i_shape_source.specs.Paths.{joined}
-use Rattle.i_shape.specs.Flat.{InOrder, IsReadableShape, slices, shapes, end_to_end}
-use Rattle.i_shape.specs.LentRanges.{readable_slices}
+
+-- whether the range lies in a list of n members, and does not run backwards
+abbrev pub is_readable : ℕ → Range ℕ → Bool
+is_readable n range = nat_le range.start range.end && nat_le range.end n
+
+-- the parts of the points that the ranges name, without the ranges that run backwards or out of the points
+abbrev pub readable_slices : {P : Type 0} → List P → List (Range ℕ) → List (List P)
+readable_slices points ranges = slices points (filter (is_readable (length points)) ranges)
 
 -- the contours form has these points and these ranges
 pub record HasLists {P : Type 0} (buffer : FloatFlatContoursBuffer P) (held : List P) (named : List (Range ℕ)) : Type 0 where

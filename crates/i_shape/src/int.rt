@@ -1,13 +1,5 @@
 //! Contours, shapes and shape lists of whole-number points.
 
-pub mod area;
 pub mod canonical;
-pub(crate) mod cleaning;
-pub mod count;
-pub mod despike;
-pub mod path;
-pub mod safe_range;
-pub mod shape;
-pub mod simple;
 
-pub use i_shape_core::point::IntPoint;
+pub use i_shape_int::int::{IntPoint, area, count, despike, path, safe_range, shape, simple};

@@ -3,12 +3,11 @@
 
 ghost use Rattle.std.specs.Prelude.{◌≡◌, ◌↔◌, IsTrue};
 ghost use Rattle.std.specs.List.{AllZip};
-ghost use Rattle.i_shape.specs.ContoursBuffer.{SameLists};
-ghost use Rattle.i_shape.specs.ShapesBuffer.{SameShapeLists};
+ghost use Rattle.i_shape_int.specs.Buffers.{SameLists, SameShapeLists};
 
-use crate::flat::buffer::{FlatContoursBuffer, FlatShapesBuffer};
 use crate::flat::float::{FloatFlatContoursBuffer, FloatFlatShapesBuffer};
 use i_shape_core::number::IntNumber;
+use i_shape_int::flat::buffer::{FlatContoursBuffer, FlatShapesBuffer};
 
 /// Buffers of contours are told equal exactly where they have the same points and the same ranges.
 pub fn contours_buffers_equal<T: IntNumber>(_a: &FlatContoursBuffer<T>, _b: &FlatContoursBuffer<T>)

@@ -1,12 +1,10 @@
 //! Contours, shapes and shape lists over whole numbers.
 #![tactic(auto)]
 
-pub mod base;
 pub mod flat;
 pub mod int;
 pub mod laws;
 mod macros;
 pub mod source;
 
-pub use i_shape_core::error::ShapeError;
-pub use i_shape_core::number::IntNumber;
+pub use i_shape_int::{IntNumber, ShapeError, base};

@@ -1,4 +1,5 @@
 //! Borrowed paths.
 
 pub mod float;
-pub mod int;
+
+pub use i_shape_int::source::int;

@@ -9,8 +9,7 @@ use Rattle.i_shape.specs.Point.{Point}
 use Rattle.i_shape.specs.IntPoint.{point_of, contour_of, IsSafe}
 use Rattle.i_shape.specs.IntPoints.{IntPoint}
 use Rattle.i_shape.specs.Cleaners.{KeptAnswer}
-use Rattle.i_shape_c.specs.Cleaners.{IsFewer}
-use Rattle.i_shape_c.specs.Cleaned.{AreSafe, slot, IsCleaned}
+use Rattle.i_shape_c.specs.Cleaned.{IsFewer, AreSafe, slot, IsCleaned}
 
 -- of the program's points too there are fewer
 pub fewer_points : {I : Type 0} (value : I → ℤ) (given kept : List (IntPoint I)) → IsFewer (contour_of value given) (contour_of value kept) → (3 ≤ length kept) × (length kept ≤ length given)

@@ -1,10 +1,15 @@
 -- What the calls that clean one contour answer.
-use Rattle.std.specs.Prelude.{◌≡◌, ℤ, ℕ, ◌<◌, ◌≤◌, pos, negsuc, List, [], ◌∷◌, map, length, take, drop, Option, Some, None}
+use Rattle.std.specs.Prelude.{◌≤◌, List, length, ◌≡◌, ℤ, ℕ, ◌<◌, pos, negsuc, [], ◌∷◌, map, take, drop, Option, Some, None}
+use Rattle.i_shape.specs.Point.{Point}
 use Rattle.std.specs.Int.{Width}
 use Rattle.std.specs.List.{All}
-use Rattle.i_shape.specs.Point.{Point}
 use Rattle.i_shape.specs.IntPoint.{IsSafe}
 use Rattle.i_shape.specs.Cleaners.{KeptAnswer}
+
+-- at least three points, and no more than there were
+pub record IsFewer (c e : List Point) : Type 0 where
+  pub enough : 3 ≤ length e
+  pub fewer : length e ≤ length c
 
 -- the code of points that aren't safe
 abbrev pub unsafe_code : ℤ

@@ -1,5 +1,4 @@
 pub mod Points
-pub mod Cleaners
 pub mod Cleaned
 pub mod Batch
 pub mod Tests

@@ -7,7 +7,7 @@ ghost use Rattle.i_shape.specs.Point.{Point};
 ghost use Rattle.i_shape.specs.IntPoint.{contour_of, answered, IsSafe};
 ghost use Rattle.i_shape.specs.Cleaners.{SimpleAnswer, SpikelessAnswer, KeptAnswer};
 ghost use Rattle.i_shape.specs.Canonical.{CanonicalAnswer};
-ghost use Rattle.i_shape_c.specs.Cleaners.{IsFewer};
+ghost use Rattle.i_shape_c.specs.Cleaned.{IsFewer};
 ghost use Rattle.i_shape_core.proofs.Ends.{reach_shrinks};
 ghost use Rattle.i_shape_core.proofs.Rotations.{rotation_length};
 

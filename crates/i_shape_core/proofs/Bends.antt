@@ -6,7 +6,7 @@ use Rattle.i_shape_core.specs.Contour.{Test, point_at}
 use Rattle.i_shape_core.specs.Convex.{is_same, last_of, dedup, Bulges, Convex}
 use Rattle.i_shape_core.specs.IntPoint.{point_of, contour_of}
 use Rattle.i_shape_core.specs.declared.point.IntPoint.{IntPoint}
-use Rattle.i_shape_core.specs.Bend.{IsBend, bend_of_both}
+use Rattle.i_shape_core.specs.Walks.{IsBend, bend_of_both}
 use Rattle.i_shape_core.specs.declared.bend.Bend.{Bend}
 use Rattle.i_shape_core.specs.declared.bend.Bend.TheVariants.{Straight, Left, Right, Reversal}
 use Rattle.i_shape_core.proofs.Polynomials.{number, ring}

@@ -4,9 +4,8 @@ use Rattle.std.specs.List.{All}
 use Rattle.std.specs.Option.{IfSome}
 use Rattle.std.proofs.lemmas.Bool.{cases_lt}
 use Rattle.i_shape_core.specs.Point.{Point, IsZeroTurn, IsBack}
-use Rattle.i_shape_core.specs.Contour.{Test, Reach, stay, End, IsCollapsed, IsSimple}
-use Rattle.i_shape_core.specs.Sublist.{Sublist}
-use Rattle.i_shape_core.specs.Walk.{WalkAnswer}
+use Rattle.i_shape_core.specs.Contour.{Test, Reach, stay, End, IsCollapsed, IsSimple, Sublist}
+use Rattle.i_shape_core.specs.Walks.{WalkAnswer}
 use Rattle.i_shape_core.specs.Edges.{shoelace, area_of_edge}
 use Rattle.i_shape_core.specs.Cleaners.{SimpleAnswer, SpikelessAnswer, KeptAnswer, IsKept, IsFlat}
 use Rattle.i_shape_core.proofs.CycleLaws.{every_order, agreed}

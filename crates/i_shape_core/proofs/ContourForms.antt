@@ -9,7 +9,7 @@ use Rattle.i_shape_core.specs.Point.{Point, IsZeroTurn}
 use Rattle.i_shape_core.specs.Contour.{End, stay}
 use Rattle.i_shape_core.specs.Edges.{shoelace}
 use Rattle.i_shape_core.specs.Cleaners.{EachEndCollapses, IsKept, KeptAnswer}
-use Rattle.i_shape_core.specs.Canonical.{IsAtMost, IsLeast, IsCanonical, CanonicalAnswer, Joined, started_at}
+use Rattle.i_shape_core.specs.Canonical.{IsAtMost, IsLeast, IsCanonical, CanonicalAnswer, Joined, started_at, IsUnoriented, UnorientedAnswer, IsKeptEitherWay, KeptEitherWay, JoinedEitherWay, UnorientedJoined}
 use Rattle.i_shape_core.proofs.Order.{at_most_refl, at_most_total, at_most_antisym}
 use Rattle.i_shape_core.proofs.Ends.{has_end, no_step, all_left}
 use Rattle.i_shape_core.proofs.CycleLaws.{zero_turn_decided, every_order}
@@ -22,7 +22,6 @@ use Rattle.i_shape_core.proofs.Answered.{collapsed_flat}
 use Rattle.i_shape_core.proofs.Cycle.{step_of_rotated}
 use Rattle.i_shape_core.proofs.Starts.{has_least_start}
 use Rattle.i_shape_core.proofs.BothDirections.{canonical_reversed, joined_reversed, joined_back, shoelace_reversed, inside_reversed}
-use Rattle.i_shape_core.specs.Unoriented.{IsUnoriented, UnorientedAnswer, IsKeptEitherWay, KeptEitherWay, JoinedEitherWay, UnorientedJoined}
 
 -- a contour that has a canonical form doesn't collapse
 pub canonical_stands : (c l : List Point) → CanonicalAnswer c (Some l) → EachEndCollapses c → ⊥

@@ -5,7 +5,7 @@ use Rattle.std.proofs.lemmas.List.Edits.{take-paste}
 use Rattle.std.specs.List.{copy_within, range_with_len}
 use Rattle.std.proofs.Math.Seq.{take-set-lt, take-suc-set}
 use Rattle.std.proofs.lemmas.Bool.{cases_lt}
-use Rattle.i_shape_core.specs.RingWalk.{Standing, LeadKept, LeadRemoved, around_gap, lead_over_gap, in_order}
+use Rattle.i_shape_core.specs.Walks.{Standing, LeadKept, LeadRemoved, around_gap, lead_over_gap, in_order}
 
 -- how long the ring is
 pub length-gap : (xs : List ℕ) (b a e : ℕ) → b ≤ a → a < e → e ≤ length xs → length (around_gap xs b a e) ≡ b + (e - a)

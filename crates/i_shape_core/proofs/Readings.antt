@@ -9,9 +9,8 @@ use Rattle.std.proofs.lemmas.List.{get_or-map, map-append, drop-map, take-map}
 use Rattle.std.proofs.lemmas.Bool.{cases_lt}
 use Rattle.i_shape_core.specs.Point.{Point, origin}
 use Rattle.i_shape_core.specs.Contour.{point_at}
-use Rattle.i_shape_core.specs.Rounds.{point_round, Agree, Precedes}
+use Rattle.i_shape_core.specs.Walks.{point_round, Agree, Precedes, IsOrder}
 use Rattle.i_shape_core.specs.Canonical.{IsBefore, IsLeast, started_at}
-use Rattle.i_shape_core.specs.Comparer.{IsOrder}
 use Rattle.i_shape_core.specs.IntPoint.{point_of, contour_of}
 use Rattle.i_shape_core.specs.declared.point.IntPoint.{IntPoint}
 use Rattle.i_shape_core.proofs.Rounds.{round-first, round-place}

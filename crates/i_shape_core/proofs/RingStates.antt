@@ -1,14 +1,12 @@
 -- The events of a cleaner's loop that walks round a ring of places.
 use Rattle.std.proofs.Common.{◌≡◌, ℕ, suc, ◌+◌, ◌-◌, ◌<◌, ◌≤◌, min, max, List, [], ◌∷◌, ◌++◌, map, length, get_or, take, drop, refl, sym, ap, ◌∙◌, subst, subst₂, arith, length-append, take-suc, take_all}
-use Rattle.std.proofs.lemmas.List.{get_or-map, map_push, length-map, map-append}
-use Rattle.std.proofs.lemmas.List.{take-map, drop-map}
+use Rattle.std.proofs.lemmas.List.{get_or-map, map_push, length-map, map-append, take-map, drop-map}
 use Rattle.std.proofs.lemmas.List.Elements.{All-get_or, All-push, All-cons, All-drop, All-take, All-append, All-same}
 use Rattle.std.proofs.lemmas.List.FromFn.{length-range_with_len, get_or-range_with_len, fill_by_all}
 use Rattle.std.specs.List.{All, range_with_len}
 use Rattle.i_shape_core.specs.Point.{Point, origin}
 use Rattle.i_shape_core.specs.Contour.{Test, point_at}
-use Rattle.i_shape_core.specs.Walk.{Finds, Falls}
-use Rattle.i_shape_core.specs.RingWalk.{IsRingWalk, IsRingState, Standing, LeadKept, LeadRemoved, PassesAtPlace, in_order}
+use Rattle.i_shape_core.specs.Walks.{Finds, Falls, IsRingWalk, IsRingState, Standing, LeadKept, LeadRemoved, PassesAtPlace, in_order}
 use Rattle.i_shape_core.proofs.Cycle.{first, last}
 use Rattle.i_shape_core.proofs.RingWalks.{walk_starts, walk_keeps, walk_removes, walk_collapses, walk_ends}
 

@@ -5,7 +5,7 @@ use lib.Seq.{split_at}
 use Rattle.std.proofs.lemmas.List.{drop-append-le, take-append-le}
 use Rattle.i_shape_core.specs.Point.{Point, origin}
 use Rattle.i_shape_core.specs.Contour.{Test, IsRemovable, Step, Reach, stay, step, End, Rotation, point_at, IsCollapsed}
-use Rattle.i_shape_core.specs.RingWalk.{IsRingWalk, in_order}
+use Rattle.i_shape_core.specs.Walks.{IsRingWalk, in_order}
 use Rattle.i_shape_core.proofs.Cycle.{first, last, last-push, last_two, passes_from_removable, removable_from_passes, remove_at_seam, turn_from_step, turn_of_rotated, step_from_turn}
 use Rattle.i_shape_core.proofs.Ends.{reach_trans}
 

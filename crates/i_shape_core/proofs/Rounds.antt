@@ -4,7 +4,7 @@ use Rattle.std.proofs.lemmas.List.{get_or_append_left, get_or-append_right, get_
 use Rattle.std.proofs.lemmas.Bool.{cases_lt}
 use Rattle.i_shape_core.specs.Point.{Point, origin}
 use Rattle.i_shape_core.specs.Contour.{point_at}
-use Rattle.i_shape_core.specs.Rounds.{point_round}
+use Rattle.i_shape_core.specs.Walks.{point_round}
 use Rattle.i_shape_core.specs.Canonical.{started_at}
 
 -- in the first round a place is its own

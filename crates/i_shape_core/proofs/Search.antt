@@ -3,7 +3,7 @@ use Rattle.std.proofs.Common.{◌≡◌, ◌⊎◌, ℕ, suc, zero, ◌+◌, ◌
 use Rattle.std.proofs.lemmas.Bool.{cases_lt}
 use Rattle.i_shape_core.specs.Point.{Point}
 use Rattle.i_shape_core.specs.Contour.{point_at}
-use Rattle.i_shape_core.specs.Rounds.{point_round, Agree, Precedes, AreAfter}
+use Rattle.i_shape_core.specs.Walks.{point_round, Agree, Precedes, AreAfter}
 use Rattle.i_shape_core.specs.Canonical.{IsBefore, IsLeast, started_at}
 use Rattle.i_shape_core.proofs.Rounds.{same-started, round-back, round-first}
 use Rattle.i_shape_core.proofs.Starts.{StartsLeast, has_least_start, beaten}

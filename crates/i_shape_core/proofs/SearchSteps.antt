@@ -6,7 +6,7 @@ use Rattle.std.specs.declared.cmp.Ordering.TheVariants.{Less, Equal, Greater}
 use Rattle.i_shape_core.specs.Point.{Point}
 use Rattle.i_shape_core.specs.Contour.{point_at}
 use Rattle.i_shape_core.specs.IntPoint.{contour_of}
-use Rattle.i_shape_core.specs.Rounds.{Agree, Precedes, AreAfter}
+use Rattle.i_shape_core.specs.Walks.{Agree, Precedes, AreAfter}
 use Rattle.i_shape_core.specs.Canonical.{IsLeast, started_at}
 use Rattle.i_shape_core.specs.declared.point.IntPoint.{IntPoint}
 use Rattle.i_shape_core.proofs.Search.{IsSearch, search_after, search_less, search_round}

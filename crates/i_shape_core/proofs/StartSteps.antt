@@ -7,9 +7,8 @@ use Rattle.std.specs.declared.cmp.Ordering.TheVariants.{Less, Equal, Greater}
 use Rattle.i_shape_core.specs.Point.{Point}
 use Rattle.i_shape_core.specs.Contour.{point_at}
 use Rattle.i_shape_core.specs.IntPoint.{contour_of}
-use Rattle.i_shape_core.specs.Rounds.{Agree, Precedes}
+use Rattle.i_shape_core.specs.Walks.{Agree, Precedes, IsOrder}
 use Rattle.i_shape_core.specs.Canonical.{IsBefore}
-use Rattle.i_shape_core.specs.Comparer.{IsOrder}
 use Rattle.i_shape_core.specs.declared.point.IntPoint.{IntPoint}
 use Rattle.i_shape_core.proofs.Contours.{length-contour}
 use Rattle.i_shape_core.proofs.Readings.{IsStep, RunsAgree, first-agrees, first-tells, agree-on, precedes-on}

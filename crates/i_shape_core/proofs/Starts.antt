@@ -5,7 +5,7 @@ use Rattle.std.proofs.lemmas.Bool.{cases_lt}
 use Rattle.i_shape_core.specs.Point.{Point, origin}
 use Rattle.i_shape_core.specs.Contour.{Rotation}
 use Rattle.i_shape_core.specs.Canonical.{IsBefore, IsAtMost, IsLeast, started_at}
-use Rattle.i_shape_core.specs.Rounds.{point_round}
+use Rattle.i_shape_core.specs.Walks.{point_round}
 use Rattle.i_shape_core.proofs.Order.{before_clash, at_most_refl, at_most_total, at_most_trans}
 use Rattle.i_shape_core.proofs.Rounds.{length-started, started-round, start_at}
 

@@ -1,8 +1,7 @@
 -- What removals leave is a sublist.
 use Rattle.std.proofs.Common.{ℕ, zero, suc, List, [], ◌∷◌, inl, inr, refl, sym, subst, remove}
 use Rattle.i_shape_core.specs.Point.{Point}
-use Rattle.i_shape_core.specs.Contour.{Test, Reach, stay, step}
-use Rattle.i_shape_core.specs.Sublist.{Sublist}
+use Rattle.i_shape_core.specs.Contour.{Test, Reach, stay, step, Sublist}
 
 sublist_refl : {A : Type 0} (c : List A) → Sublist c c
 sublist_refl [] = refl

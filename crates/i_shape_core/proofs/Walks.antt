@@ -4,7 +4,7 @@ use Rattle.std.proofs.lemmas.List.{get_or_read}
 use Rattle.i_shape_core.specs.Point.{IsZeroTurn}
 use Rattle.i_shape_core.specs.IntPoint.{contour_of}
 use Rattle.i_shape_core.specs.Contour.{point_at, End}
-use Rattle.i_shape_core.specs.Stack.{IsStacked, IsSettled, stacked_point}
+use Rattle.i_shape_core.specs.Walks.{IsStacked, IsSettled, stacked_point}
 use Rattle.i_shape_core.specs.declared.point.IntPoint.{IntPoint}
 use Rattle.i_shape_core.proofs.Contours.{length-contour}
 use Rattle.i_shape_core.proofs.Stacks.{pop-stacked, push-stacked, drop-first, drop-last, stacked-end}

@@ -1,8 +1,9 @@
 -- One form for all contours that lead to one another: the least rotation of the end.
-use Rattle.std.specs.Prelude.{◌≡◌, ◌≤◌, ◌⊎◌, ◌↔◌, ◌<ℤ◌, ℕ, List, [], ◌∷◌, ◌++◌, take, drop, length, Option, Some, None}
+use Rattle.std.specs.Prelude.{◌≡◌, ◌≤◌, ◌⊎◌, ◌↔◌, ◌<ℤ◌, ℕ, List, [], ◌∷◌, ◌++◌, take, drop, length, Option, Some, None, nat_abs, reverse}
 use Rattle.i_shape_core.specs.Point.{Point, IsZeroTurn}
 use Rattle.i_shape_core.specs.Contour.{Test, Step, End, Rotation}
-use Rattle.i_shape_core.specs.Cleaners.{IsOneEnd, EachEndCollapses}
+use Rattle.i_shape_core.specs.Cleaners.{IsOneEnd, EachEndCollapses, IsFlat}
+use Rattle.i_shape_core.specs.Edges.{shoelace, Inside}
 
 -- p comes before q: by x, and then by y
 abbrev pub IsBefore : Point → Point → Type 0
@@ -49,3 +50,34 @@ pub data Joined (P : Test) : List Point → List Point → Type 0 where
 abbrev pub CanonicalJoined : List Point → List Point → Type 0
 CanonicalJoined c d = (e f l m : List Point) → End IsZeroTurn c e → 3 ≤ length e → End IsZeroTurn d f → 3 ≤ length f
     → IsLeast e l → IsLeast f m → (l ≡ m) ↔ Joined IsZeroTurn c d
+
+-- l is the canonical form of c, or that of c read backwards: the one that comes first
+pub record IsUnoriented (c l : List Point) : Type 0 where
+  pub forwards : List Point
+  pub backwards : List Point
+  pub is_forwards : IsCanonical c forwards
+  pub is_backwards : IsCanonical (reverse c) backwards
+  pub one : (l ≡ forwards) ⊎ (l ≡ backwards)
+  pub first : IsAtMost l forwards × IsAtMost l backwards
+
+-- what `canonical_unoriented` answers: the lesser of the two forms, or nothing where each end collapses
+abbrev pub UnorientedAnswer : List Point → Option (List Point) → Type 0
+UnorientedAnswer c None = EachEndCollapses c
+UnorientedAnswer c (Some l) = IsUnoriented c l
+
+-- e has the double area of c but for its sign, and the same points inside
+pub record IsKeptEitherWay (c e : List Point) : Type 0 where
+  pub area : nat_abs (shoelace e) ≡ nat_abs (shoelace c)
+  pub inside : (p : Point) → Inside e p ↔ Inside c p
+
+abbrev pub KeptEitherWay : List Point → Option (List Point) → Type 0
+KeptEitherWay c None = IsFlat c
+KeptEitherWay c (Some e) = IsKeptEitherWay c e
+
+-- c is joined to d, or to d read backwards
+abbrev pub JoinedEitherWay : List Point → List Point → Type 0
+JoinedEitherWay c d = Joined IsZeroTurn c d ⊎ Joined IsZeroTurn c (reverse d)
+
+-- the unoriented forms of two contours are one list exactly where the contours are joined either way
+abbrev pub UnorientedJoined : List Point → List Point → Type 0
+UnorientedJoined c d = (l m : List Point) → UnorientedAnswer c (Some l) → UnorientedAnswer d (Some m) → (l ≡ m) ↔ JoinedEitherWay c d

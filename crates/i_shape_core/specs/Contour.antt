@@ -1,5 +1,5 @@
 -- A contour is a list of points read as a cycle. What can be left of it when points that pass a test are removed one by one.
-use Rattle.std.specs.Prelude.{◌≡◌, ℕ, ◌+◌, ◌-◌, ◌%◌, ◌<◌, ◌≤◌, List, ◌++◌, length, get_or}
+use Rattle.std.specs.Prelude.{◌≡◌, ℕ, ◌+◌, ◌-◌, ◌%◌, ◌<◌, ◌≤◌, List, ◌++◌, length, get_or, ◌⊎◌, [], ◌∷◌}
 use Rattle.std.specs.List.{remove}
 use Rattle.i_shape_core.specs.Point.{Point, origin, IsZeroTurn}
 
@@ -60,3 +60,8 @@ pub data SameEnd (e f : List Point) : Type 0 where
 pub record IsSimple (c : List Point) : Type 0 where
   pub enough : 3 ≤ length c
   pub none : (k : ℕ) → IsRemovable IsZeroTurn c k → ⊥
+
+-- d is a sublist of c: the empty list has itself alone, and a list that starts with a has those of its rest, without a or with a in front
+abbrev pub Sublist : {A : Type 0} → List A → List A → Type 0
+Sublist {A} [] d = d ≡ []
+Sublist {A} (a ∷ c) d = Sublist c d ⊎ ((e : List A) × (d ≡ a ∷ e) × Sublist c e)

@@ -2,7 +2,6 @@
 use Rattle.std.specs.Prelude.{ℤ, ◌<ℤ◌, ◌-◌, ◌^◌, pos, neg_ℤ, List, map, Option, option_map}
 use Rattle.std.specs.Global.{Vec}
 use Rattle.std.specs.Int.{Width}
-use Rattle.std.specs.List.{All}
 use Rattle.i_shape_core.specs.Point.{Point}
 use Rattle.i_shape_core.specs.Widths.{bits}
 use Rattle.i_shape_core.specs.declared.point.IntPoint.{IntPoint}
@@ -26,7 +25,3 @@ IsSafeCoordinate width z = (neg_ℤ (pos (2 ^ (bits width - 2))) <ℤ z) × (z <
 -- both coordinates of the point do
 abbrev pub IsSafe : Width → Point → Type 0
 IsSafe width p = IsSafeCoordinate width p.x × IsSafeCoordinate width p.y
-
--- each point of the contour is safe
-abbrev pub IsSafeContour : Width → List Point → Type 0
-IsSafeContour width c = All (IsSafe width) c

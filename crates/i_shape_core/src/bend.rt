@@ -2,7 +2,7 @@
 
 ghost use Rattle.std.specs.Prelude.{◌≡◌};
 ghost use Rattle.i_shape_core.specs.IntPoint.{point_of, IsSafe};
-ghost use Rattle.i_shape_core.specs.Bend.{IsBend, bend_of_both};
+ghost use Rattle.i_shape_core.specs.Walks.{IsBend, bend_of_both};
 
 use crate::number::{IntNumber, WideIntNumber};
 use crate::point::IntPoint;

@@ -8,8 +8,7 @@ ghost use Rattle.i_shape_core.specs.IntPoint.{contour_of, IsSafe, answered};
 ghost use Rattle.i_shape_core.specs.Contour.{point_at};
 ghost use Rattle.i_shape_core.specs.Cleaners.{KeptAnswer};
 ghost use Rattle.i_shape_core.specs.Canonical.{IsBefore, IsLeast, CanonicalAnswer, started_at};
-ghost use Rattle.i_shape_core.specs.Comparer.{IsOrder};
-ghost use Rattle.i_shape_core.specs.Rounds.{Agree, Precedes, AreAfter};
+ghost use Rattle.i_shape_core.specs.Walks.{IsOrder, Agree, Precedes, AreAfter};
 
 use crate::comparer::Comparer;
 use crate::error::ShapeError;

@@ -4,7 +4,7 @@ ghost use Rattle.std.specs.Prelude.{◌≡◌, ◌+◌, ◌<◌, length};
 ghost use Rattle.std.specs.Ordering.{MatchOrdering};
 ghost use Rattle.i_shape_core.specs.IntPoint.{point_of, contour_of};
 ghost use Rattle.i_shape_core.specs.Canonical.{IsBefore};
-ghost use Rattle.i_shape_core.specs.Comparer.{Compared, IsOrder};
+ghost use Rattle.i_shape_core.specs.Walks.{Compared, IsOrder};
 
 use crate::number::IntNumber;
 use crate::point::IntPoint;

@@ -5,11 +5,10 @@ ghost use Rattle.std.specs.Option.{IfSome};
 ghost use Rattle.std.specs.List.{All};
 ghost use Rattle.i_shape_core.specs.IntPoint.{contour_of, point_of, IsSafe, answered};
 ghost use Rattle.i_shape_core.specs.Point.{Point, IsBack};
-ghost use Rattle.i_shape_core.specs.Sublist.{Sublist};
+ghost use Rattle.i_shape_core.specs.Contour.{Sublist};
 ghost use Rattle.i_shape_core.specs.Convex.{NoSpikes};
 ghost use Rattle.i_shape_core.specs.Cleaners.{SpikelessAnswer, KeptAnswer, VisitsAnswer};
-ghost use Rattle.i_shape_core.specs.Walk.{WalkAnswer};
-ghost use Rattle.i_shape_core.specs.RingWalk.{IsRingState, PassesAtPlace};
+ghost use Rattle.i_shape_core.specs.Walks.{WalkAnswer, IsRingState, PassesAtPlace};
 
 use crate::error::ShapeError;
 use crate::number::IntNumber;

@@ -4,7 +4,7 @@
 
 ghost use Rattle.std.specs.Prelude.{◌≡◌, ◌↔◌, IsTrue};
 ghost use Rattle.std.specs.Ordering.{MatchOrdering};
-ghost use Rattle.i_shape_core.specs.Canonical.{CanonicalJoined, IsBefore};
+ghost use Rattle.i_shape_core.specs.Canonical.{CanonicalJoined, IsBefore, UnorientedJoined};
 ghost use Rattle.i_shape_core.specs.IntPoint.{contour_of, point_of};
 ghost use Rattle.i_shape_core.specs.Laws.{
   Agreed,
@@ -18,7 +18,6 @@ ghost use Rattle.i_shape_core.specs.Laws.{
   RotatedEnds,
   Twice,
 };
-ghost use Rattle.i_shape_core.specs.Unoriented.{UnorientedJoined};
 
 use crate::number::IntNumber;
 use crate::point::IntPoint;

@@ -4,7 +4,7 @@ ghost use Rattle.std.specs.Prelude.{◌≡◌, ◌+◌, ◌<◌, map, length, sl
 ghost use Rattle.std.specs.List.{All};
 ghost use Rattle.i_shape_core.specs.IntPoint.{contour_of, IsSafe};
 ghost use Rattle.i_shape_core.specs.Contour.{point_at};
-ghost use Rattle.i_shape_core.specs.Probe.{Seen};
+ghost use Rattle.i_shape_core.specs.Walks.{Seen};
 ghost use Rattle.i_shape_core.specs.Turn.{IsTurn};
 
 use crate::error::ShapeError;

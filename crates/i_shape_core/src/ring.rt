@@ -2,7 +2,7 @@
 
 ghost use Rattle.std.specs.Prelude.{◌≡◌, ◌+◌, ◌-◌, ◌<◌, ◌≤◌, ◌∷◌, ◌++◌, [], min, max, take, drop, length, slice_index, vec_len, vec_capacity, IfOk, IsOkUnless};
 ghost use Rattle.std.specs.List.{range_with_len};
-ghost use Rattle.i_shape_core.specs.RingWalk.{Standing, LeadKept, LeadRemoved, around_gap, lead_over_gap, in_order};
+ghost use Rattle.i_shape_core.specs.Walks.{Standing, LeadKept, LeadRemoved, around_gap, lead_over_gap, in_order};
 
 use crate::error::ShapeError;
 use std::alloc::Global;

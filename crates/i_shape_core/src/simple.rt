@@ -5,11 +5,9 @@ ghost use Rattle.std.specs.Option.{IfSome};
 ghost use Rattle.std.specs.List.{All};
 ghost use Rattle.i_shape_core.specs.IntPoint.{contour_of, IsSafe, answered};
 ghost use Rattle.i_shape_core.specs.Point.{Point};
-ghost use Rattle.i_shape_core.specs.Sublist.{Sublist};
-ghost use Rattle.i_shape_core.specs.Contour.{IsSimple};
+ghost use Rattle.i_shape_core.specs.Contour.{Sublist, IsSimple};
 ghost use Rattle.i_shape_core.specs.Cleaners.{SimpleAnswer, KeptAnswer};
-ghost use Rattle.i_shape_core.specs.Canonical.{CanonicalAnswer};
-ghost use Rattle.i_shape_core.specs.Unoriented.{UnorientedAnswer, KeptEitherWay};
+ghost use Rattle.i_shape_core.specs.Canonical.{CanonicalAnswer, UnorientedAnswer, KeptEitherWay};
 
 use crate::error::ShapeError;
 use crate::number::{IntNumber, WideIntNumber};

@@ -5,11 +5,9 @@ ghost use Rattle.std.specs.Option.{IfSome};
 ghost use Rattle.std.specs.List.{All};
 ghost use Rattle.i_shape_core.specs.IntPoint.{contour_of, IsSafe, answered};
 ghost use Rattle.i_shape_core.specs.Point.{IsZeroTurn};
-ghost use Rattle.i_shape_core.specs.Sublist.{Sublist};
-ghost use Rattle.i_shape_core.specs.Contour.{point_at};
+ghost use Rattle.i_shape_core.specs.Contour.{Sublist, point_at};
 ghost use Rattle.i_shape_core.specs.Cleaners.{SimpleAnswer, KeptAnswer, VisitsAnswer};
-ghost use Rattle.i_shape_core.specs.Stack.{IsWalked, IsStacked, IsSettled};
-ghost use Rattle.i_shape_core.specs.Walk.{WalkAnswer};
+ghost use Rattle.i_shape_core.specs.Walks.{IsWalked, IsStacked, IsSettled, WalkAnswer};
 
 use crate::error::ShapeError;
 use crate::number::IntNumber;

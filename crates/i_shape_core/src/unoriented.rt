@@ -4,8 +4,7 @@ ghost use Rattle.std.specs.Prelude.{◌≡◌, ◌⊎◌, ◌<◌, length, rever
 ghost use Rattle.std.specs.Option.{IfSome};
 ghost use Rattle.std.specs.List.{All};
 ghost use Rattle.i_shape_core.specs.IntPoint.{contour_of, IsSafe, answered};
-ghost use Rattle.i_shape_core.specs.Canonical.{IsAtMost, IsLeast};
-ghost use Rattle.i_shape_core.specs.Unoriented.{UnorientedAnswer, KeptEitherWay};
+ghost use Rattle.i_shape_core.specs.Canonical.{IsAtMost, IsLeast, UnorientedAnswer, KeptEitherWay};
 
 use crate::canonical::turn_to_least;
 use crate::error::ShapeError;

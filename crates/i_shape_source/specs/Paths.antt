@@ -1,7 +1,9 @@
--- The paths of nested lists, in storage order.
+-- The paths of nested lists, in storage order, and what an iterator over borrowed paths lends.
 use Rattle.std.specs.Prelude.{List, [], ◌∷◌, ◌++◌, map, Option, Some, None}
 use Rattle.std.specs.Borrow.{Bor}
 use Rattle.std.specs.Global.{Vec}
+use Rattle.std.specs.Iterator.{AlwaysYields}
+use Rattle.std.specs.Iterator.Runs.{EachRunFrom, ItemsMapTo}
 
 -- each member of a list of paths
 abbrev pub paths_of_shape : {P : Type 0} → List (Vec P) → List (List P)
@@ -28,3 +30,16 @@ paths_of_slices slices = map (λ path. path.now) slices
 abbrev pub path_left : {P : Type 0} → Option (Bor (List P)) → List (List P)
 path_left None = []
 path_left (Some path) = path.now ∷ []
+
+-- what a borrowed path points to
+abbrev pub path_of : {P : Type 0} → Bor (List P) → List P
+path_of path = path.now
+
+module _ {S P : Type 0} (steps : S → Option (Bor (List P)) → S → Type 0) (s : S) (paths : List (List P)) where
+  -- every run of calls from s lends the paths one by one, in order, and then ends
+  pub record LendsExactly : Type 0 where
+    pub lends : AlwaysYields steps path_of s paths
+
+  -- the same, as a chain of iterators reads it
+  abbrev pub RunsThrough : Type 0
+  RunsThrough = EachRunFrom steps s (λ run. ItemsMapTo run path_of paths)

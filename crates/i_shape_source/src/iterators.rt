@@ -2,8 +2,7 @@
 ghost use Rattle.std.specs.Prelude.{◌≡◌, [], ◌∷◌, length, map};
 ghost use Rattle.std.specs.Iterator.{at_most};
 ghost use Rattle.std.specs.Map.Iter.{TakesFirst, deref};
-ghost use Rattle.i_shape_source.specs.LentPaths.{LendsExactly, RunsThrough};
-ghost use Rattle.i_shape_source.specs.Paths.{paths_of_shape, paths_of_shapes, paths_of_slices};
+ghost use Rattle.i_shape_source.specs.Paths.{LendsExactly, RunsThrough, paths_of_shape, paths_of_shapes, paths_of_slices};
 ghost use Rattle.std.specs.Iterator.Adapters.{copied_source, copied_steps};
 ghost use Rattle.std.specs.Slice.Iter.{iter_rest, iter_steps};
 

@@ -6,7 +6,7 @@ use Rattle.std.specs.Global.{Vec}
 use Rattle.std.specs.List.{All}
 use Rattle.i_shape.specs.IntPoint.{contour_of}
 use Rattle.i_shape.specs.ShapeLists.{shape_of}
-use Rattle.i_shape.specs.ShapeAreas.{HasPoints}
+use Rattle.i_shape.specs.ShapeAnswers.{HasPoints}
 use Rattle.i_shape.specs.declared.int.IntPoint.{IntPoint}
 
 pub filled-pushed : {I : Type 0} (value : I → ℤ) (xs ys : List (Vec (IntPoint I))) (c : Vec (IntPoint I)) → ys ≡ xs ++ c ∷ []

@@ -2,7 +2,7 @@ ghost use Rattle.std.specs.Prelude.{IfOk};
 ghost use Rattle.std.specs.List.{All};
 ghost use Rattle.i_shape.specs.IntPoint.{contour_of};
 ghost use Rattle.i_shape.specs.ShapeLists.{shape_of};
-ghost use Rattle.i_shape.specs.ShapeAreas.{HasPoints};
+ghost use Rattle.i_shape.specs.ShapeAnswers.{HasPoints};
 
 use crate::claims::{equal, holds};
 use crate::given::{squares, thousands};

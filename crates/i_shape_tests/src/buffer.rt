@@ -1,10 +1,10 @@
 ghost use Rattle.std.specs.Prelude.{◌<◌};
 
-use crate::calling::assert_safe;
 use crate::claims::{equal, holds};
 use crate::given_shapes::{shape, shapes};
 use i_shape::flat::buffer::{FlatContoursBuffer, FlatShapesBuffer};
 use i_shape::int::IntPoint;
+use i_shape::int::safe_range::IntSafeRange;
 use i_shape::int::shape::{IntContour, IntShape, IntShapes};
 use i_shape::{IntNumber, ShapeError, int_path};
 use std::alloc::Global;
@@ -514,7 +514,7 @@ fn simplify<I: IntNumber>(
     buffer: &mut FlatContoursBuffer<I>,
 ) -> Result<bool, ShapeError> {
     assert!(rt; buffer.can_read_contours(), "a range can't be read");
-    assert_safe(rt, buffer.points.as_slice());
+    assert!(rt; buffer.is_in_safe_range(), "a point isn't safe");
     buffer.simplify_contours()
 }
 

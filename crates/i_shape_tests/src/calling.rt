@@ -1,8 +1,5 @@
 //! What no clause of the callers says: that calls succeed where memory is there, and answers at contours that are written out.
 
-ghost use Rattle.std.specs.List.{All};
-ghost use Rattle.i_shape.specs.IntPoint.{contour_of, IsSafe};
-
 use crate::claims::{equal, holds};
 use crate::given::contour;
 use crate::given_shapes::shape;
@@ -12,18 +9,8 @@ use callers::copies::{copied_as_one_shape, copied_paths};
 use callers::corners::corners;
 use callers::pipeline::cleaned_contours;
 use callers::store::{CanonicalStore, Insertion};
-use i_shape::IntNumber;
 use i_shape::int::IntPoint;
-use i_shape::int::safe_range::IntSafeRange;
-use std::process::Abort;
 use std::test::Fail;
-
-/// The test stops where a point isn't safe.
-pub fn assert_safe<I: IntNumber>(rt: &impl Abort, contour: &[IntPoint<I>])
-    ensures { All (IsSafe I.width) (contour_of I.value contour.now) }
-{
-    assert!(rt; contour.is_in_safe_range(), "a point isn't in safe range");
-}
 
 #[test]
 fn consumers_answer_from_the_law(rt: HostRuntime) -> Result<(), Fail> {

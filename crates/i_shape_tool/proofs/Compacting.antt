@@ -3,14 +3,13 @@ use Rattle.std.proofs.Common.{◌≡◌, ℕ, ℤ, ◌+◌, ◌<◌, List, [], �
 use Rattle.std.specs.List.{AllZip, AllByRecursion}
 use Rattle.std.proofs.lemmas.List.{map-append}
 use Rattle.std.proofs.lemmas.Slice.Zip.{all_zipped_more}
-use Rattle.i_shape.specs.Point.{Point}
-use Rattle.i_shape.specs.IntPoints.{IntPoint}
-use Rattle.i_shape.specs.declared.flat.buffer.contours.FlatContoursBuffer.{FlatContoursBuffer}
-use Rattle.i_shape.specs.ContoursBuffer.{HoldsContours}
-use Rattle.i_shape.specs.Compact.{contours_in}
-use Rattle.i_shape.specs.Compact as cleaned
-use Rattle.i_shape.specs.Cleaners.{SimpleAnswer}
-use Rattle.i_shape.proofs.Surviving.{survivors-none, survivors-push}
+use Rattle.i_shape_int.specs.Point.{Point}
+use Rattle.i_shape_int.specs.IntPoints.{IntPoint}
+use Rattle.i_shape_int.specs.declared.flat.buffer.contours.FlatContoursBuffer.{FlatContoursBuffer}
+use Rattle.i_shape_int.specs.Buffers.{HoldsContours, contours_in}
+use Rattle.i_shape_int.specs.Buffers as cleaned
+use Rattle.i_shape_int.specs.Cleaners.{SimpleAnswer}
+use Rattle.i_shape_int.proofs.Surviving.{survivors-none, survivors-push}
 use Rattle.i_shape_tool.specs.declared.command.Command.TheVariants.{Compact}
 use Rattle.i_shape_tool.specs.declared.fault.ToolFault.{ToolFault}
 use Rattle.i_shape_tool.specs.declared.fault.ToolFault.TheVariants.{OutOfMemory}

@@ -2,7 +2,6 @@
 pub mod Words
 -- reading a line
 pub mod Reading
-pub mod Safe
 -- showing a contour
 pub mod Showing
 -- a text, line by line, and one run of the program

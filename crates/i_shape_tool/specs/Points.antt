@@ -1,9 +1,10 @@
 -- Contours of 32 bits, which the lines of a text read.
 use Rattle.std.specs.Prelude.{ℤ, List}
 use Rattle.std.specs.Int.{w32}
-use Rattle.i_shape.specs.IntPoint as shape
-use Rattle.i_shape.specs.Point.{Point}
-use Rattle.i_shape.specs.IntPoints.{IntPoint}
+use Rattle.std.specs.List.{All}
+use Rattle.i_shape_int.specs.IntPoint as shape
+use Rattle.i_shape_int.specs.Point.{Point}
+use Rattle.i_shape_int.specs.IntPoints.{IntPoint}
 
 -- the point that a program's point stands for
 abbrev pub point_of : IntPoint ℤ → Point
@@ -13,10 +14,6 @@ point_of p = shape.point_of (λ z. z) p
 abbrev pub contour_of : List (IntPoint ℤ) → List Point
 contour_of points = shape.contour_of (λ z. z) points
 
--- both coordinates lie strictly between -2^30 and 2^30
-abbrev pub IsSafePoint : Point → Type 0
-IsSafePoint p = shape.IsSafe w32 p
-
--- each point of the contour is safe
+-- both coordinates of each point lie strictly between -2^30 and 2^30
 abbrev pub IsSafe : List Point → Type 0
-IsSafe c = shape.IsSafeContour w32 c
+IsSafe c = All (shape.IsSafe w32) c

@@ -2,11 +2,10 @@
 
 ghost use Rattle.std.specs.Prelude.{◌≡◌, ◌<◌, ℤ, List, length, IfOk, IfErr, string_bytes};
 ghost use Rattle.std.specs.List.{AllZip, flat_map};
-ghost use Rattle.i_shape.specs.Point.{Point};
-ghost use Rattle.i_shape.specs.IntPoints.{IntPoint};
-ghost use Rattle.i_shape.specs.ContoursBuffer.{HoldsContours};
-ghost use Rattle.i_shape.specs.Compact.{contours_in};
-ghost use Rattle.i_shape.specs.Compact as cleaned;
+ghost use Rattle.i_shape_int.specs.Point.{Point};
+ghost use Rattle.i_shape_int.specs.IntPoints.{IntPoint};
+ghost use Rattle.i_shape_int.specs.Buffers.{HoldsContours, contours_in};
+ghost use Rattle.i_shape_int.specs.Buffers as cleaned;
 ghost use Rattle.i_shape_tool.specs.declared.command.Command.TheVariants.{Compact};
 ghost use Rattle.i_shape_tool.specs.Text.{lines_of};
 ghost use Rattle.i_shape_tool.specs.Run.{Gives, IsFirstFault, ShowsCompact, shown_line};
@@ -15,9 +14,9 @@ use crate::command::Command;
 use crate::fault::ToolFault;
 use crate::line::{first_line, read_line};
 use crate::show::show_contour;
-use i_shape::flat::buffer::FlatContoursBuffer;
-use i_shape::int::simple::SimpleContour;
-use i_shape::source::int::resource::IntShapeResource;
+use i_shape_int::flat::buffer::FlatContoursBuffer;
+use i_shape_int::int::simple::SimpleContour;
+use i_shape_int::source::int::resource::IntShapeResource;
 use std::alloc::{AllocError, Global};
 
 /// The contours of all lines without their zero turns, each on a line of its own, without those that collapse.

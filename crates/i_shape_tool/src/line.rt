@@ -1,16 +1,16 @@
 //! Lines of a text, and the contours that they read.
 
 ghost use Rattle.std.specs.Prelude.{◌≡◌, ◌<◌, ◌↔◌, ℤ, List, ◌∷◌, length, IsTrue, MatchBool, IfOk, IfErr, OnOk, IfSome, IfNone, option_copied};
-ghost use Rattle.std.specs.List.{All};
-ghost use Rattle.i_shape.specs.Point.{Point};
-ghost use Rattle.i_shape_tool.specs.Points.{contour_of, point_of, IsSafePoint};
+ghost use Rattle.i_shape_int.specs.Point.{Point};
+ghost use Rattle.i_shape_tool.specs.Points.{contour_of, point_of, IsSafe};
 ghost use Rattle.i_shape_tool.specs.Text.{IsDecimal, Reads, ReadsNone, SayPoint, SayPoints, lines_of, words_of, words_left};
 ghost use Rattle.i_shape_tool.specs.Run.{Gives, IsFaultOfLine};
 
 use crate::command::Command;
 use crate::fault::ToolFault;
-use i_shape::int::IntPoint;
-use i_shape::int::shape::IntContour;
+use i_shape_int::int::IntPoint;
+use i_shape_int::int::safe_range::IntSafeRange;
+use i_shape_int::int::shape::IntContour;
 use std::alloc::AllocError;
 
 /// The first line of a text, and the text after it.
@@ -35,17 +35,17 @@ pub fn read_line(
     if !read_contour(line, contour)? {
         return Err(ToolFault::NotAContour(number));
     }
-    if command.is_cleaner() && !is_safe(contour.as_slice()) {
+    if command.is_cleaner() && !is_safe(contour) {
         return Err(ToolFault::OutOfRange(number));
     }
     Ok(())
 }
 
 /// Whether each point is safe.
-fn is_safe(contour: &[IntPoint<i32>]) -> bool
-    ensures { IsTrue result ↔ All (λ p. IsSafePoint (point_of p)) contour.now }
+fn is_safe(contour: &IntContour<i32>) -> bool
+    ensures { IsTrue result ↔ IsSafe (contour_of contour.now.items) }
 {
-    contour.iter().all(|point| point.is_in_safe_range())
+    contour.is_in_safe_range()
 }
 
 /// Puts the contour that a line reads in place of what `contour` held, and tells whether it reads one.

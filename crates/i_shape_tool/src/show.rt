@@ -5,9 +5,9 @@ ghost use Rattle.i_shape_tool.specs.Points.{contour_of, point_of};
 ghost use Rattle.i_shape_tool.specs.Text.{shown, spaced};
 ghost use Rattle.i_shape_tool.specs.Run.{shown_or_none, shown_area};
 
-use i_shape::int::IntPoint;
-use i_shape::int::area::Area;
-use i_shape::int::shape::IntContour;
+use i_shape_int::int::IntPoint;
+use i_shape_int::int::area::Area;
+use i_shape_int::int::shape::IntContour;
 use std::alloc::AllocError;
 
 /// Appends the coordinates of the points in turn, parted by single spaces.

@@ -1,9 +1,8 @@
-use crate::given::{
-    BOTH, MARK, SPIKED_AND_TRIANGLE, SQUARE, TRIANGLE, are_safe, two_contours, two_shapes,
-};
+use crate::given::{BOTH, MARK, SPIKED_AND_TRIANGLE, SQUARE, TRIANGLE, two_contours, two_shapes};
 use crate::told::{Lists, has_contours, told, told_of_buffer, told_unrefused};
 use i_shape::flat::buffer::FlatContoursBuffer;
 use i_shape::int::IntPoint;
+use i_shape::int::safe_range::IntSafeRange;
 use i_shape::{IntNumber, ShapeError};
 use std::alloc::{AllocError, Global};
 use std::ops::Range;
@@ -161,7 +160,7 @@ fn simplify<I: IntNumber>(
     buffer: &mut FlatContoursBuffer<I>,
 ) -> Result<bool, ShapeError> {
     assert!(rt; buffer.can_read_contours());
-    assert!(rt; are_safe(buffer.points.as_slice()));
+    assert!(rt; buffer.is_in_safe_range());
     buffer.simplify_contours()
 }
 
@@ -190,6 +189,44 @@ fn simplify_clean_contours(rt: HostRuntime) -> Result<(), Fail> {
     };
     let result = simplify(&rt, &mut buffer);
     let name = "FlatContoursBuffer::simplify_contours of a clean value";
+    told_unrefused(&rt, name, result, false)?;
+    Ok(())
+}
+
+/// Removes the spikes of a buffer. The test stops where a range can't be read, or a point isn't safe.
+fn despike<I: IntNumber>(
+    rt: &impl Abort,
+    buffer: &mut FlatContoursBuffer<I>,
+) -> Result<bool, ShapeError> {
+    assert!(rt; buffer.can_read_contours());
+    assert!(rt; buffer.is_in_safe_range());
+    buffer.remove_spikes()
+}
+
+#[test]
+fn remove_spikes(rt: HostRuntime) -> Result<(), Fail> {
+    let Ok(mut buffer) = full(rt.alloc(), &SPIKED_AND_TRIANGLE, &[0..6, 6..9]) else {
+        return Ok(());
+    };
+    let result = despike(&rt, &mut buffer);
+    let wanted = match told(&rt, "FlatContoursBuffer::remove_spikes", result)? {
+        Some(changed) => {
+            assert!(rt; changed);
+            lists_of(&BOTH, &[0..4, 4..7])
+        }
+        None => lists_of(&SPIKED_AND_TRIANGLE, &[0..6, 6..9]),
+    };
+    assert!(rt; lists(&buffer) == wanted);
+    Ok(())
+}
+
+#[test]
+fn remove_spikes_of_a_clean_value(rt: HostRuntime) -> Result<(), Fail> {
+    let Ok(mut buffer) = full(rt.alloc(), &BOTH, &[0..4, 4..7]) else {
+        return Ok(());
+    };
+    let result = despike(&rt, &mut buffer);
+    let name = "FlatContoursBuffer::remove_spikes of a clean value";
     told_unrefused(&rt, name, result, false)?;
     Ok(())
 }

@@ -1,5 +1,8 @@
-use crate::given::{BOTH, MARK, MARK_AND_BOTH, SQUARE, TRIANGLE, two_contours, two_shapes};
-use crate::told::{Lists, has_contours, has_one_shape, told, told_of_buffer};
+use crate::given::{
+    BOTH, MARK, MARK_AND_BOTH, SPIKED, SPIKED_AND_TRIANGLE, SQUARE, TRIANGLE, one_shape,
+    two_contours, two_shapes,
+};
+use crate::told::{Lists, has_contours, has_one_shape, told, told_of_buffer, told_unrefused};
 use i_shape::flat::buffer::FlatShapesBuffer;
 use i_shape::int::IntPoint;
 use std::alloc::{AllocError, Global};
@@ -167,5 +170,85 @@ fn to_shapes(rt: HostRuntime) -> Result<(), Fail> {
     if let Some(list) = told(&rt, "FlatShapesBuffer::to_shapes", buffer.to_shapes())? {
         assert!(rt; has_one_shape(list.as_slice(), &[&SQUARE, &TRIANGLE]));
     }
+    Ok(())
+}
+
+#[test]
+#[tactic(auto, using(i_shape_int::proofs::CallerLemmas::named_held))]
+fn simplify_shapes(rt: HostRuntime) -> Result<(), Fail> {
+    let alloc = rt.alloc();
+    let Ok(given) = one_shape(&rt, alloc, &[&SPIKED, &TRIANGLE]) else {
+        return Ok(());
+    };
+    let mut buffer = FlatShapesBuffer::new(alloc);
+    let Ok(()) = buffer.set_with_shapes(given.as_slice()) else {
+        return Ok(());
+    };
+    let result = buffer.simplify_shapes();
+    let wanted = match told(&rt, "FlatShapesBuffer::simplify_shapes", result)? {
+        Some(changed) => {
+            assert!(rt; changed);
+            lists_of(&BOTH, &[0..4, 4..7], &[0..2])
+        }
+        None => lists_of(&SPIKED_AND_TRIANGLE, &[0..6, 6..9], &[0..2]),
+    };
+    assert!(rt; lists(&buffer) == wanted);
+    Ok(())
+}
+
+#[test]
+#[tactic(auto, using(i_shape_int::proofs::CallerLemmas::named_held))]
+fn simplify_shapes_of_a_clean_value(rt: HostRuntime) -> Result<(), Fail> {
+    let alloc = rt.alloc();
+    let Ok(given) = one_shape(&rt, alloc, &[&SQUARE, &TRIANGLE]) else {
+        return Ok(());
+    };
+    let mut buffer = FlatShapesBuffer::new(alloc);
+    let Ok(()) = buffer.set_with_shapes(given.as_slice()) else {
+        return Ok(());
+    };
+    let result = buffer.simplify_shapes();
+    let name = "FlatShapesBuffer::simplify_shapes of a clean value";
+    told_unrefused(&rt, name, result, false)?;
+    Ok(())
+}
+
+#[test]
+#[tactic(auto, using(i_shape_int::proofs::CallerLemmas::named_held))]
+fn remove_spikes(rt: HostRuntime) -> Result<(), Fail> {
+    let alloc = rt.alloc();
+    let Ok(given) = one_shape(&rt, alloc, &[&SPIKED, &TRIANGLE]) else {
+        return Ok(());
+    };
+    let mut buffer = FlatShapesBuffer::new(alloc);
+    let Ok(()) = buffer.set_with_shapes(given.as_slice()) else {
+        return Ok(());
+    };
+    let result = buffer.remove_spikes();
+    let wanted = match told(&rt, "FlatShapesBuffer::remove_spikes", result)? {
+        Some(changed) => {
+            assert!(rt; changed);
+            lists_of(&BOTH, &[0..4, 4..7], &[0..2])
+        }
+        None => lists_of(&SPIKED_AND_TRIANGLE, &[0..6, 6..9], &[0..2]),
+    };
+    assert!(rt; lists(&buffer) == wanted);
+    Ok(())
+}
+
+#[test]
+#[tactic(auto, using(i_shape_int::proofs::CallerLemmas::named_held))]
+fn remove_spikes_of_a_clean_value(rt: HostRuntime) -> Result<(), Fail> {
+    let alloc = rt.alloc();
+    let Ok(given) = one_shape(&rt, alloc, &[&SQUARE, &TRIANGLE]) else {
+        return Ok(());
+    };
+    let mut buffer = FlatShapesBuffer::new(alloc);
+    let Ok(()) = buffer.set_with_shapes(given.as_slice()) else {
+        return Ok(());
+    };
+    let result = buffer.remove_spikes();
+    let name = "FlatShapesBuffer::remove_spikes of a clean value";
+    told_unrefused(&rt, name, result, false)?;
     Ok(())
 }

@@ -13,6 +13,8 @@ mod flat_contours;
 #[cfg(test)]
 mod flat_shapes;
 #[cfg(test)]
+mod forms;
+#[cfg(test)]
 mod generic_contours;
 #[cfg(test)]
 mod generic_shapes;

@@ -3,8 +3,7 @@ ghost use Rattle.std.specs.Prelude.{◌≡◌, List, [], ◌∷◌, ⊤};
 ghost use Rattle.std.specs.Iterator.{IsFinite};
 ghost use Rattle.std.specs.Iterator.Adapters.{copied_source};
 ghost use Rattle.std.specs.Slice.Iter.{iter_rest};
-ghost use Rattle.i_shape_source.specs.LentPaths.{LendsExactly, RunsThrough};
-ghost use Rattle.i_shape_source.specs.Paths.{paths_of_shape, paths_of_shapes, paths_of_slices};
+ghost use Rattle.i_shape_source.specs.Paths.{LendsExactly, RunsThrough, paths_of_shape, paths_of_shapes, paths_of_slices};
 
 use crate::float::resource::ShapePoint;
 use crate::iterators::{

@@ -1,7 +1,7 @@
 //! Resources of paths over points of any kind.
 ghost use Rattle.std.specs.Prelude.{List, ⊤};
 ghost use Rattle.std.specs.Iterator.{IsFinite};
-ghost use Rattle.i_shape_source.specs.LentPaths.{LendsExactly, RunsThrough};
+ghost use Rattle.i_shape_source.specs.Paths.{LendsExactly, RunsThrough};
 
 /// A point of any kind, as its owner names it.
 pub trait ShapePoint: Copy {}

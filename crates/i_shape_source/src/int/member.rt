@@ -6,8 +6,7 @@ ghost use Rattle.std.specs.Iterator.Adapters.{copied_source};
 ghost use Rattle.std.specs.Slice.Iter.{iter_rest};
 ghost use Rattle.i_shape_core.specs.declared.point.IntPoint.{IntPoint};
 ghost use Rattle.i_shape_core.specs.IntPoint.{contour_of, IsSafe};
-ghost use Rattle.i_shape_source.specs.LentPaths.{LendsExactly, RunsThrough};
-ghost use Rattle.i_shape_source.specs.Paths.{paths_of_shape, paths_of_shapes, paths_of_slices};
+ghost use Rattle.i_shape_source.specs.Paths.{LendsExactly, RunsThrough, paths_of_shape, paths_of_shapes, paths_of_slices};
 ghost use Rattle.i_shape_source.specs.ShapeLists.{shape_of, shapes_of, IsSafeShape, IsSafeList, AreSafePaths};
 
 use crate::iterators::{

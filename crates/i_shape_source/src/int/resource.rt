@@ -2,7 +2,7 @@
 ghost use Rattle.std.specs.Prelude.{◌↔◌, List, ⊤};
 ghost use Rattle.std.specs.Iterator.{IsFinite};
 ghost use Rattle.i_shape_core.specs.declared.point.IntPoint.{IntPoint};
-ghost use Rattle.i_shape_source.specs.LentPaths.{LendsExactly, RunsThrough};
+ghost use Rattle.i_shape_source.specs.Paths.{LendsExactly, RunsThrough};
 ghost use Rattle.i_shape_source.specs.ShapeLists.{AreSafePaths};
 
 use i_shape_core::number::IntNumber;

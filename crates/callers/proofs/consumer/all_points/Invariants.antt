@@ -1,6 +1,6 @@
 use Rattle.std.proofs.Common.{◌≡◌, map}
 use Rattle.std.specs.List.{flat_map}
-use Rattle.i_shape.specs.LentPaths.{path_of}
+use Rattle.i_shape.specs.Paths.{path_of}
 use Rattle.callers.proofs.consumer.all_points.Given as goal
 
 abbrev pub invariant-loop-path : goal.invariant-loop-path

@@ -5,17 +5,16 @@ ghost use Rattle.std.specs.List.{All};
 ghost use Rattle.std.specs.Option.{option_to_list};
 ghost use Rattle.i_shape_core.specs.Point.{Point};
 ghost use Rattle.i_shape_core.specs.IntPoint.{contour_of, IsSafe, answered};
-ghost use Rattle.i_shape_core.specs.Canonical.{IsAtMost, CanonicalAnswer};
-ghost use Rattle.i_shape_core.specs.Unoriented.{UnorientedAnswer};
+ghost use Rattle.i_shape_core.specs.Canonical.{IsAtMost, CanonicalAnswer, UnorientedAnswer};
 ghost use Rattle.i_shape_core.proofs.ContourForms.{canonical_left, unoriented_left};
 ghost use Rattle.i_shape.specs.ShapeLists.{shape_of, shapes_of, IsSafeShape, IsSafeList};
 ghost use Rattle.i_shape.specs.CanonicalShapes.{SortedForms, ShapeForm, ListForm};
 
-use crate::int::shape::{IntContour, IntShape, IntShapes};
 use i_shape_core::error::ShapeError;
 use i_shape_core::number::IntNumber;
 use i_shape_core::point::IntPoint;
 use i_shape_core::simplifier::ContourSimplifier;
+use i_shape_int::int::shape::{IntContour, IntShape, IntShapes};
 use std::alloc::Global;
 
 /// A form of contours of safe points. One value gives any number of them, and may keep its memory from one to the next.
@@ -102,7 +101,7 @@ fn append_contour<I: IntNumber, F: ContourForm<I>>(
     }
 }
 
-/// The forms of the contours that don't collapse, in order.
+/// The forms of the contours that don't collapse, in order. There is room for one more.
 fn sorted_forms<I: IntNumber, F: ContourForm<I>>(
     form: &mut F,
     alloc: Global,
@@ -112,7 +111,7 @@ fn sorted_forms<I: IntNumber, F: ContourForm<I>>(
     ensures answer { IfOk result (λ sorted. SortedForms F.forms IsAtMost (shape_of I.value contours.now) (shape_of I.value sorted.items)) }
     ensures memory { IsOkUnless result ShapeError.OutOfMemory }
 {
-    let mut sorted = Vec::with_capacity(alloc, contours.len())?;
+    let mut sorted = Vec::with_capacity(alloc, contours.len().saturating_add(1))?;
     for contour in contours {
         append_contour(form, &mut sorted, contour.as_slice())?;
     }

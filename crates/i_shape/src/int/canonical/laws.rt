@@ -2,13 +2,12 @@
 //! alone for its clauses. No safe range is asked.
 
 ghost use Rattle.i_shape_core.specs.Point.{IsZeroTurn};
-ghost use Rattle.i_shape_core.specs.Canonical.{CanonicalAnswer, Joined};
-ghost use Rattle.i_shape_core.specs.Unoriented.{UnorientedAnswer, JoinedEitherWay};
+ghost use Rattle.i_shape_core.specs.Canonical.{CanonicalAnswer, Joined, UnorientedAnswer, JoinedEitherWay};
 ghost use Rattle.i_shape.specs.ShapeLists.{shape_of, shapes_of};
 ghost use Rattle.i_shape.specs.CanonicalShapes.{OneShapeForm, OneListForm, HasShapeForm, HasListForm};
 
-use crate::int::shape::{IntContour, IntShape};
 use i_shape_core::number::IntNumber;
+use i_shape_int::int::shape::{IntContour, IntShape};
 
 /// Two shapes whose outer contours don't collapse have the same form exactly where their outer contours are joined, and the holes
 /// that don't collapse can be paired one to one so that partners are joined; in the unoriented form, joined either way round.

@@ -3,11 +3,11 @@
 ghost use Rattle.std.specs.Prelude.{◌≡◌, ◌∷◌, [], length, MatchOption};
 ghost use Rattle.std.specs.Iterator.{at_most};
 ghost use Rattle.std.specs.Map.Iter.{TakesFirst, deref};
-ghost use Rattle.i_shape_source.specs.LentPaths.{LendsExactly, RunsThrough};
-ghost use Rattle.i_shape.specs.LentRanges.{readable_slices};
+ghost use Rattle.i_shape_source.specs.Paths.{LendsExactly, RunsThrough};
+ghost use Rattle.i_shape.specs.FloatBuffers.{readable_slices};
 
 use crate::flat::float::{FloatFlatContoursBuffer, FloatFlatShapesBuffer};
-use crate::flat::lists::is_in_order;
+use i_shape_int::flat::lists::is_in_order;
 use i_shape_source::float::resource::{ShapePoint, ShapeResource};
 use std::marker::Model;
 use std::ops::Range;
@@ -38,7 +38,7 @@ pub struct FloatContoursBufferResourceIterator<'a, P> {
 
 impl<'a, P> Model for FloatContoursBufferResourceIterator<'a, P> {
     ghost use Rattle.std.specs.Prelude.{List};
-    ghost use Rattle.i_shape.specs.LentRanges.{readable_slices};
+    ghost use Rattle.i_shape.specs.FloatBuffers.{readable_slices};
 
     ghost Value = { List (List P) };
 
@@ -78,7 +78,7 @@ pub struct FloatShapesBufferResourceIterator<'a, P> {
 
 impl<'a, P> Model for FloatShapesBufferResourceIterator<'a, P> {
     ghost use Rattle.std.specs.Prelude.{List};
-    ghost use Rattle.i_shape.specs.LentRanges.{readable_slices};
+    ghost use Rattle.i_shape.specs.FloatBuffers.{readable_slices};
 
     ghost Value = { List (List P) };
 

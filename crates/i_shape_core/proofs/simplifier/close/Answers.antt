@@ -1,6 +1,6 @@
 use Rattle.std.proofs.Common.{◌≡◌, ◌-◌, ℕ, List, map, length, arith, refl, ap, subst, sym, ◌∙◌}
 use Rattle.std.proofs.lemmas.List.{length-take, length-drop, length-map, length-append}
-use Rattle.i_shape_core.specs.Stack.{points_left}
+use Rattle.i_shape_core.specs.Walks.{points_left}
 use Rattle.i_shape_core.specs.IntPoint.{contour_of}
 use Rattle.i_shape_core.specs.Contour.{End, point_at}
 use Rattle.i_shape_core.specs.Point.{Point, IsZeroTurn}

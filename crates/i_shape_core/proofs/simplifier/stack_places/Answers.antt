@@ -1,7 +1,7 @@
 use Rattle.std.proofs.Common.{◌≡◌, ℕ, length, arith, refl, ap, subst, ◌∙◌}
 use Rattle.i_shape_core.specs.IntPoint.{contour_of}
 use Rattle.i_shape_core.specs.Point.{IsZeroTurn}
-use Rattle.i_shape_core.specs.Stack.{IsWalked}
+use Rattle.i_shape_core.specs.Walks.{IsWalked}
 use Rattle.i_shape_core.proofs.Contours.{length-contour}
 use Rattle.i_shape_core.proofs.Stacks.{stacked-start}
 use Rattle.i_shape_core.proofs.Walks.{push-read}

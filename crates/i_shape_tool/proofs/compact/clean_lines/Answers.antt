@@ -1,6 +1,6 @@
 use Rattle.std.proofs.Common.{rules}
 use Rattle.std.proofs.lemmas.Result.{err_from_is_err_and}
-use Rattle.i_shape.proofs.ContoursHeld.{HoldsContours-added}
+use Rattle.i_shape_int.proofs.ContoursHeld.{HoldsContours-added}
 use Rattle.i_shape_tool.specs.declared.fault.ToolFault.TheVariants.{OutOfMemory}
 use Rattle.i_shape_tool.specs.Points.{contour_of}
 use Rattle.i_shape_tool.proofs.Compacting.{cleaned_nothing, clean_collapsed, clean_kept, fault_after_cleaning}

@@ -1,6 +1,6 @@
 use Rattle.std.proofs.Common.{◌≡◌, map, string_bytes}
 use Rattle.std.specs.List.{flat_map}
-use Rattle.i_shape.specs.LentPaths.{path_of}
+use Rattle.i_shape_int.specs.Paths.{path_of}
 use Rattle.i_shape_tool.specs.Points.{contour_of}
 use Rattle.i_shape_tool.specs.Run.{shown_line}
 use Rattle.i_shape_tool.proofs.compact.show_contours.Given as goal

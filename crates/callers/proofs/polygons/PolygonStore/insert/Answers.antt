@@ -4,7 +4,7 @@ use Rattle.i_shape.specs.Canonical.{CanonicalAnswer}
 use Rattle.i_shape.specs.ShapeLists.{shape_of, shapes_of}
 use Rattle.i_shape.specs.CanonicalShapes.{ShapeForm}
 use Rattle.i_shape.proofs.ShapeForms.{canonical_has_shape}
-use Rattle.callers.specs.PolygonForms.{AreOwnForms}
+use Rattle.callers.specs.Polygons.{AreOwnForms}
 use Rattle.callers.proofs.StoredPolygons.{polygon_cmp, polygons_exact, listed, inserted, own_forms_more, was_there, was_missing, polygon_found, finds_polygon}
 use Rattle.callers.proofs.polygons.PolygonStore.insert.Goals as goal
 

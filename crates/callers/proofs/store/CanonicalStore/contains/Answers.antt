@@ -2,7 +2,7 @@ use Rattle.std.proofs.Common.{ℤ}
 use Rattle.i_shape.specs.IntPoint.{contour_of}
 use Rattle.i_shape.specs.Cleaners.{EachEndCollapses}
 use Rattle.i_shape.specs.Canonical.{IsCanonical}
-use Rattle.callers.specs.Forms.{AreForms}
+use Rattle.callers.specs.Store.{AreForms}
 use Rattle.callers.proofs.StoredForms.{found_by_form, none_found}
 use Rattle.callers.proofs.store.CanonicalStore.contains.Goals as goal
 

@@ -2,8 +2,7 @@ use Rattle.std.proofs.Common.{◌↔◌, ℤ, [], ◌∷◌, ◌++◌, IsTrue, C
 use Rattle.i_shape.specs.IntPoint.{contour_of}
 use Rattle.i_shape.specs.ShapeLists.{shape_of}
 use Rattle.i_shape.specs.Canonical.{IsCanonical}
-use Rattle.callers.specs.Forms.{AreForms}
-use Rattle.callers.specs.Store.{AlsoFinds}
+use Rattle.callers.specs.Store.{AreForms, AlsoFinds}
 use Rattle.callers.proofs.StoredForms.{found_by_form, forms_more, finds_more, finds_same, shape_more}
 use Rattle.callers.proofs.store.CanonicalStore.insert.Goals as goal
 

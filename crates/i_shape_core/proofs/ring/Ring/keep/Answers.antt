@@ -1,6 +1,6 @@
 use Rattle.std.proofs.Common.{◌≤◌, ◌+◌, ◌-◌, set, length, ◌∙◌, inl, inr, refl, arith}
 use Rattle.std.proofs.lemmas.List.{get_or_read}
-use Rattle.i_shape_core.specs.RingWalk.{around_gap}
+use Rattle.i_shape_core.specs.Walks.{around_gap}
 use Rattle.i_shape_core.proofs.Gaps.{gap_kept, gap_turned, kept_lead, length-gap}
 use Rattle.i_shape_core.proofs.ring.Ring.keep.Goals as goal
 

@@ -1,5 +1,5 @@
 use Rattle.std.proofs.Common.{◌≡◌, ◌≤◌, ◌<◌, ◌+◌, ◌-◌, length, refl, arith}
-use Rattle.i_shape_core.specs.RingWalk.{around_gap}
+use Rattle.i_shape_core.specs.Walks.{around_gap}
 use Rattle.i_shape_core.proofs.Gaps.{gap_removed-behind, gap_removed-end, length-gap, removed_told}
 use Rattle.i_shape_core.proofs.ring.Ring.remove.Goals as goal
 

@@ -1,6 +1,5 @@
 use Rattle.std.proofs.Common.{◌≡◌, length, map}
-use Rattle.i_shape_source.specs.LentPaths.{path_of}
-use Rattle.i_shape_source.specs.Paths.{joined}
+use Rattle.i_shape_source.specs.Paths.{path_of, joined}
 use Rattle.i_shape.proofs.flat.float.fill.checked_path_counts.Given as goal
 
 abbrev pub invariant-loop-path : goal.invariant-loop-path

@@ -1,4 +1,4 @@
-use Rattle.i_shape_core.specs.Unoriented.{UnorientedAnswer}
+use Rattle.i_shape_core.specs.Canonical.{UnorientedAnswer}
 use Rattle.i_shape.specs.CanonicalShapes.{AreKeptEitherWay}
 use Rattle.i_shape.specs.ShapeLists.{shape_of}
 use Rattle.i_shape.proofs.ShapeForms.{unoriented_keeps, given_keeps}

@@ -1,0 +1,159 @@
+-- The states of the walks and of the search. Private functions alone speak of them, but for what a probe shows.
+use Rattle.std.specs.Prelude.{ℕ, List, ◌-◌, ◌*◌, ◌≤◌, length, Option, Some, None, ◌≡◌, ◌+◌, ◌<◌, min, ◌++◌, map, drop, slice_index, suc, ◌⊎◌, take, cond, nat_lt, ◌<ℤ◌, ◌≤ℤ◌, pos, get_or}
+use Rattle.i_shape_core.specs.declared.point.IntPoint.{IntPoint}
+use Rattle.i_shape_core.specs.Point.{Point, cross, dot, origin}
+use Rattle.i_shape_core.specs.Contour.{Test, Reach, End, IsCollapsed, point_at, IsRemovable}
+use Rattle.std.specs.List.{All}
+use Rattle.i_shape_core.specs.declared.bend.Bend.{Bend}
+use Rattle.i_shape_core.specs.declared.bend.Bend.TheVariants.{Straight, Left, Right, Reversal}
+use Rattle.std.specs.Ordering.{MatchOrdering}
+use Rattle.std.specs.declared.cmp.Ordering.{Ordering}
+use Rattle.i_shape_core.specs.Canonical.{IsBefore}
+
+-- a contour, and how many of its vertices were visited
+pub record Seen (I : Type 0) : Type 0 where
+  pub contour : List (IntPoint I)
+  pub visits : ℕ
+
+-- an end of at least three points, after so many visits
+pub record Finds (P : Test) (c e : List Point) (visits : ℕ) : Type 0 where
+  pub ended : End P c e
+  pub enough : 3 ≤ length e
+  pub least : length c ≤ visits
+  pub most : visits ≤ 3 * length c
+
+-- a list of fewer than three points is reached, after so many visits
+pub record Falls (P : Test) (c : List Point) (visits : ℕ) : Type 0 where
+  pub rest : List Point
+  pub reached : Reach P c rest
+  pub few : IsCollapsed rest
+  pub least : length c - 2 ≤ visits
+  pub most : visits ≤ 3 * length c
+
+abbrev pub WalkAnswer : Test → List Point → Option (List Point) → ℕ → Type 0
+WalkAnswer P c None visits = Falls P c visits
+WalkAnswer P c (Some e) visits = Finds P c e visits
+
+-- the point whose place is the k-th on the stack
+abbrev pub stacked_point : List Point → List ℕ → ℕ → Point
+stacked_point c stack k = point_at c (slice_index stack k)
+
+-- the points whose places are on the stack, and then those from `place` on
+abbrev pub points_left : List Point → List ℕ → ℕ → List Point
+points_left c stack place = map (point_at c) stack ++ drop place c
+
+-- these points are reached, and no point of the stack may be removed between its neighbours on the stack
+pub record IsStacked (P : Point → Point → Point → Type 0) (c : List Point) (stack : List ℕ) (place : ℕ) : Type 0 where
+  pub reached : Reach P c (points_left c stack place)
+  pub turning : (k : ℕ) → k + 2 < length stack → ¬ (P (stacked_point c stack k) (stacked_point c stack (k + 1)) (stacked_point c stack (k + 2)))
+  pub within : All (λ k. k < length c) stack
+
+-- the same, with bounds on the vertices visited so far
+pub record IsWalked (P : Point → Point → Point → Type 0) (c : List Point) (stack : List ℕ) (place visits : ℕ) : Type 0 where
+  pub stacked : IsStacked P c stack place
+  pub short : length stack ≤ place
+  pub most : visits + length stack ≤ 2 * place
+  pub least : place ≤ visits + min (length stack) 2
+
+-- the point at `place` may not remove the last of the stack
+abbrev pub IsSettled : (Point → Point → Point → Type 0) → List Point → List ℕ → ℕ → Type 0
+IsSettled P c stack place = (j k : ℕ) → length stack ≡ k + 1 → k ≡ j + 1 → ¬ (P (stacked_point c stack j) (stacked_point c stack k) (point_at c place))
+
+-- a ring in the order of the contour: lead is how many of it stand ahead of the contour's first
+abbrev pub in_order : {X : Type 0} → List X → ℕ → List X
+in_order ring lead = drop lead ring ++ take lead ring
+
+-- the ring, from the walk's place on, holds what is left of c; only the first `untested` of it may pass the test
+pub record IsRingWalk (P : Test) (c ring : List Point) (untested lead : ℕ) : Type 0 where
+  pub enough : 3 ≤ length ring
+  pub untested_within : untested ≤ length ring
+  pub lead_above : 0 < lead
+  pub lead_within : lead ≤ length ring
+  pub reached : Reach P c (in_order ring lead)
+  pub tested : (k : ℕ) → untested ≤ k → IsRemovable P ring k → ⊥
+
+-- a ring of places, from the walk's place on: how many of them, from the first on, are still to be tested, and how many stand ahead of the contour's first
+pub record Standing : Type 0 where
+  pub places : List ℕ
+  pub untested : ℕ
+  pub lead : ℕ
+
+-- the same ring by the places of its points, and how many vertices were visited
+pub record IsRingState (P : Test) (c : List Point) (ring : Standing) (visits : ℕ) : Type 0 where
+  pub walk : IsRingWalk P c (map (point_at c) ring.places) ring.untested ring.lead
+  pub below : All (λ k. k < length c) ring.places
+  pub at_most : visits + 2 * length ring.places + ring.untested ≤ 3 * length c
+  pub tested_each : length c ≤ visits + ring.untested
+  pub left_each : length c ≤ visits + length ring.places
+
+-- the test passes at the walk's place, between the last of the ring and the second
+abbrev pub PassesAtPlace : Test → List Point → List ℕ → Type 0
+PassesAtPlace P c places = P (point_at c (slice_index places (length places - 1))) (point_at c (slice_index places 0)) (point_at c (slice_index places 1))
+
+-- lead after the place's point is kept in a ring of n
+abbrev pub LeadKept : ℕ → ℕ → ℕ → Type 0
+LeadKept n before after = ((before ≡ 1) × (after ≡ n)) ⊎ ((1 < before) × (before ≡ suc after))
+
+-- lead after the place's point is removed from a ring of n
+abbrev pub LeadRemoved : ℕ → ℕ → ℕ → Type 0
+LeadRemoved n before after = ((before ≡ n) × (after ≡ 1)) ⊎ ((before < n) × (after ≡ before))
+
+-- a ring that lies in one list with a gap: its first part from `ahead` to `end`, its second before `behind`
+unfoldable pub around_gap : List ℕ → ℕ → ℕ → ℕ → List ℕ
+around_gap places behind ahead end = drop ahead (take end places) ++ take behind places
+
+-- how many of a ring of n stand ahead of the contour's first, which stands at `first` where the second part is put before the first
+unfoldable pub lead_over_gap : ℕ → ℕ → ℕ → ℕ
+lead_over_gap n first behind = cond (nat_lt behind first) (first - behind) (first + n - behind)
+
+-- how the way from a over b to c bends
+abbrev pub IsBend : Point → Point → Point → Bend → Type 0
+IsBend a b c Straight = (cross a b c ≡ pos 0) × (pos 0 ≤ℤ dot a b c)
+IsBend a b c Left = pos 0 <ℤ cross a b c
+IsBend a b c Right = cross a b c <ℤ pos 0
+IsBend a b c Reversal = (cross a b c ≡ pos 0) × (dot a b c <ℤ pos 0)
+
+-- the bend of a way that bends so and then so, where there is one
+abbrev pub bend_of_both : Bend → Bend → Option Bend
+bend_of_both Straight next = Some next
+bend_of_both Left Straight = Some Left
+bend_of_both Left Left = Some Left
+bend_of_both Left Right = None
+bend_of_both Left Reversal = None
+bend_of_both Right Straight = Some Right
+bend_of_both Right Left = None
+bend_of_both Right Right = Some Right
+bend_of_both Right Reversal = None
+bend_of_both Reversal Straight = Some Reversal
+bend_of_both Reversal Left = None
+bend_of_both Reversal Right = None
+bend_of_both Reversal Reversal = Some Reversal
+
+-- a contour, and how many pairs of its points were compared
+pub record Compared (I : Type 0) : Type 0 where
+  pub contour : List (IntPoint I)
+  pub comparisons : ℕ
+
+-- how the points of c at places i and j are ordered
+abbrev pub IsOrder : List Point → ℕ → ℕ → Ordering → Type 0
+IsOrder c i j order = MatchOrdering order (IsBefore (point_at c i) (point_at c j)) (point_at c i ≡ point_at c j) (IsBefore (point_at c j) (point_at c i))
+
+-- the point at place k of c, where the places go round twice
+abbrev pub point_round : List Point → ℕ → Point
+point_round c k = get_or (c ++ c) k origin
+
+-- the rotations that start at places i and j have the same k first points
+abbrev pub Agree : List Point → ℕ → ℕ → ℕ → Type 0
+Agree c i j k = (t : ℕ) → t < k → point_round c (i + t) ≡ point_round c (j + t)
+
+-- the k-th points are the first in which the rotations that start at places i and j differ, and there the rotation from i comes first
+pub record Precedes (c : List Point) (i j k : ℕ) : Type 0 where
+  pub matched : ℕ
+  pub last : k ≡ matched + 1
+  pub within : matched < length c
+  pub agree : Agree c i j matched
+  pub before : IsBefore (point_round c (i + matched)) (point_round c (j + matched))
+
+-- the points of c from place j on and before place k come after p
+abbrev pub AreAfter : List Point → Point → ℕ → ℕ → Type 0
+AreAfter c p j k = (s : ℕ) → j ≤ s → s < k → IsBefore p (point_at c s)

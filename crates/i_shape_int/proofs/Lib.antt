@@ -1,0 +1,13 @@
+pub mod Surviving
+pub mod Keeping
+pub mod EndToEnd
+pub mod ContoursHeld
+pub mod ShapeRanges
+pub mod ShapesHeld
+pub mod CompactLaws
+pub mod ShapesCleaned
+pub mod WrappedSums
+pub mod LeftInPlace
+pub mod SpikesLeft
+-- what callers cite
+pub mod CallerLemmas

@@ -1,0 +1,4 @@
+//! Flat buffers: one list of points beside lists of ranges.
+
+pub mod buffer;
+pub mod lists;

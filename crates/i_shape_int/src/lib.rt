@@ -1,0 +1,11 @@
+//! Contours, shapes and shape lists over whole numbers, their flat buffers, and the paths that they lend. Users import them from
+//! `i_shape`.
+#![tactic(auto)]
+
+pub mod base;
+pub mod flat;
+pub mod int;
+pub mod source;
+
+pub use i_shape_core::error::ShapeError;
+pub use i_shape_core::number::IntNumber;

@@ -1,0 +1,3 @@
+//! Borrowed paths.
+
+pub mod int;
