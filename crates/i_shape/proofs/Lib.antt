@@ -1,5 +1,3 @@
--- lists that are compared
-pub mod EqualLists
 pub mod LentPaths
 pub mod FloatHeld
 -- canonical forms

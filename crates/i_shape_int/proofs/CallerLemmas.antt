@@ -1,12 +1,13 @@
 -- What callers need beside the contracts: from a buffer to the contours that it holds, from lists of points to shapes, and what whole lists keep.
-use Rattle.std.proofs.Common.{◌≡◌, ◌↔◌, ◌≤◌, ℕ, ◌+◌, ℤ, List, [], ◌∷◌, ◌++◌, length, map, refl, sym, ap, subst, ◌∙◌, arith, length-append, Option, Some, None, option_map, IfSome, Bool, false, IsTrue, Result, Ok, Err, IfOk}
+use Rattle.std.proofs.Common.{◌≡◌, ◌↔◌, ◌≤◌, ℕ, ◌+◌, ◌-◌, ℤ, List, [], ◌∷◌, ◌++◌, length, map, take, drop, refl, sym, ap, subst, ◌∙◌, arith, length-append, Option, Some, None, option_map, IfSome, Bool, false, IsTrue, Result, Ok, Err, IfOk}
 use Rattle.std.specs.Global.{Vec}
 use Rattle.std.specs.Int.{Width}
+use Rattle.std.specs.declared.ops.Range.{Range}
 use Rattle.std.specs.Result.{IsOk, IsErr, is_ok, OnOk}
 use Rattle.std.specs.List.{All, AllZip, filter_map, sum_by, slice_get}
 use Rattle.std.proofs.lemmas.Int.{ints}
-use Rattle.std.proofs.lemmas.List.Elements.{All-nil, All-cons, All-head, All-tail, All-append}
-use Rattle.std.proofs.lemmas.List.{map-append}
+use Rattle.std.proofs.lemmas.List.Elements.{All-nil, All-cons, All-head, All-tail, All-append, All-take, All-drop}
+use Rattle.std.proofs.lemmas.List.{map-append, take-map, drop-map}
 use Rattle.std.proofs.lemmas.List.Sums.{sum_by-cons}
 use Rattle.std.proofs.lemmas.Simd.{map-map}
 use Rattle.i_shape_core.specs.Point.{Point}
@@ -19,10 +20,10 @@ use Rattle.i_shape_core.specs.declared.error.ShapeError.{ShapeError}
 use Rattle.i_shape_core.specs.declared.point.IntPoint.{IntPoint}
 use Rattle.i_shape_source.specs.Paths.{paths_of_shape, paths_of_shapes, shape_lists, joined}
 use Rattle.i_shape_int.specs.declared.flat.buffer.contours.FlatContoursBuffer.{FlatContoursBuffer}
-use Rattle.i_shape_int.specs.Flat.{slices, end_to_end}
-use Rattle.i_shape_int.specs.Buffers.{Compact, contours_in, range_len, HoldsContours, HoldsShapes, named_shapes}
+use Rattle.i_shape_int.specs.Flat.{part_of, slices, shapes, end_to_end}
+use Rattle.i_shape_int.specs.Buffers.{Compact, contours_in, range_len, HoldsContours, HoldsShapes, contours_of, named_shapes}
 use Rattle.i_shape_int.specs.declared.flat.buffer.shapes.FlatShapesBuffer.{FlatShapesBuffer}
-use Rattle.i_shape_int.specs.ShapeLists.{shape_of, shapes_of, IsSafeShape, IsSafeList}
+use Rattle.i_shape_int.specs.ShapeLists.{shape_of, shapes_of, IsSafeShape, IsSafeList, AreSafePaths}
 use Rattle.i_shape_int.specs.ShapeAnswers.{HasPoints, inside_count, shapes_shoelace, Survivors, ShapeClean, ListClean, EachContour, EachShape, AreKept, ListKept}
 use Rattle.i_shape_int.specs.InPlace.{Leaves, CleansContour, DespikesContour, CleansShape, CleansList}
 use Rattle.i_shape_core.proofs.Answered.{simple_kept}
@@ -41,6 +42,22 @@ shapes_of_lists value (shape ∷ shapes) = λ i. shape_of_paths value shape.item
 -- a buffer of shapes names the shapes that it was filled with
 pub named_held : {I : Type 0} (value : I → ℤ) (buffer : FlatShapesBuffer I) (shapes : List (Vec (Vec (IntPoint I)))) → HoldsShapes buffer (shape_lists shapes) → named_shapes value buffer ≡ shapes_of value shapes
 named_held value buffer shapes held = ap (map (map (contour_of value))) held.shapes ∙ sym (shapes_of_lists value shapes)
+
+safe_ranges : {I : Type 0} (width : Width) (value : I → ℤ) (points : List (IntPoint I)) (contours shapes_named : List (Range ℕ)) → IsSafeShape width (map (contour_of value) (slices points contours)) → IsSafeList width (map (contours_of value) (shapes points contours shapes_named))
+safe_ranges width value points contours [] safe = All-nil (IsSafeShape width)
+safe_ranges width value points contours (range ∷ ranges) safe =
+    let n = range.end - range.start in
+    let all = map (contour_of value) (slices points contours) in
+    let same : take n (drop range.start all) ≡ contours_of value (slices points (part_of contours range)) =
+    ap (take n) (drop-map (contour_of value) range.start (slices points contours) ∙ ap (map (contour_of value)) (drop-map (part_of points) range.start contours))
+        ∙ take-map (contour_of value) n (map (part_of points) (drop range.start contours)) ∙ ap (map (contour_of value)) (take-map (part_of points) n (drop range.start contours)) in
+    let here = subst (IsSafeShape width) same (All-take (All (IsSafe width)) n (drop range.start all) (All-drop (All (IsSafe width)) range.start all safe)) in
+    All-cons (IsSafeShape width) (contours_of value (slices points (part_of contours range))) (map (contours_of value) (shapes points contours ranges)) here (safe_ranges width value points contours ranges safe)
+
+-- the shapes that a buffer names are safe where its contours are, as the test of the buffer tells it
+pub safe_named : {I : Type 0} (width : Width) (value : I → ℤ) (buffer : FlatShapesBuffer I) → AreSafePaths width value (slices buffer.points.items buffer.contour_ranges.items) → IsSafeList width (named_shapes value buffer)
+unfolding AreSafePaths
+safe_named width value buffer safe = safe_ranges width value buffer.points.items buffer.contour_ranges.items buffer.shape_ranges.items safe
 
 -- shapes of the same lists of points are the same shapes
 pub same_shapes : {I : Type 0} (value : I → ℤ) (a b : List (Vec (Vec (IntPoint I)))) → shape_lists a ≡ shape_lists b → shapes_of value a ≡ shapes_of value b

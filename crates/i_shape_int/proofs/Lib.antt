@@ -1,3 +1,4 @@
+pub mod EqualLists
 pub mod Surviving
 pub mod Keeping
 pub mod EndToEnd

@@ -5,6 +5,7 @@
 pub mod base;
 pub mod flat;
 pub mod int;
+pub mod laws;
 pub mod source;
 
 pub use i_shape_core::error::ShapeError;

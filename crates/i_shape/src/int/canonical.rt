@@ -35,7 +35,8 @@ pub trait CanonicalShape<I: IntNumber> {
         ensures memory { IsOkUnless result ShapeError.OutOfMemory };
 
     /// The same, of forms that don't tell which way round a contour is wound: two shapes that have forms have the same one exactly
-    /// where they are the same polygon but for the direction of each contour. The contours' double areas are kept but for their signs.
+    /// where they are the same polygon but for the direction of each contour. The contours' double areas, each without its sign, have the same sum, and
+    /// each point is inside of as many contours; the points are safe again. The only error is `OutOfMemory`.
     fn canonical_unoriented(&self, alloc: Global) -> Result<Option<IntShape<I>>, ShapeError>
         requires { IsSafeShape I.width (shape self.now) }
         ensures answer { IfOk result (λ r. ShapeForm UnorientedAnswer (shape self.now) (answered (shape_of I.value) r)) }

@@ -101,7 +101,7 @@ fn append_contour<I: IntNumber, F: ContourForm<I>>(
     }
 }
 
-/// The forms of the contours that don't collapse, in order. There is room for one more.
+/// The forms of the contours that don't collapse, in order. Room is made for one more, which no clause says.
 fn sorted_forms<I: IntNumber, F: ContourForm<I>>(
     form: &mut F,
     alloc: Global,

@@ -1,7 +1,7 @@
 use Rattle.std.proofs.Common.{sym}
 use Rattle.std.proofs.lemmas.Bool.Decides.{Decides-and}
-use Rattle.i_shape.proofs.EqualLists.{lists_decided, points_decided, ranges_decided}
-use Rattle.i_shape.proofs.laws.contours_buffers_equal.Goals as goal
+use Rattle.i_shape_int.proofs.EqualLists.{lists_decided, points_decided, ranges_decided}
+use Rattle.i_shape_int.proofs.laws.contours_buffers_equal.Goals as goal
 
 pub returns : goal.returns
 returns g c =
