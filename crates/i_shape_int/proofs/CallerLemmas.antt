@@ -50,7 +50,7 @@ safe_ranges width value points contours (range ∷ ranges) safe =
     let all = map (contour_of value) (slices points contours) in
     let same : take n (drop range.start all) ≡ contours_of value (slices points (part_of contours range)) =
     ap (take n) (drop-map (contour_of value) range.start (slices points contours) ∙ ap (map (contour_of value)) (drop-map (part_of points) range.start contours))
-        ∙ take-map (contour_of value) n (map (part_of points) (drop range.start contours)) ∙ ap (map (contour_of value)) (take-map (part_of points) n (drop range.start contours)) in
+    ∙ take-map (contour_of value) n (map (part_of points) (drop range.start contours)) ∙ ap (map (contour_of value)) (take-map (part_of points) n (drop range.start contours)) in
     let here = subst (IsSafeShape width) same (All-take (All (IsSafe width)) n (drop range.start all) (All-drop (All (IsSafe width)) range.start all safe)) in
     All-cons (IsSafeShape width) (contours_of value (slices points (part_of contours range))) (map (contours_of value) (shapes points contours ranges)) here (safe_ranges width value points contours ranges safe)
 
