@@ -48,6 +48,14 @@ typedef struct { uint64_t low, high; } i_shape_halves;
                                              i_shape_point_i##W *out_points, size_t room, \
                                              size_t *out_offsets, size_t offset_room);
 
+#define I_SHAPE_CLEAN_SHAPES(NAME, W) \
+    ptrdiff_t i_shape_##NAME##_shapes_i##W(const i_shape_point_i##W *points, size_t count, \
+                                           const size_t *contours, size_t contour_offsets, \
+                                           const size_t *shapes, size_t shape_offsets, \
+                                           i_shape_point_i##W *out_points, size_t room, \
+                                           size_t *out_contours, size_t contour_room, \
+                                           size_t *out_shapes, size_t shape_room);
+
 #define I_SHAPE_TEST(NAME, W) int32_t i_shape_##NAME##_i##W(const i_shape_point_i##W *points, size_t count);
 
 #define I_SHAPE_CALLS(W, AREA) \
@@ -64,6 +72,14 @@ typedef struct { uint64_t low, high; } i_shape_halves;
     I_SHAPE_CLEAN_MANY(simplify, W) \
     I_SHAPE_CLEAN_MANY(despike, W) \
     I_SHAPE_CLEAN_MANY(canonical, W) \
+    /* Polygons: contours[] parts the points into contours, as above, and shapes[] parts these into polygons, the outer contour of each \
+       first. The answer lies in the same way in out_points, out_contours and out_shapes, from 0 on, without the contours that collapse and \
+       the polygons whose outer contour does. They answer how many polygons these are, n: they end at out_shapes[n], and their \
+       contours at out_contours[out_shapes[n]]. I_SHAPE_UNFIT as above, and where the same is wrong of shapes[] over the contours. Behind the \
+       answer nothing is written, nor after a code. */ \
+    I_SHAPE_CLEAN_SHAPES(simplify, W) \
+    I_SHAPE_CLEAN_SHAPES(despike, W)   /* a contour that has no spikes stays as it is */ \
+    I_SHAPE_CLEAN_SHAPES(canonical, W) /* the holes of each polygon sorted, and then the polygons: equal arrays are the same polygons */ \
     /* Tests. They answer 1 or 0, I_SHAPE_UNSAFE or I_SHAPE_NO_MEMORY. */ \
     I_SHAPE_TEST(is_simple, W)      /* at least three points, and no zero turn */ \
     I_SHAPE_TEST(has_no_spikes, W)  /* at least three points without repeated ones, and the way over them nowhere goes back */ \
@@ -82,6 +98,7 @@ I_SHAPE_CALLS(64, i_shape_halves)
 
 #undef I_SHAPE_CALLS
 #undef I_SHAPE_TEST
+#undef I_SHAPE_CLEAN_SHAPES
 #undef I_SHAPE_CLEAN_MANY
 #undef I_SHAPE_CLEAN_ONE
 

@@ -10,8 +10,11 @@
 typedef ptrdiff_t (*AT(clean_one))(const POINT *, size_t, POINT *, size_t);
 typedef ptrdiff_t (*AT(clean_many))(const POINT *, size_t, const size_t *, size_t, POINT *, size_t, size_t *, size_t);
 
+typedef ptrdiff_t (*AT(clean_shapes))(const POINT *, size_t, const size_t *, size_t, const size_t *, size_t, POINT *, size_t, size_t *, size_t, size_t *, size_t);
+
 static AT(clean_one) const AT(cleaners)[] = {CALL(simplify), CALL(despike), CALL(canonical)};
 static AT(clean_many) const AT(batches)[] = {CALL(simplify_contours), CALL(despike_contours), CALL(canonical_contours)};
+static AT(clean_shapes) const AT(polygons)[] = {CALL(simplify_shapes), CALL(despike_shapes), CALL(canonical_shapes)};
 
 static void AT(points_of)(const int (*from)[2], size_t count, POINT *to) {
     for (size_t k = 0; k < count; k++) {
@@ -105,6 +108,61 @@ static void AT(test_many_codes)(void) {
     }
 }
 
+/* A square with three holes, of which one collapses; a polygon that collapses, with a hole; an empty one; and a triangle. */
+static void AT(test_shapes)(void) {
+    const POINT given[24] = {{10, 0}, {10, 10}, {0, 10}, {0, 0}, {5, 0}, {8, 6}, {6, 6}, {6, 8}, {7, 7}, {1, 1}, {2, 2}, {3, 3},
+                             {2, 4}, {4, 2}, {2, 2}, {1, 1}, {2, 2}, {3, 3}, {2, 4}, {4, 2}, {2, 2}, {0, -4}, {4, 0}, {-4, 0}};
+    const size_t contours[8] = {0, 5, 9, 12, 15, 18, 21, 24}, shapes[5] = {0, 4, 6, 6, 7};
+    const size_t none[1] = {0};
+    for (int k = 0; k < CLEANERS; k++) {
+        const struct polygons *left = &polygons_left[k];
+        const size_t points = left->contours[4];
+        POINT out[25];
+        size_t out_contours[9], out_shapes[6];
+        fill(out, sizeof out);
+        fill(out_contours, sizeof out_contours);
+        fill(out_shapes, sizeof out_shapes);
+        check(AT(polygons)[k](given, 24, contours, 8, shapes, 5, out, 25, out_contours, 9, out_shapes, 6) == 3, W, cleaner_names[k], "how many polygons");
+        check(AT(is_answer)(out, left->points, points, 25), W, cleaner_names[k], "points of polygons");
+        check(memcmp(out_contours, left->contours, sizeof left->contours) == 0 && is_filled(out_contours + 5, 4 * sizeof *out_contours),
+              W, cleaner_names[k], "contours of polygons");
+        check(memcmp(out_shapes, left->shapes, sizeof left->shapes) == 0 && is_filled(out_shapes + 4, 2 * sizeof *out_shapes),
+              W, cleaner_names[k], "polygons");
+        check(AT(polygons)[k](given, 24, contours, 8, none, 1, out, 24, out_contours, 8, out_shapes, 1) == 0 && out_shapes[0] == 0
+                  && out_contours[0] == 0, W, cleaner_names[k], "no polygon");
+    }
+}
+
+static void AT(test_shapes_codes)(void) {
+    const size_t contours[3] = {0, 3, 6}, outside[2] = {0, 7}, shapes[2] = {0, 2}, backwards[3] = {0, 2, 1}, beyond[2] = {0, 3};
+    for (int k = 0; k < CLEANERS; k++) {
+        POINT given[6] = {{0, 0}, {2, 0}, {0, 4}, {0, 0}, {4, 0}, {0, 4}}, out[6];
+        size_t out_contours[3], out_shapes[3];
+        const char *name = cleaner_names[k];
+        fill(out, sizeof out);
+        fill(out_contours, sizeof out_contours);
+        fill(out_shapes, sizeof out_shapes);
+#define CLEAN(CONTOURS, CONTOUR_OFFSETS, SHAPES, SHAPE_OFFSETS, ROOM, CONTOUR_ROOM, SHAPE_ROOM) \
+    AT(polygons)[k](given, 6, CONTOURS, CONTOUR_OFFSETS, SHAPES, SHAPE_OFFSETS, out, ROOM, out_contours, CONTOUR_ROOM, out_shapes, SHAPE_ROOM)
+#define IS_UNTOUCHED (is_filled(out, sizeof out) && is_filled(out_contours, sizeof out_contours) && is_filled(out_shapes, sizeof out_shapes))
+        check(CLEAN(contours, 0, shapes, 2, 6, 3, 3) == I_SHAPE_UNFIT, W, name, "no offset of contours");
+        check(CLEAN(contours, 3, shapes, 0, 6, 3, 3) == I_SHAPE_UNFIT, W, name, "no offset of polygons");
+        check(CLEAN(outside, 2, shapes, 2, 6, 3, 3) == I_SHAPE_UNFIT, W, name, "a contour out of the points");
+        check(CLEAN(contours, 3, beyond, 2, 6, 3, 3) == I_SHAPE_UNFIT, W, name, "a polygon out of the contours");
+        check(CLEAN(contours, 3, backwards, 3, 6, 3, 3) == I_SHAPE_UNFIT, W, name, "polygons that run backwards");
+        check(CLEAN(contours, 3, shapes, 2, 5, 3, 3) == I_SHAPE_UNFIT, W, name, "polygons, room for five of six points");
+        check(CLEAN(contours, 3, shapes, 2, 6, 2, 3) == I_SHAPE_UNFIT, W, name, "room for two of three offsets of contours");
+        check(CLEAN(contours, 3, shapes, 2, 6, 3, 1) == I_SHAPE_UNFIT, W, name, "room for one of two offsets of polygons");
+        given[5].y = LEAST_UNSAFE;
+        check(CLEAN(contours, 3, shapes, 2, 6, 3, 3) == I_SHAPE_UNSAFE, W, name, "polygons with a point that isn't safe");
+        check(IS_UNTOUCHED, W, name, "codes leave the arrays of polygons as they were");
+        given[5].y = 4;
+        WITH_EACH_GROWTH_REFUSED(CLEAN(contours, 3, shapes, 2, 6, 3, 3), IS_UNTOUCHED, W, name);
+#undef IS_UNTOUCHED
+#undef CLEAN
+    }
+}
+
 static void AT(test_tests)(void) {
     for (size_t r = 0; r < ROWS; r++) {
         const struct row *row = &rows[r];
@@ -161,6 +219,8 @@ static void AT(test_width)(void) {
     AT(test_codes)();
     AT(test_many)();
     AT(test_many_codes)();
+    AT(test_shapes)();
+    AT(test_shapes_codes)();
     AT(test_tests)();
     AT(test_area)();
     AT(test_refusals)();

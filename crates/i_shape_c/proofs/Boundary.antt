@@ -31,14 +31,14 @@ module _ {P I : Type 0} (width : Width) (value : I → ℤ) (to : P → IntPoint
   pub safe_contour : (given : List P) (copy : List (IntPoint I)) → copy ≡ map to given → AreSafe width (λ p. point_of value (to p)) given → All (IsSafe width) (contour_of value copy)
   safe_contour given copy is safe = rw (copied given copy is) (All-map (IsSafe width) (λ p. point_of value (to p)) given safe)
 
+-- points that were copied out are the same points
+pub same_points : {P I : Type 0} (value : I → ℤ) (to : P → IntPoint I) (of : IntPoint I → P) → ((p : IntPoint I) → to (of p) ≡ p) → (kept : List (IntPoint I)) → map (λ p. point_of value (to p)) (map of kept) ≡ contour_of value kept
+same_points value to of same [] = refl
+same_points value to of same (p ∷ kept) = rw (same p, same_points value to of same kept) refl
+
 module _ {P I : Type 0} (Answer : List Point → Option (List Point) → Type 0) (width : Width) (value : I → ℤ) (to : P → IntPoint I) (of : IntPoint I → P) (same : (p : IntPoint I) → to (of p) ≡ p) where
   abbrev at : P → Point
   at p = point_of value (to p)
-
-  -- points that were copied out are the same points
-  same_points : (kept : List (IntPoint I)) → map at (map of kept) ≡ contour_of value kept
-  same_points [] = refl
-  same_points (p ∷ kept) = rw (same p, same_points kept) refl
 
   -- what is written where a contour is left
   pub left : (given part : List P) (copy kept : List (IntPoint I)) → copy ≡ map to given → part ≡ map of kept → 3 ≤ length kept
@@ -46,7 +46,7 @@ module _ {P I : Type 0} (Answer : List Point → Option (List Point) → Type 0)
       → IsCleaned Answer width (map at given) (map at part)
   left given part copy kept is out some answer keeps safe =
       let as_c : contour_of value copy ≡ map at given = copied width value to given copy is in
-      let written : map at part ≡ contour_of value kept = ap (map at) out ∙ same_points kept in
+      let written : map at part ≡ contour_of value kept = ap (map at) out ∙ same_points value to of same kept in
       let whole : slot (map at part) ≡ Some (contour_of value kept) = ap slot written ∙ slot_some (contour_of value kept) (omega (arith, some, length-map kept (point_of value))) in
       record {
         answer = rw (whole, ← as_c) answer;

@@ -2,3 +2,4 @@ pub mod Boundary
 pub mod Parts
 pub mod Batches
 pub mod Areas
+pub mod PolygonLists

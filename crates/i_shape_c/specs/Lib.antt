@@ -1,5 +1,6 @@
 pub mod Points
 pub mod Cleaned
 pub mod Batch
+pub mod Polygons
 pub mod Tests
 pub mod Areas

@@ -40,7 +40,7 @@ pub fn clean_contours<P: CPoint, C: Cleaner<P::Coordinate>>(
 }
 
 /// Whether the offsets part the points, and there is room for as many of both.
-fn can_clean(points: usize, offsets: &[usize], out_points: usize, out_offsets: usize) -> bool
+pub fn can_clean(points: usize, offsets: &[usize], out_points: usize, out_offsets: usize) -> bool
     ensures { IsTrue result ↔ CanClean points offsets.now out_points out_offsets }
 {
     if offsets.is_empty() || out_offsets < offsets.len() || out_points < points {
@@ -80,7 +80,7 @@ fn clean_all<P: CPoint, C: Cleaner<P::Coordinate>>(
 }
 
 /// The points from one place to another.
-fn part<P: CPoint>(points: &[P], from: usize, to: usize) -> &[P]
+pub fn part<P: CPoint>(points: &[P], from: usize, to: usize) -> &[P]
     requires order { from ≤ to }
     requires within { to ≤ length points.now }
     ensures part { result.now ≡ slice_range points.now from to }

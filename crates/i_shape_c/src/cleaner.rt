@@ -1,19 +1,23 @@
-//! The three cleaners of a contour.
+//! The three cleaners, of a contour and of a list of polygons.
 
 ghost use Rattle.std.specs.Prelude.{◌≤◌, List, length, Option, Some, IfOk, IfSome};
 ghost use Rattle.std.specs.List.{All};
 ghost use Rattle.std.proofs.Common.{subst};
 ghost use Rattle.i_shape.specs.Point.{Point};
 ghost use Rattle.i_shape.specs.IntPoint.{contour_of, answered, IsSafe};
-ghost use Rattle.i_shape.specs.Cleaners.{SimpleAnswer, SpikelessAnswer, KeptAnswer};
+ghost use Rattle.i_shape.specs.Cleaners.{SimpleAnswer, SpikelessAnswer, DespikeAnswer, KeptAnswer};
 ghost use Rattle.i_shape.specs.Canonical.{CanonicalAnswer};
+ghost use Rattle.i_shape.specs.CanonicalShapes.{ListForm};
+ghost use Rattle.i_shape.specs.ShapeAnswers.{ListClean};
+ghost use Rattle.i_shape.specs.ShapeLists.{shapes_of, IsSafeList};
 ghost use Rattle.i_shape_c.specs.Cleaned.{IsFewer};
 ghost use Rattle.i_shape_core.proofs.Ends.{reach_shrinks};
 ghost use Rattle.i_shape_core.proofs.Rotations.{rotation_length};
 
-use i_shape::int::despike::DeSpikeContour;
-use i_shape::int::shape::IntContour;
-use i_shape::int::simple::ContourSimplifier;
+use i_shape::int::canonical::CanonicalShapes;
+use i_shape::int::despike::{DeSpikeContour, DeSpikeShapes};
+use i_shape::int::shape::{IntContour, IntShapes};
+use i_shape::int::simple::{ContourSimplifier, SimpleShapes};
 use i_shape::{IntNumber, ShapeError};
 use std::alloc::Global;
 
@@ -33,6 +37,17 @@ pub trait Cleaner<I: IntNumber>: Drop {
 
     /// At least three points are left, and no more than there were.
     ghost fewer: { (c e : List Point) → gives c (Some e) → IsFewer c e };
+}
+
+/// Cleans a list of polygons.
+pub trait ShapesCleaner<I: IntNumber> {
+    /// Relates the polygons to what is left of them.
+    ghost gives: { List (List (List Point)) → List (List (List Point)) → Type 0 };
+
+    /// What is left of the polygons.
+    fn clean(alloc: Global, shapes: &IntShapes<I>) -> Result<IntShapes<I>, ShapeError>
+        requires { IsSafeList I.width (shapes_of I.value shapes.now.items) }
+        ensures { IfOk result (λ r. gives (shapes_of I.value shapes.now.items) (shapes_of I.value r.items)) };
 }
 
 /// Removes zero turns.
@@ -57,6 +72,14 @@ impl<I: IntNumber> Cleaner<I> for Simplifier {
     }
 }
 
+impl<I: IntNumber> ShapesCleaner<I> for Simplifier {
+    ghost gives = { ListClean SimpleAnswer };
+
+    fn clean(alloc: Global, shapes: &IntShapes<I>) -> Result<IntShapes<I>, ShapeError> {
+        shapes.as_slice().simplified(alloc)
+    }
+}
+
 /// Removes the points at which the way turns back or stands still.
 #[derive(Drop)]
 pub struct DeSpiker {
@@ -74,6 +97,14 @@ impl<I: IntNumber> Cleaner<I> for DeSpiker {
 
     fn clean(&mut self, contour: &IntContour<I>) -> Result<Option<IntContour<I>>, ShapeError> {
         contour.despiked_contour(self.alloc)
+    }
+}
+
+impl<I: IntNumber> ShapesCleaner<I> for DeSpiker {
+    ghost gives = { ListClean DespikeAnswer };
+
+    fn clean(alloc: Global, shapes: &IntShapes<I>) -> Result<IntShapes<I>, ShapeError> {
+        shapes.despiked_shapes(alloc)
     }
 }
 
@@ -96,5 +127,13 @@ impl<I: IntNumber> Cleaner<I> for Canonicalizer {
 
     fn clean(&mut self, contour: &IntContour<I>) -> Result<Option<IntContour<I>>, ShapeError> {
         self.simplifier.canonical(contour.as_slice())
+    }
+}
+
+impl<I: IntNumber> ShapesCleaner<I> for Canonicalizer {
+    ghost gives = { ListForm CanonicalAnswer };
+
+    fn clean(alloc: Global, shapes: &IntShapes<I>) -> Result<IntShapes<I>, ShapeError> {
+        shapes.as_slice().canonical(alloc)
     }
 }

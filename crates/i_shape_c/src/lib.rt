@@ -10,5 +10,6 @@ mod codes;
 mod contour;
 mod lists;
 mod point;
+mod polygons;
 mod tests;
 mod version;

@@ -2,8 +2,10 @@
 
 ghost use Rattle.std.specs.Prelude.{◌≡◌, ◌↔◌, ◌<◌, ◌≤◌, length, map, IsTrue};
 ghost use Rattle.std.specs.Int.{int_wrap, w32, w64};
-ghost use Rattle.i_shape.specs.Cleaners.{SimpleAnswer, SpikelessAnswer};
+ghost use Rattle.i_shape.specs.Cleaners.{SimpleAnswer, SpikelessAnswer, DespikeAnswer};
 ghost use Rattle.i_shape.specs.Canonical.{CanonicalAnswer};
+ghost use Rattle.i_shape.specs.CanonicalShapes.{ListForm};
+ghost use Rattle.i_shape.specs.ShapeAnswers.{ListClean};
 ghost use Rattle.i_shape.specs.Contour.{IsSimple};
 ghost use Rattle.i_shape.specs.Convex.{Convex, NoSpikes};
 ghost use Rattle.i_shape.specs.Edges.{Inside, shoelace};
@@ -11,6 +13,7 @@ ghost use Rattle.i_shape.specs.IntPoint.{IsSafe};
 ghost use Rattle.i_shape_c.specs.Points.{point_i32};
 ghost use Rattle.i_shape_c.specs.Cleaned.{AreSafe, CleanAnswer, unsafe_code, unfit_code};
 ghost use Rattle.i_shape_c.specs.Batch.{AreSafeContours, BatchAnswer, CanClean};
+ghost use Rattle.i_shape_c.specs.Polygons.{CanCleanShapes, ShapesAnswer};
 ghost use Rattle.i_shape_c.specs.Tests.{IsTold, TestAnswer};
 
 use crate::area::area_two;
@@ -18,6 +21,7 @@ use crate::batch::clean_contours;
 use crate::cleaner::{Canonicalizer, DeSpiker, Simplifier};
 use crate::contour::clean_contour;
 use crate::point::PointI32;
+use crate::polygons::clean_shapes;
 use crate::tests::{Bulging, Simple, Spikeless, contains, is_safe, test_contour};
 use std::alloc::Global;
 
@@ -112,6 +116,84 @@ pub extern "C" fn i_shape_canonical_contours_i32(
     ensures unsafe_points { result ≡ unsafe_code ↔ (CanClean (length points.now) offsets.now (length out_points.old) (length out_offsets.old) × (AreSafeContours w32 point_i32 points.now offsets.now → ⊥)) }
 {
     clean_contours::<PointI32, Canonicalizer>(alloc, points, offsets, out_points, out_offsets)
+}
+
+/// The polygons without zero turns, without the holes that collapse and the polygons whose outer contour does. Answers how many polygons are left.
+#[unsafe(no_mangle)]
+pub extern "C" fn i_shape_simplify_shapes_i32(
+    alloc: Global,
+    points: &[PointI32],
+    contours: &[usize],
+    shapes: &[usize],
+    out_points: &mut [PointI32],
+    out_contours: &mut [usize],
+    out_shapes: &mut [usize],
+) -> isize
+    ensures answer { ShapesAnswer (ListClean SimpleAnswer) point_i32 points.now contours.now shapes.now out_points.old out_points.new out_contours.old out_contours.new out_shapes.old out_shapes.new result }
+    ensures unfit { result ≡ unfit_code ↔ (CanCleanShapes (length points.now) contours.now shapes.now (length out_points.old) (length out_contours.old) (length out_shapes.old) → ⊥) }
+    ensures unsafe_points { result ≡ unsafe_code ↔ (CanCleanShapes (length points.now) contours.now shapes.now (length out_points.old) (length out_contours.old) (length out_shapes.old) × (AreSafeContours w32 point_i32 points.now contours.now → ⊥)) }
+{
+    clean_shapes::<PointI32, Simplifier>(
+        alloc,
+        points,
+        contours,
+        shapes,
+        out_points,
+        out_contours,
+        out_shapes,
+    )
+}
+
+/// The same without spikes. Answers how many polygons are left.
+#[unsafe(no_mangle)]
+pub extern "C" fn i_shape_despike_shapes_i32(
+    alloc: Global,
+    points: &[PointI32],
+    contours: &[usize],
+    shapes: &[usize],
+    out_points: &mut [PointI32],
+    out_contours: &mut [usize],
+    out_shapes: &mut [usize],
+) -> isize
+    ensures answer { ShapesAnswer (ListClean DespikeAnswer) point_i32 points.now contours.now shapes.now out_points.old out_points.new out_contours.old out_contours.new out_shapes.old out_shapes.new result }
+    ensures unfit { result ≡ unfit_code ↔ (CanCleanShapes (length points.now) contours.now shapes.now (length out_points.old) (length out_contours.old) (length out_shapes.old) → ⊥) }
+    ensures unsafe_points { result ≡ unsafe_code ↔ (CanCleanShapes (length points.now) contours.now shapes.now (length out_points.old) (length out_contours.old) (length out_shapes.old) × (AreSafeContours w32 point_i32 points.now contours.now → ⊥)) }
+{
+    clean_shapes::<PointI32, DeSpiker>(
+        alloc,
+        points,
+        contours,
+        shapes,
+        out_points,
+        out_contours,
+        out_shapes,
+    )
+}
+
+/// The canonical form of the polygons. Answers how many polygons are left.
+#[unsafe(no_mangle)]
+pub extern "C" fn i_shape_canonical_shapes_i32(
+    alloc: Global,
+    points: &[PointI32],
+    contours: &[usize],
+    shapes: &[usize],
+    out_points: &mut [PointI32],
+    out_contours: &mut [usize],
+    out_shapes: &mut [usize],
+) -> isize
+    ensures answer { ShapesAnswer (ListForm CanonicalAnswer) point_i32 points.now contours.now shapes.now out_points.old out_points.new out_contours.old out_contours.new out_shapes.old out_shapes.new result }
+    ensures unfit { result ≡ unfit_code ↔ (CanCleanShapes (length points.now) contours.now shapes.now (length out_points.old) (length out_contours.old) (length out_shapes.old) → ⊥) }
+    ensures unsafe_points { result ≡ unsafe_code ↔ (CanCleanShapes (length points.now) contours.now shapes.now (length out_points.old) (length out_contours.old) (length out_shapes.old) × (AreSafeContours w32 point_i32 points.now contours.now → ⊥)) }
+{
+    clean_shapes::<PointI32, Canonicalizer>(
+        alloc,
+        points,
+        contours,
+        shapes,
+        out_points,
+        out_contours,
+        out_shapes,
+    )
 }
 
 /// Whether there are at least three points, and none of them is a zero turn. Answers 1 or 0, or a code below 0.

@@ -1,0 +1,151 @@
+-- Polygons in three arrays, as lists.
+use Rattle.std.proofs.Common.{◌≡◌, ℕ, ℤ, zero, suc, ◌+◌, ◌-◌, ◌≤◌, ◌<◌, ◌++◌, List, [], ◌∷◌, map, length, take, drop, set, slice_range, refl, sym, ap, subst, ◌∙◌, arith}
+use Rattle.std.specs.Global.{Vec}
+use Rattle.std.specs.Int.{Width}
+use Rattle.std.specs.List.{All, range_with_len}
+use Rattle.std.proofs.lemmas.List.{length-map, map-append, take-map, drop-map}
+use Rattle.std.proofs.lemmas.List.Elements.{All-map, All-take, All-drop}
+use Rattle.std.proofs.lemmas.List.FromFn.{length-map-range_with_len, take-map-range_with_len, get_or-map-range_with_len, map-range_with_len_more}
+use Rattle.std.proofs.lemmas.Simd.{map-map}
+use Rattle.i_shape.specs.Point.{Point}
+use Rattle.i_shape.specs.IntPoint.{point_of, contour_of, IsSafe}
+use Rattle.i_shape.specs.Paths.{joined, shape_lists}
+use Rattle.i_shape.specs.Flat.{end_to_end}
+use Rattle.i_shape.specs.Buffers.{HoldsShapes}
+use Rattle.i_shape_int.specs.declared.flat.buffer.shapes.FlatShapesBuffer.{FlatShapesBuffer}
+use Rattle.i_shape_int.proofs.EndToEnd.{length-end_to_end}
+use Rattle.i_shape.specs.IntPoints.{IntPoint}
+use Rattle.i_shape.specs.ShapeLists.{shape_of, shapes_of, IsSafeList}
+use Rattle.i_shape_c.specs.Batch.{offset, ring, InOrder, AreSafeContours}
+use Rattle.i_shape_c.specs.Polygons.{parts, polygons, offsets_of, AreShapesLeft}
+use Rattle.i_shape_c.proofs.Boundary.{same_points}
+use Rattle.i_shape_c.proofs.Batches.{safe_part}
+use Rattle.i_shape_c.proofs.Parts.{from_start}
+
+-- a part of a list whose items are made into others
+pub part_of_map : {X Y : Type 0} (f : X → Y) (xs : List X) (a b : ℕ) → slice_range (map f xs) a b ≡ map f (slice_range xs a b)
+part_of_map f xs a b = ap (take (b - a)) (drop-map f a xs) ∙ take-map f (b - a) (drop a xs)
+
+-- numbers in order, without the first ones
+drop_range : {X : Type 0} (f : ℕ → X) (a n s : ℕ) → a ≤ n → drop a (map f (range_with_len s n)) ≡ map f (range_with_len (s + a) (n - a))
+drop_range f zero n s less =
+    let start : s + 0 ≡ s = omega arith in
+    let all : n - 0 ≡ n = omega arith in
+    rw (start, all) refl
+drop_range f (suc a) zero s less = absurd (omega (arith, less))
+drop_range f (suc a) (suc n) s less =
+    let start : s + 1 + a ≡ s + suc a = omega arith in
+    let count : suc n - suc a ≡ n - a = omega arith in
+    rw (count, ← start) (drop_range f a n (s + 1) (omega (arith, less)))
+
+-- a part of them
+part_of_range : {X : Type 0} (f : ℕ → X) (n a b : ℕ) → a ≤ b → b ≤ n → slice_range (map f (range_with_len 0 n)) a b ≡ map f (range_with_len a (b - a))
+part_of_range f n a b some within =
+    let start : 0 + a ≡ a = omega arith in
+    let behind = subst (λ s. drop a (map f (range_with_len 0 n)) ≡ map f (range_with_len s (n - a))) start (drop_range f a n 0 (omega (arith, some, within))) in
+    ap (take (b - a)) behind ∙ take-map-range_with_len f a (n - a) (b - a) (omega (arith, some, within))
+
+-- the contours of one polygon
+pub polygon_at : {P : Type 0} (points : List P) (contours shapes : List ℕ) (k : ℕ) → offset shapes k ≤ offset shapes (k + 1) → offset shapes (k + 1) ≤ length contours - 1
+    → ring (parts points contours) shapes k ≡ map (ring points contours) (range_with_len (offset shapes k) (offset shapes (k + 1) - offset shapes k))
+polygon_at points contours shapes k some within = part_of_range (ring points contours) (length contours - 1) (offset shapes k) (offset shapes (k + 1)) some within
+
+module _ {P I : Type 0} (value : I → ℤ) (to : P → IntPoint I) (points : List P) where
+  abbrev at : P → Point
+  at p = point_of value (to p)
+
+  -- a contour more
+  pub contour_more : (contours : List ℕ) (from place : ℕ) (seen now : List (Vec (IntPoint I))) (contour : Vec (IntPoint I)) → from ≤ place → contour.items ≡ map to (ring points contours place) → now ≡ seen ++ contour ∷ []
+      → shape_of value seen ≡ map (ring (map at points) contours) (range_with_len from (place - from))
+      → shape_of value now ≡ map (ring (map at points) contours) (range_with_len from (place + 1 - from))
+  contour_more contours from place seen now contour some is more before =
+      let f = ring (map at points) contours in
+      let count : place + 1 - from ≡ (place - from) + 1 = omega (arith, some) in
+      let here : contour_of value contour.items ≡ f place = ap (contour_of value) is ∙ map-map (point_of value) to (ring points contours place) ∙ sym (part_of_map at points (offset contours place) (offset contours (place + 1))) in
+      rw count (ap (shape_of value) more ∙ map-append (λ c. contour_of value c.items) seen (contour ∷ []) ∙ ap (λ w. w ++ contour_of value contour.items ∷ []) before
+      ∙ ap (λ w. map f (range_with_len from (place - from)) ++ w ∷ []) here ∙ sym (map-range_with_len_more f from (place - from) place (omega (arith, some))))
+
+  -- a polygon more
+  pub polygon_more : (contours shapes : List ℕ) (k : ℕ) (seen now : List (Vec (Vec (IntPoint I)))) (shape : Vec (Vec (IntPoint I))) → offset shapes k ≤ offset shapes (k + 1) → offset shapes (k + 1) ≤ length contours - 1
+      → shape_of value shape.items ≡ map (ring (map at points) contours) (range_with_len (offset shapes k) (offset shapes (k + 1) - offset shapes k)) → now ≡ seen ++ shape ∷ []
+      → shapes_of value seen ≡ map (ring (parts (map at points) contours) shapes) (range_with_len 0 k)
+      → shapes_of value now ≡ map (ring (parts (map at points) contours) shapes) (range_with_len 0 (k + 1))
+  polygon_more contours shapes k seen now shape some within is more before =
+      let f = ring (parts (map at points) contours) shapes in
+      let here : shape_of value shape.items ≡ f k = is ∙ sym (polygon_at (map at points) contours shapes k some within) in
+      ap (shapes_of value) more ∙ map-append (λ s. shape_of value s.items) seen (shape ∷ []) ∙ ap (λ w. w ++ shape_of value shape.items ∷ []) before
+      ∙ ap (λ w. map f (range_with_len 0 k) ++ w ∷ []) here ∙ sym (map-range_with_len_more f 0 k k (omega arith))
+
+-- the first place of a list is written
+pub first_set : (xs : List ℕ) → 0 < length xs → take 1 (set xs 0 0) ≡ 0 ∷ []
+first_set [] some = absurd (omega (arith, some))
+first_set (x ∷ xs) some = refl
+
+-- what holds of each number holds of all that is made of numbers
+all_from : {X : Type 0} (f : ℕ → X) (Q : X → Type 0) (n : ℕ) → ((k : ℕ) → k < n → Q (f k)) → All Q (map f (range_with_len 0 n))
+all_from f Q n each = λ k d less.
+    let count = length-map-range_with_len f 0 n in
+    let within : k < n = omega (arith, less, count) in
+    let here : 0 + k ≡ k = omega arith in
+    subst Q (sym (get_or-map-range_with_len f 0 n k k d within here)) (each k within)
+
+-- where all the points are safe, those of each polygon are
+pub safe_polygons : {P : Type 0} (width : Width) (point : P → Point) (points : List P) (contours shapes : List ℕ) → InOrder contours (length contours) → AreSafeContours width point points contours → IsSafeList width (polygons (map point points) contours shapes)
+safe_polygons width point points contours shapes order safe =
+    let rings = parts (map point points) contours in
+    let each = all_from (ring (map point points) contours) (All (IsSafe width)) (length contours - 1) (λ k less.
+    let part = safe_part width point points contours k (k + 1) order (omega arith) (omega (arith, less)) safe in
+    subst (All (IsSafe width)) (sym (part_of_map point points (offset contours k) (offset contours (k + 1)))) (All-map (IsSafe width) point (slice_range points (offset contours k) (offset contours (k + 1))) part)) in
+    all_from (ring rings shapes) (All (All (IsSafe width))) (length shapes - 1) (λ k less.
+    All-take (All (IsSafe width)) (offset shapes (k + 1) - offset shapes k) (drop (offset shapes k) rings) (All-drop (All (IsSafe width)) (offset shapes k) rings each))
+
+-- lists end to end whose items are made into others
+joined-map : {X Y : Type 0} (f : X → Y) (xs : List (List X)) → joined (map (map f) xs) ≡ map f (joined xs)
+joined-map f [] = refl
+joined-map f (x ∷ xs) = ap (λ w. map f x ++ w) (joined-map f xs) ∙ sym (map-append f x (joined xs))
+
+offsets-map : {X Y : Type 0} (f : X → Y) (start : ℕ) (xs : List (List X)) → offsets_of start (map (map f) xs) ≡ offsets_of start xs
+offsets-map f start [] = refl
+offsets-map f start (x ∷ xs) = rw (length-map x f) (ap (λ w. start ∷ w) (offsets-map f (start + length x) xs))
+
+-- the ends of ranges that lie end to end are the offsets
+offsets-ends : {X : Type 0} (start : ℕ) (xs : List (List X)) → start ∷ map (λ range. range.end) (end_to_end start xs) ≡ offsets_of start xs
+offsets-ends start [] = refl
+offsets-ends start (x ∷ xs) = ap (λ w. start ∷ w) (offsets-ends (start + length x) xs)
+
+-- the program's shapes by their lists of points
+pub as_lists : {I : Type 0} (value : I → ℤ) (shapes : List (Vec (Vec (IntPoint I)))) → shapes_of value shapes ≡ map (map (contour_of value)) (shape_lists shapes)
+as_lists value [] = refl
+as_lists value (shape ∷ shapes) = λ i. sym (map-map (contour_of value) (λ contour. contour.items) shape.items) i ∷ as_lists value shapes i
+
+-- what is written is what is left
+module _ {P I : Type 0} (Gives : List (List (List Point)) → List (List (List Point)) → Type 0) (value : I → ℤ) (to : P → IntPoint I) (of : IntPoint I → P) (same : (p : IntPoint I) → to (of p) ≡ p) where
+  pub shapes_written : (points : List P) (contours shapes : List ℕ) (old_points new_points : List P) (old_contours new_contours old_shapes new_shapes : List ℕ) (buffer : FlatShapesBuffer I) (list : List (List (List (IntPoint I))))
+      → HoldsShapes buffer list → Gives (polygons (map (λ p. point_of value (to p)) points) contours shapes) (map (map (contour_of value)) list)
+      → slice_range new_points 0 (0 + length buffer.points.items) ≡ map of buffer.points.items
+      → drop (0 + length buffer.points.items) new_points ≡ drop (0 + length buffer.points.items) old_points
+      → new_contours ≡ 0 ∷ (map (λ range. range.end) buffer.contour_ranges.items ++ drop (length buffer.contour_ranges.items + 1) old_contours)
+      → new_shapes ≡ 0 ∷ (map (λ range. range.end) buffer.shape_ranges.items ++ drop (length buffer.shape_ranges.items + 1) old_shapes)
+      → AreShapesLeft Gives (λ p. point_of value (to p)) points contours shapes old_points new_points old_contours new_contours old_shapes new_shapes (length buffer.shape_ranges.items)
+  shapes_written points contours shapes old_points new_points old_contours new_contours old_shapes new_shapes buffer list held left is_points rest is_contours is_shapes =
+      let made = map (map (contour_of value)) list in
+      let rings : joined made ≡ map (contour_of value) (joined list) = joined-map (contour_of value) list in
+      let whole : joined (joined made) ≡ contour_of value buffer.points.items = ap joined rings ∙ joined-map (point_of value) (joined list) ∙ ap (contour_of value) (sym held.points) in
+      let count : length (joined (joined made)) ≡ length buffer.points.items = ap length whole ∙ length-map buffer.points.items (point_of value) in
+      let zero_more : 0 + length buffer.points.items ≡ length buffer.points.items = omega arith in
+      let front : take (length buffer.points.items) new_points ≡ map of buffer.points.items = sym (from_start new_points (length buffer.points.items)) ∙ rw (← zero_more) is_points in
+      let ring_count : length buffer.contour_ranges.items ≡ length (joined made) = ap length held.contour_ranges ∙ length-end_to_end 0 (joined list) ∙ sym (ap length rings ∙ length-map (joined list) (contour_of value)) in
+      let shape_count : length buffer.shape_ranges.items ≡ length made = ap length held.shape_ranges ∙ length-end_to_end 0 list ∙ sym (length-map list (map (contour_of value))) in
+      let ring_offsets : 0 ∷ map (λ range. range.end) buffer.contour_ranges.items ≡ offsets_of 0 (joined made) =
+      ap (λ w. 0 ∷ map (λ range. range.end) w) held.contour_ranges ∙ offsets-ends 0 (joined list) ∙ sym (ap (offsets_of 0) rings ∙ offsets-map (point_of value) 0 (joined list)) in
+      let shape_offsets : 0 ∷ map (λ range. range.end) buffer.shape_ranges.items ≡ offsets_of 0 made =
+      ap (λ w. 0 ∷ map (λ range. range.end) w) held.shape_ranges ∙ offsets-ends 0 list ∙ sym (offsets-map (contour_of value) 0 list) in
+      record {
+        list = made;
+        left = left;
+        count = sym shape_count;
+        written = rw count (ap (map (λ p. point_of value (to p))) front ∙ same_points value to of same buffer.points.items ∙ sym whole);
+        rest = rw (count, ← zero_more) rest;
+        contours_are = is_contours ∙ ap (λ w. w ++ drop (length buffer.contour_ranges.items + 1) old_contours) ring_offsets ∙ ap (λ n. offsets_of 0 (joined made) ++ drop (n + 1) old_contours) ring_count;
+        shapes_are = is_shapes ∙ ap (λ w. w ++ drop (length buffer.shape_ranges.items + 1) old_shapes) shape_offsets ∙ ap (λ n. offsets_of 0 made ++ drop (n + 1) old_shapes) shape_count;
+      }

@@ -1,0 +1,27 @@
+use Rattle.std.proofs.Common.{◌≡◌, ◌<◌, ◌-◌, ◌^◌, length, refl, rules, arith}
+use Rattle.std.specs.Int.{w64}
+use Rattle.std.proofs.lemmas.Int.{to_z_pos}
+use Rattle.i_shape_c.proofs.Batches.{ordered}
+use Rattle.i_shape_c.proofs.PolygonLists.{shapes_written}
+use Rattle.i_shape_c.proofs.polygons.clean_shapes.Goals as goal
+
+pub part-requires-clause-order : goal.part-requires-clause-order
+part-requires-clause-order g c =
+    let can = (c.if-not-can_clean_shapes.ensures.0 refl).contours_fit in
+    ordered c.args.contours.now (length c.args.contours.now) 0 (length c.args.contours.now - 1) can.order (omega arith) (omega (arith, can.some))
+
+pub returns-in-Ok-clause-answer : goal.returns-in-Ok-clause-answer
+returns-in-Ok-clause-answer g c =
+    let left = c.in-Ok.left in
+    let wrote = c.if-write_shapes.ensures in
+    let count : c.len.result ≡ length left.shape_ranges.items = omega (arith, c.len.ensures, left.shape_ranges.ok.0) in
+    let small : c.len.result < 2 ^ 63 = omega (arith, count, wrote.0, c.requires) in
+    rw (to_z_pos w64 c.len.result small, count) (shapes_written g.S.ShapesCleaner.gives g.P.Coordinate.IntNumber.value g.P.CPoint.point g.P.CPoint.c_point g.P.CPoint.same c.args.points.now c.args.contours.now c.args.shapes.now
+    c.args.out_points.now c.write_shapes.new.out_points c.args.out_contours.now c.write_shapes.new.out_contours c.args.out_shapes.now c.write_shapes.new.out_shapes
+    left c.in-Ok.ensures.0 c.in-Ok.ensures.1 c.in-Ok.ensures.2 wrote.1 wrote.2 wrote.3 wrote.4)
+
+pub returns-in-Ok-clause-unsafe_points : goal.returns-in-Ok-clause-unsafe_points
+returns-in-Ok-clause-unsafe_points g c =
+    let left = c.in-Ok.left in
+    let small : c.len.result < 2 ^ 63 = omega (arith, c.len.ensures, left.shape_ranges.ok.0, c.if-write_shapes.ensures.0, c.requires) in
+    rw (to_z_pos w64 c.len.result small) (λ is. search rules, λ both. absurd (both.1 (rw c.part.ensures.part at c.if-not-are_safe.ensures.0 refl)))

@@ -1,0 +1,41 @@
+-- Polygons in three arrays: points, offsets that part these into contours, and offsets that part the contours into polygons.
+use Rattle.std.specs.Prelude.{◌≡◌, ℕ, ℤ, ◌+◌, ◌-◌, ◌<◌, ◌++◌, pos, negsuc, List, [], ◌∷◌, map, length, take, drop}
+use Rattle.std.specs.List.{range_with_len}
+use Rattle.i_shape.specs.Point.{Point}
+use Rattle.i_shape.specs.Paths.{joined}
+use Rattle.i_shape_c.specs.Batch.{ring, CanClean}
+
+-- the parts of a list between one offset and the next
+abbrev pub parts : {P : Type 0} → List P → List ℕ → List (List P)
+parts list offsets = map (ring list offsets) (range_with_len 0 (length offsets - 1))
+
+-- the contours of each polygon
+abbrev pub polygons : {P : Type 0} → List P → List ℕ → List ℕ → List (List (List P))
+polygons points contours shapes = parts (parts points contours) shapes
+
+-- where lists that lie end to end from a place on begin, and where the last one ends
+abbrev pub offsets_of : {P : Type 0} → ℕ → List (List P) → List ℕ
+offsets_of start [] = start ∷ []
+offsets_of start (part ∷ parts) = start ∷ offsets_of (start + length part) parts
+
+-- the offsets part so many points into contours, and these into polygons, and there is room for as many of each
+pub record CanCleanShapes (points : ℕ) (contours shapes : List ℕ) (out_points out_contours out_shapes : ℕ) : Type 0 where
+  pub contours_fit : CanClean points contours out_points out_contours
+  pub shapes_fit : CanClean (length contours - 1) shapes (length contours - 1) out_shapes
+
+-- the new arrays hold what is left of the polygons, which are n then, from the start on, and behind it what they held
+pub record AreShapesLeft {P : Type 0} (Gives : List (List (List Point)) → List (List (List Point)) → Type 0) (point : P → Point) (points : List P) (contours shapes : List ℕ) (old_points new_points : List P) (old_contours new_contours old_shapes new_shapes : List ℕ) (n : ℕ) : Type 0 where
+  pub list : List (List (List Point))
+  pub left : Gives (polygons (map point points) contours shapes) list
+  pub count : length list ≡ n
+  pub written : map point (take (length (joined (joined list))) new_points) ≡ joined (joined list)
+  pub rest : drop (length (joined (joined list))) new_points ≡ drop (length (joined (joined list))) old_points
+  pub contours_are : new_contours ≡ offsets_of 0 (joined list) ++ drop (length (joined list) + 1) old_contours
+  pub shapes_are : new_shapes ≡ offsets_of 0 list ++ drop (length list + 1) old_shapes
+
+-- the number of polygons that are left, or one of three codes, and nothing is written
+abbrev pub ShapesAnswer : {P : Type 0} → (List (List (List Point)) → List (List (List Point)) → Type 0) → (P → Point) → List P → List ℕ → List ℕ → List P → List P → List ℕ → List ℕ → List ℕ → List ℕ → ℤ → Type 0
+ShapesAnswer Gives point points contours shapes old_points new_points old_contours new_contours old_shapes new_shapes (pos n) =
+    AreShapesLeft Gives point points contours shapes old_points new_points old_contours new_contours old_shapes new_shapes n
+ShapesAnswer Gives point points contours shapes old_points new_points old_contours new_contours old_shapes new_shapes (negsuc n) =
+    (n < 3) × (new_points ≡ old_points) × (new_contours ≡ old_contours) × (new_shapes ≡ old_shapes)

@@ -1,0 +1,175 @@
+//! The cleaning of polygons, which lie in three arrays: points, offsets that part these into contours, and offsets that part the contours
+//! into polygons.
+
+ghost use Rattle.std.specs.Prelude.{◌≡◌, ◌↔◌, ◌+◌, ◌-◌, ◌^◌, ◌<◌, ◌≤◌, ◌∷◌, ◌++◌, List, length, map, drop, slice_range, IfOk, IsTrue, MatchBool};
+ghost use Rattle.std.specs.List.{range_with_len};
+ghost use Rattle.i_shape.specs.IntPoint.{point_of, contour_of};
+ghost use Rattle.i_shape.specs.IntPoints.{IntPoint};
+ghost use Rattle.i_shape.specs.ShapeLists.{shape_of, shapes_of};
+ghost use Rattle.i_shape.specs.Buffers.{HoldsShapes};
+ghost use Rattle.i_shape_c.specs.Cleaned.{unsafe_code, unfit_code};
+ghost use Rattle.i_shape_c.specs.Batch.{ring, CanClean, AreSafeContours};
+ghost use Rattle.i_shape_c.specs.Polygons.{polygons, CanCleanShapes, ShapesAnswer};
+
+use crate::batch::{can_clean, part};
+use crate::cleaner::ShapesCleaner;
+use crate::codes::{NO_MEMORY, UNFIT, UNSAFE};
+use crate::lists::{are_safe, copy_in, copy_out};
+use crate::point::CPoint;
+use i_shape::ShapeError;
+use i_shape::flat::buffer::FlatShapesBuffer;
+use i_shape::int::shape::{IntShape, IntShapes};
+use std::alloc::Global;
+use std::ops::Range;
+
+/// Writes what is left of the polygons to the front of the three arrays, and answers how many they are, or a code below 0.
+pub fn clean_shapes<P: CPoint, S: ShapesCleaner<P::Coordinate>>(
+    alloc: Global,
+    points: &[P],
+    contours: &[usize],
+    shapes: &[usize],
+    out_points: &mut [P],
+    out_contours: &mut [usize],
+    out_shapes: &mut [usize],
+) -> isize
+    requires { length out_shapes.old < 2 ^ 63 }
+    ensures answer { ShapesAnswer S.gives (λ p. point_of P.Coordinate.value (P.point p)) points.now contours.now shapes.now out_points.old out_points.new out_contours.old out_contours.new out_shapes.old out_shapes.new result }
+    ensures unfit { result ≡ unfit_code ↔ (CanCleanShapes (length points.now) contours.now shapes.now (length out_points.old) (length out_contours.old) (length out_shapes.old) → ⊥) }
+    ensures unsafe_points { result ≡ unsafe_code ↔ (CanCleanShapes (length points.now) contours.now shapes.now (length out_points.old) (length out_contours.old) (length out_shapes.old) × (AreSafeContours P.Coordinate.width (λ p. point_of P.Coordinate.value (P.point p)) points.now contours.now → ⊥)) }
+{
+    if !can_clean_shapes(
+        points.len(),
+        contours,
+        shapes,
+        out_points.len(),
+        out_contours.len(),
+        out_shapes.len(),
+    ) {
+        return UNFIT;
+    }
+    if !are_safe(part(points, contours[0], contours[contours.len() - 1])) {
+        return UNSAFE;
+    }
+    match shapes_left::<P, S>(alloc, points, contours, shapes) {
+        Ok(left) if write_shapes(&left, out_points, out_contours, out_shapes) => {
+            left.shape_ranges.len() as isize
+        }
+        _ => NO_MEMORY,
+    }
+}
+
+/// Whether the offsets part the points into contours, and these into polygons, and there is room for as many of each.
+fn can_clean_shapes(
+    points: usize,
+    contours: &[usize],
+    shapes: &[usize],
+    out_points: usize,
+    out_contours: usize,
+    out_shapes: usize,
+) -> bool
+    ensures { IsTrue result ↔ CanCleanShapes points contours.now shapes.now out_points out_contours out_shapes }
+{
+    can_clean(points, contours, out_points, out_contours)
+        && can_clean(contours.len() - 1, shapes, contours.len() - 1, out_shapes)
+}
+
+/// What is left of the polygons, end to end.
+fn shapes_left<P: CPoint, S: ShapesCleaner<P::Coordinate>>(
+    alloc: Global,
+    points: &[P],
+    contours: &[usize],
+    shapes: &[usize],
+) -> Result<FlatShapesBuffer<P::Coordinate>, ShapeError>
+    requires contours_part { CanClean (length points.now) contours.now (length points.now) (length contours.now) }
+    requires shapes_part { CanClean (length contours.now - 1) shapes.now (length contours.now - 1) (length shapes.now) }
+    requires points_safe { AreSafeContours P.Coordinate.width (λ p. point_of P.Coordinate.value (P.point p)) points.now contours.now }
+    ensures { IfOk result (λ buffer. (list : List (List (List (IntPoint P.Coordinate)))) × HoldsShapes buffer list × S.gives (polygons (map (λ p. point_of P.Coordinate.value (P.point p)) points.now) contours.now shapes.now) (map (map (contour_of P.Coordinate.value)) list)) }
+{
+    let list = polygons_of(alloc, points, contours, shapes)?;
+    let left = S::clean(alloc, &list)?;
+    let mut buffer = FlatShapesBuffer::new(alloc);
+    buffer.set_with_shapes(left.as_slice())?;
+    Ok(buffer)
+}
+
+/// The polygons, as lists of the library's points.
+fn polygons_of<P: CPoint>(
+    alloc: Global,
+    points: &[P],
+    contours: &[usize],
+    shapes: &[usize],
+) -> Result<IntShapes<P::Coordinate>, ShapeError>
+    requires contours_part { CanClean (length points.now) contours.now (length points.now) (length contours.now) }
+    requires shapes_part { CanClean (length contours.now - 1) shapes.now (length contours.now - 1) (length shapes.now) }
+    ensures { IfOk result (λ list. shapes_of P.Coordinate.value list.items ≡ polygons (map (λ p. point_of P.Coordinate.value (P.point p)) points.now) contours.now shapes.now) }
+{
+    let mut list = Vec::with_capacity(alloc, shapes.len() - 1)?;
+    for place in 1..shapes.len() {
+        let shape = contours_between(alloc, points, contours, shapes[place - 1], shapes[place])?;
+        list.push(shape)?;
+    }
+    Ok(list)
+}
+
+/// The contours from one number to another, as lists of the library's points.
+fn contours_between<P: CPoint>(
+    alloc: Global,
+    points: &[P],
+    contours: &[usize],
+    from: usize,
+    to: usize,
+) -> Result<IntShape<P::Coordinate>, ShapeError>
+    requires contours_part { CanClean (length points.now) contours.now (length points.now) (length contours.now) }
+    requires order { from ≤ to }
+    requires within { to < length contours.now }
+    ensures { IfOk result (λ shape. shape_of P.Coordinate.value shape.items ≡ map (ring (map (λ p. point_of P.Coordinate.value (P.point p)) points.now) contours.now) (range_with_len from (to - from))) }
+{
+    let mut shape = Vec::with_capacity(alloc, to - from)?;
+    for place in from..to {
+        let mut contour = Vec::new(alloc);
+        copy_in(
+            part(points, contours[place], contours[place + 1]),
+            &mut contour,
+        )?;
+        shape.push(contour)?;
+    }
+    Ok(shape)
+}
+
+/// Writes polygons to the front of the three arrays, and answers whether there is room. There always is, since cleaning leaves no more of
+/// anything than there was. That isn't proved.
+fn write_shapes<P: CPoint>(
+    shapes: &FlatShapesBuffer<P::Coordinate>,
+    out_points: &mut [P],
+    out_contours: &mut [usize],
+    out_shapes: &mut [usize],
+) -> bool
+    ensures { MatchBool result
+        ((length shapes.now.shape_ranges.items < length out_shapes.old)
+        × (slice_range out_points.new 0 (0 + length shapes.now.points.items) ≡ map P.c_point shapes.now.points.items)
+        × (drop (0 + length shapes.now.points.items) out_points.new ≡ drop (0 + length shapes.now.points.items) out_points.old)
+        × (out_contours.new ≡ 0 ∷ map (λ range. range.end) shapes.now.contour_ranges.items ++ drop (length shapes.now.contour_ranges.items + 1) out_contours.old)
+        × (out_shapes.new ≡ 0 ∷ map (λ range. range.end) shapes.now.shape_ranges.items ++ drop (length shapes.now.shape_ranges.items + 1) out_shapes.old))
+        ((out_points.new ≡ out_points.old) × (out_contours.new ≡ out_contours.old) × (out_shapes.new ≡ out_shapes.old)) }
+{
+    let has_room = shapes.points.len() <= out_points.len()
+        && shapes.contour_ranges.len() < out_contours.len()
+        && shapes.shape_ranges.len() < out_shapes.len();
+    if has_room {
+        copy_out(shapes.points.as_slice(), out_points, 0);
+        write_offsets(shapes.contour_ranges.as_slice(), out_contours);
+        write_offsets(shapes.shape_ranges.as_slice(), out_shapes);
+    }
+    has_room
+}
+
+/// Writes where lists that lie end to end begin, and where the last one ends, to the front of `out`.
+fn write_offsets(ranges: &[Range<usize>], out: &mut [usize])
+    requires { length ranges.now < length out.old }
+    ensures { out.new ≡ 0 ∷ map (λ range. range.end) ranges.now ++ drop (length ranges.now + 1) out.old }
+{
+    out[0] = 0;
+    for place in 0..ranges.len() {
+        out[place + 1] = ranges[place].end;
+    }
+}
