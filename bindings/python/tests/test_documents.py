@@ -1,4 +1,4 @@
-"""The examples of the docstrings, and the package itself."""
+"""The examples of the docstrings and of the page, and the package itself."""
 
 import doctest
 import inspect
@@ -11,6 +11,7 @@ import i_shape
 from i_shape import _contours, _polygons, _rings
 
 TOP = Path(__file__).resolve().parents[3]
+PAGE = TOP / "docs" / "PYTHON.md"
 
 
 class Documents(unittest.TestCase):
@@ -30,6 +31,20 @@ class Documents(unittest.TestCase):
                 for part in ("Parameters", "Returns", "Raises", "Examples"):
                     self.assertIn(f"\n{part}\n-----", text, name)
                 self.assertIn("return", item.__annotations__, name)
+
+    def test_the_examples_of_the_page(self):
+        # A fence would be read as a line of the output before it.
+        text = re.sub("^```.*$", "", PAGE.read_text(), flags=re.MULTILINE)
+        page = doctest.DocTestParser().get_doctest(
+            text, {}, PAGE.name, str(PAGE), 0)
+        faults, count = doctest.DocTestRunner().run(page)
+        self.assertEqual(faults, 0)
+        self.assertGreater(count, 8)
+
+    def test_the_page_names_each_call(self):
+        page = PAGE.read_text()
+        for name in i_shape.__all__:
+            self.assertIn(f"`{name}`", page)
 
     def test_the_version_is_that_of_the_header(self):
         header = (TOP / "include" / "i_shape.h").read_text()
