@@ -9,7 +9,7 @@ import numpy as np
 
 import i_shape
 import plain
-from i_shape._library import address
+from i_shape._library import address, as_offsets, as_points
 
 RING = [(0, 0), (2, 0), (4, 0), (4, 4), (4, 9), (4, 4), (0, 4)]
 SQUARE = [(0, 0), (4, 0), (4, 4), (0, 4)]
@@ -155,6 +155,26 @@ class Layouts(unittest.TestCase):
                         finally:
                             tracemalloc.stop()
                         self.assertLess(peak, most + 20000)
+
+    def test_what_is_handed_over_is_contiguous_and_aligned(self):
+        for dtype in plain.DTYPES:
+            points = plain.array(RING, dtype)
+            for name, other in layouts(points):
+                with self.subTest(dtype=dtype, layout=name):
+                    given = as_points(other)
+                    self.assertTrue(given.flags.c_contiguous
+                                    and given.flags.aligned)
+                    self.assertEqual(
+                        np.shares_memory(given, other),
+                        other.flags.c_contiguous and other.flags.aligned)
+        for offsets in (np.arange(5), np.arange(5, dtype=np.uint64)):
+            self.assertTrue(np.shares_memory(as_offsets(offsets), offsets))
+            for other in (unaligned(offsets), np.repeat(offsets, 2)[::2],
+                          offsets.astype(">i8"), offsets.astype(np.int32)):
+                given = as_offsets(other)
+                self.assertFalse(np.shares_memory(given, other))
+                self.assertTrue(given.flags.c_contiguous
+                                and given.flags.aligned)
 
 
 class OtherArrays(unittest.TestCase):

@@ -10,7 +10,7 @@ import numpy as np
 
 import i_shape
 import plain
-from i_shape import _library
+from i_shape import _library, _rings
 
 PAIRS = ((i_shape.simplify_rings, i_shape.simplify),
          (i_shape.despike_rings, i_shape.despike),
@@ -82,6 +82,19 @@ class Answers(unittest.TestCase):
                         self.assert_same(
                             many(points, offsets, threads=np.int8(threads)),
                             one)
+
+    def test_the_threads_share_the_work(self):
+        numbers = random.Random(10)
+        for _ in range(100):
+            counts = [numbers.choice([0, 0, 3, 10, 500]) for _ in range(300)]
+            offsets = np.concatenate([[7], 7 + np.cumsum(counts)])
+            for parts in range(2, 9):
+                cuts = _rings._cuts(offsets, parts)
+                self.assertEqual((cuts[0], cuts[-1], len(cuts)),
+                                 (0, 300, parts + 1))
+                work = np.diff(offsets[cuts]) + np.diff(cuts)
+                self.assertGreaterEqual(np.diff(cuts).min(), 0)
+                self.assertLess(work.max(), work.sum() / parts + 502)
 
     def test_offsets_that_start_later_and_end_sooner(self):
         for dtype in plain.DTYPES:
