@@ -1,6 +1,6 @@
 PREFIX ?= /usr/local
 
-.PHONY: test check fmt c install install-program install-c clean
+.PHONY: test check fmt c wheel install install-program install-c clean
 
 # The whole gate: proves everything from nothing, runs all tests, and checks that wrong bodies are refused and refused memory is told.
 test:
@@ -15,6 +15,10 @@ fmt:
 # The C library, in bindings/c/out.
 c:
 	@sh bindings/c/build.sh
+
+# The wheel of the Python package, in bindings/python/out, by Debian's Python or another PYTHON=..
+wheel: c
+	@sh bindings/python/build.sh
 
 install: install-program install-c
 
@@ -32,4 +36,4 @@ install-c: c
 	install -m 644 bindings/c/out/i_shape.pc $(DESTDIR)$(PREFIX)/lib/pkgconfig
 
 clean:
-	rm -rf crates/*/out bindings/c/out bindings/rust/target
+	rm -rf crates/*/out bindings/c/out bindings/python/out bindings/rust/target

@@ -1,26 +1,33 @@
 #!/bin/sh
 # The gate: the tests of wrong.py; proofs, tests and named wrong bodies by rt ci; the other wrong bodies; the refusals; the C library,
-# over the libraries that the refusals have built. Each part ends in a line '.. N passed, M failed', and the last line adds them up.
+# over the libraries that the refusals have built; the Python package, over the C library. Each part ends in a line '.. N passed, M failed', and
+# ', K skipped' behind it where tests are skipped; the last line adds them up.
 log=$(mktemp)
 trap 'rm -f "$log" "$log.bad"' EXIT
 passed=0
 failed=0
+skipped=0
 
 # Runs a part of the gate and adds up its last count. A part without a count, or that fails though it counts no failure, counts as
 # one failed.
 part() {
     rm -f "$log.bad"
     { "$@" 2>&1 || touch "$log.bad"; } | tee "$log"
-    counts=$(sed -nE 's/^([a-z. ]+: )?([0-9]+) passed, ([0-9]+) failed$/\2 \3/p' "$log" | tail -n 1)
+    counts=$(sed -nE 's/^([a-z. ]+: )?([0-9]+) passed, ([0-9]+) failed$/\2 \3 0/p
+        s/^([a-z. ]+: )?([0-9]+) passed, ([0-9]+) failed, ([0-9]+) skipped$/\2 \3 \4/p' "$log" | tail -n 1)
+    read -r its_passed its_failed its_skipped << COUNTS
+$counts
+COUNTS
     if [ -z "$counts" ]; then
         echo "no count was given by: $*"
-        counts='0 1'
-    elif [ "${counts#* }" -eq 0 ] && [ -e "$log.bad" ]; then
+        its_passed=0 its_failed=1 its_skipped=0
+    elif [ "$its_failed" -eq 0 ] && [ -e "$log.bad" ]; then
         echo "it counts no failure, but fails: $*"
-        counts="${counts% *} 1"
+        its_failed=1
     fi
-    passed=$((passed + ${counts% *}))
-    failed=$((failed + ${counts#* }))
+    passed=$((passed + its_passed))
+    failed=$((failed + its_failed))
+    skipped=$((skipped + its_skipped))
 }
 
 part python3 .ci/test_wrong.py
@@ -28,5 +35,10 @@ part rt ci
 part python3 .ci/wrong.py --gate
 part ./.ci/refusals.sh
 part ./.ci/c_library.sh
-echo "$passed passed, $failed failed"
+part ./.ci/python_package.sh
+if [ "$skipped" -eq 0 ]; then
+    echo "$passed passed, $failed failed"
+else
+    echo "$passed passed, $failed failed, $skipped skipped"
+fi
 [ "$failed" -eq 0 ]

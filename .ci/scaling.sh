@@ -1,0 +1,74 @@
+#!/usr/bin/env bash
+# Tests that a text that `parallel` or `split` has parted gets the very answer of one run, for each command of the program, and what becomes of a
+# fault in a part: docs/SCALING.md. It takes the program that ./i_shape_tool has built, or that of the word $I_SHAPE_TOOL. Where there is none, or no
+# parallel, the tests are skipped. The last line is 'scaling: N passed, M failed', and ', K skipped' behind it where K is above 0.
+set -u
+cd "$(dirname "$0")/.." || exit 1
+export LC_ALL=C
+program=${I_SHAPE_TOOL:-crates/i_shape_tool_main/out/i_shape_tool_main}
+commands=(simplify despike area canonical compact)
+passed=0
+failed=0
+
+if [ ! -x "$program" ] || ! parallel --version > /dev/null 2>&1; then
+    echo "parallel is not tested: there is no $program, or no parallel"
+    echo "scaling: 0 passed, 0 failed, $((${#commands[@]} + 4)) skipped"
+    exit 0
+fi
+work=$(mktemp -d) || exit 1
+trap 'rm -rf "$work"' EXIT
+
+# Counts a test that ended with status $1.
+count() {
+    if [ "$1" = 0 ]; then
+        passed=$((passed + 1))
+    else
+        failed=$((failed + 1))
+        echo "failed: $2"
+    fi
+}
+
+# The program on each part of standard input, as many words of parallel as are given first.
+parted() {
+    parallel --will-cite --pipe --keep-order --jobs 4 "${@:1:$#-1}" "$program" "${@: -1}"
+}
+
+# 20,000 lines of 0 to 11 points of a small square: many collapse, some are empty.
+awk 'BEGIN {
+    srand(1)
+    for (line = 0; line < 20000; line++) {
+        text = ""
+        for (count = int(rand() * 12); count > 0; count--)
+            text = text (text == "" ? "" : " ") int(rand() * 5) " " int(rand() * 5)
+        print text
+    }
+}' > "$work/text"
+printf '0 0 4 0 4 4' >> "$work/text"
+for command in "${commands[@]}"; do
+    "$program" "$command" < "$work/text" > "$work/one" &&
+        parted --block 7k "$command" < "$work/text" > "$work/parts" 2> "$work/told" &&
+        [ ! -s "$work/told" ] && cmp "$work/one" "$work/parts"
+    count $? "the parts of $command"
+done
+"$program" simplify < "$work/text" > "$work/one"
+parted -N 1000 simplify < "$work/text" | cmp "$work/one" -
+count $? 'parts of 1000 lines'
+split -n l/4 "$work/text" "$work/part." &&
+    parallel --will-cite "$program simplify < {} > {}.left" ::: "$work"/part.?? && cat "$work"/part.??.left | cmp "$work/one" -
+count $? 'parts in files'
+parted --block 100k --sshlogin 2/: simplify < "$work/text" | cmp "$work/one" -
+count $? 'parts for a host'
+
+# A fault: its part answers nothing and tells its line, and the other parts answer.
+{
+    sed -n '1,2499p' "$work/text"
+    echo '1 2 3'
+    sed -n '2501,4000p' "$work/text"
+} > "$work/faulty"
+parted -N 1000 --tagstring 'part {#}:' simplify < "$work/faulty" > "$work/parts" 2> "$work/told"
+status=$?
+[ "$status" = 1 ] && grep -q '^part 3:.*line 500: not a contour$' "$work/told" &&
+    { sed -n '1,2000p' "$work/one" && sed -n '3001,4000p' "$work/one"; } | cmp - <(sed 's/^part [0-9]*:\t//' "$work/parts")
+count $? 'a fault in a part'
+echo "scaling: $passed passed, $failed failed"
+[ "$failed" -eq 0 ]

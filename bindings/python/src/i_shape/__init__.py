@@ -1,0 +1,26 @@
+"""Contours of whole-number points, cleaned and measured.
+
+A contour is an array of shape (n, 2) and dtype int16, int32 or int64, read
+as a cycle. Rings are many contours end to end in one array of points, with
+an array of offsets; polygons are rings with offsets of their own. Each call
+of the library below is proved to answer what is said of it; this package
+around it is tested.
+"""
+
+from ._contours import (area_two, canonical, contains, despike,
+                        has_no_spikes, is_convex, is_safe, is_simple,
+                        simplify)
+from ._errors import OffsetsError, UnsafePointError
+from ._library import version
+from ._polygons import (Polygons, canonical_polygons, same_polygons,
+                        simplify_polygons)
+from ._rings import Rings, canonical_rings, despike_rings, simplify_rings
+
+__all__ = [
+    "OffsetsError", "Polygons", "Rings", "UnsafePointError", "area_two",
+    "canonical", "canonical_polygons", "canonical_rings", "contains",
+    "despike", "despike_rings", "has_no_spikes", "is_convex", "is_safe",
+    "is_simple", "same_polygons", "simplify", "simplify_polygons",
+    "simplify_rings",
+]
+__version__ = version()

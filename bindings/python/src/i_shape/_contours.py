@@ -1,0 +1,374 @@
+"""Calls on one contour."""
+
+from __future__ import annotations
+
+import ctypes
+import operator
+from typing import Optional, Sequence, TypeVar
+
+import numpy as np
+import numpy.typing as npt
+
+from ._errors import UnsafePointError
+from ._library import (CALLS, Halves, address, as_points,
+                       bound, raise_code)
+
+Int = TypeVar("Int", np.int16, np.int32, np.int64)
+
+
+def _clean(name: str, points: npt.NDArray[Int]) -> Optional[npt.NDArray[Int]]:
+    points = as_points(points)
+    count = len(points)
+    out = np.empty(points.shape, points.dtype)
+    left = CALLS[points.itemsize].one[name](address(points), count,
+                                            address(out), count)
+    if left < 0:
+        raise_code(left, points)
+    if left == 0:
+        return None
+    out.resize((left, 2), refcheck=False)  # it gives back what isn't used
+    return out
+
+
+def simplify(points: npt.NDArray[Int]) -> Optional[npt.NDArray[Int]]:
+    """Return the contour without its zero turns.
+
+    A zero turn is a point at which the way goes straight on, turns back or
+    stands still. They are removed until none is left. What is left doesn't
+    depend on the order of removal, but for the point that it starts with.
+
+    Parameters
+    ----------
+    points : array of shape (n, 2), int16, int32 or int64
+        The contour, read as a cycle: the last point isn't the first one
+        again. It is read where it lies if it is C-contiguous and aligned,
+        and copied otherwise. It is never written.
+
+    Returns
+    -------
+    array of shape (k, 2) and the same dtype, or None
+        Some of the points in their order, at least three; None where the
+        contour collapses. The double area is that of ``points``, and the
+        same points lie inside.
+
+    Raises
+    ------
+    UnsafePointError
+        A coordinate isn't strictly between ``-2**(W-2)`` and ``2**(W-2)``
+        for a dtype of ``W`` bits; ``point`` is its row.
+    TypeError
+        The dtype is another one: floats, unsigned numbers, booleans,
+        objects, or another byte order.
+    ValueError
+        The shape isn't (n, 2).
+    MemoryError
+        Memory was refused.
+
+    See also
+    --------
+    simplify_rings : many contours by one call.
+    canonical : the same from one certain point on.
+
+    Examples
+    --------
+    >>> import numpy as np
+    >>> from i_shape import simplify
+    >>> contour = np.array([(0, 0), (2, 0), (4, 0), (4, 4), (0, 4)], "int32")
+    >>> simplify(contour).tolist()
+    [[0, 0], [4, 0], [4, 4], [0, 4]]
+    >>> simplify(contour[:3]) is None
+    True
+    """
+    return _clean("simplify", points)
+
+
+def despike(points: npt.NDArray[Int]) -> Optional[npt.NDArray[Int]]:
+    """Return the contour without its back points.
+
+    A back point is one at which the way turns back or stands still. One at
+    which it goes straight on stays.
+
+    Parameters
+    ----------
+    points : array of shape (n, 2), int16, int32 or int64
+        The contour, as for :func:`simplify`.
+
+    Returns
+    -------
+    array of shape (k, 2) and the same dtype, or None
+        Some of the points in their order, at least three; None where the
+        contour collapses, exactly where :func:`simplify` says so. The
+        double area is that of ``points``, and the same points lie inside.
+
+    Raises
+    ------
+    UnsafePointError, TypeError, ValueError, MemoryError
+        As :func:`simplify` does.
+
+    Examples
+    --------
+    >>> import numpy as np
+    >>> from i_shape import despike
+    >>> spiked = np.array([(0, 0), (2, 0), (4, 0), (4, 4), (4, 9), (4, 4)])
+    >>> despike(spiked).tolist()
+    [[0, 0], [2, 0], [4, 0], [4, 4]]
+    """
+    return _clean("despike", points)
+
+
+def canonical(points: npt.NDArray[Int]) -> Optional[npt.NDArray[Int]]:
+    """Return the simplified contour from the start that makes it least.
+
+    Lists are compared point by point, and points by x and then by y. Two
+    contours have equal answers exactly where one becomes the other by
+    turning it to another start and by removing or adding zero turns.
+
+    Parameters
+    ----------
+    points : array of shape (n, 2), int16, int32 or int64
+        The contour, as for :func:`simplify`.
+
+    Returns
+    -------
+    array of shape (k, 2) and the same dtype, or None
+        At least three points; None where the contour collapses.
+
+    Raises
+    ------
+    UnsafePointError, TypeError, ValueError, MemoryError
+        As :func:`simplify` does.
+
+    Examples
+    --------
+    >>> import numpy as np
+    >>> from i_shape import canonical
+    >>> canonical(np.array([(4, 4), (0, 4), (0, 0), (2, 0), (4, 0)])).tolist()
+    [[0, 0], [4, 0], [4, 4], [0, 4]]
+    """
+    return _clean("canonical", points)
+
+
+def area_two(points: npt.NDArray[Int]) -> Optional[int]:
+    """Return twice the signed area of the contour.
+
+    Parameters
+    ----------
+    points : array of shape (n, 2), int16, int32 or int64
+        The contour, as for :func:`simplify`, but of any coordinates: no
+        safe range is asked.
+
+    Returns
+    -------
+    int or None
+        Twice the area in squares of the unit of the coordinates, above 0
+        where the contour turns left (y goes up); None where there is no
+        point. It is reduced to twice the bits of the dtype, 32, 64 or 128:
+        a sum that doesn't fit wraps, which takes a contour beyond the safe
+        range or one that winds round many times.
+
+    Raises
+    ------
+    TypeError, ValueError
+        As :func:`simplify` does.
+
+    Examples
+    --------
+    >>> import numpy as np
+    >>> from i_shape import area_two
+    >>> area_two(np.array([(0, 0), (4, 0), (4, 4), (0, 4)], "int16"))
+    32
+    """
+    points = as_points(points)
+    calls = CALLS[points.itemsize]
+    area = calls.area()
+    if not calls.area_two(address(points), len(points), ctypes.byref(area)):
+        return None
+    if isinstance(area, Halves):
+        wide: int = area.high << 64 | area.low
+        return wide - (1 << 128) if wide >> 127 else wide
+    return int(area.value)
+
+
+def _test(name: str, points: npt.NDArray[Int]) -> bool:
+    points = as_points(points)
+    test = CALLS[points.itemsize].test[name]
+    answer: int = test(address(points), len(points))
+    if answer < 0:
+        raise_code(answer, points)
+    return answer == 1
+
+
+def is_simple(points: npt.NDArray[Int]) -> bool:
+    """Return whether there are at least three points and no zero turn.
+
+    Exactly then :func:`simplify` has nothing to remove. Edges that cross
+    one another are not looked for.
+
+    Parameters
+    ----------
+    points : array of shape (n, 2), int16, int32 or int64
+        The contour, as for :func:`simplify`.
+
+    Returns
+    -------
+    bool
+
+    Raises
+    ------
+    UnsafePointError, TypeError, ValueError, MemoryError
+        As :func:`simplify` does.
+
+    Examples
+    --------
+    >>> import numpy as np
+    >>> from i_shape import is_simple
+    >>> is_simple(np.array([(0, 0), (4, 0), (4, 4)]))
+    True
+    >>> is_simple(np.array([(0, 0), (2, 0), (4, 0), (4, 4)]))
+    False
+    """
+    return _test("is_simple", points)
+
+
+def has_no_spikes(points: npt.NDArray[Int]) -> bool:
+    """Return whether the way nowhere turns back.
+
+    Points that repeat the one before them don't count; at least three
+    others have to be there.
+
+    Parameters
+    ----------
+    points : array of shape (n, 2), int16, int32 or int64
+        The contour, as for :func:`simplify`.
+
+    Returns
+    -------
+    bool
+
+    Raises
+    ------
+    UnsafePointError, TypeError, ValueError, MemoryError
+        As :func:`simplify` does.
+
+    Examples
+    --------
+    >>> import numpy as np
+    >>> from i_shape import has_no_spikes
+    >>> has_no_spikes(np.array([(0, 0), (2, 0), (4, 0), (4, 4)]))
+    True
+    >>> has_no_spikes(np.array([(0, 0), (4, 0), (4, 4), (4, 9), (4, 4)]))
+    False
+    """
+    return _test("has_no_spikes", points)
+
+
+def is_convex(points: npt.NDArray[Int]) -> bool:
+    """Return whether the way nowhere turns back nor bends to both sides.
+
+    Points that repeat the one before them don't count. Fewer than three
+    others are convex.
+
+    Parameters
+    ----------
+    points : array of shape (n, 2), int16, int32 or int64
+        The contour, as for :func:`simplify`.
+
+    Returns
+    -------
+    bool
+
+    Raises
+    ------
+    UnsafePointError, TypeError, ValueError, MemoryError
+        As :func:`simplify` does.
+
+    Examples
+    --------
+    >>> import numpy as np
+    >>> from i_shape import is_convex
+    >>> is_convex(np.array([(0, 0), (4, 0), (4, 4), (0, 4)]))
+    True
+    >>> is_convex(np.array([(0, 0), (4, 0), (4, 4), (3, 1)]))
+    False
+    """
+    return _test("is_convex", points)
+
+
+def is_safe(points: npt.NDArray[Int]) -> bool:
+    """Return whether each point is safe, as the other calls ask for.
+
+    Parameters
+    ----------
+    points : array of shape (n, 2), int16, int32 or int64
+        Points, as for :func:`simplify`.
+
+    Returns
+    -------
+    bool
+        Whether each coordinate lies strictly between ``-2**(W-2)`` and
+        ``2**(W-2)``, for a dtype of ``W`` bits. True where there is no
+        point.
+
+    Raises
+    ------
+    TypeError, ValueError
+        As :func:`simplify` does.
+
+    Examples
+    --------
+    >>> import numpy as np
+    >>> from i_shape import is_safe
+    >>> is_safe(np.array([(2**14 - 1, 0)], "int16"))
+    True
+    >>> is_safe(np.array([(2**14, 0)], "int16"))
+    False
+    """
+    return _test("is_safe", points)
+
+
+def contains(points: npt.NDArray[Int], point: Sequence[int]) -> bool:
+    """Return whether the point lies inside the contour.
+
+    It does where an odd number of edges pass its height to the right of
+    it. Of points on an edge some are inside and others aren't.
+
+    Parameters
+    ----------
+    points : array of shape (n, 2), int16, int32 or int64
+        The contour, as for :func:`simplify`.
+    point : pair of int
+        x and y, as safe as ``points``.
+
+    Returns
+    -------
+    bool
+
+    Raises
+    ------
+    UnsafePointError
+        ``point`` isn't safe for the dtype of ``points`` (then the
+        attribute ``point`` is None), or a point of the contour isn't.
+    TypeError
+        As :func:`simplify` does, and where x or y isn't a whole number.
+    ValueError, MemoryError
+        As :func:`simplify` does.
+
+    Examples
+    --------
+    >>> import numpy as np
+    >>> from i_shape import contains
+    >>> square = np.array([(0, 0), (4, 0), (4, 4), (0, 4)])
+    >>> contains(square, (1, 1)), contains(square, (5, 1))
+    (True, False)
+    """
+    points = as_points(points)
+    x, y = (operator.index(number) for number in point)
+    limit = bound(points.dtype)
+    if not (-limit < x < limit and -limit < y < limit):
+        raise UnsafePointError(
+            f"({x}, {y}) is not in the safe range of {points.dtype}")
+    answer: int = CALLS[points.itemsize].contains(address(points),
+                                                  len(points), x, y)
+    if answer < 0:
+        raise_code(answer, points)
+    return answer == 1

@@ -1,0 +1,37 @@
+"""What a call raises."""
+
+from __future__ import annotations
+
+from typing import Optional
+
+
+class UnsafePointError(ValueError):
+    """A point that a call reads is not safe.
+
+    A point is safe where both coordinates lie strictly between
+    ``-2**(W-2)`` and ``2**(W-2)``, where ``W`` is the number of bits of the
+    dtype: 16, 32 or 64. Nothing has been answered.
+
+    Attributes
+    ----------
+    ring : int or None
+        Index of the first ring that has an unsafe point; None where the
+        call takes one contour.
+    point : int or None
+        Row of the first unsafe point in ``points``; None where it is the
+        point that :func:`i_shape.contains` is asked about.
+    """
+
+    def __init__(self, message: str, ring: Optional[int] = None,
+                 point: Optional[int] = None) -> None:
+        super().__init__(message)
+        self.ring = ring
+        self.point = point
+
+
+class OffsetsError(ValueError):
+    """The offsets do not part the points, or the rings.
+
+    There is no offset, one is below 0 or below the one before it, or the
+    last one is above the number of points (of rings, for polygons).
+    """

@@ -1,0 +1,196 @@
+"""The calls of libi_shape.so, and the arrays that are handed to them.
+
+Nothing here trusts an array: each is tested for its dtype and shape, and is
+copied where the library could not read it as it lies.
+"""
+
+from __future__ import annotations
+
+import ctypes
+import operator
+import os
+from pathlib import Path
+from typing import Any, NamedTuple, NoReturn, Optional
+
+import numpy as np
+import numpy.typing as npt
+
+from ._errors import OffsetsError, UnsafePointError
+
+Array = npt.NDArray[Any]
+
+UNSAFE, UNFIT, NO_MEMORY = -1, -2, -3
+_VERSION = 0x0001  # the major and minor version of the library's header
+
+
+class Halves(ctypes.Structure):
+    """The two halves of a whole number of 128 bits."""
+
+    _fields_ = [("low", ctypes.c_uint64), ("high", ctypes.c_uint64)]
+
+
+def _load() -> ctypes.CDLL:
+    # CDLL, and not PyDLL: the interpreter's lock is off during a call.
+    folder = os.environ.get("I_SHAPE_C_DIR") or Path(__file__).parent
+    library = ctypes.CDLL(str(Path(folder, "libi_shape.so").resolve()))
+    library.i_shape_version.restype = ctypes.c_uint32
+    library.i_shape_version.argtypes = []
+    if library.i_shape_version() >> 8 != _VERSION:
+        raise ImportError(f"{library._name} has version "
+                          f"{library.i_shape_version():#08x}")
+    return library
+
+
+_library = _load()
+
+
+def version() -> str:
+    number = _library.i_shape_version()
+    return f"{number >> 16}.{number >> 8 & 255}.{number & 255}"
+
+
+class Calls(NamedTuple):
+    """The calls at one width."""
+
+    one: dict[str, Any]
+    many: dict[str, Any]
+    test: dict[str, Any]
+    contains: Any
+    area_two: Any
+    area: Any
+
+
+def _call(name: str, answer: Any, *takes: Any) -> Any:
+    call = getattr(_library, name)
+    call.restype = answer
+    call.argtypes = takes
+    return call
+
+
+def _calls(bits: int, number: Any, area: Any) -> Calls:
+    array = (ctypes.c_void_p, ctypes.c_size_t)
+    cleaners = ("simplify", "despike", "canonical")
+    tests = ("is_simple", "has_no_spikes", "is_convex", "is_safe")
+    return Calls(
+        one={name: _call(f"i_shape_{name}_i{bits}", ctypes.c_ssize_t,
+                         *array, *array) for name in cleaners},
+        many={name: _call(f"i_shape_{name}_contours_i{bits}",
+                          ctypes.c_ssize_t, *array, *array, *array, *array)
+              for name in cleaners},
+        test={name: _call(f"i_shape_{name}_i{bits}", ctypes.c_int32, *array)
+              for name in tests},
+        contains=_call(f"i_shape_contains_i{bits}", ctypes.c_int32, *array,
+                       number, number),
+        area_two=_call(f"i_shape_area_two_i{bits}", ctypes.c_bool, *array,
+                       ctypes.POINTER(area)),
+        area=area)
+
+
+# By the size of a coordinate in bytes.
+CALLS = {
+    2: _calls(16, ctypes.c_int16, ctypes.c_int32),
+    4: _calls(32, ctypes.c_int32, ctypes.c_int64),
+    8: _calls(64, ctypes.c_int64, Halves),
+}
+
+# No pointer of a call may be null or unaligned, even at a count of 0, and
+# that of an empty array may be either.
+_nothing = ctypes.create_string_buffer(64)
+_NOTHING = (ctypes.addressof(_nothing) + 15) & ~15
+
+
+def address(array: Array) -> int:
+    """Where the items lie. The array has to outlive the use of it."""
+    return array.ctypes.data if array.size else _NOTHING
+
+
+def _as_it_lies(array: Array) -> bool:
+    return array.flags.c_contiguous and array.flags.aligned
+
+
+def as_points(points: Any) -> Array:
+    """The points, without a copy where they lie as the library reads."""
+    if isinstance(points, np.ma.MaskedArray):
+        raise TypeError("points are a masked array: fill it first")
+    array: Array = np.asarray(points)
+    dtype = array.dtype
+    if dtype.kind != "i" or not dtype.isnative or dtype.itemsize not in CALLS:
+        raise TypeError(
+            f"points have dtype {dtype.str if dtype.kind in 'iu' else dtype}:"
+            " int16, int32 or int64 in native byte order is needed")
+    if array.ndim != 2 or array.shape[1] != 2:
+        raise ValueError(f"points have shape {array.shape}: (n, 2) is needed")
+    return array if _as_it_lies(array) else array.copy(order="C")
+
+
+def as_offsets(offsets: Any, name: str = "offsets") -> Array:
+    """The offsets as int64, without a copy where they are of 64 bits.
+
+    One of 2**63 or more gets below 0, and is out of order as that too.
+    """
+    if isinstance(offsets, np.ma.MaskedArray):
+        raise TypeError(f"{name} are a masked array: fill it first")
+    array: Array = np.asarray(offsets)
+    if array.dtype.kind not in "iu":
+        raise TypeError(f"{name} have dtype {array.dtype}: whole numbers"
+                        " are needed")
+    if array.ndim != 1:
+        raise ValueError(f"{name} have shape {array.shape}: (m + 1,) is"
+                         " needed")
+    if not array.size:
+        raise OffsetsError(f"{name} are empty: no ring has the offsets [0]")
+    if array.dtype.itemsize == 8 and array.dtype.isnative:
+        array = array.view(np.int64)
+        return array if _as_it_lies(array) else array.copy()
+    return array.astype(np.int64)
+
+
+def as_threads(threads: Any) -> int:
+    number: int = operator.index(threads)
+    if number < 1:
+        raise ValueError(f"threads is {number}: at least 1 is needed")
+    return number
+
+
+def bound(dtype: Any) -> int:
+    """What a safe coordinate is below, and above the negative of."""
+    size: int = dtype.itemsize
+    return 1 << (8 * size - 2)
+
+
+def first_unsafe(points: Array) -> Optional[int]:
+    limit = bound(points.dtype)
+    unsafe = ((points <= -limit) | (points >= limit)).any(axis=1)
+    return int(unsafe.argmax()) if unsafe.any() else None
+
+
+def raise_code(code: int, points: Array) -> NoReturn:
+    """Raises what a code of a call on one contour stands for."""
+    if code == NO_MEMORY:
+        raise MemoryError("libi_shape was refused memory")
+    assert code == UNSAFE, code
+    point = first_unsafe(points)
+    if point is None:
+        raise UnsafePointError("a point was not in the safe range, and was"
+                               " changed during the call")
+    raise UnsafePointError(
+        f"point {point} is not in the safe range of {points.dtype}",
+        point=point)
+
+
+def raise_offsets(offsets: Array, limit: int, name: str = "offsets",
+                  of: str = "points", before: int = 0) -> NoReturn:
+    """Raises the first fault of offsets that do not part their items.
+
+    The first of them stands at the place ``before``.
+    """
+    if offsets[0] < 0:
+        raise OffsetsError(f"{name}[{before}] is {offsets[0]}, below 0")
+    falls = offsets[1:] < offsets[:-1]
+    if falls.any():
+        place = int(falls.argmax()) + 1
+        raise OffsetsError(
+            f"{name}[{before + place}] is {offsets[place]}, below"
+            f" {offsets[place - 1]}, the one before it")
+    raise OffsetsError(f"{name}[{before + len(offsets) - 1}] is"
+                       f" {offsets[-1]}, above the number of {of}, {limit}")

@@ -1,0 +1,239 @@
+"""Calls on many rings."""
+
+from __future__ import annotations
+
+import ctypes
+from concurrent.futures import ThreadPoolExecutor
+from typing import Any, NamedTuple, TypeVar
+
+import numpy as np
+import numpy.typing as npt
+
+from ._errors import UnsafePointError
+from ._library import (CALLS, NO_MEMORY, UNFIT, UNSAFE, Array, address,
+                       as_offsets, as_points, as_threads, first_unsafe,
+                       raise_code, raise_offsets)
+
+Int = TypeVar("Int", np.int16, np.int32, np.int64)
+
+
+class Rings(NamedTuple):
+    """Rings end to end: ring k is ``points[offsets[k]:offsets[k + 1]]``."""
+
+    points: npt.NDArray[Any]
+    offsets: npt.NDArray[np.int64]
+
+
+def _clean_part(call: Any, points: Array, offsets: Array,
+                out: Array) -> tuple[int, Array]:
+    """Clean the rings of some offsets into ``out``, which has their room.
+
+    It answers how many points are written, or a code, and their offsets.
+    """
+    start, end = int(offsets[0]), int(offsets[-1])
+    points = points[start:end]
+    if start:
+        # One below the first offset gets below 0: it stays out of order.
+        offsets = offsets - start
+    ends = np.empty(offsets.shape, np.int64)
+    left = call(address(points), len(points), address(offsets), len(offsets),
+                address(out), len(out), address(ends), len(ends))
+    return left, ends
+
+
+def _cuts(offsets: Array, parts: int) -> list[int]:
+    """The rings at which to part the work: equal sums of points and rings."""
+    work = offsets + np.arange(len(offsets))
+    whole = int(work[-1]) - int(work[0])
+    goals = [int(work[0]) + whole * part // parts for part in range(1, parts)]
+    inner = np.searchsorted(work, goals)
+    return [0, *inner.tolist(), len(offsets) - 1]
+
+
+def _raise_codes(codes: list[int], points: Array, offsets: Array,
+                 name: str, before: int) -> None:
+    """Raise what one call on all the rings would have."""
+    if UNFIT in codes:
+        raise_offsets(offsets, len(points), name, before=before)
+    if UNSAFE in codes:
+        start, end = int(offsets[0]), int(offsets[-1])
+        place = first_unsafe(points[start:end])
+        if place is None:
+            raise UnsafePointError("a point was not in the safe range, and"
+                                   " was changed during the call")
+        point = start + place
+        ring = int(np.searchsorted(offsets, point, side="right")) - 1 + before
+        raise UnsafePointError(
+            f"ring {ring}: point {point} is not in the safe range of"
+            f" {points.dtype}", ring=ring, point=point)
+    if NO_MEMORY in codes:
+        raise_code(NO_MEMORY, points)
+
+
+def clean_rings(cleaner: str, points: Any, offsets: Any, threads: Any,
+                name: str = "offsets", before: int = 0) -> Rings:
+    """Clean each ring.
+
+    An error calls the offsets by ``name``, and counts them and the rings
+    from ``before`` on.
+    """
+    points = as_points(points)
+    offsets = as_offsets(offsets, name)
+    parts = min(as_threads(threads), max(len(offsets) - 1, 1))
+    start, end = int(offsets[0]), int(offsets[-1])
+    if (not 0 <= start <= end <= len(points)
+            or parts > 1 and (offsets[1:] < offsets[:-1]).any()):
+        raise_offsets(offsets, len(points), name, before=before)
+    call = CALLS[points.itemsize].many[cleaner]
+    out = np.empty((end - start, 2), points.dtype)
+    if parts == 1:
+        total, ends = _clean_part(call, points, offsets, out)
+        _raise_codes([total], points, offsets, name, before)
+    else:
+        cuts = _cuts(offsets, parts)
+        starts = (offsets[cuts] - start).tolist()
+
+        def clean_part(part: int) -> tuple[int, Array]:
+            return _clean_part(call, points,
+                               offsets[cuts[part]:cuts[part + 1] + 1],
+                               out[starts[part]:starts[part + 1]])
+
+        with ThreadPoolExecutor(parts) as pool:
+            answers = list(pool.map(clean_part, range(parts)))
+        _raise_codes([left for left, _ in answers], points, offsets, name,
+                     before)
+        # What the parts have left is moved together, from the front on.
+        ends = np.empty(offsets.shape, np.int64)
+        ends[0] = total = 0
+        for part, (left, its_ends) in enumerate(answers):
+            at = starts[part]
+            if left and at != total:
+                ctypes.memmove(address(out[total:]), address(out[at:]),
+                               left * 2 * out.itemsize)
+            ends[cuts[part] + 1:cuts[part + 1] + 1] = its_ends[1:] + total
+            total += left
+    out.resize((total, 2), refcheck=False)  # it gives back what isn't used
+    return Rings(out, ends)
+
+
+def simplify_rings(points: npt.NDArray[Int], offsets: npt.ArrayLike,
+                   threads: int = 1) -> Rings:
+    """Return each ring without its zero turns.
+
+    Parameters
+    ----------
+    points : array of shape (n, 2), int16, int32 or int64
+        The points of all rings, end to end. They are read where they lie
+        if they are C-contiguous and aligned, and copied otherwise. They
+        are never written.
+    offsets : array of shape (m + 1,), of whole numbers
+        Ring k is ``points[offsets[k]:offsets[k + 1]]``, read as a cycle:
+        the last point isn't the first one again. The first offset need not
+        be 0, and points outside the offsets aren't read. Offsets of 64
+        bits are read where they lie, others are copied.
+    threads : int
+        How many threads clean a part of the rings each. The answer is the
+        same.
+
+    Returns
+    -------
+    Rings
+        The named tuple ``(points, offsets)``: for each ring what
+        :func:`simplify` answers, in order, in the dtype of ``points``. A
+        ring that collapses is empty and keeps its place. Offsets are int64
+        and start at 0.
+
+    Raises
+    ------
+    OffsetsError
+        There is no offset, one is below 0 or below the one before it, or
+        the last one is above n. This is tested first.
+    UnsafePointError
+        A coordinate of a ring isn't strictly between ``-2**(W-2)`` and
+        ``2**(W-2)`` for a dtype of ``W`` bits; ``ring`` is the first such
+        ring and ``point`` the row of its first such point.
+    TypeError
+        ``points`` have another dtype (floats, unsigned numbers, booleans,
+        objects, another byte order), or ``offsets`` aren't whole numbers.
+    ValueError
+        A shape is another one, or ``threads`` is below 1.
+    MemoryError
+        Memory was refused.
+
+    Examples
+    --------
+    >>> import numpy as np
+    >>> from i_shape import simplify_rings
+    >>> points = np.array([(0, 0), (2, 0), (4, 0), (4, 4), (0, 4),
+    ...                    (1, 1), (2, 2), (3, 3)], "int32")
+    >>> left = simplify_rings(points, [0, 5, 8])
+    >>> left.points.tolist()
+    [[0, 0], [4, 0], [4, 4], [0, 4]]
+    >>> left.offsets.tolist()
+    [0, 4, 4]
+    """
+    return clean_rings("simplify", points, offsets, threads)
+
+
+def despike_rings(points: npt.NDArray[Int], offsets: npt.ArrayLike,
+                  threads: int = 1) -> Rings:
+    """Return each ring without its back points, as :func:`despike` does.
+
+    Parameters
+    ----------
+    points : array of shape (n, 2), int16, int32 or int64
+    offsets : array of shape (m + 1,), of whole numbers
+    threads : int
+        As for :func:`simplify_rings`.
+
+    Returns
+    -------
+    Rings
+        The named tuple ``(points, offsets)``, as :func:`simplify_rings`.
+
+    Raises
+    ------
+    OffsetsError, UnsafePointError, TypeError, ValueError, MemoryError
+        As :func:`simplify_rings` does.
+
+    Examples
+    --------
+    >>> import numpy as np
+    >>> from i_shape import despike_rings
+    >>> points = np.array([(0, 0), (2, 0), (4, 0), (4, 4), (4, 9), (4, 4)])
+    >>> despike_rings(points, [0, 6]).offsets.tolist()
+    [0, 4]
+    """
+    return clean_rings("despike", points, offsets, threads)
+
+
+def canonical_rings(points: npt.NDArray[Int], offsets: npt.ArrayLike,
+                    threads: int = 1) -> Rings:
+    """Return the canonical form of each ring, as :func:`canonical` does.
+
+    Parameters
+    ----------
+    points : array of shape (n, 2), int16, int32 or int64
+    offsets : array of shape (m + 1,), of whole numbers
+    threads : int
+        As for :func:`simplify_rings`.
+
+    Returns
+    -------
+    Rings
+        The named tuple ``(points, offsets)``, as :func:`simplify_rings`.
+
+    Raises
+    ------
+    OffsetsError, UnsafePointError, TypeError, ValueError, MemoryError
+        As :func:`simplify_rings` does.
+
+    Examples
+    --------
+    >>> import numpy as np
+    >>> from i_shape import canonical_rings
+    >>> points = np.array([(4, 4), (0, 4), (0, 0), (2, 0), (4, 0)])
+    >>> canonical_rings(points, [0, 5]).points.tolist()
+    [[0, 0], [4, 0], [4, 4], [0, 4]]
+    """
+    return clean_rings("canonical", points, offsets, threads)

@@ -1,0 +1,147 @@
+"""What the calls should answer, by plain loops over tuples, and random
+rings to ask about."""
+
+import numpy as np
+
+DTYPES = (np.int16, np.int32, np.int64)
+
+
+def bound(dtype):
+    """What a safe coordinate is below, and above the negative of."""
+    return 2 ** (8 * np.dtype(dtype).itemsize - 2)
+
+
+def cross(a, b, c):
+    return ((b[0] - a[0]) * (c[1] - b[1])) - ((b[1] - a[1]) * (c[0] - b[0]))
+
+
+def dot(a, b, c):
+    return ((b[0] - a[0]) * (c[0] - b[0])) + ((b[1] - a[1]) * (c[1] - b[1]))
+
+
+def turns(ring):
+    """Each point between its neighbours."""
+    return [(ring[k - 1], ring[k], ring[(k + 1) % len(ring)])
+            for k in range(len(ring))]
+
+
+def is_zero_turn(a, b, c):
+    return cross(a, b, c) == 0
+
+
+def is_back(a, b, c):
+    return cross(a, b, c) == 0 and dot(a, b, c) <= 0
+
+
+def removed(ring, is_removable, random):
+    """An end of removing points in random order, None where it collapses."""
+    ring = list(ring)
+    while len(ring) >= 3:
+        places = [k for k, turn in enumerate(turns(ring))
+                  if is_removable(*turn)]
+        if not places:
+            return ring
+        del ring[random.choice(places)]
+    return None
+
+
+def rotations(ring):
+    return [ring[k:] + ring[:k] for k in range(len(ring))]
+
+
+def is_in_order(part, ring):
+    """Whether some points of the ring, in their order, are the part."""
+    points = iter(ring)
+    return all(point in points for point in part)
+
+
+def canonical(ring, random):
+    left = removed(ring, is_zero_turn, random)
+    return left and min(rotations(left))
+
+
+def area_two(ring):
+    return sum(a[0] * b[1] - a[1] * b[0]
+               for a, b in zip(ring, ring[1:] + ring[:1]))
+
+
+def wrapped_area(ring, dtype):
+    """The double area, reduced to twice the bits of the dtype."""
+    half = 2 ** (16 * np.dtype(dtype).itemsize - 1)
+    return (area_two(ring) + half) % (2 * half) - half
+
+
+def dedup(ring):
+    return [b for a, b, c in turns(ring) if a != b]
+
+
+def is_simple(ring):
+    return len(ring) >= 3 and not any(is_zero_turn(*t) for t in turns(ring))
+
+
+def has_no_spikes(ring):
+    ring = dedup(ring)
+    return len(ring) >= 3 and not any(
+        cross(*turn) == 0 and dot(*turn) < 0 for turn in turns(ring))
+
+
+def is_convex(ring):
+    ring = dedup(ring)
+    crosses = [cross(*turn) for turn in turns(ring)]
+    return len(ring) <= 2 or has_no_spikes(ring) and not (
+        min(crosses) < 0 < max(crosses))
+
+
+def contains(ring, point):
+    x, y = point
+    inside = False
+    for a, b in zip(ring, ring[1:] + ring[:1]):
+        if (a[1] > y) != (b[1] > y):
+            # The edge passes the height of y to the right of x.
+            side = (b[0] - a[0]) * (y - a[1]) - (x - a[0]) * (b[1] - a[1])
+            inside ^= side > 0 if b[1] > a[1] else side < 0
+    return inside
+
+
+def random_ring(random, dtype, most=12):
+    """A ring of a kind that has zero turns, spikes or great coordinates."""
+    count = random.randrange(most + 1)
+    limit = bound(dtype) - 1
+    span = random.choice([1, 2, 4, limit])
+    far = random.choice([(0, 0), (limit - span, span - limit)])
+    if span == limit:
+        number = [-limit, -limit // 2, 0, limit // 2, limit]
+        ring = [(random.choice(number), random.choice(number))
+                for _ in range(count)]
+    else:
+        ring = [(far[0] + random.randint(-span, span),
+                 far[1] + random.randint(-span, span)) for _ in range(count)]
+    if ring and random.random() < 0.3:
+        # A way there and back.
+        place = random.randrange(len(ring))
+        way = ring[place:place + 4]
+        ring[place:place + 4] = way + way[::-1]
+    return ring
+
+
+def array(ring, dtype):
+    return np.array(ring, dtype).reshape(-1, 2)
+
+
+def tuples(points):
+    """The points of an array as a list of tuples, and None as it is."""
+    return points if points is None else [tuple(p) for p in points.tolist()]
+
+
+def flat(rings, dtype):
+    """The points of rings end to end, and their offsets."""
+    offsets = np.zeros(len(rings) + 1, np.int64)
+    np.cumsum([len(ring) for ring in rings], out=offsets[1:])
+    points = [point for ring in rings for point in ring]
+    return array(points, dtype), offsets
+
+
+def parted(points, offsets):
+    """The rings of flat arrays, as lists of tuples."""
+    points = tuples(points)
+    return [points[start:end] for start, end in zip(offsets, offsets[1:])]

@@ -1,0 +1,63 @@
+"""The examples of the docstrings and of the page, and the package itself."""
+
+import doctest
+import inspect
+import re
+import unittest
+from importlib import metadata
+from pathlib import Path
+
+import i_shape
+from i_shape import _contours, _polygons, _rings
+
+TOP = Path(__file__).resolve().parents[3]
+PAGE = TOP / "docs" / "PYTHON.md"
+
+
+class Documents(unittest.TestCase):
+
+    def test_the_examples_of_the_docstrings(self):
+        for module in (_contours, _rings, _polygons):
+            faults, count = doctest.testmod(module)
+            self.assertEqual(faults, 0)
+            self.assertGreater(count, 10)
+
+    def test_each_call_has_an_example_and_its_parts(self):
+        for name in i_shape.__all__:
+            item = getattr(i_shape, name)
+            text = inspect.getdoc(item)
+            self.assertTrue(text, name)
+            if inspect.isfunction(item):
+                for part in ("Parameters", "Returns", "Raises", "Examples"):
+                    self.assertIn(f"\n{part}\n-----", text, name)
+                self.assertIn("return", item.__annotations__, name)
+
+    def test_the_examples_of_the_page(self):
+        # A fence would be read as a line of the output before it.
+        text = re.sub("^```.*$", "", PAGE.read_text(), flags=re.MULTILINE)
+        page = doctest.DocTestParser().get_doctest(
+            text, {}, PAGE.name, str(PAGE), 0)
+        faults, count = doctest.DocTestRunner().run(page)
+        self.assertEqual(faults, 0)
+        self.assertGreater(count, 8)
+
+    def test_the_page_names_each_call(self):
+        page = PAGE.read_text()
+        for name in i_shape.__all__:
+            self.assertIn(f"`{name}`", page)
+
+    def test_the_version_is_that_of_the_header(self):
+        header = (TOP / "include" / "i_shape.h").read_text()
+        number = int(re.search(r"I_SHAPE_VERSION (0x\w+)", header)[1], 16)
+        version = f"{number >> 16}.{number >> 8 & 255}.{number & 255}"
+        self.assertEqual(i_shape.__version__, version)
+        self.assertEqual(metadata.version("i_shape"), version)
+
+    def test_the_package_is_typed(self):
+        folder = Path(i_shape.__file__).parent
+        self.assertTrue((folder / "py.typed").is_file())
+        self.assertTrue((folder / "libi_shape.so").is_file())
+
+
+if __name__ == "__main__":
+    unittest.main()
