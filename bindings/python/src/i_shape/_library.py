@@ -54,6 +54,7 @@ class Calls(NamedTuple):
 
     one: dict[str, Any]
     many: dict[str, Any]
+    polygons: dict[str, Any]
     test: dict[str, Any]
     contains: Any
     area_two: Any
@@ -77,6 +78,9 @@ def _calls(bits: int, number: Any, area: Any) -> Calls:
         many={name: _call(f"i_shape_{name}_contours_i{bits}",
                           ctypes.c_ssize_t, *array, *array, *array, *array)
               for name in cleaners},
+        polygons={name: _call(f"i_shape_{name}_shapes_i{bits}",
+                              ctypes.c_ssize_t, *array * 6)
+                  for name in cleaners},
         test={name: _call(f"i_shape_{name}_i{bits}", ctypes.c_int32, *array)
               for name in tests},
         contains=_call(f"i_shape_contains_i{bits}", ctypes.c_int32, *array,

@@ -1,7 +1,9 @@
 """Polygons: rings with offsets of their own.
 
-The rings are cleaned by the library, in one call. What is done with them
-here, the rule of polygons and their forms, is tested and not proved.
+On one thread they are cleaned whole by one call of the library. On more
+threads the library cleans the rings, and what is done with them here, the
+rule of polygons and their forms, is tested and not proved. So are forms
+whichever way round.
 """
 
 from __future__ import annotations
@@ -11,8 +13,9 @@ from typing import Any, NamedTuple, Tuple, TypeVar
 import numpy as np
 import numpy.typing as npt
 
-from ._library import Array, as_offsets, as_points, raise_offsets
-from ._rings import Rings, clean_rings
+from ._library import (CALLS, Array, address, as_offsets, as_points,
+                       as_threads, raise_offsets)
+from ._rings import Rings, clean_rings, raise_codes
 
 Int = TypeVar("Int", np.int16, np.int32, np.int64)
 
@@ -57,22 +60,55 @@ def _reversed(rings: Rings) -> Rings:
     return Rings(rings.points[rows], rings.offsets)
 
 
-def _clean_polygons(cleaner: str, points: Any, ring_offsets: Any,
-                    polygon_offsets: Any, threads: Any) -> Polygons:
+class _Given(NamedTuple):
+    """The arrays of a call: the polygons' rings, the first of them ring
+    ``before`` of those that were given, and the polygons' offsets, from 0 on.
+    """
+
+    points: Array
+    rings: Array
+    parts: Array
+    before: int
+
+
+def _given(points: Any, ring_offsets: Any, polygon_offsets: Any) -> _Given:
+    points = as_points(points)
+    rings = as_offsets(ring_offsets, "ring_offsets")
+    parts = as_offsets(polygon_offsets, "polygon_offsets")
+    start, end = int(parts[0]), int(parts[-1])
+    count = len(rings) - 1
+    if start < 0 or end > count or (parts[1:] < parts[:-1]).any():
+        raise_offsets(parts, count, "polygon_offsets", "rings")
+    return _Given(points, rings[start:end + 1], parts - start, start)
+
+
+def _clean_by_call(cleaner: str, given: _Given) -> Polygons:
+    """Clean the polygons by one call of the library."""
+    first, last = int(given.rings[0]), int(given.rings[-1])
+    if not 0 <= first <= last <= len(given.points):
+        raise_offsets(given.rings, len(given.points), "ring_offsets",
+                      before=given.before)
+    points, rings = given.points[first:last], given.rings - first
+    out, ends, parts = (np.empty_like(points), np.empty_like(rings),
+                        np.empty_like(given.parts))
+    arrays = (points, rings, given.parts, out, ends, parts)
+    count = CALLS[points.itemsize].polygons[cleaner](
+        *(word for array in arrays for word in (address(array), len(array))))
+    raise_codes([count], given.points, given.rings, "ring_offsets",
+                given.before)
+    ring_count = int(parts[count])
+    return Polygons(out[:int(ends[ring_count])].copy(),
+                    ends[:ring_count + 1].copy(), parts[:count + 1].copy())
+
+
+def _clean_polygons(cleaner: str, given: _Given, threads: int) -> Polygons:
     """Clean each ring, and leave out what collapses.
 
     A hole that does, and a polygon whose outer ring does.
     """
-    points = as_points(points)
-    ring_offsets = as_offsets(ring_offsets, "ring_offsets")
-    parts = as_offsets(polygon_offsets, "polygon_offsets")
-    start, end = int(parts[0]), int(parts[-1])
-    count = len(ring_offsets) - 1
-    if start < 0 or end > count or (parts[1:] < parts[:-1]).any():
-        raise_offsets(parts, count, "polygon_offsets", "rings")
-    rings = clean_rings(cleaner, points, ring_offsets[start:end + 1], threads,
-                        "ring_offsets", start)
-    parts = parts - start
+    parts = given.parts
+    rings = clean_rings(cleaner, given.points, given.rings, threads,
+                        "ring_offsets", given.before)
     is_ring_left = rings.offsets[1:] > rings.offsets[:-1]
     has_outer = parts[1:] > parts[:-1]
     is_left = ~has_outer
@@ -93,8 +129,9 @@ def simplify_polygons(points: npt.NDArray[Int], ring_offsets: npt.ArrayLike,
     A polygon whose outer ring collapses is left out, and so are holes that
     collapse. A polygon without rings stays as it is.
 
-    Each ring is cleaned by a proved call. That the right rings are left out
-    is tested and not proved.
+    On one thread the answer is that of a proved call. On more, each ring is
+    cleaned by a proved call, and that the right rings are left out is tested
+    and not proved.
 
     Parameters
     ----------
@@ -134,8 +171,10 @@ def simplify_polygons(points: npt.NDArray[Int], ring_offsets: npt.ArrayLike,
     >>> left.ring_offsets.tolist(), left.polygon_offsets.tolist()
     ([0, 4, 7], [0, 2])
     """
-    return _clean_polygons("simplify", points, ring_offsets, polygon_offsets,
-                           threads)
+    given = _given(points, ring_offsets, polygon_offsets)
+    if as_threads(threads) == 1:
+        return _clean_by_call("simplify", given)
+    return _clean_polygons("simplify", given, threads)
 
 
 def _keys(rings: Rings) -> list[bytes]:
@@ -168,8 +207,9 @@ def canonical_polygons(points: npt.NDArray[Int], ring_offsets: npt.ArrayLike,
     or polygons are put in another order; a hole that collapses, or a
     polygon whose outer ring does, goes or comes.
 
-    The canonical forms of the rings come from a proved call. The sorting
-    around it is tested and not proved.
+    On one thread, and with ``oriented``, the answer is that of a proved
+    call. Otherwise the canonical forms of the rings are, and the sorting
+    around them is tested and not proved.
 
     Parameters
     ----------
@@ -206,8 +246,10 @@ def canonical_polygons(points: npt.NDArray[Int], ring_offsets: npt.ArrayLike,
     >>> form.ring_offsets.tolist()
     [0, 3, 7]
     """
-    left = _clean_polygons("canonical", points, ring_offsets,
-                           polygon_offsets, threads)
+    given = _given(points, ring_offsets, polygon_offsets)
+    if oriented and as_threads(threads) == 1:
+        return _clean_by_call("canonical", given)
+    left = _clean_polygons("canonical", given, threads)
     rings = Rings(left.points, left.ring_offsets)
     keys = _keys(rings)
     if not oriented:
@@ -237,8 +279,8 @@ def same_polygons(a: Triple, b: Triple, oriented: bool = True,
                   threads: int = 1) -> bool:
     """Return whether two lists of polygons are the same.
 
-    They are where their canonical forms are equal, which
-    :func:`canonical_polygons` tells of: it is tested and not proved.
+    They are where their canonical forms are equal, of which
+    :func:`canonical_polygons` tells, and what of them is proved.
 
     Parameters
     ----------

@@ -50,7 +50,7 @@ def _cuts(offsets: Array, parts: int) -> list[int]:
     return [0, *inner.tolist(), len(offsets) - 1]
 
 
-def _raise_codes(codes: list[int], points: Array, offsets: Array,
+def raise_codes(codes: list[int], points: Array, offsets: Array,
                  name: str, before: int) -> None:
     """Raise what one call on all the rings would have."""
     if UNFIT in codes:
@@ -88,7 +88,7 @@ def clean_rings(cleaner: str, points: Any, offsets: Any, threads: Any,
     out = np.empty((end - start, 2), points.dtype)
     if parts == 1:
         total, ends = _clean_part(call, points, offsets, out)
-        _raise_codes([total], points, offsets, name, before)
+        raise_codes([total], points, offsets, name, before)
     else:
         cuts = _cuts(offsets, parts)
         starts = (offsets[cuts] - start).tolist()
@@ -100,8 +100,8 @@ def clean_rings(cleaner: str, points: Any, offsets: Any, threads: Any,
 
         with ThreadPoolExecutor(parts) as pool:
             answers = list(pool.map(clean_part, range(parts)))
-        _raise_codes([left for left, _ in answers], points, offsets, name,
-                     before)
+        raise_codes([left for left, _ in answers], points, offsets, name,
+                    before)
         # What the parts have left is moved together, from the front on.
         ends = np.empty(offsets.shape, np.int64)
         ends[0] = total = 0
