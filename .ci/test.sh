@@ -1,6 +1,7 @@
 #!/bin/sh
 # The gate: the tests of wrong.py; proofs, tests and named wrong bodies by rt ci; the other wrong bodies; the refusals; the C library,
-# over the libraries that the refusals have built; the Python package, over the C library. Each part ends in a line '.. N passed, M failed', and
+# over the libraries that the refusals have built; the Python package, over the C library; texts in
+# parts, by the program that rt ci has built. Each part ends in a line '.. N passed, M failed', and
 # ', K skipped' behind it where tests are skipped; the last line adds them up.
 log=$(mktemp)
 trap 'rm -f "$log" "$log.bad"' EXIT
@@ -36,6 +37,7 @@ part python3 .ci/wrong.py --gate
 part ./.ci/refusals.sh
 part ./.ci/c_library.sh
 part ./.ci/python_package.sh
+part ./.ci/scaling.sh
 if [ "$skipped" -eq 0 ]; then
     echo "$passed passed, $failed failed"
 else
