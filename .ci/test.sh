@@ -1,7 +1,6 @@
 #!/bin/sh
-# The gate: the tests of wrong.py; proofs, tests and named wrong bodies by rt ci; the other wrong bodies; the refusals; the C library,
-# over the libraries that the refusals have built; the Python package, over the C library; texts in
-# parts, by the program that rt ci has built. Each part ends in a line '.. N passed, M failed', and
+# The gate: the tests of wrong.py; proofs, tests and named wrong bodies by rt ci; the C library; the Python package, over the C library; the
+# other wrong bodies; the refusals; texts in parts, by the program that rt ci has built. Each part ends in a line '.. N passed, M failed', and
 # ', K skipped' behind it where tests are skipped; the last line adds them up.
 log=$(mktemp)
 trap 'rm -f "$log" "$log.bad"' EXIT
@@ -33,10 +32,11 @@ COUNTS
 
 part python3 .ci/test_wrong.py
 part rt ci
-part python3 .ci/wrong.py --gate
-part ./.ci/refusals.sh
+# What the C library is built from is proved and kept, and the wrong bodies are tried over it.
 part ./.ci/c_library.sh
 part ./.ci/python_package.sh
+part python3 .ci/wrong.py --gate
+part ./.ci/refusals.sh
 part ./.ci/scaling.sh
 if [ "$skipped" -eq 0 ]; then
     echo "$passed passed, $failed failed"

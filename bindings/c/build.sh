@@ -16,7 +16,7 @@ is_newer_than() {
 }
 
 if [ ! -e "$proved" ] || is_newer_than "$proved"; then
-    (cd "$crate" && rt lib --jobs 1)
+    (cd "$crate" && rt lib --jobs $(($(nproc) > 1 ? 2 : 1)))
     touch "$proved"
 fi
 mkdir -p "$out/objects"
