@@ -10,7 +10,7 @@ Edits are put into a copy of their crate, at most one for each function, and che
 kept. An edit passes where the prover does not prove its own function; a fault of a function that it calls, or a text that
 cannot be read, is not enough. Rounds go on until each edit is judged. The last line is 'wrong bodies: N passed, M failed'.
 
---gate         takes the libraries below a crate as 'rt ci' has just left them; otherwise what changed is proved first
+--gate         takes the libraries below a crate as the gate's earlier parts left them; otherwise what changed is proved first
 --only WORD..  tries the edits of these crates, and those whose names contain one of these words
 """
 import argparse
