@@ -79,6 +79,16 @@ impl<'a, I: IntNumber> Probe<'a, I> {
         self.count
     }
 
+    /// All points, and the number of visits. The only error is `OutOfMemory`.
+    pub fn keep_all(self, alloc: Global) -> Result<(IntContour<I>, u128), ShapeError>
+        ensures points { IfOk result (λ kept. kept.0.items ≡ self.entry.contour) }
+        ensures visits { IfOk result (λ kept. kept.1 ≡ self.entry.visits) }
+        ensures memory { IsOkUnless result ShapeError.OutOfMemory }
+    {
+        let kept = Vec::from_slice(alloc, self.points)?;
+        Ok((kept, self.visits()))
+    }
+
     /// The points at these places, in the order given, and the number of visits. The only error is `OutOfMemory`.
     pub fn keep(self, alloc: Global, indices: &[usize]) -> Result<(IntContour<I>, u128), ShapeError>
         requires { All (λ k. k < length self.contour) indices.now }
