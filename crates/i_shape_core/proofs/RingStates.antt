@@ -19,7 +19,8 @@ IsState P c places untested lead visits = IsRingState P c (record { places = pla
 abbrev IsBelow : List Point → ℕ → Type 0
 IsBelow c k = k < length c
 
-points_of_all : (c : List Point) → c ≡ points_at c (range_with_len 0 (length c))
+-- a contour is its points at all its places
+pub points_of_all : (c : List Point) → c ≡ points_at c (range_with_len 0 (length c))
 points_of_all c = fill_by_all (point_at c) c (length c) origin refl (λ k h. refl)
 
 all_below : (c : List Point) → All (IsBelow c) (range_with_len 0 (length c))
