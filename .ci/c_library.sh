@@ -56,9 +56,9 @@ test_names() {
     count 'the names' $?
 }
 
-# The lines of docs/C.md that are fenced as $1.
+# The first lines of docs/C.md that are fenced as $1.
 fenced() {
-    sed -n "/^\`\`\`$1\$/,/^\`\`\`\$/p" docs/C.md | grep -v '^```'
+    awk -v fence="\`\`\`$1" 'in_it && /^```$/ { exit } in_it { print } $0 == fence { in_it = 1 }' docs/C.md
 }
 
 # The sample is that of the page, and prints the corners of its contour.
