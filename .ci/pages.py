@@ -8,7 +8,8 @@ usage: .ci/pages.py [PAGE..]
 - a block `text` with clauses: each of its lines stands in a source of the crates;
 - a block `c`: it stands in a file of C;
 - a block `console`: its commands run in order, each printing what stands below it;
-- the links within the repository: the page is there, and the heading.
+- the links within the repository: the page is there, and the heading;
+- the version: it is that of the header in CHANGELOG.md, in the archive, in the Python package and in the crate for Rust.
 
 The sources are proved, compiled and tested by other parts of the gate. A block `console` names what has to be there, as in `console library python`, and is
 skipped where it isn't. The last line is 'pages: N passed, M failed', and ', K skipped' behind it where K is above 0.
@@ -141,6 +142,21 @@ def fault_of_links(name, page):
     return None
 
 
+def versions():
+    """The version, as each file that says it has it."""
+    header = re.search(r"I_SHAPE_VERSION 0x(..)(..)(..)$", read(f"{TOP}/include/i_shape.h"), re.MULTILINE)
+    parts = [int(part, 16) for part in header.groups()]
+    archive = re.findall(r"const (?:MAJOR|MINOR|PATCH): u32 = (\d+);", read(f"{TOP}/crates/i_shape_c/src/version.rt"))
+    package = int(re.search(r"_VERSION = (0x\w+)", read(f"{TOP}/bindings/python/src/i_shape/_library.py"))[1], 16)
+    return {
+        "include/i_shape.h": ".".join(map(str, parts)),
+        "crates/i_shape_c/src/version.rt": ".".join(archive),
+        "bindings/rust/Cargo.toml": re.search(r'^version = "(.*)"$', read(f"{TOP}/bindings/rust/Cargo.toml"), re.MULTILINE)[1],
+        "bindings/python/src/i_shape/_library.py": f"{package >> 8}.{package & 255}.{parts[2]}",
+        "CHANGELOG.md": re.search(r"^## (\S+)", read(f"{TOP}/CHANGELOG.md"), re.MULTILINE)[1],
+    }
+
+
 FAULTS = {"rust": fault_of_rust, "text": fault_of_clauses, "c": fault_of_c, "console": fault_of_console}
 
 
@@ -163,6 +179,12 @@ def main():
             failed += fault is not None
             if fault:
                 print(f"failed: {os.path.relpath(name, TOP)}, {place}: {fault}")
+    if not sys.argv[1:]:
+        told = versions()
+        passed += len(set(told.values())) == 1
+        if len(set(told.values())) > 1:
+            failed += 1
+            print(f"failed: the version: {told}")
     print(f"pages: {passed} passed, {failed} failed" + (f", {skipped} skipped" if skipped else ""))
     return failed > 0
 
