@@ -1,6 +1,6 @@
 PREFIX ?= /usr/local
 
-.PHONY: test check fmt c wheel install install-program install-c clean
+.PHONY: test check fmt c wheel pictures install install-program install-c clean
 
 # The whole gate: proves everything from nothing, runs all tests, and checks that wrong bodies are refused and refused memory is told.
 test:
@@ -19,6 +19,10 @@ c:
 # The wheel of the Python package, in bindings/python/out, by Debian's Python or another PYTHON=..
 wheel: c
 	@sh bindings/python/build.sh
+
+# The pictures of docs/pictures, by the program.
+pictures:
+	@examples/draw/draw_all.sh docs/pictures
 
 install: install-program install-c
 

@@ -1,6 +1,6 @@
 #!/bin/sh
 # The gate: the tests of wrong.py; proofs, tests and named wrong bodies by rt ci; the C library; the Python package, over the C library; the
-# other wrong bodies; the refusals; texts in parts, by the program that rt ci has built. Each part ends in a line '.. N passed, M failed', and
+# other wrong bodies; the refusals; texts in parts and the pictures, by the program that rt ci has built; what the pages show. Each part ends in a line '.. N passed, M failed', and
 # ', K skipped' behind it where tests are skipped; the last line adds them up.
 log=$(mktemp)
 trap 'rm -f "$log" "$log.bad"' EXIT
@@ -38,6 +38,8 @@ part ./.ci/python_package.sh
 part python3 .ci/wrong.py --gate
 part ./.ci/refusals.sh
 part ./.ci/scaling.sh
+part ./.ci/pictures.sh
+part python3 .ci/pages.py
 if [ "$skipped" -eq 0 ]; then
     echo "$passed passed, $failed failed"
 else

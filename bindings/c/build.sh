@@ -8,7 +8,7 @@ crate=$top/crates/i_shape_c
 proved=$crate/out/libi_shape_c.a
 out=$top/bindings/c/out
 kit=$(dirname "$(rt doc)")
-version=$(sed -n 's/^#define I_SHAPE_VERSION 0x\(..\)\(..\)\(..\)$/\1 \2 \3/p' "$top/include/i_shape.h" | sed 's/0\([0-9]\)/\1/g; s/ /./g')
+version=$(printf '%d.%d.%d' $(sed -n 's/^#define I_SHAPE_VERSION 0x\(..\)\(..\)\(..\)$/0x\1 0x\2 0x\3/p' "$top/include/i_shape.h"))
 
 is_newer_than() {
     [ -n "$(find "$top/crates" "$top/crates.txt" "$top/include" "$0" -name out -prune -o -type f ! -path '*/wrong/*' ! -path '*/must-fail/*' \

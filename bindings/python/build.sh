@@ -12,7 +12,7 @@ python=${PYTHON:-/usr/bin/python3}
 }
 work=$(mktemp -d)
 trap 'rm -rf "$work"' EXIT
-cp -R "$here/src" "$here/pyproject.toml" "$here/setup.py" "$top/LICENSE" "$work"
+cp -R "$here/src" "$here/pyproject.toml" "$here/setup.py" "$top/LICENSE" "$top/include/i_shape.h" "$work"
 find "$work" -name __pycache__ -prune -exec rm -rf {} +
 cp "$library" "$work/src/i_shape/libi_shape.so"
 rm -rf "$here/out"

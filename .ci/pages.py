@@ -1,0 +1,192 @@
+#!/usr/bin/env python3
+"""Checks what the pages show: README.md, CHANGELOG.md, docs/*.md and the READMEs of examples.
+
+usage: .ci/pages.py [PAGE..]
+
+- a block `rust`: each of its items stands in one source of the crates, of the crate for Rust or of the examples, word for word but for clauses, attributes and
+  doc lines that the page leaves out; and what the block imports is imported there;
+- a block `text` with clauses: each of its lines stands in a source of the crates;
+- a block `c`: it stands in a file of C;
+- a block `console`: its commands run in order, each printing what stands below it;
+- the links within the repository: the page is there, and the heading;
+- the version: it is that of the header in CHANGELOG.md, in the archive, in the Python package and in the crate for Rust.
+
+The sources are proved, compiled and tested by other parts of the gate. A block `console` names what has to be there, as in `console library python`, and is
+skipped where it isn't. The last line is 'pages: N passed, M failed', and ', K skipped' behind it where K is above 0.
+"""
+import glob
+import os
+import re
+import subprocess
+import sys
+import tempfile
+
+TOP = os.path.dirname(os.path.dirname(os.path.abspath(__file__)))
+PAGES = ["README.md", "CHANGELOG.md", "docs/*.md", "examples/*/README.md"]
+RUST = ["crates/*/src/**/*.rt", "bindings/rust/**/*.rs", "examples/**/*.rs"]
+C = ["bindings/c/*.c", "bindings/c/*.h", "examples/**/*.c", "include/*.h"]
+NEEDED = {
+    "program": "test -x crates/i_shape_tool_main/out/i_shape_tool_main",
+    "library": "test -e bindings/c/out/libi_shape.a",
+    "python": "/usr/bin/python3 -c 'import numpy.typing, setuptools, wheel, venv, ensurepip'",
+    "cargo": "cargo metadata --offline --no-deps --format-version 1 --manifest-path bindings/rust/Cargo.toml",
+}
+LEFT_OUT = re.compile(r"\s*(///|//!|#!?\[|ensures\b|↔|×)|\s*$")
+
+
+def files(patterns):
+    """The files of the repository that the patterns name, but for what is built."""
+    found = (name for pattern in patterns for name in glob.glob(os.path.join(TOP, pattern), recursive=True))
+    return sorted(name for name in found if not re.search("/(out|target|build)/", name))
+
+
+def read(name):
+    with open(name, encoding="utf-8") as text:
+        return text.read()
+
+
+def blocks(page):
+    """The language, the line and the text of each fenced block."""
+    for found in re.finditer(r"^```(.*)\n((?:.*\n)*?)```$", page, re.MULTILINE):
+        yield found[1], page.count("\n", 0, found.start()) + 1, found[2]
+
+
+def bare(text):
+    """The lines of a text without clauses that are promised, attributes, doc lines and blank lines."""
+    return [line.strip() for line in text.splitlines() if not LEFT_OUT.match(line)]
+
+
+def imports(text):
+    """The names that a text imports, each with its path."""
+    names = set()
+    for path, several in re.findall(r"^(?:ghost )?use ([^;{]+?)(?:\{([^}]*)\})?;", text, re.MULTILINE):
+        names |= {path + name.strip() for name in several.split(",")} if several else {path}
+    return names
+
+
+def items(text):
+    """The items of a block of Rattle or Rust, parted by blank lines and by the heads and ends of impls."""
+    text = re.sub(r"^(ghost )?use [^;]*;\n", "", text, flags=re.MULTILINE)
+    text = re.sub(r"^(impl\b.*\{|\})$", r"\n\1\n", text, flags=re.MULTILINE)
+    return [item for item in re.split(r"\n\s*\n", text) if bare(item)]
+
+
+def holds(source, item):
+    """Whether a source has the item, and each clause and doc line that the page shows of it."""
+    ours, theirs = bare(item), bare(source)
+    lines = {line.strip() for line in source.splitlines()}
+    shown = [line.strip() for line in item.splitlines() if line.strip()]
+    begins = (place for place, line in enumerate(theirs) if line == ours[0])
+    return all(line in lines for line in shown) and any(theirs[place:place + len(ours)] == ours for place in begins)
+
+
+def fault_of_rust(text):
+    """What of a block stands in no source; nothing where all does."""
+    if not items(text):
+        return "it has no item"
+    for name in files(RUST):
+        source = read(name)
+        if all(holds(source, item) for item in items(text)):
+            strange = imports(text) - imports(source)
+            return f"{name} doesn't import {', '.join(sorted(strange))}" if strange else None
+    return "no source has its items"
+
+
+def fault_of_clauses(text):
+    sources = {line.strip().rstrip(";,") for name in files(RUST) for line in read(name).splitlines()}
+    strange = [line for line in text.splitlines() if line.strip() and not line.startswith("//") and line.strip().rstrip(";,") not in sources]
+    return f"no source has the line: {strange[0].strip()}" if strange else None
+
+
+def fault_of_c(text):
+    """A file has the whole text, or, of declarations, each of its lines, whatever the space between the words."""
+    sources = ["".join(read(name).split()) for name in files(C)]
+    parts = [text] if "{\n" in text else text.splitlines()
+    return None if any(all("".join(part.split()) in source for part in parts) for source in sources) else "no file of C has this text"
+
+
+def is_at_hand(needed):
+    """Whether what a block needs is there."""
+    return subprocess.run(["sh", "-c", NEEDED[needed]], cwd=TOP, capture_output=True, check=False).returncode == 0
+
+
+def fault_of_console(text):
+    """Runs the commands of a block in a folder with links to what the repository has at its top."""
+    with tempfile.TemporaryDirectory() as folder:
+        for name in os.listdir(TOP):
+            if not name.startswith("."):
+                os.symlink(os.path.join(TOP, name), os.path.join(folder, name))
+        for command, wanted in re.findall(r"^\$ (.*)\n((?:(?!\$ ).*\n)*)", text, re.MULTILINE):
+            run = subprocess.run(["bash", "-c", command], cwd=folder, capture_output=True, text=True, timeout=600, check=False)
+            if run.returncode or (wanted and run.stdout != wanted):
+                return f"`{command}` ended with status {run.returncode} and printed {run.stdout + run.stderr!r}"
+    return None
+
+
+def headings(page):
+    """The anchors of a page, as its headings make them."""
+    text = re.sub(r"^```.*\n(?:.*\n)*?```$", "", page, flags=re.MULTILINE)
+    return {re.sub(r"[^\w\- ]", "", title.lower()).replace(" ", "-") for title in re.findall(r"^#+ (.*)$", text, re.MULTILINE)}
+
+
+def fault_of_links(name, page):
+    for link in re.findall(r"\]\(([^)\s]+)\)", page):
+        path, _, anchor = link.partition("#")
+        if re.match("[a-z]+:", link):
+            continue
+        goal = os.path.normpath(os.path.join(os.path.dirname(name), path)) if path else name
+        if not os.path.exists(goal):
+            return f"there is no {link}"
+        if anchor and anchor not in headings(read(goal)):
+            return f"there is no heading {link}"
+    return None
+
+
+def versions():
+    """The version, as each file that says it has it."""
+    header = re.search(r"I_SHAPE_VERSION 0x(..)(..)(..)$", read(f"{TOP}/include/i_shape.h"), re.MULTILINE)
+    parts = [int(part, 16) for part in header.groups()]
+    archive = re.findall(r"const (?:MAJOR|MINOR|PATCH): u32 = (\d+);", read(f"{TOP}/crates/i_shape_c/src/version.rt"))
+    package = int(re.search(r"_VERSION = (0x\w+)", read(f"{TOP}/bindings/python/src/i_shape/_library.py"))[1], 16)
+    return {
+        "include/i_shape.h": ".".join(map(str, parts)),
+        "crates/i_shape_c/src/version.rt": ".".join(archive),
+        "bindings/rust/Cargo.toml": re.search(r'^version = "(.*)"$', read(f"{TOP}/bindings/rust/Cargo.toml"), re.MULTILINE)[1],
+        "bindings/python/src/i_shape/_library.py": f"{package >> 8}.{package & 255}.{parts[2]}",
+        "CHANGELOG.md": re.search(r"^## (\S+)", read(f"{TOP}/CHANGELOG.md"), re.MULTILINE)[1],
+    }
+
+
+FAULTS = {"rust": fault_of_rust, "text": fault_of_clauses, "c": fault_of_c, "console": fault_of_console}
+
+
+def main():
+    failed = passed = skipped = 0
+    pages = [os.path.abspath(name) for name in sys.argv[1:]] or files(PAGES)
+    for name in pages:
+        page = read(name)
+        tests = [(f"{line} ({language})", language, text) for language, line, text in blocks(page)]
+        for place, language, text in tests + [("links", None, page)]:
+            kind, *needed = (language or "links").split()
+            if kind not in (*FAULTS, "links"):
+                continue
+            if not all(is_at_hand(word) for word in needed):
+                print(f"skipped: {os.path.relpath(name, TOP)}, {place}")
+                skipped += 1
+                continue
+            fault = fault_of_links(name, page) if language is None else FAULTS[kind](text)
+            passed += fault is None
+            failed += fault is not None
+            if fault:
+                print(f"failed: {os.path.relpath(name, TOP)}, {place}: {fault}")
+    if not sys.argv[1:]:
+        told = versions()
+        passed += len(set(told.values())) == 1
+        if len(set(told.values())) > 1:
+            failed += 1
+            print(f"failed: the version: {told}")
+    print(f"pages: {passed} passed, {failed} failed" + (f", {skipped} skipped" if skipped else ""))
+    return failed > 0
+
+
+sys.exit(main())
