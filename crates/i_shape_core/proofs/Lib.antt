@@ -37,6 +37,7 @@ pub mod Cleaned
 pub mod Gaps
 pub mod RingWalks
 pub mod RingStates
+pub mod FirstPlaces
 pub mod Walked
 pub mod Around
 pub mod Spikes
