@@ -1,7 +1,8 @@
 use Rattle.i_shape.specs.Point.{Point}
 use Rattle.i_shape.specs.IntPoint.{point_of}
 use Rattle.i_shape.specs.Paths.{shape_lists}
-use Rattle.i_shape_c.proofs.PolygonLists.{safe_polygons, as_lists}
+use Rattle.i_shape_int.proofs.CallerLemmas.{shapes_of_lists}
+use Rattle.i_shape_c.proofs.PolygonLists.{safe_polygons}
 use Rattle.i_shape_c.proofs.polygons.shapes_left.Goals as goal
 
 pub clean-requires : goal.clean-requires
@@ -12,4 +13,4 @@ clean-requires g c =
 pub returns : goal.returns
 returns g c =
     let left = c.in_ok-left.left.items in
-    (shape_lists left, rw c.as_slice.ensures.value at c.in_ok-set_with_shapes.ensures.ok, rw (c.in_ok-list.ensures, as_lists g.P.Coordinate.IntNumber.value left) at c.in_ok-left.ensures)
+    (shape_lists left, rw c.as_slice.ensures.value at c.in_ok-set_with_shapes.ensures.ok, rw (c.in_ok-list.ensures, shapes_of_lists g.P.Coordinate.IntNumber.value left) at c.in_ok-left.ensures)
