@@ -110,6 +110,18 @@ offsets-ends : {X : Type 0} (start : ℕ) (xs : List (List X)) → start ∷ map
 offsets-ends start [] = refl
 offsets-ends start (x ∷ xs) = ap (λ w. start ∷ w) (offsets-ends (start + length x) xs)
 
+-- a buffer has as many points, contours and shapes as the shapes that it holds
+pub held_counts : {I : Type 0} (value : I → ℤ) (buffer : FlatShapesBuffer I) (list : List (List (List (IntPoint I)))) → HoldsShapes buffer list
+    → (length (joined (joined (map (map (contour_of value)) list))) ≡ length buffer.points.items)
+    × (length (joined (map (map (contour_of value)) list)) ≡ length buffer.contour_ranges.items)
+    × (length (map (map (contour_of value)) list) ≡ length buffer.shape_ranges.items)
+held_counts value buffer list held =
+    let rings = joined-map (contour_of value) list in (
+      ap length (ap joined rings ∙ joined-map (point_of value) (joined list) ∙ ap (contour_of value) (sym held.points)) ∙ length-map buffer.points.items (point_of value),
+      ap length rings ∙ length-map (joined list) (contour_of value) ∙ sym (ap length held.contour_ranges ∙ length-end_to_end 0 (joined list)),
+      length-map list (map (contour_of value)) ∙ sym (ap length held.shape_ranges ∙ length-end_to_end 0 list),
+    )
+
 -- what is written is what is left
 module _ {P I : Type 0} (Gives : List (List (List Point)) → List (List (List Point)) → Type 0) (value : I → ℤ) (to : P → IntPoint I) (of : IntPoint I → P) (same : (p : IntPoint I) → to (of p) ≡ p) where
   pub shapes_written : (points : List P) (contours shapes : List ℕ) (old_points new_points : List P) (old_contours new_contours old_shapes new_shapes : List ℕ) (buffer : FlatShapesBuffer I) (list : List (List (List (IntPoint I))))
@@ -118,16 +130,18 @@ module _ {P I : Type 0} (Gives : List (List (List Point)) → List (List (List P
       → drop (0 + length buffer.points.items) new_points ≡ drop (0 + length buffer.points.items) old_points
       → new_contours ≡ 0 ∷ (map (λ range. range.end) buffer.contour_ranges.items ++ drop (length buffer.contour_ranges.items + 1) old_contours)
       → new_shapes ≡ 0 ∷ (map (λ range. range.end) buffer.shape_ranges.items ++ drop (length buffer.shape_ranges.items + 1) old_shapes)
+      → (length buffer.points.items ≤ length points) × (length buffer.contour_ranges.items < length contours) × (length buffer.shape_ranges.items < length shapes)
       → AreShapesLeft Gives (λ p. point_of value (to p)) points contours shapes old_points new_points old_contours new_contours old_shapes new_shapes (length buffer.shape_ranges.items)
-  shapes_written points contours shapes old_points new_points old_contours new_contours old_shapes new_shapes buffer list held left is_points rest is_contours is_shapes =
+  shapes_written points contours shapes old_points new_points old_contours new_contours old_shapes new_shapes buffer list held left is_points rest is_contours is_shapes fewer =
       let made = map (map (contour_of value)) list in
       let rings : joined made ≡ map (contour_of value) (joined list) = joined-map (contour_of value) list in
       let whole : joined (joined made) ≡ contour_of value buffer.points.items = ap joined rings ∙ joined-map (point_of value) (joined list) ∙ ap (contour_of value) (sym held.points) in
-      let count : length (joined (joined made)) ≡ length buffer.points.items = ap length whole ∙ length-map buffer.points.items (point_of value) in
+      let counts = held_counts value buffer list held in
+      let count : length (joined (joined made)) ≡ length buffer.points.items = counts.0 in
       let zero_more : 0 + length buffer.points.items ≡ length buffer.points.items = omega arith in
       let front : take (length buffer.points.items) new_points ≡ map of buffer.points.items = sym (from_start new_points (length buffer.points.items)) ∙ rw (← zero_more) is_points in
-      let ring_count : length buffer.contour_ranges.items ≡ length (joined made) = ap length held.contour_ranges ∙ length-end_to_end 0 (joined list) ∙ sym (ap length rings ∙ length-map (joined list) (contour_of value)) in
-      let shape_count : length buffer.shape_ranges.items ≡ length made = ap length held.shape_ranges ∙ length-end_to_end 0 list ∙ sym (length-map list (map (contour_of value))) in
+      let ring_count : length buffer.contour_ranges.items ≡ length (joined made) = sym counts.1 in
+      let shape_count : length buffer.shape_ranges.items ≡ length made = sym counts.2 in
       let ring_offsets : 0 ∷ map (λ range. range.end) buffer.contour_ranges.items ≡ offsets_of 0 (joined made) =
       ap (λ w. 0 ∷ map (λ range. range.end) w) held.contour_ranges ∙ offsets-ends 0 (joined list) ∙ sym (ap (offsets_of 0) rings ∙ offsets-map (point_of value) 0 (joined list)) in
       let shape_offsets : 0 ∷ map (λ range. range.end) buffer.shape_ranges.items ≡ offsets_of 0 made =
@@ -135,7 +149,10 @@ module _ {P I : Type 0} (Gives : List (List (List Point)) → List (List (List P
       record {
         list = made;
         left = left;
-        count = sym shape_count;
+        count = counts.2;
+        fewer_points = omega (arith, fewer.0, count);
+        fewer_contours = omega (arith, fewer.1, ring_count);
+        fewer_shapes = fewer.2;
         written = rw count (ap (map (λ p. point_of value (to p))) front ∙ same_points value to of same buffer.points.items ∙ sym whole);
         rest = rw (count, ← zero_more) rest;
         contours_are = is_contours ∙ ap (λ w. w ++ drop (length buffer.contour_ranges.items + 1) old_contours) ring_offsets ∙ ap (λ n. offsets_of 0 (joined made) ++ drop (n + 1) old_contours) ring_count;
