@@ -8,4 +8,5 @@ pub mod ShapeOrder
 pub mod Orders
 pub mod Matches
 pub mod ShapeForms
+pub mod FewerForms
 pub mod Examples

@@ -48,7 +48,7 @@ module _ {Y : Type 0} (Answer : Y → Option Y → Type 0) (AtMost : Y → Y →
       (l, survivors_stay Own Answer (λ y a. a) l (All-permutation Own forms l moved own), IsPermutation-refl l, up)
 
 -- a form is a cleaned shape but for the order of the holes
-form_cleans : (Form : List Point → Option (List Point) → Type 0) (s l : List (List Point)) → ShapeForm Form s (Some l) → (k : List (List Point)) × ShapeClean Form s (Some k) × IsPermutation k l
+pub form_cleans : (Form : List Point → Option (List Point) → Type 0) (s l : List (List Point)) → ShapeForm Form s (Some l) → (k : List (List Point)) × ShapeClean Form s (Some k) × IsPermutation k l
 form_cleans Form [] l a = (l, a, IsPermutation-refl l)
 form_cleans Form (c ∷ s) [] a = absurd a
 form_cleans Form (c ∷ s) (x ∷ l) (outer, (forms, survive, moved, up)) = (x ∷ forms, (outer, survive), IsPermutation-cons x forms l moved)

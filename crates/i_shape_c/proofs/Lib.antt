@@ -3,3 +3,4 @@ pub mod Parts
 pub mod Batches
 pub mod Areas
 pub mod PolygonLists
+pub mod Counts

@@ -3,17 +3,18 @@ use Rattle.std.proofs.Common.{◌≡◌, ℕ, ℤ, zero, suc, ◌+◌, ◌-◌, 
 use Rattle.std.specs.Global.{Vec}
 use Rattle.std.specs.Int.{Width}
 use Rattle.std.specs.List.{All, range_with_len}
-use Rattle.std.proofs.lemmas.List.{length-map, map-append, take-map, drop-map}
+use Rattle.std.proofs.lemmas.List.{length-map, map-append}
 use Rattle.std.proofs.lemmas.List.Elements.{All-map, All-take, All-drop}
 use Rattle.std.proofs.lemmas.List.FromFn.{length-map-range_with_len, take-map-range_with_len, get_or-map-range_with_len, map-range_with_len_more}
 use Rattle.std.proofs.lemmas.Simd.{map-map}
 use Rattle.i_shape.specs.Point.{Point}
 use Rattle.i_shape.specs.IntPoint.{point_of, contour_of, IsSafe}
-use Rattle.i_shape.specs.Paths.{joined, shape_lists}
+use Rattle.i_shape.specs.Paths.{joined}
 use Rattle.i_shape.specs.Flat.{end_to_end}
 use Rattle.i_shape.specs.Buffers.{HoldsShapes}
 use Rattle.i_shape_int.specs.declared.flat.buffer.shapes.FlatShapesBuffer.{FlatShapesBuffer}
 use Rattle.i_shape_int.proofs.EndToEnd.{length-end_to_end}
+use Rattle.i_shape_int.proofs.ShapeRanges.{slice_range-map}
 use Rattle.i_shape.specs.IntPoints.{IntPoint}
 use Rattle.i_shape.specs.ShapeLists.{shape_of, shapes_of, IsSafeList}
 use Rattle.i_shape_c.specs.Batch.{offset, ring, InOrder, AreSafeContours}
@@ -21,10 +22,6 @@ use Rattle.i_shape_c.specs.Polygons.{parts, polygons, offsets_of, AreShapesLeft}
 use Rattle.i_shape_c.proofs.Boundary.{same_points}
 use Rattle.i_shape_c.proofs.Batches.{safe_part}
 use Rattle.i_shape_c.proofs.Parts.{from_start}
-
--- a part of a list whose items are made into others
-pub part_of_map : {X Y : Type 0} (f : X → Y) (xs : List X) (a b : ℕ) → slice_range (map f xs) a b ≡ map f (slice_range xs a b)
-part_of_map f xs a b = ap (take (b - a)) (drop-map f a xs) ∙ take-map f (b - a) (drop a xs)
 
 -- numbers in order, without the first ones
 drop_range : {X : Type 0} (f : ℕ → X) (a n s : ℕ) → a ≤ n → drop a (map f (range_with_len s n)) ≡ map f (range_with_len (s + a) (n - a))
@@ -61,7 +58,7 @@ module _ {P I : Type 0} (value : I → ℤ) (to : P → IntPoint I) (points : Li
   contour_more contours from place seen now contour some is more before =
       let f = ring (map at points) contours in
       let count : place + 1 - from ≡ (place - from) + 1 = omega (arith, some) in
-      let here : contour_of value contour.items ≡ f place = ap (contour_of value) is ∙ map-map (point_of value) to (ring points contours place) ∙ sym (part_of_map at points (offset contours place) (offset contours (place + 1))) in
+      let here : contour_of value contour.items ≡ f place = ap (contour_of value) is ∙ map-map (point_of value) to (ring points contours place) ∙ sym (slice_range-map at points (offset contours place) (offset contours (place + 1))) in
       rw count (ap (shape_of value) more ∙ map-append (λ c. contour_of value c.items) seen (contour ∷ []) ∙ ap (λ w. w ++ contour_of value contour.items ∷ []) before
       ∙ ap (λ w. map f (range_with_len from (place - from)) ++ w ∷ []) here ∙ sym (map-range_with_len_more f from (place - from) place (omega (arith, some))))
 
@@ -95,7 +92,7 @@ safe_polygons width point points contours shapes order safe =
     let rings = parts (map point points) contours in
     let each = all_from (ring (map point points) contours) (All (IsSafe width)) (length contours - 1) (λ k less.
     let part = safe_part width point points contours k (k + 1) order (omega arith) (omega (arith, less)) safe in
-    subst (All (IsSafe width)) (sym (part_of_map point points (offset contours k) (offset contours (k + 1)))) (All-map (IsSafe width) point (slice_range points (offset contours k) (offset contours (k + 1))) part)) in
+    subst (All (IsSafe width)) (sym (slice_range-map point points (offset contours k) (offset contours (k + 1)))) (All-map (IsSafe width) point (slice_range points (offset contours k) (offset contours (k + 1))) part)) in
     all_from (ring rings shapes) (All (All (IsSafe width))) (length shapes - 1) (λ k less.
     All-take (All (IsSafe width)) (offset shapes (k + 1) - offset shapes k) (drop (offset shapes k) rings) (All-drop (All (IsSafe width)) (offset shapes k) rings each))
 
@@ -113,10 +110,17 @@ offsets-ends : {X : Type 0} (start : ℕ) (xs : List (List X)) → start ∷ map
 offsets-ends start [] = refl
 offsets-ends start (x ∷ xs) = ap (λ w. start ∷ w) (offsets-ends (start + length x) xs)
 
--- the program's shapes by their lists of points
-pub as_lists : {I : Type 0} (value : I → ℤ) (shapes : List (Vec (Vec (IntPoint I)))) → shapes_of value shapes ≡ map (map (contour_of value)) (shape_lists shapes)
-as_lists value [] = refl
-as_lists value (shape ∷ shapes) = λ i. sym (map-map (contour_of value) (λ contour. contour.items) shape.items) i ∷ as_lists value shapes i
+-- a buffer has as many points, contours and shapes as the shapes that it holds
+pub held_counts : {I : Type 0} (value : I → ℤ) (buffer : FlatShapesBuffer I) (list : List (List (List (IntPoint I)))) → HoldsShapes buffer list
+    → (length (joined (joined (map (map (contour_of value)) list))) ≡ length buffer.points.items)
+    × (length (joined (map (map (contour_of value)) list)) ≡ length buffer.contour_ranges.items)
+    × (length (map (map (contour_of value)) list) ≡ length buffer.shape_ranges.items)
+held_counts value buffer list held =
+    let rings = joined-map (contour_of value) list in (
+      ap length (ap joined rings ∙ joined-map (point_of value) (joined list) ∙ ap (contour_of value) (sym held.points)) ∙ length-map buffer.points.items (point_of value),
+      ap length rings ∙ length-map (joined list) (contour_of value) ∙ sym (ap length held.contour_ranges ∙ length-end_to_end 0 (joined list)),
+      length-map list (map (contour_of value)) ∙ sym (ap length held.shape_ranges ∙ length-end_to_end 0 list),
+    )
 
 -- what is written is what is left
 module _ {P I : Type 0} (Gives : List (List (List Point)) → List (List (List Point)) → Type 0) (value : I → ℤ) (to : P → IntPoint I) (of : IntPoint I → P) (same : (p : IntPoint I) → to (of p) ≡ p) where
@@ -126,16 +130,18 @@ module _ {P I : Type 0} (Gives : List (List (List Point)) → List (List (List P
       → drop (0 + length buffer.points.items) new_points ≡ drop (0 + length buffer.points.items) old_points
       → new_contours ≡ 0 ∷ (map (λ range. range.end) buffer.contour_ranges.items ++ drop (length buffer.contour_ranges.items + 1) old_contours)
       → new_shapes ≡ 0 ∷ (map (λ range. range.end) buffer.shape_ranges.items ++ drop (length buffer.shape_ranges.items + 1) old_shapes)
+      → (length buffer.points.items ≤ length points) × (length buffer.contour_ranges.items < length contours) × (length buffer.shape_ranges.items < length shapes)
       → AreShapesLeft Gives (λ p. point_of value (to p)) points contours shapes old_points new_points old_contours new_contours old_shapes new_shapes (length buffer.shape_ranges.items)
-  shapes_written points contours shapes old_points new_points old_contours new_contours old_shapes new_shapes buffer list held left is_points rest is_contours is_shapes =
+  shapes_written points contours shapes old_points new_points old_contours new_contours old_shapes new_shapes buffer list held left is_points rest is_contours is_shapes fewer =
       let made = map (map (contour_of value)) list in
       let rings : joined made ≡ map (contour_of value) (joined list) = joined-map (contour_of value) list in
       let whole : joined (joined made) ≡ contour_of value buffer.points.items = ap joined rings ∙ joined-map (point_of value) (joined list) ∙ ap (contour_of value) (sym held.points) in
-      let count : length (joined (joined made)) ≡ length buffer.points.items = ap length whole ∙ length-map buffer.points.items (point_of value) in
+      let counts = held_counts value buffer list held in
+      let count : length (joined (joined made)) ≡ length buffer.points.items = counts.0 in
       let zero_more : 0 + length buffer.points.items ≡ length buffer.points.items = omega arith in
       let front : take (length buffer.points.items) new_points ≡ map of buffer.points.items = sym (from_start new_points (length buffer.points.items)) ∙ rw (← zero_more) is_points in
-      let ring_count : length buffer.contour_ranges.items ≡ length (joined made) = ap length held.contour_ranges ∙ length-end_to_end 0 (joined list) ∙ sym (ap length rings ∙ length-map (joined list) (contour_of value)) in
-      let shape_count : length buffer.shape_ranges.items ≡ length made = ap length held.shape_ranges ∙ length-end_to_end 0 list ∙ sym (length-map list (map (contour_of value))) in
+      let ring_count : length buffer.contour_ranges.items ≡ length (joined made) = sym counts.1 in
+      let shape_count : length buffer.shape_ranges.items ≡ length made = sym counts.2 in
       let ring_offsets : 0 ∷ map (λ range. range.end) buffer.contour_ranges.items ≡ offsets_of 0 (joined made) =
       ap (λ w. 0 ∷ map (λ range. range.end) w) held.contour_ranges ∙ offsets-ends 0 (joined list) ∙ sym (ap (offsets_of 0) rings ∙ offsets-map (point_of value) 0 (joined list)) in
       let shape_offsets : 0 ∷ map (λ range. range.end) buffer.shape_ranges.items ≡ offsets_of 0 made =
@@ -143,7 +149,10 @@ module _ {P I : Type 0} (Gives : List (List (List Point)) → List (List (List P
       record {
         list = made;
         left = left;
-        count = sym shape_count;
+        count = counts.2;
+        fewer_points = omega (arith, fewer.0, count);
+        fewer_contours = omega (arith, fewer.1, ring_count);
+        fewer_shapes = fewer.2;
         written = rw count (ap (map (λ p. point_of value (to p))) front ∙ same_points value to of same buffer.points.items ∙ sym whole);
         rest = rw (count, ← zero_more) rest;
         contours_are = is_contours ∙ ap (λ w. w ++ drop (length buffer.contour_ranges.items + 1) old_contours) ring_offsets ∙ ap (λ n. offsets_of 0 (joined made) ++ drop (n + 1) old_contours) ring_count;

@@ -1,5 +1,5 @@
 -- Polygons in three arrays: points, offsets that part these into contours, and offsets that part the contours into polygons.
-use Rattle.std.specs.Prelude.{◌≡◌, ℕ, ℤ, ◌+◌, ◌-◌, ◌<◌, ◌++◌, pos, negsuc, List, [], ◌∷◌, map, length, take, drop}
+use Rattle.std.specs.Prelude.{◌≡◌, ℕ, ℤ, ◌+◌, ◌-◌, ◌<◌, ◌≤◌, ◌++◌, pos, negsuc, List, [], ◌∷◌, map, length, take, drop}
 use Rattle.std.specs.List.{range_with_len}
 use Rattle.i_shape.specs.Point.{Point}
 use Rattle.i_shape.specs.Paths.{joined}
@@ -23,11 +23,21 @@ pub record CanCleanShapes (points : ℕ) (contours shapes : List ℕ) (out_point
   pub contours_fit : CanClean points contours out_points out_contours
   pub shapes_fit : CanClean (length contours - 1) shapes (length contours - 1) out_shapes
 
--- the new arrays hold what is left of the polygons, which are n then, from the start on, and behind it what they held
+-- there are no more polygons, contours and points than there were
+pub record AreFewer (given left : List (List (List Point))) : Type 0 where
+  pub shapes : length left ≤ length given
+  pub contours : length (joined left) ≤ length (joined given)
+  pub points : length (joined (joined left)) ≤ length (joined (joined given))
+
+-- the new arrays hold what is left of the polygons, which are n then, from the start on, and behind it what they held; there are no more
+-- points, contours and polygons than were given
 pub record AreShapesLeft {P : Type 0} (Gives : List (List (List Point)) → List (List (List Point)) → Type 0) (point : P → Point) (points : List P) (contours shapes : List ℕ) (old_points new_points : List P) (old_contours new_contours old_shapes new_shapes : List ℕ) (n : ℕ) : Type 0 where
   pub list : List (List (List Point))
   pub left : Gives (polygons (map point points) contours shapes) list
   pub count : length list ≡ n
+  pub fewer_points : length (joined (joined list)) ≤ length points
+  pub fewer_contours : length (joined list) < length contours
+  pub fewer_shapes : n < length shapes
   pub written : map point (take (length (joined (joined list))) new_points) ≡ joined (joined list)
   pub rest : drop (length (joined (joined list))) new_points ≡ drop (length (joined (joined list))) old_points
   pub contours_are : new_contours ≡ offsets_of 0 (joined list) ++ drop (length (joined list) + 1) old_contours

@@ -11,8 +11,11 @@ ghost use Rattle.i_shape.specs.CanonicalShapes.{ListForm};
 ghost use Rattle.i_shape.specs.ShapeAnswers.{ListClean};
 ghost use Rattle.i_shape.specs.ShapeLists.{shapes_of, IsSafeList};
 ghost use Rattle.i_shape_c.specs.Cleaned.{IsFewer};
+ghost use Rattle.i_shape_c.specs.Polygons.{AreFewer};
 ghost use Rattle.i_shape_core.proofs.Ends.{reach_shrinks};
 ghost use Rattle.i_shape_core.proofs.Rotations.{rotation_length};
+ghost use Rattle.i_shape_int.proofs.Fewer.{list_fewer, despike_fewer};
+ghost use Rattle.i_shape.proofs.FewerForms.{forms_fewer};
 
 use i_shape::int::canonical::CanonicalShapes;
 use i_shape::int::despike::{DeSpikeContour, DeSpikeShapes};
@@ -48,6 +51,9 @@ pub trait ShapesCleaner<I: IntNumber> {
     fn clean(alloc: Global, shapes: &IntShapes<I>) -> Result<IntShapes<I>, ShapeError>
         requires { IsSafeList I.width (shapes_of I.value shapes.now.items) }
         ensures { IfOk result (λ r. gives (shapes_of I.value shapes.now.items) (shapes_of I.value r.items)) };
+
+    /// No more polygons, contours and points are left than there were.
+    ghost fewer: { (given left : List (List (List Point))) → gives given left → AreFewer given left };
 }
 
 /// Removes zero turns.
@@ -74,6 +80,8 @@ impl<I: IntNumber> Cleaner<I> for Simplifier {
 
 impl<I: IntNumber> ShapesCleaner<I> for Simplifier {
     ghost gives = { ListClean SimpleAnswer };
+
+    ghost fewer = { λ given left clean. let counts = list_fewer SimpleAnswer (λ c e one. reach_shrinks one.ended.reached) given left clean in record { shapes = counts.0; contours = counts.1; points = counts.2 } };
 
     fn clean(alloc: Global, shapes: &IntShapes<I>) -> Result<IntShapes<I>, ShapeError> {
         shapes.as_slice().simplified(alloc)
@@ -102,6 +110,8 @@ impl<I: IntNumber> Cleaner<I> for DeSpiker {
 
 impl<I: IntNumber> ShapesCleaner<I> for DeSpiker {
     ghost gives = { ListClean DespikeAnswer };
+
+    ghost fewer = { λ given left clean. let counts = list_fewer DespikeAnswer despike_fewer given left clean in record { shapes = counts.0; contours = counts.1; points = counts.2 } };
 
     fn clean(alloc: Global, shapes: &IntShapes<I>) -> Result<IntShapes<I>, ShapeError> {
         shapes.despiked_shapes(alloc)
@@ -132,6 +142,8 @@ impl<I: IntNumber> Cleaner<I> for Canonicalizer {
 
 impl<I: IntNumber> ShapesCleaner<I> for Canonicalizer {
     ghost gives = { ListForm CanonicalAnswer };
+
+    ghost fewer = { λ given left form. let counts = forms_fewer CanonicalAnswer (λ c e l. subst (λ n. n ≤ length c) (rotation_length l.least.rotation) (reach_shrinks l.ends.ended.reached)) given left form in record { shapes = counts.0; contours = counts.1; points = counts.2 } };
 
     fn clean(alloc: Global, shapes: &IntShapes<I>) -> Result<IntShapes<I>, ShapeError> {
         shapes.as_slice().canonical(alloc)

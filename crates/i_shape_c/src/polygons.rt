@@ -1,7 +1,7 @@
 //! The cleaning of polygons, which lie in three arrays: points, offsets that part these into contours, and offsets that part the contours
 //! into polygons.
 
-ghost use Rattle.std.specs.Prelude.{◌≡◌, ◌↔◌, ◌+◌, ◌-◌, ◌^◌, ◌<◌, ◌≤◌, ◌∷◌, ◌++◌, List, length, map, drop, slice_range, IfOk, IsTrue, MatchBool};
+ghost use Rattle.std.specs.Prelude.{◌≡◌, ◌↔◌, ◌+◌, ◌-◌, ◌^◌, ◌<◌, ◌≤◌, ◌∷◌, ◌++◌, List, length, map, drop, slice_range, IfOk, IsTrue};
 ghost use Rattle.std.specs.List.{range_with_len};
 ghost use Rattle.i_shape.specs.IntPoint.{point_of, contour_of};
 ghost use Rattle.i_shape.specs.IntPoints.{IntPoint};
@@ -51,10 +51,11 @@ pub fn clean_shapes<P: CPoint, S: ShapesCleaner<P::Coordinate>>(
         return UNSAFE;
     }
     match shapes_left::<P, S>(alloc, points, contours, shapes) {
-        Ok(left) if write_shapes(&left, out_points, out_contours, out_shapes) => {
+        Ok(left) => {
+            write_shapes(&left, out_points, out_contours, out_shapes);
             left.shape_ranges.len() as isize
         }
-        _ => NO_MEMORY,
+        Err(_) => NO_MEMORY,
     }
 }
 
@@ -83,7 +84,8 @@ fn shapes_left<P: CPoint, S: ShapesCleaner<P::Coordinate>>(
     requires contours_part { CanClean (length points.now) contours.now (length points.now) (length contours.now) }
     requires shapes_part { CanClean (length contours.now - 1) shapes.now (length contours.now - 1) (length shapes.now) }
     requires points_safe { AreSafeContours P.Coordinate.width (λ p. point_of P.Coordinate.value (P.point p)) points.now contours.now }
-    ensures { IfOk result (λ buffer. (list : List (List (List (IntPoint P.Coordinate)))) × HoldsShapes buffer list × S.gives (polygons (map (λ p. point_of P.Coordinate.value (P.point p)) points.now) contours.now shapes.now) (map (map (contour_of P.Coordinate.value)) list)) }
+    ensures left { IfOk result (λ buffer. (list : List (List (List (IntPoint P.Coordinate)))) × HoldsShapes buffer list × S.gives (polygons (map (λ p. point_of P.Coordinate.value (P.point p)) points.now) contours.now shapes.now) (map (map (contour_of P.Coordinate.value)) list)) }
+    ensures fewer { IfOk result (λ buffer. (length buffer.points.items ≤ length points.now) × (length buffer.contour_ranges.items < length contours.now) × (length buffer.shape_ranges.items < length shapes.now)) }
 {
     let list = polygons_of(alloc, points, contours, shapes)?;
     let left = S::clean(alloc, &list)?;
@@ -136,31 +138,24 @@ fn contours_between<P: CPoint>(
     Ok(shape)
 }
 
-/// Writes polygons to the front of the three arrays, and answers whether there is room. There always is, since cleaning leaves no more of
-/// anything than there was. That isn't proved.
+/// Writes polygons to the front of the three arrays.
 fn write_shapes<P: CPoint>(
     shapes: &FlatShapesBuffer<P::Coordinate>,
     out_points: &mut [P],
     out_contours: &mut [usize],
     out_shapes: &mut [usize],
-) -> bool
-    ensures { MatchBool result
-        ((length shapes.now.shape_ranges.items < length out_shapes.old)
-        × (slice_range out_points.new 0 (0 + length shapes.now.points.items) ≡ map P.c_point shapes.now.points.items)
-        × (drop (0 + length shapes.now.points.items) out_points.new ≡ drop (0 + length shapes.now.points.items) out_points.old)
-        × (out_contours.new ≡ 0 ∷ map (λ range. range.end) shapes.now.contour_ranges.items ++ drop (length shapes.now.contour_ranges.items + 1) out_contours.old)
-        × (out_shapes.new ≡ 0 ∷ map (λ range. range.end) shapes.now.shape_ranges.items ++ drop (length shapes.now.shape_ranges.items + 1) out_shapes.old))
-        ((out_points.new ≡ out_points.old) × (out_contours.new ≡ out_contours.old) × (out_shapes.new ≡ out_shapes.old)) }
+)
+    requires points_room { length shapes.now.points.items ≤ length out_points.old }
+    requires contours_room { length shapes.now.contour_ranges.items < length out_contours.old }
+    requires shapes_room { length shapes.now.shape_ranges.items < length out_shapes.old }
+    ensures points { slice_range out_points.new 0 (0 + length shapes.now.points.items) ≡ map P.c_point shapes.now.points.items }
+    ensures rest { drop (0 + length shapes.now.points.items) out_points.new ≡ drop (0 + length shapes.now.points.items) out_points.old }
+    ensures contours { out_contours.new ≡ 0 ∷ map (λ range. range.end) shapes.now.contour_ranges.items ++ drop (length shapes.now.contour_ranges.items + 1) out_contours.old }
+    ensures shapes { out_shapes.new ≡ 0 ∷ map (λ range. range.end) shapes.now.shape_ranges.items ++ drop (length shapes.now.shape_ranges.items + 1) out_shapes.old }
 {
-    let has_room = shapes.points.len() <= out_points.len()
-        && shapes.contour_ranges.len() < out_contours.len()
-        && shapes.shape_ranges.len() < out_shapes.len();
-    if has_room {
-        copy_out(shapes.points.as_slice(), out_points, 0);
-        write_offsets(shapes.contour_ranges.as_slice(), out_contours);
-        write_offsets(shapes.shape_ranges.as_slice(), out_shapes);
-    }
-    has_room
+    copy_out(shapes.points.as_slice(), out_points, 0);
+    write_offsets(shapes.contour_ranges.as_slice(), out_contours);
+    write_offsets(shapes.shape_ranges.as_slice(), out_shapes);
 }
 
 /// Writes where lists that lie end to end begin, and where the last one ends, to the front of `out`.

@@ -7,7 +7,7 @@ use Rattle.std.specs.Result.{IsOk, IsErr, is_ok, OnOk}
 use Rattle.std.specs.List.{All, AllZip, filter_map, sum_by, slice_get}
 use Rattle.std.proofs.lemmas.Int.{ints}
 use Rattle.std.proofs.lemmas.List.Elements.{All-nil, All-cons, All-head, All-tail, All-append, All-take, All-drop}
-use Rattle.std.proofs.lemmas.List.{map-append, take-map, drop-map}
+use Rattle.std.proofs.lemmas.List.{map-append}
 use Rattle.std.proofs.lemmas.List.Sums.{sum_by-cons}
 use Rattle.std.proofs.lemmas.Simd.{map-map}
 use Rattle.i_shape_core.specs.Point.{Point}
@@ -30,12 +30,14 @@ use Rattle.i_shape_core.proofs.Answered.{simple_kept}
 use Rattle.i_shape_core.proofs.Spikes.{spikeless_end}
 use Rattle.i_shape_int.proofs.Keeping.{inside_count-append}
 use Rattle.i_shape_int.proofs.Surviving.{survivors_have}
+use Rattle.i_shape_int.proofs.ShapeRanges.{slice_range-map, slices-part_of}
 
 -- the contours of a shape are read from the lists of its points
 pub shape_of_paths : {I : Type 0} (value : I → ℤ) (contours : List (Vec (IntPoint I))) → shape_of value contours ≡ map (contour_of value) (paths_of_shape contours)
 shape_of_paths value contours = sym (map-map (contour_of value) (λ contour. contour.items) contours)
 
-shapes_of_lists : {I : Type 0} (value : I → ℤ) (shapes : List (Vec (Vec (IntPoint I)))) → shapes_of value shapes ≡ map (map (contour_of value)) (shape_lists shapes)
+-- shapes are read from the lists of points of their contours
+pub shapes_of_lists : {I : Type 0} (value : I → ℤ) (shapes : List (Vec (Vec (IntPoint I)))) → shapes_of value shapes ≡ map (map (contour_of value)) (shape_lists shapes)
 shapes_of_lists value [] = refl
 shapes_of_lists value (shape ∷ shapes) = λ i. shape_of_paths value shape.items i ∷ shapes_of_lists value shapes i
 
@@ -49,8 +51,7 @@ safe_ranges width value points contours (range ∷ ranges) safe =
     let n = range.end - range.start in
     let all = map (contour_of value) (slices points contours) in
     let same : take n (drop range.start all) ≡ contours_of value (slices points (part_of contours range)) =
-    ap (take n) (drop-map (contour_of value) range.start (slices points contours) ∙ ap (map (contour_of value)) (drop-map (part_of points) range.start contours))
-    ∙ take-map (contour_of value) n (map (part_of points) (drop range.start contours)) ∙ ap (map (contour_of value)) (take-map (part_of points) n (drop range.start contours)) in
+    slice_range-map (contour_of value) (slices points contours) range.start range.end ∙ ap (map (contour_of value)) (sym (slices-part_of points contours range)) in
     let here = subst (IsSafeShape width) same (All-take (All (IsSafe width)) n (drop range.start all) (All-drop (All (IsSafe width)) range.start all safe)) in
     All-cons (IsSafeShape width) (contours_of value (slices points (part_of contours range))) (map (contours_of value) (shapes points contours ranges)) here (safe_ranges width value points contours ranges safe)
 

@@ -1,6 +1,7 @@
 pub mod EqualLists
 pub mod Surviving
 pub mod Keeping
+pub mod Fewer
 pub mod EndToEnd
 pub mod ContoursHeld
 pub mod ShapeRanges

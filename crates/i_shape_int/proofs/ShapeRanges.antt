@@ -1,5 +1,5 @@
 -- Shapes by ranges of contour ranges.
-use Rattle.std.proofs.Common.{◌≡◌, ℕ, ◌+◌, ◌-◌, ◌≤◌, List, [], ◌∷◌, ◌++◌, length, take, drop, refl, sym, ap, ◌∙◌, arith, append-nil, inl, inr, length-append, length-drop}
+use Rattle.std.proofs.Common.{◌≡◌, ℕ, ◌+◌, ◌-◌, ◌≤◌, List, [], ◌∷◌, ◌++◌, length, map, take, drop, slice_range, refl, sym, ap, ◌∙◌, arith, append-nil, inl, inr, length-append, length-drop}
 use Rattle.std.proofs.lemmas.List.{take-map, drop-map, take-append-le, drop-append-le, drop_at, map-append, take_all}
 use Rattle.std.proofs.lemmas.List.Elements.{All-head, All-tail, All-take, All-drop, All-weaker, All-push}
 use Rattle.std.proofs.lemmas.Bool.{cases_lt}
@@ -9,10 +9,13 @@ use Rattle.i_shape_source.specs.Paths.{joined}
 use Rattle.i_shape_int.specs.Flat.{InOrder, IsReadableShape, part_of, slices, shapes, end_to_end}
 use Rattle.i_shape_int.proofs.EndToEnd.{slices-end_to_end, slices_joined, InOrder-end_to_end, InOrder_joined, length-end_to_end}
 
+-- a part of a list whose items are made into others
+pub slice_range-map : {X Y : Type 0} (f : X → Y) (xs : List X) (a b : ℕ) → slice_range (map f xs) a b ≡ map f (slice_range xs a b)
+slice_range-map f xs a b = ap (take (b - a)) (drop-map f a xs) ∙ take-map f (b - a) (drop a xs)
+
 -- the slices of some of the ranges are some of the slices
 pub slices-part_of : {P : Type 0} (points : List P) (ranges : List (Range ℕ)) (range : Range ℕ) → slices points (part_of ranges range) ≡ part_of (slices points ranges) range
-slices-part_of points ranges range =
-    sym (ap (take (range.end - range.start)) (drop-map (part_of points) range.start ranges) ∙ take-map (part_of points) (range.end - range.start) (drop range.start ranges))
+slices-part_of points ranges range = sym (slice_range-map (part_of points) ranges range.start range.end)
 
 -- a part that is there stays as it is where the list grows
 pub part_of-append : {P : Type 0} (list more : List P) (range : Range ℕ) → InOrder (length list) range → part_of (list ++ more) range ≡ part_of list range

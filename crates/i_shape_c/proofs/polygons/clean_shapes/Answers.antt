@@ -13,15 +13,19 @@ part-requires-clause-order g c =
 pub returns-in-Ok-clause-answer : goal.returns-in-Ok-clause-answer
 returns-in-Ok-clause-answer g c =
     let left = c.in-Ok.left in
-    let wrote = c.if-write_shapes.ensures in
+    let can = c.if-not-can_clean_shapes.ensures.0 refl in
+    let fewer = c.in-Ok.ensures.fewer in
+    let held = c.in-Ok.ensures.left in
+    let wrote = c.write_shapes.ensures in
     let count : c.len.result ≡ length left.shape_ranges.items = omega (arith, c.len.ensures, left.shape_ranges.ok.0) in
-    let small : c.len.result < 2 ^ 63 = omega (arith, count, wrote.0, c.requires) in
+    let small : c.len.result < 2 ^ 63 = omega (arith, count, fewer.2, can.shapes_fit.offsets_room, c.requires) in
     rw (to_z_pos w64 c.len.result small, count) (shapes_written g.S.ShapesCleaner.gives g.P.Coordinate.IntNumber.value g.P.CPoint.point g.P.CPoint.c_point g.P.CPoint.same c.args.points.now c.args.contours.now c.args.shapes.now
     c.args.out_points.now c.write_shapes.new.out_points c.args.out_contours.now c.write_shapes.new.out_contours c.args.out_shapes.now c.write_shapes.new.out_shapes
-    left c.in-Ok.ensures.0 c.in-Ok.ensures.1 c.in-Ok.ensures.2 wrote.1 wrote.2 wrote.3 wrote.4)
+    left held.0 held.1 held.2 wrote.points wrote.rest wrote.contours wrote.shapes fewer)
 
 pub returns-in-Ok-clause-unsafe_points : goal.returns-in-Ok-clause-unsafe_points
 returns-in-Ok-clause-unsafe_points g c =
     let left = c.in-Ok.left in
-    let small : c.len.result < 2 ^ 63 = omega (arith, c.len.ensures, left.shape_ranges.ok.0, c.if-write_shapes.ensures.0, c.requires) in
+    let can = c.if-not-can_clean_shapes.ensures.0 refl in
+    let small : c.len.result < 2 ^ 63 = omega (arith, c.len.ensures, left.shape_ranges.ok.0, c.in-Ok.ensures.fewer.2, can.shapes_fit.offsets_room, c.requires) in
     rw (to_z_pos w64 c.len.result small) (λ is. search rules, λ both. absurd (both.1 (rw c.part.ensures.part at c.if-not-are_safe.ensures.0 refl)))
