@@ -9,6 +9,7 @@ usage: .ci/pages.py [PAGE..]
 - a block `c`: it stands in a file of C;
 - a block `console`: its commands run in order, each printing what stands below it;
 - the links within the repository: the page is there, and the heading;
+- docs/ARCHITECTURE.md names each file of lemmas;
 - the version: it is that of the header in CHANGELOG.md, in the archive, in the Python package and in the crate for Rust.
 
 The sources are proved, compiled and tested by other parts of the gate. A block `console` names what has to be there, as in `console library python`, and is
@@ -23,8 +24,8 @@ import tempfile
 
 TOP = os.path.dirname(os.path.dirname(os.path.abspath(__file__)))
 PAGES = ["README.md", "CHANGELOG.md", "docs/*.md", "examples/*/README.md"]
-RUST = ["crates/*/src/**/*.rt", "bindings/rust/**/*.rs", "examples/**/*.rs"]
-C = ["bindings/c/*.c", "bindings/c/*.h", "examples/**/*.c", "include/*.h"]
+RUST = ["crates/*/src/**/*.rt", "bindings/rust/**/*.rs", "examples/**/*.rs", "bench/**/*.rs"]
+C = ["bindings/c/*.c", "bindings/c/*.h", "examples/**/*.c", "bench/**/*.c", "include/*.h"]
 NEEDED = {
     "program": "test -x crates/i_shape_tool_main/out/i_shape_tool_main",
     "library": "test -e bindings/c/out/libi_shape.a",
@@ -93,6 +94,9 @@ def fault_of_rust(text):
 
 
 def fault_of_clauses(text):
+    """What of a quoted contract stands in no source. A block without clauses is no quotation."""
+    if not re.search(r"^\s*(requires|ensures|ghost)\b", text, re.MULTILINE):
+        return None
     sources = {line.strip().rstrip(";,") for name in files(RUST) for line in read(name).splitlines()}
     strange = [line for line in text.splitlines() if line.strip() and not line.startswith("//") and line.strip().rstrip(";,") not in sources]
     return f"no source has the line: {strange[0].strip()}" if strange else None
@@ -142,51 +146,57 @@ def fault_of_links(name, page):
     return None
 
 
-def versions():
-    """The version, as each file that says it has it."""
+def fault_of_version():
+    """The version in each file that says it is that of the header."""
     header = re.search(r"I_SHAPE_VERSION 0x(..)(..)(..)$", read(f"{TOP}/include/i_shape.h"), re.MULTILINE)
-    parts = [int(part, 16) for part in header.groups()]
-    archive = re.findall(r"const (?:MAJOR|MINOR|PATCH): u32 = (\d+);", read(f"{TOP}/crates/i_shape_c/src/version.rt"))
+    major, minor, patch = (int(part, 16) for part in header.groups())
     package = int(re.search(r"_VERSION = (0x\w+)", read(f"{TOP}/bindings/python/src/i_shape/_library.py"))[1], 16)
-    return {
-        "include/i_shape.h": ".".join(map(str, parts)),
-        "crates/i_shape_c/src/version.rt": ".".join(archive),
-        "bindings/rust/Cargo.toml": re.search(r'^version = "(.*)"$', read(f"{TOP}/bindings/rust/Cargo.toml"), re.MULTILINE)[1],
-        "bindings/python/src/i_shape/_library.py": f"{package >> 8}.{package & 255}.{parts[2]}",
-        "CHANGELOG.md": re.search(r"^## (\S+)", read(f"{TOP}/CHANGELOG.md"), re.MULTILINE)[1],
+    told = {
+        "the archive": ".".join(re.findall(r"const (?:MAJOR|MINOR|PATCH): u32 = (\d+);", read(f"{TOP}/crates/i_shape_c/src/version.rt"))),
+        "the crate for Rust": re.search(r'^version = "(.*)"$', read(f"{TOP}/bindings/rust/Cargo.toml"), re.MULTILINE)[1],
+        "the Python package": f"{package >> 8}.{package & 255}.{patch}",
+        "this page": re.search(r"^## (\S+)", read(f"{TOP}/CHANGELOG.md"), re.MULTILINE)[1],
     }
+    version = f"{major}.{minor}.{patch}"
+    return "; ".join(f"{name} says {text}, the header {version}" for name, text in told.items() if text != version) or None
+
+
+def fault_of_lemmas():
+    """Each file of lemmas is named."""
+    page = read(f"{TOP}/docs/ARCHITECTURE.md")
+    names = {os.path.basename(name).removesuffix(".antt") for name in files(["crates/*/proofs/*.antt"])} - {"Lib"}
+    return ", ".join(sorted(f"{name} isn't named" for name in names if f"`{name}`" not in page)) or None
 
 
 FAULTS = {"rust": fault_of_rust, "text": fault_of_clauses, "c": fault_of_c, "console": fault_of_console}
 
 
+def tests_of(name):
+    """What is tested of a page: the place, what has to be there, and what looks for a fault."""
+    page = read(name)
+    for language, line, text in blocks(page):
+        kind, *needed = (language or "none").split()
+        if kind in FAULTS:
+            yield f"line {line} ({kind})", needed, lambda kind=kind, text=text: FAULTS[kind](text)
+    yield "links", [], lambda: fault_of_links(name, page)
+
+
 def main():
-    failed = passed = skipped = 0
+    counts = {"passed": 0, "failed": 0, "skipped": 0}
     pages = [os.path.abspath(name) for name in sys.argv[1:]] or files(PAGES)
-    for name in pages:
-        page = read(name)
-        tests = [(f"{line} ({language})", language, text) for language, line, text in blocks(page)]
-        for place, language, text in tests + [("links", None, page)]:
-            kind, *needed = (language or "links").split()
-            if kind not in (*FAULTS, "links"):
-                continue
-            if not all(is_at_hand(word) for word in needed):
-                print(f"skipped: {os.path.relpath(name, TOP)}, {place}")
-                skipped += 1
-                continue
-            fault = fault_of_links(name, page) if language is None else FAULTS[kind](text)
-            passed += fault is None
-            failed += fault is not None
-            if fault:
-                print(f"failed: {os.path.relpath(name, TOP)}, {place}: {fault}")
+    tests = [(os.path.relpath(name, TOP), *test) for name in pages for test in tests_of(name)]
     if not sys.argv[1:]:
-        told = versions()
-        passed += len(set(told.values())) == 1
-        if len(set(told.values())) > 1:
-            failed += 1
-            print(f"failed: the version: {told}")
-    print(f"pages: {passed} passed, {failed} failed" + (f", {skipped} skipped" if skipped else ""))
-    return failed > 0
+        tests += [("CHANGELOG.md", "the version", [], fault_of_version), ("docs/ARCHITECTURE.md", "lemma files", [], fault_of_lemmas)]
+    for page, place, needed, look in tests:
+        missing = [name for name in needed if not is_at_hand(name)]
+        fault = f"there is no {missing[0]}" if missing else look()
+        verdict = "skipped" if missing else "failed" if fault else "passed"
+        counts[verdict] += 1
+        if fault:
+            print(f"{verdict}: {page}, {place}: {fault}")
+    skipped = f", {counts['skipped']} skipped" if counts["skipped"] else ""
+    print(f"pages: {counts['passed']} passed, {counts['failed']} failed{skipped}")
+    return counts["failed"] > 0
 
 
 sys.exit(main())

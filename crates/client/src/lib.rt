@@ -7,6 +7,7 @@ pub mod buffer;
 pub mod chain;
 pub mod chain_at_i64;
 pub mod contour;
+pub mod first;
 pub mod list;
 pub mod refusal;
 pub mod shape;
