@@ -10,3 +10,4 @@ pub mod Turn
 pub mod Refusals
 pub mod Canonical
 pub mod Walks
+pub mod Blocks

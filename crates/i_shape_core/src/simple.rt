@@ -3,8 +3,10 @@
 ghost use Rattle.std.specs.Prelude.{◌≡◌, ◌↔◌, ◌<◌, List, length, IsTrue, IfOk, IsOkUnless};
 ghost use Rattle.std.specs.Option.{IfSome};
 ghost use Rattle.std.specs.List.{All};
-ghost use Rattle.i_shape_core.specs.IntPoint.{contour_of, IsSafe, answered};
+ghost use Rattle.i_shape_core.specs.IntPoint.{point_of, contour_of, IsSafe, answered};
 ghost use Rattle.i_shape_core.specs.Point.{Point};
+ghost use Rattle.i_shape_core.specs.Blocks.{Flat, last_edge};
+ghost use Rattle.i_shape_core.specs.Convex.{last_of};
 ghost use Rattle.i_shape_core.specs.Contour.{Sublist, IsSimple};
 ghost use Rattle.i_shape_core.specs.Cleaners.{SimpleAnswer, KeptAnswer};
 ghost use Rattle.i_shape_core.specs.Canonical.{CanonicalAnswer, UnorientedAnswer, KeptEitherWay};
@@ -77,13 +79,16 @@ impl<I: IntNumber> SimpleContour<I> for &[IntPoint<I>] {
         let last = points.len() - 1;
         let mut here = points[last];
         let mut edge = here - points[last - 1];
-        for point in points {
-            let next = *point - here;
-            if edge.cross_product(next) == I::Wide::ZERO {
+        let mut rest = points;
+        while rest.len() > 0 {
+            let (block, later) = rest.split_at(rest.len().min(64));
+            let (has_zero_turn, last_edge, end) = walk_block(edge, here, block);
+            if has_zero_turn {
                 return false;
             }
-            here = *point;
-            edge = next;
+            edge = last_edge;
+            here = end;
+            rest = later;
         }
         true
     }
@@ -99,4 +104,31 @@ impl<I: IntNumber> SimpleContour<I> for &[IntPoint<I>] {
     fn canonical_unoriented(&self, alloc: Global) -> Result<Option<IntContour<I>>, ShapeError> {
         ContourSimplifier::new(alloc).canonical_unoriented(*self)
     }
+}
+
+/// Walks over a block of points from `start`, to which the edge `first` leads: whether it passes a zero turn, its last edge, and
+/// its last point. It has no early end, and so no branch between points.
+fn walk_block<I: IntNumber>(
+    first: IntPoint<I>,
+    start: IntPoint<I>,
+    block: &[IntPoint<I>],
+) -> (bool, IntPoint<I>, IntPoint<I>)
+    requires start_safe { IsSafe I.width (point_of I.value start) }
+    requires block_safe { All (IsSafe I.width) (contour_of I.value block.now) }
+    ensures flat { IsTrue result.0 ↔ Flat (point_of I.value first) (point_of I.value start) (contour_of I.value block.now) }
+    ensures edge { point_of I.value result.1 ≡ last_edge (point_of I.value first) (point_of I.value start) (contour_of I.value block.now) }
+    ensures end { point_of I.value result.2 ≡ last_of (point_of I.value start) (contour_of I.value block.now) }
+    ensures end_safe { IsSafe I.width (point_of I.value result.2) }
+{
+    let mut edge = first;
+    let mut here = start;
+    let mut has_zero_turn = false;
+    for point in block {
+        let next = *point - here;
+        let is_zero = edge.cross_product(next) == I::Wide::ZERO;
+        has_zero_turn = has_zero_turn | is_zero;
+        edge = next;
+        here = *point;
+    }
+    (has_zero_turn, edge, here)
 }

@@ -1,10 +1,11 @@
 -- The safe paths of a contour, a shape and a list of shapes.
-use Rattle.std.proofs.Common.{◌↔◌, ℤ, List, [], ◌∷◌, ◌++◌, map}
+use Rattle.std.proofs.Common.{◌≡◌, ◌↔◌, ◌∙◌, ◌+◌, ◌<◌, ◌≤◌, ◌&&◌, Bool, true, false, IsTrue, ℕ, ℤ, List, length, get_or, [], ◌∷◌, ◌++◌, map, take, refl, subst, sym, ap, add-one}
+use Rattle.std.proofs.Math.Seq.{take-suc}
 use Rattle.std.specs.Global.{Vec}
 use Rattle.std.specs.Int.{Width}
 use Rattle.std.specs.List.{All}
-use Rattle.std.proofs.lemmas.List.{map-append}
-use Rattle.std.proofs.lemmas.List.Elements.{All-nil, All-cons, All-head, All-tail, All-append, All-map, All-weaker}
+use Rattle.std.proofs.lemmas.List.{map-append, take_all}
+use Rattle.std.proofs.lemmas.List.Elements.{All-push, All-nil, All-cons, All-head, All-tail, All-append, All-map, All-weaker}
 use Rattle.std.proofs.lemmas.Simd.{map-map}
 use Rattle.i_shape_core.specs.declared.point.IntPoint.{IntPoint}
 use Rattle.i_shape_core.specs.IntPoint.{contour_of, IsSafe}
@@ -30,6 +31,36 @@ module _ {X : Type 0} (P : X → Type 0) where
   -- a fact of each member of a mapped list is a fact of each member of the list
   pub mapped : {Y : Type 0} (f : Y → X) (ys : List Y) → All (λ y. P (f y)) ys ↔ All P (map f ys)
   mapped f ys = (All-map P f ys, unmapped f ys)
+
+  -- after a block that passes, a list passes where the rest does
+  pub block_on : (path rest block later : List X) (b : Bool) → rest ≡ block ++ later → IsTrue b ↔ All P block → IsTrue b → All P rest ↔ All P path → All P later ↔ All P path
+  block_on path rest block later b e f t w =
+      (λ h. w.0 (subst (All P) (sym e) (All-append P block later (f.0 t) h)), λ h. let both = parts block later (subst (All P) e (w.1 h)) in both.1)
+
+  -- and at a block that doesn't, it doesn't
+  pub block_stops : (path rest block later : List X) (b : Bool) → rest ≡ block ++ later → IsTrue b ↔ All P block → b ≡ false → All P rest ↔ All P path → All P path → ⊥
+  block_stops path rest block later b e f n w h =
+      let both = parts block later (subst (All P) e (w.1 h)) in
+      let t = f.1 both.0 in
+      absurd (cc)
+
+  both : {A B : Type 0} (s t : Bool) → IsTrue s ↔ A → IsTrue t ↔ B → IsTrue (s && t) ↔ (A × B)
+  both true t f g = (λ h. (f.0 refl, g.0 h), λ k. g.1 k.1)
+  both false t f g = (λ h. absurd (cc), λ k. f.1 k.0)
+
+  -- what is told of a list's first members and of the next is told of one member more
+  pub next_told : (xs : List X) (i : ℕ) (x : X) (s t : Bool) → i < length xs → x ≡ get_or xs i x → IsTrue s ↔ All P (take i xs) → IsTrue t ↔ P x → IsTrue (s && t) ↔ All P (take (i + 1) xs)
+  next_told xs i x s t within read f g =
+      let taken : take (i + 1) xs ≡ take i xs ++ x ∷ [] = rw (add-one i) (take-suc xs i x within ∙ ap (λ (y : X). take i xs ++ y ∷ []) (sym read)) in
+      let told = both s t f g in
+      subst (λ (ys : List X). IsTrue (s && t) ↔ All P ys) (sym taken) (
+        λ h. let k = told.0 h in All-push P (take i xs) x k.0 k.1,
+        λ h. let k = parts (take i xs) (x ∷ []) h in told.1 (k.0, (alone x).0 k.1),
+      )
+
+  -- and of all of them is told of the list
+  pub whole_told : (xs : List X) (i : ℕ) (s : Bool) → length xs ≤ i → IsTrue s ↔ All P (take i xs) → IsTrue s ↔ All P xs
+  whole_told xs i s over f = subst (λ (ys : List X). IsTrue s ↔ All P ys) (take_all i xs over) f
 
 module _ {I : Type 0} (width : Width) (value : I → ℤ) where
   -- one path is safe where its points are

@@ -1,5 +1,7 @@
 //! The safe-range test of a resource.
 ghost use Rattle.std.specs.Prelude.{◌↔◌, [], ◌∷◌, IsTrue};
+ghost use Rattle.std.specs.List.{All};
+ghost use Rattle.i_shape_core.specs.IntPoint.{point_of, IsSafe};
 ghost use Rattle.i_shape_source.specs.ShapeLists.{AreSafePaths};
 
 use crate::int::resource::IntShapeResource;
@@ -23,8 +25,37 @@ impl<'a, I: IntNumber + 'a, R: IntShapeResource<'a, I> + Copy> IntSafeRange<'a, 
     }
 }
 
+/// Blocks of eight points are tested without a branch between them.
 fn is_safe_path<I: IntNumber>(path: &[IntPoint<I>]) -> bool
     ensures { IsTrue result ↔ AreSafePaths I.width I.value (path.now ∷ []) }
 {
-    path.iter().all(|point| point.is_in_safe_range())
+    let mut rest = path;
+    while rest.len() >= 8 {
+        let (block, later) = rest.split_at(8);
+        if is_safe_block(block) {
+            rest = later;
+        } else {
+            return false;
+        }
+    }
+    are_safe(rest)
+}
+
+/// Whether each point is safe.
+fn are_safe<I: IntNumber>(points: &[IntPoint<I>]) -> bool
+    ensures { IsTrue result ↔ All (λ point. IsSafe I.width (point_of I.value point)) points.now }
+{
+    points.iter().all(|point| point.is_in_safe_range())
+}
+
+/// The same of a block, without an early end.
+fn is_safe_block<I: IntNumber>(block: &[IntPoint<I>]) -> bool
+    ensures { IsTrue result ↔ All (λ point. IsSafe I.width (point_of I.value point)) block.now }
+{
+    let mut is_safe = true;
+    for point in block {
+        let here = *point;
+        is_safe = is_safe & here.is_in_safe_range();
+    }
+    is_safe
 }

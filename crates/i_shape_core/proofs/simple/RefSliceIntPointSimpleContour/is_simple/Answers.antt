@@ -1,8 +1,6 @@
-use Rattle.std.proofs.Common.{◌∙◌, rules, refl, sym, ap, arith}
-use Rattle.i_shape_core.specs.Point.{cross_of}
-use Rattle.i_shape_core.specs.IntPoint.{point_of}
-use Rattle.i_shape_core.proofs.Contours.{read-safe, rest-read, rest-none, length-contour}
-use Rattle.i_shape_core.proofs.LastEdge.{start-read, walking-on, walking-stop, walking-end, zero-told}
+use Rattle.std.proofs.Common.{rules, arith, refl}
+use Rattle.i_shape_core.proofs.Contours.{read-safe, length-contour}
+use Rattle.i_shape_core.proofs.LastEdge.{start-read, first-safe, later-safe, block-on, block-stops, walking-done}
 use Rattle.i_shape_core.proofs.simple.RefSliceIntPointSimpleContour.is_simple.Goals as goal
 
 pub returns-then-points-lt3 : goal.returns-then-points-lt3
@@ -15,40 +13,34 @@ sub-edge-requires g c =
     let before = read-safe g.I.IntNumber.width g.I.IntNumber.value c.args.self.now.now _ _ c.requires (omega arith) c.index-points-last-2.is in
     search rules
 
-pub loop-point-init : goal.loop-point-init
-loop-point-init g c = record {
+pub loop-rest-init : goal.loop-rest-init
+loop-rest-init g c = record {
   here_safe = read-safe g.I.IntNumber.width g.I.IntNumber.value c.args.self.now.now _ _ c.requires (omega arith) c.index-points-last.is;
+  rest_safe = c.requires;
   walking = start-read g.I.IntNumber.value c.args.self.now.now _ _ _ c.if-points-lt3.false c.index-points-last.is c.index-points-last-2.is c.sub-edge.ensures;
 }
 
-pub sub-next-requires : goal.sub-next-requires
-sub-next-requires g c =
-    let next = read-safe g.I.IntNumber.width g.I.IntNumber.value c.args.self.now.now _ _ c.requires c.loop-point-test.true c.point-item.is in
-    search rules
+pub walk_block-has_zero_turn-requires-clause-start_safe : goal.walk_block-has_zero_turn-requires-clause-start_safe
+walk_block-has_zero_turn-requires-clause-start_safe g c = c.loop-rest.invariant.here_safe
 
-pub returns-then-eq : goal.returns-then-eq
-returns-then-eq g c =
-    let value = g.I.IntNumber.value in
-    let wide = g.met.I.Wide.WideIntNumber in
-    let zero = zero-told _ _ wide.equality _ _ c.eq.result (ap g.I.Wide.WideIntNumber.value c.ZERO.ensures ∙ wide.zero_value) c.eq.ensures in
-    let rest = rest-read value c.args.self.now.now _ _ c.loop-point-test.true c.point-item.is in
-    let flat = ap (cross_of (point_of value c.loop-point.edge)) (sym c.sub-next.ensures) ∙ sym c.cross_product.ensures ∙ zero.0 c.if-eq.true in
-    (λ f. absurd (cc), λ s. absurd (walking-stop _ _ _ _ _ (rw rest at c.loop-point.invariant.walking) flat s))
+pub walk_block-has_zero_turn-requires-clause-block_safe : goal.walk_block-has_zero_turn-requires-clause-block_safe
+walk_block-has_zero_turn-requires-clause-block_safe g c = first-safe g.I.IntNumber.width g.I.IntNumber.value _ _ _ c.split_at.ensures.front c.loop-rest.invariant.rest_safe
 
-pub loop-point-preserved : goal.loop-point-preserved
-loop-point-preserved g c =
-    let value = g.I.IntNumber.value in
-    let wide = g.met.I.Wide.WideIntNumber in
-    let zero = zero-told _ _ wide.equality _ _ c.eq.result (ap g.I.Wide.WideIntNumber.value c.ZERO.ensures ∙ wide.zero_value) c.eq.ensures in
-    let rest = rest-read value c.args.self.now.now _ _ c.loop-point-test.true c.point-item.is in
-    record {
-      here_safe = read-safe g.I.IntNumber.width value c.args.self.now.now _ _ c.requires c.loop-point-test.true c.point-item.is;
-      walking = rw c.sub-next.ensures (walking-on _ _ _ _ _ (rw rest at c.loop-point.invariant.walking)
-          (λ z. let t = zero.1 (c.cross_product.ensures ∙ ap (cross_of (point_of value c.loop-point.edge)) c.sub-next.ensures ∙ z) in absurd (cc)));
-    }
+pub returns-then-has_zero_turn : goal.returns-then-has_zero_turn
+returns-then-has_zero_turn g c = (
+  λ t. absurd (cc),
+  λ s. absurd (block-stops g.I.IntNumber.value _ _ _ _ _ _ c.split_at.ensures.by_index.0 (c.walk_block-has_zero_turn.ensures.flat.0 c.if-has_zero_turn.true) c.loop-rest.invariant.walking s),
+)
+
+pub loop-rest-preserved : goal.loop-rest-preserved
+loop-rest-preserved g c = record {
+  here_safe = c.walk_block-has_zero_turn.ensures.end_safe;
+  rest_safe = later-safe g.I.IntNumber.width g.I.IntNumber.value _ _ _ c.split_at.ensures.back c.loop-rest.invariant.rest_safe;
+  walking = block-on g.I.IntNumber.value _ _ _ _ _ _ _ _ c.split_at.ensures.by_index.0 c.walk_block-has_zero_turn.ensures.edge c.walk_block-has_zero_turn.ensures.end
+      (λ f. let t = c.walk_block-has_zero_turn.ensures.flat.1 f in let n = c.if-has_zero_turn.false in absurd (cc)) c.loop-rest.invariant.walking;
+}
 
 pub returns : goal.returns
 returns g c =
-    let none = rest-none g.I.IntNumber.value c.args.self.now.now c.loop-point.point-index c.loop-point-test.false in
-    let simple = walking-end _ _ _ (rw none at c.loop-point.invariant.walking) in
+    let simple = walking-done g.I.IntNumber.value _ _ _ _ (omega (arith, c.loop-rest-test.false)) c.loop-rest.invariant.walking in
     (λ t. simple, λ s. refl)
