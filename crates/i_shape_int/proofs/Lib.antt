@@ -11,5 +11,6 @@ pub mod ShapesCleaned
 pub mod WrappedSums
 pub mod LeftInPlace
 pub mod SpikesLeft
+pub mod CleanedAside
 -- what callers cite
 pub mod CallerLemmas

@@ -19,3 +19,4 @@ pub mod Buffers
 pub mod Lending
 pub mod IntPoints
 pub mod AppendedAnswers
+pub mod Changes

@@ -6,10 +6,16 @@ ghost use Rattle.std.specs.Option.{option_to_list};
 ghost use Rattle.i_shape_core.specs.Point.{Point};
 ghost use Rattle.i_shape_core.specs.IntPoint.{contour_of, IsSafe, answered};
 ghost use Rattle.i_shape_core.specs.Cleaners.{KeptAnswer};
-ghost use Rattle.i_shape_int.specs.ShapeAnswers.{Survivors, ShapeClean, ListClean, EachContour, EachShape, AreKept, ListKept};
+ghost use Rattle.i_shape_int.specs.ShapeAnswers.{HasPoints, Survivors, ShapeClean, ListClean, EachContour, EachShape, AreKept, ListKept};
 ghost use Rattle.i_shape_int.specs.ShapeLists.{shape_of, shapes_of, IsSafeShape, IsSafeList};
 ghost use Rattle.i_shape_int.specs.InPlace.{CleansShape, CleansList};
 
+mod changes;
+
+use crate::int::cleaning::changes::{
+    are_left, list_changes, put_in_list, put_in_shape, shape_changes, take_out_collapsed,
+    take_out_of_list,
+};
 use crate::int::shape::{IntContour, IntShape, IntShapes};
 use i_shape_core::error::ShapeError;
 use i_shape_core::number::IntNumber;
@@ -30,13 +36,15 @@ pub trait ContourCleaner<I: IntNumber>: Drop {
     /// Whether the contour needs no cleaning. It takes no memory.
     fn is_clean(contour: &[IntPoint<I>]) -> bool
         requires { All (IsSafe I.width) (contour_of I.value contour.now) }
-        ensures { IsTrue result ↔ clean (contour_of I.value contour.now) };
+        ensures clean { IsTrue result ↔ clean (contour_of I.value contour.now) }
+        ensures points { IsTrue result → HasPoints (contour_of I.value contour.now) };
 
     /// The cleaned contour, of one that needs cleaning. The only error is `OutOfMemory`.
     fn cleaned(&mut self, contour: &[IntPoint<I>]) -> Result<Option<IntContour<I>>, ShapeError>
         requires safe { All (IsSafe I.width) (contour_of I.value contour.now) }
         requires unclean { clean (contour_of I.value contour.now) → ⊥ }
         ensures answer { IfOk result (λ r. answers (contour_of I.value contour.now) (answered (contour_of I.value) r)) }
+        ensures points { IfOk result (λ r. IfSome r (λ kept. HasPoints (contour_of I.value kept.items))) }
         ensures memory { IsOkUnless result ShapeError.OutOfMemory };
 
     /// A contour that needs no cleaning is its own answer.
@@ -199,15 +207,17 @@ pub fn clean_shape_in_place<I: IntNumber, C: ContourCleaner<I>>(
     ensures gives { CleansShape C.clean C.answers (shape_of I.value shape.old.items) (shape_of I.value shape.new.items) result }
     ensures safe { IsSafeShape I.width (shape_of I.value shape.new.items) }
 {
-    if is_clean_shape::<I, C>(shape.as_slice()) {
+    let alloc = *shape.allocator();
+    let changes = shape_changes::<I, C>(alloc, shape.as_slice())?;
+    if changes.is_empty() {
         return Ok(false);
     }
-    let alloc = *shape.allocator();
-    let mut cleaner = C::start(alloc);
-    match clean_shape(&mut cleaner, alloc, shape.as_slice())? {
-        Some(cleaned) => *shape = cleaned,
-        None => shape.clear(),
+    let all_left = are_left(changes.as_slice());
+    put_in_shape(shape, changes);
+    if all_left {
+        return Ok(true);
     }
+    take_out_collapsed(shape);
     Ok(true)
 }
 
@@ -220,11 +230,16 @@ pub fn clean_list_in_place<I: IntNumber, C: ContourCleaner<I>>(
     ensures gives { CleansList C.clean C.answers (shapes_of I.value shapes.old.items) (shapes_of I.value shapes.new.items) result }
     ensures safe { IsSafeList I.width (shapes_of I.value shapes.new.items) }
 {
-    if is_clean_list::<I, C>(shapes.as_slice()) {
+    let alloc = *shapes.allocator();
+    let changes = list_changes::<I, C>(alloc, shapes.as_slice())?;
+    if changes.is_empty() {
         return Ok(false);
     }
-    let alloc = *shapes.allocator();
-    let mut cleaner = C::start(alloc);
-    *shapes = clean_list(&mut cleaner, alloc, shapes.as_slice())?;
+    let all_left = are_left(changes.as_slice());
+    put_in_list(shapes, changes);
+    if all_left {
+        return Ok(true);
+    }
+    take_out_of_list(shapes);
     Ok(true)
 }
