@@ -4,7 +4,8 @@ pub mod Words
 pub mod Reading
 -- reading a number
 pub mod Numerals
--- showing a contour
+-- showing a number and a contour
+pub mod Decimals
 pub mod Showing
 -- a text, line by line, and one run of the program
 pub mod Running

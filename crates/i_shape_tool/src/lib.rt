@@ -4,6 +4,7 @@
 mod buffers;
 mod command;
 mod compact;
+mod decimal;
 mod fault;
 pub mod laws;
 mod line;

@@ -5,6 +5,7 @@ ghost use Rattle.i_shape_tool.specs.Points.{contour_of, point_of};
 ghost use Rattle.i_shape_tool.specs.Text.{shown, spaced};
 ghost use Rattle.i_shape_tool.specs.Run.{shown_or_none, shown_area};
 
+use crate::decimal::{POINT_ROOM, write_number};
 use i_shape_int::int::IntPoint;
 use i_shape_int::int::area::Area;
 use i_shape_int::int::shape::IntContour;
@@ -28,7 +29,10 @@ pub fn show_contour(output: &mut String, contour: &[IntPoint<i32>]) -> Result<()
 fn push_point(output: &mut String, point: IntPoint<i32>) -> Result<(), AllocError>
     ensures { OnOk result (string_bytes output.new ≡ string_bytes output.old ++ spaced (point_of point)) }
 {
-    write!(output, " {} {}", point.x, point.y)
+    let mut text = [0; POINT_ROOM];
+    let middle = write_number(point.y, &mut text, POINT_ROOM);
+    let start = write_number(point.x, &mut text, middle);
+    output.push_str(str::from_utf8(&text[start..]).unwrap())
 }
 
 /// Appends a cleaned contour, or a word where it collapsed.
