@@ -1,7 +1,8 @@
 #!/usr/bin/env bash
 # Builds the C library and runs its sample and its tests: as C11 and as C++17, each warning an error; with an allocator of the tests' own, which refuses
 # each growth in turn; against the shared library; and under the address sanitizer and valgrind, where these are at hand. The names of the
-# archive are those of the header. The last line is 'c library: N passed, M failed'.
+# archive are those of the header. The examples print what docs/C.md says, and the crate for Rust passes its tests, where there is a cargo for it. The
+# last line is 'c library: N passed, M failed', and ', K skipped' behind it where K is above 0.
 set -u
 cd "$(dirname "$0")/.." || exit 1
 export LC_ALL=C
@@ -9,6 +10,7 @@ library=bindings/c/out
 warnings=(-Wall -Wextra -Wpedantic -Wconversion -Werror)
 passed=0
 failed=0
+skipped=0
 
 # Adds up what a run of the tests counts. A run that counts nothing, or fails though it counts no failure, is one failure.
 add() {
@@ -22,6 +24,16 @@ add() {
     grep -v ' passed, ' "$work/log"
     passed=$((passed + ${counts%% *} + 0))
     failed=$((failed + ${counts##* }))
+}
+
+# Counts one test, which ended with status $2.
+count() {
+    if [ "$2" = 0 ]; then
+        echo '1 passed, 0 failed' > "$work/log"
+    else
+        echo '0 passed, 1 failed' > "$work/log"
+    fi
+    add 0 "$1"
 }
 
 # Compiles the tests by the words from $2 on, and runs them by the words of the array runner.
@@ -40,23 +52,46 @@ test_names() {
     "$(dirname "$(rt doc)")/toolchain/bin/llvm-ar" p crates/i_shape_c/out/libi_shape_c.a > "$work/all.o"
     nm -g --defined-only "$work/all.o" | sed -nE 's/^.* T (.*)$/\1/p' | sort > "$work/exported"
     "${CC:-cc}" -E -Iinclude include/i_shape.h | grep -oE '\bi_shape_[a-z0-9_]+ ?\(' | tr -d ' (' | sort > "$work/declared"
-    if diff "$work/exported" "$work/declared"; then
-        echo '1 passed, 0 failed' > "$work/log"
-    else
-        echo '0 passed, 1 failed' > "$work/log"
-    fi
-    add 0 'the names'
+    diff "$work/exported" "$work/declared"
+    count 'the names' $?
 }
 
-# The sample prints the corners of its contour.
+# The first lines of docs/C.md that are fenced as $1.
+fenced() {
+    awk -v fence="\`\`\`$1" 'in_it && /^```$/ { exit } in_it { print } $0 == fence { in_it = 1 }' docs/C.md
+}
+
+# The sample is that of the page, and prints the corners of its contour.
 test_sample() {
-    if "${CC:-cc}" "${warnings[@]}" -Iinclude bindings/c/sample.c "$library/libi_shape.a" -o "$work/sample" &&
-        [ "$("$work/sample")" = "$(printf '0 0\n4 0\n4 4\n0 4')" ]; then
-        echo '1 passed, 0 failed' > "$work/log"
-    else
-        echo '0 passed, 1 failed' > "$work/log"
+    fenced c | diff bindings/c/sample.c - &&
+        "${CC:-cc}" "${warnings[@]}" -Iinclude bindings/c/sample.c "$library/libi_shape.a" -o "$work/sample" &&
+        [ "$("$work/sample")" = "$(printf '0 0\n4 0\n4 4\n0 4')" ]
+    count 'the sample' $?
+}
+
+# The example prints what the page says.
+test_example() {
+    "${CC:-cc}" -std=c11 "${warnings[@]}" -Iinclude examples/clean.c "$library/libi_shape.a" -o "$work/clean" &&
+        "$work/clean" > "$work/shown" && fenced text | diff - "$work/shown"
+    count 'examples/clean.c' $?
+}
+
+# The crate for Rust passes its tests, and its example prints what the page says. Its edition asks for cargo 1.85.
+test_rust() {
+    local cargo=(cargo --offline --locked)
+    local its=(--quiet --manifest-path bindings/rust/Cargo.toml --target-dir "$work/target")
+    if ! [[ $(cargo --version 2> /dev/null) =~ ^cargo\ 1\.([0-9]+) ]] || [ "${BASH_REMATCH[1]}" -lt 85 ]; then
+        echo 'the crate for Rust is not tested: there is no cargo from 1.85 on'
+        skipped=$((skipped + $(grep -c '^#\[test\]' bindings/rust/tests/worked.rs) + 1))
+        return
     fi
-    add 0 'the sample'
+    "${cargo[@]}" test "${its[@]}" > "$work/cargo" 2>&1
+    local status=$?
+    [ "$status" = 0 ] || cat "$work/cargo"
+    awk '/^test result:/ { passed += $4; failed += $6 } END { print passed + 0 " passed, " failed + 0 " failed" }' "$work/cargo" > "$work/log"
+    add "$status" 'the crate for Rust'
+    "${cargo[@]}" run "${its[@]}" --example clean > "$work/shown" && fenced text | diff - "$work/shown"
+    count 'examples/clean.rs' $?
 }
 
 work=$(mktemp -d) || exit 1
@@ -71,6 +106,8 @@ cpp=("${CXX:-c++}" -std=c++17 -x c++ bindings/c/test.c -x none)
 runner=()
 test_names
 test_sample
+test_example
+test_rust
 test_as 'C11' "${c[@]}" "$library/libi_shape.a"
 test_as 'C++17' "${cpp[@]}" "$library/libi_shape.a"
 test_as 'C11, shared' "${c[@]}" "$library/libi_shape.so" "-Wl,-rpath,$PWD/$library"
@@ -83,5 +120,9 @@ if command -v valgrind > /dev/null; then
     runner=(valgrind -q --error-exitcode=9 --leak-check=full)
     test_as 'valgrind' "${c[@]}" -DOWN_ALLOCATOR "$library/libi_shape.a"
 fi
-echo "c library: $passed passed, $failed failed"
+if [ "$skipped" -eq 0 ]; then
+    echo "c library: $passed passed, $failed failed"
+else
+    echo "c library: $passed passed, $failed failed, $skipped skipped"
+fi
 [ "$failed" -eq 0 ]

@@ -2,7 +2,7 @@
 # Builds the wheel of the Python package, installs it into an empty virtual environment and runs its tests there, the examples of its docstrings
 # and of docs/PYTHON.md among them. It takes the library of `make c`, or of the folder I_SHAPE_C_DIR. The last line is
 # 'python package: N passed, M failed', and ', K skipped' behind it where K is above 0. Where Debian's Python, or the one that $PYTHON names,
-# has no numpy, setuptools, wheel or venv, all tests are skipped.
+# has no numpy, setuptools, wheel or venv, all tests are skipped, and where it has no distributed those of Dask are.
 set -u
 cd "$(dirname "$0")/.." || exit 1
 export LC_ALL=C PYTHONDONTWRITEBYTECODE=1
@@ -33,6 +33,10 @@ if [ -z "$counts" ] || { [ "$status" -ne 0 ] && [ "${counts#* passed, 0 failed}"
     echo 'python package: 0 passed, 1 failed'
     exit 1
 fi
-[ "$status" -eq 0 ] || cat "$work/log"
+if [ "$status" -eq 0 ]; then
+    grep ' is not tested: ' "$work/log"
+else
+    cat "$work/log"
+fi
 echo "python package: $counts"
 exit "$status"

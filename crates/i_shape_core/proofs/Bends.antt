@@ -1,7 +1,8 @@
 -- The walk that tells how a contour bends.
-use Rattle.std.proofs.Common.{◌≡◌, ◌≢◌, ℕ, ◌+◌, ◌-◌, ◌<◌, ◌≤◌, List, [], ◌∷◌, length, drop, get_or, Some, None, ℤ, pos, refl, sym, ap, subst, ◌∙◌, arith, ◌⊎◌, inl, inr, ◌↔◌, true, false, IsTrue}
+use Rattle.std.proofs.Common.{◌≡◌, ◌≢◌, ℕ, ◌+◌, ◌-◌, ◌<◌, ◌≤◌, ◌<ℤ◌, ◌≤ℤ◌, List, [], ◌∷◌, length, drop, get_or, Some, None, ℤ, pos, refl, sym, ap, subst, ◌∙◌, arith, ◌⊎◌, inl, inr, ◌↔◌, Bool, true, false, IsTrue, T}
 use Rattle.std.proofs.lemmas.Int.{ints}
-use Rattle.i_shape_core.specs.Point.{Point, origin, cross}
+use lib.Dec.{leb, leb→le, le→leb}
+use Rattle.i_shape_core.specs.Point.{Point, origin, vector, cross, dot, cross_of, dot_of}
 use Rattle.i_shape_core.specs.Contour.{Test, point_at}
 use Rattle.i_shape_core.specs.Convex.{is_same, last_of, dedup, Bulges, Convex}
 use Rattle.i_shape_core.specs.IntPoint.{point_of, contour_of}
@@ -10,10 +11,11 @@ use Rattle.i_shape_core.specs.Walks.{IsBend, bend_of_both}
 use Rattle.i_shape_core.specs.declared.bend.Bend.{Bend}
 use Rattle.i_shape_core.specs.declared.bend.Bend.TheVariants.{Straight, Left, Right, Reversal}
 use Rattle.i_shape_core.proofs.Polynomials.{number, ring}
-use Rattle.i_shape_core.proofs.Turns.{A, B, cross_term, coordinates, cross-same}
+use Rattle.i_shape_core.proofs.Turns.{A, B, cross_term, dot_term, coordinates, cross-same}
 use Rattle.i_shape_core.proofs.ConvexLaws.{IsLeft, IsRight, IsReversed}
 use Rattle.i_shape_core.proofs.Around.{Passed, Met, Changed, changed_start, changed_skip, changed_on, changed_end, met_is, last_of_dedup, bulges_by_walk}
 use Rattle.i_shape_core.proofs.Contours.{rest-read, rest-none}
+use Rattle.i_shape_core.proofs.Dedup.{same_yes}
 use Rattle.i_shape_core.proofs.Spikes.{first_behind, Told, told-start, told-on, told-skip, told-met, found, found_differing, begins, few_differ}
 
 -- ---- the kinds of bend
@@ -199,44 +201,125 @@ bending_end c seen n o p w = (to, from)
     from (inl few) = inl (subst (λ (m : ℕ). m ≤ 2) (sym count) few)
     from (inr b) = bulging b (few_or_more (length (dedup c)))
 
--- ---- over the points of a program
-pub bending_begins : {I : Type 0} (value : I → ℤ) (cs : List (IntPoint I)) (last behind : IntPoint I) → 0 < length cs → last ≡ get_or cs (length cs - 1) last
-    → Some behind ≡ found_differing value last cs → Bending (contour_of value cs) Straight 0 (point_of value behind) (point_of value last) (contour_of value cs)
-bending_begins value cs last behind h e f = begins value cs last behind h e f (λ o p. Bending (contour_of value cs) Straight 0 o p (contour_of value cs)) (bending_start (contour_of value cs))
+-- ---- over the points of a program: what the walk knows at place i, after the edge e that leads to p, where so many of the i points repeat the one before
+pub record IsBending {I : Type 0} (value : I → ℤ) (cs : List (IntPoint I)) (seen : Bend) (repeats i : ℕ) (e p : Point) : Type 0 where
+  pub behind : Point
+  pub passed : ℕ
+  pub counted : passed + repeats ≡ i
+  pub edge : e ≡ vector behind p
+  pub bending : Bending (contour_of value cs) seen passed behind p (contour_of value (drop i cs))
+
+-- it begins at the last point
+pub bending_begins : {I : Type 0} (value : I → ℤ) (cs : List (IntPoint I)) (last behind : IntPoint I) (e : Point) → 0 < length cs → last ≡ get_or cs (length cs - 1) last
+    → Some behind ≡ found_differing value last cs → e ≡ vector (point_of value behind) (point_of value last) → IsBending value cs Straight 0 0 e (point_of value last)
+bending_begins value cs last behind e h r f k = record {
+  behind = point_of value behind;
+  passed = 0;
+  counted = refl;
+  edge = k;
+  bending = begins value cs last behind h r f (λ o p. Bending (contour_of value cs) Straight 0 o p (contour_of value cs)) (bending_start (contour_of value cs));
+}
 
 -- the walk stays as it is at a repeated point
-pub bending_repeat : {I : Type 0} (value : I → ℤ) (cs : List (IntPoint I)) (seen : Bend) (n i : ℕ) (o p x : IntPoint I) → i < length cs → x ≡ get_or cs i x
+pub bending_repeat : {I : Type 0} (value : I → ℤ) (cs : List (IntPoint I)) (seen : Bend) (repeats i : ℕ) (e : Point) (p x : IntPoint I) → i < length cs → x ≡ get_or cs i x
     → is_same (point_of value p) (point_of value x) ≡ true
-    → Bending (contour_of value cs) seen n (point_of value o) (point_of value p) (contour_of value (drop i cs))
-    → Bending (contour_of value cs) seen n (point_of value o) (point_of value p) (contour_of value (drop (i + 1) cs))
-bending_repeat value cs seen n i o p x h e a w =
-    bending_skip (contour_of value cs) seen n (point_of value o) (point_of value p) (point_of value x) (contour_of value (drop (i + 1) cs)) a
-    (subst (Bending (contour_of value cs) seen n (point_of value o) (point_of value p)) (rest-read value cs i x h e) w)
+    → IsBending value cs seen repeats i e (point_of value p) → IsBending value cs seen (repeats + 1) (i + 1) e (point_of value p)
+bending_repeat value cs seen repeats i e p x h r a w = record {
+  behind = w.behind;
+  passed = w.passed;
+  counted = omega (arith, w.counted);
+  edge = w.edge;
+  bending = bending_skip (contour_of value cs) seen w.passed w.behind (point_of value p) (point_of value x) (contour_of value (drop (i + 1) cs)) a
+      (subst (Bending (contour_of value cs) seen w.passed w.behind (point_of value p)) (rest-read value cs i x h r) w.bending);
+}
+
+dot_still : (o p : Point) → dot o p p ≡ pos 0
+unfolding dot
+dot_still o p = ring (coordinates (o ∷ p ∷ [])) (dot_term A B B) (number (pos 0)) refl
+
+-- the way over a point to the same point goes straight on
+straight_still : (o p : Point) (b : Bend) → IsBend o p p b → b ≡ Straight
+straight_still o p Straight h = refl
+straight_still o p Left h = let z = cross-same o p in absurd (omega (arith, ints))
+straight_still o p Right h = let z = cross-same o p in absurd (omega (arith, ints))
+straight_still o p Reversal h = let z = dot_still o p in let k = h.1 in absurd (omega (arith, ints))
+
+-- so where a way bends, its edge leads to another point
+differ : (o p q : Point) (b : Bend) → IsBend o p q b → (b ≡ Straight → is_same p q ≡ false) → is_same p q ≡ false
+differ o p q b h n = go (is_same p q) refl
+  where
+    go : (t : Bool) → is_same p q ≡ t → is_same p q ≡ false
+    go false e = e
+    go true e = n (straight_still o p b (subst (λ (r : Point). IsBend o p r b) (sym (same_yes p q e)) h))
+
+-- what a test of the way from the edge e to the edge n tells
+abbrev pub TellsBend : Point → Point → Bend → Type 0
+TellsBend e n b = (o p q : Point) → e ≡ vector o p → n ≡ vector p q → IsBend o p q b
+
+-- the kind of bend by the two products of the edges
+abbrev pub BendsBy : ℤ → ℤ → Bend → Type 0
+BendsBy c d Straight = (c ≡ pos 0) × (pos 0 ≤ℤ d)
+BendsBy c d Left = pos 0 <ℤ c
+BendsBy c d Right = c <ℤ pos 0
+BendsBy c d Reversal = (c ≡ pos 0) × (d <ℤ pos 0)
+
+by_products : (o p q : Point) (b : Bend) → BendsBy (cross o p q) (dot o p q) b → IsBend o p q b
+by_products o p q Straight h = h
+by_products o p q Left h = h
+by_products o p q Right h = h
+by_products o p q Reversal h = h
+
+-- the products of the edges tell the bend
+pub tells_bend : (e n : Point) (b : Bend) → BendsBy (cross_of e n) (dot_of e n) b → TellsBend e n b
+unfolding cross dot
+tells_bend e n b h o p q f k = by_products o p q b
+    (subst (λ (w : Point). BendsBy (cross_of (vector o p) w) (dot_of (vector o p) w) b) k (subst (λ (v : Point). BendsBy (cross_of v n) (dot_of v n) b) f h))
 
 -- the walk takes the bend at a point in
-pub bending_item : {I : Type 0} (value : I → ℤ) (cs : List (IntPoint I)) (seen b both : Bend) (n i : ℕ) (o p x : IntPoint I) → i < length cs → x ≡ get_or cs i x
-    → is_same (point_of value p) (point_of value x) ≡ false → IsBend (point_of value o) (point_of value p) (point_of value x) b → bend_of_both seen b ≡ Some both
-    → Bending (contour_of value cs) seen n (point_of value o) (point_of value p) (contour_of value (drop i cs))
-    → Bending (contour_of value cs) both (n + 1) (point_of value p) (point_of value x) (contour_of value (drop (i + 1) cs))
-bending_item value cs seen b both n i o p x h e a k j w =
-    bending_on (contour_of value cs) seen b both n (point_of value o) (point_of value p) (point_of value x) (contour_of value (drop (i + 1) cs)) a k j
-    (subst (Bending (contour_of value cs) seen n (point_of value o) (point_of value p)) (rest-read value cs i x h e) w)
+pub bending_item : {I : Type 0} (value : I → ℤ) (cs : List (IntPoint I)) (seen b both : Bend) (repeats i : ℕ) (e n : Point) (p x : IntPoint I) → i < length cs → x ≡ get_or cs i x
+    → (b ≡ Straight → is_same (point_of value p) (point_of value x) ≡ false) → TellsBend e n b → n ≡ vector (point_of value p) (point_of value x) → bend_of_both seen b ≡ Some both
+    → IsBending value cs seen repeats i e (point_of value p) → IsBending value cs both repeats (i + 1) n (point_of value x)
+bending_item value cs seen b both repeats i e n p x h r a tells k j w =
+    let bend : IsBend w.behind (point_of value p) (point_of value x) b = tells w.behind (point_of value p) (point_of value x) w.edge k in
+    record {
+      behind = point_of value p;
+      passed = w.passed + 1;
+      counted = omega (arith, w.counted);
+      edge = k;
+      bending = bending_on (contour_of value cs) seen b both w.passed w.behind (point_of value p) (point_of value x) (contour_of value (drop (i + 1) cs))
+          (differ w.behind (point_of value p) (point_of value x) b bend a) bend j
+          (subst (Bending (contour_of value cs) seen w.passed w.behind (point_of value p)) (rest-read value cs i x h r) w.bending);
+    }
 
 -- bends that clash make the contour not convex
-pub clash_item : {I : Type 0} (value : I → ℤ) (cs : List (IntPoint I)) (seen b : Bend) (n i : ℕ) (o p x : IntPoint I) → i < length cs → x ≡ get_or cs i x
-    → is_same (point_of value p) (point_of value x) ≡ false → IsBend (point_of value o) (point_of value p) (point_of value x) b → bend_of_both seen b ≡ None
-    → Bending (contour_of value cs) seen n (point_of value o) (point_of value p) (contour_of value (drop i cs)) → IsTrue false ↔ Convex (contour_of value cs)
-clash_item value cs seen b n i o p x h e a k j w = (
-  λ t. absurd (cc),
-  λ s. absurd (bending_clash (contour_of value cs) seen b n (point_of value o) (point_of value p) (point_of value x) (contour_of value (drop (i + 1) cs)) a k j
-      (subst (Bending (contour_of value cs) seen n (point_of value o) (point_of value p)) (rest-read value cs i x h e) w) s),
-)
+pub clash_item : {I : Type 0} (value : I → ℤ) (cs : List (IntPoint I)) (seen b : Bend) (repeats i : ℕ) (e n : Point) (p x : IntPoint I) → i < length cs → x ≡ get_or cs i x
+    → (b ≡ Straight → is_same (point_of value p) (point_of value x) ≡ false) → TellsBend e n b → n ≡ vector (point_of value p) (point_of value x) → bend_of_both seen b ≡ None
+    → IsBending value cs seen repeats i e (point_of value p) → IsTrue false ↔ Convex (contour_of value cs)
+clash_item value cs seen b repeats i e n p x h r a tells k j w =
+    let bend : IsBend w.behind (point_of value p) (point_of value x) b = tells w.behind (point_of value p) (point_of value x) w.edge k in (
+      λ t. absurd (cc),
+      λ s. absurd (bending_clash (contour_of value cs) seen b w.passed w.behind (point_of value p) (point_of value x) (contour_of value (drop (i + 1) cs))
+          (differ w.behind (point_of value p) (point_of value x) b bend a) bend j
+          (subst (Bending (contour_of value cs) seen w.passed w.behind (point_of value p)) (rest-read value cs i x h r) w.bending) s),
+    )
 
 -- after the last point the walk tells whether the contour is convex
-pub bending_over : {I : Type 0} (value : I → ℤ) (cs : List (IntPoint I)) (seen : Bend) (n i : ℕ) (o p : Point) → length cs ≤ i
-    → Bending (contour_of value cs) seen n o p (contour_of value (drop i cs)) → ((n ≤ 2) ⊎ (seen ≢ Reversal)) ↔ Convex (contour_of value cs)
-bending_over value cs seen n i o p h w =
-    bending_end (contour_of value cs) seen n o p (subst (Bending (contour_of value cs) seen n o p) (rest-none value cs i h) w)
+pub bending_over : {I : Type 0} (value : I → ℤ) (cs : List (IntPoint I)) (seen : Bend) (repeats i : ℕ) (e p : Point) → i ≡ length cs
+    → IsBending value cs seen repeats i e p → (repeats ≤ length cs) × (((length cs - repeats ≤ 2) ⊎ (seen ≢ Reversal)) ↔ Convex (contour_of value cs))
+bending_over value cs seen repeats i e p h w =
+    let n : w.passed ≡ length cs - repeats = omega (arith, w.counted, h) in (
+      omega (arith, w.counted, h),
+      subst (λ (m : ℕ). ((m ≤ 2) ⊎ (seen ≢ Reversal)) ↔ Convex (contour_of value cs)) n
+          (bending_end (contour_of value cs) seen w.passed w.behind p (subst (Bending (contour_of value cs) seen w.passed w.behind p) (rest-none value cs i (omega (arith, h))) w.bending)),
+    )
+
+-- a test of a number for being two at most
+pub few_tells : (m : ℕ) → IsTrue (leb m 2) ↔ (m ≤ 2)
+few_tells m = (λ t. leb→le m 2 (subst T (sym t) tt), λ k. is_so (leb m 2) (le→leb m 2 k))
+  where
+    is_so : (t : Bool) → T t → t ≡ true
+    is_so true h = refl
+    is_so false h = absurd h
 
 -- without points
 pub convex_without : {I : Type 0} (value : I → ℤ) (cs : List (IntPoint I)) → length cs ≤ 0 → IsTrue true ↔ Convex (contour_of value cs)

@@ -172,18 +172,20 @@ full_more xs ys k e f =
     let s : k + 1 ≡ suc k = omega arith in
     f ∙ (ap (λ (r : List ℕ). r ++ k ∷ []) e ∙ (sym (p ∙ ap (λ (i : ℕ). range_with_len 0 k ++ i ∷ []) z) ∙ ap (range_with_len 0) (sym s)))
 
--- without a gap the ring is the whole list
-pub full_ring : (xs : List ℕ) (n k u : ℕ) → xs ≡ range_with_len 0 k → length xs ≡ k → n ≡ k
-    → record { places = around_gap xs 0 0 n; untested = u; lead = lead_over_gap (0 + (n - 0)) 0 0 } ≡ (let s : Standing = record { places = range_with_len 0 n; untested = u; lead = n } in s)
+-- with no gap, the ring from place p on is the list, turned
+pub standing_ring : (xs : List ℕ) (n k p u : ℕ) → xs ≡ range_with_len 0 k → length xs ≡ k → n ≡ k → p < n
+    → record { places = around_gap xs p p n; untested = u; lead = lead_over_gap (p + (n - p)) 0 p }
+    ≡ (let s : Standing = record { places = drop p (range_with_len 0 n) ++ take p (range_with_len 0 n); untested = u; lead = n - p } in s)
 unfolding around_gap
-full_ring xs n k u e l m =
+standing_ring xs n k p u e l m h =
     let t : take n xs ≡ xs = take_all n xs (omega arith) in
-    let a : take n xs ++ [] ≡ range_with_len 0 n = append-nil (take n xs) ∙ (t ∙ (e ∙ ap (range_with_len 0) (sym m))) in
-    let b : lead_over_gap (0 + (n - 0)) 0 0 ≡ n = whole (lead_over_gap (0 + (n - 0)) 0 0) (lead_cases (0 + (n - 0)) 0 0) in
-    let F : List ℕ → ℕ → Standing = λ p q. record { places = p; untested = u; lead = q } in
-    ap (λ (p : List ℕ). F p (lead_over_gap (0 + (n - 0)) 0 0)) a ∙ ap (F (range_with_len 0 n)) b
+    let r : xs ≡ range_with_len 0 n = e ∙ ap (range_with_len 0) (sym m) in
+    let a : drop p (take n xs) ++ take p xs ≡ drop p (range_with_len 0 n) ++ take p (range_with_len 0 n) = cc in
+    let b : lead_over_gap (p + (n - p)) 0 p ≡ n - p = whole (lead_over_gap (p + (n - p)) 0 p) (lead_cases (p + (n - p)) 0 p) in
+    let F : List ℕ → ℕ → Standing = λ q j. record { places = q; untested = u; lead = j } in
+    ap (λ (q : List ℕ). F q (lead_over_gap (p + (n - p)) 0 p)) a ∙ ap (F (drop p (range_with_len 0 n) ++ take p (range_with_len 0 n))) b
   where
-    whole : (l : ℕ) → Lead (0 + (n - 0)) 0 0 l → l ≡ n
+    whole : (l : ℕ) → Lead (p + (n - p)) 0 p l → l ≡ n - p
     whole l (inl x) = absurd (omega (arith, x.0))
     whole l (inr x) = omega (arith, x.1)
 

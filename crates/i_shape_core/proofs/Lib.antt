@@ -37,6 +37,8 @@ pub mod Cleaned
 pub mod Gaps
 pub mod RingWalks
 pub mod RingStates
+pub mod Prefixes
+pub mod FirstPlaces
 pub mod Walked
 pub mod Around
 pub mod Spikes

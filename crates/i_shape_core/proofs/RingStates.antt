@@ -1,13 +1,14 @@
 -- The events of a cleaner's loop that walks round a ring of places.
-use Rattle.std.proofs.Common.{◌≡◌, ℕ, suc, ◌+◌, ◌-◌, ◌<◌, ◌≤◌, min, max, List, [], ◌∷◌, ◌++◌, map, length, get_or, take, drop, refl, sym, ap, ◌∙◌, subst, subst₂, arith, length-append, take-suc, take_all}
+use Rattle.std.proofs.Common.{◌≡◌, ℕ, suc, ◌+◌, ◌-◌, ◌<◌, ◌≤◌, min, max, List, [], ◌∷◌, ◌++◌, map, length, get_or, take, drop, refl, sym, ap, ◌∙◌, subst, subst₂, arith, length-append, take-suc, take_all, drop-cons, length-drop, length-take, length-take-le}
+use Rattle.std.proofs.Math.Seq.{split_at}
 use Rattle.std.proofs.lemmas.List.{get_or-map, map_push, length-map, map-append, take-map, drop-map}
 use Rattle.std.proofs.lemmas.List.Elements.{All-get_or, All-push, All-cons, All-drop, All-take, All-append, All-same}
 use Rattle.std.proofs.lemmas.List.FromFn.{length-range_with_len, get_or-range_with_len, fill_by_all}
 use Rattle.std.specs.List.{All, range_with_len}
 use Rattle.i_shape_core.specs.Point.{Point, origin}
-use Rattle.i_shape_core.specs.Contour.{Test, point_at}
-use Rattle.i_shape_core.specs.Walks.{Finds, Falls, IsRingWalk, IsRingState, Standing, LeadKept, LeadRemoved, PassesAtPlace, in_order}
-use Rattle.i_shape_core.proofs.Cycle.{first, last}
+use Rattle.i_shape_core.specs.Contour.{Test, point_at, IsRemovable}
+use Rattle.i_shape_core.specs.Walks.{Finds, Falls, IsFirst, IsRingWalk, IsRingState, Standing, LeadKept, LeadRemoved, PassesAtPlace, in_order}
+use Rattle.i_shape_core.proofs.Cycle.{first, last, passes_from_removable}
 use Rattle.i_shape_core.proofs.RingWalks.{walk_starts, walk_keeps, walk_removes, walk_collapses, walk_ends}
 
 abbrev points_at : List Point → List ℕ → List Point
@@ -19,7 +20,8 @@ IsState P c places untested lead visits = IsRingState P c (record { places = pla
 abbrev IsBelow : List Point → ℕ → Type 0
 IsBelow c k = k < length c
 
-points_of_all : (c : List Point) → c ≡ points_at c (range_with_len 0 (length c))
+-- a contour is its points at all its places
+pub points_of_all : (c : List Point) → c ≡ points_at c (range_with_len 0 (length c))
 points_of_all c = fill_by_all (point_at c) c (length c) origin refl (λ k h. refl)
 
 all_below : (c : List Point) → All (IsBelow c) (range_with_len 0 (length c))
@@ -48,14 +50,32 @@ passes_as P c p r h a = subst₂ (λ (y z : Point). P y (point_at c p) z) (sym (
 passes_back : (P : Test) (c : List Point) (p : ℕ) (r : List ℕ) → 0 < length r → P (last (points_at c r)) (point_at c p) (first (points_at c r)) → PassesAtPlace P c (p ∷ r)
 passes_back P c p r h a = subst₂ (λ (y z : Point). P y (point_at c p) z) (same_last c p r h) (first_of_places c r h) a
 
--- before the first event all places stand in the ring, untested
-pub state_starts : {P : Test} (c : List Point) → 3 ≤ length c → IsState P c (range_with_len 0 (length c)) (length c) (length c) 0
-state_starts {P} c h = record {
-  walk = subst (λ (x : List Point). IsRingWalk P c x (length c) (length c)) (points_of_all c) (walk_starts c (length c) (length c) h refl refl);
-  below = all_below c;
-  at_most = omega (arith, length-range_with_len 0 (length c));
-  tested_each = omega arith;
-  left_each = omega (arith, length-range_with_len 0 (length c));
+-- the ring of all places of c from place k on
+abbrev turned_places : List Point → ℕ → List ℕ
+turned_places c k = drop k (range_with_len 0 (length c)) ++ take k (range_with_len 0 (length c))
+
+turned_size : (c : List Point) (k : ℕ) → length (turned_places c k) ≡ length c
+turned_size c k =
+    let r : List ℕ = range_with_len 0 (length c) in
+    omega (arith, length-append (drop k r) (take k r), length-drop k r, length-take k r, length-range_with_len 0 (length c))
+
+turned_points : (c : List Point) (j k : ℕ) → drop j c ++ take k c ≡ points_at c (drop j (range_with_len 0 (length c)) ++ take k (range_with_len 0 (length c)))
+turned_points c j k =
+    let r : List ℕ = range_with_len 0 (length c) in
+    let x = map-append (point_at c) (drop j r) (take k r) in
+    let y = drop-map (point_at c) j r in
+    let z = take-map (point_at c) k r in
+    let a = points_of_all c in
+    cc
+
+-- where no place before k passes, the places before it are those tested
+state_stands : {P : Test} (c : List Point) (k : ℕ) → 3 ≤ length c → k < length c → ((j : ℕ) → j < k → IsRemovable P c j → ⊥) → IsState P c (turned_places c k) (length c - k) (length c - k) k
+state_stands {P} c k h i earlier = record {
+  walk = subst (λ (x : List Point). IsRingWalk P c x (length c - k) (length c - k)) (turned_points c k k) (walk_starts c k h i earlier);
+  below = All-append (IsBelow c) (drop k (range_with_len 0 (length c))) (take k (range_with_len 0 (length c))) (All-drop (IsBelow c) k (range_with_len 0 (length c)) (all_below c)) (All-take (IsBelow c) k (range_with_len 0 (length c)) (all_below c));
+  at_most = omega (arith, i, turned_size c k);
+  tested_each = omega (arith, i);
+  left_each = omega (arith, turned_size c k);
 }
 
 -- the place at hand is kept, and goes to the end of the ring
@@ -160,6 +180,45 @@ state_ends {P} c e places u l n s none shown =
 pub ends_below : {P : Test} (c : List Point) (places : List ℕ) (u l n : ℕ) → IsState P c places u l n → All (IsBelow c) (in_order places l)
 ends_below c places u l n s = All-append (IsBelow c) (drop l places) (take l places) (All-drop (IsBelow c) l places s.below) (All-take (IsBelow c) l places s.below)
 
--- a ring of all places of a contour, with nothing visited
-pub full_state : {P : Test} (c : List Point) (r : Standing) (n v : ℕ) → 3 ≤ length c → n ≡ length c → v ≡ 0 → r ≡ record { places = range_with_len 0 n; untested = n; lead = n } → IsRingState P c r v
-full_state c r n v h i j e = rw (e, i, j) (state_starts c h)
+-- a ring of all places of c, in which the walk stands at place k
+abbrev pub StandsAt : List Point → Standing → ℕ → Type 0
+StandsAt c r k = r ≡ record { places = drop k (range_with_len 0 (length c)) ++ take k (range_with_len 0 (length c)); untested = length c - k; lead = length c - k }
+
+-- it has as many places as c
+pub standing_size : (c : List Point) (r : Standing) (k : ℕ) → StandsAt c r k → length r.places ≡ length c
+standing_size c r k e = rw e (turned_size c k)
+
+-- where no place before k passes, it is the state of a walk that has visited k places
+standing_state : {P : Test} (c : List Point) (r : Standing) (k : ℕ) → IsFirst P c k → StandsAt c r k → IsRingState P c r k
+standing_state c r k f e = rw e (state_stands c k f.here.enough f.here.within f.earlier)
+
+-- and place k passes
+standing_passes : {P : Test} (c : List Point) (r : Standing) (k : ℕ) → IsFirst P c k → StandsAt c r k → PassesAtPlace P c r.places
+standing_passes {P} c r k f e = rw e (subst (PassesAtPlace P c) (sym parts) (passes_back P c k rest (omega (arith, f.here.enough, size)) (subst (λ (x : List Point). P (last x) (point_at c k) (first x)) (turned_points c (suc k) k) passes)))
+  where
+    all : List ℕ
+    all = range_with_len 0 (length c)
+
+    rest : List ℕ
+    rest = drop (suc k) all ++ take k all
+
+    parts : turned_places c k ≡ k ∷ rest
+    parts =
+        let d : drop k all ≡ get_or all k 0 ∷ drop (suc k) all = drop-cons all k 0 (omega (arith, f.here.within, length-range_with_len 0 (length c))) in
+        let g : get_or all k 0 ≡ 0 + k = get_or-range_with_len 0 (length c) k 0 f.here.within in
+        let z : 0 + k ≡ k = omega arith in
+        cc
+
+    size : length (k ∷ rest) ≡ length c
+    size = ap length (sym parts) ∙ turned_size c k
+
+    passes : P (last (drop (suc k) c ++ take k c)) (point_at c k) (first (drop (suc k) c ++ take k c))
+    passes = passes_from_removable {P = P} c (take k c) (point_at c k) (drop (suc k) c) k (split_at c k origin f.here.within) (sym (length-take-le k c (omega (arith, f.here.within)))) f.here
+
+-- without it, a walk goes on
+pub standing_removes : {P : Test} (c : List Point) (r t : Standing) (k visits : ℕ) → IsFirst P c k → StandsAt c r k → 3 < length c → visits ≡ k + 1
+    → t.places ≡ get_or r.places (length r.places - 1) 0 ∷ drop 1 (take (length r.places - 1) r.places) → t.untested ≡ min (length r.places - 1) (max r.untested 2)
+    → LeadRemoved (length r.places) r.lead t.lead → IsRingState P c t visits
+standing_removes {P} c r t k visits f e more v places untested lead =
+    rw v (state_removes c r.places t.places r.untested t.untested r.lead t.lead k (standing_state c r k f e) (rw e (omega (arith, f.here.within))) (standing_passes c r k f e)
+    (omega (arith, more, standing_size c r k e)) places untested lead)

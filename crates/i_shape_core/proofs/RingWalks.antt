@@ -98,20 +98,42 @@ removed_order_round r b l h =
 
 -- The four events of the walk.
 
--- the walk starts with all points
-pub walk_starts : {P : Test} (c : List Point) (u l : ℕ) → 3 ≤ length c → u ≡ length c → l ≡ length c → IsRingWalk P c c u l
-walk_starts {P} c u l h e f = record {
-  enough = h;
-  untested_within = omega arith;
-  lead_above = omega arith;
-  lead_within = omega arith;
-  reached =
-      let a : drop l c ≡ [] = drop_of_length-le c (omega arith) in
-      let b : take l c ≡ c = take_all l c (omega arith) in
-      let x : c ≡ in_order c l = cc in
-      subst (λ (y : List Point). Reach P c y) x stay;
-  tested = λ k g m. absurd (omega (arith, m.within));
+-- the walk starts at place k, where no place before it passes
+pub walk_starts : {P : Test} (c : List Point) (k : ℕ) → 3 ≤ length c → k < length c → ((j : ℕ) → j < k → IsRemovable P c j → ⊥)
+    → IsRingWalk P c (drop k c ++ take k c) (length c - k) (length c - k)
+walk_starts {P} c k h i earlier = record {
+  enough = omega (arith, h, size);
+  untested_within = omega (arith, size);
+  lead_above = omega (arith, i);
+  lead_within = omega (arith, size);
+  reached = subst (λ (x : List Point). Reach P c x) order stay;
+  tested = λ j g m. go j g m (place_of (take k c) (j - (length c - k)) (omega (arith, g, m.within, size, i, length-take k c)));
 }
+  where
+    size : length (drop k c ++ take k c) ≡ length c
+    size = omega (arith, length-append (drop k c) (take k c), length-drop k c, length-take k c)
+
+    order : c ≡ in_order (drop k c ++ take k c) (length c - k)
+    order =
+        let n : length c - k ≡ length (drop k c) = sym (length-drop k c) in
+        let d = drop-append-le (length (drop k c)) (drop k c) (take k c) (omega arith) in
+        let e : drop (length (drop k c)) (drop k c) ≡ [] = drop_of_length-le (drop k c) (omega arith) in
+        let t = take-append-le (length (drop k c)) (drop k c) (take k c) (omega arith) in
+        let u : take (length (drop k c)) (drop k c) ≡ drop k c = take_all (length (drop k c)) (drop k c) (omega arith) in
+        let w = take-append-drop k c in
+        cc
+
+    go : (j : ℕ) → length c - k ≤ j → IsRemovable P (drop k c ++ take k c) j → Place (take k c) (j - (length c - k)) → ⊥
+    go j g m w =
+        let e : drop k c ++ take k c ≡ (drop k c ++ w.ahead) ++ w.at ∷ w.behind = ap (λ (x : List Point). drop k c ++ x) w.whole ∙ sym (append_assoc (drop k c) w.ahead (w.at ∷ w.behind)) in
+        let there : j ≡ length (drop k c ++ w.ahead) = omega (arith, g, w.place, length-append (drop k c) w.ahead, length-drop k c) in
+        let passes = passes_from_removable {P = P} (drop k c ++ take k c) (drop k c ++ w.ahead) w.at w.behind j e there m in
+        let same : w.behind ++ (drop k c ++ w.ahead) ≡ (w.behind ++ drop k c) ++ w.ahead = sym (append_assoc w.behind (drop k c) w.ahead) in
+        let whole : c ≡ w.ahead ++ w.at ∷ (w.behind ++ drop k c) = sym (take-append-drop k c) ∙ (ap (λ (x : List Point). x ++ drop k c) w.whole ∙ append_assoc w.ahead (w.at ∷ w.behind) (drop k c)) in
+        let old = removable_from_passes {P = P} c w.ahead w.at (w.behind ++ drop k c) whole
+        (omega (arith, h, ap length whole, length-append w.ahead (w.at ∷ (w.behind ++ drop k c)), length-append (w.behind ++ drop k c) w.ahead))
+        (subst (λ (x : List Point). P (last x) w.at (first x)) same passes) in
+        earlier (length w.ahead) (omega (arith, ap length w.whole, length-append w.ahead (w.at ∷ w.behind), length-take k c)) old
 
 -- a point that doesn't pass goes to the end of the ring
 pub walk_keeps : {P : Test} (c q r : List Point) (p : Point) (u v l m : ℕ) → IsRingWalk P c q u l → q ≡ p ∷ r → u ≡ suc v → (P (last r) p (first r) → ⊥) →

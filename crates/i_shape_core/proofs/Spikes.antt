@@ -10,7 +10,7 @@ use Rattle.std.specs.Option.{option_or}
 use Rattle.std.specs.Ordering.{int_eq}
 use lib.Dec.{leb, leb→le, le→leb}
 use Rattle.std.specs.Cmp.{signed_Decides}
-use Rattle.i_shape_core.specs.Point.{Point, origin, cross, dot, IsBack}
+use Rattle.i_shape_core.specs.Point.{Point, origin, vector, cross, cross_of, dot, dot_of, IsBack}
 use Rattle.i_shape_core.specs.Contour.{Test, point_at, place_before, place_after, IsRemovable}
 use Rattle.i_shape_core.specs.Convex.{is_same, is_reversal, last_of, dedup, NoSpikes, IsReversal, turn_at}
 use Rattle.i_shape_core.specs.IntPoint.{point_of, contour_of, IsSafe}
@@ -18,9 +18,10 @@ use Rattle.i_shape_core.specs.declared.point.IntPoint.{IntPoint}
 use Rattle.i_shape_core.proofs.ConvexLaws.{Has, IsReversed}
 use Rattle.i_shape_core.proofs.Walked.{last_point}
 use Rattle.i_shape_core.proofs.Around.{Met, AllSame, Changed, changed_start, changed_skip, changed_on, changed_end, has_met, last_but_one, none_change}
-use Rattle.i_shape_core.proofs.Dedup.{IsApart, same_yes, same_no, same_self, last_of_append, apart_from_places, dedup-same}
-use Rattle.i_shape_core.proofs.Back.{back_cases, back_from_cases}
-use Rattle.i_shape_core.proofs.Contours.{safe-at, rest-read, rest-none}
+use Rattle.i_shape_core.proofs.Dedup.{IsApart, same_yes, same_no, last_of_append, apart_from_places, dedup-same}
+use Rattle.i_shape_core.proofs.Back.{back_from_cases}
+use Rattle.i_shape_core.proofs.Turns.{cross-same}
+use Rattle.i_shape_core.proofs.Contours.{safe-at, rest-none}
 
 -- what is told a reversal is one
 pub reversal_yes : (a b c : Point) → is_reversal a b c ≡ true → IsReversed a b c
@@ -186,31 +187,6 @@ unfolding dedup
 none_without_points value [] h s = let e = s.enough in omega arith
 none_without_points value (x ∷ xs) h s = omega arith
 
--- the walk goes on over another point that is no reversal
-pub walking_item : {I : Type 0} (value : I → ℤ) (cs : List (IntPoint I)) (n i : ℕ) (o p x : IntPoint I) (n' : ℕ) (o' p' : IntPoint I) → i < length cs → x ≡ get_or cs i x
-    → is_same (point_of value p) (point_of value x) ≡ false → is_reversal (point_of value o) (point_of value p) (point_of value x) ≡ false
-    → n' ≡ n + 1 → o' ≡ p → p' ≡ x
-    → Walking (contour_of value cs) n (point_of value o) (point_of value p) (contour_of value (drop i cs)) → Walking (contour_of value cs) n' (point_of value o') (point_of value p') (contour_of value (drop (i + 1) cs))
-walking_item value cs n i o p x n' o' p' h e a b en eo ep w = rw (en, eo, ep) (walking_on (contour_of value cs) n (point_of value o) (point_of value p) (point_of value x) (contour_of value (drop (i + 1) cs)) a b
-    (subst (λ (r : List Point). Walking (contour_of value cs) n (point_of value o) (point_of value p) r) (rest-read value cs i x h e) w))
-
--- the walk stays as it is at a repeated point
-pub walking_repeat : {I : Type 0} (value : I → ℤ) (cs : List (IntPoint I)) (n i : ℕ) (o p x : IntPoint I) (n' : ℕ) (o' p' : IntPoint I) → i < length cs → x ≡ get_or cs i x
-    → is_same (point_of value p) (point_of value x) ≡ true → n' ≡ n → o' ≡ o → p' ≡ p
-    → Walking (contour_of value cs) n (point_of value o) (point_of value p) (contour_of value (drop i cs)) → Walking (contour_of value cs) n' (point_of value o') (point_of value p') (contour_of value (drop (i + 1) cs))
-walking_repeat value cs n i o p x n' o' p' h e a en eo ep w = rw (en, eo, ep) (walking_skip (contour_of value cs) n (point_of value o) (point_of value p) (point_of value x) (contour_of value (drop (i + 1) cs)) a
-    (subst (λ (r : List Point). Walking (contour_of value cs) n (point_of value o) (point_of value p) r) (rest-read value cs i x h e) w))
-
--- a reversal is a spike
-pub spike_item : {I : Type 0} (value : I → ℤ) (cs : List (IntPoint I)) (n i : ℕ) (o p x : IntPoint I) → i < length cs → x ≡ get_or cs i x
-    → is_same (point_of value p) (point_of value x) ≡ false → is_reversal (point_of value o) (point_of value p) (point_of value x) ≡ true
-    → Walking (contour_of value cs) n (point_of value o) (point_of value p) (contour_of value (drop i cs)) → IsTrue false ↔ NoSpikes (contour_of value cs)
-spike_item value cs n i o p x h e a b w = (
-  λ t. absurd (cc),
-  λ s. absurd (spike_found (contour_of value cs) n (point_of value o) (point_of value p) (point_of value x) (contour_of value (drop (i + 1) cs)) a b
-      (subst (λ (r : List Point). Walking (contour_of value cs) n (point_of value o) (point_of value p) r) (rest-read value cs i x h e) w) s),
-)
-
 -- three or more, as the program tells it
 pub answer : (n : ℕ) {P : Type 0} → (3 ≤ n) ↔ P → IsTrue (leb 3 n) ↔ P
 answer n e = (λ t. e.0 (leb→le 3 n (subst T (sym t) tt)), λ x. is_so (leb 3 n) (le→leb 3 n (e.1 x)))
@@ -326,40 +302,56 @@ found_safe {I} w value cs last behind safe e =
     let P : IntPoint I → Type 0 = λ p. IsSafe w (point_of value p) in
     (found_one (λ q. not (is_same (point_of value last) (point_of value q))) P (reverse cs) behind e (all_backwards P cs (points_safe w value cs safe))).0
 
--- the point that is found differs
-pub found_apart : {I : Type 0} (value : I → ℤ) (cs : List (IntPoint I)) (last behind : IntPoint I) → Some behind ≡ found_differing value last cs → point_of value behind ≢ point_of value last
-found_apart {I} value cs last behind e same =
-    let P : IntPoint I → Type 0 = λ p. Unit {0} in
-    let t = (found_one (λ q. not (is_same (point_of value last) (point_of value q))) P (reverse cs) behind e (λ k d h. tt)).1 in
-    clash (is_same (point_of value last) (point_of value behind)) (subst (λ (q : Point). is_same (point_of value last) q ≡ true) (sym same) (same_self (point_of value last))) t
-  where
-    clash : (b : Bool) → b ≡ true → not b ≡ true → ⊥
-    clash true e f = cc
-    clash false e f = cc
+-- ---- the walk that carries the edge by which it came, in place of the point before
+pub record EdgeWalking (c : List Point) (n : ℕ) (e p : Point) (rest : List Point) : Type 0 where
+  pub from : Point
+  pub edge : e ≡ vector from p
+  pub walking : Walking c n from p rest
 
--- where neighbours differ, a way that turns back reverses
-pub back_reverses : (o p q : Point) → o ≢ p → is_same p q ≡ false → IsBack o p q → is_reversal o p q ≡ true
-back_reverses o p q n e h = go (is_reversal o p q) refl
+-- where the way turns, it doesn't stand still
+pub turning_apart : (c : List Point) (n : ℕ) (e p q : Point) (rest : List Point) → EdgeWalking c n e p rest → (cross_of e (vector p q) ≡ pos 0 → ⊥) → is_same p q ≡ false
+unfolding cross
+turning_apart c n e p q rest w turns = go (is_same p q) refl
   where
-    reversed : (o ≡ p) ⊎ ((p ≡ q) ⊎ IsReversed o p q) → IsReversed o p q
-    reversed (inl x) = absurd (n x)
-    reversed (inr (inl x)) = absurd (same_no p q e x)
-    reversed (inr (inr x)) = x
+    still : p ≡ q → cross_of e (vector p q) ≡ pos 0
+    still same = subst (λ (r : Point). cross_of e (vector p r) ≡ pos 0) same (subst (λ (v : Point). cross_of v (vector p p) ≡ pos 0) (sym w.edge) (cross-same w.from p))
 
-    go : (b : Bool) → is_reversal o p q ≡ b → b ≡ true
-    go true f = refl
-    go false f = absurd (reversal_no o p q f (reversed (back_cases o p q h)))
+    go : (b : Bool) → is_same p q ≡ b → b ≡ false
+    go true f = absurd (turns (still (same_yes p q f)))
+    go false f = refl
+
+-- a repeated point changes nothing
+pub edge_skips : (c : List Point) (n : ℕ) (e p q : Point) (rest : List Point) → is_same p q ≡ true → EdgeWalking c n e p (q ∷ rest) → EdgeWalking c n e p rest
+edge_skips c n e p q rest f w = record { from = w.from; edge = w.edge; walking = walking_skip c n w.from p q rest f w.walking }
+
+-- another point at which the way doesn't go back is a change
+pub edge_goes_on : (c : List Point) (n : ℕ) (e p q : Point) (rest : List Point) → is_same p q ≡ false
+    → (cross_of e (vector p q) ≡ pos 0 → dot_of e (vector p q) <ℤ pos 0 → ⊥) → EdgeWalking c n e p (q ∷ rest) → EdgeWalking c (n + 1) (vector p q) q rest
+unfolding cross dot
+edge_goes_on c n e p q rest f onward w = record { from = p; edge = refl; walking = walking_on c n w.from p q rest f (go (is_reversal w.from p q) refl) w.walking }
+  where
+    none : IsReversed w.from p q → ⊥
+    none r = subst (λ (v : Point). (cross_of v (vector p q) ≡ pos 0 → dot_of v (vector p q) <ℤ pos 0 → ⊥)) w.edge onward r.0 r.1
+
+    go : (b : Bool) → is_reversal w.from p q ≡ b → b ≡ false
+    go false g = refl
+    go true g = absurd (none (reversal_yes w.from p q g))
+
+-- where it goes back, there is a spike
+pub edge_stops : (c : List Point) (n : ℕ) (e p q : Point) (rest : List Point) → is_same p q ≡ false
+    → cross_of e (vector p q) ≡ pos 0 → dot_of e (vector p q) <ℤ pos 0 → EdgeWalking c n e p (q ∷ rest) → NoSpikes c → ⊥
+unfolding cross dot
+edge_stops c n e p q rest f flat back w = spike_found c n w.from p q rest f (go (is_reversal w.from p q) refl) w.walking
+  where
+    reversed : IsReversed w.from p q
+    reversed = subst (λ (v : Point). (cross_of v (vector p q) ≡ pos 0) × (dot_of v (vector p q) <ℤ pos 0)) w.edge (flat, back)
+
+    go : (b : Bool) → is_reversal w.from p q ≡ b → b ≡ true
+    go true g = refl
+    go false g = absurd (reversal_no w.from p q g reversed)
 
 not_above : (d : ℤ) → d <ℤ pos 0 → d ≤ℤ pos 0
 not_above d h = omega (arith, ints)
-
--- a path that doesn't go back has no reversal
-pub onward_stays : (o p q : Point) → (IsBack o p q → ⊥) → is_reversal o p q ≡ false
-onward_stays o p q n = go (is_reversal o p q) refl
-  where
-    go : (b : Bool) → is_reversal o p q ≡ b → b ≡ false
-    go false f = refl
-    go true f = let r = reversal_yes o p q f in absurd (n (r.0, not_above (dot o p q) r.1))
 
 -- a contour of which no point turns back has no spikes
 pub spikeless_end : (d : List Point) → 3 ≤ length d → ((k : ℕ) → IsRemovable IsBack d k → ⊥) → NoSpikes d

@@ -10,10 +10,11 @@ use Rattle.i_shape_core.proofs.Contours.{length-contour}
 use Rattle.i_shape_core.proofs.Stacks.{pop-stacked, push-stacked, drop-first, drop-last, stacked-end}
 
 -- a test that said yes
-held : {P : Type 0} (b : Bool) → IsTrue b ↔ P → b ≡ true → P
+pub held : {P : Type 0} (b : Bool) → IsTrue b ↔ P → b ≡ true → P
 held b tells e = let t : IsTrue b = e in tells.0 t
 
-failed : {P : Type 0} (b : Bool) → IsTrue b ↔ P → b ≡ false → ¬ P
+-- a test that said no
+pub failed : {P : Type 0} (b : Bool) → IsTrue b ↔ P → b ≡ false → ¬ P
 failed b tells e p = let t : b ≡ true = tells.1 p in absurd (cc)
 
 module _ {I : Type 0} (value : I → ℤ) (xs ys : List (IntPoint I)) (same : ys ≡ xs) where

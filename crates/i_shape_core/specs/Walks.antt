@@ -34,6 +34,16 @@ abbrev pub WalkAnswer : Test → List Point → Option (List Point) → ℕ → 
 WalkAnswer P c None visits = Falls P c visits
 WalkAnswer P c (Some e) visits = Finds P c e visits
 
+-- k is the first place of c that is removable
+pub record IsFirst (P : Test) (c : List Point) (k : ℕ) : Type 0 where
+  pub here : IsRemovable P c k
+  pub earlier : (j : ℕ) → j < k → IsRemovable P c j → ⊥
+
+-- what a search for the first removable place answers, after so many visits
+abbrev pub FirstAnswer : Test → List Point → Option ℕ → ℕ → Type 0
+FirstAnswer P c None visits = ((k : ℕ) → IsRemovable P c k → ⊥) × (visits ≡ length c)
+FirstAnswer P c (Some k) visits = IsFirst P c k × (visits ≡ k + 1)
+
 -- the point whose place is the k-th on the stack
 abbrev pub stacked_point : List Point → List ℕ → ℕ → Point
 stacked_point c stack k = point_at c (slice_index stack k)

@@ -1,7 +1,8 @@
 //! How a way bends at a point, for the test of convexity.
 
 ghost use Rattle.std.specs.Prelude.{◌≡◌};
-ghost use Rattle.i_shape_core.specs.IntPoint.{point_of, IsSafe};
+ghost use Rattle.i_shape_core.specs.IntPoint.{point_of};
+ghost use Rattle.i_shape_core.specs.Point.{Point, vector};
 ghost use Rattle.i_shape_core.specs.Walks.{IsBend, bend_of_both};
 
 use crate::number::{IntNumber, WideIntNumber};
@@ -25,33 +26,28 @@ impl Bend {
     pub fn joined_with(self, next: Bend) -> Option<Bend>
         ensures { result ≡ bend_of_both self next }
     {
+        if self == next {
+            return Some(self);
+        }
         match (self, next) {
             (Bend::Straight, _) => Some(next),
             (_, Bend::Straight) => Some(self),
-            (Bend::Left, Bend::Left) => Some(Bend::Left),
-            (Bend::Right, Bend::Right) => Some(Bend::Right),
-            (Bend::Reversal, Bend::Reversal) => Some(Bend::Reversal),
             _ => None,
         }
     }
 }
 
-/// How the way from `a` over `b` to `c` bends.
-#[tactic(auto, unfolding(crate::specs::Point::cross, crate::specs::Point::dot))]
-pub fn bend_of<I: IntNumber>(a: IntPoint<I>, b: IntPoint<I>, c: IntPoint<I>) -> Bend
-    requires a_safe { IsSafe I.width (point_of I.value a) }
-    requires b_safe { IsSafe I.width (point_of I.value b) }
-    requires c_safe { IsSafe I.width (point_of I.value c) }
-    ensures { IsBend (point_of I.value a) (point_of I.value b) (point_of I.value c) result }
+/// How a way bends from the edge `edge` to the edge `next`, where the `x` of `next` is not the least number.
+pub fn bend_of<I: IntNumber>(edge: IntPoint<I>, next: IntPoint<I>) -> Bend
+    requires { ¬ (next.x ≡ I.MIN) }
+    ensures { (a b c : Point) → point_of I.value edge ≡ vector a b → point_of I.value next ≡ vector b c → IsBend a b c result }
 {
-    let first = b - a;
-    let second = c - b;
-    let cross = first.cross_product(second);
+    let cross = edge.cross_product(next);
     if cross > I::Wide::ZERO {
         Bend::Left
     } else if cross < I::Wide::ZERO {
         Bend::Right
-    } else if first.dot_product(second) < I::Wide::ZERO {
+    } else if edge.dot_product(next) < I::Wide::ZERO {
         Bend::Reversal
     } else {
         Bend::Straight

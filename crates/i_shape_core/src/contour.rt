@@ -47,24 +47,27 @@ impl<I: IntNumber> ContourExtension<I> for &[IntPoint<I>] {
             return true;
         };
         let mut here = *last;
-        let Some(mut behind) = last_other(points, here) else {
+        let Some(behind) = last_other(points, here) else {
             return true;
         };
+        let mut edge = here - behind;
         let mut bend = Bend::Straight;
-        let mut changes: usize = 0;
+        let mut repeats: usize = 0;
         for point in points {
-            if are_same(here, *point) {
+            let next = *point - here;
+            let turned = bend_of(edge, next);
+            if turned == Bend::Straight && are_same(here, *point) {
+                repeats += 1;
                 continue;
             }
-            let Some(both) = bend.joined_with(bend_of(behind, here, *point)) else {
+            let Some(both) = bend.joined_with(turned) else {
                 return false;
             };
             bend = both;
-            changes += 1;
-            behind = here;
             here = *point;
+            edge = next;
         }
-        changes <= 2 || bend != Bend::Reversal
+        bend != Bend::Reversal || points.len() - repeats <= 2
     }
 
     fn is_clockwise_ordered(&self) -> bool {

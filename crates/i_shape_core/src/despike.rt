@@ -8,15 +8,16 @@ ghost use Rattle.i_shape_core.specs.Point.{Point, IsBack};
 ghost use Rattle.i_shape_core.specs.Contour.{Sublist};
 ghost use Rattle.i_shape_core.specs.Convex.{NoSpikes};
 ghost use Rattle.i_shape_core.specs.Cleaners.{SpikelessAnswer, KeptAnswer, VisitsAnswer};
-ghost use Rattle.i_shape_core.specs.Walks.{WalkAnswer, IsRingState, PassesAtPlace};
+ghost use Rattle.i_shape_core.specs.Contour.{point_at};
+ghost use Rattle.i_shape_core.specs.Walks.{WalkAnswer, FirstAnswer, IsRingState, PassesAtPlace};
 
 use crate::error::ShapeError;
-use crate::number::IntNumber;
+use crate::number::{IntNumber, WideIntNumber};
 use crate::point::{IntContour, IntPoint};
 use crate::probe::Probe;
 use crate::ring::Ring;
 use crate::same::{are_same, last_other};
-use crate::turn::{Turn, turn_of};
+use crate::turn::Turn;
 use std::alloc::Global;
 
 /// The test of a contour of safe points for spikes, and its copy without them.
@@ -74,8 +75,7 @@ impl<I: IntNumber> DeSpikeContour<I> for &[IntPoint<I>] {
         if points.len() < 3 {
             return Ok((None, 0));
         }
-        let ring = Ring::full(alloc, points.len())?;
-        walk(alloc, Probe::new(points), ring)
+        despiked(alloc, Probe::new(points))
     }
 }
 
@@ -95,6 +95,67 @@ impl<I: IntNumber> DeSpikeContour<I> for IntContour<I> {
     }
 }
 
+/// Whether the contour turns back or stands still at `place`, with these neighbours. Counts one visit.
+fn is_back_between<I: IntNumber>(
+    probe: &mut Probe<'_, I>,
+    previous: usize,
+    place: usize,
+    next: usize,
+) -> bool
+    requires previous_within { previous < length probe.old.contour }
+    requires place_within { place < length probe.old.contour }
+    requires next_within { next < length probe.old.contour }
+    requires room { probe.old.visits < u128.MAX }
+    ensures test { let c = contour_of I.value probe.old.contour in IsTrue result ↔ IsBack (point_at c previous) (point_at c place) (point_at c next) }
+    ensures contour { probe.new.contour ≡ probe.old.contour }
+    ensures visits { probe.new.visits ≡ probe.old.visits + 1 }
+{
+    probe.turn(previous, place, next) == Turn::Back
+}
+
+/// The first place at which the contour turns back or stands still. Counts a visit of each place up to it, or of all.
+fn first_back<I: IntNumber>(probe: &mut Probe<'_, I>) -> Option<usize>
+    requires enough { 3 ≤ length probe.old.contour }
+    requires fresh { probe.old.visits ≡ 0 }
+    ensures answer { FirstAnswer IsBack (contour_of I.value probe.old.contour) result probe.new.visits }
+    ensures contour { probe.new.contour ≡ probe.old.contour }
+{
+    let last = probe.len() - 1;
+    let mut before = last;
+    for place in 0..last {
+        if is_back_between(probe, before, place, place + 1) {
+            return Some(place);
+        }
+        before = place;
+    }
+    if is_back_between(probe, last - 1, last, 0) {
+        return Some(last);
+    }
+    None
+}
+
+/// Gives all points where none turns back. From the first that does, it walks round a ring of all places.
+fn despiked<I: IntNumber>(
+    alloc: Global,
+    mut probe: Probe<'_, I>,
+) -> Result<(Option<IntContour<I>>, u128), ShapeError>
+    requires enough { 3 ≤ length probe.contour }
+    requires fresh { probe.visits ≡ 0 }
+    ensures answer { IfOk result (λ r. WalkAnswer IsBack (contour_of I.value probe.entry.contour) (answered (contour_of I.value) r.0) r.1) }
+    ensures memory { IsOkUnless result ShapeError.OutOfMemory }
+{
+    let Some(place) = first_back(&mut probe) else {
+        let (kept, visits) = probe.keep_all(alloc)?;
+        return Ok((Some(kept), visits));
+    };
+    if probe.len() == 3 {
+        return Ok((None, probe.visits()));
+    }
+    let mut ring = Ring::standing(alloc, probe.len(), place)?;
+    ring.remove();
+    walk(alloc, probe, ring)
+}
+
 /// Whether the contour turns back or stands still at the ring's place. Counts one visit.
 fn is_back_at<I: IntNumber>(probe: &mut Probe<'_, I>, ring: &Ring) -> bool
     requires enough { 1 < length ring.now.places }
@@ -104,7 +165,7 @@ fn is_back_at<I: IntNumber>(probe: &mut Probe<'_, I>, ring: &Ring) -> bool
     ensures contour { probe.new.contour ≡ probe.old.contour }
     ensures visits { probe.new.visits ≡ probe.old.visits + 1 }
 {
-    probe.turn(ring.before(), ring.place(), ring.after()) == Turn::Back
+    is_back_between(probe, ring.before(), ring.place(), ring.after())
 }
 
 /// Walks round the ring until each place of it is tested, and takes out those that turn back.
@@ -130,16 +191,6 @@ fn walk<I: IntNumber>(
     Ok((Some(kept), visits))
 }
 
-/// Whether the way from `a` over `b` to `c` turns back at `b`, or stands still there.
-fn goes_back<I: IntNumber>(a: IntPoint<I>, b: IntPoint<I>, c: IntPoint<I>) -> bool
-    requires a_safe { IsSafe I.width (point_of I.value a) }
-    requires b_safe { IsSafe I.width (point_of I.value b) }
-    requires c_safe { IsSafe I.width (point_of I.value c) }
-    ensures { IsTrue result ↔ IsBack (point_of I.value a) (point_of I.value b) (point_of I.value c) }
-{
-    turn_of(a, b, c) == Turn::Back
-}
-
 /// Whether at least three points are left without repeated ones, and the way over them nowhere goes back.
 fn has_no_reversal<I: IntNumber>(points: &[IntPoint<I>]) -> bool
     requires { All (IsSafe I.width) (contour_of I.value points.now) }
@@ -149,20 +200,24 @@ fn has_no_reversal<I: IntNumber>(points: &[IntPoint<I>]) -> bool
         return false;
     };
     let mut here = *last;
-    let Some(mut behind) = last_other(points, here) else {
+    let Some(behind) = last_other(points, here) else {
         return false;
     };
+    let mut edge = here - behind;
     let mut changes: usize = 0;
     for point in points {
-        if are_same(here, *point) {
-            continue;
-        }
-        if goes_back(behind, here, *point) {
-            return false;
+        let next = *point - here;
+        if edge.cross_product(next) == I::Wide::ZERO {
+            if are_same(here, *point) {
+                continue;
+            }
+            if edge.dot_product(next) < I::Wide::ZERO {
+                return false;
+            }
         }
         changes += 1;
-        behind = here;
         here = *point;
+        edge = next;
     }
     changes >= 3
 }

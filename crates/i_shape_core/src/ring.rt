@@ -30,23 +30,23 @@ impl Model for Ring {
 }
 
 impl Ring {
-    /// The ring of all places below `count`, none of them tested.
-    pub fn full(alloc: Global, count: usize) -> Result<Ring, ShapeError>
-        requires { 0 < count }
-        ensures full { IfOk result (λ r. r ≡ record { places = range_with_len 0 count; untested = count; lead = count }) }
+    /// The ring of all places below `count`, with the walk at `place` and the places before it tested.
+    pub fn standing(alloc: Global, count: usize, place: usize) -> Result<Ring, ShapeError>
+        requires { place < count }
+        ensures standing { IfOk result (λ r. r ≡ record { places = drop place (range_with_len 0 count) ++ take place (range_with_len 0 count); untested = count - place; lead = count - place }) }
         ensures memory { IsOkUnless result ShapeError.OutOfMemory }
     {
         let mut places = Vec::with_capacity(alloc, count)?;
-        for place in 0..count {
-            places.push_reserved(place);
+        for each in 0..count {
+            places.push_reserved(each);
         }
         Ok(Ring {
             places,
-            behind: 0,
-            ahead: 0,
+            behind: place,
+            ahead: place,
             end: count,
             first: 0,
-            untested: count,
+            untested: count - place,
         })
     }
 

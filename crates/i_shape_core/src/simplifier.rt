@@ -2,7 +2,7 @@
 
 ghost use Rattle.std.specs.Prelude.{◌≡◌, ◌↔◌, ◌+◌, ◌-◌, ◌*◌, ◌^◌, ◌<◌, ◌≤◌, [], take, drop, min, IsTrue, length, vec_len, vec_capacity, IfOk, IsOkUnless};
 ghost use Rattle.std.specs.Option.{IfSome};
-ghost use Rattle.std.specs.List.{All};
+ghost use Rattle.std.specs.List.{All, range_with_len};
 ghost use Rattle.i_shape_core.specs.IntPoint.{contour_of, IsSafe, answered};
 ghost use Rattle.i_shape_core.specs.Point.{IsZeroTurn};
 ghost use Rattle.i_shape_core.specs.Contour.{Sublist, point_at};
@@ -66,11 +66,51 @@ impl ContourSimplifier {
         if contour.len() < 3 {
             return Ok((None, 0));
         }
-        self.stack.clear();
-        self.stack.reserve(contour.len())?;
-        let probe = stack_places(Probe::new(contour), &mut self.stack);
+        let mut probe = Probe::new(contour);
+        let place = clean_prefix(&mut probe);
+        if place == contour.len() {
+            return close_clean(probe, &mut self.stack);
+        }
+        fill(&mut self.stack, contour.len(), 0, place - 1)?;
+        let probe = stack_places(probe, &mut self.stack, place);
         close(probe, *self.stack.allocator(), self.stack.as_slice())
     }
+}
+
+/// The first place that makes a zero turn of the one before it, or the number of points where there is none. Counts a visit
+/// for each test.
+fn clean_prefix<I: IntNumber>(probe: &mut Probe<'_, I>) -> usize
+    requires fresh { probe.old.visits ≡ 0 }
+    requires enough { 3 ≤ length probe.old.contour }
+    ensures contour { probe.new.contour ≡ probe.old.contour }
+    ensures least { 2 ≤ result }
+    ensures most { result ≤ length probe.old.contour }
+    ensures clean { IsStacked IsZeroTurn (contour_of I.value probe.old.contour) (range_with_len 0 result) result }
+    ensures zero_turn { let c = contour_of I.value probe.old.contour in result < length c → IsZeroTurn (point_at c (result - 2)) (point_at c (result - 1)) (point_at c result) }
+    ensures visits { probe.new.visits + 2 ≡ min (result + 1) (length probe.old.contour) }
+{
+    for place in 2..probe.len() {
+        if is_zero_at(probe, place - 2, place - 1, place) {
+            return place;
+        }
+    }
+    probe.len()
+}
+
+/// Puts the places from `first` on and before `end` on the stack, in place of what it holds, and makes room for `count`.
+fn fill(stack: &mut Vec<usize>, count: usize, first: usize, end: usize) -> Result<(), ShapeError>
+    requires in_order { first ≤ end }
+    requires within { end - first ≤ count }
+    ensures items { IfOk result (λ _. stack.new.items ≡ range_with_len first (end - first)) }
+    ensures room { IfOk result (λ _. count ≤ vec_capacity stack.new) }
+    ensures memory { IsOkUnless result ShapeError.OutOfMemory }
+{
+    stack.clear();
+    stack.reserve(count)?;
+    for place in first..end {
+        stack.push_reserved(place);
+    }
+    Ok(())
 }
 
 /// Whether the contour has a zero turn at `place`, between these neighbours. Counts one visit.
@@ -112,19 +152,62 @@ fn pop_zero_turns<I: IntNumber>(probe: &mut Probe<'_, I>, stack: &mut Vec<usize>
     }
 }
 
-/// Puts the places of the contour on the stack one by one, and takes zero turns off it.
-fn stack_places<'a, I: IntNumber>(mut probe: Probe<'a, I>, stack: &mut Vec<usize>) -> Probe<'a, I>
-    requires fresh { probe.visits ≡ 0 }
-    requires empty { stack.old.items ≡ [] }
+/// Puts the places of the contour from `start` on on the stack one by one, and takes zero turns off it.
+fn stack_places<'a, I: IntNumber>(
+    mut probe: Probe<'a, I>,
+    stack: &mut Vec<usize>,
+    start: usize,
+) -> Probe<'a, I>
+    requires within { start ≤ length probe.contour }
+    requires walked { IsWalked IsZeroTurn (contour_of I.value probe.contour) stack.old.items start probe.visits }
     requires room { length probe.contour ≤ vec_capacity stack.old }
     ensures contour { result.contour ≡ probe.entry.contour }
     ensures walked { let c = contour_of I.value probe.entry.contour in IsWalked IsZeroTurn c stack.new.items (length c) result.visits }
 {
-    for place in 0..probe.len() {
+    for place in start..probe.len() {
         pop_zero_turns(&mut probe, stack, place);
         stack.push_reserved(place);
     }
     probe
+}
+
+/// Closes a contour to a cycle that has no zero turn but where it closes. Where it has one there, the places go onto the stack.
+fn close_clean<I: IntNumber>(
+    mut probe: Probe<'_, I>,
+    stack: &mut Vec<usize>,
+) -> Result<(Option<IntContour<I>>, u128), ShapeError>
+    requires enough { 3 ≤ length probe.contour }
+    requires clean { let c = contour_of I.value probe.contour in IsStacked IsZeroTurn c (range_with_len 0 (length c)) (length c) }
+    requires visits { probe.visits + 2 ≡ length probe.contour }
+    ensures answer { IfOk result (λ r. WalkAnswer IsZeroTurn (contour_of I.value probe.entry.contour) (answered (contour_of I.value) r.0) r.1) }
+    ensures memory { IsOkUnless result ShapeError.OutOfMemory }
+{
+    let count = probe.len();
+    let last = count - 1;
+    if is_zero_at(&mut probe, last, 0, 1) {
+        return close_between(probe, stack, 1, count);
+    }
+    if is_zero_at(&mut probe, last - 1, last, 0) {
+        return close_between(probe, stack, 0, last);
+    }
+    let (kept, visits) = probe.keep_all(*stack.allocator())?;
+    Ok((Some(kept), visits))
+}
+
+/// Puts the places from `first` on and before `end` on the stack, and takes zero turns from both of its ends.
+fn close_between<I: IntNumber>(
+    probe: Probe<'_, I>,
+    stack: &mut Vec<usize>,
+    first: usize,
+    end: usize,
+) -> Result<(Option<IntContour<I>>, u128), ShapeError>
+    requires in_order { first ≤ end }
+    requires walked { let c = contour_of I.value probe.contour in IsWalked IsZeroTurn c (range_with_len first (end - first)) (length c) probe.visits }
+    ensures answer { IfOk result (λ r. WalkAnswer IsZeroTurn (contour_of I.value probe.entry.contour) (answered (contour_of I.value) r.0) r.1) }
+    ensures memory { IsOkUnless result ShapeError.OutOfMemory }
+{
+    fill(stack, end - first, first, end)?;
+    close(probe, *stack.allocator(), stack.as_slice())
 }
 
 /// Takes zero turns from both ends of the stack, where it closes to a cycle.

@@ -2,6 +2,8 @@
 pub mod Words
 -- reading a line
 pub mod Reading
+-- reading a number
+pub mod Numerals
 -- showing a contour
 pub mod Showing
 -- a text, line by line, and one run of the program

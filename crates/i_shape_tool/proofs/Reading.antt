@@ -1,16 +1,17 @@
 -- What a line reads, word by word.
-use Rattle.std.proofs.Common.{◌≡◌, ℕ, ◌<◌, List, [], ◌∷◌, ◌++◌, length, refl, sym, ap, ◌∙◌, subst, arith, Bool, true, false, ◌==◌, cond, drop, append_assoc, append-nil}
+use Rattle.std.proofs.Common.{◌≡◌, ℕ, ◌<◌, List, [], ◌∷◌, ◌++◌, length, refl, sym, ap, ◌∙◌, subst, arith, Bool, true, false, ◌==◌, cond, drop, append_assoc, append-nil, ℤ}
 use Rattle.std.specs.List.{join_with_byte, AllByRecursion}
 use Rattle.std.specs.Str.Parse.{AllDigits, without_leading_sign}
 use Rattle.std.proofs.lemmas.Bool.Decides.{nat_tests}
-use Rattle.std.proofs.lemmas.List.Splits.{slice_split_none, slice_split_at, join_with_byte-slice_split}
+use Rattle.std.proofs.lemmas.List.Splits.{slice_split_none, slice_split_at, join_with_byte-slice_split, length-slice_split}
 use Rattle.std.proofs.lemmas.List.Elements.{All-from_recursion}
 use Rattle.std.proofs.lemmas.Str.Parse.{digit_from_value}
 use Rattle.i_shape_int.specs.Point.{Point}
-use Rattle.i_shape_tool.specs.Text.{space, SayPoints, SayPoint, Reads, ReadsNone, words_of}
+use Rattle.i_shape_tool.specs.Text.{space, IsDecimal, SayPoints, SayPoint, Reads, ReadsNone, words_of}
+use Rattle.i_shape_tool.specs.Numeral.{SaysNumber}
 
 -- no byte of the text is a space
-abbrev LacksSpace : List ℕ → Type 0
+abbrev pub LacksSpace : List ℕ → Type 0
 LacksSpace = AllByRecursion (λ b. (b == space) ≡ false)
 
 digits_lack_space : (ds : List ℕ) → AllDigits 10 ds → LacksSpace ds
@@ -24,7 +25,7 @@ signed_lacks_space b bs true plus is_minus is_plus digits = (grind (arith, nat_t
 signed_lacks_space b bs false true is_minus is_plus digits = (grind (arith, nat_tests), digits_lack_space bs digits)
 signed_lacks_space b bs false false is_minus is_plus digits = digits_lack_space (b ∷ bs) digits
 
-word_lacks_space : (word : List ℕ) → AllDigits 10 (without_leading_sign word) → LacksSpace word
+pub word_lacks_space : (word : List ℕ) → AllDigits 10 (without_leading_sign word) → LacksSpace word
 word_lacks_space [] digits = tt
 word_lacks_space (b ∷ bs) digits = signed_lacks_space b bs (b == 45) (b == 43) refl refl digits
 
@@ -41,6 +42,26 @@ says_lack_space (x ∷ []) c says = absurd says
 says_lack_space (x ∷ y ∷ words) [] says = absurd says
 says_lack_space (x ∷ y ∷ words) (p ∷ c) says =
     (word_lacks_space x says.0.0.1, (word_lacks_space y says.1.0.1, says_lack_space words c says.2))
+
+-- a text has a word
+pub some_word : (text : List ℕ) → 0 < length (words_of text)
+some_word text = omega (arith, length-slice_split (λ b. b == space) text)
+
+-- where the first word is no decimal, the words say no points
+pub no_first : (words : List (List ℕ)) → 0 < length words → ((word : List ℕ) (more : List (List ℕ)) (z : ℤ) → words ≡ word ∷ more → IsDecimal word z → ⊥) → (c : List Point) → SayPoints words c → ⊥
+no_first [] some none c says = omega (arith, some)
+no_first (x ∷ []) some none c says = says
+no_first (x ∷ y ∷ words) some none [] says = says
+no_first (x ∷ y ∷ words) some none (p ∷ c) says = none x (y ∷ words) p.x refl says.0
+
+-- and where the word after it is none, neither
+pub no_second : (words left : List (List ℕ)) (z : ℤ) → SaysNumber words z left → 0 < length left → ((word : List ℕ) (more : List (List ℕ)) (y : ℤ) → left ≡ word ∷ more → IsDecimal word y → ⊥) → (c : List Point) → SayPoints words c → ⊥
+no_second words [] z first some none c says = omega (arith, some)
+no_second words (y ∷ more) z (x, is, decimal) some none c says = go c (subst (λ ws. SayPoints ws c) is says)
+  where
+    go : (c : List Point) → SayPoints (x ∷ y ∷ more) c → ⊥
+    go [] h = h
+    go (p ∷ c) h = none y more p.y refl h.1
 
 -- done is what the words before those that are left say
 pub record HasRead (words left : List (List ℕ)) (done : List Point) : Type 0 where

@@ -7,6 +7,7 @@ mod compact;
 mod fault;
 pub mod laws;
 mod line;
+mod number;
 mod program;
 mod show;
 mod text;

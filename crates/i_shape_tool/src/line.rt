@@ -1,13 +1,14 @@
 //! Lines of a text, and the contours that they read.
 
-ghost use Rattle.std.specs.Prelude.{◌≡◌, ◌<◌, ◌↔◌, ℤ, List, ◌∷◌, length, IsTrue, MatchBool, IfOk, IfErr, OnOk, IfSome, IfNone, option_copied};
+ghost use Rattle.std.specs.Prelude.{◌≡◌, ◌<◌, ◌↔◌, List, ◌∷◌, length, IsTrue, MatchBool, IfOk, IfErr, OnOk, IfSome, IfNone, option_copied};
 ghost use Rattle.i_shape_int.specs.Point.{Point};
 ghost use Rattle.i_shape_tool.specs.Points.{contour_of, point_of, IsSafe};
-ghost use Rattle.i_shape_tool.specs.Text.{IsDecimal, Reads, ReadsNone, SayPoint, SayPoints, lines_of, words_of, words_left};
+ghost use Rattle.i_shape_tool.specs.Text.{Reads, ReadsNone, SayPoint, SayPoints, lines_of, words_of, words_left};
 ghost use Rattle.i_shape_tool.specs.Run.{Gives, IsFaultOfLine};
 
 use crate::command::Command;
 use crate::fault::ToolFault;
+use crate::number::first_number;
 use i_shape_int::int::IntPoint;
 use i_shape_int::int::safe_range::IntSafeRange;
 use i_shape_int::int::shape::IntContour;
@@ -56,7 +57,7 @@ fn read_contour(line: &str, contour: &mut IntContour<i32>) -> Result<bool, Alloc
     if line.is_empty() {
         return Ok(true);
     }
-    let mut rest = Some(line);
+    let mut rest = Some(line.as_bytes());
     while let Some(text) = rest {
         let Some((point, left)) = first_point(text) else {
             return Ok(false);
@@ -68,36 +69,13 @@ fn read_contour(line: &str, contour: &mut IntContour<i32>) -> Result<bool, Alloc
 }
 
 /// The point that the first two words of a text say, and the text after them.
-fn first_point(text: &str) -> Option<(IntPoint<i32>, Option<&str>)>
+fn first_point(text: &[u8]) -> Option<(IntPoint<i32>, Option<&[u8]>)>
     ensures says { IfSome result (λ r.
         SayPoint (words_of text.now) (point_of r.0) (words_left (option_copied r.1))) }
     ensures no_point { IfNone result ((c : List Point) → SayPoints (words_of text.now) c → ⊥) }
     ensures shorter { IfSome result (λ r. IfSome r.1 (λ rest. length rest.now < length text.now)) }
 {
-    let (x, rest) = first_word(text);
-    let (y, rest) = first_word(rest?);
-    let point = IntPoint {
-        x: coordinate(x)?,
-        y: coordinate(y)?,
-    };
-    Some((point, rest))
-}
-
-/// The first word of a text, and the text after the space behind it.
-fn first_word(text: &str) -> (&str, Option<&str>)
-    ensures words { words_of text.now ≡ result.0.now ∷ words_left (option_copied result.1) }
-    ensures shorter { IfSome result.1 (λ rest. length rest.now < length text.now) }
-{
-    match text.split_once(' ') {
-        Some((word, rest)) => (word, Some(rest)),
-        None => (text, None),
-    }
-}
-
-/// The number that a word says.
-fn coordinate(word: &str) -> Option<i32>
-    ensures says { IfSome result (IsDecimal word.now) }
-    ensures no_decimal { IfNone result ((z : ℤ) → IsDecimal word.now z → ⊥) }
-{
-    word.parse::<i32>().ok()
+    let (x, rest) = first_number(text)?;
+    let (y, rest) = first_number(rest?)?;
+    Some((IntPoint { x, y }, rest))
 }

@@ -1,4 +1,4 @@
-use crate::given::{SPIKED, SQUARE, TRIANGLE, contour, safe};
+use crate::given::{SPIKED, SQUARE, contour, safe};
 use crate::told::{told, told_unrefused};
 use i_shape::int::IntPoint;
 use i_shape::int::despike::DeSpikeContour;
@@ -16,11 +16,22 @@ fn simplified(rt: HostRuntime) -> Result<(), Fail> {
 }
 
 #[test]
+fn simplified_where_it_is_clean(rt: HostRuntime) -> Result<(), Fail> {
+    let points = safe(&rt, SQUARE.as_slice());
+    let result = points.simplified(rt.alloc());
+    let name = "SimpleContour::simplified of a clean contour";
+    if let Some(kept) = told(&rt, name, result)? {
+        assert!(rt; kept.ok_or("it collapsed")?.as_slice() == SQUARE.as_slice());
+    }
+    Ok(())
+}
+
+#[test]
 fn simplify_counted(rt: HostRuntime) -> Result<(), Fail> {
     let alloc = rt.alloc();
     let points = safe(&rt, SPIKED.as_slice());
     let mut simplifier = ContourSimplifier::new(alloc);
-    let Ok(_) = simplifier.simplify_counted(safe(&rt, TRIANGLE.as_slice())) else {
+    let Ok(_) = simplifier.simplify_counted(safe(&rt, &SPIKED[..5])) else {
         return Ok(());
     };
     let result = simplifier.simplify_counted(points);

@@ -3,23 +3,11 @@ use Rattle.i_shape_core.specs.IntPoint.{contour_of}
 use Rattle.i_shape_core.specs.Point.{IsZeroTurn}
 use Rattle.i_shape_core.specs.Walks.{IsWalked}
 use Rattle.i_shape_core.proofs.Contours.{length-contour}
-use Rattle.i_shape_core.proofs.Stacks.{stacked-start}
 use Rattle.i_shape_core.proofs.Walks.{push-read}
 use Rattle.i_shape_core.proofs.simplifier.stack_places.Goals as goal
 
 pub loop-place-init : goal.loop-place-init
-loop-place-init g c =
-    let none : length c.args.stack.now.items ≡ 0 = ap length c.requires.empty in
-    record {
-      contour = refl;
-      walked = record {
-        stacked = stacked-start IsZeroTurn _ c.args.stack.now.items c.requires.empty;
-        short = omega arith;
-        most = omega (arith, c.requires.fresh);
-        least = omega arith;
-      };
-      room = c.requires.room;
-    }
+loop-place-init g c = record { contour = refl; walked = c.requires.walked; room = c.requires.room }
 
 pub loop-place-preserved : goal.loop-place-preserved
 loop-place-preserved g c =
@@ -43,7 +31,7 @@ pub returns : goal.returns
 returns g c =
     let walked = c.loop-place.invariant.walked in
     let all : c.loop-place.place ≡ length (contour_of g.I.IntNumber.value c.args.probe.contour) =
-    omega (arith, length-contour g.I.IntNumber.value c.args.probe.contour, c.len-place-end.ensures) in record {
+    omega (arith, length-contour g.I.IntNumber.value c.args.probe.contour, c.len-place-end.ensures, c.requires.within) in record {
       contour = c.loop-place.invariant.contour;
       walked = subst (λ (k : ℕ). IsWalked IsZeroTurn (contour_of g.I.IntNumber.value c.args.probe.contour) c.loop-place.stack.items k c.loop-place.probe.visits) all walked;
     }

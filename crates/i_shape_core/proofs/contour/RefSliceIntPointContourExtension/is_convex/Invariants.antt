@@ -1,12 +1,9 @@
-use Rattle.std.proofs.Common.{◌≤◌, drop}
-use Rattle.i_shape_core.specs.IntPoint.{point_of, contour_of, IsSafe}
-use Rattle.i_shape_core.proofs.Bends.{Bending}
+use Rattle.i_shape_core.specs.IntPoint.{point_of, IsSafe}
+use Rattle.i_shape_core.proofs.Bends.{IsBending}
 use Rattle.i_shape_core.proofs.contour.RefSliceIntPointContourExtension.is_convex.Given as goal
 
 abbrev pub invariant-loop-point : goal.invariant-loop-point
 invariant-loop-point g l = record {
-  few : l.changes ≤ l.point-index;
-  behind_safe : IsSafe g.I.IntNumber.width (point_of g.I.IntNumber.value l.behind);
   here_safe : IsSafe g.I.IntNumber.width (point_of g.I.IntNumber.value l.here);
-  bending : Bending (contour_of g.I.IntNumber.value l.points) l.bend l.changes (point_of g.I.IntNumber.value l.behind) (point_of g.I.IntNumber.value l.here) (contour_of g.I.IntNumber.value (drop l.point-index l.points));
+  bending : IsBending g.I.IntNumber.value l.points l.bend l.repeats l.point-index (point_of g.I.IntNumber.value l.edge) (point_of g.I.IntNumber.value l.here);
 }

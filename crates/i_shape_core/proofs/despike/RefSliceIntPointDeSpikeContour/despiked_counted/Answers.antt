@@ -1,10 +1,9 @@
-use Rattle.std.proofs.Common.{◌≡◌, None, option_map, length, arith}
+use Rattle.std.proofs.Common.{◌≡◌, None, option_map, length, ap, arith}
 use Rattle.std.proofs.lemmas.Result.{IfOk-weaker}
 use Rattle.i_shape_core.specs.Point.{IsBack}
 use Rattle.i_shape_core.specs.IntPoint.{contour_of, IsSafe}
 use Rattle.i_shape_core.proofs.Contours.{length-contour}
 use Rattle.i_shape_core.proofs.Cleaned.{spikeless_answer, kept_spikeless, all_answered, in_order_answered, short_answer}
-use Rattle.i_shape_core.proofs.RingStates.{full_state}
 use Rattle.i_shape_core.proofs.despike.RefSliceIntPointDeSpikeContour.despiked_counted.Goals as goal
 
 pub returns-then-points-lt3-clause-answer : goal.returns-then-points-lt3-clause-answer
@@ -21,37 +20,29 @@ pub returns-then-points-lt3-clause-visits : goal.returns-then-points-lt3-clause-
 returns-then-points-lt3-clause-visits g c =
     record { least = omega (arith, length-contour g.I.IntNumber.value c.args.self.now.now, c.if-points-lt3.true); most = omega arith }
 
-pub returns-in_err-ring-clause-short : goal.returns-in_err-ring-clause-short
-returns-in_err-ring-clause-short g c = λ few.
-    absurd (omega (arith, few, length-contour g.I.IntNumber.value c.args.self.now.now, c.if-points-lt3.false))
-
-pub walk-requires : goal.walk-requires
-walk-requires g c =
-    let same : c.new.result.contour ≡ c.args.self.now.now = c.new.ensures.contour in
-    let long = length-contour g.I.IntNumber.value c.args.self.now.now in
-    rw same (full_state (contour_of g.I.IntNumber.value c.args.self.now.now) c.in_ok-ring.ring (length c.args.self.now.now) c.new.result.visits
-    (omega (arith, c.if-points-lt3.false, long)) (omega (arith, long)) c.new.ensures.visits c.in_ok-ring.ensures.full)
+pub despiked-requires-clause-enough : goal.despiked-requires-clause-enough
+despiked-requires-clause-enough g c = omega (arith, c.if-points-lt3.false, ap length c.new.ensures.contour)
 
 pub returns-clause-answer : goal.returns-clause-answer
 returns-clause-answer g c =
     let points = contour_of g.I.IntNumber.value c.args.self.now.now in
     let same : c.new.result.contour ≡ c.args.self.now.now = c.new.ensures.contour in
-    IfOk-weaker c.walk.result _ _ (λ r w. spikeless_answer points (option_map (λ kept. contour_of g.I.IntNumber.value kept.items) r.0) r.1 w)
-    (rw same at c.walk.ensures.answer)
+    IfOk-weaker c.despiked.result _ _ (λ r w. spikeless_answer points (option_map (λ kept. contour_of g.I.IntNumber.value kept.items) r.0) r.1 w)
+    (rw same at c.despiked.ensures.answer)
 
 pub returns-clause-kept : goal.returns-clause-kept
 returns-clause-kept g c =
     let points = contour_of g.I.IntNumber.value c.args.self.now.now in
     let same : c.new.result.contour ≡ c.args.self.now.now = c.new.ensures.contour in
-    IfOk-weaker c.walk.result _ _ (λ r w. kept_spikeless points (option_map (λ kept. contour_of g.I.IntNumber.value kept.items) r.0) r.1 w)
-    (rw same at c.walk.ensures.answer)
+    IfOk-weaker c.despiked.result _ _ (λ r w. kept_spikeless points (option_map (λ kept. contour_of g.I.IntNumber.value kept.items) r.0) r.1 w)
+    (rw same at c.despiked.ensures.answer)
 
 pub returns-clause-safe : goal.returns-clause-safe
 returns-clause-safe g c =
     let points = contour_of g.I.IntNumber.value c.args.self.now.now in
     let same : c.new.result.contour ≡ c.args.self.now.now = c.new.ensures.contour in
-    IfOk-weaker c.walk.result _ _ (λ r w. all_answered IsBack (IsSafe g.I.IntNumber.width) (λ kept. contour_of g.I.IntNumber.value kept.items) points r.0 r.1 w c.requires)
-    (rw same at c.walk.ensures.answer)
+    IfOk-weaker c.despiked.result _ _ (λ r w. all_answered IsBack (IsSafe g.I.IntNumber.width) (λ kept. contour_of g.I.IntNumber.value kept.items) points r.0 r.1 w c.requires)
+    (rw same at c.despiked.ensures.answer)
 
 pub returns-clause-short : goal.returns-clause-short
 returns-clause-short g c = λ few.
@@ -61,5 +52,5 @@ pub returns-clause-in_order : goal.returns-clause-in_order
 returns-clause-in_order g c =
     let points = contour_of g.I.IntNumber.value c.args.self.now.now in
     let same : c.new.result.contour ≡ c.args.self.now.now = c.new.ensures.contour in
-    IfOk-weaker c.walk.result _ _ (λ r w. in_order_answered IsBack (λ kept. contour_of g.I.IntNumber.value kept.items) points r.0 r.1 w)
-    (rw same at c.walk.ensures.answer)
+    IfOk-weaker c.despiked.result _ _ (λ r w. in_order_answered IsBack (λ kept. contour_of g.I.IntNumber.value kept.items) points r.0 r.1 w)
+    (rw same at c.despiked.ensures.answer)

@@ -1,0 +1,312 @@
+/*
+ * main SAMPLES WORD LARGEST LIBRARY..
+ *
+ * Times the rounds in each library (one for each placement of the code) and prints nanoseconds a point, least and greatest of the
+ * placements; each is the least of so many samples. WORD, where it isn't empty, picks the calls and families in whose names it is.
+ * LARGEST is the greatest number of points.
+ */
+#define _GNU_SOURCE
+#include <dlfcn.h>
+#include <malloc.h>
+#include <math.h>
+#include <stdint.h>
+#include <stdio.h>
+#include <stdlib.h>
+#include <string.h>
+#include <time.h>
+
+enum { MOST_LIBRARIES = 8, SAMPLE_NS = 1500000, POINTS_OF_SHAPE = 10, SHAPES = 1000 };
+
+typedef struct {
+    int64_t x, y;
+} point;
+
+typedef uint64_t (*rounds_of_contour)(const void *points, size_t n, size_t rounds);
+typedef uint64_t (*rounds_of_list)(const void *points, size_t n, size_t each, size_t contours, size_t rounds);
+
+static void *libraries[MOST_LIBRARIES];
+static int library_count, samples;
+static size_t largest;
+static const char *word;
+
+static void *must(void *at, const char *what)
+{
+    if (at == NULL) {
+        fprintf(stderr, "bench: %s\n", what);
+        exit(1);
+    }
+    return at;
+}
+
+static double now(void)
+{
+    struct timespec t;
+    clock_gettime(CLOCK_MONOTONIC, &t);
+    return (double)t.tv_sec * 1e9 + (double)t.tv_nsec;
+}
+
+/* Numbers that are the same at each run. */
+static uint32_t number(void)
+{
+    static uint32_t state = 1;
+    state = state * 1664525u + 1013904223u;
+    return state >> 8;
+}
+
+/* A ring round the origin, as a star that never runs straight on. */
+static void clean(point *points, size_t n, double radius)
+{
+    for (size_t k = 0; k < n; k++) {
+        double angle = 2 * 3.14159265358979323846 * (double)k / (double)n;
+        double r = radius * (k % 2 == 0 ? 0.9 : 0.8) + (double)(number() % 1000) / 1000 * radius / 20;
+        points[k].x = (int64_t)(r * cos(angle)) / 2 * 2;
+        points[k].y = (int64_t)(r * sin(angle)) / 2 * 2;
+    }
+}
+
+static void circle(point *points, size_t n, double radius)
+{
+    for (size_t k = 0; k < n; k++) {
+        double angle = 2 * 3.14159265358979323846 * (double)k / (double)n;
+        points[k].x = (int64_t)round(radius * cos(angle));
+        points[k].y = (int64_t)round(radius * sin(angle));
+    }
+}
+
+/* Every other point halfway between its neighbours. */
+static void collinear(point *points, size_t n, double radius)
+{
+    clean(points, (n + 1) / 2, radius);
+    for (size_t k = (n + 1) / 2; k-- > 0;)
+        points[2 * k] = points[k];
+    for (size_t k = 1; k < n; k += 2) {
+        const point *next = &points[(k + 1) % n];
+        points[k].x = (points[k - 1].x + next->x) / 2;
+        points[k].y = (points[k - 1].y + next->y) / 2;
+    }
+}
+
+static void half_duplicates(point *points, size_t n, double radius)
+{
+    clean(points, (n + 1) / 2, radius);
+    for (size_t k = n; k-- > 0;)
+        points[k] = points[k / 2];
+}
+
+/* Half of the ring, and from its end a way of a quarter out and the same way back. */
+static void nested_spikes(point *points, size_t n, double radius)
+{
+    size_t ring = n / 2, way = (n - ring) / 2;
+    clean(points, ring, radius);
+    for (size_t k = ring; k < n; k++) {
+        size_t step = k - ring < way ? k - ring + 1 : n - k;
+        points[k].x = points[ring - 1].x + (int64_t)step % 7;
+        points[k].y = points[ring - 1].y - (int64_t)step;
+    }
+}
+
+static const struct {
+    const char *name;
+    void (*make)(point *, size_t, double);
+} families[] = {
+    {"clean", clean}, {"collinear", collinear}, {"half duplicates", half_duplicates}, {"nested spikes", nested_spikes}, {"circle", circle},
+};
+
+enum { CLEAN = 1, DIRTY = 2, CIRCLE = 4, DUPLICATES = 8 };
+
+static const struct {
+    const char *symbol, *name;
+    int families;
+} calls[] = {
+    {"reading", "floor: each coordinate read", CLEAN},
+    {"copy", "floor: a copy of the points", CLEAN},
+    {"simplified", "SimpleContour::simplified", CLEAN | DIRTY},
+    {"simplify_contour", "ContourSimplifier, reused", CLEAN | DIRTY},
+    {"despiked_contour", "despiked_contour", CLEAN | DIRTY},
+    {"canonical", "canonical", CLEAN | DIRTY},
+    {"is_simple", "is_simple", CLEAN},
+    {"has_no_spikes", "has_no_spikes", CLEAN | DUPLICATES},
+    {"is_convex", "is_convex", CIRCLE},
+    {"contains_point", "contains_point", CLEAN | DUPLICATES},
+    {"area_two", "area_two", CLEAN},
+    {"is_in_safe_range", "is_in_safe_range", CLEAN},
+};
+
+static const struct {
+    const char *name;
+    size_t contours, dirty;
+} layouts[] = {
+    {"all clean", 10, 0}, {"one dirty in each shape", 10, 1}, {"one shape of ten dirty", 1, 1}, {"all dirty", 10, 10},
+};
+
+static const struct {
+    const char *symbol, *name;
+} list_calls[] = {
+    {"list_simplified", "SimpleShapes::simplified"},
+    {"list_in_place", "Simplify of a list, in place"},
+    {"list_buffer", "simplify_contours of a buffer"},
+};
+
+static const int widths[] = {16, 32, 64};
+enum { WIDTHS = 3 };
+
+static double radius_of(int width)
+{
+    return width == 16 ? 16000.0 : width == 32 ? 1e9 : 4e18;
+}
+
+/* The points at a width, as the library takes them. */
+static void *given(const point *points, size_t n, int width)
+{
+    char *list = must(malloc(n * 2 * (size_t)(width / 8)), "no memory");
+    for (size_t k = 0; k < n; k++) {
+        if (width == 16)
+            ((int16_t *)list)[2 * k] = (int16_t)points[k].x, ((int16_t *)list)[2 * k + 1] = (int16_t)points[k].y;
+        else if (width == 32)
+            ((int32_t *)list)[2 * k] = (int32_t)points[k].x, ((int32_t *)list)[2 * k + 1] = (int32_t)points[k].y;
+        else
+            ((int64_t *)list)[2 * k] = points[k].x, ((int64_t *)list)[2 * k + 1] = points[k].y;
+    }
+    return list;
+}
+
+static void *find(int library, const char *symbol, int width)
+{
+    char name[80];
+    snprintf(name, sizeof name, "bench_%s_i%d", symbol, width);
+    return must(dlsym(libraries[library], name), name);
+}
+
+typedef struct {
+    const char *symbol;
+    const void *points;
+    size_t n, contours;
+    int width;
+} task;
+
+/* The nanoseconds of so many rounds; of a list, those in which the clock was on. */
+static double timed(const task *t, int library, size_t rounds, uint64_t *sum)
+{
+    if (t->contours == 0) {
+        rounds_of_contour call = (rounds_of_contour)find(library, t->symbol, t->width);
+        double start = now();
+        *sum = call(t->points, t->n, rounds);
+        return now() - start;
+    }
+    rounds_of_list call = (rounds_of_list)find(library, t->symbol, t->width);
+    double (*taken)(void) = (double (*)(void))must(dlsym(libraries[library], "bench_clock_taken"), "no clock");
+    taken();
+    *sum = call(t->points, t->n, POINTS_OF_SHAPE, t->contours, rounds);
+    return taken();
+}
+
+/* Prints least..greatest nanoseconds a point of the placements, `!` where they answer differently, or `-` where a test ends early. */
+static void cell(const task *t, int wants_true)
+{
+    double best[MOST_LIBRARIES], low = INFINITY, high = 0;
+    uint64_t sum, first;
+    timed(t, 0, 2, &first);
+    if (wants_true && first != 2) {
+        printf(" | %-13s", "-");
+        return;
+    }
+    size_t rounds = (size_t)(SAMPLE_NS / (timed(t, 0, 4, &sum) / 4 + 1)) / 2 * 2;
+    rounds = rounds < 2 ? 2 : rounds > 200000 ? 200000 : rounds;
+    int differs = 0;
+    for (int k = 0; k < library_count; k++) {
+        best[k] = INFINITY;
+        timed(t, k, 2, &sum);
+        differs |= sum != first;
+    }
+    for (int s = 0; s < samples; s++)
+        for (int k = 0; k < library_count; k++) {
+            double taken = timed(t, k, rounds, &sum) / (double)rounds;
+            best[k] = taken < best[k] ? taken : best[k];
+        }
+    for (int k = 0; k < library_count; k++) {
+        low = best[k] < low ? best[k] : low;
+        high = best[k] > high ? best[k] : high;
+    }
+    char text[40];
+    snprintf(text, sizeof text, "%.2f..%.2f%s", low / (double)t->n, high / (double)t->n, differs ? "!" : "");
+    printf(" | %-13s", text);
+}
+
+static int is_picked(const char *name, const char *family)
+{
+    return strstr(name, word) != NULL || strstr(family, word) != NULL;
+}
+
+static void contour_row(size_t call, size_t family, size_t n)
+{
+    printf("%-29s | %-23s | %8zu", calls[call].name, families[family].name, n);
+    point *points = must(malloc(n * sizeof *points), "no memory");
+    for (int w = 0; w < WIDTHS; w++) {
+        if (widths[w] == 16 && n > 1000) {
+            printf(" | %-13s", "-");
+            continue;
+        }
+        families[family].make(points, n, radius_of(widths[w]));
+        void *list = given(points, n, widths[w]);
+        task t = {calls[call].symbol, list, n, 0, widths[w]};
+        cell(&t, strncmp(t.symbol, "is_", 3) == 0 || strncmp(t.symbol, "has_", 4) == 0);
+        free(list);
+    }
+    free(points);
+    printf("\n");
+    fflush(stdout);
+}
+
+static void list_row(size_t call, size_t layout)
+{
+    size_t contours = SHAPES * layouts[layout].contours, n = contours * POINTS_OF_SHAPE;
+    printf("%-29s | %-23s | %8zu", list_calls[call].name, layouts[layout].name, n);
+    point *points = must(malloc(n * sizeof *points), "no memory");
+    for (int w = 0; w < WIDTHS; w++) {
+        for (size_t k = 0; k < contours; k++) {
+            int is_dirty = k % 10 >= 10 - layouts[layout].dirty;
+            (is_dirty ? half_duplicates : clean)(points + k * POINTS_OF_SHAPE, POINTS_OF_SHAPE, radius_of(widths[w]));
+        }
+        void *list = given(points, n, widths[w]);
+        task t = {list_calls[call].symbol, list, n, layouts[layout].contours, widths[w]};
+        cell(&t, 0);
+        free(list);
+    }
+    free(points);
+    printf("\n");
+    fflush(stdout);
+}
+
+static int belongs(int wanted, size_t family)
+{
+    int kind = family == 0 ? CLEAN : family == 4 ? CIRCLE : family == 2 ? DIRTY | DUPLICATES : DIRTY;
+    return (wanted & kind) != 0;
+}
+
+int main(int count, char **words)
+{
+    if (count < 5 || count - 4 > MOST_LIBRARIES)
+        return 2;
+    samples = atoi(words[1]);
+    word = words[2];
+    largest = strtoull(words[3], NULL, 10);
+    library_count = count - 4;
+    for (int k = 0; k < library_count; k++)
+        libraries[k] = must(dlopen(words[4 + k], RTLD_NOW), "a library can't be opened");
+    /* Freed memory stays with the process: otherwise who runs after whom decides who meets the page faults. */
+    mallopt(M_TRIM_THRESHOLD, 1 << 30);
+    mallopt(M_MMAP_THRESHOLD, 32 << 20);
+    printf("Nanoseconds a point, least..greatest of %d placements of the code; each the least of %d samples.\n", library_count, samples);
+    printf("%-29s | %-23s | %8s | %-13s | %-13s | %-13s\n", "call", "family", "n", "i16", "i32", "i64");
+    static const size_t sizes[] = {10, 1000, 100000, 10000000};
+    for (size_t c = 0; c < sizeof calls / sizeof *calls; c++)
+        for (size_t f = 0; f < sizeof families / sizeof *families; f++)
+            for (size_t s = 0; s < sizeof sizes / sizeof *sizes; s++)
+                if (belongs(calls[c].families, f) && sizes[s] <= largest && is_picked(calls[c].name, families[f].name))
+                    contour_row(c, f, sizes[s]);
+    for (size_t c = 0; c < sizeof list_calls / sizeof *list_calls; c++)
+        for (size_t l = 0; l < sizeof layouts / sizeof *layouts; l++)
+            if (is_picked(list_calls[c].name, layouts[l].name))
+                list_row(c, l);
+    return 0;
+}
