@@ -1,11 +1,11 @@
 //! The cleaner that removes zero turns.
 
-ghost use Rattle.std.specs.Prelude.{◌≡◌, ◌↔◌, ◌+◌, ◌-◌, ◌*◌, ◌^◌, ◌<◌, ◌≤◌, [], take, drop, min, IsTrue, length, vec_len, vec_capacity, IfOk, IsOkUnless};
+ghost use Rattle.std.specs.Prelude.{◌≡◌, ◌↔◌, ◌+◌, ◌-◌, ◌*◌, ◌^◌, ◌<◌, ◌≤◌, [], take, drop, min, IsTrue, length, vec_len, vec_capacity, IfOk, IsOkUnless, None};
 ghost use Rattle.std.specs.Option.{IfSome};
 ghost use Rattle.std.specs.List.{All, range_with_len};
 ghost use Rattle.i_shape_core.specs.IntPoint.{contour_of, IsSafe, answered};
 ghost use Rattle.i_shape_core.specs.Point.{IsZeroTurn};
-ghost use Rattle.i_shape_core.specs.Contour.{Sublist, point_at};
+ghost use Rattle.i_shape_core.specs.Contour.{End, Sublist, point_at};
 ghost use Rattle.i_shape_core.specs.Cleaners.{SimpleAnswer, KeptAnswer, VisitsAnswer};
 ghost use Rattle.i_shape_core.specs.Walks.{IsWalked, IsStacked, IsSettled, WalkAnswer};
 
@@ -67,11 +67,10 @@ impl ContourSimplifier {
             return Ok((None, 0));
         }
         let mut probe = Probe::new(contour);
-        let place = clean_prefix(&mut probe);
-        if place == contour.len() {
-            return close_clean(probe, &mut self.stack);
-        }
-        fill(&mut self.stack, contour.len(), 0, place - 1)?;
+        let Some((first, end, place)) = start_of_walk(&mut probe) else {
+            return keep_whole(probe, *self.stack.allocator());
+        };
+        fill(&mut self.stack, contour.len(), first, end)?;
         let probe = stack_places(probe, &mut self.stack, place);
         close(probe, *self.stack.allocator(), self.stack.as_slice())
     }
@@ -95,6 +94,49 @@ fn clean_prefix<I: IntNumber>(probe: &mut Probe<'_, I>) -> usize
         }
     }
     probe.len()
+}
+
+/// Where the contour has a zero turn: the first place and the end of those that are on the stack after the first of them is taken
+/// off, and the place with which the walk goes on. Counts a visit for each test.
+fn start_of_walk<I: IntNumber>(probe: &mut Probe<'_, I>) -> Option<(usize, usize, usize)>
+    requires fresh { probe.old.visits ≡ 0 }
+    requires enough { 3 ≤ length probe.old.contour }
+    ensures contour { probe.new.contour ≡ probe.old.contour }
+    ensures walked { IfSome result (λ s. IsWalked IsZeroTurn (contour_of I.value probe.old.contour) (range_with_len s.0 (s.1 - s.0)) s.2 probe.new.visits) }
+    ensures in_order { IfSome result (λ s. s.0 ≤ s.1) }
+    ensures end_within { IfSome result (λ s. s.1 ≤ length probe.old.contour) }
+    ensures place_within { IfSome result (λ s. s.2 ≤ length probe.old.contour) }
+    ensures clean { let c = contour_of I.value probe.old.contour in result ≡ None → End IsZeroTurn c c }
+    ensures visits { result ≡ None → probe.new.visits ≡ length probe.old.contour }
+{
+    let place = clean_prefix(probe);
+    let count = probe.len();
+    if place < count {
+        return Some((0, place - 1, place));
+    }
+    let last = count - 1;
+    if is_zero_at(probe, last, 0, 1) {
+        return Some((1, count, count));
+    }
+    if is_zero_at(probe, last - 1, last, 0) {
+        return Some((0, last, count));
+    }
+    None
+}
+
+/// The contour itself, where it has no zero turn.
+fn keep_whole<I: IntNumber>(
+    probe: Probe<'_, I>,
+    alloc: Global,
+) -> Result<(Option<IntContour<I>>, u128), ShapeError>
+    requires enough { 3 ≤ length probe.contour }
+    requires clean { let c = contour_of I.value probe.contour in End IsZeroTurn c c }
+    requires visits { probe.visits ≡ length probe.contour }
+    ensures answer { IfOk result (λ r. WalkAnswer IsZeroTurn (contour_of I.value probe.entry.contour) (answered (contour_of I.value) r.0) r.1) }
+    ensures memory { IsOkUnless result ShapeError.OutOfMemory }
+{
+    let (kept, visits) = probe.keep_all(alloc)?;
+    Ok((Some(kept), visits))
 }
 
 /// Puts the places from `first` on and before `end` on the stack, in place of what it holds, and makes room for `count`.
@@ -169,45 +211,6 @@ fn stack_places<'a, I: IntNumber>(
         stack.push_reserved(place);
     }
     probe
-}
-
-/// Closes a contour to a cycle that has no zero turn but where it closes. Where it has one there, the places go onto the stack.
-fn close_clean<I: IntNumber>(
-    mut probe: Probe<'_, I>,
-    stack: &mut Vec<usize>,
-) -> Result<(Option<IntContour<I>>, u128), ShapeError>
-    requires enough { 3 ≤ length probe.contour }
-    requires clean { let c = contour_of I.value probe.contour in IsStacked IsZeroTurn c (range_with_len 0 (length c)) (length c) }
-    requires visits { probe.visits + 2 ≡ length probe.contour }
-    ensures answer { IfOk result (λ r. WalkAnswer IsZeroTurn (contour_of I.value probe.entry.contour) (answered (contour_of I.value) r.0) r.1) }
-    ensures memory { IsOkUnless result ShapeError.OutOfMemory }
-{
-    let count = probe.len();
-    let last = count - 1;
-    if is_zero_at(&mut probe, last, 0, 1) {
-        return close_between(probe, stack, 1, count);
-    }
-    if is_zero_at(&mut probe, last - 1, last, 0) {
-        return close_between(probe, stack, 0, last);
-    }
-    let (kept, visits) = probe.keep_all(*stack.allocator())?;
-    Ok((Some(kept), visits))
-}
-
-/// Puts the places from `first` on and before `end` on the stack, and takes zero turns from both of its ends.
-fn close_between<I: IntNumber>(
-    probe: Probe<'_, I>,
-    stack: &mut Vec<usize>,
-    first: usize,
-    end: usize,
-) -> Result<(Option<IntContour<I>>, u128), ShapeError>
-    requires in_order { first ≤ end }
-    requires walked { let c = contour_of I.value probe.contour in IsWalked IsZeroTurn c (range_with_len first (end - first)) (length c) probe.visits }
-    ensures answer { IfOk result (λ r. WalkAnswer IsZeroTurn (contour_of I.value probe.entry.contour) (answered (contour_of I.value) r.0) r.1) }
-    ensures memory { IsOkUnless result ShapeError.OutOfMemory }
-{
-    fill(stack, end - first, first, end)?;
-    close(probe, *stack.allocator(), stack.as_slice())
 }
 
 /// Takes zero turns from both ends of the stack, where it closes to a cycle.

@@ -1,10 +1,9 @@
-use Rattle.std.proofs.Common.{◌≡◌, ◌<◌, ◌∙◌, ap, length, None, option_map, arith}
+use Rattle.std.proofs.Common.{◌≡◌, ◌∙◌, None, option_map, arith}
 use Rattle.std.proofs.lemmas.Result.{IfOk-weaker}
 use Rattle.i_shape_core.specs.Point.{IsZeroTurn}
 use Rattle.i_shape_core.specs.IntPoint.{contour_of, IsSafe}
 use Rattle.i_shape_core.proofs.Contours.{length-contour}
 use Rattle.i_shape_core.proofs.Cleaned.{simple_answer, kept_answer, all_answered, in_order_answered, short_answer}
-use Rattle.i_shape_core.proofs.Prefixes.{prefix_walked}
 use Rattle.i_shape_core.proofs.simplifier.ContourSimplifier.simplify_counted.Goals as goal
 
 pub returns-then-contour-lt3-clause-answer : goal.returns-then-contour-lt3-clause-answer
@@ -21,58 +20,50 @@ pub returns-then-contour-lt3-clause-visits : goal.returns-then-contour-lt3-claus
 returns-then-contour-lt3-clause-visits g c =
     record { least = omega (arith, length-contour g.I.IntNumber.value c.before.args.contour.now); most = omega arith }
 
-pub returns-then-place-contour-clause-answer : goal.returns-then-place-contour-clause-answer
-returns-then-place-contour-clause-answer g c =
-    let same : c.clean_prefix-place.new.probe.contour ≡ c.args.contour.now = c.clean_prefix-place.ensures.contour ∙ c.new-probe.ensures.contour in
-    IfOk-weaker c.close_clean.result _ _ (λ r w. simple_answer (contour_of g.I.IntNumber.value c.args.contour.now) (option_map (λ kept. contour_of g.I.IntNumber.value kept.items) r.0) r.1 w)
-    (rw same at c.close_clean.ensures.answer)
+pub returns-in_default-clause-answer : goal.returns-in_default-clause-answer
+returns-in_default-clause-answer g c =
+    let same : c.start_of_walk.new.probe.contour ≡ c.args.contour.now = c.start_of_walk.ensures.contour ∙ c.new-probe.ensures.contour in
+    IfOk-weaker c.keep_whole.result _ _ (λ r w. simple_answer (contour_of g.I.IntNumber.value c.args.contour.now) (option_map (λ kept. contour_of g.I.IntNumber.value kept.items) r.0) r.1 w)
+    (rw same at c.keep_whole.ensures.answer)
 
-pub returns-then-place-contour-clause-kept : goal.returns-then-place-contour-clause-kept
-returns-then-place-contour-clause-kept g c =
-    let same : c.clean_prefix-place.new.probe.contour ≡ c.args.contour.now = c.clean_prefix-place.ensures.contour ∙ c.new-probe.ensures.contour in
-    IfOk-weaker c.close_clean.result _ _ (λ r w. kept_answer (contour_of g.I.IntNumber.value c.args.contour.now) (option_map (λ kept. contour_of g.I.IntNumber.value kept.items) r.0) r.1 w)
-    (rw same at c.close_clean.ensures.answer)
+pub returns-in_default-clause-kept : goal.returns-in_default-clause-kept
+returns-in_default-clause-kept g c =
+    let same : c.start_of_walk.new.probe.contour ≡ c.args.contour.now = c.start_of_walk.ensures.contour ∙ c.new-probe.ensures.contour in
+    IfOk-weaker c.keep_whole.result _ _ (λ r w. kept_answer (contour_of g.I.IntNumber.value c.args.contour.now) (option_map (λ kept. contour_of g.I.IntNumber.value kept.items) r.0) r.1 w)
+    (rw same at c.keep_whole.ensures.answer)
 
-pub returns-then-place-contour-clause-safe : goal.returns-then-place-contour-clause-safe
-returns-then-place-contour-clause-safe g c =
-    let same : c.clean_prefix-place.new.probe.contour ≡ c.args.contour.now = c.clean_prefix-place.ensures.contour ∙ c.new-probe.ensures.contour in
-    IfOk-weaker c.close_clean.result _ _ (λ r w. all_answered IsZeroTurn (IsSafe g.I.IntNumber.width) (λ kept. contour_of g.I.IntNumber.value kept.items) (contour_of g.I.IntNumber.value c.args.contour.now) r.0 r.1 w c.requires)
-    (rw same at c.close_clean.ensures.answer)
+pub returns-in_default-clause-safe : goal.returns-in_default-clause-safe
+returns-in_default-clause-safe g c =
+    let same : c.start_of_walk.new.probe.contour ≡ c.args.contour.now = c.start_of_walk.ensures.contour ∙ c.new-probe.ensures.contour in
+    IfOk-weaker c.keep_whole.result _ _ (λ r w. all_answered IsZeroTurn (IsSafe g.I.IntNumber.width) (λ kept. contour_of g.I.IntNumber.value kept.items) (contour_of g.I.IntNumber.value c.args.contour.now) r.0 r.1 w c.requires)
+    (rw same at c.keep_whole.ensures.answer)
 
-pub returns-then-place-contour-clause-in_order : goal.returns-then-place-contour-clause-in_order
-returns-then-place-contour-clause-in_order g c =
-    let same : c.clean_prefix-place.new.probe.contour ≡ c.args.contour.now = c.clean_prefix-place.ensures.contour ∙ c.new-probe.ensures.contour in
-    IfOk-weaker c.close_clean.result _ _ (λ r w. in_order_answered IsZeroTurn (λ kept. contour_of g.I.IntNumber.value kept.items) (contour_of g.I.IntNumber.value c.args.contour.now) r.0 r.1 w)
-    (rw same at c.close_clean.ensures.answer)
-
-pub stack_places-probe-requires-clause-walked : goal.stack_places-probe-requires-clause-walked
-stack_places-probe-requires-clause-walked g c =
-    let all = length-contour g.I.IntNumber.value c.new-probe.result.contour in
-    let prefix = c.clean_prefix-place.ensures in
-    let within : c.clean_prefix-place.result < length c.new-probe.result.contour = omega (arith, prefix.most, c.if-place-contour.false, ap length c.new-probe.ensures.contour) in
-    rw prefix.contour (prefix_walked IsZeroTurn (contour_of g.I.IntNumber.value c.new-probe.result.contour) c.clean_prefix-place.result _ _
-    prefix.least (omega (arith, within, all)) prefix.clean (prefix.zero_turn (omega (arith, within, all))) (omega (arith, prefix.visits, within)) c.in_ok-fill.ensures.items)
+pub returns-in_default-clause-in_order : goal.returns-in_default-clause-in_order
+returns-in_default-clause-in_order g c =
+    let same : c.start_of_walk.new.probe.contour ≡ c.args.contour.now = c.start_of_walk.ensures.contour ∙ c.new-probe.ensures.contour in
+    IfOk-weaker c.keep_whole.result _ _ (λ r w. in_order_answered IsZeroTurn (λ kept. contour_of g.I.IntNumber.value kept.items) (contour_of g.I.IntNumber.value c.args.contour.now) r.0 r.1 w)
+    (rw same at c.keep_whole.ensures.answer)
 
 pub returns-clause-answer : goal.returns-clause-answer
 returns-clause-answer g c =
-    let same : c.stack_places-probe.result.contour ≡ c.args.contour.now = c.stack_places-probe.ensures.contour ∙ (c.clean_prefix-place.ensures.contour ∙ c.new-probe.ensures.contour) in
+    let same : c.stack_places-probe.result.contour ≡ c.args.contour.now = c.stack_places-probe.ensures.contour ∙ (c.start_of_walk.ensures.contour ∙ c.new-probe.ensures.contour) in
     IfOk-weaker c.close.result _ _ (λ r w. simple_answer (contour_of g.I.IntNumber.value c.args.contour.now) (option_map (λ kept. contour_of g.I.IntNumber.value kept.items) r.0) r.1 w)
     (rw same at c.close.ensures.answer)
 
 pub returns-clause-kept : goal.returns-clause-kept
 returns-clause-kept g c =
-    let same : c.stack_places-probe.result.contour ≡ c.args.contour.now = c.stack_places-probe.ensures.contour ∙ (c.clean_prefix-place.ensures.contour ∙ c.new-probe.ensures.contour) in
+    let same : c.stack_places-probe.result.contour ≡ c.args.contour.now = c.stack_places-probe.ensures.contour ∙ (c.start_of_walk.ensures.contour ∙ c.new-probe.ensures.contour) in
     IfOk-weaker c.close.result _ _ (λ r w. kept_answer (contour_of g.I.IntNumber.value c.args.contour.now) (option_map (λ kept. contour_of g.I.IntNumber.value kept.items) r.0) r.1 w)
     (rw same at c.close.ensures.answer)
 
 pub returns-clause-safe : goal.returns-clause-safe
 returns-clause-safe g c =
-    let same : c.stack_places-probe.result.contour ≡ c.args.contour.now = c.stack_places-probe.ensures.contour ∙ (c.clean_prefix-place.ensures.contour ∙ c.new-probe.ensures.contour) in
+    let same : c.stack_places-probe.result.contour ≡ c.args.contour.now = c.stack_places-probe.ensures.contour ∙ (c.start_of_walk.ensures.contour ∙ c.new-probe.ensures.contour) in
     IfOk-weaker c.close.result _ _ (λ r w. all_answered IsZeroTurn (IsSafe g.I.IntNumber.width) (λ kept. contour_of g.I.IntNumber.value kept.items) (contour_of g.I.IntNumber.value c.args.contour.now) r.0 r.1 w c.requires)
     (rw same at c.close.ensures.answer)
 
 pub returns-clause-in_order : goal.returns-clause-in_order
 returns-clause-in_order g c =
-    let same : c.stack_places-probe.result.contour ≡ c.args.contour.now = c.stack_places-probe.ensures.contour ∙ (c.clean_prefix-place.ensures.contour ∙ c.new-probe.ensures.contour) in
+    let same : c.stack_places-probe.result.contour ≡ c.args.contour.now = c.stack_places-probe.ensures.contour ∙ (c.start_of_walk.ensures.contour ∙ c.new-probe.ensures.contour) in
     IfOk-weaker c.close.result _ _ (λ r w. in_order_answered IsZeroTurn (λ kept. contour_of g.I.IntNumber.value kept.items) (contour_of g.I.IntNumber.value c.args.contour.now) r.0 r.1 w)
     (rw same at c.close.ensures.answer)

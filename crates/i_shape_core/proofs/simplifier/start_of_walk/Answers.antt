@@ -1,0 +1,61 @@
+use Rattle.std.proofs.Common.{◌≡◌, ◌≤◌, ℕ, List, length, ap, subst, refl, arith, ◌∙◌}
+use Rattle.std.specs.List.{range_with_len}
+use Rattle.i_shape_core.specs.IntPoint.{contour_of}
+use Rattle.i_shape_core.specs.Point.{Point, IsZeroTurn}
+use Rattle.i_shape_core.specs.Walks.{IsStacked}
+use Rattle.i_shape_core.proofs.Contours.{length-contour}
+use Rattle.i_shape_core.proofs.Walks.{held, failed}
+use Rattle.i_shape_core.proofs.Prefixes.{prefix_walked, whole_without_first, whole_without_last, whole_ends}
+use Rattle.i_shape_core.proofs.simplifier.start_of_walk.Goals as goal
+
+pub returns-then-place-count-clause-walked : goal.returns-then-place-count-clause-walked
+returns-then-place-count-clause-walked g c =
+    let prefix = c.clean_prefix-place.ensures in
+    let points : List Point = contour_of g.I.IntNumber.value c.args.probe.now.contour in
+    let all = length-contour g.I.IntNumber.value c.args.probe.now.contour in
+    let within = c.if-place-count.true in
+    prefix_walked IsZeroTurn points c.clean_prefix-place.result c.clean_prefix-place.new.probe.visits _ prefix.least
+    (omega (arith, within, c.len-count.ensures, ap length prefix.contour, all)) prefix.clean
+    (prefix.zero_turn (omega (arith, within, c.len-count.ensures, ap length prefix.contour, all)))
+    (omega (arith, within, c.len-count.ensures, ap length prefix.contour, prefix.visits)) refl
+
+pub returns-then-is_zero_at-clause-walked : goal.returns-then-is_zero_at-clause-walked
+returns-then-is_zero_at-clause-walked g c =
+    let prefix = c.clean_prefix-place.ensures in
+    let points : List Point = contour_of g.I.IntNumber.value c.args.probe.now.contour in
+    let all = length-contour g.I.IntNumber.value c.args.probe.now.contour in
+    let e : c.len-count.result ≡ length points = omega (arith, c.len-count.ensures, ap length prefix.contour, all) in
+    let w : c.clean_prefix-place.result ≡ length points = omega (arith, e, c.if-place-count.false, prefix.most, all) in
+    let whole : IsStacked IsZeroTurn points (range_with_len 0 (length points)) (length points) = subst (λ (k : ℕ). IsStacked IsZeroTurn points (range_with_len 0 k) k) w prefix.clean in
+    let three : 3 ≤ length points = omega (arith, c.requires.enough, all) in
+    rw e (whole_without_first IsZeroTurn points (length points) c.is_zero_at.new.probe.visits refl three
+    (omega (arith, prefix.visits, w, c.is_zero_at.ensures.visits, all)) whole
+    (held c.is_zero_at.result (rw (prefix.contour, e) at c.is_zero_at.ensures.test) c.if-is_zero_at.true))
+
+pub returns-then-is_zero_at-2-clause-walked : goal.returns-then-is_zero_at-2-clause-walked
+returns-then-is_zero_at-2-clause-walked g c =
+    let prefix = c.clean_prefix-place.ensures in
+    let points : List Point = contour_of g.I.IntNumber.value c.args.probe.now.contour in
+    let all = length-contour g.I.IntNumber.value c.args.probe.now.contour in
+    let e : c.len-count.result ≡ length points = omega (arith, c.len-count.ensures, ap length prefix.contour, all) in
+    let w : c.clean_prefix-place.result ≡ length points = omega (arith, e, c.if-place-count.false, prefix.most, all) in
+    let whole : IsStacked IsZeroTurn points (range_with_len 0 (length points)) (length points) = subst (λ (k : ℕ). IsStacked IsZeroTurn points (range_with_len 0 k) k) w prefix.clean in
+    let three : 3 ≤ length points = omega (arith, c.requires.enough, all) in
+    let same : c.is_zero_at.new.probe.contour ≡ c.args.probe.now.contour = c.is_zero_at.ensures.contour ∙ prefix.contour in
+    rw e (whole_without_last IsZeroTurn points (length points) c.is_zero_at-2.new.probe.visits _ refl three
+    (omega (arith, prefix.visits, w, c.is_zero_at.ensures.visits, c.is_zero_at-2.ensures.visits, all)) (omega (arith, three)) whole
+    (held c.is_zero_at-2.result (rw (same, e) at c.is_zero_at-2.ensures.test) c.if-is_zero_at-2.true))
+
+pub returns-clause-clean : goal.returns-clause-clean
+returns-clause-clean g c = λ none.
+    let prefix = c.clean_prefix-place.ensures in
+    let points : List Point = contour_of g.I.IntNumber.value c.args.probe.now.contour in
+    let all = length-contour g.I.IntNumber.value c.args.probe.now.contour in
+    let e : c.len-count.result ≡ length points = omega (arith, c.len-count.ensures, ap length prefix.contour, all) in
+    let w : c.clean_prefix-place.result ≡ length points = omega (arith, e, c.if-place-count.false, prefix.most, all) in
+    let whole : IsStacked IsZeroTurn points (range_with_len 0 (length points)) (length points) = subst (λ (k : ℕ). IsStacked IsZeroTurn points (range_with_len 0 k) k) w prefix.clean in
+    let three : 3 ≤ length points = omega (arith, c.requires.enough, all) in
+    let same : c.is_zero_at.new.probe.contour ≡ c.args.probe.now.contour = c.is_zero_at.ensures.contour ∙ prefix.contour in
+    whole_ends IsZeroTurn points (length points) refl three whole
+    (failed c.is_zero_at.result (rw (prefix.contour, e) at c.is_zero_at.ensures.test) c.if-is_zero_at.false)
+    (failed c.is_zero_at-2.result (rw (same, e) at c.is_zero_at-2.ensures.test) c.if-is_zero_at-2.false)
