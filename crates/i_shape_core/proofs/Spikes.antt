@@ -20,7 +20,6 @@ use Rattle.i_shape_core.proofs.Walked.{last_point}
 use Rattle.i_shape_core.proofs.Around.{Met, AllSame, Changed, changed_start, changed_skip, changed_on, changed_end, has_met, last_but_one, none_change}
 use Rattle.i_shape_core.proofs.Dedup.{IsApart, same_yes, same_no, last_of_append, apart_from_places, dedup-same}
 use Rattle.i_shape_core.proofs.Back.{back_from_cases}
-use Rattle.i_shape_core.proofs.Turns.{cross-same}
 use Rattle.i_shape_core.proofs.Contours.{safe-at, rest-none}
 
 -- what is told a reversal is one
@@ -307,18 +306,6 @@ pub record EdgeWalking (c : List Point) (n : ℕ) (e p : Point) (rest : List Poi
   pub from : Point
   pub edge : e ≡ vector from p
   pub walking : Walking c n from p rest
-
--- where the way turns, it doesn't stand still
-pub turning_apart : (c : List Point) (n : ℕ) (e p q : Point) (rest : List Point) → EdgeWalking c n e p rest → (cross_of e (vector p q) ≡ pos 0 → ⊥) → is_same p q ≡ false
-unfolding cross
-turning_apart c n e p q rest w turns = go (is_same p q) refl
-  where
-    still : p ≡ q → cross_of e (vector p q) ≡ pos 0
-    still same = subst (λ (r : Point). cross_of e (vector p r) ≡ pos 0) same (subst (λ (v : Point). cross_of v (vector p p) ≡ pos 0) (sym w.edge) (cross-same w.from p))
-
-    go : (b : Bool) → is_same p q ≡ b → b ≡ false
-    go true f = absurd (turns (still (same_yes p q f)))
-    go false f = refl
 
 -- a repeated point changes nothing
 pub edge_skips : (c : List Point) (n : ℕ) (e p q : Point) (rest : List Point) → is_same p q ≡ true → EdgeWalking c n e p (q ∷ rest) → EdgeWalking c n e p rest

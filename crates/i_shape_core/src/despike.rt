@@ -206,11 +206,11 @@ fn has_no_reversal<I: IntNumber>(points: &[IntPoint<I>]) -> bool
     let mut edge = here - behind;
     let mut changes: usize = 0;
     for point in points {
+        if are_same(here, *point) {
+            continue;
+        }
         let next = *point - here;
         if edge.cross_product(next) == I::Wide::ZERO {
-            if are_same(here, *point) {
-                continue;
-            }
             if edge.dot_product(next) < I::Wide::ZERO {
                 return false;
             }

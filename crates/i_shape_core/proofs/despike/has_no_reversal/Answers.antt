@@ -4,9 +4,9 @@ use Rattle.i_shape_core.specs.IntPoint.{point_of}
 use Rattle.i_shape_core.proofs.Contours.{read-safe, rest-read, refuted}
 use Rattle.i_shape_core.proofs.Coordinates.{safe_points-apart, safe_difference-above, below-told}
 use Rattle.i_shape_core.proofs.LastEdge.{zero-told}
-use Rattle.i_shape_core.proofs.Spikes.{walking_begins, none_differs, found_safe, walking_over, nothing_told, answer, turning_apart, edge_skips, edge_goes_on, edge_stops}
+use Rattle.i_shape_core.proofs.Spikes.{walking_begins, none_differs, found_safe, walking_over, nothing_told, answer, edge_skips, edge_goes_on, edge_stops}
 use Rattle.i_shape_core.proofs.despike.has_no_reversal.Goals as goal
-use Rattle.i_shape_core.proofs.despike.has_no_reversal.Goals.{then-eq+else-are_same+else-lt, else-eq}
+use Rattle.i_shape_core.proofs.despike.has_no_reversal.Goals.{then-eq+else-lt, else-eq}
 
 pub returns-in_default : goal.returns-in_default
 returns-in_default g c = nothing_told g.I.IntNumber.value c.args.points.now c.in_default.ensures.item.3
@@ -73,14 +73,14 @@ loop-point-preserved g c =
       few = omega (arith, c.loop-point.invariant.few);
       here_safe = read-safe g.I.IntNumber.width value c.args.points.now _ _ c.requires c.loop-point-test.true c.point-item.is;
       walking = rw c.sub-next.ensures (elim c.if-eq.branch [
-        | then-eq+else-are_same+else-lt w ↦
+        | then-eq+else-lt w ↦
             let told = below-told g.I.Wide.WideIntNumber.value w.dot_product.result w.ZERO-then-eq.result w.lt.result _ _ w.lt.ensures (wide.partial_order _ _) (ap g.I.Wide.WideIntNumber.value w.ZERO-then-eq.ensures ∙ wide.zero_value)
             (w.dot_product.ensures ∙ ap (dot_of (point_of value c.loop-point.edge)) c.sub-next.ensures) in
-            edge_goes_on _ _ _ _ _ _ (sym w.are_same.ensures ∙ w.if-are_same.false) (λ z back. refuted w.lt.result told (λ h. h, λ h. h) w.if-lt.false back) walking
+            edge_goes_on _ _ _ _ _ _ (sym c.are_same.ensures ∙ c.if-are_same.false) (λ z back. refuted w.lt.result told (λ h. h, λ h. h) w.if-lt.false back) walking
         | else-eq w ↦
             let turns : cross_of (point_of value c.loop-point.edge) (vector (point_of value c.loop-point.here) (point_of value c.point-item.result)) ≡ pos 0 → ⊥ =
             λ z. (let t = zero.1 (c.cross_product.ensures ∙ ap (cross_of (point_of value c.loop-point.edge)) c.sub-next.ensures ∙ z) in absurd (cc)) in
-            edge_goes_on _ _ _ _ _ _ (turning_apart _ _ _ _ _ _ walking turns) (λ z back. turns z) walking
+            edge_goes_on _ _ _ _ _ _ (sym c.are_same.ensures ∙ c.if-are_same.false) (λ z back. turns z) walking
       ]);
     }
 
