@@ -24,7 +24,7 @@ pub trait DeSpike {
     ghost despike_gives: { Self → Result Bool ShapeError → Self → Type 0 };
 
     /// Removes spikes. False where there are none; then nothing changes, and no memory is taken.
-    /// The new value is built whole before the old one goes: after `OutOfMemory`, the only error, the value is as it was.
+    /// What is new is built whole before anything old goes: after `OutOfMemory`, the only error, the value is as it was.
     /// Whatever it answers, the points are safe still.
     fn remove_spikes(&mut self) -> Result<bool, ShapeError>
         requires { can_despike self.old }

@@ -26,7 +26,7 @@ pub trait Simplify {
     ghost simplify_gives: { Self → Result Bool ShapeError → Self → Type 0 };
 
     /// Removes zero turns. False where there are none; then nothing changes, and no memory is taken.
-    /// The new value is built whole before the old one goes: after `OutOfMemory`, the only error, the value is as it was.
+    /// What is new is built whole before anything old goes: after `OutOfMemory`, the only error, the value is as it was.
     /// Whatever it answers, the points are safe still.
     fn simplify_contour(&mut self) -> Result<bool, ShapeError>
         requires { can_simplify self.old }
