@@ -33,11 +33,12 @@ fn without_sign(text: &[u8]) -> (bool, &[u8])
     ensures minus { result.0 ≡ starts_with_minus text.now }
     ensures left { result.1.now ≡ without_leading_sign text.now }
 {
-    match text {
-        [b'-', left @ ..] => (true, left),
-        [b'+', left @ ..] => (false, left),
-        _ => (false, text),
-    }
+    let Some((first, _)) = text.split_first() else {
+        return (false, text);
+    };
+    let negative = *first == b'-';
+    let signs = usize::from(negative || *first == b'+');
+    (negative, &text[signs..])
 }
 
 /// The number that the digits in front of a text write, and the text after them. None where there is no digit, and where the

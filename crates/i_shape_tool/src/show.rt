@@ -32,7 +32,7 @@ fn push_point(output: &mut String, point: IntPoint<i32>) -> Result<(), AllocErro
     let mut text = [0; POINT_ROOM];
     let middle = write_number(point.y, &mut text, POINT_ROOM);
     let start = write_number(point.x, &mut text, middle);
-    output.push_str(str::from_utf8(&text[start..]).unwrap())
+    output.push_str(unsafe { str::from_utf8_unchecked(&text[start..]) })
 }
 
 /// Appends a cleaned contour, or a word where it collapsed.
