@@ -37,11 +37,13 @@ pub fn copy_out<P: CPoint>(points: &[IntPoint<P::Coordinate>], out: &mut [P], at
     }
 }
 
-/// Whether each point is safe.
+/// Whether each point is safe. It looks at all of them, since a test that can end early takes one point after the other.
 pub fn are_safe<P: CPoint>(points: &[P]) -> bool
     ensures { IsTrue result ↔ AreSafe P.Coordinate.width (λ p. point_of P.Coordinate.value (P.point p)) points.now }
 {
-    points
-        .iter()
-        .all(|given| (*given).to_point().is_in_safe_range())
+    let mut safe = true;
+    for given in points {
+        safe &= (*given).to_point().is_in_safe_range();
+    }
+    safe
 }

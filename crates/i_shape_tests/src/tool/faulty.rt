@@ -46,6 +46,10 @@ fn a_faulty_line_is_told(rt: HostRuntime) -> Result<(), Fail> {
         "\u{661} 2",
         "2147483648 0",
         "0 -2147483649",
+        "18446744073709551617 0",
+        "1 2\u{0}",
+        "/ 2",
+        "1 :",
     ] {
         is_told(&rt, rt.alloc(), &ALL, line, "line 1: not a contour\n")?;
     }
