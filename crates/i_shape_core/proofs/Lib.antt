@@ -49,6 +49,7 @@ pub mod Compared
 pub mod Bends
 pub mod SummedArea
 pub mod SliceArea
+pub mod AreaByPlaces
 -- the definitions at contours that are written out
 pub mod Examples
 pub mod ShortContours

@@ -61,3 +61,19 @@ impl<I: IntNumber, T: Iterator<Item = IntPoint<I>>> IteratorArea<I> for T {
         self.area_two().divide(I::Wide::TWO)
     }
 }
+
+/// The double area of the contour of the points, above zero where it is wound counter-clockwise, and zero where there are none. No
+/// safe range is asked: a sum that doesn't fit wraps. One pass; it takes no memory.
+pub fn area_of<I: IntNumber>(points: &[IntPoint<I>]) -> I::Wide
+    ensures { I.Wide.value result ≡ int_wrap I.Wide.width (shoelace (contour_of I.value points.now)) }
+{
+    if points.is_empty() {
+        return I::Wide::ZERO;
+    }
+    let last = points.len() - 1;
+    let mut sum = I::Wide::ZERO;
+    for place in 0..last {
+        sum = sum.wrapping_add(points[place].cross_product(points[place + 1]));
+    }
+    sum.wrapping_add(points[last].cross_product(points[0]))
+}

@@ -10,6 +10,7 @@ ghost use Rattle.i_shape_int.specs.ShapeAnswers.{HasPoints, shape_shoelace, shap
 
 use crate::int::IntPoint;
 use crate::int::shape::{IntContour, IntShape};
+use i_shape_core::area::area_of;
 pub use i_shape_core::area::{IteratorArea, UnsafeArea};
 use i_shape_core::number::{IntNumber, WideIntNumber};
 
@@ -42,8 +43,7 @@ impl<I: IntNumber> Area<I> for &[IntPoint<I>] {
     ghost has_points = { λ points. HasPoints (contour_of I.value points.now) };
 
     fn area_two(&self) -> I::Wide {
-        let points: &[IntPoint<I>] = *self;
-        points.iter().copied().unsafe_area()
+        area_of(*self)
     }
 }
 
