@@ -47,6 +47,12 @@ pub trait ContourCleaner<I: IntNumber>: Drop {
         ensures points { IfOk result (λ r. IfSome r (λ kept. HasPoints (contour_of I.value kept.items))) }
         ensures memory { IsOkUnless result ShapeError.OutOfMemory };
 
+    /// The cleaned contour, of any: a copy of one that needs no cleaning. The only error is `OutOfMemory`.
+    fn cleaned_copy(&mut self, contour: &[IntPoint<I>]) -> Result<Option<IntContour<I>>, ShapeError>
+        requires { All (IsSafe I.width) (contour_of I.value contour.now) }
+        ensures answer { IfOk result (λ r. answers (contour_of I.value contour.now) (answered (contour_of I.value) r)) }
+        ensures memory { IsOkUnless result ShapeError.OutOfMemory };
+
     /// A contour that needs no cleaning is its own answer.
     ghost stays: { (c : List Point) → clean c → answers c (Some c) };
 
@@ -83,22 +89,6 @@ pub fn is_clean_list<I: IntNumber, C: ContourCleaner<I>>(shapes: &[IntShape<I>])
     true
 }
 
-/// A copy of a contour that needs no cleaning, and otherwise the cleaned contour.
-fn clean_contour<I: IntNumber, C: ContourCleaner<I>>(
-    cleaner: &mut C,
-    alloc: Global,
-    contour: &[IntPoint<I>],
-) -> Result<Option<IntContour<I>>, ShapeError>
-    requires { All (IsSafe I.width) (contour_of I.value contour.now) }
-    ensures answer { IfOk result (λ r. C.answers (contour_of I.value contour.now) (answered (contour_of I.value) r)) }
-    ensures memory { IsOkUnless result ShapeError.OutOfMemory }
-{
-    if C::is_clean(contour) {
-        return Ok(Some(Vec::from_slice(alloc, contour)?));
-    }
-    cleaner.cleaned(contour)
-}
-
 /// Appends the cleaned contour, and nothing where it collapses.
 fn append_hole<I: IntNumber, C: ContourCleaner<I>>(
     cleaner: &mut C,
@@ -109,8 +99,7 @@ fn append_hole<I: IntNumber, C: ContourCleaner<I>>(
     ensures ok { OnOk result ((answer : Option (List Point)) × C.answers (contour_of I.value contour.now) answer × (shape_of I.value kept.new.items ≡ shape_of I.value kept.old.items ++ option_to_list answer)) }
     ensures memory { IsOkUnless result ShapeError.OutOfMemory }
 {
-    let alloc = *kept.allocator();
-    match clean_contour(cleaner, alloc, contour)? {
+    match cleaner.cleaned_copy(contour)? {
         Some(hole) => {
             kept.push(hole)?;
             Ok(())
@@ -150,7 +139,7 @@ pub fn clean_shape<I: IntNumber, C: ContourCleaner<I>>(
     let Some((outer, holes)) = shape.split_first() else {
         return Ok(Some(Vec::new(alloc)));
     };
-    let Some(contour) = clean_contour(cleaner, alloc, outer.as_slice())? else {
+    let Some(contour) = cleaner.cleaned_copy(outer.as_slice())? else {
         return Ok(None);
     };
     let mut kept = Vec::with_capacity(alloc, shape.len())?;

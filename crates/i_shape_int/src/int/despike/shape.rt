@@ -87,6 +87,16 @@ impl<I: IntNumber> ContourCleaner<I> for SpikeRemover {
         contour.despiked_contour(self.alloc)
     }
 
+    fn cleaned_copy(
+        &mut self,
+        contour: &[IntPoint<I>],
+    ) -> Result<Option<IntContour<I>>, ShapeError> {
+        if contour.has_no_spikes() {
+            return Ok(Some(Vec::from_slice(self.alloc, contour)?));
+        }
+        self.cleaned(contour)
+    }
+
     ghost stays = { λ c clean. record { clean = λ _. refl; cleaned = λ unclean. absurd (unclean clean) } };
 
     ghost keeps = { despike_kept };

@@ -82,6 +82,13 @@ impl<I: IntNumber> ContourCleaner<I> for ContourSimplifier {
         self.simplify_contour(contour)
     }
 
+    fn cleaned_copy(
+        &mut self,
+        contour: &[IntPoint<I>],
+    ) -> Result<Option<IntContour<I>>, ShapeError> {
+        self.simplify_contour(contour)
+    }
+
     ghost stays = { simple_stays };
 
     ghost keeps = { simple_kept };

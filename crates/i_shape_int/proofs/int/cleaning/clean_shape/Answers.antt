@@ -10,8 +10,8 @@ use Rattle.i_shape_int.specs.ShapeAnswers.{ShapeClean}
 use Rattle.i_shape_int.proofs.Keeping.{shape_keeps, shape_safe}
 use Rattle.i_shape_int.proofs.int.cleaning.clean_shape.Goals as goal
 
-pub clean_contour-requires : goal.clean_contour-requires
-clean_contour-requires g c =
+pub cleaned_copy-requires : goal.cleaned_copy-requires
+cleaned_copy-requires g c =
     let value = g.I.IntNumber.value in
     let Safe : List (Vec (IntPoint g.row.I.Denot)) → Type 0 = λ w. IsSafeShape g.I.IntNumber.width (shape_of value w) in
     let SafeContour : List (IntPoint g.row.I.Denot) → Type 0 = λ w. All (IsSafe g.I.IntNumber.width) (contour_of value w) in
