@@ -56,9 +56,9 @@ test_names() {
     count 'the names' $?
 }
 
-# The first lines of docs/C.md that are fenced as $1.
+# The first lines of docs/C.md that are fenced as $1, but for commands.
 fenced() {
-    awk -v fence="\`\`\`$1" 'in_it && /^```$/ { exit } in_it { print } $0 == fence { in_it = 1 }' docs/C.md
+    awk -v fence="\`\`\`$1" 'in_it && /^```$/ { exit } in_it && !/^\$ / { print } $0 == fence { in_it = 1 }' docs/C.md
 }
 
 # The sample is that of the page, and prints the corners of its contour.
@@ -72,7 +72,7 @@ test_sample() {
 # The example prints what the page says.
 test_example() {
     "${CC:-cc}" -std=c11 "${warnings[@]}" -Iinclude examples/clean.c "$library/libi_shape.a" -o "$work/clean" &&
-        "$work/clean" > "$work/shown" && fenced text | diff - "$work/shown"
+        "$work/clean" > "$work/shown" && fenced 'console library' | diff - "$work/shown"
     count 'examples/clean.c' $?
 }
 
@@ -90,7 +90,7 @@ test_rust() {
     [ "$status" = 0 ] || cat "$work/cargo"
     awk '/^test result:/ { passed += $4; failed += $6 } END { print passed + 0 " passed, " failed + 0 " failed" }' "$work/cargo" > "$work/log"
     add "$status" 'the crate for Rust'
-    "${cargo[@]}" run "${its[@]}" --example clean > "$work/shown" && fenced text | diff - "$work/shown"
+    "${cargo[@]}" run "${its[@]}" --example clean > "$work/shown" && fenced 'console library' | diff - "$work/shown"
     count 'examples/clean.rs' $?
 }
 

@@ -29,6 +29,7 @@ C = ["bindings/c/*.c", "bindings/c/*.h", "examples/**/*.c", "bench/**/*.c", "inc
 NEEDED = {
     "program": "test -x crates/i_shape_tool_main/out/i_shape_tool_main",
     "library": "test -e bindings/c/out/libi_shape.a",
+    "parallel": "parallel --version",
     "python": "/usr/bin/python3 -c 'import numpy.typing, setuptools, wheel, venv, ensurepip'",
     "cargo": "cargo metadata --offline --no-deps --format-version 1 --manifest-path bindings/rust/Cargo.toml",
 }
@@ -114,12 +115,17 @@ def is_at_hand(needed):
     return subprocess.run(["sh", "-c", NEEDED[needed]], cwd=TOP, capture_output=True, check=False).returncode == 0
 
 
+def top_names():
+    """What git keeps at the top of the repository, and not what a reader's commands have left there."""
+    kept = subprocess.run(["git", "ls-files", "-z"], cwd=TOP, capture_output=True, text=True, check=True).stdout
+    return {name.split("/")[0] for name in kept.split("\0") if name and not name.startswith(".")}
+
+
 def fault_of_console(text):
     """Runs the commands of a block in a folder with links to what the repository has at its top."""
     with tempfile.TemporaryDirectory() as folder:
-        for name in os.listdir(TOP):
-            if not name.startswith("."):
-                os.symlink(os.path.join(TOP, name), os.path.join(folder, name))
+        for name in top_names():
+            os.symlink(os.path.join(TOP, name), os.path.join(folder, name))
         for command, wanted in re.findall(r"^\$ (.*)\n((?:(?!\$ ).*\n)*)", text, re.MULTILINE):
             run = subprocess.run(["bash", "-c", command], cwd=folder, capture_output=True, text=True, timeout=600, check=False)
             if run.returncode or (wanted and run.stdout != wanted):
