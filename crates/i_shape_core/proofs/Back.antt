@@ -42,6 +42,17 @@ pub cross_same-first : (a p : Point) → cross a a p ≡ pos 0
 unfolding cross
 cross_same-first a p = ring (coordinates (a ∷ p ∷ [])) (cross_term A A B) (number (pos 0)) refl
 
+-- a way to a point and back turns back there
+pub there_and_back : (a b : Point) → IsBack a b a
+unfolding square cross dot
+there_and_back a b = (
+  ring (coordinates (a ∷ b ∷ [])) (cross_term A B A) (number (pos 0)) refl,
+  not_above (square a b) (dot a b a) (square_at_least a b) (ring (coordinates (a ∷ b ∷ [])) (dot_term A B A) (minus (square_term A B)) refl),
+)
+  where
+    not_above : (s d : ℤ) → pos 0 ≤ℤ s → d ≡ neg_ℤ s → d ≤ℤ pos 0
+    not_above s d h e = omega (arith, ints)
+
 sign : (d : ℤ) → d ≤ℤ pos 0 → (d ≡ pos 0) ⊎ (d <ℤ pos 0)
 sign (pos zero) h = inl refl
 sign (pos (suc n)) h = absurd (omega (arith, ints))

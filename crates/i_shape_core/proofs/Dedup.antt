@@ -44,7 +44,8 @@ abbrev pub AllApart : Point → List Point → Type 0
 AllApart q [] = Unit {0}
 AllApart q (p ∷ ps) = (q ≢ p) × AllApart p ps
 
-changes_apart : (q : Point) (ps : List Point) → AllApart q (changes_after q ps)
+-- no point that is left equals the one before it
+pub changes_apart : (q : Point) (ps : List Point) → AllApart q (changes_after q ps)
 changes_apart q [] = tt
 changes_apart q (p ∷ ps) = go (changes_apart p ps) (is_same q p) refl
   where

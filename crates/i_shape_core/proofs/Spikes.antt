@@ -1,5 +1,5 @@
 -- The walk that looks for spikes.
-use Rattle.std.proofs.Common.{◌≡◌, ◌≢◌, ℕ, ◌+◌, ◌-◌, ◌<◌, ◌≤◌, List, [], ◌∷◌, ◌++◌, reverse, length, drop, get_or, Option, Some, None, option_map, unwrap_or, not, ℤ, pos, int_lt, ◌<ℤ◌, ◌≤ℤ◌, T, refl, sym, ap, subst, ◌∙◌, arith, ◌⊎◌, inl, inr, ◌↔◌, Bool, true, false, cond, ◌&&◌, IsTrue}
+use Rattle.std.proofs.Common.{◌≡◌, ◌≢◌, ℕ, ◌-◌, ◌<◌, ◌≤◌, List, [], ◌∷◌, ◌++◌, reverse, length, drop, get_or, Option, Some, None, option_map, unwrap_or, not, ℤ, pos, int_lt, ◌<ℤ◌, ◌≤ℤ◌, T, refl, sym, ap, subst, ◌∙◌, arith, ◌⊎◌, inl, inr, ◌↔◌, Bool, true, false, cond, ◌&&◌, IsTrue}
 use Rattle.std.proofs.lemmas.Int.{ints}
 use Rattle.std.proofs.lemmas.List.{reverse-append}
 use Rattle.std.proofs.lemmas.List.Elements.{All-head, All-tail, All-push}
@@ -8,18 +8,17 @@ use Rattle.std.specs.List.{All, find}
 use Rattle.std.specs.Int.{Width}
 use Rattle.std.specs.Option.{option_or}
 use Rattle.std.specs.Ordering.{int_eq}
-use lib.Dec.{leb, leb→le, le→leb}
 use Rattle.std.specs.Cmp.{signed_Decides}
 use Rattle.i_shape_core.specs.Point.{Point, origin, vector, cross, cross_of, dot, dot_of, IsBack}
 use Rattle.i_shape_core.specs.Contour.{Test, point_at, place_before, place_after, IsRemovable}
-use Rattle.i_shape_core.specs.Convex.{is_same, is_reversal, last_of, dedup, NoSpikes, IsReversal, turn_at}
+use Rattle.i_shape_core.specs.Convex.{is_same, is_reversal, changes_after, last_of, dedup, NoSpikes, IsReversal, turn_at}
 use Rattle.i_shape_core.specs.IntPoint.{point_of, contour_of, IsSafe}
 use Rattle.i_shape_core.specs.declared.point.IntPoint.{IntPoint}
 use Rattle.i_shape_core.proofs.ConvexLaws.{Has, IsReversed}
 use Rattle.i_shape_core.proofs.Walked.{last_point}
-use Rattle.i_shape_core.proofs.Around.{Met, AllSame, Changed, changed_start, changed_skip, changed_on, changed_end, has_met, last_but_one, none_change}
-use Rattle.i_shape_core.proofs.Dedup.{IsApart, same_yes, same_no, last_of_append, apart_from_places, dedup-same}
-use Rattle.i_shape_core.proofs.Back.{back_from_cases}
+use Rattle.i_shape_core.proofs.Around.{Met, Passed, AllSame, met_is, has_met, last_but_one, none_change}
+use Rattle.i_shape_core.proofs.Dedup.{IsApart, AllApart, changes_apart, changes_last, last_again, same_yes, same_no, last_of_append, apart_from_places, dedup-same}
+use Rattle.i_shape_core.proofs.Back.{back_cases, there_and_back, back_from_cases}
 use Rattle.i_shape_core.proofs.Contours.{safe-at, rest-none}
 
 -- what is told a reversal is one
@@ -134,65 +133,95 @@ told-met P c S N o p q rest e n w (inl s) = w.1 (inl s)
 told-met P c S N o p q rest e n w (inr y) =
     w.1 (inr (subst (λ (X : Type 0). X) (sym (ap (λ (b : Bool). cond b (Met P o p rest) (P o p q ⊎ Met P p q rest)) e)) (inl (n y))))
 
--- ---- the walk: n points have changed so far, o and p are the last two that differ, and the rest is still to come
-pub record Walking (c : List Point) (n : ℕ) (o p : Point) (rest : List Point) : Type 0 where
-  pub changes : Changed c n p rest
+-- ---- how many points are left without repeats
+
+-- the way to another point and back reverses
+back_reversed : (p q : Point) → p ≢ q → IsReversed p q p
+back_reversed p q n = go (back_cases p q p (there_and_back p q))
+  where
+    go : (p ≡ q) ⊎ ((q ≡ p) ⊎ IsReversed p q p) → IsReversed p q p
+    go (inl e) = absurd (n e)
+    go (inr (inl e)) = absurd (n (sym e))
+    go (inr (inr r)) = r
+
+two_parts : (u v : List Point) (r : Point) → AllSame (last_of origin (u ++ r ∷ v)) v → r ≢ last_of origin (u ++ r ∷ v) → 2 ≤ length (dedup (u ++ r ∷ v))
+two_parts u [] r a n = absurd (n (sym (last_of_append origin u (r ∷ []))))
+two_parts u (x ∷ v) r a n = (last_but_one u (x ∷ v) r (last_of origin (u ++ r ∷ x ∷ v)) refl (omega arith) a n).0
+
+-- where a point differs from the last one, at least two are left
+two_left : (c : List Point) → first_behind c ≢ last_of origin c → 2 ≤ length (dedup c)
+two_left c n = go (first_behind c) (stands_where (last_of origin c) (last_of origin c) c) n
+  where
+    parts : (r : Point) (d u v : List Point) → d ≡ u ++ r ∷ v → AllSame (last_of origin d) v → r ≢ last_of origin d → 2 ≤ length (dedup d)
+    parts r d u v e a n = subst (λ (x : List Point). 2 ≤ length (dedup x)) (sym e)
+        (two_parts u v r (subst (λ (x : List Point). AllSame (last_of origin x) v) e a) (subst (λ (x : List Point). r ≢ last_of origin x) e n))
+
+    go : (r : Point) → Stands (last_of origin c) (last_of origin c) c r → r ≢ last_of origin c → 2 ≤ length (dedup c)
+    go r (inl x) n = absurd (n x.0)
+    go r (inr (u, v, e, a, m)) n = parts r c u v e a m
+
+-- two points are a way there and back: without a reversal there are at least three
+three_left : (c : List Point) (o : Point) → 2 ≤ length (dedup c) → (Met IsReversed o (last_of origin c) c → ⊥) → 3 ≤ length (dedup c)
+unfolding dedup
+three_left c o h none = go (changes_after p c) h (changes_apart p c) (changes_last p c ∙ last_again origin c) (λ x. none (subst (λ (X : Type 0). X) (sym (met_is IsReversed o p c)) x))
+  where
+    p : Point
+    p = last_of origin c
+
+    go : (d : List Point) → 2 ≤ length d → AllApart p d → last_of p d ≡ p → (Passed IsReversed o p d → ⊥) → 3 ≤ length d
+    go [] h a e none = absurd (omega arith)
+    go (x ∷ []) h a e none = absurd (omega arith)
+    go (x ∷ y ∷ []) h a e none = absurd (none (inr (inl (subst (λ (z : Point). IsReversed p x z) (sym e) (back_reversed p x a.0)))))
+    go (x ∷ y ∷ z ∷ d) h a e none = omega arith
+
+-- ---- the walk over a contour of which not all points are the same: o and p are the last two that differ, no turn so far reverses, and the rest is still to come
+pub record Walking (c : List Point) (o p : Point) (rest : List Point) : Type 0 where
+  pub differ : first_behind c ≢ last_of origin c
   pub met : Told IsReversed c ⊥ o p rest
 
-walking_start : (c : List Point) → Walking c 0 (first_behind c) (last_of origin c) c
-walking_start c = record { changes = changed_start c; met = told-start IsReversed c ⊥ (λ x. x) }
+walking_start : (c : List Point) → first_behind c ≢ last_of origin c → Walking c (first_behind c) (last_of origin c) c
+walking_start c n = record { differ = n; met = told-start IsReversed c ⊥ (λ x. x) }
 
-walking_skip : (c : List Point) (n : ℕ) (o p q : Point) (rest : List Point) → is_same p q ≡ true → Walking c n o p (q ∷ rest) → Walking c n o p rest
-walking_skip c n o p q rest e w = record { changes = changed_skip c n p q rest e w.changes; met = told-skip IsReversed c ⊥ o p q rest e w.met }
+walking_skip : (c : List Point) (o p q : Point) (rest : List Point) → is_same p q ≡ true → Walking c o p (q ∷ rest) → Walking c o p rest
+walking_skip c o p q rest e w = record { differ = w.differ; met = told-skip IsReversed c ⊥ o p q rest e w.met }
 
-walking_on : (c : List Point) (n : ℕ) (o p q : Point) (rest : List Point) → is_same p q ≡ false → is_reversal o p q ≡ false → Walking c n o p (q ∷ rest) → Walking c (n + 1) p q rest
-walking_on c n o p q rest e f w = record {
-  changes = changed_on c n p q rest e w.changes;
+walking_on : (c : List Point) (o p q : Point) (rest : List Point) → is_same p q ≡ false → is_reversal o p q ≡ false → Walking c o p (q ∷ rest) → Walking c p q rest
+walking_on c o p q rest e f w = record {
+  differ = w.differ;
   met = told-on IsReversed c ⊥ ⊥ (IsReversed o p q) o p q rest e (λ x. x, λ x. x) (λ x. absurd x, λ x. elim x [ inl y ↦ y | inr y ↦ reversal_no o p q f y ]) w.met;
 }
 
 -- with a reversal it has spikes
-spike_found : (c : List Point) (n : ℕ) (o p q : Point) (rest : List Point) → is_same p q ≡ false → is_reversal o p q ≡ true → Walking c n o p (q ∷ rest) → NoSpikes c → ⊥
+spike_found : (c : List Point) (o p q : Point) (rest : List Point) → is_same p q ≡ false → is_reversal o p q ≡ true → Walking c o p (q ∷ rest) → NoSpikes c → ⊥
 unfolding Has turn_at
-spike_found c n o p q rest e f w h =
+spike_found c o p q rest e f w h =
     let m = told-met IsReversed c ⊥ (IsReversed o p q) o p q rest e (λ x. x) w.met (inr (reversal_yes o p q f)) in
     let k = (has_met IsReversed c (first_behind c) h.enough (found c (last_of origin c) (omega (arith, h.enough)))).1 m in
     h.none k.0 (record { within = k.1.within; no_turn = k.1.passes.0; back = k.1.passes.1 })
 
--- at the end
-no_spike_found : (c : List Point) (n : ℕ) (o p : Point) → Walking c n o p [] → (3 ≤ n) ↔ NoSpikes c
+-- at the end it has none
+no_spike_found : (c : List Point) (o p : Point) → Walking c o p [] → NoSpikes c
 unfolding Has turn_at
-no_spike_found c n o p w = (λ h. spikeless (subst (λ (m : ℕ). 3 ≤ m) count h), λ s. subst (λ (m : ℕ). 3 ≤ m) (sym count) s.enough)
+no_spike_found c o p w = record {
+  enough = enough;
+  none = λ k r. none ((has_met IsReversed c (first_behind c) enough (found c (last_of origin c) (omega (arith, enough)))).0 (k, record { enough = enough; within = r.within; passes = (r.no_turn, r.back) }));
+}
   where
-    count : n ≡ length (dedup c)
-    count = changed_end c n p w.changes
+    none : Met IsReversed (first_behind c) (last_of origin c) c → ⊥
+    none m = elim (w.met.0 m) [ inl x ↦ x | inr x ↦ x ]
 
-    spikeless : 3 ≤ length (dedup c) → NoSpikes c
-    spikeless h = record {
-      enough = h;
-      none = λ k r. elim (w.met.0 ((has_met IsReversed c (first_behind c) h (found c (last_of origin c) (omega arith))).0 (k, record { enough = h; within = r.within; passes = (r.no_turn, r.back) }))) [
-        | inl x ↦ x
-        | inr x ↦ x
-      ];
-    }
+    enough : 3 ≤ length (dedup c)
+    enough = three_left c (first_behind c) (two_left c w.differ) none
 
 -- ---- over the points of a program
-pub walking_over : {I : Type 0} (value : I → ℤ) (cs : List (IntPoint I)) (n i : ℕ) (o p : Point) → length cs ≤ i → Walking (contour_of value cs) n o p (contour_of value (drop i cs)) → (3 ≤ n) ↔ NoSpikes (contour_of value cs)
-walking_over value cs n i o p h w = no_spike_found (contour_of value cs) n o p (subst (Walking (contour_of value cs) n o p) (rest-none value cs i h) w)
+pub walking_over : {I : Type 0} (value : I → ℤ) (cs : List (IntPoint I)) (i : ℕ) (o p : Point) → length cs ≤ i → Walking (contour_of value cs) o p (contour_of value (drop i cs)) → IsTrue true ↔ NoSpikes (contour_of value cs)
+walking_over value cs i o p h w = (λ t. no_spike_found (contour_of value cs) o p (subst (Walking (contour_of value cs) o p) (rest-none value cs i h) w), λ s. refl)
 
 -- without points a contour isn't one without spikes
 pub none_without_points : {I : Type 0} (value : I → ℤ) (cs : List (IntPoint I)) → length cs ≤ 0 → NoSpikes (contour_of value cs) → ⊥
 unfolding dedup
 none_without_points value [] h s = let e = s.enough in omega arith
 none_without_points value (x ∷ xs) h s = omega arith
-
--- three or more, as the program tells it
-pub answer : (n : ℕ) {P : Type 0} → (3 ≤ n) ↔ P → IsTrue (leb 3 n) ↔ P
-answer n e = (λ t. e.0 (leb→le 3 n (subst T (sym t) tt)), λ x. is_so (leb 3 n) (le→leb 3 n (e.1 x)))
-  where
-    is_so : (t : Bool) → T t → t ≡ true
-    is_so true h = refl
-    is_so false h = absurd h
 
 -- without points the answer is no
 pub nothing_told : {I : Type 0} (value : I → ℤ) (cs : List (IntPoint I)) → length cs ≤ 0 → IsTrue false ↔ NoSpikes (contour_of value cs)
@@ -251,11 +280,6 @@ begins value cs last behind h e f F x =
     at : last_differing (point_of value last) (point_of value last) (contour_of value cs) ≡ point_of value behind
     at = differing-found value last (point_of value last) cs ∙ ap (λ r. unwrap_or (option_map (point_of value) r) (point_of value last)) (sym f)
 
--- the walk begins with the last point, and the last that differs from it
-pub walking_begins : {I : Type 0} (value : I → ℤ) (cs : List (IntPoint I)) (last behind : IntPoint I) → 0 < length cs → last ≡ get_or cs (length cs - 1) last
-    → Some behind ≡ found_differing value last cs → Walking (contour_of value cs) 0 (point_of value behind) (point_of value last) (contour_of value cs)
-walking_begins value cs last behind h e f = begins value cs last behind h e f (λ o p. Walking (contour_of value cs) 0 o p (contour_of value cs)) (walking_start (contour_of value cs))
-
 -- where no point differs from the last, fewer than three are left without repeats
 pub few_differ : {I : Type 0} (value : I → ℤ) (cs : List (IntPoint I)) (last : IntPoint I) → 0 < length cs → last ≡ get_or cs (length cs - 1) last
     → None ≡ found_differing value last cs → 3 ≤ length (dedup (contour_of value cs)) → ⊥
@@ -290,32 +314,49 @@ all_backwards : {X : Type 0} (P : X → Type 0) (xs : List X) → All P xs → A
 all_backwards P [] a = a
 all_backwards P (x ∷ xs) a = subst (All P) (sym (reverse-append (x ∷ []) xs)) (All-push P (reverse xs) x (all_backwards P xs (All-tail P x xs a)) (All-head P x xs a))
 
+-- the point that the search finds is another
+found_differs : {I : Type 0} (value : I → ℤ) (cs : List (IntPoint I)) (last behind : IntPoint I) → Some behind ≡ found_differing value last cs → point_of value behind ≢ point_of value last
+found_differs {I} value cs last behind e = apart (is_same (point_of value last) (point_of value behind)) refl told
+  where
+    told : not (is_same (point_of value last) (point_of value behind)) ≡ true
+    told = (found_one (λ q. not (is_same (point_of value last) (point_of value q))) (λ q. Unit {0}) (reverse cs) behind e (λ k d h. tt)).1
+
+    apart : (b : Bool) → is_same (point_of value last) (point_of value behind) ≡ b → not b ≡ true → point_of value behind ≢ point_of value last
+    apart true f h = absurd (cc)
+    apart false f h = λ x. same_no (point_of value last) (point_of value behind) f (sym x)
+
 -- the points of a contour that is safe are safe
 pub points_safe : {I : Type 0} (w : Width) (value : I → ℤ) (cs : List (IntPoint I)) → All (IsSafe w) (contour_of value cs) → All (λ p. IsSafe w (point_of value p)) cs
 points_safe w value cs a = λ k d h. safe-at w value cs k d a h
 
--- the point that the search finds is safe, and is another
+-- the point that the search finds is safe
 pub found_safe : {I : Type 0} (w : Width) (value : I → ℤ) (cs : List (IntPoint I)) (last behind : IntPoint I) → All (IsSafe w) (contour_of value cs)
     → Some behind ≡ found_differing value last cs → IsSafe w (point_of value behind)
 found_safe {I} w value cs last behind safe e =
     let P : IntPoint I → Type 0 = λ p. IsSafe w (point_of value p) in
     (found_one (λ q. not (is_same (point_of value last) (point_of value q))) P (reverse cs) behind e (all_backwards P cs (points_safe w value cs safe))).0
 
+-- the walk begins with the last point, and the last that differs from it
+pub walking_begins : {I : Type 0} (value : I → ℤ) (cs : List (IntPoint I)) (last behind : IntPoint I) → 0 < length cs → last ≡ get_or cs (length cs - 1) last
+    → Some behind ≡ found_differing value last cs → Walking (contour_of value cs) (point_of value behind) (point_of value last) (contour_of value cs)
+walking_begins value cs last behind h e f =
+    begins value cs last behind h e f (λ o p. o ≢ p → Walking (contour_of value cs) o p (contour_of value cs)) (walking_start (contour_of value cs)) (found_differs value cs last behind f)
+
 -- ---- the walk that carries the edge by which it came, in place of the point before
-pub record EdgeWalking (c : List Point) (n : ℕ) (e p : Point) (rest : List Point) : Type 0 where
+pub record EdgeWalking (c : List Point) (e p : Point) (rest : List Point) : Type 0 where
   pub from : Point
   pub edge : e ≡ vector from p
-  pub walking : Walking c n from p rest
+  pub walking : Walking c from p rest
 
 -- a repeated point changes nothing
-pub edge_skips : (c : List Point) (n : ℕ) (e p q : Point) (rest : List Point) → is_same p q ≡ true → EdgeWalking c n e p (q ∷ rest) → EdgeWalking c n e p rest
-edge_skips c n e p q rest f w = record { from = w.from; edge = w.edge; walking = walking_skip c n w.from p q rest f w.walking }
+pub edge_skips : (c : List Point) (e p q : Point) (rest : List Point) → is_same p q ≡ true → EdgeWalking c e p (q ∷ rest) → EdgeWalking c e p rest
+edge_skips c e p q rest f w = record { from = w.from; edge = w.edge; walking = walking_skip c w.from p q rest f w.walking }
 
--- another point at which the way doesn't go back is a change
-pub edge_goes_on : (c : List Point) (n : ℕ) (e p q : Point) (rest : List Point) → is_same p q ≡ false
-    → (cross_of e (vector p q) ≡ pos 0 → dot_of e (vector p q) <ℤ pos 0 → ⊥) → EdgeWalking c n e p (q ∷ rest) → EdgeWalking c (n + 1) (vector p q) q rest
+-- another point at which the way doesn't go back
+pub edge_goes_on : (c : List Point) (e p q : Point) (rest : List Point) → is_same p q ≡ false
+    → (cross_of e (vector p q) ≡ pos 0 → dot_of e (vector p q) <ℤ pos 0 → ⊥) → EdgeWalking c e p (q ∷ rest) → EdgeWalking c (vector p q) q rest
 unfolding cross dot
-edge_goes_on c n e p q rest f onward w = record { from = p; edge = refl; walking = walking_on c n w.from p q rest f (go (is_reversal w.from p q) refl) w.walking }
+edge_goes_on c e p q rest f onward w = record { from = p; edge = refl; walking = walking_on c w.from p q rest f (go (is_reversal w.from p q) refl) w.walking }
   where
     none : IsReversed w.from p q → ⊥
     none r = subst (λ (v : Point). (cross_of v (vector p q) ≡ pos 0 → dot_of v (vector p q) <ℤ pos 0 → ⊥)) w.edge onward r.0 r.1
@@ -325,10 +366,10 @@ edge_goes_on c n e p q rest f onward w = record { from = p; edge = refl; walking
     go true g = absurd (none (reversal_yes w.from p q g))
 
 -- where it goes back, there is a spike
-pub edge_stops : (c : List Point) (n : ℕ) (e p q : Point) (rest : List Point) → is_same p q ≡ false
-    → cross_of e (vector p q) ≡ pos 0 → dot_of e (vector p q) <ℤ pos 0 → EdgeWalking c n e p (q ∷ rest) → NoSpikes c → ⊥
+pub edge_stops : (c : List Point) (e p q : Point) (rest : List Point) → is_same p q ≡ false
+    → cross_of e (vector p q) ≡ pos 0 → dot_of e (vector p q) <ℤ pos 0 → EdgeWalking c e p (q ∷ rest) → NoSpikes c → ⊥
 unfolding cross dot
-edge_stops c n e p q rest f flat back w = spike_found c n w.from p q rest f (go (is_reversal w.from p q) refl) w.walking
+edge_stops c e p q rest f flat back w = spike_found c w.from p q rest f (go (is_reversal w.from p q) refl) w.walking
   where
     reversed : IsReversed w.from p q
     reversed = subst (λ (v : Point). (cross_of v (vector p q) ≡ pos 0) × (dot_of v (vector p q) <ℤ pos 0)) w.edge (flat, back)

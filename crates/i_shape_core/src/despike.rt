@@ -204,7 +204,6 @@ fn has_no_reversal<I: IntNumber>(points: &[IntPoint<I>]) -> bool
         return false;
     };
     let mut edge = here - behind;
-    let mut changes: usize = 0;
     for point in points {
         if are_same(here, *point) {
             continue;
@@ -215,9 +214,8 @@ fn has_no_reversal<I: IntNumber>(points: &[IntPoint<I>]) -> bool
                 return false;
             }
         }
-        changes += 1;
         here = *point;
         edge = next;
     }
-    changes >= 3
+    true
 }

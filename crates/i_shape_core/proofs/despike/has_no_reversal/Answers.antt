@@ -4,7 +4,7 @@ use Rattle.i_shape_core.specs.IntPoint.{point_of}
 use Rattle.i_shape_core.proofs.Contours.{read-safe, rest-read, refuted}
 use Rattle.i_shape_core.proofs.Coordinates.{safe_points-apart, safe_difference-above, below-told}
 use Rattle.i_shape_core.proofs.LastEdge.{zero-told}
-use Rattle.i_shape_core.proofs.Spikes.{walking_begins, none_differs, found_safe, walking_over, nothing_told, answer, edge_skips, edge_goes_on, edge_stops}
+use Rattle.i_shape_core.proofs.Spikes.{walking_begins, none_differs, found_safe, walking_over, nothing_told, edge_skips, edge_goes_on, edge_stops}
 use Rattle.i_shape_core.proofs.despike.has_no_reversal.Goals as goal
 use Rattle.i_shape_core.proofs.despike.has_no_reversal.Goals.{then-eq+else-lt, else-eq}
 
@@ -22,7 +22,6 @@ sub-edge-requires g c =
 
 pub loop-point-init : goal.loop-point-init
 loop-point-init g c = record {
-  few = omega arith;
   here_safe = read-safe g.I.IntNumber.width g.I.IntNumber.value c.args.points.now _ _ c.requires (omega (arith, c.in-Some.ensures.item.3.0)) c.in-Some.ensures.item.1;
   walking = record {
     from = point_of g.I.IntNumber.value c.in-Some-last_other.behind;
@@ -40,9 +39,8 @@ pub loop-point-preserved-then-are_same : goal.loop-point-preserved-then-are_same
 loop-point-preserved-then-are_same g c =
     let rest = rest-read g.I.IntNumber.value c.args.points.now _ _ c.loop-point-test.true c.point-item.is in
     record {
-      few = omega (arith, c.loop-point.invariant.few);
       here_safe = c.loop-point.invariant.here_safe;
-      walking = edge_skips _ _ _ _ _ _ (sym c.are_same.ensures ∙ c.if-are_same.true) (rw rest at c.loop-point.invariant.walking);
+      walking = edge_skips _ _ _ _ _ (sym c.are_same.ensures ∙ c.if-are_same.true) (rw rest at c.loop-point.invariant.walking);
     }
 
 pub dot_product-requires : goal.dot_product-requires
@@ -60,7 +58,7 @@ returns-then-lt g c =
     let flat = ap (cross_of (point_of value c.loop-point.edge)) (sym c.sub-next.ensures) ∙ sym c.cross_product.ensures ∙ zero.0 c.if-eq.true in
     let told = below-told g.I.Wide.WideIntNumber.value c.dot_product.result c.ZERO-then-eq.result c.lt.result _ _ c.lt.ensures (wide.partial_order _ _) (ap g.I.Wide.WideIntNumber.value c.ZERO-then-eq.ensures ∙ wide.zero_value)
     (c.dot_product.ensures ∙ ap (dot_of (point_of value c.loop-point.edge)) c.sub-next.ensures) in
-    (λ t. absurd (cc), λ s. absurd (edge_stops _ _ _ _ _ _ (sym c.are_same.ensures ∙ c.if-are_same.false) flat (told.0 c.if-lt.true) (rw rest at c.loop-point.invariant.walking) s))
+    (λ t. absurd (cc), λ s. absurd (edge_stops _ _ _ _ _ (sym c.are_same.ensures ∙ c.if-are_same.false) flat (told.0 c.if-lt.true) (rw rest at c.loop-point.invariant.walking) s))
 
 pub loop-point-preserved : goal.loop-point-preserved
 loop-point-preserved g c =
@@ -70,20 +68,18 @@ loop-point-preserved g c =
     let rest = rest-read value c.args.points.now _ _ c.loop-point-test.true c.point-item.is in
     let walking = rw rest at c.loop-point.invariant.walking in
     record {
-      few = omega (arith, c.loop-point.invariant.few);
       here_safe = read-safe g.I.IntNumber.width value c.args.points.now _ _ c.requires c.loop-point-test.true c.point-item.is;
       walking = rw c.sub-next.ensures (elim c.if-eq.branch [
         | then-eq+else-lt w ↦
             let told = below-told g.I.Wide.WideIntNumber.value w.dot_product.result w.ZERO-then-eq.result w.lt.result _ _ w.lt.ensures (wide.partial_order _ _) (ap g.I.Wide.WideIntNumber.value w.ZERO-then-eq.ensures ∙ wide.zero_value)
             (w.dot_product.ensures ∙ ap (dot_of (point_of value c.loop-point.edge)) c.sub-next.ensures) in
-            edge_goes_on _ _ _ _ _ _ (sym c.are_same.ensures ∙ c.if-are_same.false) (λ z back. refuted w.lt.result told (λ h. h, λ h. h) w.if-lt.false back) walking
+            edge_goes_on _ _ _ _ _ (sym c.are_same.ensures ∙ c.if-are_same.false) (λ z back. refuted w.lt.result told (λ h. h, λ h. h) w.if-lt.false back) walking
         | else-eq w ↦
             let turns : cross_of (point_of value c.loop-point.edge) (vector (point_of value c.loop-point.here) (point_of value c.point-item.result)) ≡ pos 0 → ⊥ =
             λ z. (let t = zero.1 (c.cross_product.ensures ∙ ap (cross_of (point_of value c.loop-point.edge)) c.sub-next.ensures ∙ z) in absurd (cc)) in
-            edge_goes_on _ _ _ _ _ _ (sym c.are_same.ensures ∙ c.if-are_same.false) (λ z back. turns z) walking
+            edge_goes_on _ _ _ _ _ (sym c.are_same.ensures ∙ c.if-are_same.false) (λ z back. turns z) walking
       ]);
     }
 
 pub returns : goal.returns
-returns g c = answer c.loop-point.changes (walking_over g.I.IntNumber.value c.args.points.now c.loop-point.changes c.loop-point.point-index c.loop-point.invariant.walking.from (point_of g.I.IntNumber.value c.loop-point.here)
-    c.loop-point-test.false c.loop-point.invariant.walking.walking)
+returns g c = walking_over g.I.IntNumber.value c.args.points.now c.loop-point.point-index c.loop-point.invariant.walking.from (point_of g.I.IntNumber.value c.loop-point.here) c.loop-point-test.false c.loop-point.invariant.walking.walking
