@@ -3,7 +3,8 @@
 # Times the library's own calls: nanoseconds a point at each width, least and greatest of four placements of the code, beside a copy and a
 # reading of the points in the same run. docs/PERFORMANCE.md says how to read the table. --quick takes fewer samples, and at most 1,000 points; --only
 # picks the calls and families in whose names WORD is; --largest takes contours up to N points (100,000 if it isn't given).
-# It needs rt and a C compiler. What it builds lies in bench/out, with a copy of the crates and of the proofs that their out/ keeps.
+# It needs rt and a C compiler. What it builds lies in ${BENCH_DIR:-${TMPDIR:-/tmp}/i_shape_bench}, with a copy of the crates and of the proofs
+# that their out/ keeps: 2 GB.
 set -eu
 bench=$(cd "$(dirname "$0")" && pwd)
 top=$(dirname "$bench")
@@ -15,7 +16,7 @@ while [ $# -gt 0 ]; do
         --quick) samples=9 largest=1000 ;;
         --only) shift; only=${1:?--only wants a word} ;;
         --largest) shift; largest=${1:?--largest wants a number} ;;
-        *) sed -n '2,6s/^# //p' "$0" >&2; exit 2 ;;
+        *) sed -n '2,7s/^# //p' "$0" >&2; exit 2 ;;
     esac
     shift
 done
@@ -23,7 +24,8 @@ for need in rt "${CC:=cc}"; do
     command -v "$need" > /dev/null || { echo "bench: $need isn't on the path" >&2; exit 2; }
 done
 kit=$(cd "$(dirname "$(readlink -f "$(command -v rt)")")/.." && pwd)
-work=$bench/out
+mkdir -p "${BENCH_DIR:=${TMPDIR:-/tmp}/i_shape_bench}"
+work=$(cd "$BENCH_DIR" && pwd)
 rounds=$work/crates/bench_rounds
 libraries='i_shape_core i_shape_source i_shape_int i_shape'
 
@@ -46,9 +48,11 @@ build_rounds() {
     mkdir -p "$rounds/src" "$rounds/specs" "$rounds/c"
     : > "$rounds/specs/Lib.antt"
     cp "$bench/clock.c" "$rounds/c/"
-    cp "$bench"/calls/*.rt "$rounds/src/"
+    for file in "$bench"/calls/*.rt.in; do
+        cp "$file" "$rounds/src/$(basename "$file" .in)"
+    done
     for width in 16 64; do
-        sed "2!s/i32/i$width/g; s/I32/I$width/g; 1s/32/$width/" "$bench/calls/i32.rt" > "$rounds/src/i$width.rt"
+        sed "2!s/i32/i$width/g; s/I32/I$width/g; 1s/32/$width/" "$bench/calls/i32.rt.in" > "$rounds/src/i$width.rt"
     done
     (cd "$rounds" && RT_ALLOW_C=bench_rounds rt lib)
 }
@@ -65,7 +69,6 @@ link_placements() {
     $CC -std=c11 -O2 -Wall -Wextra -o "$work/main" "$bench/main.c" -ldl -lm
 }
 
-mkdir -p "$work"
 copy_crates
 echo 'bench: building (minutes where the libraries are not proved yet)' >&2
 build_rounds > "$work/log" 2>&1 && link_placements >> "$work/log" 2>&1 || { tail -n 30 "$work/log" >&2; exit 1; }

@@ -16,7 +16,7 @@ cp "$top/HANDLES" "$work/"
 grep -E '^(i_shape_core|i_shape_source|i_shape_int|i_shape):' "$top/crates.txt" > "$work/crates.txt"
 echo 'boundary staticlib: i_shape i_shape_int i_shape_core' >> "$work/crates.txt"
 : > "$work/crates/boundary/specs/Lib.antt"
-cp "$here/boundary.rt" "$work/crates/boundary/src/lib.rt"
+cp "$here/boundary.rt.in" "$work/crates/boundary/src/lib.rt"
 (cd "$work/crates/boundary" && rt lib --jobs 1 > "$work/log" 2>&1) || { cat "$work/log" >&2; exit 1; }
 "${CC:-cc}" -O2 -I"$top/include" -o "$work/boundary" "$here/boundary.c" "$work/crates/boundary/out/libboundary.a" "$top/bindings/c/out/libi_shape.a"
 "$work/boundary"
