@@ -4,6 +4,7 @@
 The last line is 'tests of pages.py: N passed, M failed'.
 """
 import os
+import subprocess
 import sys
 import tempfile
 
@@ -18,6 +19,8 @@ CLAUSE = "    ensures memory { IsOkUnless result ShapeError.OutOfMemory }\n"
 ROWS = [
     ("a sample", f"```rust\n{SAMPLE}```\n", "passed"),
     ("a sample with another body", "```rust\n" + SAMPLE.replace("(2, 0)", "(3, 0)") + "```\n", "failed"),
+    ("a sample without one of its lines", "```rust\n" + SAMPLE.replace("        IntPoint::new(2, 0),\n", "") + "```\n", "failed"),
+    ("a sample with a doc line of its own", "```rust\n" + SAMPLE.replace("/// How many", "/// Just how many") + "```\n", "failed"),
     ("a sample with an import too many", f"```rust\nuse std::fmt::Write;\n{SAMPLE}```\n", "failed"),
     ("a sample without an item", "```rust\nuse i_shape::ShapeError;\n```\n", "failed"),
     ("a clause", f"```text\n{CLAUSE}```\n", "passed"),
@@ -52,6 +55,17 @@ def verdict(text):
         return "failed" if any([look() for _, _, look in tests]) else "passed"
 
 
+def run(*texts):
+    """The status of pages.py on pages with these texts, and the last line that it prints."""
+    with tempfile.TemporaryDirectory() as folder:
+        names = [f"{folder}/{place}.md" for place in range(len(texts))]
+        for name, text in zip(names, texts):
+            with open(name, "w", encoding="utf-8") as page:
+                page.write(text)
+        ran = subprocess.run([sys.executable, pages.__file__, *names], stdout=subprocess.PIPE, text=True)
+    return ran.returncode, ran.stdout.splitlines()[-1]
+
+
 def with_text(name, old, new, look):
     """What is found where one file has another text."""
     read = pages.read
@@ -65,6 +79,8 @@ def with_text(name, old, new, look):
 def main():
     rows = [(name, verdict(text) == wanted) for name, text, wanted in ROWS]
     rows += [
+        ("the count of a right page", run("# One\n") == (0, "pages: 1 passed, 0 failed")),
+        ("the count of a page with a fault", run("# One\n", "[a](#two)\n```console\n$ true\n```\n") == (1, "pages: 2 passed, 1 failed")),
         ("the version", pages.fault_of_version() is None),
         ("another version of the crate for Rust", with_text("rust/Cargo.toml", 'version = "', 'version = "9', pages.fault_of_version) is not None),
         ("another version of the changelog", with_text("CHANGELOG.md", "\n## ", "\n## 9", pages.fault_of_version) is not None),
