@@ -31,6 +31,7 @@ NEEDED = {
     "program": "test -x crates/i_shape_tool_main/out/i_shape_tool_main",
     "library": "test -e bindings/c/out/libi_shape.a",
     "parallel": "parallel --version",
+    "pkg-config": "pkg-config --version",
     "python": "/usr/bin/python3 -c 'import numpy.typing, setuptools, wheel, venv, ensurepip'",
     "cargo": "cargo metadata --offline --no-deps --format-version 1 --manifest-path bindings/rust/Cargo.toml",
 }
