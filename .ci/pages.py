@@ -118,9 +118,10 @@ def is_at_hand(needed):
 
 
 def top_names():
-    """What git keeps at the top of the repository, and not what a reader's commands have left there."""
-    kept = subprocess.run(["git", "ls-files", "-z"], cwd=TOP, capture_output=True, text=True, check=True).stdout
-    return {name.split("/")[0] for name in kept.split("\0") if name and not name.startswith(".")}
+    """What git keeps at the top of the repository, and not what a reader's commands have left there. Without git all that is there."""
+    kept = subprocess.run(["git", "ls-files", "-z"], cwd=TOP, capture_output=True, text=True, check=False).stdout
+    names = kept.split("\0") if kept else os.listdir(TOP)
+    return {name.split("/")[0] for name in names if name and not name.startswith(".")}
 
 
 def fault_of_console(text):
