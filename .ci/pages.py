@@ -10,6 +10,7 @@ usage: .ci/pages.py [PAGE..]
 - a block `console`: its commands run in order, each printing what stands below it;
 - the links within the repository: the page is there, and the heading;
 - docs/ARCHITECTURE.md names each file of lemmas;
+- docs/ARCHITECTURE.md and docs/PROVED.md say how many calls growths.txt has, and docs/GATE.md how many wrong bodies there are in each row's crates;
 - the version: it is that of the header in CHANGELOG.md, in the archive, in the Python package and in the crate for Rust.
 
 The sources are proved, compiled and tested by other parts of the gate. A block `console` names what has to be there, as in `console library python`, and is
@@ -30,6 +31,7 @@ NEEDED = {
     "program": "test -x crates/i_shape_tool_main/out/i_shape_tool_main",
     "library": "test -e bindings/c/out/libi_shape.a",
     "parallel": "parallel --version",
+    "pkg-config": "pkg-config --version",
     "python": "/usr/bin/python3 -c 'import numpy.typing, setuptools, wheel, venv, ensurepip'",
     "cargo": "cargo metadata --offline --no-deps --format-version 1 --manifest-path bindings/rust/Cargo.toml",
 }
@@ -116,9 +118,10 @@ def is_at_hand(needed):
 
 
 def top_names():
-    """What git keeps at the top of the repository, and not what a reader's commands have left there."""
-    kept = subprocess.run(["git", "ls-files", "-z"], cwd=TOP, capture_output=True, text=True, check=True).stdout
-    return {name.split("/")[0] for name in kept.split("\0") if name and not name.startswith(".")}
+    """What git keeps at the top of the repository, and not what a reader's commands have left there. Without git all that is there."""
+    kept = subprocess.run(["git", "ls-files", "-z"], cwd=TOP, capture_output=True, text=True, check=False).stdout
+    names = kept.split("\0") if kept else os.listdir(TOP)
+    return {name.split("/")[0] for name in names if name and not name.startswith(".")}
 
 
 def fault_of_console(text):
@@ -174,6 +177,21 @@ def fault_of_lemmas():
     return ", ".join(sorted(f"{name} isn't named" for name in names if f"`{name}`" not in page)) or None
 
 
+def fault_of_counts():
+    """The pages give the numbers of calls under refusal, and of wrong bodies."""
+    growths = re.findall(r"^(\d+) \w", read(f"{TOP}/crates/refusals/growths.txt"), re.MULTILINE)
+    without = growths.count("0")
+    told = [(page, f"{number} calls") for page in ("ARCHITECTURE", "PROVED") for number in (len(growths) - without, without)]
+    missing = [f"docs/{page}.md doesn't say {words}" for page, words in told if words not in read(f"{TOP}/docs/{page}.md")]
+    for row in re.findall(r"^\| (`i_shape.*|`callers`.*) \|$", read(f"{TOP}/docs/GATE.md"), re.MULTILINE):
+        names, *_, named, others = re.split(r"\s*\|\s*", row)
+        for kind, cell in (("must-fail", named), ("wrong", others)):
+            count = sum(len(files([f"crates/{name}/{kind}/*.edit"])) for name in re.findall(r"`(\w+)`", names))
+            if int((re.match(r"\d+", cell) or ["0"])[0]) != count:
+                missing.append(f"docs/GATE.md gives another number than {count} in {kind}/ of {names}")
+    return "; ".join(missing) or None
+
+
 FAULTS = {"rust": fault_of_rust, "text": fault_of_clauses, "c": fault_of_c, "console": fault_of_console}
 
 
@@ -192,7 +210,8 @@ def main():
     pages = [os.path.abspath(name) for name in sys.argv[1:]] or files(PAGES)
     tests = [(os.path.relpath(name, TOP), *test) for name in pages for test in tests_of(name)]
     if not sys.argv[1:]:
-        tests += [("CHANGELOG.md", "the version", [], fault_of_version), ("docs/ARCHITECTURE.md", "lemma files", [], fault_of_lemmas)]
+        tests += [("CHANGELOG.md", "the version", [], fault_of_version), ("docs/ARCHITECTURE.md", "lemma files", [], fault_of_lemmas),
+                  ("docs/GATE.md", "counts", [], fault_of_counts)]
     for page, place, needed, look in tests:
         missing = [name for name in needed if not is_at_hand(name)]
         fault = f"there is no {missing[0]}" if missing else look()
@@ -205,4 +224,5 @@ def main():
     return counts["failed"] > 0
 
 
-sys.exit(main())
+if __name__ == "__main__":
+    sys.exit(main())

@@ -1,5 +1,5 @@
 #!/bin/sh
-# The gate: the tests of wrong.py; proofs, tests and named wrong bodies by rt ci; the C library; the Python package, over the C library; the
+# The gate: the tests of wrong.py and of pages.py; proofs, tests and named wrong bodies by rt ci; the C library; the Python package, over the C library; the
 # other wrong bodies; the refusals; texts in parts and the pictures, by the program that rt ci has built; what the pages show. Each part ends in a line '.. N passed, M failed', and
 # ', K skipped' behind it where tests are skipped; the last line adds them up.
 log=$(mktemp)
@@ -31,6 +31,7 @@ COUNTS
 }
 
 part python3 .ci/test_wrong.py
+part python3 .ci/test_pages.py
 part rt ci
 # What the C library is built from is proved and kept, and the wrong bodies are tried over it.
 part ./.ci/c_library.sh

@@ -178,6 +178,8 @@ class Errors(unittest.TestCase):
                         with self.assertRaises(
                                 i_shape.UnsafePointError) as told:
                             i_shape.contains(square, point)
+                        self.assertIn(f"({point[0]}, {point[1]}) is not",
+                                      str(told.exception))
                         self.assertIsNone(told.exception.point)
                         self.assertIsNone(told.exception.ring)
 

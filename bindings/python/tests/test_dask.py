@@ -77,6 +77,33 @@ class Workers(unittest.TestCase):
             self.assertGreater(len(left.points), 1000)
             self.assertLess(len(left.points), len(points))
 
+    def test_other_rings_are_told_apart(self):
+        import coastlines_dask
+        one = i_shape.Rings(np.zeros((3, 2), np.int32), np.array([0, 3]))
+        others = [one._replace(points=one.points + 1),
+                  one._replace(points=one.points.astype(np.int64)),
+                  one._replace(points=one.points[:2]),
+                  one._replace(offsets=one.offsets + 1)]
+        for other in others:
+            self.assertFalse(coastlines_dask.are_same(one, other))
+
+    def test_each_worker_has_a_part(self):
+        import coastlines_dask
+        numbers = random.Random(8)
+        rings = [plain.random_ring(numbers, np.int32) for _ in range(100)]
+        points, offsets = plain.flat(rings, np.int32)
+        called = []
+        submit = self.client.submit
+
+        def noted(*words, workers, **others):
+            called.extend(workers)
+            return submit(*words, workers=workers, **others)
+
+        self.client.submit = noted
+        self.addCleanup(delattr, self.client, "submit")
+        coastlines_dask.clean(self.client, points, offsets, 2)
+        self.assertEqual(len(set(called)), 2)
+
     def test_few_rings(self):
         numbers = random.Random(7)
         for count in range(4):
