@@ -7,6 +7,7 @@ pub mod Coordinates
 pub mod Turns
 pub mod Back
 pub mod Contours
+pub mod PointLists
 -- removals, for any test of three points
 pub mod TestLaws
 pub mod Lists

@@ -13,7 +13,7 @@ ghost use Rattle.i_shape_core.specs.Walks.{WalkAnswer, FirstAnswer, IsRingState,
 
 use crate::error::ShapeError;
 use crate::number::{IntNumber, WideIntNumber};
-use crate::point::{IntContour, IntPoint};
+use crate::point::{ContourPoint, IntContour, IntPoint};
 use crate::probe::Probe;
 use crate::ring::Ring;
 use crate::same::{are_same, last_other};
@@ -96,8 +96,8 @@ impl<I: IntNumber> DeSpikeContour<I> for IntContour<I> {
 }
 
 /// Whether the contour turns back or stands still at `place`, with these neighbours. Counts one visit.
-fn is_back_between<I: IntNumber>(
-    probe: &mut Probe<'_, I>,
+fn is_back_between<P: ContourPoint>(
+    probe: &mut Probe<'_, P>,
     previous: usize,
     place: usize,
     next: usize,
@@ -106,7 +106,7 @@ fn is_back_between<I: IntNumber>(
     requires place_within { place < length probe.old.contour }
     requires next_within { next < length probe.old.contour }
     requires room { probe.old.visits < u128.MAX }
-    ensures test { let c = contour_of I.value probe.old.contour in IsTrue result ↔ IsBack (point_at c previous) (point_at c place) (point_at c next) }
+    ensures test { let c = contour_of P.Coordinate.value probe.old.contour in IsTrue result ↔ IsBack (point_at c previous) (point_at c place) (point_at c next) }
     ensures contour { probe.new.contour ≡ probe.old.contour }
     ensures visits { probe.new.visits ≡ probe.old.visits + 1 }
 {
@@ -114,10 +114,10 @@ fn is_back_between<I: IntNumber>(
 }
 
 /// The first place at which the contour turns back or stands still. Counts a visit of each place up to it, or of all.
-fn first_back<I: IntNumber>(probe: &mut Probe<'_, I>) -> Option<usize>
+fn first_back<P: ContourPoint>(probe: &mut Probe<'_, P>) -> Option<usize>
     requires enough { 3 ≤ length probe.old.contour }
     requires fresh { probe.old.visits ≡ 0 }
-    ensures answer { FirstAnswer IsBack (contour_of I.value probe.old.contour) result probe.new.visits }
+    ensures answer { FirstAnswer IsBack (contour_of P.Coordinate.value probe.old.contour) result probe.new.visits }
     ensures contour { probe.new.contour ≡ probe.old.contour }
 {
     let last = probe.len() - 1;
@@ -135,13 +135,13 @@ fn first_back<I: IntNumber>(probe: &mut Probe<'_, I>) -> Option<usize>
 }
 
 /// Gives all points where none turns back. From the first that does, it walks round a ring of all places.
-fn despiked<I: IntNumber>(
+fn despiked<P: ContourPoint>(
     alloc: Global,
-    mut probe: Probe<'_, I>,
-) -> Result<(Option<IntContour<I>>, u128), ShapeError>
+    mut probe: Probe<'_, P>,
+) -> Result<(Option<Vec<P>>, u128), ShapeError>
     requires enough { 3 ≤ length probe.contour }
     requires fresh { probe.visits ≡ 0 }
-    ensures answer { IfOk result (λ r. WalkAnswer IsBack (contour_of I.value probe.entry.contour) (answered (contour_of I.value) r.0) r.1) }
+    ensures answer { IfOk result (λ r. WalkAnswer IsBack (contour_of P.Coordinate.value probe.entry.contour) (answered (λ kept. contour_of P.Coordinate.value (P.points kept)) r.0) r.1) }
     ensures memory { IsOkUnless result ShapeError.OutOfMemory }
 {
     let Some(place) = first_back(&mut probe) else {
@@ -157,11 +157,11 @@ fn despiked<I: IntNumber>(
 }
 
 /// Whether the contour turns back or stands still at the ring's place. Counts one visit.
-fn is_back_at<I: IntNumber>(probe: &mut Probe<'_, I>, ring: &Ring) -> bool
+fn is_back_at<P: ContourPoint>(probe: &mut Probe<'_, P>, ring: &Ring) -> bool
     requires enough { 1 < length ring.now.places }
     requires below { All (λ k. k < length probe.old.contour) ring.now.places }
     requires room { probe.old.visits < u128.MAX }
-    ensures test { IsTrue result ↔ PassesAtPlace IsBack (contour_of I.value probe.old.contour) ring.now.places }
+    ensures test { IsTrue result ↔ PassesAtPlace IsBack (contour_of P.Coordinate.value probe.old.contour) ring.now.places }
     ensures contour { probe.new.contour ≡ probe.old.contour }
     ensures visits { probe.new.visits ≡ probe.old.visits + 1 }
 {
@@ -169,13 +169,13 @@ fn is_back_at<I: IntNumber>(probe: &mut Probe<'_, I>, ring: &Ring) -> bool
 }
 
 /// Walks round the ring until each place of it is tested, and takes out those that turn back.
-fn walk<I: IntNumber>(
+fn walk<P: ContourPoint>(
     alloc: Global,
-    mut probe: Probe<'_, I>,
+    mut probe: Probe<'_, P>,
     mut ring: Ring,
-) -> Result<(Option<IntContour<I>>, u128), ShapeError>
-    requires { IsRingState IsBack (contour_of I.value probe.contour) ring probe.visits }
-    ensures answer { IfOk result (λ r. WalkAnswer IsBack (contour_of I.value probe.entry.contour) (answered (contour_of I.value) r.0) r.1) }
+) -> Result<(Option<Vec<P>>, u128), ShapeError>
+    requires { IsRingState IsBack (contour_of P.Coordinate.value probe.contour) ring probe.visits }
+    ensures answer { IfOk result (λ r. WalkAnswer IsBack (contour_of P.Coordinate.value probe.entry.contour) (answered (λ kept. contour_of P.Coordinate.value (P.points kept)) r.0) r.1) }
     ensures memory { IsOkUnless result ShapeError.OutOfMemory }
 {
     while ring.untested() > 0 {

@@ -1,0 +1,16 @@
+-- Lists of a caller's points, read as lists of the library's.
+use Rattle.std.proofs.Common.{◌≡◌, ◌∙◌, ℕ, ◌<◌, List, [], ◌∷◌, ◌++◌, map, length, get_or, sym, ap}
+use Rattle.std.proofs.lemmas.List.{get_or-map, length-map, map-append}
+
+module _ {A B : Type 0} (point : A → B) (points : List A → List B) (each : (list : List A) → points list ≡ map point list) where
+  -- they are as many
+  pub points-length : (list : List A) → length (points list) ≡ length list
+  points-length list = ap length (each list) ∙ length-map list point
+
+  -- what stands at a place
+  pub points-read : (list : List A) (k : ℕ) (a : A) (b : B) → k < length list → get_or (points list) k b ≡ point (get_or list k a)
+  points-read list k a b within = ap (λ l. get_or l k b) (each list) ∙ get_or-map point list k a b within
+
+  -- one more at the end
+  pub points-push : (list longer : List A) (a : A) → longer ≡ list ++ a ∷ [] → points longer ≡ points list ++ point a ∷ []
+  points-push list longer a e = ap points e ∙ each (list ++ a ∷ []) ∙ map-append point list (a ∷ []) ∙ ap (λ l. l ++ point a ∷ []) (sym (each list))
