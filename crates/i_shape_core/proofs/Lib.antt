@@ -45,6 +45,7 @@ pub mod Around
 pub mod Spikes
 pub mod LastEdge
 pub mod Answered
+pub mod Written
 -- measures
 pub mod Compared
 pub mod Bends

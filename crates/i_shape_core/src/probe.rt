@@ -1,6 +1,6 @@
 //! The view of a contour that a cleaner's walk is given, which counts its visits.
 
-ghost use Rattle.std.specs.Prelude.{◌≡◌, ◌+◌, ◌<◌, Some, map, get_or, option_map, length, slice_get, IfOk, IsOkUnless};
+ghost use Rattle.std.specs.Prelude.{◌≡◌, ◌+◌, ◌<◌, ◌≤◌, Some, map, get_or, take, drop, option_map, length, slice_get, IfOk, IsOkUnless};
 ghost use Rattle.std.specs.Option.{IfSome};
 ghost use Rattle.std.specs.List.{All};
 ghost use Rattle.i_shape_core.specs.IntPoint.{contour_of, point_of, answered, IsSafe};
@@ -138,5 +138,34 @@ impl<'a, P: ContourPoint> Probe<'a, P> {
         };
         let (kept, visits) = self.keep(alloc, places)?;
         Ok((Some(kept), visits))
+    }
+
+    /// Writes all points to the front of `out`, and answers how many they are.
+    pub(crate) fn write_whole(&self, out: &mut [P]) -> usize
+        requires { length self.now.contour ≤ length out.old }
+        ensures count { result ≡ length self.now.contour }
+        ensures points { P.points (take result out.new) ≡ self.now.contour }
+        ensures rest { drop result out.new ≡ drop result out.old }
+        ensures len { length out.new ≡ length out.old }
+    {
+        let points = self.points;
+        out[..points.len()].copy_from_slice(points);
+        points.len()
+    }
+
+    /// Writes the points at these places to the front of `out`, in the order given, and answers how many they are.
+    pub(crate) fn write(&self, out: &mut [P], indices: &[usize]) -> usize
+        requires below { All (λ k. k < length self.now.contour) indices.now }
+        requires room { length indices.now ≤ length out.old }
+        ensures count { result ≡ length indices.now }
+        ensures points { let c = contour_of P.Coordinate.value self.now.contour in contour_of P.Coordinate.value (P.points (take result out.new)) ≡ map (point_at c) indices.now }
+        ensures rest { drop result out.new ≡ drop result out.old }
+        ensures len { length out.new ≡ length out.old }
+    {
+        let points = self.points;
+        for place in 0..indices.len() {
+            out[place] = points[indices[place]];
+        }
+        indices.len()
     }
 }

@@ -1,12 +1,13 @@
 //! The cleaner that removes zero turns.
 
-ghost use Rattle.std.specs.Prelude.{◌≡◌, ◌↔◌, ◌+◌, ◌-◌, ◌*◌, ◌^◌, ◌<◌, ◌≤◌, map, take, drop, min, option_map, IsTrue, length, vec_len, vec_capacity, IfOk, IsOkUnless, None};
+ghost use Rattle.std.specs.Prelude.{◌≡◌, ◌↔◌, ◌+◌, ◌-◌, ◌*◌, ◌^◌, ◌<◌, ◌≤◌, map, take, drop, min, option_map, IsTrue, length, vec_len, vec_capacity, IfOk, OnErr, IsOkUnless, None};
 ghost use Rattle.std.specs.Option.{IfSome};
 ghost use Rattle.std.specs.List.{All, range_with_len};
 ghost use Rattle.i_shape_core.specs.IntPoint.{contour_of, IsSafe, answered};
 ghost use Rattle.i_shape_core.specs.Point.{IsZeroTurn};
 ghost use Rattle.i_shape_core.specs.Contour.{End, Sublist, point_at};
 ghost use Rattle.i_shape_core.specs.Cleaners.{SimpleAnswer, KeptAnswer, VisitsAnswer};
+ghost use Rattle.i_shape_core.specs.Written.{IsWritten};
 ghost use Rattle.i_shape_core.specs.Walks.{IsWalked, IsStacked, IsSettled, WalkAnswer};
 
 use crate::error::ShapeError;
@@ -73,6 +74,34 @@ impl ContourSimplifier {
         };
         let left = self.walk(&mut probe, start)?;
         probe.keep_left(alloc, left)
+    }
+
+    /// The same, for points of any type, written to the front of `out`: answers how many points are left, 0 where the contour
+    /// collapses. What stands behind them stays as it was, and so does all of `out` where there is an error. Memory is taken
+    /// for the places of a contour that is not clean alone, and is kept. The only error is `OutOfMemory`.
+    pub fn simplify_into<P: ContourPoint>(
+        &mut self,
+        contour: &[P],
+        out: &mut [P],
+    ) -> Result<usize, ShapeError>
+        requires points_safe { All (IsSafe P.Coordinate.width) (contour_of P.Coordinate.value (P.points contour.now)) }
+        requires room { length contour.now ≤ length out.old }
+        ensures written { IfOk result (λ n. IsWritten SimpleAnswer P.Coordinate.width (λ list. contour_of P.Coordinate.value (P.points list)) contour.now out.old out.new n) }
+        ensures len { length out.new ≡ length out.old }
+        ensures err { OnErr result (out.new ≡ out.old) }
+        ensures memory { IsOkUnless result ShapeError.OutOfMemory }
+    {
+        if contour.len() < 3 {
+            return Ok(0);
+        }
+        let mut probe = Probe::new(contour);
+        let Some(start) = start_of_walk(&mut probe) else {
+            return Ok(probe.write_whole(out));
+        };
+        let Some(left) = self.walk(&mut probe, start)? else {
+            return Ok(0);
+        };
+        Ok(probe.write(out, left))
     }
 
     /// Walks on from a start. Gives the places that are left, `None` where these are fewer than three.
