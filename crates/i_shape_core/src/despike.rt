@@ -1,6 +1,6 @@
 //! Contours without spikes: the test, and the cleaned copy.
 
-ghost use Rattle.std.specs.Prelude.{◌≡◌, ◌↔◌, ◌+◌, ◌-◌, ◌*◌, ◌^◌, ◌<◌, ◌≤◌, List, length, IsTrue, IfOk, IsOkUnless};
+ghost use Rattle.std.specs.Prelude.{◌≡◌, ◌↔◌, ◌+◌, ◌-◌, ◌*◌, ◌^◌, ◌<◌, ◌≤◌, List, length, map, false, IsTrue, IfOk, OnErr, IsOkUnless};
 ghost use Rattle.std.specs.Option.{IfSome};
 ghost use Rattle.std.specs.List.{All};
 ghost use Rattle.i_shape_core.specs.IntPoint.{contour_of, point_of, IsSafe, answered};
@@ -8,8 +8,9 @@ ghost use Rattle.i_shape_core.specs.Point.{Point, IsBack};
 ghost use Rattle.i_shape_core.specs.Contour.{Sublist};
 ghost use Rattle.i_shape_core.specs.Convex.{NoSpikes};
 ghost use Rattle.i_shape_core.specs.Cleaners.{SpikelessAnswer, KeptAnswer, VisitsAnswer};
+ghost use Rattle.i_shape_core.specs.Written.{IsWritten};
 ghost use Rattle.i_shape_core.specs.Contour.{point_at};
-ghost use Rattle.i_shape_core.specs.Walks.{WalkAnswer, FirstAnswer, IsRingState, PassesAtPlace};
+ghost use Rattle.i_shape_core.specs.Walks.{WalkAnswer, Finds, Falls, FirstAnswer, IsRingState, PassesAtPlace, in_order};
 
 use crate::error::ShapeError;
 use crate::number::{IntNumber, WideIntNumber};
@@ -19,6 +20,7 @@ use crate::ring::Ring;
 use crate::same::{are_same, last_other};
 use crate::turn::Turn;
 use std::alloc::Global;
+use std::mem;
 
 /// The test of a contour of safe points for spikes, and its copy without them.
 pub trait DeSpikeContour<I: IntNumber> {
@@ -95,6 +97,60 @@ impl<I: IntNumber> DeSpikeContour<I> for IntContour<I> {
     }
 }
 
+/// Removes the points at which the way turns back or stands still. It keeps its memory from one contour to the next.
+#[derive(Drop)]
+pub struct ContourDeSpiker {
+    places: Vec<usize>,
+}
+
+impl ContourDeSpiker {
+    /// A remover of spikes that takes its memory from `alloc`.
+    pub fn new(alloc: Global) -> ContourDeSpiker {
+        ContourDeSpiker {
+            places: Vec::new(alloc),
+        }
+    }
+
+    /// The contour without spikes, as `despiked_contour` gives it, for points of any type, written to the front of `out`:
+    /// answers how many points are left, 0 where the contour collapses. What stands behind them stays as it was, and so does
+    /// all of `out` where there is an error. Memory is taken for the places of a contour that has a spike or a repeated point
+    /// alone, and is kept. The only error is `OutOfMemory`.
+    pub fn despike_into<P: ContourPoint>(
+        &mut self,
+        contour: &[P],
+        out: &mut [P],
+    ) -> Result<usize, ShapeError>
+        requires points_safe { All (IsSafe P.Coordinate.width) (contour_of P.Coordinate.value (P.points contour.now)) }
+        requires room { length contour.now ≤ length out.old }
+        ensures written { IfOk result (λ n. IsWritten SpikelessAnswer P.Coordinate.width (λ list. contour_of P.Coordinate.value (P.points list)) contour.now out.old out.new n) }
+        ensures len { length out.new ≡ length out.old }
+        ensures err { OnErr result (out.new ≡ out.old) }
+        ensures memory { IsOkUnless result ShapeError.OutOfMemory }
+    {
+        if contour.len() < 3 {
+            return Ok(0);
+        }
+        let mut probe = Probe::new(contour);
+        let Some(place) = first_back(&mut probe) else {
+            return Ok(probe.write_whole(out));
+        };
+        let count = probe.len();
+        if count == 3 {
+            return Ok(0);
+        }
+        let alloc = *self.places.allocator();
+        let memory = mem::replace(&mut self.places, Vec::new(alloc));
+        let mut ring = Ring::standing(memory, count, place)?;
+        ring.remove();
+        let stands = walk(&mut probe, &mut ring);
+        self.places = ring.into_order();
+        if !stands {
+            return Ok(0);
+        }
+        Ok(probe.write(out, self.places.as_slice()))
+    }
+}
+
 /// Whether the contour turns back or stands still at `place`, with these neighbours. Counts one visit.
 fn is_back_between<P: ContourPoint>(
     probe: &mut Probe<'_, P>,
@@ -141,19 +197,22 @@ fn despiked<P: ContourPoint>(
 ) -> Result<(Option<Vec<P>>, u128), ShapeError>
     requires enough { 3 ≤ length probe.contour }
     requires fresh { probe.visits ≡ 0 }
-    ensures answer { IfOk result (λ r. WalkAnswer IsBack (contour_of P.Coordinate.value probe.entry.contour) (answered (λ kept. contour_of P.Coordinate.value (P.points kept)) r.0) r.1) }
+    ensures answer { IfOk result (λ r. WalkAnswer IsBack (contour_of P.Coordinate.value probe.entry.contour) (answered (λ list. contour_of P.Coordinate.value (P.points list)) r.0) r.1) }
     ensures memory { IsOkUnless result ShapeError.OutOfMemory }
 {
     let Some(place) = first_back(&mut probe) else {
-        let (kept, visits) = probe.keep_all(alloc)?;
-        return Ok((Some(kept), visits));
+        return probe.keep_whole(alloc);
     };
     if probe.len() == 3 {
         return Ok((None, probe.visits()));
     }
-    let mut ring = Ring::standing(alloc, probe.len(), place)?;
+    let mut ring = Ring::standing(Vec::new(alloc), probe.len(), place)?;
     ring.remove();
-    walk(alloc, probe, ring)
+    if !walk(&mut probe, &mut ring) {
+        return Ok((None, probe.visits()));
+    }
+    let (kept, visits) = probe.keep(alloc, ring.into_order().as_slice())?;
+    Ok((Some(kept), visits))
 }
 
 /// Whether the contour turns back or stands still at the ring's place. Counts one visit.
@@ -168,27 +227,25 @@ fn is_back_at<P: ContourPoint>(probe: &mut Probe<'_, P>, ring: &Ring) -> bool
     is_back_between(probe, ring.before(), ring.place(), ring.after())
 }
 
-/// Walks round the ring until each place of it is tested, and takes out those that turn back.
-fn walk<P: ContourPoint>(
-    alloc: Global,
-    mut probe: Probe<'_, P>,
-    mut ring: Ring,
-) -> Result<(Option<Vec<P>>, u128), ShapeError>
-    requires { IsRingState IsBack (contour_of P.Coordinate.value probe.contour) ring probe.visits }
-    ensures answer { IfOk result (λ r. WalkAnswer IsBack (contour_of P.Coordinate.value probe.entry.contour) (answered (λ kept. contour_of P.Coordinate.value (P.points kept)) r.0) r.1) }
-    ensures memory { IsOkUnless result ShapeError.OutOfMemory }
+/// Walks round the ring until each place of it is tested, and takes out those that turn back. Whether three are left.
+fn walk<P: ContourPoint>(probe: &mut Probe<'_, P>, ring: &mut Ring) -> bool
+    requires state { IsRingState IsBack (contour_of P.Coordinate.value probe.old.contour) ring.old probe.old.visits }
+    requires room { length probe.old.contour ≤ usize.MAX }
+    ensures contour { probe.new.contour ≡ probe.old.contour }
+    ensures stands { let c = contour_of P.Coordinate.value probe.old.contour in IsTrue result → Finds IsBack c (map (point_at c) (in_order ring.new.places ring.new.lead)) probe.new.visits }
+    ensures below { IsTrue result → All (λ k. k < length probe.old.contour) (in_order ring.new.places ring.new.lead) }
+    ensures falls { result ≡ false → Falls IsBack (contour_of P.Coordinate.value probe.old.contour) probe.new.visits }
 {
     while ring.untested() > 0 {
-        if !is_back_at(&mut probe, &ring) {
+        if !is_back_at(probe, ring) {
             ring.keep();
         } else if ring.len() > 3 {
             ring.remove();
         } else {
-            return Ok((None, probe.visits()));
+            return false;
         }
     }
-    let (kept, visits) = probe.keep(alloc, ring.into_order().as_slice())?;
-    Ok((Some(kept), visits))
+    true
 }
 
 /// Whether at least three points are left without repeated ones, and the way over them nowhere goes back.

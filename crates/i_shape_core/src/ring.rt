@@ -5,7 +5,6 @@ ghost use Rattle.std.specs.List.{range_with_len};
 ghost use Rattle.i_shape_core.specs.Walks.{Standing, LeadKept, LeadRemoved, around_gap, lead_over_gap, in_order};
 
 use crate::error::ShapeError;
-use std::alloc::Global;
 use std::marker::Model;
 
 /// The places that are left, as a cycle from the walk's place on. They lie in one list with a gap:
@@ -30,13 +29,15 @@ impl Model for Ring {
 }
 
 impl Ring {
-    /// The ring of all places below `count`, with the walk at `place` and the places before it tested.
-    pub fn standing(alloc: Global, count: usize, place: usize) -> Result<Ring, ShapeError>
+    /// The ring of all places below `count`, in this memory, with the walk at `place` and the places before it tested.
+    pub fn standing(memory: Vec<usize>, count: usize, place: usize) -> Result<Ring, ShapeError>
         requires { place < count }
         ensures standing { IfOk result (λ r. r ≡ record { places = drop place (range_with_len 0 count) ++ take place (range_with_len 0 count); untested = count - place; lead = count - place }) }
         ensures memory { IsOkUnless result ShapeError.OutOfMemory }
     {
-        let mut places = Vec::with_capacity(alloc, count)?;
+        let mut places = memory;
+        places.clear();
+        places.reserve(count)?;
         for each in 0..count {
             places.push_reserved(each);
         }
