@@ -4,9 +4,8 @@ use Rattle.std.proofs.lemmas.List.{length-map, length-append, length-drop, lengt
 use Rattle.i_shape_core.specs.IntPoint.{contour_of}
 use Rattle.i_shape_core.specs.Point.{Point, IsBack}
 use Rattle.i_shape_core.specs.Contour.{point_at}
-use Rattle.i_shape_core.specs.Walks.{Falls, Finds, IsRingState, in_order}
-use Rattle.i_shape_core.specs.declared.point.IntPoint.{IntPoint}
-use Rattle.i_shape_core.proofs.Contours.{refuted, length-contour, kept-contour}
+use Rattle.i_shape_core.specs.Walks.{Falls, IsRingState, in_order}
+use Rattle.i_shape_core.proofs.Contours.{refuted, length-contour}
 use Rattle.i_shape_core.proofs.RingStates.{state_keeps, state_removes, state_collapses, state_ends, ends_below}
 use Rattle.i_shape_core.proofs.despike.walk.Goals as goal
 

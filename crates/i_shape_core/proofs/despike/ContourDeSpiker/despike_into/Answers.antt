@@ -1,10 +1,10 @@
-use Rattle.std.proofs.Common.{◌≡◌, ◌∙◌, ◌<◌, ◌≤◌, List, map, None, Some, length, refl, ap, sym, subst, arith}
+use Rattle.std.proofs.Common.{◌≡◌, ◌∙◌, ◌<◌, List, map, length, refl, ap, sym, subst, arith}
 use Rattle.std.proofs.lemmas.List.{length-map}
-use Rattle.i_shape_core.specs.Point.{Point, IsBack}
+use Rattle.i_shape_core.specs.Point.{IsBack}
 use Rattle.i_shape_core.specs.Contour.{point_at}
 use Rattle.i_shape_core.specs.IntPoint.{contour_of}
 use Rattle.i_shape_core.specs.Cleaners.{SpikelessAnswer}
-use Rattle.i_shape_core.specs.Walks.{Falls, Finds, IsRingState, in_order}
+use Rattle.i_shape_core.specs.Walks.{Finds, IsRingState, in_order}
 use Rattle.i_shape_core.specs.declared.point.IntPoint.{IntPoint}
 use Rattle.i_shape_core.proofs.Contours.{length-contour}
 use Rattle.i_shape_core.proofs.PointLists.{points-length}
