@@ -101,13 +101,22 @@ impl<I: IntNumber> DeSpikeContour<I> for IntContour<I> {
 #[derive(Drop)]
 pub struct ContourDeSpiker {
     places: Vec<usize>,
+    /// For how many points memory is taken at the least, where any is.
+    room: usize,
 }
 
 impl ContourDeSpiker {
     /// A remover of spikes that takes its memory from `alloc`.
     pub fn new(alloc: Global) -> ContourDeSpiker {
+        ContourDeSpiker::with_room(alloc, 0)
+    }
+
+    /// A remover of spikes that takes its memory from `alloc`, once where no contour has more than `room` points. It takes none
+    /// before a contour needs it.
+    pub fn with_room(alloc: Global, room: usize) -> ContourDeSpiker {
         ContourDeSpiker {
             places: Vec::new(alloc),
+            room,
         }
     }
 
@@ -138,9 +147,11 @@ impl ContourDeSpiker {
         if count == 3 {
             return Ok(0);
         }
+        self.places.clear();
+        self.places.reserve(count.max(self.room))?;
         let alloc = *self.places.allocator();
         let memory = mem::replace(&mut self.places, Vec::new(alloc));
-        let mut ring = Ring::standing(memory, count, place)?;
+        let mut ring = Ring::standing(memory, count, place);
         ring.remove();
         let stands = walk(&mut probe, &mut ring);
         self.places = ring.into_order();
@@ -206,7 +217,8 @@ fn despiked<P: ContourPoint>(
     if probe.len() == 3 {
         return Ok((None, probe.visits()));
     }
-    let mut ring = Ring::standing(Vec::new(alloc), probe.len(), place)?;
+    let memory = Vec::with_capacity(alloc, probe.len())?;
+    let mut ring = Ring::standing(memory, probe.len(), place);
     ring.remove();
     if !walk(&mut probe, &mut ring) {
         return Ok((None, probe.visits()));

@@ -21,13 +21,22 @@ use std::alloc::Global;
 #[derive(Drop)]
 pub struct ContourSimplifier {
     stack: Vec<usize>,
+    /// For how many points the stack takes memory at the least, where it takes any.
+    room: usize,
 }
 
 impl ContourSimplifier {
     /// A simplifier that takes its memory from `alloc`.
     pub fn new(alloc: Global) -> ContourSimplifier {
+        ContourSimplifier::with_room(alloc, 0)
+    }
+
+    /// A simplifier that takes its memory from `alloc`, once where no contour has more than `room` points. It takes none before
+    /// a contour needs it.
+    pub fn with_room(alloc: Global, room: usize) -> ContourSimplifier {
         ContourSimplifier {
             stack: Vec::new(alloc),
+            room,
         }
     }
 
@@ -120,7 +129,7 @@ impl ContourSimplifier {
         ensures memory { IsOkUnless result ShapeError.OutOfMemory }
     {
         let (first, end, place) = start;
-        fill(&mut self.stack, probe.len(), first, end)?;
+        fill(&mut self.stack, probe.len().max(self.room), first, end)?;
         stack_places(probe, &mut self.stack, place);
         Ok(close(probe, self.stack.as_slice()))
     }

@@ -26,18 +26,18 @@ returns-then-len-eq3-clause-answer g c =
 pub remove-requires : goal.remove-requires
 remove-requires g c =
     let whole : List Point = contour_of g.P.Coordinate.IntNumber.value c.args.probe.contour in
-    let long : length whole ≡ c.len-2.result = length-contour g.P.Coordinate.IntNumber.value c.args.probe.contour ∙ ap length (sym c.first_back.ensures.contour) ∙ sym c.len-2.ensures in
-    let stands : StandsAt whole c.in_ok-ring.ring c.in-Some.place = rw (← long) at c.in_ok-ring.ensures.standing in
-    omega (arith, standing_size whole c.in_ok-ring.ring c.in-Some.place stands, c.in-Some.ensures.answer.0.here.enough)
+    let long : length whole ≡ c.len-3.result = length-contour g.P.Coordinate.IntNumber.value c.args.probe.contour ∙ ap length (sym c.first_back.ensures.contour) ∙ sym c.len-3.ensures in
+    let stands : StandsAt whole c.standing-ring.result c.in-Some.place = rw (← long) at c.standing-ring.ensures in
+    omega (arith, standing_size whole c.standing-ring.result c.in-Some.place stands, c.in-Some.ensures.answer.0.here.enough)
 
 pub walk-requires-clause-state : goal.walk-requires-clause-state
 walk-requires-clause-state g c =
     let whole : List Point = contour_of g.P.Coordinate.IntNumber.value c.args.probe.contour in
-    let long : length whole ≡ c.len-2.result = length-contour g.P.Coordinate.IntNumber.value c.args.probe.contour ∙ ap length (sym c.first_back.ensures.contour) ∙ sym c.len-2.ensures in
-    let stands : StandsAt whole c.in_ok-ring.ring c.in-Some.place = rw (← long) at c.in_ok-ring.ensures.standing in
-    let more : 3 < length whole = omega (arith, c.in-Some.ensures.answer.0.here.enough, long, c.if-len-eq3.false, c.len.ensures, c.len-2.ensures) in
+    let long : length whole ≡ c.len-3.result = length-contour g.P.Coordinate.IntNumber.value c.args.probe.contour ∙ ap length (sym c.first_back.ensures.contour) ∙ sym c.len-3.ensures in
+    let stands : StandsAt whole c.standing-ring.result c.in-Some.place = rw (← long) at c.standing-ring.ensures in
+    let more : 3 < length whole = omega (arith, c.in-Some.ensures.answer.0.here.enough, long, c.if-len-eq3.false, c.len.ensures, c.len-3.ensures) in
     subst (λ (l : List (IntPoint g.row.P-Coordinate.Denot)). IsRingState IsBack (contour_of g.P.Coordinate.IntNumber.value l) c.remove.new.self c.first_back.new.probe.visits) (sym c.first_back.ensures.contour)
-    (standing_removes whole c.in_ok-ring.ring c.remove.new.self c.in-Some.place c.first_back.new.probe.visits c.in-Some.ensures.answer.0 stands more c.in-Some.ensures.answer.1
+    (standing_removes whole c.standing-ring.result c.remove.new.self c.in-Some.place c.first_back.new.probe.visits c.in-Some.ensures.answer.0 stands more c.in-Some.ensures.answer.1
     c.remove.ensures.places c.remove.ensures.untested c.remove.ensures.lead)
 
 pub keep-requires : goal.keep-requires

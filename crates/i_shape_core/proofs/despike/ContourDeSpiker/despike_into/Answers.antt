@@ -59,8 +59,8 @@ returns-then-count-eq3-clause-written g c =
     nothing_written g.P.Coordinate.IntNumber.width read counts c.args.contour.now c.args.out.now IsBack SpikelessAnswer (spikeless_answer whole) (kept_spikeless whole) c.first_back.new.probe.visits
     (first_collapses whole c.in-Some.place c.first_back.new.probe.visits found.0 (count ∙ c.if-count-eq3.true) found.1)
 
-pub standing-requires : goal.standing-requires
-standing-requires g c =
+pub standing-ring-requires-clause-within : goal.standing-ring-requires-clause-within
+standing-ring-requires-clause-within g c =
     let value = g.P.Coordinate.IntNumber.value in
     let found = rw c.new-probe.ensures.contour at c.in-Some.ensures.answer in
     omega (arith, found.0.here.within, length-contour value (g.P.ContourPoint.points c.args.contour.now), ap length (c.first_back.ensures.contour ∙ c.new-probe.ensures.contour), c.len-count.ensures)
@@ -75,8 +75,8 @@ remove-requires g c =
     let found = rw fresh at c.in-Some.ensures.answer in
     let first : c.first_back.new.probe.contour ≡ g.P.ContourPoint.points c.args.contour.now = c.first_back.ensures.contour ∙ fresh in
     let count : length whole ≡ c.len-count.result = length-contour value (g.P.ContourPoint.points c.args.contour.now) ∙ ap length (sym first) ∙ sym c.len-count.ensures in
-    let stands : StandsAt whole c.in_ok-ring.ring c.in-Some.place = rw (← count) at c.in_ok-ring.ensures.standing in
-    omega (arith, standing_size whole c.in_ok-ring.ring c.in-Some.place stands, found.0.here.enough)
+    let stands : StandsAt whole c.standing-ring.result c.in-Some.place = rw (← count) at c.standing-ring.ensures in
+    omega (arith, standing_size whole c.standing-ring.result c.in-Some.place stands, found.0.here.enough)
 
 pub walk-stands-requires-clause-state : goal.walk-stands-requires-clause-state
 walk-stands-requires-clause-state g c =
@@ -88,10 +88,10 @@ walk-stands-requires-clause-state g c =
     let found = rw fresh at c.in-Some.ensures.answer in
     let first : c.first_back.new.probe.contour ≡ g.P.ContourPoint.points c.args.contour.now = c.first_back.ensures.contour ∙ fresh in
     let count : length whole ≡ c.len-count.result = length-contour value (g.P.ContourPoint.points c.args.contour.now) ∙ ap length (sym first) ∙ sym c.len-count.ensures in
-    let stands : StandsAt whole c.in_ok-ring.ring c.in-Some.place = rw (← count) at c.in_ok-ring.ensures.standing in
+    let stands : StandsAt whole c.standing-ring.result c.in-Some.place = rw (← count) at c.standing-ring.ensures in
     let more : 3 < length whole = omega (arith, found.0.here.enough, count, c.if-count-eq3.false) in
     subst (λ (l : List (IntPoint g.row.P-Coordinate.Denot)). IsRingState IsBack (contour_of value l) c.remove.new.self c.first_back.new.probe.visits) (sym first)
-    (standing_removes whole c.in_ok-ring.ring c.remove.new.self c.in-Some.place c.first_back.new.probe.visits found.0 stands more found.1
+    (standing_removes whole c.standing-ring.result c.remove.new.self c.in-Some.place c.first_back.new.probe.visits found.0 stands more found.1
     c.remove.ensures.places c.remove.ensures.untested c.remove.ensures.lead)
 
 pub walk-stands-requires-clause-room : goal.walk-stands-requires-clause-room
