@@ -2,6 +2,7 @@
 
 ghost use Rattle.std.specs.Prelude.{◌≡◌, ◌≤◌, List, length, Option, Some, IfOk, OnErr};
 ghost use Rattle.std.specs.List.{All};
+ghost use Rattle.std.proofs.Common.{subst};
 ghost use Rattle.i_shape.specs.Point.{Point};
 ghost use Rattle.i_shape.specs.IntPoint.{contour_of, IsSafe};
 ghost use Rattle.i_shape.specs.Cleaners.{SimpleAnswer, SpikelessAnswer, DespikeAnswer};
@@ -71,7 +72,11 @@ impl Cleaner for Simplifier {
         }
     }
 
-    fn clean<P: ContourPoint>(&mut self, contour: &[P], out: &mut [P]) -> Result<usize, ShapeError> {
+    fn clean<P: ContourPoint>(
+        &mut self,
+        contour: &[P],
+        out: &mut [P],
+    ) -> Result<usize, ShapeError> {
         self.simplifier.simplify_into(contour, out)
     }
 }
@@ -101,7 +106,11 @@ impl Cleaner for DeSpiker {
         }
     }
 
-    fn clean<P: ContourPoint>(&mut self, contour: &[P], out: &mut [P]) -> Result<usize, ShapeError> {
+    fn clean<P: ContourPoint>(
+        &mut self,
+        contour: &[P],
+        out: &mut [P],
+    ) -> Result<usize, ShapeError> {
         self.de_spiker.despike_into(contour, out)
     }
 }
@@ -131,7 +140,11 @@ impl Cleaner for Canonicalizer {
         }
     }
 
-    fn clean<P: ContourPoint>(&mut self, contour: &[P], out: &mut [P]) -> Result<usize, ShapeError> {
+    fn clean<P: ContourPoint>(
+        &mut self,
+        contour: &[P],
+        out: &mut [P],
+    ) -> Result<usize, ShapeError> {
         self.simplifier.canonical_into(contour, out)
     }
 }

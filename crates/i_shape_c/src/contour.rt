@@ -13,11 +13,7 @@ use i_shape::ShapeError;
 use std::alloc::Global;
 
 /// Writes what is left of the points to the front of `out`, and answers how many these are, or a code below 0.
-pub fn clean_contour<P: CPoint, C: Cleaner>(
-    alloc: Global,
-    points: &[P],
-    out: &mut [P],
-) -> isize
+pub fn clean_contour<P: CPoint, C: Cleaner>(alloc: Global, points: &[P], out: &mut [P]) -> isize
     requires { length out.old < 2 ^ 63 }
     ensures answer { CleanAnswer C.gives P.Coordinate.width (λ p. point_of P.Coordinate.value (P.point p)) points.now out.old out.new result }
     ensures unfit { result ≡ unfit_code ↔ (length out.old < length points.now) }
