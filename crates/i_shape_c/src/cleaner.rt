@@ -17,13 +17,12 @@ ghost use Rattle.i_shape_core.proofs.Rotations.{rotation_length};
 ghost use Rattle.i_shape_int.proofs.Fewer.{list_fewer, despike_fewer};
 ghost use Rattle.i_shape.proofs.FewerForms.{forms_fewer};
 
+use i_shape::int::ContourPoint;
 use i_shape::int::canonical::CanonicalShapes;
-use i_shape::int::despike::DeSpikeShapes;
+use i_shape::int::despike::{ContourDeSpiker, DeSpikeShapes};
 use i_shape::int::shape::IntShapes;
 use i_shape::int::simple::{ContourSimplifier, SimpleShapes};
 use i_shape::{IntNumber, ShapeError};
-use i_shape_core::despike::ContourDeSpiker;
-use i_shape_core::point::ContourPoint;
 use std::alloc::Global;
 
 /// Cleans one contour after another, and keeps its memory from one to the next.
