@@ -48,7 +48,6 @@ pub mod Answered
 pub mod Compared
 pub mod Bends
 pub mod SummedArea
-pub mod SliceArea
 pub mod AreaByPlaces
 -- the definitions at contours that are written out
 pub mod Examples
