@@ -7,6 +7,8 @@ pub mod Coordinates
 pub mod Turns
 pub mod Back
 pub mod Contours
+-- loops over a list
+pub mod AllTold
 -- removals, for any test of three points
 pub mod TestLaws
 pub mod Lists
