@@ -8,6 +8,8 @@ pub mod Turns
 pub mod Back
 pub mod Contours
 pub mod PointLists
+-- loops over a list
+pub mod AllTold
 -- removals, for any test of three points
 pub mod TestLaws
 pub mod Lists
@@ -50,7 +52,6 @@ pub mod Written
 pub mod Compared
 pub mod Bends
 pub mod SummedArea
-pub mod SliceArea
 pub mod AreaByPlaces
 -- the definitions at contours that are written out
 pub mod Examples
