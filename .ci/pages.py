@@ -9,7 +9,7 @@ usage: .ci/pages.py [PAGE..]
 - a block `c`: it stands in a file of C;
 - a block `console`: its commands run in order, each printing what stands below it;
 - the links within the repository: the page is there, and the heading;
-- docs/ARCHITECTURE.md names each file of lemmas;
+- docs/ARCHITECTURE.md names each file of lemmas, and docs/CONTRACTS.md each edit of must-fail/ and no edit that isn't there;
 - docs/ARCHITECTURE.md and docs/PROVED.md say how many calls growths.txt has, and docs/GATE.md how many wrong bodies there are in each row's crates;
 - the version: it is that of the header in CHANGELOG.md, in the archive, in the Python package and in the crate for Rust.
 
@@ -192,6 +192,19 @@ def fault_of_counts():
     return "; ".join(missing) or None
 
 
+def fault_of_edits():
+    """docs/CONTRACTS.md names each edit of must-fail/, and beside each crate's name its edits alone."""
+    page = read(f"{TOP}/docs/CONTRACTS.md")
+    edits = {kind: {tuple(name.removesuffix(".edit").split("/")[-3::2]) for name in files([f"crates/*/{kind}/*.edit"])} for kind in ("must-fail", "wrong")}
+    named = set()
+    for cell in re.findall(r"^\|[^|]*\| ((?:core|source|int|shape|tool) `[^|]*) \|", page, re.MULTILINE):
+        for crate, names in re.findall(r"\b(core|source|int|shape|tool) (`[^|]*?)(?=; \w+ `|, \w+ `|$)", cell):
+            named |= {("i_shape" if crate == "shape" else f"i_shape_{crate}", name) for name in re.findall(r"`(\w+)`", names)}
+    missing = [f"{crate}'s {name} isn't named" for crate, name in edits["must-fail"] - named]
+    strange = [f"{crate} has no edit {name}" for crate, name in named - edits["must-fail"] - edits["wrong"]]
+    return "; ".join(sorted(missing + strange)) or None
+
+
 FAULTS = {"rust": fault_of_rust, "text": fault_of_clauses, "c": fault_of_c, "console": fault_of_console}
 
 
@@ -211,7 +224,7 @@ def main():
     tests = [(os.path.relpath(name, TOP), *test) for name in pages for test in tests_of(name)]
     if not sys.argv[1:]:
         tests += [("CHANGELOG.md", "the version", [], fault_of_version), ("docs/ARCHITECTURE.md", "lemma files", [], fault_of_lemmas),
-                  ("docs/GATE.md", "counts", [], fault_of_counts)]
+                  ("docs/GATE.md", "counts", [], fault_of_counts), ("docs/CONTRACTS.md", "edits", [], fault_of_edits)]
     for page, place, needed, look in tests:
         missing = [name for name in needed if not is_at_hand(name)]
         fault = f"there is no {missing[0]}" if missing else look()
