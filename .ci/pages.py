@@ -7,7 +7,7 @@ usage: .ci/pages.py [PAGE..]
   doc lines that the page leaves out; and what the block imports is imported there;
 - a block `text` with clauses: each of its lines stands in a source of the crates;
 - a block `c`: it stands in a file of C;
-- a block `console`: its commands run in order, each printing what stands below it;
+- a block `console`: its commands run in order, as in one shell at the top of a clone named raspochre, each printing what stands below it;
 - the links within the repository: the page is there, and the heading;
 - docs/ARCHITECTURE.md names each file of lemmas, and docs/CONTRACTS.md each edit of must-fail/ and no edit that isn't there;
 - docs/ARCHITECTURE.md and docs/PROVED.md say how many calls growths.txt has, and docs/GATE.md how many wrong bodies there are in each row's crates;
@@ -27,7 +27,11 @@ TOP = os.path.dirname(os.path.dirname(os.path.abspath(__file__)))
 PAGES = ["README.md", "CHANGELOG.md", "docs/*.md", "examples/*/README.md"]
 RUST = ["crates/*/src/**/*.rt", "bindings/rust/**/*.rs", "examples/**/*.rs", "bench/**/*.rs"]
 C = ["bindings/c/*.c", "bindings/c/*.h", "examples/**/*.c", "bench/**/*.c", "include/*.h"]
+# Whether what the four libraries have kept of their proofs is newer than they are.
+PROVED = """rt version && test -d crates/i_shape/out/rlib && test -z "$(find crates/i_shape_core crates/i_shape_source crates/i_shape_int crates/i_shape \\
+    -name out -prune -o \\( -name '*.rt' -o -name '*.antt' \\) -newer crates/i_shape/out/rlib/stamp -print -quit)\""""
 NEEDED = {
+    "proofs": PROVED,
     "program": "test -x crates/i_shape_tool_main/out/i_shape_tool_main",
     "library": "test -e bindings/c/out/libi_shape.a",
     "parallel": "parallel --version",
@@ -125,14 +129,18 @@ def top_names():
 
 
 def fault_of_console(text):
-    """Runs the commands of a block in a folder with links to what the repository has at its top."""
-    with tempfile.TemporaryDirectory() as folder:
+    """Runs the commands of a block in a folder with links to what the repository has at its top, each where the one before it has gone."""
+    with tempfile.TemporaryDirectory() as work:
+        folder = os.path.join(work, "raspochre")
+        os.mkdir(folder)
         for name in top_names():
             os.symlink(os.path.join(TOP, name), os.path.join(folder, name))
         for command, wanted in re.findall(r"^\$ (.*)\n((?:(?!\$ ).*\n)*)", text, re.MULTILINE):
-            run = subprocess.run(["bash", "-c", command], cwd=folder, capture_output=True, text=True, timeout=600, check=False)
+            words = ["bash", "-c", f'{command}\nstatus=$?; pwd > "$0"; exit $status', os.path.join(work, "gone_to")]
+            run = subprocess.run(words, cwd=folder, capture_output=True, text=True, timeout=600, check=False)
             if run.returncode or (wanted and run.stdout != wanted):
                 return f"`{command}` ended with status {run.returncode} and printed {run.stdout + run.stderr!r}"
+            folder = read(os.path.join(work, "gone_to")).rstrip("\n")
     return None
 
 
