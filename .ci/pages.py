@@ -31,7 +31,7 @@ C = ["bindings/c/*.c", "bindings/c/*.h", "examples/**/*.c", "bench/**/*.c", "inc
 PROVED = """rt version && test -d crates/i_shape/out/rlib && test -z "$(find crates/i_shape_core crates/i_shape_source crates/i_shape_int crates/i_shape \\
     -name out -prune -o \\( -name '*.rt' -o -name '*.antt' \\) -newer crates/i_shape/out/rlib/stamp -print -quit)\""""
 NEEDED = {
-    "proofs": PROVED,
+    "proof": PROVED,
     "program": "test -x crates/i_shape_tool_main/out/i_shape_tool_main",
     "library": "test -e bindings/c/out/libi_shape.a",
     "parallel": "parallel --version",
