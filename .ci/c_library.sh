@@ -5,11 +5,10 @@
 # last line is 'c library: N passed, M failed', and ', K skipped' behind it where K is above 0.
 set -u
 cd "$(dirname "$0")/.." || exit 1
+. .ci/count.sh || exit 1
 export LC_ALL=C
 library=bindings/c/out
 warnings=(-Wall -Wextra -Wpedantic -Wconversion -Werror)
-passed=0
-failed=0
 skipped=0
 
 # Adds up what a run of the tests counts. A run that counts nothing, or fails though it counts no failure, is one failure.
@@ -24,16 +23,6 @@ add() {
     grep -v ' passed, ' "$work/log"
     passed=$((passed + ${counts%% *} + 0))
     failed=$((failed + ${counts##* }))
-}
-
-# Counts one test, which ended with status $2.
-count() {
-    if [ "$2" = 0 ]; then
-        echo '1 passed, 0 failed' > "$work/log"
-    else
-        echo '0 passed, 1 failed' > "$work/log"
-    fi
-    add 0 "$1"
 }
 
 # Compiles the tests by the words from $2 on, and runs them by the words of the array runner.
@@ -53,7 +42,7 @@ test_names() {
     nm -g --defined-only "$work/all.o" | sed -nE 's/^.* T (.*)$/\1/p' | sort > "$work/exported"
     "${CC:-cc}" -E -Iinclude include/i_shape.h | grep -oE '\bi_shape_[a-z0-9_]+ ?\(' | tr -d ' (' | sort > "$work/declared"
     diff "$work/exported" "$work/declared"
-    count 'the names' $?
+    count $? 'the names'
 }
 
 # The first lines of docs/C.md that are fenced as $1, but for commands.
@@ -66,14 +55,14 @@ test_sample() {
     fenced c | diff bindings/c/sample.c - &&
         "${CC:-cc}" "${warnings[@]}" -Iinclude bindings/c/sample.c "$library/libi_shape.a" -o "$work/sample" &&
         [ "$("$work/sample")" = "$(printf '0 0\n4 0\n4 4\n0 4')" ]
-    count 'the sample' $?
+    count $? 'the sample'
 }
 
 # The example prints what the page says.
 test_example() {
     "${CC:-cc}" -std=c11 "${warnings[@]}" -Iinclude examples/clean.c "$library/libi_shape.a" -o "$work/clean" &&
         "$work/clean" > "$work/shown" && fenced 'console library' | diff - "$work/shown"
-    count 'examples/clean.c' $?
+    count $? 'examples/clean.c'
 }
 
 # The crate for Rust passes its tests, and its example prints what the page says. Its edition asks for cargo 1.85.
@@ -91,7 +80,7 @@ test_rust() {
     awk '/^test result:/ { passed += $4; failed += $6 } END { print passed + 0 " passed, " failed + 0 " failed" }' "$work/cargo" > "$work/log"
     add "$status" 'the crate for Rust'
     "${cargo[@]}" run "${its[@]}" --example clean > "$work/shown" && fenced 'console library' | diff - "$work/shown"
-    count 'examples/clean.rs' $?
+    count $? 'examples/clean.rs'
 }
 
 work=$(mktemp -d) || exit 1

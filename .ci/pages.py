@@ -7,9 +7,9 @@ usage: .ci/pages.py [PAGE..]
   doc lines that the page leaves out; and what the block imports is imported there;
 - a block `text` with clauses: each of its lines stands in a source of the crates;
 - a block `c`: it stands in a file of C;
-- a block `console`: its commands run in order, each printing what stands below it;
+- a block `console`: its commands run in order, as in one shell at the top of a clone named raspochre, each printing what stands below it;
 - the links within the repository: the page is there, and the heading;
-- docs/ARCHITECTURE.md names each file of lemmas;
+- docs/ARCHITECTURE.md names each file of lemmas, and docs/CONTRACTS.md each edit of must-fail/ and no edit that isn't there;
 - docs/ARCHITECTURE.md and docs/PROVED.md say how many calls growths.txt has, and docs/GATE.md how many wrong bodies there are in each row's crates;
 - the version: it is that of the header in CHANGELOG.md, in the archive, in the Python package and in the crate for Rust.
 
@@ -27,7 +27,11 @@ TOP = os.path.dirname(os.path.dirname(os.path.abspath(__file__)))
 PAGES = ["README.md", "CHANGELOG.md", "docs/*.md", "examples/*/README.md"]
 RUST = ["crates/*/src/**/*.rt", "bindings/rust/**/*.rs", "examples/**/*.rs", "bench/**/*.rs"]
 C = ["bindings/c/*.c", "bindings/c/*.h", "examples/**/*.c", "bench/**/*.c", "include/*.h"]
+# Whether what the four libraries have kept of their proofs is newer than they are.
+PROVED = """rt version && test -d crates/i_shape/out/rlib && test -z "$(find crates/i_shape_core crates/i_shape_source crates/i_shape_int crates/i_shape \\
+    -name out -prune -o \\( -name '*.rt' -o -name '*.antt' \\) -newer crates/i_shape/out/rlib/stamp -print -quit)\""""
 NEEDED = {
+    "proof": PROVED,
     "program": "test -x crates/i_shape_tool_main/out/i_shape_tool_main",
     "library": "test -e bindings/c/out/libi_shape.a",
     "parallel": "parallel --version",
@@ -125,14 +129,18 @@ def top_names():
 
 
 def fault_of_console(text):
-    """Runs the commands of a block in a folder with links to what the repository has at its top."""
-    with tempfile.TemporaryDirectory() as folder:
+    """Runs the commands of a block in a folder with links to what the repository has at its top, each where the one before it has gone."""
+    with tempfile.TemporaryDirectory() as work:
+        folder = os.path.join(work, "raspochre")
+        os.mkdir(folder)
         for name in top_names():
             os.symlink(os.path.join(TOP, name), os.path.join(folder, name))
         for command, wanted in re.findall(r"^\$ (.*)\n((?:(?!\$ ).*\n)*)", text, re.MULTILINE):
-            run = subprocess.run(["bash", "-c", command], cwd=folder, capture_output=True, text=True, timeout=600, check=False)
+            words = ["bash", "-c", f'{command}\nstatus=$?; pwd > "$0"; exit $status', os.path.join(work, "gone_to")]
+            run = subprocess.run(words, cwd=folder, capture_output=True, text=True, timeout=600, check=False)
             if run.returncode or (wanted and run.stdout != wanted):
                 return f"`{command}` ended with status {run.returncode} and printed {run.stdout + run.stderr!r}"
+            folder = read(os.path.join(work, "gone_to")).rstrip("\n")
     return None
 
 
@@ -192,6 +200,19 @@ def fault_of_counts():
     return "; ".join(missing) or None
 
 
+def fault_of_edits():
+    """docs/CONTRACTS.md names each edit of must-fail/, and beside each crate's name its edits alone."""
+    page = read(f"{TOP}/docs/CONTRACTS.md")
+    edits = {kind: {tuple(name.removesuffix(".edit").split("/")[-3::2]) for name in files([f"crates/*/{kind}/*.edit"])} for kind in ("must-fail", "wrong")}
+    named = set()
+    for cell in re.findall(r"^\|[^|]*\| ((?:core|source|int|shape|tool) `[^|]*) \|", page, re.MULTILINE):
+        for crate, names in re.findall(r"\b(core|source|int|shape|tool) (`[^|]*?)(?=; \w+ `|, \w+ `|$)", cell):
+            named |= {("i_shape" if crate == "shape" else f"i_shape_{crate}", name) for name in re.findall(r"`(\w+)`", names)}
+    missing = [f"{crate}'s {name} isn't named" for crate, name in edits["must-fail"] - named]
+    strange = [f"{crate} has no edit {name}" for crate, name in named - edits["must-fail"] - edits["wrong"]]
+    return "; ".join(sorted(missing + strange)) or None
+
+
 FAULTS = {"rust": fault_of_rust, "text": fault_of_clauses, "c": fault_of_c, "console": fault_of_console}
 
 
@@ -211,7 +232,7 @@ def main():
     tests = [(os.path.relpath(name, TOP), *test) for name in pages for test in tests_of(name)]
     if not sys.argv[1:]:
         tests += [("CHANGELOG.md", "the version", [], fault_of_version), ("docs/ARCHITECTURE.md", "lemma files", [], fault_of_lemmas),
-                  ("docs/GATE.md", "counts", [], fault_of_counts)]
+                  ("docs/GATE.md", "counts", [], fault_of_counts), ("docs/CONTRACTS.md", "edits", [], fault_of_edits)]
     for page, place, needed, look in tests:
         missing = [name for name in needed if not is_at_hand(name)]
         fault = f"there is no {missing[0]}" if missing else look()

@@ -5,10 +5,9 @@
 # is above 0.
 set -u
 cd "$(dirname "$0")/.." || exit 1
+. .ci/count.sh || exit 1
 export I_SHAPE_TOOL=${I_SHAPE_TOOL:-$PWD/crates/i_shape_tool_main/out/i_shape_tool_main}
 pictures=(docs/pictures/*.svg)
-passed=0
-failed=0
 
 if [ ! -x "$I_SHAPE_TOOL" ]; then
     echo "the pictures are not drawn: there is no $I_SHAPE_TOOL"
@@ -19,23 +18,9 @@ work=$(mktemp -d) || exit 1
 trap 'rm -rf "$work"' EXIT
 examples/draw/draw_all.sh "$work" || echo "draw_all.sh ended with status $?"
 for name in $(ls docs/pictures "$work" | grep '\.svg$' | sort -u); do
-    if cmp "docs/pictures/$name" "$work/$name"; then
-        passed=$((passed + 1))
-    else
-        failed=$((failed + 1))
-        echo "failed: $name: \`make pictures\` draws it anew"
-    fi
+    cmp "docs/pictures/$name" "$work/$name"
+    count $? "$name: \`make pictures\` draws it anew"
 done
-
-# Counts a test of draw.py, which ended with status $1.
-count() {
-    if [ "$1" = 0 ]; then
-        passed=$((passed + 1))
-    else
-        failed=$((failed + 1))
-        echo "failed: $2"
-    fi
-}
 
 # All that draw.py prints of the lines $1, by the words from $2 on.
 drawn() {

@@ -4,11 +4,10 @@
 # parallel, the tests are skipped. The last line is 'scaling: N passed, M failed', and ', K skipped' behind it where K is above 0.
 set -u
 cd "$(dirname "$0")/.." || exit 1
+. .ci/count.sh || exit 1
 export LC_ALL=C
 program=${I_SHAPE_TOOL:-crates/i_shape_tool_main/out/i_shape_tool_main}
 commands=(simplify despike area canonical compact)
-passed=0
-failed=0
 
 if [ ! -x "$program" ] || ! parallel --version > /dev/null 2>&1; then
     echo "parallel is not tested: there is no $program, or no parallel"
@@ -17,16 +16,6 @@ if [ ! -x "$program" ] || ! parallel --version > /dev/null 2>&1; then
 fi
 work=$(mktemp -d) || exit 1
 trap 'rm -rf "$work"' EXIT
-
-# Counts a test that ended with status $1.
-count() {
-    if [ "$1" = 0 ]; then
-        passed=$((passed + 1))
-    else
-        failed=$((failed + 1))
-        echo "failed: $2"
-    fi
-}
 
 # The program on each part of standard input, as many words of parallel as are given first.
 parted() {

@@ -34,6 +34,8 @@ ROWS = [
     ("a command that prints more", "```console\n$ printf 'one\\ntwo\\n'\none\n```\n", "failed"),
     ("a command that fails", "```console\n$ false\n```\n", "failed"),
     ("a command that fails behind another", "```console\n$ echo one\none\n$ ls nothing\n```\n", "failed"),
+    ("a command where the one before it has gone", "```console\n$ mkdir ../mine && cd ../mine\n$ basename \"$PWD\"\nmine\n$ ls ../raspochre/README.md\n```\n", "passed"),
+    ("a command that goes nowhere", "```console\n$ cd nowhere\n```\n", "failed"),
     ("a command that needs what isn't there", "```console nothing\n$ false\n```\n", "skipped"),
     ("a link to a page, and to headings", "# One: two\n[a](#one-two) [b](README.md#limits) [c](https://example.org)\n", "passed"),
     ("a link to no page", "[a](nothing.md)\n", "failed"),

@@ -60,6 +60,21 @@ pub fn stepped_thrice(number: u32) -> u32
 {
     stepped(stepped(stepped(number)))
 }
+
+/// Four steps on, by calls. Its proof is a file.
+pub fn stepped_four_times(number: u32) -> u32
+    requires { number < 900 }
+    ensures { result ≡ number + 12 }
+{
+    stepped(stepped_thrice(number))
+}
+"""
+
+PROOF = """use Rattle.std.proofs.Common.{rules}
+use Rattle.steps.proofs.stepped_four_times.Goals as goal
+
+pub returns : goal.returns
+returns c = search rules
 """
 
 # Edits of DOUBLES: name, the function that it says is refused, old text, new text, the start of what is told of it. Some of
@@ -79,17 +94,20 @@ EDITS_OF_DOUBLES = [
 ]
 
 # Edits of STEPS, all of which can be compiled. The first turns a constant, which is why another function would fail beside it;
-# the last but one calls a function that fails beside it.
+# those of stepped_thrice and of stepped_four_times call a function that fails beside them.
 EDITS_OF_STEPS = [
     ("adds_four_a_step", "stepped", "STEP: u32 = 3", "STEP: u32 = 4", "refused at stepped"),
     ("stands_still", "stepped", "number + STEP", "number", "refused at stepped"),
+    ("takes_two_steps", "stepped_thrice", "stepped(stepped(stepped(number)))", "stepped(stepped(number))", "refused at stepped_thrice"),
     ("turns_nothing_above_a_call", "stepped_thrice", "stepped(stepped(stepped(number)))", "stepped(stepped(number)) + STEP", "NOT REFUSED at stepped_thrice"),
+    ("takes_five_steps", "stepped_four_times", "stepped(stepped_thrice(number))", "stepped(stepped(stepped_thrice(number)))", "refused at stepped_four_times"),
+    ("turns_nothing_in_a_file", "stepped_four_times", "stepped(stepped_thrice(number))", "STEP + stepped_thrice(number)", "NOT REFUSED at stepped_four_times"),
     ("turns_nothing_by_a_constant", "stepped_twice", "STEP + STEP + number", "number + STEP + STEP", "NOT REFUSED at stepped_twice"),
 ]
 
 EDITS_OF_NO_CRATE = [("adds_one", "doubled", "    number + number", "    number + 1", "BAD EDIT: crates.txt does not list its crate")]
 
-# each crate with its code and its edits
+# each crate with its code and its edits; steps has a written proof too
 CRATES = [("doubles", DOUBLES, EDITS_OF_DOUBLES), ("steps", STEPS, EDITS_OF_STEPS), ("unlisted", DOUBLES, EDITS_OF_NO_CRATE)]
 
 
@@ -107,6 +125,7 @@ def lay(root):
         for name, function, old, new, _ in edits:
             refused = f"refused: {function}\n" if function else ""
             write(f"{root}/crates/{crate}/wrong/{name}.edit", f"file: src/lib.rt\n{refused}old: {old}\nnew: {new}\n")
+    write(f"{root}/crates/steps/proofs/stepped_four_times/Answers.antt", PROOF)
     os.mkdir(f"{root}/.ci")
     shutil.copy(f"{os.path.dirname(os.path.realpath(__file__))}/wrong.py", f"{root}/.ci/wrong.py")
 

@@ -37,6 +37,9 @@ def load_kit():
 
 KIT = load_kit()
 
+# what an error says of a name that is no longer there, or of a proof that rests on one that was refused
+GONE = r"has no field|is not in scope|has no `|was not admitted"
+
 
 def read(file):
     with open(file, encoding="utf-8") as text:
@@ -107,7 +110,18 @@ class Found:
         self.lines = said.splitlines()
         self.told = dict(re.findall(rf"^fn {crate}::(\S+): (.*)$", said, re.M))
         self.has_ended = bool(re.search(r"^only=\d+ proved=\d+$", said, re.M))
-        self.at_fault = {name for name, what in self.told.items() if re.match(r"not proved|no proof", what) and "it calls" not in what}
+        self.at_fault = {name for name, what in self.told.items() if self.is_at_fault(name, what)}
+
+    def is_at_fault(self, function, what):
+        """Whether a goal of the function's own is open. One that calls a function at fault is told of too, but without errors of its own."""
+        if "it calls" not in what:
+            return bool(re.match(r"not proved|no proof", what))
+        return "`search` did not prove" in what or any(not re.search(GONE, it) for it in self.errors_of(function))
+
+    def errors_of(self, function):
+        """Returns what the errors in the function's own proof say."""
+        own = rf"(?:\./)?proofs/{re.escape(function.replace('::', '/'))}/\w+\.antt:\d+:\d+: error: (.*)"
+        return [at[1] for at in (re.match(own, line) for line in self.lines) if at]
 
     def unread(self, paths):
         """Returns a line that tells that the code in one of these files could not be read, or None."""
@@ -120,9 +134,8 @@ class Found:
 
     def names_what_is_gone(self, function):
         """Whether the function's proof fails only because it names what the edit took away."""
-        own = rf"(?:\./)?proofs/{re.escape(function.replace('::', '/'))}/\w+\.antt:\d+:\d+: error: (.*)"
-        errors = [at[1] for at in (re.match(own, line) for line in self.lines) if at]
-        return bool(errors) and all(re.search(r"has no field|is not in scope|has no `|was not admitted", it) for it in errors)
+        errors = self.errors_of(function)
+        return bool(errors) and all(re.search(GONE, it) for it in errors)
 
     def complaint(self):
         return next((it for it in self.lines if "error" in it), (self.lines or ["the check said nothing"])[-1])

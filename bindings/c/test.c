@@ -71,7 +71,7 @@ void rattle_dealloc(void *at) {
 
 enum { MOST_GROWTHS = 32 };
 
-#define WITH_EACH_GROWTH_REFUSED(CALLED, IS_KEPT, WIDTH, NAME) \
+#define WITH_EACH_GROWTH_REFUSED(CALLED, IS_KEPT, GROWS, WIDTH, NAME) \
     do { \
         long long answer = I_SHAPE_NO_MEMORY; \
         for (refused = 1; answer == I_SHAPE_NO_MEMORY && refused <= MOST_GROWTHS; refused++) { \
@@ -81,11 +81,12 @@ enum { MOST_GROWTHS = 32 };
             check(answer != I_SHAPE_NO_MEMORY || (IS_KEPT), WIDTH, NAME, "what a refusal leaves"); \
             check((answer == I_SHAPE_NO_MEMORY) == (growths >= refused), WIDTH, NAME, "a refusal is told"); \
         } \
-        check(answer >= 0 && refused > 2, WIDTH, NAME, "it is done where no growth is refused"); \
+        check(answer >= 0, WIDTH, NAME, "it is done where no growth is refused"); \
+        check(GROWS, WIDTH, NAME, "how often memory is taken"); \
         refused = 0; \
     } while (0)
 #else
-#define WITH_EACH_GROWTH_REFUSED(CALLED, IS_KEPT, WIDTH, NAME) check((CALLED) >= 0, WIDTH, NAME, "it is done")
+#define WITH_EACH_GROWTH_REFUSED(CALLED, IS_KEPT, GROWS, WIDTH, NAME) check((CALLED) >= 0, WIDTH, NAME, "it is done")
 #endif
 
 #include "rows.h"

@@ -157,7 +157,7 @@ static void AT(test_shapes_codes)(void) {
         check(CLEAN(contours, 3, shapes, 2, 6, 3, 3) == I_SHAPE_UNSAFE, W, name, "polygons with a point that isn't safe");
         check(IS_UNTOUCHED, W, name, "codes leave the arrays of polygons as they were");
         given[5].y = 4;
-        WITH_EACH_GROWTH_REFUSED(CLEAN(contours, 3, shapes, 2, 6, 3, 3), IS_UNTOUCHED, W, name);
+        WITH_EACH_GROWTH_REFUSED(CLEAN(contours, 3, shapes, 2, 6, 3, 3), IS_UNTOUCHED, growths > 0, W, name);
 #undef IS_UNTOUCHED
 #undef CLEAN
     }
@@ -196,22 +196,28 @@ static void AT(test_area)(void) {
 }
 
 static void AT(test_refusals)(void) {
-    const POINT given[6] = {{0, 0}, {2, 0}, {4, 0}, {4, 4}, {0, 4}, {0, 2}};
-    const size_t offsets[3] = {0, 6, 6};
+    /* Contours of four and of six points, each with a point that is repeated and one on an edge. */
+    const POINT given[10] = {{0, 0}, {4, 0}, {4, 0}, {4, 4}, {0, 0}, {4, 0}, {4, 0}, {4, 4}, {0, 4}, {0, 2}};
+    const POINT square[4] = {{0, 0}, {4, 0}, {4, 4}, {0, 4}};
+    const size_t offsets[3] = {0, 4, 10};
+    const size_t twice[3] = {0, 4, 4};
     for (int k = 0; k < CLEANERS; k++) {
-        POINT out[7];
+        POINT out[11];
         size_t out_offsets[4];
         fill(out, sizeof out);
-        WITH_EACH_GROWTH_REFUSED(AT(cleaners)[k](given, 6, out, 6), is_filled(out, sizeof out), W, cleaner_names[k]);
+        WITH_EACH_GROWTH_REFUSED(AT(cleaners)[k](given + 4, 6, out, 6), is_filled(out, sizeof out), growths == 1, W, cleaner_names[k]);
+        WITH_EACH_GROWTH_REFUSED(AT(cleaners)[k](square, 4, out, 4), 1, growths == 0, W, cleaner_names[k]);
         fill(out, sizeof out);
         fill(out_offsets, sizeof out_offsets);
-        WITH_EACH_GROWTH_REFUSED(AT(batches)[k](given, 6, offsets, 3, out, 6, out_offsets, 3),
-                                 is_filled(out + 6, sizeof *out) && is_filled(out_offsets + 3, sizeof *out_offsets), W, cleaner_names[k]);
+        WITH_EACH_GROWTH_REFUSED(AT(batches)[k](given, 10, offsets, 3, out, 10, out_offsets, 3),
+                                 is_filled(out + 10, sizeof *out) && is_filled(out_offsets + 3, sizeof *out_offsets), growths == 1, W,
+                                 cleaner_names[k]);
+        WITH_EACH_GROWTH_REFUSED(AT(batches)[k](square, 4, twice, 3, out, 4, out_offsets, 3), 1, growths == 0, W, cleaner_names[k]);
     }
-    WITH_EACH_GROWTH_REFUSED(CALL(is_simple)(given, 6), 1, W, "is_simple");
-    WITH_EACH_GROWTH_REFUSED(CALL(has_no_spikes)(given, 6), 1, W, "has_no_spikes");
-    WITH_EACH_GROWTH_REFUSED(CALL(is_convex)(given, 6), 1, W, "is_convex");
-    WITH_EACH_GROWTH_REFUSED(CALL(contains)(given, 6, 1, 1), 1, W, "contains");
+    WITH_EACH_GROWTH_REFUSED(CALL(is_simple)(given, 10), 1, growths == 1, W, "is_simple");
+    WITH_EACH_GROWTH_REFUSED(CALL(has_no_spikes)(given, 10), 1, growths == 1, W, "has_no_spikes");
+    WITH_EACH_GROWTH_REFUSED(CALL(is_convex)(given, 10), 1, growths == 1, W, "is_convex");
+    WITH_EACH_GROWTH_REFUSED(CALL(contains)(given, 10, 1, 1), 1, growths == 1, W, "contains");
 }
 
 static void AT(test_width)(void) {

@@ -1,22 +1,26 @@
 //! A first call, as a repository of one's own has it.
 
-ghost use Rattle.std.specs.Prelude.{◌≡◌, IfOk, IfSome};
-ghost use Rattle.i_shape_core.specs.IntPoint.{contour_of};
+ghost use Rattle.std.specs.Prelude.{◌≡◌, None, IfOk, IfSome};
+ghost use Rattle.std.specs.List.{All};
+ghost use Rattle.i_shape_core.specs.IntPoint.{contour_of, answered, IsSafe};
+ghost use Rattle.i_shape_core.specs.Cleaners.{SimpleAnswer};
 ghost use Rattle.i_shape_core.specs.Edges.{shoelace};
 
-use i_shape::ShapeError;
 use i_shape::int::IntPoint;
 use i_shape::int::safe_range::IntSafeRange;
 use i_shape::int::shape::IntContour;
 use i_shape::int::simple::SimpleContour;
+use i_shape::{IntNumber, ShapeError};
 use std::alloc::Global;
 
 /// A contour without zero turns. `None` where it collapses, or a point isn't safe.
-pub fn cleaned(
+pub fn cleaned<I: IntNumber>(
     alloc: Global,
-    contour: &[IntPoint<i32>],
-) -> Result<Option<IntContour<i32>>, ShapeError>
-    ensures { IfOk result (λ r. IfSome r (λ kept. shoelace (contour_of (λ z. z) kept.items) ≡ shoelace (contour_of (λ z. z) contour.now))) }
+    contour: &[IntPoint<I>],
+) -> Result<Option<IntContour<I>>, ShapeError>
+    ensures answer { All (IsSafe I.width) (contour_of I.value contour.now) → IfOk result (λ r. SimpleAnswer (contour_of I.value contour.now) (answered (contour_of I.value) r)) }
+    ensures unsafe_points { (All (IsSafe I.width) (contour_of I.value contour.now) → ⊥) → IfOk result (λ r. r ≡ None) }
+    ensures area { IfOk result (λ r. IfSome r (λ kept. shoelace (contour_of I.value kept.items) ≡ shoelace (contour_of I.value contour.now))) }
 {
     if !contour.is_in_safe_range() {
         return Ok(None);

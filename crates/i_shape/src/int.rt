@@ -2,4 +2,6 @@
 
 pub mod canonical;
 
-pub use i_shape_int::int::{IntPoint, area, count, despike, path, safe_range, shape, simple};
+pub use i_shape_int::int::{
+    ContourPoint, IntPoint, area, count, despike, path, safe_range, shape, simple,
+};

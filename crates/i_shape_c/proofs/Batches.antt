@@ -6,7 +6,8 @@ use Rattle.std.proofs.lemmas.List.{take-take, drop-take, drop-drop, get_or-set_s
 use Rattle.std.proofs.lemmas.List.Elements.{All-take, All-drop}
 use Rattle.i_shape.specs.Point.{Point}
 use Rattle.i_shape.specs.IntPoint.{IsSafe}
-use Rattle.i_shape_c.specs.Cleaned.{IsCleaned, AreSafe}
+use Rattle.i_shape.specs.Written.{IsCleaned}
+use Rattle.i_shape_c.specs.Cleaned.{AreSafe}
 use Rattle.i_shape_c.specs.Batch.{offset, ring, InOrder, AreSafeContours, IsCleanedBatch}
 
 -- what stands behind a place is the same further on too

@@ -1,9 +1,9 @@
 -- The parts of a list have no more items than the list.
-use Rattle.std.proofs.Common.{◌≡◌, ℕ, ℤ, zero, suc, ◌+◌, ◌-◌, ◌≤◌, ◌<◌, List, map, length, take, drop, ap, ◌∙◌, arith}
+use Rattle.std.proofs.Common.{◌≡◌, ℕ, ℤ, zero, suc, ◌+◌, ◌-◌, ◌≤◌, ◌<◌, List, map, length, drop, ap, ◌∙◌, arith}
 use Rattle.std.specs.List.{range_with_len, sum_by}
-use Rattle.std.proofs.lemmas.List.{length-map, take-append-drop, drop-drop}
+use Rattle.std.proofs.lemmas.List.{length-map, drop-drop}
 use Rattle.std.proofs.lemmas.List.FromFn.{length-map-range_with_len}
-use Rattle.std.proofs.lemmas.List.Sums.{sum_by-append}
+use Rattle.std.proofs.lemmas.List.Sums.{sum_by-append, sum_by-take-drop}
 use Rattle.i_shape.specs.Point.{Point}
 use Rattle.i_shape.specs.IntPoint.{contour_of}
 use Rattle.i_shape.specs.IntPoints.{IntPoint}
@@ -14,10 +14,6 @@ use Rattle.i_shape_int.proofs.Fewer.{sum_by-one, sum_by-length}
 use Rattle.i_shape_c.specs.Batch.{offset, ring, InOrder}
 use Rattle.i_shape_c.specs.Polygons.{parts, polygons, AreFewer}
 use Rattle.i_shape_c.proofs.PolygonLists.{held_counts}
-
--- a number for each item: the first items and the others have that of all together
-split_sum : {X : Type 0} (f : X → ℕ) (n : ℕ) (list : List X) → sum_by f (take n list) + sum_by f (drop n list) ≡ sum_by f list
-split_sum f n list = omega (arith, sum_by-append f (take n list) (drop n list), ap (sum_by f) (take-append-drop n list))
 
 parts_from : {X : Type 0} (f : X → ℕ) (list : List X) (offsets : List ℕ) (s n : ℕ) → InOrder offsets (length offsets) → s + n < length offsets
     → sum_by f (joined (map (ring list offsets) (range_with_len s n))) ≤ sum_by f (drop (offset offsets s) list)
@@ -31,7 +27,7 @@ parts_from f list offsets s (suc n) order within =
     omega (
       arith,
       sum_by-append f (ring list offsets s) (joined (map (ring list offsets) (range_with_len (s + 1) n))),
-      split_sum f (b - a) (drop a list),
+      sum_by-take-drop f (drop a list) (b - a),
       ap (sum_by f) behind,
       parts_from f list offsets (s + 1) n order (omega (arith, within)),
     )
@@ -39,7 +35,7 @@ parts_from f list offsets s (suc n) order within =
 -- the parts between offsets have no more of it together
 parts_sum : {X : Type 0} (f : X → ℕ) (list : List X) (offsets : List ℕ) → 0 < length offsets → InOrder offsets (length offsets) → sum_by f (joined (parts list offsets)) ≤ sum_by f list
 parts_sum f list offsets some order =
-    omega (arith, parts_from f list offsets 0 (length offsets - 1) order (omega (arith, some)), split_sum f (offset offsets 0) list)
+    omega (arith, parts_from f list offsets 0 (length offsets - 1) order (omega (arith, some)), sum_by-take-drop f list (offset offsets 0))
 
 -- the answer fits where the polygons do
 pub left_fits : {P I : Type 0} (value : I → ℤ) (at : P → Point) (points : List P) (contours shapes : List ℕ) (buffer : FlatShapesBuffer I) (list : List (List (List (IntPoint I))))

@@ -4,4 +4,3 @@ pub mod Batches
 pub mod Areas
 pub mod PolygonLists
 pub mod Counts
-pub mod AllTold

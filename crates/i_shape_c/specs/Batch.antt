@@ -2,7 +2,8 @@
 use Rattle.std.specs.Prelude.{◌≡◌, ℕ, ℤ, ◌+◌, ◌-◌, ◌<◌, ◌≤◌, pos, negsuc, zero, suc, List, map, length, drop, get_or, slice_range, Option}
 use Rattle.std.specs.Int.{Width}
 use Rattle.i_shape.specs.Point.{Point}
-use Rattle.i_shape_c.specs.Cleaned.{IsCleaned, AreSafe}
+use Rattle.i_shape.specs.Written.{IsCleaned}
+use Rattle.i_shape_c.specs.Cleaned.{AreSafe}
 
 -- the offset at a place
 abbrev pub offset : List ℕ → ℕ → ℕ

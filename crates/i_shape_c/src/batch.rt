@@ -1,9 +1,9 @@
 //! The cleaning of many contours, which lie end to end in one array and are parted by offsets.
 
-ghost use Rattle.std.specs.Prelude.{◌≡◌, ◌↔◌, ◌+◌, ◌^◌, ◌<◌, ◌≤◌, length, slice_range, IsTrue, IfOk, OnErr};
+ghost use Rattle.std.specs.Prelude.{◌≡◌, ◌↔◌, ℕ, ◌+◌, ◌^◌, ◌<◌, ◌≤◌, length, slice_range, IsTrue, IfOk, OnErr};
 ghost use Rattle.i_shape.specs.IntPoint.{point_of};
 ghost use Rattle.i_shape_c.specs.Cleaned.{unsafe_code, unfit_code};
-ghost use Rattle.i_shape_c.specs.Batch.{CanClean, AreSafeContours, IsCleanedBatch, IsWithin, BatchAnswer};
+ghost use Rattle.i_shape_c.specs.Batch.{offset, InOrder, CanClean, AreSafeContours, IsCleanedBatch, IsWithin, BatchAnswer};
 
 use crate::cleaner::Cleaner;
 use crate::codes::{NO_MEMORY, UNFIT, UNSAFE};
@@ -15,7 +15,7 @@ use std::alloc::Global;
 
 /// Writes what is left of each contour to the front of `out_points`, and to `out_offsets` where it starts and ends. Answers how many
 /// points these are, or a code below 0.
-pub fn clean_contours<P: CPoint, C: Cleaner<P::Coordinate>>(
+pub fn clean_contours<P: CPoint, C: Cleaner>(
     alloc: Global,
     points: &[P],
     offsets: &[usize],
@@ -54,8 +54,8 @@ pub fn can_clean(points: usize, offsets: &[usize], out_points: usize, out_offset
     offsets[offsets.len() - 1] <= points
 }
 
-/// Cleans one contour after another. One cleaner and one copy of a contour serve them all.
-fn clean_all<P: CPoint, C: Cleaner<P::Coordinate>>(
+/// Cleans one contour after another. One cleaner serves them all.
+fn clean_all<P: CPoint, C: Cleaner>(
     alloc: Global,
     points: &[P],
     offsets: &[usize],
@@ -67,16 +67,27 @@ fn clean_all<P: CPoint, C: Cleaner<P::Coordinate>>(
     ensures ok { IfOk result (λ n. IsCleanedBatch C.gives P.Coordinate.width (λ p. point_of P.Coordinate.value (P.point p)) points.now offsets.now out_points.old out_points.new out_offsets.old out_offsets.new n) }
     ensures err { OnErr result (IsWithin (length points.now) (length offsets.now) out_points.old out_points.new out_offsets.old out_offsets.new) }
 {
-    let mut cleaner = C::new(alloc);
-    let mut copy = Vec::new(alloc);
+    let mut cleaner = C::with_room(alloc, longest(offsets));
     let mut written: usize = 0;
     out_offsets[0] = 0;
     for place in 1..offsets.len() {
         let ring = part(points, offsets[place - 1], offsets[place]);
-        written = clean_into(&mut cleaner, &mut copy, ring, out_points, written)?;
+        written = clean_into(&mut cleaner, ring, out_points, written)?;
         out_offsets[place] = written;
     }
     Ok(written)
+}
+
+/// How many points the longest contour has.
+fn longest(offsets: &[usize]) -> usize
+    requires { InOrder offsets.now (length offsets.now) }
+    ensures { (k : ℕ) → k + 1 < length offsets.now → offset offsets.now (k + 1) ≤ offset offsets.now k + result }
+{
+    let mut most: usize = 0;
+    for place in 1..offsets.len() {
+        most = most.max(offsets[place] - offsets[place - 1]);
+    }
+    most
 }
 
 /// The points from one place to another.

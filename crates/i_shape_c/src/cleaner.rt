@@ -1,45 +1,45 @@
 //! The three cleaners, of a contour and of a list of polygons.
 
-ghost use Rattle.std.specs.Prelude.{◌≤◌, List, length, Option, Some, IfOk, IfSome};
+ghost use Rattle.std.specs.Prelude.{◌≡◌, ◌≤◌, List, length, Option, Some, IfOk, OnErr};
 ghost use Rattle.std.specs.List.{All};
 ghost use Rattle.std.proofs.Common.{subst};
 ghost use Rattle.i_shape.specs.Point.{Point};
-ghost use Rattle.i_shape.specs.IntPoint.{contour_of, answered, IsSafe};
-ghost use Rattle.i_shape.specs.Cleaners.{SimpleAnswer, SpikelessAnswer, DespikeAnswer, KeptAnswer};
+ghost use Rattle.i_shape.specs.IntPoint.{contour_of, IsSafe};
+ghost use Rattle.i_shape.specs.Cleaners.{SimpleAnswer, SpikelessAnswer, DespikeAnswer};
 ghost use Rattle.i_shape.specs.Canonical.{CanonicalAnswer};
 ghost use Rattle.i_shape.specs.CanonicalShapes.{ListForm};
 ghost use Rattle.i_shape.specs.ShapeAnswers.{ListClean};
 ghost use Rattle.i_shape.specs.ShapeLists.{shapes_of, IsSafeList};
-ghost use Rattle.i_shape_c.specs.Cleaned.{IsFewer};
+ghost use Rattle.i_shape.specs.Written.{IsWritten};
 ghost use Rattle.i_shape_c.specs.Polygons.{AreFewer};
 ghost use Rattle.i_shape_core.proofs.Ends.{reach_shrinks};
 ghost use Rattle.i_shape_core.proofs.Rotations.{rotation_length};
 ghost use Rattle.i_shape_int.proofs.Fewer.{list_fewer, despike_fewer};
 ghost use Rattle.i_shape.proofs.FewerForms.{forms_fewer};
 
+use i_shape::int::ContourPoint;
 use i_shape::int::canonical::CanonicalShapes;
-use i_shape::int::despike::{DeSpikeContour, DeSpikeShapes};
-use i_shape::int::shape::{IntContour, IntShapes};
+use i_shape::int::despike::{ContourDeSpiker, DeSpikeShapes};
+use i_shape::int::shape::IntShapes;
 use i_shape::int::simple::{ContourSimplifier, SimpleShapes};
 use i_shape::{IntNumber, ShapeError};
 use std::alloc::Global;
 
-/// Cleans one contour after another, and keeps what memory it can from one to the next.
-pub trait Cleaner<I: IntNumber>: Drop {
+/// Cleans one contour after another, and keeps its memory from one to the next.
+pub trait Cleaner: Drop {
     /// Relates a contour to what is left of it, or to none where it collapses.
     ghost gives: { List Point → Option (List Point) → Type 0 };
 
-    fn new(alloc: Global) -> Self;
+    /// A cleaner of contours of `room` points at the most, which takes memory once.
+    fn with_room(alloc: Global, room: usize) -> Self;
 
-    /// What is left of the contour, `None` where it collapses.
-    fn clean(&mut self, contour: &IntContour<I>) -> Result<Option<IntContour<I>>, ShapeError>
-        requires { All (IsSafe I.width) (contour_of I.value contour.now.items) }
-        ensures answer { IfOk result (λ r. gives (contour_of I.value contour.now.items) (answered (contour_of I.value) r)) }
-        ensures kept { IfOk result (λ r. KeptAnswer (contour_of I.value contour.now.items) (answered (contour_of I.value) r)) }
-        ensures safe { IfOk result (λ r. IfSome r (λ kept. All (IsSafe I.width) (contour_of I.value kept.items))) };
-
-    /// At least three points are left, and no more than there were.
-    ghost fewer: { (c e : List Point) → gives c (Some e) → IsFewer c e };
+    /// Writes what is left of the contour to the front of `out`, and answers how many points that are, 0 where it collapses.
+    fn clean<P: ContourPoint>(&mut self, contour: &[P], out: &mut [P]) -> Result<usize, ShapeError>
+        requires points_safe { All (IsSafe P.Coordinate.width) (contour_of P.Coordinate.value (P.points contour.now)) }
+        requires room { length contour.now ≤ length out.old }
+        ensures written { IfOk result (λ n. IsWritten gives P.Coordinate.width (λ list. contour_of P.Coordinate.value (P.points list)) contour.now out.old out.new n) }
+        ensures len { length out.new ≡ length out.old }
+        ensures err { OnErr result (out.new ≡ out.old) };
 }
 
 /// Cleans a list of polygons.
@@ -62,19 +62,21 @@ pub struct Simplifier {
     simplifier: ContourSimplifier,
 }
 
-impl<I: IntNumber> Cleaner<I> for Simplifier {
+impl Cleaner for Simplifier {
     ghost gives = { SimpleAnswer };
 
-    ghost fewer = { λ c e one. record { enough = one.enough; fewer = reach_shrinks one.ended.reached } };
-
-    fn new(alloc: Global) -> Simplifier {
+    fn with_room(alloc: Global, room: usize) -> Simplifier {
         Simplifier {
-            simplifier: ContourSimplifier::new(alloc),
+            simplifier: ContourSimplifier::with_room(alloc, room),
         }
     }
 
-    fn clean(&mut self, contour: &IntContour<I>) -> Result<Option<IntContour<I>>, ShapeError> {
-        self.simplifier.simplify_contour(contour.as_slice())
+    fn clean<P: ContourPoint>(
+        &mut self,
+        contour: &[P],
+        out: &mut [P],
+    ) -> Result<usize, ShapeError> {
+        self.simplifier.simplify_into(contour, out)
     }
 }
 
@@ -91,20 +93,24 @@ impl<I: IntNumber> ShapesCleaner<I> for Simplifier {
 /// Removes the points at which the way turns back or stands still.
 #[derive(Drop)]
 pub struct DeSpiker {
-    alloc: Global,
+    de_spiker: ContourDeSpiker,
 }
 
-impl<I: IntNumber> Cleaner<I> for DeSpiker {
+impl Cleaner for DeSpiker {
     ghost gives = { SpikelessAnswer };
 
-    ghost fewer = { λ c e one. record { enough = one.enough; fewer = reach_shrinks one.ended.reached } };
-
-    fn new(alloc: Global) -> DeSpiker {
-        DeSpiker { alloc }
+    fn with_room(alloc: Global, room: usize) -> DeSpiker {
+        DeSpiker {
+            de_spiker: ContourDeSpiker::with_room(alloc, room),
+        }
     }
 
-    fn clean(&mut self, contour: &IntContour<I>) -> Result<Option<IntContour<I>>, ShapeError> {
-        contour.despiked_contour(self.alloc)
+    fn clean<P: ContourPoint>(
+        &mut self,
+        contour: &[P],
+        out: &mut [P],
+    ) -> Result<usize, ShapeError> {
+        self.de_spiker.despike_into(contour, out)
     }
 }
 
@@ -124,19 +130,21 @@ pub struct Canonicalizer {
     simplifier: ContourSimplifier,
 }
 
-impl<I: IntNumber> Cleaner<I> for Canonicalizer {
+impl Cleaner for Canonicalizer {
     ghost gives = { CanonicalAnswer };
 
-    ghost fewer = { λ c e l. let same = rotation_length l.least.rotation in record { enough = subst (λ n. 3 ≤ n) same l.ends.enough; fewer = subst (λ n. n ≤ length c) same (reach_shrinks l.ends.ended.reached) } };
-
-    fn new(alloc: Global) -> Canonicalizer {
+    fn with_room(alloc: Global, room: usize) -> Canonicalizer {
         Canonicalizer {
-            simplifier: ContourSimplifier::new(alloc),
+            simplifier: ContourSimplifier::with_room(alloc, room),
         }
     }
 
-    fn clean(&mut self, contour: &IntContour<I>) -> Result<Option<IntContour<I>>, ShapeError> {
-        self.simplifier.canonical(contour.as_slice())
+    fn clean<P: ContourPoint>(
+        &mut self,
+        contour: &[P],
+        out: &mut [P],
+    ) -> Result<usize, ShapeError> {
+        self.simplifier.canonical_into(contour, out)
     }
 }
 

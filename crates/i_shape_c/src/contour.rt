@@ -2,22 +2,18 @@
 
 ghost use Rattle.std.specs.Prelude.{◌≡◌, ◌↔◌, ◌+◌, ◌^◌, ◌<◌, ◌≤◌, length, map, take, drop, slice_range, IfOk, OnErr};
 ghost use Rattle.i_shape.specs.IntPoint.{point_of};
-ghost use Rattle.i_shape_c.specs.Cleaned.{AreSafe, IsCleaned, CleanAnswer, unsafe_code, unfit_code};
+ghost use Rattle.i_shape.specs.Written.{IsCleaned};
+ghost use Rattle.i_shape_c.specs.Cleaned.{AreSafe, CleanAnswer, unsafe_code, unfit_code};
 
 use crate::cleaner::Cleaner;
 use crate::codes::{NO_MEMORY, UNFIT, UNSAFE};
-use crate::lists::{are_safe, copy_in, copy_out};
+use crate::lists::are_safe;
 use crate::point::CPoint;
 use i_shape::ShapeError;
-use i_shape::int::shape::IntContour;
 use std::alloc::Global;
 
 /// Writes what is left of the points to the front of `out`, and answers how many these are, or a code below 0.
-pub fn clean_contour<P: CPoint, C: Cleaner<P::Coordinate>>(
-    alloc: Global,
-    points: &[P],
-    out: &mut [P],
-) -> isize
+pub fn clean_contour<P: CPoint, C: Cleaner>(alloc: Global, points: &[P], out: &mut [P]) -> isize
     requires { length out.old < 2 ^ 63 }
     ensures answer { CleanAnswer C.gives P.Coordinate.width (λ p. point_of P.Coordinate.value (P.point p)) points.now out.old out.new result }
     ensures unfit { result ≡ unfit_code ↔ (length out.old < length points.now) }
@@ -29,18 +25,16 @@ pub fn clean_contour<P: CPoint, C: Cleaner<P::Coordinate>>(
     if !are_safe(points) {
         return UNSAFE;
     }
-    let mut cleaner = C::new(alloc);
-    let mut copy = Vec::new(alloc);
-    match clean_into(&mut cleaner, &mut copy, points, out, 0) {
+    let mut cleaner = C::with_room(alloc, points.len());
+    match clean_into(&mut cleaner, points, out, 0) {
         Ok(end) => end as isize,
         Err(_) => NO_MEMORY,
     }
 }
 
 /// Writes what is left of the points from place `at` on, and answers where it ends.
-pub fn clean_into<P: CPoint, C: Cleaner<P::Coordinate>>(
+pub fn clean_into<P: CPoint, C: Cleaner>(
     cleaner: &mut C,
-    copy: &mut IntContour<P::Coordinate>,
     given: &[P],
     out: &mut [P],
     at: usize,
@@ -54,12 +48,6 @@ pub fn clean_into<P: CPoint, C: Cleaner<P::Coordinate>>(
     ensures len { length out.new ≡ length out.old }
     ensures err { OnErr result (out.new ≡ out.old) }
 {
-    copy_in(given, copy)?;
-    match cleaner.clean(copy)? {
-        None => Ok(at),
-        Some(kept) => {
-            copy_out(kept.as_slice(), out, at);
-            Ok(at + kept.len())
-        }
-    }
+    let count = cleaner.clean(given, &mut out[at..])?;
+    Ok(at + count)
 }

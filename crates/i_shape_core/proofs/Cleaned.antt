@@ -3,6 +3,9 @@ use Rattle.std.proofs.Common.{◌≡◌, ℕ, ◌<◌, ◌≤◌, List, [], ◌�
 use Rattle.std.specs.List.{All}
 use Rattle.std.specs.Option.{IfSome}
 use Rattle.std.proofs.lemmas.Bool.{cases_lt}
+use Rattle.std.proofs.lemmas.Result.{IfOk-weaker}
+use Rattle.std.specs.Result.{IfOk}
+use Rattle.std.specs.declared.result.Result.{Result}
 use Rattle.i_shape_core.specs.Point.{Point, IsZeroTurn, IsBack}
 use Rattle.i_shape_core.specs.Contour.{Test, Reach, stay, End, IsCollapsed, IsSimple, Sublist}
 use Rattle.i_shape_core.specs.Walks.{WalkAnswer}
@@ -94,3 +97,12 @@ spikeless_answer c (Some d) visits w = record {
 pub kept_spikeless : (c : List Point) (r : Option (List Point)) (visits : ℕ) → WalkAnswer IsBack c r visits → KeptAnswer c r
 kept_spikeless c None visits w = flat c w.rest (reach_by_weaker straightens.weaker w.reached) w.few
 kept_spikeless c (Some d) visits w = kept c d (reach_by_weaker straightens.weaker w.ended.reached)
+
+-- a contour without a removable vertex is found after one visit of each
+pub whole_found : (P : Test) (c : List Point) (visits : ℕ) → End P c c → 3 ≤ length c → visits ≡ length c → WalkAnswer P c (Some c) visits
+whole_found P c visits ended enough all = record { ended = ended; enough = enough; least = omega (arith, all); most = omega (arith, all) }
+
+-- an answer that keeps what a walk has left answers what the walk does
+pub walk_kept : {X E : Type 0} (P : Test) (c : List Point) (shown : X → Option (List Point)) (count : X → ℕ) (result : Result X E) (left : Option (List Point)) (visits : ℕ)
+    → IfOk result (λ r. (shown r ≡ left) × (count r ≡ visits)) → WalkAnswer P c left visits → IfOk result (λ r. WalkAnswer P c (shown r) (count r))
+walk_kept P c shown count result left visits kept answer = IfOk-weaker result _ _ (λ r w. rw (w.0, w.1) answer) kept

@@ -7,6 +7,9 @@ pub mod Coordinates
 pub mod Turns
 pub mod Back
 pub mod Contours
+pub mod PointLists
+-- loops over a list
+pub mod AllTold
 -- removals, for any test of three points
 pub mod TestLaws
 pub mod Lists
@@ -44,11 +47,11 @@ pub mod Around
 pub mod Spikes
 pub mod LastEdge
 pub mod Answered
+pub mod Written
 -- measures
 pub mod Compared
 pub mod Bends
 pub mod SummedArea
-pub mod SliceArea
 pub mod AreaByPlaces
 -- the definitions at contours that are written out
 pub mod Examples

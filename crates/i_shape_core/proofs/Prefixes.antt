@@ -1,7 +1,8 @@
 -- The walk's stack where it holds the first places of the contour, one after the other.
-use Rattle.std.proofs.Common.{◌≡◌, ℕ, zero, suc, ◌+◌, ◌-◌, ◌<◌, ◌≤◌, ◌↔◌, List, [], ◌∷◌, ◌++◌, take, drop, length, refl, ap, subst, sym, ◌∙◌, arith}
+use Rattle.std.proofs.Common.{◌≡◌, ℕ, suc, ◌+◌, ◌-◌, ◌<◌, ◌≤◌, ◌↔◌, List, [], ◌∷◌, ◌++◌, take, drop, length, refl, ap, subst, sym, ◌∙◌, arith}
 use Rattle.std.specs.List.{range_with_len}
-use Rattle.std.proofs.lemmas.List.FromFn.{length-range_with_len, get_or-range_with_len}
+use Rattle.std.proofs.lemmas.List.{map-id}
+use Rattle.std.proofs.lemmas.List.FromFn.{length-range_with_len, get_or-range_with_len, take-map-range_with_len}
 use Rattle.i_shape_core.specs.Point.{Point}
 use Rattle.i_shape_core.specs.Contour.{Test, End, point_at}
 use Rattle.i_shape_core.specs.Walks.{IsStacked, IsWalked, stacked_point}
@@ -16,12 +17,7 @@ range_more xs ys a n m k e f g h =
     h ∙ (ap (λ (r : List ℕ). r ++ k ∷ []) e ∙ (ap (λ (i : ℕ). range_with_len a n ++ i ∷ []) (sym f) ∙ (sym (range_push a n) ∙ ap (range_with_len a) (sym s))))
 
 take_range : (k n a : ℕ) → k ≤ n → take k (range_with_len a n) ≡ range_with_len a k
-take_range zero n a h = refl
-take_range (suc k) zero a h = absurd (omega arith)
-take_range (suc k) (suc n) a h = ap (λ (r : List ℕ). a ∷ r) (take_range k n (a + 1) (omega arith))
-
-drop_range : (n a : ℕ) → drop 1 (range_with_len a (suc n)) ≡ range_with_len (a + 1) n
-drop_range n a = refl
+take_range k n a h = sym (ap (take k) (map-id (range_with_len a n))) ∙ take-map-range_with_len (λ (i : ℕ). i) a n k h ∙ map-id (range_with_len a k)
 
 module _ (P : Test) (c : List Point) where
   stacked_at : (n k : ℕ) → k < n → stacked_point c (range_with_len 0 n) k ≡ point_at c k
@@ -83,7 +79,7 @@ module _ (P : Test) (c : List Point) where
       record {
         stacked = drop-first P c (range_with_len 0 (length c)) (range_with_len 1 (n - 1)) m s (omega arith)
             ((on_stack (length c) (m + 2) 0 1 (n - 1) 0 1 (omega arith) (omega arith) (omega arith) (omega arith) refl refl).1 holds)
-            (sym (ap (λ (k : ℕ). drop 1 (range_with_len 0 k)) d ∙ drop_range (n - 1) 0));
+            (sym (ap (λ (k : ℕ). drop 1 (range_with_len 0 k)) d));
         short = omega arith;
         most = omega arith;
         least = omega arith;

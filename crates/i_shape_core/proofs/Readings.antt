@@ -1,18 +1,22 @@
 -- What the search reads.
-use Rattle.std.proofs.Common.{Fits, not, false, ◌≡◌, ◌⊎◌, ℕ, ◌+◌, ◌-◌, ◌<◌, ◌≤◌, ℤ, List, ◌++◌, map, take, drop, get_or, length, inl, inr, refl, sym, ap, subst, subst₂, ◌∙◌, arith}
+use Rattle.std.proofs.Common.{Fits, not, false, ◌≡◌, ◌⊎◌, ℕ, ◌+◌, ◌-◌, ◌<◌, ◌≤◌, ℤ, List, ◌++◌, take, drop, get_or, length, inl, inr, refl, sym, ap, subst, subst₂, ◌∙◌, arith}
 use Rattle.std.specs.Bool.{◌==◌}
 use Rattle.std.specs.Int.{w128}
 use Rattle.std.specs.Ordering.{MatchOrdering, ordering_index}
 use Rattle.std.specs.declared.cmp.Ordering.{Ordering}
 use Rattle.std.specs.declared.cmp.Ordering.TheVariants.{Less, Equal, Greater}
-use Rattle.std.proofs.lemmas.List.{get_or-map, map-append, drop-map, take-map}
 use Rattle.std.proofs.lemmas.Bool.{cases_lt}
-use Rattle.i_shape_core.specs.Point.{Point, origin}
+use Rattle.std.specs.Global.{Vec}
+use Rattle.std.specs.Vec.{with_items}
+use Rattle.std.proofs.lemmas.List.{with_items_is}
+use Rattle.i_shape_core.specs.Point.{Point}
 use Rattle.i_shape_core.specs.Contour.{point_at}
 use Rattle.i_shape_core.specs.Walks.{point_round, Agree, Precedes, IsOrder}
 use Rattle.i_shape_core.specs.Canonical.{IsBefore, IsLeast, started_at}
 use Rattle.i_shape_core.specs.IntPoint.{point_of, contour_of}
 use Rattle.i_shape_core.specs.declared.point.IntPoint.{IntPoint}
+use Rattle.i_shape_core.proofs.Contours.{read-point}
+use Rattle.i_shape_core.proofs.PointLists.{map-turned}
 use Rattle.i_shape_core.proofs.Rounds.{round-first, round-place}
 
 -- rotations of which the first points are compared alone
@@ -49,11 +53,10 @@ pub count_fits : (count shown : ℕ) → count ≡ shown → shown < 34028236692
 count_fits count shown e room = omega arith
 
 -- how two points that were read are ordered
-pub read-order : {I : Type 0} (value : I → ℤ) (xs points : List (IntPoint I)) (i j : ℕ) (p q : IntPoint I) (order : Ordering) → points ≡ xs → i < length xs → j < length xs
-    → MatchOrdering order (IsBefore (point_of value (get_or points i p)) (point_of value (get_or points j q))) (point_of value (get_or points i p) ≡ point_of value (get_or points j q)) (IsBefore (point_of value (get_or points j q)) (point_of value (get_or points i p)))
-    → IsOrder (contour_of value xs) i j order
-read-order value xs points i j p q order same wi wj told =
-    subst₂ (λ (a b : Point). MatchOrdering order (IsBefore a b) (a ≡ b) (IsBefore b a)) (sym (get_or-map (point_of value) xs i p origin wi)) (sym (get_or-map (point_of value) xs j q origin wj)) (rw same at told)
+pub read-order : {I : Type 0} (value : I → ℤ) (xs : List (IntPoint I)) (i j : ℕ) (p q : IntPoint I) (order : Ordering) → i < length xs → j < length xs → p ≡ get_or xs i p → q ≡ get_or xs j q
+    → MatchOrdering order (IsBefore (point_of value p) (point_of value q)) (point_of value p ≡ point_of value q) (IsBefore (point_of value q) (point_of value p)) → IsOrder (contour_of value xs) i j order
+read-order value xs i j p q order wi wj first second told =
+    subst₂ (λ (a b : Point). MatchOrdering order (IsBefore a b) (a ≡ b) (IsBefore b a)) (read-point value xs i p wi first) (read-point value xs j q wj second) told
 
 -- place a is that of step m from place s, where n places go round twice
 abbrev pub IsStep : ℕ → ℕ → ℕ → ℕ → Type 0
@@ -93,11 +96,13 @@ precedes-on c i j m a b k ours theirs wa wb wm before run h = record {
 }
 
 -- turning the program's list turns the contour
-pub contour-started : {I : Type 0} (value : I → ℤ) (xs ys zs : List (IntPoint I)) (k : ℕ) → ys ≡ xs → zs ≡ drop k xs ++ take k xs
-    → IsLeast (contour_of value ys) (started_at (contour_of value ys) k) → IsLeast (contour_of value xs) (contour_of value zs)
-contour-started {I} value xs ys zs k same e least =
-    let f : IntPoint I → Point = point_of value in
-    let c : List Point = contour_of value xs in
-    let h : contour_of value zs ≡ started_at (contour_of value xs) k =
-    ap (map f) e ∙ map-append f (drop k xs) (take k xs) ∙ ap (λ (l : List Point). l ++ map f (take k xs)) (sym (drop-map f k xs)) ∙ ap (λ (l : List Point). drop k c ++ l) (sym (take-map f k xs)) in
-    subst (IsLeast c) (sym h) (subst (λ (l : List (IntPoint I)). IsLeast (contour_of value l) (started_at (contour_of value l) k)) same least)
+pub contour-started : {I : Type 0} (value : I → ℤ) (xs zs : List (IntPoint I)) (k : ℕ) → zs ≡ drop k xs ++ take k xs
+    → IsLeast (contour_of value xs) (started_at (contour_of value xs) k) → IsLeast (contour_of value xs) (contour_of value zs)
+contour-started {I} value xs zs k e least =
+    subst (IsLeast (contour_of value xs)) (sym (ap (contour_of value) e ∙ map-turned (point_of value) k xs)) least
+
+-- a contour whose slice is turned to its least rotation is turned to it
+pub least-written : {I : Type 0} (value : I → ℤ) (v : Vec (IntPoint I)) (read ws : List (IntPoint I)) → read ≡ v.items → length ws ≡ length read
+    → IsLeast (contour_of value read) (contour_of value ws) → IsLeast (contour_of value v.items) (contour_of value (with_items v ws).items)
+least-written value v read ws same long least =
+    rw (with_items_is v ws (long ∙ ap length same ∙ sym v.ok.0)) (rw same at least)

@@ -1,7 +1,7 @@
 -- Twice the area as a walk sums it that starts at the first point, and wraps each sum.
-use Rattle.std.proofs.Common.{◌≡◌, List, [], ◌∷◌, ◌++◌, ℤ, pos, ◌+ℤ◌, FitsSigned, refl, sym, ap, ◌∙◌, arith}
+use Rattle.std.proofs.Common.{◌≡◌, List, [], ◌∷◌, ◌++◌, ℤ, pos, ◌+ℤ◌, ◌<ℤ◌, FitsSigned, int_div, refl, sym, ap, subst, ◌∙◌, arith}
 use Rattle.std.specs.Int.{Width, int_wrap}
-use Rattle.std.proofs.lemmas.Int.{ints, int_wrap-add_left, int_wrap_fits}
+use Rattle.std.proofs.lemmas.Int.{ints, int_wrap-add_left, int_wrap_fits, SFits-int_wrap, quot_fits}
 use Rattle.std.proofs.lemmas.List.{map-append}
 use Rattle.std.proofs.lemmas.Nat.{pow_pos}
 use Rattle.i_shape_core.specs.Widths.{hbits}
@@ -46,6 +46,12 @@ wrapped-zero w z e =
 -- wraps each time
 pub wrapped-more : (w : Width) (before after s t : ℤ) → before ≡ int_wrap w s → after ≡ int_wrap w (before +ℤ t) → after ≡ int_wrap w (s +ℤ t)
 wrapped-more w before after s t e f = f ∙ ap (λ (z : ℤ). int_wrap w (z +ℤ t)) e ∙ int_wrap-add_left w s t
+
+-- half of a number that was wrapped fits
+pub half-fits : (w : Width) (z two s : ℤ) → z ≡ int_wrap w s → two ≡ pos 2 → FitsSigned w (int_div z two)
+half-fits w z two s e f =
+    let positive : pos 0 <ℤ two = subst (λ (n : ℤ). pos 0 <ℤ n) (sym f) (omega (arith, ints)) in
+    quot_fits w z two (subst (FitsSigned w) (sym e) (SFits-int_wrap w s)) positive
 
 -- ---- the walk: what it has summed up at the point `previous`, after the first point and those in `taken`
 pub record IsSummed {I : Type 0} (value : I → ℤ) (w : Width) (first : IntPoint I) (taken : List (IntPoint I)) (previous : IntPoint I) (area : ℤ) : Type 0 where

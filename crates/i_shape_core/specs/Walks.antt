@@ -167,3 +167,8 @@ pub record Precedes (c : List Point) (i j k : ℕ) : Type 0 where
 -- the points of c from place j on and before place k come after p
 abbrev pub AreAfter : List Point → Point → ℕ → ℕ → Type 0
 AreAfter c p j k = (s : ℕ) → j ≤ s → s < k → IsBefore p (point_at c s)
+
+-- one list is the other, turned so that it starts at a place
+pub record IsTurned {A : Type 0} (before after : List A) : Type 0 where
+  pub place : ℕ
+  pub starts_there : after ≡ drop place before ++ take place before

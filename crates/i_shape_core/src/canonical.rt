@@ -1,19 +1,20 @@
 //! The canonical form of a contour: the least rotation of what is left of it without zero turns.
 
-ghost use Rattle.std.specs.Prelude.{◌≡◌, ◌⊎◌, ℕ, ◌+◌, ◌-◌, ◌*◌, ◌<◌, ◌≤◌, min, max, length, vec_len, IfOk, IsOkUnless};
+ghost use Rattle.std.specs.Prelude.{◌≡◌, ◌⊎◌, ℕ, ◌+◌, ◌-◌, ◌*◌, ◌<◌, ◌≤◌, min, max, length, IfOk, OnErr, IsOkUnless};
 ghost use Rattle.std.specs.Option.{IfSome};
 ghost use Rattle.std.specs.List.{All};
 ghost use Rattle.std.specs.Ordering.{MatchOrdering};
 ghost use Rattle.i_shape_core.specs.IntPoint.{contour_of, IsSafe, answered};
 ghost use Rattle.i_shape_core.specs.Contour.{point_at};
 ghost use Rattle.i_shape_core.specs.Cleaners.{KeptAnswer};
+ghost use Rattle.i_shape_core.specs.Written.{IsWritten};
 ghost use Rattle.i_shape_core.specs.Canonical.{IsBefore, IsLeast, CanonicalAnswer, started_at};
-ghost use Rattle.i_shape_core.specs.Walks.{IsOrder, Agree, Precedes, AreAfter};
+ghost use Rattle.i_shape_core.specs.Walks.{IsOrder, Agree, Precedes, AreAfter, IsTurned};
 
 use crate::comparer::Comparer;
 use crate::error::ShapeError;
 use crate::number::IntNumber;
-use crate::point::{IntContour, IntPoint};
+use crate::point::{ContourPoint, IntContour, IntPoint};
 use crate::simplifier::ContourSimplifier;
 use std::cmp::Ordering;
 
@@ -34,18 +35,52 @@ impl ContourSimplifier {
         let Some(mut kept) = self.simplify_contour(contour)? else {
             return Ok(None);
         };
-        turn_to_least(&mut kept);
+        turn_to_least(kept.as_mut_slice());
         Ok(Some(kept))
+    }
+
+    /// The same, for points of any type, written to the front of `out`: answers how many points are left, 0 where the contour
+    /// collapses. What stands behind them stays as it was, and so does all of `out` where there is an error. Memory is taken
+    /// for the places of a contour that is not clean alone, and is kept. The only error is `OutOfMemory`.
+    pub fn canonical_into<P: ContourPoint>(
+        &mut self,
+        contour: &[P],
+        out: &mut [P],
+    ) -> Result<usize, ShapeError>
+        requires points_safe { All (IsSafe P.Coordinate.width) (contour_of P.Coordinate.value (P.points contour.now)) }
+        requires room { length contour.now ≤ length out.old }
+        ensures written { IfOk result (λ n. IsWritten CanonicalAnswer P.Coordinate.width (λ list. contour_of P.Coordinate.value (P.points list)) contour.now out.old out.new n) }
+        ensures len { length out.new ≡ length out.old }
+        ensures err { OnErr result (out.new ≡ out.old) }
+        ensures memory { IsOkUnless result ShapeError.OutOfMemory }
+    {
+        let count = self.simplify_into(contour, out)?;
+        if count > 0 {
+            turn_to_least(&mut out[..count]);
+        }
+        Ok(count)
     }
 }
 
 /// Turns a contour in place to its least rotation.
-pub(crate) fn turn_to_least<I: IntNumber>(contour: &mut IntContour<I>)
-    requires { 0 < vec_len contour.old }
-    ensures { IsLeast (contour_of I.value contour.old.items) (contour_of I.value contour.new.items) }
+pub(crate) fn turn_to_least<P: ContourPoint>(contour: &mut [P])
+    requires { 0 < length contour.old }
+    ensures least { IsLeast (contour_of P.Coordinate.value (P.points contour.old)) (contour_of P.Coordinate.value (P.points contour.new)) }
+    ensures turned { IsTurned contour.old contour.new }
+    ensures len { length contour.new ≡ length contour.old }
 {
-    let (start, _comparisons) = least_start_counted(contour.as_slice());
+    let start = least_start(contour);
     contour.rotate_left(start);
+}
+
+/// Where the least rotation of a contour starts.
+pub(crate) fn least_start<P: ContourPoint>(contour: &[P]) -> usize
+    requires { 0 < length contour.now }
+    ensures within { result < length contour.now }
+    ensures least { let c = contour_of P.Coordinate.value (P.points contour.now) in IsLeast c (started_at c result) }
+{
+    let mut comparer = Comparer::new(contour);
+    search_starts(&mut comparer)
 }
 
 /// Where the least rotation of a contour starts, and how many pairs of points were compared: at least one for each point
@@ -66,11 +101,11 @@ pub fn least_start_counted<I: IntNumber>(contour: &[IntPoint<I>]) -> (usize, u12
 }
 
 /// Where the least rotation starts. Of the contour nothing has been compared before.
-fn search_starts<I: IntNumber>(comparer: &mut Comparer<'_, I>) -> usize
+fn search_starts<P: ContourPoint>(comparer: &mut Comparer<'_, P>) -> usize
     requires some { 0 < length comparer.old.contour }
     requires fresh { comparer.old.comparisons ≡ 0 }
     ensures within { result < length comparer.old.contour }
-    ensures least { let c = contour_of I.value comparer.old.contour in IsLeast c (started_at c result) }
+    ensures least { let c = contour_of P.Coordinate.value comparer.old.contour in IsLeast c (started_at c result) }
     ensures fewest { length comparer.old.contour - 1 ≤ comparer.new.comparisons }
     ensures most { comparer.new.comparisons ≤ 3 * length comparer.old.contour - 4 }
 {
@@ -101,8 +136,8 @@ fn search_starts<I: IntNumber>(comparer: &mut Comparer<'_, I>) -> usize
 }
 
 /// The first place from `from` on whose point doesn't come after that at `kept`, and how the two are ordered; or the end.
-fn next_rival<I: IntNumber>(
-    comparer: &mut Comparer<'_, I>,
+fn next_rival<P: ContourPoint>(
+    comparer: &mut Comparer<'_, P>,
     kept: usize,
     from: usize,
 ) -> (usize, Ordering)
@@ -111,8 +146,8 @@ fn next_rival<I: IntNumber>(
     requires room { comparer.old.comparisons + length comparer.old.contour ≤ u128.MAX }
     ensures contour { comparer.new.contour ≡ comparer.old.contour }
     ensures within { (from ≤ result.0) × (result.0 ≤ length comparer.old.contour) }
-    ensures passed { let c = contour_of I.value comparer.old.contour in AreAfter c (point_at c kept) from result.0 }
-    ensures first { result.0 < length comparer.old.contour → IsOrder (contour_of I.value comparer.old.contour) kept result.0 result.1 }
+    ensures passed { let c = contour_of P.Coordinate.value comparer.old.contour in AreAfter c (point_at c kept) from result.0 }
+    ensures first { result.0 < length comparer.old.contour → IsOrder (contour_of P.Coordinate.value comparer.old.contour) kept result.0 result.1 }
     ensures counted { comparer.new.comparisons + from ≡ comparer.old.comparisons + min (result.0 + 1) (length comparer.old.contour) }
 {
     for place in from..comparer.len() {
@@ -126,18 +161,18 @@ fn next_rival<I: IntNumber>(
 
 /// How many pairs of points were compared to order the rotations that start at `kept` and at `rival`, and the order.
 /// The first pair was compared before; `first` is its order.
-fn compare_starts<I: IntNumber>(
-    comparer: &mut Comparer<'_, I>,
+fn compare_starts<P: ContourPoint>(
+    comparer: &mut Comparer<'_, P>,
     kept: usize,
     rival: usize,
     first: Ordering,
 ) -> (usize, Ordering)
     requires kept_within { kept < length comparer.old.contour }
     requires rival_within { rival < length comparer.old.contour }
-    requires first { IsOrder (contour_of I.value comparer.old.contour) kept rival first }
+    requires first { IsOrder (contour_of P.Coordinate.value comparer.old.contour) kept rival first }
     requires room { comparer.old.comparisons + length comparer.old.contour ≤ u128.MAX }
     ensures contour { comparer.new.contour ≡ comparer.old.contour }
-    ensures order { let c = contour_of I.value comparer.old.contour in MatchOrdering result.1 (Precedes c kept rival result.0) (Agree c kept rival (length comparer.old.contour) × (result.0 ≡ length comparer.old.contour)) (Precedes c rival kept result.0) }
+    ensures order { let c = contour_of P.Coordinate.value comparer.old.contour in MatchOrdering result.1 (Precedes c kept rival result.0) (Agree c kept rival (length comparer.old.contour) × (result.0 ≡ length comparer.old.contour)) (Precedes c rival kept result.0) }
     ensures counted { comparer.new.comparisons + 1 ≡ comparer.old.comparisons + result.0 }
 {
     if first != Ordering::Equal {
@@ -160,8 +195,8 @@ fn compare_starts<I: IntNumber>(
 
 /// How many pairs of points from two places on agree, of the first `most` and before the contour ends, and how the next one
 /// is ordered.
-fn compare_runs<I: IntNumber>(
-    comparer: &mut Comparer<'_, I>,
+fn compare_runs<P: ContourPoint>(
+    comparer: &mut Comparer<'_, P>,
     ours: usize,
     theirs: usize,
     most: usize,
@@ -170,8 +205,8 @@ fn compare_runs<I: IntNumber>(
     requires theirs_within { theirs < length comparer.old.contour }
     requires room { comparer.old.comparisons + most ≤ u128.MAX }
     ensures contour { comparer.new.contour ≡ comparer.old.contour }
-    ensures agree { let c = contour_of I.value comparer.old.contour in (t : ℕ) → t < result.0 → point_at c (ours + t) ≡ point_at c (theirs + t) }
-    ensures order { let c = contour_of I.value comparer.old.contour in let k = result.0 in let room = min (length comparer.old.contour - max ours theirs) most in MatchOrdering result.1 ((k < room) × IsBefore (point_at c (ours + k)) (point_at c (theirs + k))) (k ≡ room) ((k < room) × IsBefore (point_at c (theirs + k)) (point_at c (ours + k))) }
+    ensures agree { let c = contour_of P.Coordinate.value comparer.old.contour in (t : ℕ) → t < result.0 → point_at c (ours + t) ≡ point_at c (theirs + t) }
+    ensures order { let c = contour_of P.Coordinate.value comparer.old.contour in let k = result.0 in let room = min (length comparer.old.contour - max ours theirs) most in MatchOrdering result.1 ((k < room) × IsBefore (point_at c (ours + k)) (point_at c (theirs + k))) (k ≡ room) ((k < room) × IsBefore (point_at c (theirs + k)) (point_at c (ours + k))) }
     ensures counted { comparer.new.comparisons ≡ comparer.old.comparisons + min (result.0 + 1) (min (length comparer.old.contour - max ours theirs) most) }
 {
     let room = (comparer.len() - ours.max(theirs)).min(most);

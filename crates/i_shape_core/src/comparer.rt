@@ -1,33 +1,33 @@
 //! The view of a contour that the search for its least rotation is given, which counts its comparisons.
 
-ghost use Rattle.std.specs.Prelude.{◌≡◌, ◌+◌, ◌<◌, length};
+ghost use Rattle.std.specs.Prelude.{◌≡◌, ◌+◌, ◌<◌, length, get_or};
 ghost use Rattle.std.specs.Ordering.{MatchOrdering};
 ghost use Rattle.i_shape_core.specs.IntPoint.{point_of, contour_of};
 ghost use Rattle.i_shape_core.specs.Canonical.{IsBefore};
 ghost use Rattle.i_shape_core.specs.Walks.{Compared, IsOrder};
 
 use crate::number::IntNumber;
-use crate::point::IntPoint;
+use crate::point::{ContourPoint, IntPoint};
 use std::cmp::Ordering;
 use std::marker::Model;
 
 /// The only view of a contour that the search for its least rotation is given. It counts the pairs of points compared.
 #[derive(Drop)]
-pub(crate) struct Comparer<'a, I: IntNumber> {
-    points: &'a [IntPoint<I>],
+pub(crate) struct Comparer<'a, P: ContourPoint> {
+    points: &'a [P],
     count: u128,
 }
 
-impl<'a, I: IntNumber> Model for Comparer<'a, I> {
-    ghost Value = { Compared I };
+impl<'a, P: ContourPoint> Model for Comparer<'a, P> {
+    ghost Value = { Compared P.Coordinate };
 
-    ghost view = { λ p. record { contour = p.points.now; comparisons = p.count } };
+    ghost view = { λ p. record { contour = P.points p.points.now; comparisons = p.count } };
 }
 
-impl<'a, I: IntNumber> Comparer<'a, I> {
+impl<'a, P: ContourPoint> Comparer<'a, P> {
     /// A comparer of a contour, with nothing compared.
-    pub(crate) fn new(contour: &'a [IntPoint<I>]) -> Comparer<'a, I>
-        ensures contour { result.contour ≡ contour.now }
+    pub(crate) fn new(contour: &'a [P]) -> Comparer<'a, P>
+        ensures contour { result.contour ≡ P.points contour.now }
         ensures comparisons { result.comparisons ≡ 0 }
     {
         Comparer {
@@ -48,12 +48,21 @@ impl<'a, I: IntNumber> Comparer<'a, I> {
         requires first_within { first < length self.old.contour }
         requires second_within { second < length self.old.contour }
         requires room { self.old.comparisons < u128.MAX }
-        ensures order { IsOrder (contour_of I.value self.old.contour) first second result }
+        ensures order { IsOrder (contour_of P.Coordinate.value self.old.contour) first second result }
         ensures contour { self.new.contour ≡ self.old.contour }
         ensures comparisons { self.new.comparisons ≡ self.old.comparisons + 1 }
     {
         self.count += 1;
-        compare_points(&self.points[first], &self.points[second])
+        compare_points(self.point(first), self.point(second))
+    }
+
+    /// The point at a place.
+    fn point(&self, place: usize) -> IntPoint<P::Coordinate>
+        requires { place < length self.now.contour }
+        ensures { result ≡ get_or self.now.contour place result }
+    {
+        let points = self.points;
+        points[place].to_point()
     }
 
     /// The number of comparisons so far.
@@ -65,8 +74,8 @@ impl<'a, I: IntNumber> Comparer<'a, I> {
 }
 
 /// How two points are ordered: by x, then by y.
-fn compare_points<I: IntNumber>(a: &IntPoint<I>, b: &IntPoint<I>) -> Ordering
-    ensures { let p = point_of I.value a.now in let q = point_of I.value b.now in MatchOrdering result (IsBefore p q) (p ≡ q) (IsBefore q p) }
+fn compare_points<I: IntNumber>(a: IntPoint<I>, b: IntPoint<I>) -> Ordering
+    ensures { let p = point_of I.value a in let q = point_of I.value b in MatchOrdering result (IsBefore p q) (p ≡ q) (IsBefore q p) }
 {
-    a.cmp(b)
+    a.cmp(&b)
 }

@@ -9,7 +9,7 @@ ghost use Rattle.i_shape_core.specs.Edges.{shoelace, Inside, is_right};
 ghost use Rattle.i_shape_core.specs.Blocks.{inside_after};
 ghost use Rattle.i_shape_core.specs.Convex.{Convex};
 
-use crate::area::UnsafeArea;
+use crate::area::area_of;
 use crate::bend::{Bend, bend_of};
 use crate::number::{IntNumber, WideIntNumber};
 use crate::point::IntPoint;
@@ -73,7 +73,7 @@ impl<I: IntNumber> ContourExtension<I> for &[IntPoint<I>] {
 
     fn is_clockwise_ordered(&self) -> bool {
         let points: &[IntPoint<I>] = *self;
-        points.iter().copied().unsafe_area() <= I::Wide::ZERO
+        area_of(points) <= I::Wide::ZERO
     }
 
     fn contains_point(&self, point: IntPoint<I>) -> bool

@@ -1,6 +1,6 @@
 //! Contours without spikes: the test, and the cleaned copy.
 
-ghost use Rattle.std.specs.Prelude.{◌≡◌, ◌↔◌, ◌+◌, ◌-◌, ◌*◌, ◌^◌, ◌<◌, ◌≤◌, List, length, IsTrue, IsNone, IfOk, IsOkUnless};
+ghost use Rattle.std.specs.Prelude.{◌≡◌, ◌↔◌, ◌+◌, ◌-◌, ◌*◌, ◌^◌, ◌<◌, ◌≤◌, List, length, map, false, IsTrue, IsNone, IfOk, OnErr, IsOkUnless};
 ghost use Rattle.std.specs.Option.{IfSome};
 ghost use Rattle.std.specs.List.{All};
 ghost use Rattle.i_shape_core.specs.IntPoint.{contour_of, point_of, IsSafe, answered};
@@ -9,17 +9,19 @@ ghost use Rattle.i_shape_core.specs.Contour.{Sublist};
 ghost use Rattle.i_shape_core.specs.Blocks.{GoesBack, last_change};
 ghost use Rattle.i_shape_core.specs.Convex.{NoSpikes, last_of};
 ghost use Rattle.i_shape_core.specs.Cleaners.{SpikelessAnswer, KeptAnswer, VisitsAnswer};
+ghost use Rattle.i_shape_core.specs.Written.{IsWritten};
 ghost use Rattle.i_shape_core.specs.Contour.{point_at};
-ghost use Rattle.i_shape_core.specs.Walks.{WalkAnswer, FirstAnswer, IsRingState, PassesAtPlace};
+ghost use Rattle.i_shape_core.specs.Walks.{WalkAnswer, Finds, Falls, FirstAnswer, IsRingState, PassesAtPlace, in_order};
 
 use crate::error::ShapeError;
 use crate::number::{IntNumber, WideIntNumber};
-use crate::point::{IntContour, IntPoint};
+use crate::point::{ContourPoint, IntContour, IntPoint};
 use crate::probe::Probe;
 use crate::ring::Ring;
 use crate::same::{are_same, last_other};
 use crate::turn::Turn;
 use std::alloc::Global;
+use std::mem;
 
 /// The test of a contour of safe points for spikes, and its copy without them.
 pub trait DeSpikeContour<I: IntNumber> {
@@ -96,9 +98,74 @@ impl<I: IntNumber> DeSpikeContour<I> for IntContour<I> {
     }
 }
 
+/// Removes the points at which the way turns back or stands still. It keeps its memory from one contour to the next.
+#[derive(Drop)]
+pub struct ContourDeSpiker {
+    places: Vec<usize>,
+    /// For how many points memory is taken at the least, where any is.
+    room: usize,
+}
+
+impl ContourDeSpiker {
+    /// A remover of spikes that takes its memory from `alloc`.
+    pub fn new(alloc: Global) -> ContourDeSpiker {
+        ContourDeSpiker::with_room(alloc, 0)
+    }
+
+    /// A remover of spikes that takes its memory from `alloc`, once where no contour has more than `room` points. It takes none
+    /// before a contour needs it.
+    pub fn with_room(alloc: Global, room: usize) -> ContourDeSpiker {
+        ContourDeSpiker {
+            places: Vec::new(alloc),
+            room,
+        }
+    }
+
+    /// The contour without spikes, as `despiked_contour` gives it, for points of any type, written to the front of `out`:
+    /// answers how many points are left, 0 where the contour collapses. What stands behind them stays as it was, and so does
+    /// all of `out` where there is an error. Memory is taken for the places of a contour that has a spike or a repeated point
+    /// alone, and is kept. The only error is `OutOfMemory`.
+    pub fn despike_into<P: ContourPoint>(
+        &mut self,
+        contour: &[P],
+        out: &mut [P],
+    ) -> Result<usize, ShapeError>
+        requires points_safe { All (IsSafe P.Coordinate.width) (contour_of P.Coordinate.value (P.points contour.now)) }
+        requires room { length contour.now ≤ length out.old }
+        ensures written { IfOk result (λ n. IsWritten SpikelessAnswer P.Coordinate.width (λ list. contour_of P.Coordinate.value (P.points list)) contour.now out.old out.new n) }
+        ensures len { length out.new ≡ length out.old }
+        ensures err { OnErr result (out.new ≡ out.old) }
+        ensures memory { IsOkUnless result ShapeError.OutOfMemory }
+    {
+        if contour.len() < 3 {
+            return Ok(0);
+        }
+        let mut probe = Probe::new(contour);
+        let Some(place) = first_back(&mut probe) else {
+            return Ok(probe.write_whole(out));
+        };
+        let count = probe.len();
+        if count == 3 {
+            return Ok(0);
+        }
+        self.places.clear();
+        self.places.reserve(count.max(self.room))?;
+        let alloc = *self.places.allocator();
+        let memory = mem::replace(&mut self.places, Vec::new(alloc));
+        let mut ring = Ring::standing(memory, count, place);
+        ring.remove();
+        let stands = walk(&mut probe, &mut ring);
+        self.places = ring.into_order();
+        if !stands {
+            return Ok(0);
+        }
+        Ok(probe.write(out, self.places.as_slice()))
+    }
+}
+
 /// Whether the contour turns back or stands still at `place`, with these neighbours. Counts one visit.
-fn is_back_between<I: IntNumber>(
-    probe: &mut Probe<'_, I>,
+fn is_back_between<P: ContourPoint>(
+    probe: &mut Probe<'_, P>,
     previous: usize,
     place: usize,
     next: usize,
@@ -107,7 +174,7 @@ fn is_back_between<I: IntNumber>(
     requires place_within { place < length probe.old.contour }
     requires next_within { next < length probe.old.contour }
     requires room { probe.old.visits < u128.MAX }
-    ensures test { let c = contour_of I.value probe.old.contour in IsTrue result ↔ IsBack (point_at c previous) (point_at c place) (point_at c next) }
+    ensures test { let c = contour_of P.Coordinate.value probe.old.contour in IsTrue result ↔ IsBack (point_at c previous) (point_at c place) (point_at c next) }
     ensures contour { probe.new.contour ≡ probe.old.contour }
     ensures visits { probe.new.visits ≡ probe.old.visits + 1 }
 {
@@ -115,10 +182,10 @@ fn is_back_between<I: IntNumber>(
 }
 
 /// The first place at which the contour turns back or stands still. Counts a visit of each place up to it, or of all.
-fn first_back<I: IntNumber>(probe: &mut Probe<'_, I>) -> Option<usize>
+fn first_back<P: ContourPoint>(probe: &mut Probe<'_, P>) -> Option<usize>
     requires enough { 3 ≤ length probe.old.contour }
     requires fresh { probe.old.visits ≡ 0 }
-    ensures answer { FirstAnswer IsBack (contour_of I.value probe.old.contour) result probe.new.visits }
+    ensures answer { FirstAnswer IsBack (contour_of P.Coordinate.value probe.old.contour) result probe.new.visits }
     ensures contour { probe.new.contour ≡ probe.old.contour }
 {
     let last = probe.len() - 1;
@@ -136,60 +203,62 @@ fn first_back<I: IntNumber>(probe: &mut Probe<'_, I>) -> Option<usize>
 }
 
 /// Gives all points where none turns back. From the first that does, it walks round a ring of all places.
-fn despiked<I: IntNumber>(
+fn despiked<P: ContourPoint>(
     alloc: Global,
-    mut probe: Probe<'_, I>,
-) -> Result<(Option<IntContour<I>>, u128), ShapeError>
+    mut probe: Probe<'_, P>,
+) -> Result<(Option<Vec<P>>, u128), ShapeError>
     requires enough { 3 ≤ length probe.contour }
     requires fresh { probe.visits ≡ 0 }
-    ensures answer { IfOk result (λ r. WalkAnswer IsBack (contour_of I.value probe.entry.contour) (answered (contour_of I.value) r.0) r.1) }
+    ensures answer { IfOk result (λ r. WalkAnswer IsBack (contour_of P.Coordinate.value probe.entry.contour) (answered (λ list. contour_of P.Coordinate.value (P.points list)) r.0) r.1) }
     ensures memory { IsOkUnless result ShapeError.OutOfMemory }
 {
     let Some(place) = first_back(&mut probe) else {
-        let (kept, visits) = probe.keep_all(alloc)?;
-        return Ok((Some(kept), visits));
+        return probe.keep_whole(alloc);
     };
     if probe.len() == 3 {
         return Ok((None, probe.visits()));
     }
-    let mut ring = Ring::standing(alloc, probe.len(), place)?;
+    let memory = Vec::with_capacity(alloc, probe.len())?;
+    let mut ring = Ring::standing(memory, probe.len(), place);
     ring.remove();
-    walk(alloc, probe, ring)
+    if !walk(&mut probe, &mut ring) {
+        return Ok((None, probe.visits()));
+    }
+    let (kept, visits) = probe.keep(alloc, ring.into_order().as_slice())?;
+    Ok((Some(kept), visits))
 }
 
 /// Whether the contour turns back or stands still at the ring's place. Counts one visit.
-fn is_back_at<I: IntNumber>(probe: &mut Probe<'_, I>, ring: &Ring) -> bool
+fn is_back_at<P: ContourPoint>(probe: &mut Probe<'_, P>, ring: &Ring) -> bool
     requires enough { 1 < length ring.now.places }
     requires below { All (λ k. k < length probe.old.contour) ring.now.places }
     requires room { probe.old.visits < u128.MAX }
-    ensures test { IsTrue result ↔ PassesAtPlace IsBack (contour_of I.value probe.old.contour) ring.now.places }
+    ensures test { IsTrue result ↔ PassesAtPlace IsBack (contour_of P.Coordinate.value probe.old.contour) ring.now.places }
     ensures contour { probe.new.contour ≡ probe.old.contour }
     ensures visits { probe.new.visits ≡ probe.old.visits + 1 }
 {
     is_back_between(probe, ring.before(), ring.place(), ring.after())
 }
 
-/// Walks round the ring until each place of it is tested, and takes out those that turn back.
-fn walk<I: IntNumber>(
-    alloc: Global,
-    mut probe: Probe<'_, I>,
-    mut ring: Ring,
-) -> Result<(Option<IntContour<I>>, u128), ShapeError>
-    requires { IsRingState IsBack (contour_of I.value probe.contour) ring probe.visits }
-    ensures answer { IfOk result (λ r. WalkAnswer IsBack (contour_of I.value probe.entry.contour) (answered (contour_of I.value) r.0) r.1) }
-    ensures memory { IsOkUnless result ShapeError.OutOfMemory }
+/// Walks round the ring until each place of it is tested, and takes out those that turn back. Whether three are left.
+fn walk<P: ContourPoint>(probe: &mut Probe<'_, P>, ring: &mut Ring) -> bool
+    requires state { IsRingState IsBack (contour_of P.Coordinate.value probe.old.contour) ring.old probe.old.visits }
+    requires room { length probe.old.contour ≤ usize.MAX }
+    ensures contour { probe.new.contour ≡ probe.old.contour }
+    ensures stands { let c = contour_of P.Coordinate.value probe.old.contour in IsTrue result → Finds IsBack c (map (point_at c) (in_order ring.new.places ring.new.lead)) probe.new.visits }
+    ensures below { IsTrue result → All (λ k. k < length probe.old.contour) (in_order ring.new.places ring.new.lead) }
+    ensures falls { result ≡ false → Falls IsBack (contour_of P.Coordinate.value probe.old.contour) probe.new.visits }
 {
     while ring.untested() > 0 {
-        if !is_back_at(&mut probe, &ring) {
+        if !is_back_at(probe, ring) {
             ring.keep();
         } else if ring.len() > 3 {
             ring.remove();
         } else {
-            return Ok((None, probe.visits()));
+            return false;
         }
     }
-    let (kept, visits) = probe.keep(alloc, ring.into_order().as_slice())?;
-    Ok((Some(kept), visits))
+    true
 }
 
 /// Whether at least three points are left without repeated ones, and the way over them nowhere goes back.

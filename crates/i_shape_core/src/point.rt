@@ -1,6 +1,8 @@
 //! Points and vectors over whole coordinates.
 
-ghost use Rattle.std.specs.Prelude.{◌≡◌, ◌-ℤ◌, ◌↔◌, IsTrue, FitsSigned};
+ghost use Rattle.std.specs.Prelude.{◌≡◌, ◌-ℤ◌, ◌↔◌, List, map, IsTrue, FitsSigned};
+ghost use Rattle.std.proofs.Common.{sym};
+ghost use Rattle.std.proofs.lemmas.List.{map-id};
 ghost use Rattle.i_shape_core.specs.IntPoint.{point_of, IsSafe, IsSafeCoordinate};
 ghost use Rattle.i_shape_core.specs.Point.{cross_of, dot_of, vector};
 
@@ -54,6 +56,39 @@ impl<I: IntNumber> IntPoint<I> {
         ensures { IsTrue result ↔ IsSafe I.width (point_of I.value self.now) }
     {
         is_safe_coordinate(self.x) && is_safe_coordinate(self.y)
+    }
+}
+
+/// A point that contours can be made of: the library's own, or a struct of a caller's with two coordinates.
+pub trait ContourPoint: Copy {
+    ghost use Rattle.i_shape_core.specs.declared.point.IntPoint.{IntPoint};
+
+    /// The type of the coordinates.
+    type Coordinate: IntNumber;
+
+    /// The library's point with the same coordinates.
+    ghost point: { Self → IntPoint Self.Coordinate };
+
+    /// The same, of each point of a list.
+    ghost points: { List Self → List (IntPoint Self.Coordinate) };
+
+    ghost each: { (list : List Self) → points list ≡ map point list };
+
+    fn to_point(self) -> IntPoint<Self::Coordinate>
+        ensures { result ≡ point self };
+}
+
+impl<I: IntNumber> ContourPoint for IntPoint<I> {
+    type Coordinate = I;
+
+    ghost point = { λ p. p };
+
+    ghost points = { λ list. list };
+
+    ghost each = { λ list. sym (map-id list) };
+
+    fn to_point(self) -> IntPoint<I> {
+        self
     }
 }
 

@@ -1,39 +1,39 @@
 //! The view of a contour that a cleaner's walk is given, which counts its visits.
 
-ghost use Rattle.std.specs.Prelude.{◌≡◌, ◌+◌, ◌<◌, map, length, slice_get, IfOk, IsOkUnless};
+ghost use Rattle.std.specs.Prelude.{◌≡◌, ◌+◌, ◌<◌, ◌≤◌, Some, map, get_or, take, drop, option_map, length, slice_get, IfOk, IsOkUnless};
+ghost use Rattle.std.specs.Option.{IfSome};
 ghost use Rattle.std.specs.List.{All};
-ghost use Rattle.i_shape_core.specs.IntPoint.{contour_of, IsSafe};
+ghost use Rattle.i_shape_core.specs.IntPoint.{contour_of, point_of, answered, IsSafe};
 ghost use Rattle.i_shape_core.specs.Contour.{point_at};
 ghost use Rattle.i_shape_core.specs.Walks.{Seen};
 ghost use Rattle.i_shape_core.specs.Turn.{IsTurn};
 
 use crate::error::ShapeError;
-use crate::number::IntNumber;
-use crate::point::{IntContour, IntPoint};
+use crate::point::{ContourPoint, IntPoint};
 use crate::turn::{Turn, turn_of};
 use std::alloc::Global;
 use std::marker::Model;
 
 /// The only view of a contour that a cleaner's walk is given. It counts the vertices visited.
 #[derive(Drop)]
-pub struct Probe<'a, I: IntNumber> {
-    points: &'a [IntPoint<I>],
+pub struct Probe<'a, P: ContourPoint> {
+    points: &'a [P],
     count: u128,
 }
 
-impl<'a, I: IntNumber> Model for Probe<'a, I> {
-    ghost Value = { Seen I };
+impl<'a, P: ContourPoint> Model for Probe<'a, P> {
+    ghost Value = { Seen P.Coordinate };
 
-    ghost view = { λ p. record { contour = p.points.now; visits = p.count } };
+    ghost view = { λ p. record { contour = P.points p.points.now; visits = p.count } };
 
-    ghost invariant = { λ p. All (IsSafe I.width) (contour_of I.value p.points.now) };
+    ghost invariant = { λ p. All (IsSafe P.Coordinate.width) (contour_of P.Coordinate.value (P.points p.points.now)) };
 }
 
-impl<'a, I: IntNumber> Probe<'a, I> {
+impl<'a, P: ContourPoint> Probe<'a, P> {
     /// A probe of a contour of safe points, with nothing visited.
-    pub fn new(contour: &'a [IntPoint<I>]) -> Probe<'a, I>
-        requires { All (IsSafe I.width) (contour_of I.value contour.now) }
-        ensures contour { result.contour ≡ contour.now }
+    pub fn new(contour: &'a [P]) -> Probe<'a, P>
+        requires { All (IsSafe P.Coordinate.width) (contour_of P.Coordinate.value (P.points contour.now)) }
+        ensures contour { result.contour ≡ P.points contour.now }
         ensures visits { result.visits ≡ 0 }
     {
         Probe {
@@ -55,12 +55,22 @@ impl<'a, I: IntNumber> Probe<'a, I> {
         requires place_within { place < length self.old.contour }
         requires next_within { next < length self.old.contour }
         requires room { self.old.visits < u128.MAX }
-        ensures turn { let c = contour_of I.value self.old.contour in IsTurn (point_at c previous) (point_at c place) (point_at c next) result }
+        ensures turn { let c = contour_of P.Coordinate.value self.old.contour in IsTurn (point_at c previous) (point_at c place) (point_at c next) result }
         ensures contour { self.new.contour ≡ self.old.contour }
         ensures visits { self.new.visits ≡ self.old.visits + 1 }
     {
         self.count += 1;
-        turn_of(self.points[previous], self.points[place], self.points[next])
+        turn_of(self.point(previous), self.point(place), self.point(next))
+    }
+
+    /// The point at a place.
+    fn point(&self, place: usize) -> IntPoint<P::Coordinate>
+        requires { place < length self.now.contour }
+        ensures point { result ≡ get_or self.now.contour place result }
+        ensures safe { IsSafe P.Coordinate.width (point_of P.Coordinate.value result) }
+    {
+        let points = self.points;
+        points[place].to_point()
     }
 
     /// Counts one visit.
@@ -80,8 +90,8 @@ impl<'a, I: IntNumber> Probe<'a, I> {
     }
 
     /// All points, and the number of visits. The only error is `OutOfMemory`.
-    pub fn keep_all(self, alloc: Global) -> Result<(IntContour<I>, u128), ShapeError>
-        ensures points { IfOk result (λ kept. kept.0.items ≡ self.entry.contour) }
+    pub fn keep_all(self, alloc: Global) -> Result<(Vec<P>, u128), ShapeError>
+        ensures points { IfOk result (λ kept. P.points kept.0.items ≡ self.entry.contour) }
         ensures visits { IfOk result (λ kept. kept.1 ≡ self.entry.visits) }
         ensures memory { IsOkUnless result ShapeError.OutOfMemory }
     {
@@ -90,9 +100,9 @@ impl<'a, I: IntNumber> Probe<'a, I> {
     }
 
     /// The points at these places, in the order given, and the number of visits. The only error is `OutOfMemory`.
-    pub fn keep(self, alloc: Global, indices: &[usize]) -> Result<(IntContour<I>, u128), ShapeError>
+    pub fn keep(self, alloc: Global, indices: &[usize]) -> Result<(Vec<P>, u128), ShapeError>
         requires { All (λ k. k < length self.contour) indices.now }
-        ensures points { IfOk result (λ kept. map (λ p. Some p) kept.0.items ≡ map (slice_get self.entry.contour) indices.now) }
+        ensures points { IfOk result (λ kept. map (λ p. Some p) (P.points kept.0.items) ≡ map (slice_get self.entry.contour) indices.now) }
         ensures visits { IfOk result (λ kept. kept.1 ≡ self.entry.visits) }
         ensures memory { IsOkUnless result ShapeError.OutOfMemory }
     {
@@ -101,5 +111,61 @@ impl<'a, I: IntNumber> Probe<'a, I> {
             kept.push_reserved(self.points[*index]);
         }
         Ok((kept, self.visits()))
+    }
+
+    /// All points, as what is left of the contour, and the number of visits. The only error is `OutOfMemory`.
+    pub(crate) fn keep_whole(self, alloc: Global) -> Result<(Option<Vec<P>>, u128), ShapeError>
+        ensures kept { IfOk result (λ kept. (answered (λ list. contour_of P.Coordinate.value (P.points list)) kept.0 ≡ Some (contour_of P.Coordinate.value self.entry.contour)) × (kept.1 ≡ self.entry.visits)) }
+        ensures memory { IsOkUnless result ShapeError.OutOfMemory }
+    {
+        let (kept, visits) = self.keep_all(alloc)?;
+        Ok((Some(kept), visits))
+    }
+
+    /// The points at the places that are left, `None` where there are none, and the number of visits. The only error is
+    /// `OutOfMemory`.
+    pub(crate) fn keep_left(
+        self,
+        alloc: Global,
+        left: Option<&[usize]>,
+    ) -> Result<(Option<Vec<P>>, u128), ShapeError>
+        requires { IfSome left (λ places. All (λ k. k < length self.contour) places.now) }
+        ensures kept { let c = contour_of P.Coordinate.value self.entry.contour in IfOk result (λ kept. (answered (λ list. contour_of P.Coordinate.value (P.points list)) kept.0 ≡ option_map (λ places. map (point_at c) places.now) left.entry) × (kept.1 ≡ self.entry.visits)) }
+        ensures memory { IsOkUnless result ShapeError.OutOfMemory }
+    {
+        let Some(places) = left else {
+            return Ok((None, self.visits()));
+        };
+        let (kept, visits) = self.keep(alloc, places)?;
+        Ok((Some(kept), visits))
+    }
+
+    /// Writes all points to the front of `out`, and answers how many they are.
+    pub(crate) fn write_whole(&self, out: &mut [P]) -> usize
+        requires { length self.now.contour ≤ length out.old }
+        ensures count { result ≡ length self.now.contour }
+        ensures points { P.points (take result out.new) ≡ self.now.contour }
+        ensures rest { drop result out.new ≡ drop result out.old }
+        ensures len { length out.new ≡ length out.old }
+    {
+        let points = self.points;
+        out[..points.len()].copy_from_slice(points);
+        points.len()
+    }
+
+    /// Writes the points at these places to the front of `out`, in the order given, and answers how many they are.
+    pub(crate) fn write(&self, out: &mut [P], indices: &[usize]) -> usize
+        requires below { All (λ k. k < length self.now.contour) indices.now }
+        requires room { length indices.now ≤ length out.old }
+        ensures count { result ≡ length indices.now }
+        ensures points { let c = contour_of P.Coordinate.value self.now.contour in contour_of P.Coordinate.value (P.points (take result out.new)) ≡ map (point_at c) indices.now }
+        ensures rest { drop result out.new ≡ drop result out.old }
+        ensures len { length out.new ≡ length out.old }
+    {
+        let points = self.points;
+        for place in 0..indices.len() {
+            out[place] = points[indices[place]];
+        }
+        indices.len()
     }
 }

@@ -1,11 +1,9 @@
 //! The ring of the places that a walk has left.
 
-ghost use Rattle.std.specs.Prelude.{◌≡◌, ◌+◌, ◌-◌, ◌<◌, ◌≤◌, ◌∷◌, ◌++◌, [], min, max, take, drop, length, slice_index, vec_len, vec_capacity, IfOk, IsOkUnless};
+ghost use Rattle.std.specs.Prelude.{◌≡◌, ◌+◌, ◌-◌, ◌<◌, ◌≤◌, ◌∷◌, ◌++◌, [], min, max, take, drop, length, slice_index, vec_len, vec_capacity};
 ghost use Rattle.std.specs.List.{range_with_len};
 ghost use Rattle.i_shape_core.specs.Walks.{Standing, LeadKept, LeadRemoved, around_gap, lead_over_gap, in_order};
 
-use crate::error::ShapeError;
-use std::alloc::Global;
 use std::marker::Model;
 
 /// The places that are left, as a cycle from the walk's place on. They lie in one list with a gap:
@@ -30,24 +28,25 @@ impl Model for Ring {
 }
 
 impl Ring {
-    /// The ring of all places below `count`, with the walk at `place` and the places before it tested.
-    pub fn standing(alloc: Global, count: usize, place: usize) -> Result<Ring, ShapeError>
-        requires { place < count }
-        ensures standing { IfOk result (λ r. r ≡ record { places = drop place (range_with_len 0 count) ++ take place (range_with_len 0 count); untested = count - place; lead = count - place }) }
-        ensures memory { IsOkUnless result ShapeError.OutOfMemory }
+    /// The ring of all places below `count`, in this memory, with the walk at `place` and the places before it tested.
+    pub fn standing(memory: Vec<usize>, count: usize, place: usize) -> Ring
+        requires within { place < count }
+        requires empty { vec_len memory ≡ 0 }
+        requires room { count ≤ vec_capacity memory }
+        ensures { result ≡ record { places = drop place (range_with_len 0 count) ++ take place (range_with_len 0 count); untested = count - place; lead = count - place } }
     {
-        let mut places = Vec::with_capacity(alloc, count)?;
+        let mut places = memory;
         for each in 0..count {
             places.push_reserved(each);
         }
-        Ok(Ring {
+        Ring {
             places,
             behind: place,
             ahead: place,
             end: count,
             first: 0,
             untested: count - place,
-        })
+        }
     }
 
     /// How many places are left.

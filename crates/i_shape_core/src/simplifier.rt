@@ -1,17 +1,18 @@
 //! The cleaner that removes zero turns.
 
-ghost use Rattle.std.specs.Prelude.{◌≡◌, ◌↔◌, ◌+◌, ◌-◌, ◌*◌, ◌^◌, ◌<◌, ◌≤◌, [], take, drop, min, IsTrue, length, vec_len, vec_capacity, IfOk, IsOkUnless, None};
+ghost use Rattle.std.specs.Prelude.{◌≡◌, ◌↔◌, ◌+◌, ◌-◌, ◌*◌, ◌^◌, ◌<◌, ◌≤◌, map, take, drop, min, option_map, IsTrue, length, vec_len, vec_capacity, IfOk, OnErr, IsOkUnless, None};
 ghost use Rattle.std.specs.Option.{IfSome};
 ghost use Rattle.std.specs.List.{All, range_with_len};
 ghost use Rattle.i_shape_core.specs.IntPoint.{contour_of, IsSafe, answered};
 ghost use Rattle.i_shape_core.specs.Point.{IsZeroTurn};
 ghost use Rattle.i_shape_core.specs.Contour.{End, Sublist, point_at};
 ghost use Rattle.i_shape_core.specs.Cleaners.{SimpleAnswer, KeptAnswer, VisitsAnswer};
+ghost use Rattle.i_shape_core.specs.Written.{IsWritten};
 ghost use Rattle.i_shape_core.specs.Walks.{IsWalked, IsStacked, IsSettled, WalkAnswer};
 
 use crate::error::ShapeError;
 use crate::number::IntNumber;
-use crate::point::{IntContour, IntPoint};
+use crate::point::{ContourPoint, IntContour, IntPoint};
 use crate::probe::Probe;
 use crate::turn::Turn;
 use std::alloc::Global;
@@ -20,13 +21,22 @@ use std::alloc::Global;
 #[derive(Drop)]
 pub struct ContourSimplifier {
     stack: Vec<usize>,
+    /// For how many points the stack takes memory at the least, where it takes any.
+    room: usize,
 }
 
 impl ContourSimplifier {
     /// A simplifier that takes its memory from `alloc`.
     pub fn new(alloc: Global) -> ContourSimplifier {
+        ContourSimplifier::with_room(alloc, 0)
+    }
+
+    /// A simplifier that takes its memory from `alloc`, once where no contour has more than `room` points. It takes none before
+    /// a contour needs it.
+    pub fn with_room(alloc: Global, room: usize) -> ContourSimplifier {
         ContourSimplifier {
             stack: Vec::new(alloc),
+            room,
         }
     }
 
@@ -66,26 +76,75 @@ impl ContourSimplifier {
         if contour.len() < 3 {
             return Ok((None, 0));
         }
+        let alloc = *self.stack.allocator();
         let mut probe = Probe::new(contour);
-        let Some((first, end, place)) = start_of_walk(&mut probe) else {
-            return keep_whole(probe, *self.stack.allocator());
+        let Some(start) = start_of_walk(&mut probe) else {
+            return probe.keep_whole(alloc);
         };
-        fill(&mut self.stack, contour.len(), first, end)?;
-        let probe = stack_places(probe, &mut self.stack, place);
-        close(probe, *self.stack.allocator(), self.stack.as_slice())
+        let left = self.walk(&mut probe, start)?;
+        probe.keep_left(alloc, left)
+    }
+
+    /// The same, for points of any type, written to the front of `out`: answers how many points are left, 0 where the contour
+    /// collapses. What stands behind them stays as it was, and so does all of `out` where there is an error. Memory is taken
+    /// for the places of a contour that is not clean alone, and is kept. The only error is `OutOfMemory`.
+    pub fn simplify_into<P: ContourPoint>(
+        &mut self,
+        contour: &[P],
+        out: &mut [P],
+    ) -> Result<usize, ShapeError>
+        requires points_safe { All (IsSafe P.Coordinate.width) (contour_of P.Coordinate.value (P.points contour.now)) }
+        requires room { length contour.now ≤ length out.old }
+        ensures written { IfOk result (λ n. IsWritten SimpleAnswer P.Coordinate.width (λ list. contour_of P.Coordinate.value (P.points list)) contour.now out.old out.new n) }
+        ensures len { length out.new ≡ length out.old }
+        ensures err { OnErr result (out.new ≡ out.old) }
+        ensures memory { IsOkUnless result ShapeError.OutOfMemory }
+    {
+        if contour.len() < 3 {
+            return Ok(0);
+        }
+        let mut probe = Probe::new(contour);
+        let Some(start) = start_of_walk(&mut probe) else {
+            return Ok(probe.write_whole(out));
+        };
+        let Some(left) = self.walk(&mut probe, start)? else {
+            return Ok(0);
+        };
+        Ok(probe.write(out, left))
+    }
+
+    /// Walks on from a start. Gives the places that are left, `None` where these are fewer than three.
+    fn walk<P: ContourPoint>(
+        &mut self,
+        probe: &mut Probe<'_, P>,
+        start: (usize, usize, usize),
+    ) -> Result<Option<&[usize]>, ShapeError>
+        requires walked { IsWalked IsZeroTurn (contour_of P.Coordinate.value probe.old.contour) (range_with_len start.0 (start.1 - start.0)) start.2 probe.old.visits }
+        requires in_order { start.0 ≤ start.1 }
+        requires end_within { start.1 ≤ length probe.old.contour }
+        requires place_within { start.2 ≤ length probe.old.contour }
+        ensures contour { probe.new.contour ≡ probe.old.contour }
+        ensures answer { let c = contour_of P.Coordinate.value probe.old.contour in IfOk result (λ left. WalkAnswer IsZeroTurn c (option_map (λ places. map (point_at c) places.now) left) probe.new.visits) }
+        ensures below { IfOk result (λ left. IfSome left (λ places. All (λ k. k < length probe.old.contour) places.now)) }
+        ensures memory { IsOkUnless result ShapeError.OutOfMemory }
+    {
+        let (first, end, place) = start;
+        fill(&mut self.stack, probe.len().max(self.room), first, end)?;
+        stack_places(probe, &mut self.stack, place);
+        Ok(close(probe, self.stack.as_slice()))
     }
 }
 
 /// The first place that makes a zero turn of the one before it, or the number of points where there is none. Counts a visit
 /// for each test.
-fn clean_prefix<I: IntNumber>(probe: &mut Probe<'_, I>) -> usize
+fn clean_prefix<P: ContourPoint>(probe: &mut Probe<'_, P>) -> usize
     requires fresh { probe.old.visits ≡ 0 }
     requires enough { 3 ≤ length probe.old.contour }
     ensures contour { probe.new.contour ≡ probe.old.contour }
     ensures least { 2 ≤ result }
     ensures most { result ≤ length probe.old.contour }
-    ensures clean { IsStacked IsZeroTurn (contour_of I.value probe.old.contour) (range_with_len 0 result) result }
-    ensures zero_turn { let c = contour_of I.value probe.old.contour in result < length c → IsZeroTurn (point_at c (result - 2)) (point_at c (result - 1)) (point_at c result) }
+    ensures clean { IsStacked IsZeroTurn (contour_of P.Coordinate.value probe.old.contour) (range_with_len 0 result) result }
+    ensures zero_turn { let c = contour_of P.Coordinate.value probe.old.contour in result < length c → IsZeroTurn (point_at c (result - 2)) (point_at c (result - 1)) (point_at c result) }
     ensures visits { probe.new.visits + 2 ≡ min (result + 1) (length probe.old.contour) }
 {
     for place in 2..probe.len() {
@@ -98,15 +157,15 @@ fn clean_prefix<I: IntNumber>(probe: &mut Probe<'_, I>) -> usize
 
 /// Where the contour has a zero turn: the first place and the end of those that are on the stack after the first of them is taken
 /// off, and the place with which the walk goes on. Counts a visit for each test.
-fn start_of_walk<I: IntNumber>(probe: &mut Probe<'_, I>) -> Option<(usize, usize, usize)>
+fn start_of_walk<P: ContourPoint>(probe: &mut Probe<'_, P>) -> Option<(usize, usize, usize)>
     requires fresh { probe.old.visits ≡ 0 }
     requires enough { 3 ≤ length probe.old.contour }
     ensures contour { probe.new.contour ≡ probe.old.contour }
-    ensures walked { IfSome result (λ s. IsWalked IsZeroTurn (contour_of I.value probe.old.contour) (range_with_len s.0 (s.1 - s.0)) s.2 probe.new.visits) }
+    ensures walked { IfSome result (λ s. IsWalked IsZeroTurn (contour_of P.Coordinate.value probe.old.contour) (range_with_len s.0 (s.1 - s.0)) s.2 probe.new.visits) }
     ensures in_order { IfSome result (λ s. s.0 ≤ s.1) }
     ensures end_within { IfSome result (λ s. s.1 ≤ length probe.old.contour) }
     ensures place_within { IfSome result (λ s. s.2 ≤ length probe.old.contour) }
-    ensures clean { let c = contour_of I.value probe.old.contour in result ≡ None → End IsZeroTurn c c }
+    ensures clean { let c = contour_of P.Coordinate.value probe.old.contour in result ≡ None → End IsZeroTurn c c }
     ensures visits { result ≡ None → probe.new.visits ≡ length probe.old.contour }
 {
     let place = clean_prefix(probe);
@@ -122,21 +181,6 @@ fn start_of_walk<I: IntNumber>(probe: &mut Probe<'_, I>) -> Option<(usize, usize
         return Some((0, last, count));
     }
     None
-}
-
-/// The contour itself, where it has no zero turn.
-fn keep_whole<I: IntNumber>(
-    probe: Probe<'_, I>,
-    alloc: Global,
-) -> Result<(Option<IntContour<I>>, u128), ShapeError>
-    requires enough { 3 ≤ length probe.contour }
-    requires clean { let c = contour_of I.value probe.contour in End IsZeroTurn c c }
-    requires visits { probe.visits ≡ length probe.contour }
-    ensures answer { IfOk result (λ r. WalkAnswer IsZeroTurn (contour_of I.value probe.entry.contour) (answered (contour_of I.value) r.0) r.1) }
-    ensures memory { IsOkUnless result ShapeError.OutOfMemory }
-{
-    let (kept, visits) = probe.keep_all(alloc)?;
-    Ok((Some(kept), visits))
 }
 
 /// Puts the places from `first` on and before `end` on the stack, in place of what it holds, and makes room for `count`.
@@ -156,8 +200,8 @@ fn fill(stack: &mut Vec<usize>, count: usize, first: usize, end: usize) -> Resul
 }
 
 /// Whether the contour has a zero turn at `place`, between these neighbours. Counts one visit.
-fn is_zero_at<I: IntNumber>(
-    probe: &mut Probe<'_, I>,
+fn is_zero_at<P: ContourPoint>(
+    probe: &mut Probe<'_, P>,
     previous: usize,
     place: usize,
     next: usize,
@@ -166,7 +210,7 @@ fn is_zero_at<I: IntNumber>(
     requires place_within { place < length probe.old.contour }
     requires next_within { next < length probe.old.contour }
     requires room { probe.old.visits < u128.MAX }
-    ensures test { let c = contour_of I.value probe.old.contour in IsTrue result ↔ IsZeroTurn (point_at c previous) (point_at c place) (point_at c next) }
+    ensures test { let c = contour_of P.Coordinate.value probe.old.contour in IsTrue result ↔ IsZeroTurn (point_at c previous) (point_at c place) (point_at c next) }
     ensures contour { probe.new.contour ≡ probe.old.contour }
     ensures visits { probe.new.visits ≡ probe.old.visits + 1 }
 {
@@ -174,12 +218,12 @@ fn is_zero_at<I: IntNumber>(
 }
 
 /// Pops from the stack while its top is a zero turn between the one below it and `place`.
-fn pop_zero_turns<I: IntNumber>(probe: &mut Probe<'_, I>, stack: &mut Vec<usize>, place: usize)
+fn pop_zero_turns<P: ContourPoint>(probe: &mut Probe<'_, P>, stack: &mut Vec<usize>, place: usize)
     requires within { place < length probe.old.contour }
-    requires walked { IsWalked IsZeroTurn (contour_of I.value probe.old.contour) stack.old.items place probe.old.visits }
+    requires walked { IsWalked IsZeroTurn (contour_of P.Coordinate.value probe.old.contour) stack.old.items place probe.old.visits }
     ensures contour { probe.new.contour ≡ probe.old.contour }
-    ensures stacked { IsStacked IsZeroTurn (contour_of I.value probe.old.contour) stack.new.items place }
-    ensures settled { IsSettled IsZeroTurn (contour_of I.value probe.old.contour) stack.new.items place }
+    ensures stacked { IsStacked IsZeroTurn (contour_of P.Coordinate.value probe.old.contour) stack.new.items place }
+    ensures settled { IsSettled IsZeroTurn (contour_of P.Coordinate.value probe.old.contour) stack.new.items place }
     ensures short { vec_len stack.new ≤ place }
     ensures room { vec_capacity stack.new ≡ vec_capacity stack.old }
     ensures most { probe.new.visits + vec_len stack.new ≤ 2 * place + 1 }
@@ -195,47 +239,40 @@ fn pop_zero_turns<I: IntNumber>(probe: &mut Probe<'_, I>, stack: &mut Vec<usize>
 }
 
 /// Puts the places of the contour from `start` on on the stack one by one, and takes zero turns off it.
-fn stack_places<'a, I: IntNumber>(
-    mut probe: Probe<'a, I>,
-    stack: &mut Vec<usize>,
-    start: usize,
-) -> Probe<'a, I>
-    requires within { start ≤ length probe.contour }
-    requires walked { IsWalked IsZeroTurn (contour_of I.value probe.contour) stack.old.items start probe.visits }
-    requires room { length probe.contour ≤ vec_capacity stack.old }
-    ensures contour { result.contour ≡ probe.entry.contour }
-    ensures walked { let c = contour_of I.value probe.entry.contour in IsWalked IsZeroTurn c stack.new.items (length c) result.visits }
+fn stack_places<P: ContourPoint>(probe: &mut Probe<'_, P>, stack: &mut Vec<usize>, start: usize)
+    requires within { start ≤ length probe.old.contour }
+    requires walked { IsWalked IsZeroTurn (contour_of P.Coordinate.value probe.old.contour) stack.old.items start probe.old.visits }
+    requires room { length probe.old.contour ≤ vec_capacity stack.old }
+    ensures contour { probe.new.contour ≡ probe.old.contour }
+    ensures walked { let c = contour_of P.Coordinate.value probe.old.contour in IsWalked IsZeroTurn c stack.new.items (length c) probe.new.visits }
 {
     for place in start..probe.len() {
-        pop_zero_turns(&mut probe, stack, place);
+        pop_zero_turns(probe, stack, place);
         stack.push_reserved(place);
     }
-    probe
 }
 
-/// Takes zero turns from both ends of the stack, where it closes to a cycle.
-fn close<I: IntNumber>(
-    mut probe: Probe<'_, I>,
-    alloc: Global,
-    stack: &[usize],
-) -> Result<(Option<IntContour<I>>, u128), ShapeError>
-    requires { let c = contour_of I.value probe.contour in IsWalked IsZeroTurn c stack.now (length c) probe.visits }
-    ensures answer { IfOk result (λ r. WalkAnswer IsZeroTurn (contour_of I.value probe.entry.contour) (answered (contour_of I.value) r.0) r.1) }
-    ensures memory { IsOkUnless result ShapeError.OutOfMemory }
+/// Takes zero turns from both ends of the stack, where it closes to a cycle. Gives the places that are left, `None` where these
+/// are fewer than three.
+fn close<'s, P: ContourPoint>(probe: &mut Probe<'_, P>, stack: &'s [usize]) -> Option<&'s [usize]>
+    requires walked { let c = contour_of P.Coordinate.value probe.old.contour in IsWalked IsZeroTurn c stack.now (length c) probe.old.visits }
+    requires room { length probe.old.contour ≤ usize.MAX }
+    ensures contour { probe.new.contour ≡ probe.old.contour }
+    ensures answer { let c = contour_of P.Coordinate.value probe.old.contour in WalkAnswer IsZeroTurn c (option_map (λ places. map (point_at c) places.now) result) probe.new.visits }
+    ensures below { IfSome result (λ places. All (λ k. k < length probe.old.contour) places.now) }
 {
     let mut left = stack;
     while left.len() >= 3 {
         let last = left.len() - 1;
-        if is_zero_at(&mut probe, left[last], left[0], left[1]) {
+        if is_zero_at(probe, left[last], left[0], left[1]) {
             left = without_first(left);
-        } else if is_zero_at(&mut probe, left[last - 1], left[last], left[0]) {
+        } else if is_zero_at(probe, left[last - 1], left[last], left[0]) {
             left = without_last(left);
         } else {
-            let (kept, visits) = probe.keep(alloc, left)?;
-            return Ok((Some(kept), visits));
+            return Some(left);
         }
     }
-    Ok((None, probe.visits()))
+    None
 }
 
 fn without_first(places: &[usize]) -> &[usize]

@@ -47,7 +47,7 @@ fn turned_back<I: IntNumber>(
 {
     let mut back = Vec::from_slice(alloc, contour)?;
     back.reverse();
-    turn_to_least(&mut back);
+    turn_to_least(back.as_mut_slice());
     Ok(back)
 }
 

@@ -3,7 +3,7 @@ use Rattle.std.proofs.Common.{◌≡◌, ℕ, ℤ, ◌+◌, ◌<◌, ◌≤◌, 
 use Rattle.std.specs.Int.{Width}
 use Rattle.std.specs.List.{All, AllZip, filter}
 use Rattle.std.proofs.lemmas.List.{set_at, get_or_at, drop_more, map_more, take_all, drop_all, length-map, length-take-le, map-append}
-use Rattle.std.proofs.lemmas.List.Elements.{All-nil, All-cons, All-head, All-tail, All-push}
+use Rattle.std.proofs.lemmas.List.Elements.{All-nil, All-head, All-tail, All-push}
 use Rattle.std.proofs.lemmas.Slice.Zip.{all_zipped_more}
 use Rattle.i_shape_core.specs.Point.{Point}
 use Rattle.i_shape_core.specs.IntPoint.{contour_of, IsSafe}
@@ -14,21 +14,14 @@ use Rattle.std.proofs.lemmas.Bool.Decides.{Decides-eqb}
 use Rattle.i_shape_core.specs.Cleaners.{KeptAnswer}
 use Rattle.i_shape_core.specs.declared.error.ShapeError.{ShapeError}
 use Rattle.i_shape_core.specs.declared.error.ShapeError.TheVariants.{OutOfMemory}
+use Rattle.i_shape_core.proofs.AllTold.{taken}
+use Rattle.i_shape_source.proofs.SafePaths.{parts}
 use Rattle.i_shape_int.specs.ShapeLists.{IsSafeShape}
 use Rattle.i_shape_int.specs.ShapeAnswers.{Survivors, ShapeClean, ListClean, HasPoints, EachContour, EachShape, AreKept}
 use Rattle.i_shape_int.specs.InPlace.{Leaves, CleansShape, CleansList}
 use Rattle.i_shape_int.specs.Changes.{Edit, edits_of, IsLeft, put_contour, put_in_list, FitsShape, FitsList, all_put, AllFit, ComesFor, CleansAside, CleansListAside, has_points, stands, standing, standing_shapes}
-use Rattle.i_shape_int.proofs.Surviving.{survivors-none, taken}
+use Rattle.i_shape_int.proofs.Surviving.{survivors-none}
 use Rattle.i_shape_int.proofs.Keeping.{same_kept, shape_keeps, shape_safe, list_keeps}
-
--- what holds of both parts of a list holds of each
-pub first_part : {X : Type 0} (P : X → Type 0) (xs ys : List X) → All P (xs ++ ys) → All P xs
-first_part P [] ys all = All-nil P
-first_part P (x ∷ xs) ys all = All-cons P x xs (All-head P x (xs ++ ys) all) (first_part P xs ys (All-tail P x (xs ++ ys) all))
-
-pub last_part : {X : Type 0} (P : X → Type 0) (xs ys : List X) → All P (xs ++ ys) → All P ys
-last_part P [] ys all = all
-last_part P (x ∷ xs) ys all = last_part P xs ys (All-tail P x (xs ++ ys) all)
 
 no_first : {X : Type 0} (xs ys : List X) → xs ++ ys ≡ [] → xs ≡ []
 no_first [] ys e = refl
@@ -110,7 +103,7 @@ module _ (Passes : List Point → Type 0) (Answer : List Point → Option (List 
     numbered = aside.numbered;
     put = λ rest. ap (λ s. all_put put_contour s edits) (append_assoc shape (c ∷ []) rest) ∙ aside.put (c ∷ rest) ∙ sym (append_assoc aside.left (c ∷ []) rest);
     fit = λ rest. subst (λ s. AllFit put_contour FitsShape s edits) (sym (append_assoc shape (c ∷ []) rest)) (aside.fit (c ∷ rest));
-    clean = (λ e. All-push Passes shape c (aside.clean.0 e) pass, λ all. aside.clean.1 (first_part Passes shape (c ∷ []) all));
+    clean = (λ e. All-push Passes shape c (aside.clean.0 e) pass, λ all. aside.clean.1 (parts Passes shape (c ∷ []) all).0);
     full = λ all. All-push HasPoints aside.left c (aside.full all) points;
   }
 
@@ -128,8 +121,8 @@ module _ (Passes : List Point → Type 0) (Answer : List Point → Option (List 
         numbered = All-push (λ e. e.0 ≡ n) edits edit aside.numbered refl;
         put = λ rest. all_put-append put_contour edits (edit ∷ []) ((shape ++ c ∷ []) ++ rest) ∙ ap (λ s. all_put put_contour s edits) (one rest) ∙ aside.put (d ∷ rest) ∙ sym (append_assoc aside.left (d ∷ []) rest);
         fit = λ rest. fit-append put_contour FitsShape edits (edit ∷ []) ((shape ++ c ∷ []) ++ rest) (subst (λ s. AllFit put_contour FitsShape s edits) (sym (one rest)) (aside.fit (d ∷ rest))) (here rest, tt);
-        clean = (λ e. absurd (some_last edit e), λ all. absurd (fails (All-head Passes c [] (last_part Passes shape (c ∷ []) all))));
-        full = λ all. All-push HasPoints aside.left d (aside.full (first_part IsLeft edits (edit ∷ []) all)) (All-head IsLeft edit [] (last_part IsLeft edits (edit ∷ []) all));
+        clean = (λ e. absurd (some_last edit e), λ all. absurd (fails (All-head Passes c [] (parts Passes shape (c ∷ []) all).1)));
+        full = λ all. All-push HasPoints aside.left d (aside.full (parts IsLeft edits (edit ∷ []) all).0) (All-head IsLeft edit [] (parts IsLeft edits (edit ∷ []) all).1);
       }
     where
       some_last : (edit : Edit) → edits ++ edit ∷ [] ≡ [] → ⊥
@@ -166,9 +159,9 @@ module _ (Passes : List Point → Type 0) (Answer : List Point → Option (List 
             (subst (λ s. AllFit put_in_list FitsList s more) (sym (append_assoc shapes (shape ∷ []) rest)) (fit_numbered shapes shape rest n far more aside.numbered (aside_fit n shape more aside)));
         clean = (
           λ e. All-push (EachContour Passes) shapes shape (all.clean.0 (no_first edits more e)) (aside.clean.0 (no_last edits more e)),
-          λ each. none (all.clean.1 (first_part (EachContour Passes) shapes (shape ∷ []) each)) (aside.clean.1 (All-head (EachContour Passes) shape [] (last_part (EachContour Passes) shapes (shape ∷ []) each))),
+          λ each. none (all.clean.1 (parts (EachContour Passes) shapes (shape ∷ []) each).0) (aside.clean.1 (All-head (EachContour Passes) shape [] (parts (EachContour Passes) shapes (shape ∷ []) each).1)),
         );
-        full = λ each. All-push (All HasPoints) all.left aside.left (all.full (first_part IsLeft edits more each)) (aside.full (last_part IsLeft edits more each));
+        full = λ each. All-push (All HasPoints) all.left aside.left (all.full (parts IsLeft edits more each).0) (aside.full (parts IsLeft edits more each).1);
       }
     where
       none : edits ≡ [] → more ≡ [] → edits ++ more ≡ []

@@ -5,9 +5,9 @@ use Rattle.std.specs.declared.ops.Range.{Range}
 use Rattle.std.specs.Global.{Vec}
 use Rattle.std.specs.List.{All}
 use Rattle.std.proofs.lemmas.List.Elements.{All-cons, All-nil}
+use Rattle.i_shape_core.proofs.AllTold.{taken}
 use Rattle.i_shape_source.specs.Paths.{paths_of_shape, joined}
 use Rattle.i_shape_int.specs.Flat.{InOrder, part_of, slices, end_to_end}
-use Rattle.i_shape_int.proofs.Surviving.{taken}
 
 -- two lists of parts, joined one after the other
 pub joined-append : {P : Type 0} (cs ds : List (List P)) → joined (cs ++ ds) ≡ joined cs ++ joined ds

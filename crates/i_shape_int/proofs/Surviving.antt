@@ -2,9 +2,10 @@
 use Rattle.std.proofs.Common.{◌≡◌, ℕ, ◌+◌, ◌<◌, List, [], ◌∷◌, ◌++◌, length, get_or, take, map, refl, sym, ap, ◌∙◌, subst, Option, Some, None}
 use Rattle.std.specs.List.{All, AllZip, filter_map}
 use Rattle.std.specs.Option.{option_to_list}
-use Rattle.std.proofs.lemmas.List.{take_more, get_or-map, length-map, map-append}
+use Rattle.std.proofs.lemmas.List.{get_or-map, length-map, map-append}
 use Rattle.std.proofs.lemmas.List.Elements.{All-nil, All-cons, All-head, All-tail, All-push, filter_map-append}
 use Rattle.std.proofs.lemmas.Slice.Zip.{all_zipped_more}
+use Rattle.i_shape_core.proofs.AllTold.{taken}
 use Rattle.i_shape_int.specs.ShapeAnswers.{Survivors}
 
 -- what holds of all members holds of the one that is read
@@ -12,10 +13,6 @@ pub mapped-read : {X Y : Type 0} (f : X → Y) (P : Y → Type 0) (xs : List X) 
 mapped-read f P xs i x lt read holds =
     let lt' : i < length (map f xs) = rw (length-map xs f) lt in
     subst (λ z. P (f z)) (sym read) (rw (get_or-map f xs i x (f x) lt) at (holds i (f x) lt'))
-
--- the first members, and the one that is read after them
-pub taken : {X : Type 0} (xs : List X) (i : ℕ) (x : X) → i < length xs → x ≡ get_or xs i x → take (i + 1) xs ≡ take i xs ++ x ∷ []
-taken xs i x lt read = take_more xs i x lt ∙ ap (λ z. take i xs ++ z ∷ []) (sym read)
 
 mapped-taken : {X Y : Type 0} (f : X → Y) (xs : List X) (i : ℕ) (x : X) → i < length xs → x ≡ get_or xs i x → map f (take (i + 1) xs) ≡ map f (take i xs) ++ f x ∷ []
 mapped-taken f xs i x lt read = ap (map f) (taken xs i x lt read) ∙ map-append f (take i xs) (x ∷ [])

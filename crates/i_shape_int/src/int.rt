@@ -9,4 +9,4 @@ pub mod safe_range;
 pub mod shape;
 pub mod simple;
 
-pub use i_shape_core::point::IntPoint;
+pub use i_shape_core::point::{ContourPoint, IntPoint};

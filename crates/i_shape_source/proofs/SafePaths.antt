@@ -1,11 +1,10 @@
 -- The safe paths of a contour, a shape and a list of shapes.
-use Rattle.std.proofs.Common.{◌≡◌, ◌↔◌, ◌∙◌, ◌+◌, ◌<◌, ◌≤◌, ◌&&◌, Bool, true, false, IsTrue, ℕ, ℤ, List, length, get_or, [], ◌∷◌, ◌++◌, map, take, refl, subst, sym, ap, add-one}
-use Rattle.std.proofs.Math.Seq.{take-suc}
+use Rattle.std.proofs.Common.{◌≡◌, ◌↔◌, Bool, false, IsTrue, ℤ, List, [], ◌∷◌, ◌++◌, map, subst, sym}
 use Rattle.std.specs.Global.{Vec}
 use Rattle.std.specs.Int.{Width}
 use Rattle.std.specs.List.{All}
-use Rattle.std.proofs.lemmas.List.{map-append, take_all}
-use Rattle.std.proofs.lemmas.List.Elements.{All-push, All-nil, All-cons, All-head, All-tail, All-append, All-map, All-weaker}
+use Rattle.std.proofs.lemmas.List.{map-append}
+use Rattle.std.proofs.lemmas.List.Elements.{All-nil, All-cons, All-head, All-tail, All-append, All-map, All-weaker}
 use Rattle.std.proofs.lemmas.Simd.{map-map}
 use Rattle.i_shape_core.specs.declared.point.IntPoint.{IntPoint}
 use Rattle.i_shape_core.specs.IntPoint.{contour_of, IsSafe}
@@ -14,7 +13,7 @@ use Rattle.i_shape_source.specs.ShapeLists.{shape_of, shapes_of, IsSafeShape, Is
 
 module _ {X : Type 0} (P : X → Type 0) where
   -- what holds of each member of two lists end to end holds of each member of either
-  parts : (xs ys : List X) → All P (xs ++ ys) → All P xs × All P ys
+  pub parts : (xs ys : List X) → All P (xs ++ ys) → All P xs × All P ys
   parts [] ys h = (All-nil P, h)
   parts (x ∷ xs) ys h =
       let rest = parts xs ys (All-tail P x (xs ++ ys) h) in
@@ -43,24 +42,6 @@ module _ {X : Type 0} (P : X → Type 0) where
       let both = parts block later (subst (All P) e (w.1 h)) in
       let t = f.1 both.0 in
       absurd (cc)
-
-  both : {A B : Type 0} (s t : Bool) → IsTrue s ↔ A → IsTrue t ↔ B → IsTrue (s && t) ↔ (A × B)
-  both true t f g = (λ h. (f.0 refl, g.0 h), λ k. g.1 k.1)
-  both false t f g = (λ h. absurd (cc), λ k. f.1 k.0)
-
-  -- what is told of a list's first members and of the next is told of one member more
-  pub next_told : (xs : List X) (i : ℕ) (x : X) (s t : Bool) → i < length xs → x ≡ get_or xs i x → IsTrue s ↔ All P (take i xs) → IsTrue t ↔ P x → IsTrue (s && t) ↔ All P (take (i + 1) xs)
-  next_told xs i x s t within read f g =
-      let taken : take (i + 1) xs ≡ take i xs ++ x ∷ [] = rw (add-one i) (take-suc xs i x within ∙ ap (λ (y : X). take i xs ++ y ∷ []) (sym read)) in
-      let told = both s t f g in
-      subst (λ (ys : List X). IsTrue (s && t) ↔ All P ys) (sym taken) (
-        λ h. let k = told.0 h in All-push P (take i xs) x k.0 k.1,
-        λ h. let k = parts (take i xs) (x ∷ []) h in told.1 (k.0, (alone x).0 k.1),
-      )
-
-  -- and of all of them is told of the list
-  pub whole_told : (xs : List X) (i : ℕ) (s : Bool) → length xs ≤ i → IsTrue s ↔ All P (take i xs) → IsTrue s ↔ All P xs
-  whole_told xs i s over f = subst (λ (ys : List X). IsTrue s ↔ All P ys) (take_all i xs over) f
 
 module _ {I : Type 0} (width : Width) (value : I → ℤ) where
   -- one path is safe where its points are

@@ -1,30 +1,18 @@
 -- The number at the front of a text.
-use Rattle.std.proofs.Common.{◌≡◌, ℕ, ℤ, ◌+◌, ◌*◌, ◌<◌, ◌≤◌, ◌^◌, List, [], ◌∷◌, ◌++◌, length, drop, refl, sym, ap, ◌∙◌, subst, arith, Bool, true, false, ◌==◌, cond, zero, suc, append_assoc, append-nil, length-append}
+use Rattle.std.proofs.Common.{◌≡◌, ℕ, ℤ, ◌+◌, ◌*◌, ◌<◌, ◌^◌, List, [], ◌∷◌, ◌++◌, length, take, drop, refl, sym, ap, ◌∙◌, subst, arith, Bool, true, false, ◌==◌, cond, zero, suc, append_assoc, append-nil, length-append}
 use Rattle.std.specs.List.{join_with_byte}
 use Rattle.std.specs.Char.{digit_value}
 use Rattle.std.specs.Int.{w32}
 use Rattle.std.specs.Int.RustNames.{FitsSigned}
-use Rattle.std.specs.Str.Parse.{AllDigits, IsNumeral, digits_value, digits_value_after, without_leading_sign, starts_with_minus}
+use Rattle.std.specs.Str.Parse.{AllDigits, IsNumeral, digits_value, without_leading_sign, starts_with_minus}
 use Rattle.std.proofs.lemmas.List.Splits.{slice_split_none, slice_split_at, join_with_byte-slice_split}
 use Rattle.std.proofs.lemmas.List.Elements.{All-from_recursion}
-use Rattle.std.proofs.lemmas.Str.Parse.{digit_from_value}
+use Rattle.std.proofs.Math.Seq.{take-append_seam}
+use Rattle.std.proofs.lemmas.Int.Digits.{digits_push, digits_value_push}
+use Rattle.std.proofs.lemmas.Str.Parse.{digit_from_value, digits_value-take-le}
 use Rattle.i_shape_tool.specs.Text.{space, IsDecimal, words_of}
 use Rattle.i_shape_tool.specs.Numeral.{EndsWord, EndsDigits, HasDigits, SaysNumber, with_sign}
 use Rattle.i_shape_tool.proofs.Reading.{LacksSpace, word_lacks_space}
-
--- the number that digits write after others
-value_append : (n : ℕ) (xs ys : List ℕ) → digits_value_after 10 n (xs ++ ys) ≡ digits_value_after 10 (digits_value_after 10 n xs) ys
-value_append n [] ys = refl
-value_append n (x ∷ xs) ys = value_append (n * 10 + digit_value x) xs ys
-
--- digits behind a number make it no smaller
-value_grows : (n : ℕ) (ds : List ℕ) → n ≤ digits_value_after 10 n ds
-value_grows n [] = omega arith
-value_grows n (d ∷ ds) = omega (arith, value_grows (n * 10 + digit_value d) ds)
-
-digits_append : (xs ys : List ℕ) → AllDigits 10 xs → AllDigits 10 ys → AllDigits 10 (xs ++ ys)
-digits_append [] ys h k = k
-digits_append (x ∷ xs) ys h k = (h.0, digits_append xs ys h.1 k)
 
 -- the text begins with digits that write this size, and then comes what is left
 pub record HasTaken (text left : List ℕ) (size : ℕ) : Type 0 where
@@ -42,8 +30,8 @@ pub take_digit : (text left after : List ℕ) (b size : ℕ) → HasTaken text l
 take_digit text left after b size done is digit = record {
   taken = done.taken ++ b ∷ [];
   split = done.split ∙ ap (λ l. done.taken ++ l) is ∙ sym (append_assoc done.taken (b ∷ []) after);
-  digits = digits_append done.taken (b ∷ []) done.digits (digit, tt);
-  writes = ap (λ n. n * 10 + digit_value b) done.writes ∙ sym (value_append 0 done.taken (b ∷ []));
+  digits = digits_push 10 done.taken b done.digits digit;
+  writes = ap (λ n. n * 10 + digit_value b) done.writes ∙ sym (digits_value_push 10 done.taken b);
 }
 
 -- a space is no digit
@@ -83,8 +71,8 @@ same_digits (x ∷ xs) rest (y ∷ ys) tail h k ends stops is =
 pub too_large : (text left : List ℕ) (size most : ℕ) → HasTaken text left size → most < size → (digits rest : List ℕ) → text ≡ digits ++ rest → EndsWord rest → IsNumeral 10 digits → most < digits_value 10 digits
 too_large text left size most done over digits rest is ends numeral =
     let on = goes_on done.taken left digits rest done.digits (ends_word rest ends) (sym done.split ∙ is) in
-    let value : digits_value 10 digits ≡ digits_value_after 10 (digits_value 10 done.taken) on.more = ap (digits_value 10) on.longer ∙ value_append 0 done.taken on.more in
-    omega (arith, value, value_grows (digits_value 10 done.taken) on.more, done.writes, over)
+    let first : take (length done.taken) digits ≡ done.taken = ap (take (length done.taken)) on.longer ∙ take-append_seam done.taken on.more in
+    omega (arith, digits_value-take-le 10 digits (length done.taken) (omega arith), ap (digits_value 10) first, done.writes, over)
 
 -- where no digit is taken and none follows, no number stands in front
 pub no_digits : (text left : List ℕ) (size : ℕ) → HasTaken text left size → length left ≡ length text → EndsDigits left → (digits rest : List ℕ) → text ≡ digits ++ rest → EndsWord rest → IsNumeral 10 digits → ⊥

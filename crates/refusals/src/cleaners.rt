@@ -1,4 +1,4 @@
-use crate::given::{SPIKED, SQUARE, contour, safe};
+use crate::given::{FLAT, SPIKED, SQUARE, contour, safe};
 use crate::told::{told, told_unrefused};
 use i_shape::int::IntPoint;
 use i_shape::int::despike::DeSpikeContour;
@@ -79,6 +79,47 @@ fn despiked_counted(rt: HostRuntime) -> Result<(), Fail> {
     let result = given.despiked_counted(alloc);
     if let Some((kept, _visits)) = told(&rt, "DeSpikeContour::despiked_counted", result)? {
         assert!(rt; kept.ok_or("it collapsed")?.as_slice() == SQUARE.as_slice());
+    }
+    Ok(())
+}
+
+#[test]
+fn despiked_contour_where_it_is_clean(rt: HostRuntime) -> Result<(), Fail> {
+    let points = safe(&rt, SQUARE.as_slice());
+    let result = points.despiked_contour(rt.alloc());
+    let name = "DeSpikeContour::despiked_contour of a clean contour";
+    if let Some(kept) = told(&rt, name, result)? {
+        assert!(rt; kept.ok_or("it collapsed")?.as_slice() == SQUARE.as_slice());
+    }
+    Ok(())
+}
+
+#[test]
+fn despiked_counted_where_it_is_clean(rt: HostRuntime) -> Result<(), Fail> {
+    let points = safe(&rt, SQUARE.as_slice());
+    let result = points.despiked_counted(rt.alloc());
+    let name = "DeSpikeContour::despiked_counted of a clean contour";
+    if let Some((kept, _visits)) = told(&rt, name, result)? {
+        assert!(rt; kept.ok_or("it collapsed")?.as_slice() == SQUARE.as_slice());
+    }
+    Ok(())
+}
+
+#[test]
+fn despiked_where_three_points_collapse(rt: HostRuntime) -> Result<(), Fail> {
+    let alloc = rt.alloc();
+    let points = safe(&rt, FLAT.as_slice());
+    let result = points.despiked_contour(alloc);
+    told_unrefused(
+        &rt,
+        "DeSpikeContour::despiked_contour of three points that collapse",
+        result,
+        None,
+    )?;
+    let result = points.despiked_counted(alloc);
+    let name = "DeSpikeContour::despiked_counted of three points that collapse";
+    if let Some((kept, _visits)) = told(&rt, name, result)? {
+        assert!(rt; kept == None);
     }
     Ok(())
 }

@@ -23,6 +23,9 @@ pub const SPIKED: [IntPoint<i32>; 6] = points![[0, 0], [2, 0], [4, 0], [2, 0], [
 /// That square without the spike.
 pub const SQUARE: [IntPoint<i32>; 4] = points![[0, 0], [2, 0], [2, 2], [0, 2]];
 
+/// Three points on a line.
+pub const FLAT: [IntPoint<i32>; 3] = points![[0, 0], [2, 0], [1, 0]];
+
 /// A triangle.
 pub const TRIANGLE: [IntPoint<i32>; 3] = points![[0, 0], [1, 0], [0, 1]];
 

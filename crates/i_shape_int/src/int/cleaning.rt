@@ -203,10 +203,9 @@ pub fn clean_shape_in_place<I: IntNumber, C: ContourCleaner<I>>(
     }
     let all_left = are_left(changes.as_slice());
     put_in_shape(shape, changes);
-    if all_left {
-        return Ok(true);
+    if !all_left {
+        take_out_collapsed(shape);
     }
-    take_out_collapsed(shape);
     Ok(true)
 }
 
@@ -226,9 +225,8 @@ pub fn clean_list_in_place<I: IntNumber, C: ContourCleaner<I>>(
     }
     let all_left = are_left(changes.as_slice());
     put_in_list(shapes, changes);
-    if all_left {
-        return Ok(true);
+    if !all_left {
+        take_out_of_list(shapes);
     }
-    take_out_of_list(shapes);
     Ok(true)
 }

@@ -9,7 +9,7 @@ ghost use Rattle.i_shape_int.specs.InPlace.{DespikesContour};
 mod shape;
 
 use crate::int::shape::IntContour;
-pub use i_shape_core::despike::DeSpikeContour;
+pub use i_shape_core::despike::{ContourDeSpiker, DeSpikeContour};
 use i_shape_core::error::ShapeError;
 use i_shape_core::number::IntNumber;
 pub(crate) use shape::SpikeRemover;

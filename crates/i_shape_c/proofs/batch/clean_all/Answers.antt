@@ -13,7 +13,7 @@ part-ring-requires-clause-within g c =
 
 pub clean_into-requires-clause-points_safe : goal.clean_into-requires-clause-points_safe
 clean_into-requires-clause-points_safe g c =
-    let at = λ (p : g.row.P.Denot). point_of g.P.Coordinate.IntNumber.value (g.P.CPoint.point p) in
+    let at = λ (p : g.row.P.Denot). point_of g.P.Coordinate.IntNumber.value (g.P.ContourPoint.point p) in
     rw (c.part-ring.ensures.part)
     (safe_part g.P.Coordinate.IntNumber.width at c.args.points.now c.args.offsets.now (c.loop-place.place - 1) c.loop-place.place c.requires.can.order (omega arith) c.loop-place-test.true c.requires.points_safe)
 
@@ -24,7 +24,7 @@ clean_into-requires-clause-room g c =
 
 pub loop-place-preserved : goal.loop-place-preserved
 loop-place-preserved g c =
-    let at = λ (p : g.row.P.Denot). point_of g.P.Coordinate.IntNumber.value (g.P.CPoint.point p) in
+    let at = λ (p : g.row.P.Denot). point_of g.P.Coordinate.IntNumber.value (g.P.ContourPoint.point p) in
     let done = c.loop-place.invariant.done in
     let clean = c.in_ok-written.ensures in
     let end = c.in_ok-written.written in
@@ -50,7 +50,7 @@ returns-in_err-written-clause-err g c =
 
 pub returns-clause-ok : goal.returns-clause-ok
 returns-clause-ok g c =
-    let at = λ (p : g.row.P.Denot). point_of g.P.Coordinate.IntNumber.value (g.P.CPoint.point p) in
+    let at = λ (p : g.row.P.Denot). point_of g.P.Coordinate.IntNumber.value (g.P.ContourPoint.point p) in
     all_done g.C.Cleaner.gives g.P.Coordinate.IntNumber.width at c.args.points.now c.args.offsets.now c.args.out_points.now c.loop-place.out_points c.args.out_offsets.now c.loop-place.out_offsets
     c.loop-place.place c.loop-place.written c.loop-place-test.false (c.loop-place.auto.place-end (omega (arith, c.requires.can.some))) c.requires.can.last c.loop-place.invariant.done
     c.loop-place.invariant.points_rest c.loop-place.invariant.offsets_rest

@@ -5,4 +5,4 @@ use Rattle.i_shape_c.proofs.lists.are_safe.Given as goal
 
 abbrev pub invariant-loop-given : goal.invariant-loop-given
 invariant-loop-given g l =
-    IsTrue l.safe ↔ AreSafe g.P.Coordinate.IntNumber.width (λ p. point_of g.P.Coordinate.IntNumber.value (g.P.CPoint.point p)) (take l.given-index l.points)
+    IsTrue l.safe ↔ AreSafe g.P.Coordinate.IntNumber.width (λ p. point_of g.P.Coordinate.IntNumber.value (g.P.ContourPoint.point p)) (take l.given-index l.points)

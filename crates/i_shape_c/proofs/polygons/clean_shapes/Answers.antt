@@ -19,7 +19,7 @@ returns-in-Ok-clause-answer g c =
     let wrote = c.write_shapes.ensures in
     let count : c.len.result ≡ length left.shape_ranges.items = omega (arith, c.len.ensures, left.shape_ranges.ok.0) in
     let small : c.len.result < 2 ^ 63 = omega (arith, count, fewer.2, can.shapes_fit.offsets_room, c.requires) in
-    rw (to_z_pos w64 c.len.result small, count) (shapes_written g.S.ShapesCleaner.gives g.P.Coordinate.IntNumber.value g.P.CPoint.point g.P.CPoint.c_point g.P.CPoint.same c.args.points.now c.args.contours.now c.args.shapes.now
+    rw (to_z_pos w64 c.len.result small, count) (shapes_written g.S.ShapesCleaner.gives g.P.Coordinate.IntNumber.value g.P.ContourPoint.point g.P.CPoint.c_point g.met.P.CPoint.same c.args.points.now c.args.contours.now c.args.shapes.now
     c.args.out_points.now c.write_shapes.new.out_points c.args.out_contours.now c.write_shapes.new.out_contours c.args.out_shapes.now c.write_shapes.new.out_shapes
     left held.0 held.1 held.2 wrote.points wrote.rest wrote.contours wrote.shapes fewer)
 

@@ -17,8 +17,8 @@ part-requires-clause-within g c =
 
 pub loop-place-preserved : goal.loop-place-preserved
 loop-place-preserved g c =
-    contour_more g.P.Coordinate.IntNumber.value g.P.CPoint.point c.args.points.now c.args.contours.now c.args.from c.loop-place.place c.loop-place.shape.items c.push.new.self.items c.copy_in.new.copy
-    c.loop-place.auto.place (c.in_ok-copy_in.ensures ∙ ap (map g.P.CPoint.point) c.part.ensures.part) c.in_ok-push.ensures.items c.loop-place.invariant
+    contour_more g.P.Coordinate.IntNumber.value g.P.ContourPoint.point c.args.points.now c.args.contours.now c.args.from c.loop-place.place c.loop-place.shape.items c.push.new.self.items c.copy_in.new.copy
+    c.loop-place.auto.place (c.in_ok-copy_in.ensures ∙ ap (map g.P.ContourPoint.point) c.part.ensures.part) c.in_ok-push.ensures.items c.loop-place.invariant
 
 pub returns : goal.returns
 returns g c =

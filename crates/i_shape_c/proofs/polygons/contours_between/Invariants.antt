@@ -7,4 +7,4 @@ use Rattle.i_shape_c.proofs.polygons.contours_between.Given as goal
 
 abbrev pub invariant-loop-place : goal.invariant-loop-place
 invariant-loop-place g l =
-    shape_of g.P.Coordinate.IntNumber.value l.shape.items ≡ map (ring (map (λ p. point_of g.P.Coordinate.IntNumber.value (g.P.CPoint.point p)) l.points) l.contours) (range_with_len l.from (l.place - l.from))
+    shape_of g.P.Coordinate.IntNumber.value l.shape.items ≡ map (ring (map (λ p. point_of g.P.Coordinate.IntNumber.value (g.P.ContourPoint.point p)) l.points) l.contours) (range_with_len l.from (l.place - l.from))

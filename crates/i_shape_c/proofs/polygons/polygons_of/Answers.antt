@@ -20,7 +20,7 @@ contours_between-requires-clause-within g c =
 pub loop-place-preserved : goal.loop-place-preserved
 loop-place-preserved g c =
     let value = g.P.Coordinate.IntNumber.value in
-    let to = g.P.CPoint.point in
+    let to = g.P.ContourPoint.point in
     let shapes = c.args.shapes.now in
     let contours = c.args.contours.now in
     let given = map (λ p. point_of value (to p)) c.args.points.now in
@@ -38,6 +38,6 @@ loop-place-preserved g c =
 pub returns : goal.returns
 returns g c =
     let value = g.P.Coordinate.IntNumber.value in
-    let given = map (λ p. point_of value (g.P.CPoint.point p)) c.args.points.now in
+    let given = map (λ p. point_of value (g.P.ContourPoint.point p)) c.args.points.now in
     let same : c.loop-place.place ≡ length c.args.shapes.now = omega (arith, c.loop-place-test.false, c.loop-place.auto.place-end, c.requires.shapes_part.some) in
     subst (λ n. shapes_of value c.loop-place.list.items ≡ map (ring (parts given c.args.contours.now) c.args.shapes.now) (range_with_len 0 (n - 1))) same c.loop-place.invariant

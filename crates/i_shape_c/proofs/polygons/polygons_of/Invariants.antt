@@ -8,4 +8,4 @@ use Rattle.i_shape_c.proofs.polygons.polygons_of.Given as goal
 
 abbrev pub invariant-loop-place : goal.invariant-loop-place
 invariant-loop-place g l =
-    shapes_of g.P.Coordinate.IntNumber.value l.list.items ≡ map (ring (parts (map (λ p. point_of g.P.Coordinate.IntNumber.value (g.P.CPoint.point p)) l.points) l.contours) l.shapes) (range_with_len 0 (l.place - 1))
+    shapes_of g.P.Coordinate.IntNumber.value l.list.items ≡ map (ring (parts (map (λ p. point_of g.P.Coordinate.IntNumber.value (g.P.ContourPoint.point p)) l.points) l.contours) l.shapes) (range_with_len 0 (l.place - 1))

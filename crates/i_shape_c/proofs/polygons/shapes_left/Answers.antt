@@ -10,7 +10,7 @@ use Rattle.i_shape_c.proofs.polygons.shapes_left.Goals as goal
 
 pub clean-requires : goal.clean-requires
 clean-requires g c =
-    let at : g.row.P.Denot → Point = λ p. point_of g.P.Coordinate.IntNumber.value (g.P.CPoint.point p) in
+    let at : g.row.P.Denot → Point = λ p. point_of g.P.Coordinate.IntNumber.value (g.P.ContourPoint.point p) in
     rw c.in_ok-list.ensures (safe_polygons g.P.Coordinate.IntNumber.width at c.args.points.now c.args.contours.now c.args.shapes.now c.requires.contours_part.order c.requires.points_safe)
 
 pub returns-clause-left : goal.returns-clause-left
@@ -21,7 +21,7 @@ returns-clause-left g c =
 pub returns-clause-fewer : goal.returns-clause-fewer
 returns-clause-fewer g c =
     let value = g.P.Coordinate.IntNumber.value in
-    let at : g.row.P.Denot → Point = λ p. point_of value (g.P.CPoint.point p) in
+    let at : g.row.P.Denot → Point = λ p. point_of value (g.P.ContourPoint.point p) in
     let left = c.in_ok-left.left.items in
     let given = polygons (map at c.args.points.now) c.args.contours.now c.args.shapes.now in
     let made = map (map (contour_of value)) (shape_lists left) in

@@ -4,11 +4,11 @@ use Rattle.i_shape_c.proofs.tests.test_contour.Goals as goal
 
 pub test-requires-clause-points_safe : goal.test-requires-clause-points_safe
 test-requires-clause-points_safe g c =
-    safe_contour g.P.Coordinate.IntNumber.width g.P.Coordinate.IntNumber.value g.P.CPoint.point c.args.points.now c.copy_in.new.copy.items c.in-Ok.ensures (c.if-not-are_safe.ensures.0 refl)
+    safe_contour g.P.Coordinate.IntNumber.width g.P.Coordinate.IntNumber.value g.P.ContourPoint.point c.args.points.now c.copy_in.new.copy.items c.in-Ok.ensures (c.if-not-are_safe.ensures.0 refl)
 
 pub returns-then-test-clause-answer : goal.returns-then-test-clause-answer
 returns-then-test-clause-answer g c =
-    let same = copied g.P.Coordinate.IntNumber.width g.P.Coordinate.IntNumber.value g.P.CPoint.point c.args.points.now c.copy_in.new.copy.items c.in-Ok.ensures in
+    let same = copied g.P.Coordinate.IntNumber.width g.P.Coordinate.IntNumber.value g.P.ContourPoint.point c.args.points.now c.copy_in.new.copy.items c.in-Ok.ensures in
     subst (g.T.ContourTest.holds c.args.test) same (c.if-test.ensures.0 refl)
 
 pub returns-then-test-clause-unsafe_points : goal.returns-then-test-clause-unsafe_points
@@ -16,7 +16,7 @@ returns-then-test-clause-unsafe_points g c = (λ is. search rules, λ not_safe. 
 
 pub returns-clause-answer : goal.returns-clause-answer
 returns-clause-answer g c = λ holds.
-    let same = copied g.P.Coordinate.IntNumber.width g.P.Coordinate.IntNumber.value g.P.CPoint.point c.args.points.now c.copy_in.new.copy.items c.in-Ok.ensures in
+    let same = copied g.P.Coordinate.IntNumber.width g.P.Coordinate.IntNumber.value g.P.ContourPoint.point c.args.points.now c.copy_in.new.copy.items c.in-Ok.ensures in
     let told : IsTrue false = c.if-test.ensures.1 (subst (g.T.ContourTest.holds c.args.test) (sym same) holds) in
     cc
 

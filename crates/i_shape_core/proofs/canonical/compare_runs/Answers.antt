@@ -7,7 +7,7 @@ use Rattle.i_shape_core.proofs.canonical.compare_runs.Goals as goal
 pub loop-step-preserved : goal.loop-step-preserved
 loop-step-preserved g c =
     let inv = c.loop-step.invariant in
-    let whole = contour_of g.I.IntNumber.value c.args.comparer.now.contour in
+    let whole = contour_of g.P.Coordinate.IntNumber.value c.args.comparer.now.contour in
     record {
       contour = c.compare.ensures.contour ∙ inv.contour;
       agree = below_more (λ t. point_at whole (c.args.ours + t) ≡ point_at whole (c.args.theirs + t)) c.loop-step.step inv.agree

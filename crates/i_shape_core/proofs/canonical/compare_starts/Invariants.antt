@@ -6,7 +6,7 @@ use Rattle.i_shape_core.proofs.canonical.compare_starts.Given as goal
 abbrev pub invariant-loop-matched : goal.invariant-loop-matched
 invariant-loop-matched g l = record {
   contour : l.comparer.contour ≡ l.initial.comparer.contour;
-  agree : Agree (contour_of g.I.IntNumber.value l.initial.comparer.contour) l.kept l.rival l.matched;
+  agree : Agree (contour_of g.P.Coordinate.IntNumber.value l.initial.comparer.contour) l.kept l.rival l.matched;
   within : l.matched ≤ l.count;
   counted : l.comparer.comparisons + 1 ≡ l.initial.comparer.comparisons + l.matched;
 }

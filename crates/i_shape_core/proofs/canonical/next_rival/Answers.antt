@@ -7,7 +7,7 @@ use Rattle.i_shape_core.proofs.canonical.next_rival.Goals as goal
 pub loop-place-preserved : goal.loop-place-preserved
 loop-place-preserved g c =
     let inv = c.loop-place.invariant in
-    let whole = contour_of g.I.IntNumber.value c.args.comparer.now.contour in
+    let whole = contour_of g.P.Coordinate.IntNumber.value c.args.comparer.now.contour in
     record {
       contour = c.compare.ensures.contour ∙ inv.contour;
       after = after-more whole (point_at whole c.args.kept) c.args.from c.loop-place.place inv.after

@@ -6,7 +6,7 @@ use Rattle.i_shape_core.proofs.canonical.next_rival.Given as goal
 
 abbrev pub invariant-loop-place : goal.invariant-loop-place
 invariant-loop-place g l =
-    let c = contour_of g.I.IntNumber.value l.initial.comparer.contour in
+    let c = contour_of g.P.Coordinate.IntNumber.value l.initial.comparer.contour in
     record {
       contour : l.comparer.contour ≡ l.initial.comparer.contour;
       after : AreAfter c (point_at c l.kept) l.from l.place;

@@ -9,9 +9,9 @@ loop-challenger-preserved-in-Less g c =
     let count = c.len-count.ensures in
     let found = c.next_rival-rival.ensures in
     let compared = c.compare_starts-compared.ensures in
-    let s = met g.I.IntNumber.value _ _ inv.contour _ _ _ _ count inv.search found.within found.passed in
-    let wr = is_rival g.I.IntNumber.value _ _ inv.contour _ _ _ count found.within c.if-rival-count.false in
-    let ahead = less_told g.I.IntNumber.value _ _ (found.contour ∙ inv.contour) _ _ _ _ c.in-Less.is compared.order in
+    let s = met g.P.Coordinate.IntNumber.value _ _ inv.contour _ _ _ _ count inv.search found.within found.passed in
+    let wr = is_rival g.P.Coordinate.IntNumber.value _ _ inv.contour _ _ _ count found.within c.if-rival-count.false in
+    let ahead = less_told g.P.Coordinate.IntNumber.value _ _ (found.contour ∙ inv.contour) _ _ _ _ c.in-Less.is compared.order in
     let bounds = lost_in_step _ _ _ _ _ _ _ _ inv.slow inv.moved (met_after _ _ _ _ _ _ _ count (ap length inv.contour) wr found.counted) compared.counted (room_after _ _ _ c.if-compared-count.false) in
     record {
       contour = compared.contour ∙ (found.contour ∙ inv.contour);
@@ -27,9 +27,9 @@ overflow_add-kept g c =
     let count = c.len-count.ensures in
     let found = c.next_rival-rival.ensures in
     let compared = c.compare_starts-compared.ensures in
-    let s = met g.I.IntNumber.value _ _ inv.contour _ _ _ _ count inv.search found.within found.passed in
-    let wr = is_rival g.I.IntNumber.value _ _ inv.contour _ _ _ count found.within c.if-rival-count.false in
-    let ahead = greater_told g.I.IntNumber.value _ _ (found.contour ∙ inv.contour) _ _ _ _ c.in-Greater.is compared.order in
+    let s = met g.P.Coordinate.IntNumber.value _ _ inv.contour _ _ _ _ count inv.search found.within found.passed in
+    let wr = is_rival g.P.Coordinate.IntNumber.value _ _ inv.contour _ _ _ count found.within c.if-rival-count.false in
+    let ahead = greater_told g.P.Coordinate.IntNumber.value _ _ (found.contour ∙ inv.contour) _ _ _ _ c.in-Greater.is compared.order in
     sum_fits _ _ _ (inside _ _ _ _ _ s wr ahead) c.len-count.type_inv
 
 pub overflow_add-challenger-in-Greater : goal.overflow_add-challenger-in-Greater
@@ -38,9 +38,9 @@ overflow_add-challenger-in-Greater g c =
     let count = c.len-count.ensures in
     let found = c.next_rival-rival.ensures in
     let compared = c.compare_starts-compared.ensures in
-    let s = met g.I.IntNumber.value _ _ inv.contour _ _ _ _ count inv.search found.within found.passed in
-    let wr = is_rival g.I.IntNumber.value _ _ inv.contour _ _ _ count found.within c.if-rival-count.false in
-    let ahead = greater_told g.I.IntNumber.value _ _ (found.contour ∙ inv.contour) _ _ _ _ c.in-Greater.is compared.order in
+    let s = met g.P.Coordinate.IntNumber.value _ _ inv.contour _ _ _ _ count inv.search found.within found.passed in
+    let wr = is_rival g.P.Coordinate.IntNumber.value _ _ inv.contour _ _ _ count found.within c.if-rival-count.false in
+    let ahead = greater_told g.P.Coordinate.IntNumber.value _ _ (found.contour ∙ inv.contour) _ _ _ _ c.in-Greater.is compared.order in
     next_fits _ _ _ _ c.max-kept.ensures (inside _ _ _ _ _ s wr ahead) c.len-count.type_inv
 
 pub loop-challenger-preserved : goal.loop-challenger-preserved
@@ -49,9 +49,9 @@ loop-challenger-preserved g c =
     let count = c.len-count.ensures in
     let found = c.next_rival-rival.ensures in
     let compared = c.compare_starts-compared.ensures in
-    let s = met g.I.IntNumber.value _ _ inv.contour _ _ _ _ count inv.search found.within found.passed in
-    let wr = is_rival g.I.IntNumber.value _ _ inv.contour _ _ _ count found.within c.if-rival-count.false in
-    let ahead = greater_told g.I.IntNumber.value _ _ (found.contour ∙ inv.contour) _ _ _ _ c.in-Greater.is compared.order in
+    let s = met g.P.Coordinate.IntNumber.value _ _ inv.contour _ _ _ _ count inv.search found.within found.passed in
+    let wr = is_rival g.P.Coordinate.IntNumber.value _ _ inv.contour _ _ _ count found.within c.if-rival-count.false in
+    let ahead = greater_told g.P.Coordinate.IntNumber.value _ _ (found.contour ∙ inv.contour) _ _ _ _ c.in-Greater.is compared.order in
     let bounds = kept_in_step _ _ _ _ _ _ _ _ inv.slow inv.moved (met_after _ _ _ _ _ _ _ count (ap length inv.contour) wr found.counted) compared.counted _ (is_next _ _ _ _ _ _ c.max-kept.ensures (inside _ _ _ _ _ s wr ahead) s.apart ahead.last) in
     record {
       contour = compared.contour ∙ (found.contour ∙ inv.contour);
@@ -70,7 +70,7 @@ returns-then-rival-count-clause-least g c =
     let inv = c.loop-challenger.invariant in
     let count = c.len-count.ensures in
     let found = c.next_rival-rival.ensures in
-    let s = met g.I.IntNumber.value _ _ inv.contour _ _ _ _ count inv.search found.within found.passed in
+    let s = met g.P.Coordinate.IntNumber.value _ _ inv.contour _ _ _ _ count inv.search found.within found.passed in
     search_past _ _ _ _ s (omega arith)
 
 pub returns-in-Equal-clause-least : goal.returns-in-Equal-clause-least
@@ -79,8 +79,8 @@ returns-in-Equal-clause-least g c =
     let count = c.len-count.ensures in
     let found = c.next_rival-rival.ensures in
     let compared = c.compare_starts-compared.ensures in
-    let s = met g.I.IntNumber.value _ _ inv.contour _ _ _ _ count inv.search found.within found.passed in
-    let same = equal_told g.I.IntNumber.value _ _ (found.contour ∙ inv.contour) _ _ _ _ c.in-Equal.is compared.order in
+    let s = met g.P.Coordinate.IntNumber.value _ _ inv.contour _ _ _ _ count inv.search found.within found.passed in
+    let same = equal_told g.P.Coordinate.IntNumber.value _ _ (found.contour ∙ inv.contour) _ _ _ _ c.in-Equal.is compared.order in
     round_least _ _ _ _ _ count s same.0
 
 pub returns-then-compared-count-clause-least : goal.returns-then-compared-count-clause-least
@@ -89,9 +89,9 @@ returns-then-compared-count-clause-least g c =
     let count = c.len-count.ensures in
     let found = c.next_rival-rival.ensures in
     let compared = c.compare_starts-compared.ensures in
-    let s = met g.I.IntNumber.value _ _ inv.contour _ _ _ _ count inv.search found.within found.passed in
-    let wr = is_rival g.I.IntNumber.value _ _ inv.contour _ _ _ count found.within c.if-rival-count.false in
-    let ahead = less_told g.I.IntNumber.value _ _ (found.contour ∙ inv.contour) _ _ _ _ c.in-Less.is compared.order in
+    let s = met g.P.Coordinate.IntNumber.value _ _ inv.contour _ _ _ _ count inv.search found.within found.passed in
+    let wr = is_rival g.P.Coordinate.IntNumber.value _ _ inv.contour _ _ _ count found.within c.if-rival-count.false in
+    let ahead = less_told g.P.Coordinate.IntNumber.value _ _ (found.contour ∙ inv.contour) _ _ _ _ c.in-Less.is compared.order in
     search_past _ _ _ (c.next_rival-rival.result.0 + c.compare_starts-compared.result.0) (lost _ _ _ _ _ s wr ahead) (omega arith)
 
 pub returns-after-loop-challenger-clause-most : goal.returns-after-loop-challenger-clause-most
@@ -112,8 +112,8 @@ returns-in-Equal-clause-most g c =
     let count = c.len-count.ensures in
     let found = c.next_rival-rival.ensures in
     let compared = c.compare_starts-compared.ensures in
-    let wr = is_rival g.I.IntNumber.value _ _ inv.contour _ _ _ count found.within c.if-rival-count.false in
-    let same = equal_told g.I.IntNumber.value _ _ (found.contour ∙ inv.contour) _ _ _ _ c.in-Equal.is compared.order in
+    let wr = is_rival g.P.Coordinate.IntNumber.value _ _ inv.contour _ _ _ count found.within c.if-rival-count.false in
+    let same = equal_told g.P.Coordinate.IntNumber.value _ _ (found.contour ∙ inv.contour) _ _ _ _ c.in-Equal.is compared.order in
     all_compared _ _ _ _ _ _ _ _ inv.slow inv.moved (met_after _ _ _ _ _ _ _ count (ap length inv.contour) wr found.counted) compared.counted _ count inv.search.apart found.within.0 wr same.1
 
 pub compare_starts-compared-requires-clause-room : goal.compare_starts-compared-requires-clause-room
@@ -121,6 +121,6 @@ compare_starts-compared-requires-clause-room g c =
     let inv = c.loop-challenger.invariant in
     let count = c.len-count.ensures in
     let found = c.next_rival-rival.ensures in
-    let wr = is_rival g.I.IntNumber.value _ _ inv.contour _ _ _ count found.within c.if-rival-count.false in
+    let wr = is_rival g.P.Coordinate.IntNumber.value _ _ inv.contour _ _ _ count found.within c.if-rival-count.false in
     let counted = met_after _ _ _ _ _ _ _ count (ap length inv.contour) wr found.counted in
     room_to_compare _ _ _ _ _ _ _ _ _ c.len-count.type_inv count (ap length inv.contour) (ap length found.contour) inv.moved counted (omega (arith, inv.search.apart, found.within.0)) wr

@@ -6,7 +6,7 @@ use Rattle.i_shape_core.proofs.canonical.search_starts.Given as goal
 abbrev pub invariant-loop-challenger : goal.invariant-loop-challenger
 invariant-loop-challenger g l = record {
   contour : l.comparer.contour ≡ l.initial.comparer.contour;
-  search : IsSearch (contour_of g.I.IntNumber.value l.initial.comparer.contour) l.count l.kept l.challenger;
+  search : IsSearch (contour_of g.P.Coordinate.IntNumber.value l.initial.comparer.contour) l.count l.kept l.challenger;
   slow : l.challenger ≤ l.comparer.comparisons + 1;
   moved : l.comparer.comparisons + 1 ≤ l.kept + l.challenger;
   short : l.challenger ≤ l.count;

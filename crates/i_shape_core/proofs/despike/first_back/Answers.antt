@@ -7,7 +7,7 @@ use Rattle.i_shape_core.proofs.despike.first_back.Goals as goal
 
 pub loop-place-init : goal.loop-place-init
 loop-place-init g c =
-    let long = length-contour g.I.IntNumber.value c.args.probe.now.contour in
+    let long = length-contour g.P.Coordinate.IntNumber.value c.args.probe.now.contour in
     record {
       contour = refl;
       visits = c.requires.fresh;
@@ -18,8 +18,8 @@ loop-place-init g c =
 
 pub returns-then-is_back_between-clause-answer : goal.returns-then-is_back_between-clause-answer
 returns-then-is_back_between-clause-answer g c =
-    let whole : List Point = contour_of g.I.IntNumber.value c.args.probe.now.contour in
-    let long : length whole ≡ length c.args.probe.now.contour = length-contour g.I.IntNumber.value c.args.probe.now.contour in
+    let whole : List Point = contour_of g.P.Coordinate.IntNumber.value c.args.probe.now.contour in
+    let long : length whole ≡ length c.args.probe.now.contour = length-contour g.P.Coordinate.IntNumber.value c.args.probe.now.contour in
     let inv = c.loop-place.invariant in
     let test = rw inv.contour at c.is_back_between.ensures.test in (
       record {
@@ -32,8 +32,8 @@ returns-then-is_back_between-clause-answer g c =
 
 pub loop-place-preserved : goal.loop-place-preserved
 loop-place-preserved g c =
-    let whole : List Point = contour_of g.I.IntNumber.value c.args.probe.now.contour in
-    let long : length whole ≡ length c.args.probe.now.contour = length-contour g.I.IntNumber.value c.args.probe.now.contour in
+    let whole : List Point = contour_of g.P.Coordinate.IntNumber.value c.args.probe.now.contour in
+    let long : length whole ≡ length c.args.probe.now.contour = length-contour g.P.Coordinate.IntNumber.value c.args.probe.now.contour in
     let inv = c.loop-place.invariant in
     let test = rw inv.contour at c.is_back_between.ensures.test in
     record {
@@ -47,8 +47,8 @@ loop-place-preserved g c =
 
 pub returns-then-is_back_between-2-clause-answer : goal.returns-then-is_back_between-2-clause-answer
 returns-then-is_back_between-2-clause-answer g c =
-    let whole : List Point = contour_of g.I.IntNumber.value c.args.probe.now.contour in
-    let long : length whole ≡ length c.args.probe.now.contour = length-contour g.I.IntNumber.value c.args.probe.now.contour in
+    let whole : List Point = contour_of g.P.Coordinate.IntNumber.value c.args.probe.now.contour in
+    let long : length whole ≡ length c.args.probe.now.contour = length-contour g.P.Coordinate.IntNumber.value c.args.probe.now.contour in
     let inv = c.loop-place.invariant in
     let test = rw inv.contour at c.is_back_between-2.ensures.test in
     let last : ℕ = c.len-last.result - 1 in
@@ -64,8 +64,8 @@ returns-then-is_back_between-2-clause-answer g c =
 
 pub returns-clause-answer : goal.returns-clause-answer
 returns-clause-answer g c =
-    let whole : List Point = contour_of g.I.IntNumber.value c.args.probe.now.contour in
-    let long : length whole ≡ length c.args.probe.now.contour = length-contour g.I.IntNumber.value c.args.probe.now.contour in
+    let whole : List Point = contour_of g.P.Coordinate.IntNumber.value c.args.probe.now.contour in
+    let long : length whole ≡ length c.args.probe.now.contour = length-contour g.P.Coordinate.IntNumber.value c.args.probe.now.contour in
     let inv = c.loop-place.invariant in
     let test = rw inv.contour at c.is_back_between-2.ensures.test in
     let last : ℕ = c.len-last.result - 1 in

@@ -10,6 +10,6 @@ invariant-loop-place g l = record {
   contour : l.probe.contour ≡ l.initial.probe.contour;
   visits : l.probe.visits ≡ l.place;
   before_within : l.before < length l.initial.probe.contour;
-  follows : Follows (length (contour_of g.I.IntNumber.value l.initial.probe.contour)) l.before l.place;
-  earlier : (k : ℕ) → k < l.place → IsRemovable IsBack (contour_of g.I.IntNumber.value l.initial.probe.contour) k → ⊥;
+  follows : Follows (length (contour_of g.P.Coordinate.IntNumber.value l.initial.probe.contour)) l.before l.place;
+  earlier : (k : ℕ) → k < l.place → IsRemovable IsBack (contour_of g.P.Coordinate.IntNumber.value l.initial.probe.contour) k → ⊥;
 }

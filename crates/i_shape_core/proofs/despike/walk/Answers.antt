@@ -1,40 +1,39 @@
-use Rattle.std.proofs.Common.{◌≡◌, ◌∙◌, ◌<◌, ℕ, List, map, length, sym, ap, subst, arith}
+use Rattle.std.proofs.Common.{◌≡◌, ◌∙◌, ◌<◌, ℕ, List, map, length, refl, sym, ap, subst, arith}
 use Rattle.std.specs.List.{All}
 use Rattle.std.proofs.lemmas.List.{length-map, length-append, length-drop, length-take}
 use Rattle.i_shape_core.specs.IntPoint.{contour_of}
 use Rattle.i_shape_core.specs.Point.{Point, IsBack}
 use Rattle.i_shape_core.specs.Contour.{point_at}
-use Rattle.i_shape_core.specs.Walks.{Falls, Finds, IsRingState, in_order}
-use Rattle.i_shape_core.specs.declared.point.IntPoint.{IntPoint}
-use Rattle.i_shape_core.proofs.Contours.{refuted, length-contour, kept-contour}
+use Rattle.i_shape_core.specs.Walks.{Falls, IsRingState, in_order}
+use Rattle.i_shape_core.proofs.Contours.{refuted, length-contour}
 use Rattle.i_shape_core.proofs.RingStates.{state_keeps, state_removes, state_collapses, state_ends, ends_below}
 use Rattle.i_shape_core.proofs.despike.walk.Goals as goal
 
 pub is_back_at-requires-clause-enough : goal.is_back_at-requires-clause-enough
 is_back_at-requires-clause-enough g c =
-    let whole : List Point = contour_of g.I.IntNumber.value c.args.probe.contour in
+    let whole : List Point = contour_of g.P.Coordinate.IntNumber.value c.args.probe.now.contour in
     omega (arith, c.loop-probe.invariant.state.walk.enough, length-map c.loop-probe.ring.places (point_at whole))
 
 pub is_back_at-requires-clause-below : goal.is_back_at-requires-clause-below
 is_back_at-requires-clause-below g c =
     let inv = c.loop-probe.invariant in
-    let whole : List Point = contour_of g.I.IntNumber.value c.args.probe.contour in
-    let long : length whole ≡ length c.loop-probe.probe.contour = length-contour g.I.IntNumber.value c.args.probe.contour ∙ ap length (sym inv.contour) in
+    let whole : List Point = contour_of g.P.Coordinate.IntNumber.value c.args.probe.now.contour in
+    let long : length whole ≡ length c.loop-probe.probe.contour = length-contour g.P.Coordinate.IntNumber.value c.args.probe.now.contour ∙ ap length (sym inv.contour) in
     subst (λ (n : ℕ). All (λ k. k < n) c.loop-probe.ring.places) long inv.state.below
 
 pub is_back_at-requires-clause-room : goal.is_back_at-requires-clause-room
 is_back_at-requires-clause-room g c =
-    grind (arith, c.loop-probe.invariant.state.at_most, length-contour g.I.IntNumber.value c.args.probe.contour)
+    grind (arith, c.requires.room, c.loop-probe.invariant.state.at_most, length-contour g.P.Coordinate.IntNumber.value c.args.probe.now.contour)
 
 pub loop-probe-smaller-then-not-is_back_at : goal.loop-probe-smaller-then-not-is_back_at
 loop-probe-smaller-then-not-is_back_at g c =
-    let whole : List Point = contour_of g.I.IntNumber.value c.args.probe.contour in
+    let whole : List Point = contour_of g.P.Coordinate.IntNumber.value c.args.probe.now.contour in
     let same = simp (length-append, length-drop) at (ap length c.keep.ensures.places) in
     omega (arith, c.loop-probe.invariant.state.walk.enough, length-map c.loop-probe.ring.places (point_at whole), same, c.keep.ensures.untested)
 
 pub loop-probe-preserved-then-not-is_back_at : goal.loop-probe-preserved-then-not-is_back_at
 loop-probe-preserved-then-not-is_back_at g c =
-    let whole : List Point = contour_of g.I.IntNumber.value c.args.probe.contour in
+    let whole : List Point = contour_of g.P.Coordinate.IntNumber.value c.args.probe.now.contour in
     let inv = c.loop-probe.invariant in
     let ring = c.loop-probe.ring in
     let test = rw inv.contour at c.is_back_at.ensures.test in
@@ -53,7 +52,7 @@ loop-probe-smaller g c =
 
 pub loop-probe-preserved : goal.loop-probe-preserved
 loop-probe-preserved g c =
-    let whole : List Point = contour_of g.I.IntNumber.value c.args.probe.contour in
+    let whole : List Point = contour_of g.P.Coordinate.IntNumber.value c.args.probe.now.contour in
     let inv = c.loop-probe.invariant in
     let ring = c.loop-probe.ring in
     let test = rw inv.contour at c.is_back_at.ensures.test in
@@ -65,35 +64,27 @@ loop-probe-preserved g c =
           c.remove.ensures.places c.remove.ensures.untested c.remove.ensures.lead);
     }
 
-pub returns-else-len-gt3-clause-answer : goal.returns-else-len-gt3-clause-answer
-returns-else-len-gt3-clause-answer g c =
-    let whole : List Point = contour_of g.I.IntNumber.value c.args.probe.contour in
+pub returns-else-len-gt3-clause-falls : goal.returns-else-len-gt3-clause-falls
+returns-else-len-gt3-clause-falls g c = λ no.
+    let whole : List Point = contour_of g.P.Coordinate.IntNumber.value c.args.probe.now.contour in
     let inv = c.loop-probe.invariant in
     let ring = c.loop-probe.ring in
     let test = rw inv.contour at c.is_back_at.ensures.test in
     let three : length ring.places ≡ 3 = omega (arith, c.if-len-gt3.false, c.len.ensures, inv.state.walk.enough, length-map ring.places (point_at whole)) in
-    subst (Falls IsBack whole) (sym (c.visits.ensures ∙ c.is_back_at.ensures.visits))
+    subst (Falls IsBack whole) (sym c.is_back_at.ensures.visits)
     (state_collapses whole ring.places ring.untested ring.lead c.loop-probe.probe.visits inv.state (test.0 c.if-not-is_back_at.false) three)
 
-pub keep-requires-2 : goal.keep-requires-2
-keep-requires-2 g c =
-    let whole : List Point = contour_of g.I.IntNumber.value c.args.probe.contour in
-    let inv = c.loop-probe.invariant in
+pub returns-clause-below : goal.returns-clause-below
+returns-clause-below g c = λ yes.
+    let whole : List Point = contour_of g.P.Coordinate.IntNumber.value c.args.probe.now.contour in
     let ring = c.loop-probe.ring in
-    let below = ends_below whole ring.places ring.untested ring.lead c.loop-probe.probe.visits inv.state in
-    let listed : c.as_slice.result.now ≡ in_order ring.places ring.lead = c.as_slice.ensures.value ∙ c.into_order.ensures in
-    let long : length whole ≡ length c.loop-probe.probe.contour = length-contour g.I.IntNumber.value c.args.probe.contour ∙ ap length (sym inv.contour) in
-    subst (λ (n : ℕ). All (λ k. k < n) c.as_slice.result.now) long (subst (All (λ k. k < length whole)) (sym listed) below)
+    let long : length whole ≡ length c.args.probe.now.contour = length-contour g.P.Coordinate.IntNumber.value c.args.probe.now.contour in
+    subst (λ (n : ℕ). All (λ k. k < n) (in_order ring.places ring.lead)) long
+    (ends_below whole ring.places ring.untested ring.lead c.loop-probe.probe.visits c.loop-probe.invariant.state)
 
-pub returns-clause-answer : goal.returns-clause-answer
-returns-clause-answer g c =
-    let whole : List Point = contour_of g.I.IntNumber.value c.args.probe.contour in
-    let inv = c.loop-probe.invariant in
+pub returns-clause-stands : goal.returns-clause-stands
+returns-clause-stands g c = λ yes.
+    let whole : List Point = contour_of g.P.Coordinate.IntNumber.value c.args.probe.now.contour in
     let ring = c.loop-probe.ring in
-    let listed : c.as_slice.result.now ≡ in_order ring.places ring.lead = c.as_slice.ensures.value ∙ c.into_order.ensures in
-    let shown : contour_of g.I.IntNumber.value c.in_ok-kept.kept.items ≡ map (point_at whole) (in_order ring.places ring.lead) =
-    kept-contour g.I.IntNumber.value _ _ _ c.in_ok-kept.ensures.points ∙ (ap (λ (l : List (IntPoint g.row.I.Denot)). map (point_at (contour_of g.I.IntNumber.value l)) c.as_slice.result.now) inv.contour
-    ∙ ap (map (point_at whole)) listed) in
-    subst (Finds IsBack whole (contour_of g.I.IntNumber.value c.in_ok-kept.kept.items)) (sym c.in_ok-kept.ensures.visits)
-    (state_ends whole (contour_of g.I.IntNumber.value c.in_ok-kept.kept.items) ring.places ring.untested ring.lead c.loop-probe.probe.visits inv.state
-    (omega (arith, c.loop-probe-test.false, c.untested.ensures)) shown)
+    state_ends whole (map (point_at whole) (in_order ring.places ring.lead)) ring.places ring.untested ring.lead c.loop-probe.probe.visits c.loop-probe.invariant.state
+    (omega (arith, c.loop-probe-test.false, c.untested.ensures)) refl

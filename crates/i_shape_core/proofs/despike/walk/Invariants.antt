@@ -7,7 +7,7 @@ use Rattle.i_shape_core.proofs.despike.walk.Given as goal
 abbrev pub invariant-loop-probe : goal.invariant-loop-probe
 invariant-loop-probe g l = record {
   contour : l.probe.contour ≡ l.initial.probe.contour;
-  state : IsRingState IsBack (contour_of g.I.IntNumber.value l.initial.probe.contour) l.ring l.probe.visits;
+  state : IsRingState IsBack (contour_of g.P.Coordinate.IntNumber.value l.initial.probe.contour) l.ring l.probe.visits;
 }
 
 abbrev pub decreases-loop-probe : goal.decreases-loop-probe

@@ -8,7 +8,7 @@ use Rattle.i_shape_core.proofs.simplifier.clean_prefix.Goals as goal
 pub loop-place-init : goal.loop-place-init
 loop-place-init g c = record {
   contour = refl;
-  clean = prefix_starts IsZeroTurn _ (omega (arith, c.requires.enough, length-contour g.I.IntNumber.value c.args.probe.now.contour));
+  clean = prefix_starts IsZeroTurn _ (omega (arith, c.requires.enough, length-contour g.P.Coordinate.IntNumber.value c.args.probe.now.contour));
   visits = omega (arith, c.requires.fresh);
 }
 
@@ -18,7 +18,7 @@ loop-place-preserved g c =
     record {
       contour = c.is_zero_at.ensures.contour ∙ same;
       clean = prefix_more IsZeroTurn _ c.loop-place.place (omega (arith, c.loop-place.auto.place))
-          (omega (arith, ap length same, c.loop-place-test.true, c.len-place-end.ensures, length-contour g.I.IntNumber.value c.args.probe.now.contour))
+          (omega (arith, ap length same, c.loop-place-test.true, c.len-place-end.ensures, length-contour g.P.Coordinate.IntNumber.value c.args.probe.now.contour))
           c.loop-place.invariant.clean (failed c.is_zero_at.result (rw same at c.is_zero_at.ensures.test) c.if-is_zero_at.false);
       visits = omega (arith, c.is_zero_at.ensures.visits, c.loop-place.invariant.visits);
     }

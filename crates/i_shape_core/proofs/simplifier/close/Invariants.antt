@@ -6,7 +6,7 @@ use Rattle.i_shape_core.proofs.simplifier.close.Given as goal
 
 abbrev pub invariant-loop-left : goal.invariant-loop-left
 invariant-loop-left g l =
-    let c = contour_of g.I.IntNumber.value l.initial.probe.contour in
+    let c = contour_of g.P.Coordinate.IntNumber.value l.initial.probe.contour in
     record {
       contour : l.probe.contour ≡ l.initial.probe.contour;
       stacked : IsStacked IsZeroTurn c l.left (length c);

@@ -7,7 +7,7 @@ use Rattle.i_shape_core.proofs.simplifier.pop_zero_turns.Given as goal
 abbrev pub invariant-loop-stack : goal.invariant-loop-stack
 invariant-loop-stack g l = record {
   contour : l.probe.contour ≡ l.initial.probe.contour;
-  walked : IsWalked IsZeroTurn (contour_of g.I.IntNumber.value l.initial.probe.contour) l.stack.items l.place l.probe.visits;
+  walked : IsWalked IsZeroTurn (contour_of g.P.Coordinate.IntNumber.value l.initial.probe.contour) l.stack.items l.place l.probe.visits;
   room : vec_capacity l.stack ≡ vec_capacity l.initial.stack;
 }
 

@@ -7,6 +7,6 @@ use Rattle.i_shape_core.proofs.simplifier.stack_places.Given as goal
 abbrev pub invariant-loop-place : goal.invariant-loop-place
 invariant-loop-place g l = record {
   contour : l.probe.contour ≡ l.initial.probe.contour;
-  walked : IsWalked IsZeroTurn (contour_of g.I.IntNumber.value l.initial.probe.contour) l.stack.items l.place l.probe.visits;
+  walked : IsWalked IsZeroTurn (contour_of g.P.Coordinate.IntNumber.value l.initial.probe.contour) l.stack.items l.place l.probe.visits;
   room : length l.initial.probe.contour ≤ vec_capacity l.stack;
 }

@@ -11,8 +11,8 @@ use Rattle.i_shape_core.proofs.simplifier.start_of_walk.Goals as goal
 pub returns-then-place-count-clause-walked : goal.returns-then-place-count-clause-walked
 returns-then-place-count-clause-walked g c =
     let prefix = c.clean_prefix-place.ensures in
-    let points : List Point = contour_of g.I.IntNumber.value c.args.probe.now.contour in
-    let all = length-contour g.I.IntNumber.value c.args.probe.now.contour in
+    let points : List Point = contour_of g.P.Coordinate.IntNumber.value c.args.probe.now.contour in
+    let all = length-contour g.P.Coordinate.IntNumber.value c.args.probe.now.contour in
     let within = c.if-place-count.true in
     prefix_walked IsZeroTurn points c.clean_prefix-place.result c.clean_prefix-place.new.probe.visits _ prefix.least
     (omega (arith, within, c.len-count.ensures, ap length prefix.contour, all)) prefix.clean
@@ -22,8 +22,8 @@ returns-then-place-count-clause-walked g c =
 pub returns-then-is_zero_at-clause-walked : goal.returns-then-is_zero_at-clause-walked
 returns-then-is_zero_at-clause-walked g c =
     let prefix = c.clean_prefix-place.ensures in
-    let points : List Point = contour_of g.I.IntNumber.value c.args.probe.now.contour in
-    let all = length-contour g.I.IntNumber.value c.args.probe.now.contour in
+    let points : List Point = contour_of g.P.Coordinate.IntNumber.value c.args.probe.now.contour in
+    let all = length-contour g.P.Coordinate.IntNumber.value c.args.probe.now.contour in
     let e : c.len-count.result ≡ length points = omega (arith, c.len-count.ensures, ap length prefix.contour, all) in
     let w : c.clean_prefix-place.result ≡ length points = omega (arith, e, c.if-place-count.false, prefix.most, all) in
     let whole : IsStacked IsZeroTurn points (range_with_len 0 (length points)) (length points) = subst (λ (k : ℕ). IsStacked IsZeroTurn points (range_with_len 0 k) k) w prefix.clean in
@@ -35,8 +35,8 @@ returns-then-is_zero_at-clause-walked g c =
 pub returns-then-is_zero_at-2-clause-walked : goal.returns-then-is_zero_at-2-clause-walked
 returns-then-is_zero_at-2-clause-walked g c =
     let prefix = c.clean_prefix-place.ensures in
-    let points : List Point = contour_of g.I.IntNumber.value c.args.probe.now.contour in
-    let all = length-contour g.I.IntNumber.value c.args.probe.now.contour in
+    let points : List Point = contour_of g.P.Coordinate.IntNumber.value c.args.probe.now.contour in
+    let all = length-contour g.P.Coordinate.IntNumber.value c.args.probe.now.contour in
     let e : c.len-count.result ≡ length points = omega (arith, c.len-count.ensures, ap length prefix.contour, all) in
     let w : c.clean_prefix-place.result ≡ length points = omega (arith, e, c.if-place-count.false, prefix.most, all) in
     let whole : IsStacked IsZeroTurn points (range_with_len 0 (length points)) (length points) = subst (λ (k : ℕ). IsStacked IsZeroTurn points (range_with_len 0 k) k) w prefix.clean in
@@ -49,8 +49,8 @@ returns-then-is_zero_at-2-clause-walked g c =
 pub returns-clause-clean : goal.returns-clause-clean
 returns-clause-clean g c = λ none.
     let prefix = c.clean_prefix-place.ensures in
-    let points : List Point = contour_of g.I.IntNumber.value c.args.probe.now.contour in
-    let all = length-contour g.I.IntNumber.value c.args.probe.now.contour in
+    let points : List Point = contour_of g.P.Coordinate.IntNumber.value c.args.probe.now.contour in
+    let all = length-contour g.P.Coordinate.IntNumber.value c.args.probe.now.contour in
     let e : c.len-count.result ≡ length points = omega (arith, c.len-count.ensures, ap length prefix.contour, all) in
     let w : c.clean_prefix-place.result ≡ length points = omega (arith, e, c.if-place-count.false, prefix.most, all) in
     let whole : IsStacked IsZeroTurn points (range_with_len 0 (length points)) (length points) = subst (λ (k : ℕ). IsStacked IsZeroTurn points (range_with_len 0 k) k) w prefix.clean in

@@ -9,8 +9,8 @@ loop-each-preserved c = record {
   room = omega (arith, c.push_reserved.ensures.capacity, c.loop-each.invariant.room);
 }
 
-pub returns-clause-standing : goal.returns-clause-standing
-returns-clause-standing c =
+pub returns : goal.returns
+returns c =
     let all : c.loop-each.each ≡ c.args.count = omega (arith, c.loop-each.auto.each-end, c.loop-each-test.false) in
     standing_ring c.loop-each.places.items c.args.count c.loop-each.each c.args.place (c.args.count - c.args.place) c.loop-each.invariant.places
-    (omega (arith, c.loop-each.invariant.len, c.loop-each.places.ok.0)) (omega (arith, all)) c.requires
+    (omega (arith, c.loop-each.invariant.len, c.loop-each.places.ok.0)) (omega (arith, all)) c.requires.within

@@ -1,10 +1,25 @@
-use Rattle.std.proofs.Common.{◌≡◌, ◌∙◌, None, option_map, arith}
+use Rattle.std.proofs.Common.{◌≡◌, ◌∙◌, ℕ, ℤ, List, length, Option, None, Some, option_map, ap, sym, arith}
+use Rattle.std.specs.Global.{Vec}
+use Rattle.std.specs.Result.{IfOk}
+use Rattle.std.specs.declared.result.Result.{Result}
 use Rattle.std.proofs.lemmas.Result.{IfOk-weaker}
-use Rattle.i_shape_core.specs.Point.{IsZeroTurn}
+use Rattle.i_shape_core.specs.Point.{Point, IsZeroTurn}
 use Rattle.i_shape_core.specs.IntPoint.{contour_of, IsSafe}
+use Rattle.i_shape_core.specs.Walks.{WalkAnswer}
+use Rattle.i_shape_core.specs.declared.point.IntPoint.{IntPoint}
 use Rattle.i_shape_core.proofs.Contours.{length-contour}
-use Rattle.i_shape_core.proofs.Cleaned.{simple_answer, kept_answer, all_answered, in_order_answered, short_answer}
+use Rattle.i_shape_core.proofs.Cleaned.{simple_answer, kept_answer, all_answered, in_order_answered, short_answer, walk_kept, whole_found}
+use Rattle.i_shape_core.proofs.simplifier.ContourSimplifier.simplify_counted.Given.{Over}
+use Rattle.i_shape_core.proofs.simplifier.ContourSimplifier.simplify_counted.Goals.{After-keep_whole}
 use Rattle.i_shape_core.proofs.simplifier.ContourSimplifier.simplify_counted.Goals as goal
+
+-- the contour that an answer stands for
+abbrev shown : {I : Type 0} → (I → ℤ) → Option (Vec (IntPoint I)) × ℕ → Option (List Point)
+shown value r = option_map (λ kept. contour_of value kept.items) r.0
+
+-- a result that is what a walk finds
+abbrev Found : {I E : Type 0} → (I → ℤ) → List (IntPoint I) → Result (Option (Vec (IntPoint I)) × ℕ) E → Type 0
+Found value contour result = IfOk result (λ r. WalkAnswer IsZeroTurn (contour_of value contour) (shown value r) r.1)
 
 pub returns-then-contour-lt3-clause-answer : goal.returns-then-contour-lt3-clause-answer
 returns-then-contour-lt3-clause-answer g c =
@@ -20,50 +35,72 @@ pub returns-then-contour-lt3-clause-visits : goal.returns-then-contour-lt3-claus
 returns-then-contour-lt3-clause-visits g c =
     record { least = omega (arith, length-contour g.I.IntNumber.value c.before.args.contour.now); most = omega arith }
 
+-- what is answered where no vertex is removed
+whole : (g : Over) (c : After-keep_whole g) → Found g.I.IntNumber.value c.args.contour.now c.keep_whole.result
+whole g c =
+    let points = contour_of g.I.IntNumber.value c.args.contour.now in
+    let same : c.start_of_walk.new.probe.contour ≡ c.args.contour.now = c.start_of_walk.ensures.contour ∙ c.new-probe.ensures.contour in
+    let long = length-contour g.I.IntNumber.value c.args.contour.now in
+    walk_kept IsZeroTurn points (shown g.I.IntNumber.value) (λ r. r.1) c.keep_whole.result (Some points) c.start_of_walk.new.probe.visits (rw same at c.keep_whole.ensures.kept)
+    (whole_found IsZeroTurn points c.start_of_walk.new.probe.visits (rw c.new-probe.ensures.contour at (c.start_of_walk.ensures.clean c.in_default.is)) (omega (arith, long, c.if-contour-lt3.false))
+    (c.start_of_walk.ensures.visits c.in_default.is ∙ ap length c.new-probe.ensures.contour ∙ sym long))
+
 pub returns-in_default-clause-answer : goal.returns-in_default-clause-answer
 returns-in_default-clause-answer g c =
-    let same : c.start_of_walk.new.probe.contour ≡ c.args.contour.now = c.start_of_walk.ensures.contour ∙ c.new-probe.ensures.contour in
-    IfOk-weaker c.keep_whole.result _ _ (λ r w. simple_answer (contour_of g.I.IntNumber.value c.args.contour.now) (option_map (λ kept. contour_of g.I.IntNumber.value kept.items) r.0) r.1 w)
-    (rw same at c.keep_whole.ensures.answer)
+    let value = g.I.IntNumber.value in
+    let points = contour_of value c.args.contour.now in
+    IfOk-weaker c.keep_whole.result _ _ (λ r w. simple_answer points (shown value r) r.1 w) (whole g c)
 
 pub returns-in_default-clause-kept : goal.returns-in_default-clause-kept
 returns-in_default-clause-kept g c =
-    let same : c.start_of_walk.new.probe.contour ≡ c.args.contour.now = c.start_of_walk.ensures.contour ∙ c.new-probe.ensures.contour in
-    IfOk-weaker c.keep_whole.result _ _ (λ r w. kept_answer (contour_of g.I.IntNumber.value c.args.contour.now) (option_map (λ kept. contour_of g.I.IntNumber.value kept.items) r.0) r.1 w)
-    (rw same at c.keep_whole.ensures.answer)
+    let value = g.I.IntNumber.value in
+    let points = contour_of value c.args.contour.now in
+    IfOk-weaker c.keep_whole.result _ _ (λ r w. kept_answer points (shown value r) r.1 w) (whole g c)
 
 pub returns-in_default-clause-safe : goal.returns-in_default-clause-safe
 returns-in_default-clause-safe g c =
-    let same : c.start_of_walk.new.probe.contour ≡ c.args.contour.now = c.start_of_walk.ensures.contour ∙ c.new-probe.ensures.contour in
-    IfOk-weaker c.keep_whole.result _ _ (λ r w. all_answered IsZeroTurn (IsSafe g.I.IntNumber.width) (λ kept. contour_of g.I.IntNumber.value kept.items) (contour_of g.I.IntNumber.value c.args.contour.now) r.0 r.1 w c.requires)
-    (rw same at c.keep_whole.ensures.answer)
+    let value = g.I.IntNumber.value in
+    let points = contour_of value c.args.contour.now in
+    IfOk-weaker c.keep_whole.result _ _ (λ r w. all_answered IsZeroTurn (IsSafe g.I.IntNumber.width) (λ kept. contour_of value kept.items) points r.0 r.1 w c.requires) (whole g c)
 
 pub returns-in_default-clause-in_order : goal.returns-in_default-clause-in_order
 returns-in_default-clause-in_order g c =
-    let same : c.start_of_walk.new.probe.contour ≡ c.args.contour.now = c.start_of_walk.ensures.contour ∙ c.new-probe.ensures.contour in
-    IfOk-weaker c.keep_whole.result _ _ (λ r w. in_order_answered IsZeroTurn (λ kept. contour_of g.I.IntNumber.value kept.items) (contour_of g.I.IntNumber.value c.args.contour.now) r.0 r.1 w)
-    (rw same at c.keep_whole.ensures.answer)
+    let value = g.I.IntNumber.value in
+    let points = contour_of value c.args.contour.now in
+    IfOk-weaker c.keep_whole.result _ _ (λ r w. in_order_answered IsZeroTurn (λ kept. contour_of value kept.items) points r.0 r.1 w) (whole g c)
 
 pub returns-clause-answer : goal.returns-clause-answer
 returns-clause-answer g c =
-    let same : c.stack_places-probe.result.contour ≡ c.args.contour.now = c.stack_places-probe.ensures.contour ∙ (c.start_of_walk.ensures.contour ∙ c.new-probe.ensures.contour) in
-    IfOk-weaker c.close.result _ _ (λ r w. simple_answer (contour_of g.I.IntNumber.value c.args.contour.now) (option_map (λ kept. contour_of g.I.IntNumber.value kept.items) r.0) r.1 w)
-    (rw same at c.close.ensures.answer)
+    let value = g.I.IntNumber.value in
+    let points = contour_of value c.args.contour.now in
+    let first : c.start_of_walk.new.probe.contour ≡ c.args.contour.now = c.start_of_walk.ensures.contour ∙ c.new-probe.ensures.contour in
+    let same : c.walk.new.probe.contour ≡ c.args.contour.now = c.walk.ensures.contour ∙ first in
+    let told : Found value c.args.contour.now c.keep_left.result = walk_kept IsZeroTurn points (shown value) (λ r. r.1) c.keep_left.result _ c.walk.new.probe.visits (rw same at c.keep_left.ensures.kept) (rw first at c.in_ok-left.ensures.answer) in
+    IfOk-weaker c.keep_left.result _ _ (λ r w. simple_answer points (shown value r) r.1 w) told
 
 pub returns-clause-kept : goal.returns-clause-kept
 returns-clause-kept g c =
-    let same : c.stack_places-probe.result.contour ≡ c.args.contour.now = c.stack_places-probe.ensures.contour ∙ (c.start_of_walk.ensures.contour ∙ c.new-probe.ensures.contour) in
-    IfOk-weaker c.close.result _ _ (λ r w. kept_answer (contour_of g.I.IntNumber.value c.args.contour.now) (option_map (λ kept. contour_of g.I.IntNumber.value kept.items) r.0) r.1 w)
-    (rw same at c.close.ensures.answer)
+    let value = g.I.IntNumber.value in
+    let points = contour_of value c.args.contour.now in
+    let first : c.start_of_walk.new.probe.contour ≡ c.args.contour.now = c.start_of_walk.ensures.contour ∙ c.new-probe.ensures.contour in
+    let same : c.walk.new.probe.contour ≡ c.args.contour.now = c.walk.ensures.contour ∙ first in
+    let told : Found value c.args.contour.now c.keep_left.result = walk_kept IsZeroTurn points (shown value) (λ r. r.1) c.keep_left.result _ c.walk.new.probe.visits (rw same at c.keep_left.ensures.kept) (rw first at c.in_ok-left.ensures.answer) in
+    IfOk-weaker c.keep_left.result _ _ (λ r w. kept_answer points (shown value r) r.1 w) told
 
 pub returns-clause-safe : goal.returns-clause-safe
 returns-clause-safe g c =
-    let same : c.stack_places-probe.result.contour ≡ c.args.contour.now = c.stack_places-probe.ensures.contour ∙ (c.start_of_walk.ensures.contour ∙ c.new-probe.ensures.contour) in
-    IfOk-weaker c.close.result _ _ (λ r w. all_answered IsZeroTurn (IsSafe g.I.IntNumber.width) (λ kept. contour_of g.I.IntNumber.value kept.items) (contour_of g.I.IntNumber.value c.args.contour.now) r.0 r.1 w c.requires)
-    (rw same at c.close.ensures.answer)
+    let value = g.I.IntNumber.value in
+    let points = contour_of value c.args.contour.now in
+    let first : c.start_of_walk.new.probe.contour ≡ c.args.contour.now = c.start_of_walk.ensures.contour ∙ c.new-probe.ensures.contour in
+    let same : c.walk.new.probe.contour ≡ c.args.contour.now = c.walk.ensures.contour ∙ first in
+    let told : Found value c.args.contour.now c.keep_left.result = walk_kept IsZeroTurn points (shown value) (λ r. r.1) c.keep_left.result _ c.walk.new.probe.visits (rw same at c.keep_left.ensures.kept) (rw first at c.in_ok-left.ensures.answer) in
+    IfOk-weaker c.keep_left.result _ _ (λ r w. all_answered IsZeroTurn (IsSafe g.I.IntNumber.width) (λ kept. contour_of value kept.items) points r.0 r.1 w c.requires) told
 
 pub returns-clause-in_order : goal.returns-clause-in_order
 returns-clause-in_order g c =
-    let same : c.stack_places-probe.result.contour ≡ c.args.contour.now = c.stack_places-probe.ensures.contour ∙ (c.start_of_walk.ensures.contour ∙ c.new-probe.ensures.contour) in
-    IfOk-weaker c.close.result _ _ (λ r w. in_order_answered IsZeroTurn (λ kept. contour_of g.I.IntNumber.value kept.items) (contour_of g.I.IntNumber.value c.args.contour.now) r.0 r.1 w)
-    (rw same at c.close.ensures.answer)
+    let value = g.I.IntNumber.value in
+    let points = contour_of value c.args.contour.now in
+    let first : c.start_of_walk.new.probe.contour ≡ c.args.contour.now = c.start_of_walk.ensures.contour ∙ c.new-probe.ensures.contour in
+    let same : c.walk.new.probe.contour ≡ c.args.contour.now = c.walk.ensures.contour ∙ first in
+    let told : Found value c.args.contour.now c.keep_left.result = walk_kept IsZeroTurn points (shown value) (λ r. r.1) c.keep_left.result _ c.walk.new.probe.visits (rw same at c.keep_left.ensures.kept) (rw first at c.in_ok-left.ensures.answer) in
+    IfOk-weaker c.keep_left.result _ _ (λ r w. in_order_answered IsZeroTurn (λ kept. contour_of value kept.items) points r.0 r.1 w) told

@@ -35,34 +35,8 @@ put_in_list-requires g c =
     let Fit : List (Vec (Vec (IntPoint g.row.I.Denot))) → Type 0 = λ w. AllFit put_in_list FitsList (shapes_of g.I.IntNumber.value w) edits in
     subst Fit c.as_slice.ensures.value (list_aside_fit cleaner.clean cleaner.answers (shapes_of g.I.IntNumber.value c.as_slice.result.now) edits c.in_ok-changes.ensures.ok)
 
-pub returns-then-all_left-clause-gives : goal.returns-then-all_left-clause-gives
-returns-then-all_left-clause-gives g c =
-    let value = g.I.IntNumber.value in
-    let cleaner = g.C.ContourCleaner in
-    let changes = c.in_ok-changes.changes in
-    let edits = edits_of value changes.items in
-    let shapes : List (List (List Point)) = shapes_of value c.args.shapes.now.items in
-    let Aside : List (Vec (Vec (IntPoint g.row.I.Denot))) → Type 0 = λ w. CleansListAside cleaner.clean cleaner.answers (shapes_of value w) edits in
-    let Left : List (Change g.row.I.Denot) → Type 0 = λ w. All IsLeft (edits_of value w) in
-    let aside = subst Aside c.as_slice.ensures.value c.in_ok-changes.ensures.ok in
-    let fails : EachShape cleaner.clean shapes → ⊥ = λ all. false≢true (sym c.if-is_empty.false ∙ c.is_empty.ensures ∙ none_told value changes.items changes.len changes.ok.0 (aside.clean.1 all)) in
-    let left = subst Left c.as_slice-2.ensures.value (c.are_left-all_left.ensures.0 c.if-all_left.true) in
-    list_cleaned_in_place cleaner.clean cleaner.answers g.met.C.ContourCleaner.keeps shapes _ fails (whole_clean cleaner.clean cleaner.answers shapes _ edits aside left c.put_in_list.ensures)
-
-pub returns-then-all_left-clause-safe : goal.returns-then-all_left-clause-safe
-returns-then-all_left-clause-safe g c =
-    let value = g.I.IntNumber.value in
-    let cleaner = g.C.ContourCleaner in
-    let edits = edits_of value c.in_ok-changes.changes.items in
-    let shapes : List (List (List Point)) = shapes_of value c.args.shapes.now.items in
-    let Aside : List (Vec (Vec (IntPoint g.row.I.Denot))) → Type 0 = λ w. CleansListAside cleaner.clean cleaner.answers (shapes_of value w) edits in
-    let Left : List (Change g.row.I.Denot) → Type 0 = λ w. All IsLeft (edits_of value w) in
-    let aside = subst Aside c.as_slice.ensures.value c.in_ok-changes.ensures.ok in
-    let left = subst Left c.as_slice-2.ensures.value (c.are_left-all_left.ensures.0 c.if-all_left.true) in
-    list_safe cleaner.answers g.I.IntNumber.width g.met.C.ContourCleaner.stays_safe shapes _ (whole_clean cleaner.clean cleaner.answers shapes _ edits aside left c.put_in_list.ensures) c.requires
-
-pub returns-clause-gives : goal.returns-clause-gives
-returns-clause-gives g c =
+pub returns-then-not-all_left-clause-gives : goal.returns-then-not-all_left-clause-gives
+returns-then-not-all_left-clause-gives g c =
     let value = g.I.IntNumber.value in
     let cleaner = g.C.ContourCleaner in
     let changes = c.in_ok-changes.changes in
@@ -73,8 +47,8 @@ returns-clause-gives g c =
     let fails : EachShape cleaner.clean shapes → ⊥ = λ all. false≢true (sym c.if-is_empty.false ∙ c.is_empty.ensures ∙ none_told value changes.items changes.len changes.ok.0 (aside.clean.1 all)) in
     list_cleaned_in_place cleaner.clean cleaner.answers g.met.C.ContourCleaner.keeps shapes _ fails (taken_clean cleaner.clean cleaner.answers shapes _ edits aside (c.take_out_of_list.ensures ∙ ap standing_shapes c.put_in_list.ensures))
 
-pub returns-clause-safe : goal.returns-clause-safe
-returns-clause-safe g c =
+pub returns-then-not-all_left-clause-safe : goal.returns-then-not-all_left-clause-safe
+returns-then-not-all_left-clause-safe g c =
     let value = g.I.IntNumber.value in
     let cleaner = g.C.ContourCleaner in
     let edits = edits_of value c.in_ok-changes.changes.items in
@@ -82,6 +56,32 @@ returns-clause-safe g c =
     let Aside : List (Vec (Vec (IntPoint g.row.I.Denot))) → Type 0 = λ w. CleansListAside cleaner.clean cleaner.answers (shapes_of value w) edits in
     let aside = subst Aside c.as_slice.ensures.value c.in_ok-changes.ensures.ok in
     list_safe cleaner.answers g.I.IntNumber.width g.met.C.ContourCleaner.stays_safe shapes _ (taken_clean cleaner.clean cleaner.answers shapes _ edits aside (c.take_out_of_list.ensures ∙ ap standing_shapes c.put_in_list.ensures)) c.requires
+
+pub returns-else-not-all_left-clause-gives : goal.returns-else-not-all_left-clause-gives
+returns-else-not-all_left-clause-gives g c =
+    let value = g.I.IntNumber.value in
+    let cleaner = g.C.ContourCleaner in
+    let changes = c.in_ok-changes.changes in
+    let edits = edits_of value changes.items in
+    let shapes : List (List (List Point)) = shapes_of value c.args.shapes.now.items in
+    let Aside : List (Vec (Vec (IntPoint g.row.I.Denot))) → Type 0 = λ w. CleansListAside cleaner.clean cleaner.answers (shapes_of value w) edits in
+    let Left : List (Change g.row.I.Denot) → Type 0 = λ w. All IsLeft (edits_of value w) in
+    let aside = subst Aside c.as_slice.ensures.value c.in_ok-changes.ensures.ok in
+    let fails : EachShape cleaner.clean shapes → ⊥ = λ all. false≢true (sym c.if-is_empty.false ∙ c.is_empty.ensures ∙ none_told value changes.items changes.len changes.ok.0 (aside.clean.1 all)) in
+    let left = subst Left c.as_slice-2.ensures.value (c.are_left-all_left.ensures.0 c.if-not-all_left.false) in
+    list_cleaned_in_place cleaner.clean cleaner.answers g.met.C.ContourCleaner.keeps shapes _ fails (whole_clean cleaner.clean cleaner.answers shapes _ edits aside left c.put_in_list.ensures)
+
+pub returns-else-not-all_left-clause-safe : goal.returns-else-not-all_left-clause-safe
+returns-else-not-all_left-clause-safe g c =
+    let value = g.I.IntNumber.value in
+    let cleaner = g.C.ContourCleaner in
+    let edits = edits_of value c.in_ok-changes.changes.items in
+    let shapes : List (List (List Point)) = shapes_of value c.args.shapes.now.items in
+    let Aside : List (Vec (Vec (IntPoint g.row.I.Denot))) → Type 0 = λ w. CleansListAside cleaner.clean cleaner.answers (shapes_of value w) edits in
+    let Left : List (Change g.row.I.Denot) → Type 0 = λ w. All IsLeft (edits_of value w) in
+    let aside = subst Aside c.as_slice.ensures.value c.in_ok-changes.ensures.ok in
+    let left = subst Left c.as_slice-2.ensures.value (c.are_left-all_left.ensures.0 c.if-not-all_left.false) in
+    list_safe cleaner.answers g.I.IntNumber.width g.met.C.ContourCleaner.stays_safe shapes _ (whole_clean cleaner.clean cleaner.answers shapes _ edits aside left c.put_in_list.ensures) c.requires
 
 pub returns-in_err-changes-clause-gives : goal.returns-in_err-changes-clause-gives
 returns-in_err-changes-clause-gives g c =

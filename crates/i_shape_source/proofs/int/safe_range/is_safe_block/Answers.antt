@@ -1,5 +1,5 @@
 use Rattle.i_shape_core.specs.IntPoint.{point_of, IsSafe}
-use Rattle.i_shape_source.proofs.SafePaths.{next_told, whole_told}
+use Rattle.i_shape_core.proofs.AllTold.{next_told, whole_told}
 use Rattle.i_shape_source.proofs.int.safe_range.is_safe_block.Goals as goal
 
 pub loop-point-preserved : goal.loop-point-preserved

@@ -1,0 +1,21 @@
+-- What a loop over a list has told of the items so far.
+use Rattle.std.proofs.Common.{◌≡◌, ◌↔◌, ◌∙◌, ℕ, ◌+◌, ◌<◌, ◌≤◌, List, [], ◌∷◌, ◌++◌, length, take, get_or, Bool, ◌&&◌, IsTrue, Some, refl, subst, sym, ap}
+use Rattle.std.specs.List.{All}
+use Rattle.std.proofs.lemmas.Bool.Decides.{Decides-and}
+use Rattle.std.proofs.lemmas.List.{take_all, take_more}
+use Rattle.std.proofs.lemmas.List.Elements.{All-push, All-pop}
+
+module _ {X : Type 0} where
+  -- the first items, and the one that is read after them
+  pub taken : (xs : List X) (i : ℕ) (x : X) → i < length xs → x ≡ get_or xs i x → take (i + 1) xs ≡ take i xs ++ x ∷ []
+  taken xs i x lt read = take_more xs i x lt ∙ ap (λ (y : X). take i xs ++ y ∷ []) (sym read)
+
+  -- what is told of the first items and of the next is told of one item more
+  pub next_told : (P : X → Type 0) (xs : List X) (i : ℕ) (x : X) (s t : Bool) → i < length xs → x ≡ get_or xs i x → IsTrue s ↔ All P (take i xs) → IsTrue t ↔ P x → IsTrue (s && t) ↔ All P (take (i + 1) xs)
+  next_told P xs i x s t lt read f g =
+      let told = Decides-and s t f g in
+      rw (taken xs i x lt read) (λ h. let both = told.0 h in All-push P (take i xs) x both.0 both.1, λ h. told.1 (All-pop P (take i xs ++ x ∷ []) (take i xs) (Some x) refl h))
+
+  -- and of all of them is told of the list
+  pub whole_told : (P : X → Type 0) (xs : List X) (i : ℕ) (s : Bool) → length xs ≤ i → IsTrue s ↔ All P (take i xs) → IsTrue s ↔ All P xs
+  whole_told P xs i s over f = subst (λ (ys : List X). IsTrue s ↔ All P ys) (take_all i xs over) f

@@ -1,0 +1,75 @@
+use Rattle.std.proofs.Common.{◌≡◌, ◌∙◌, List, map, length, ap, sym, arith}
+use Rattle.std.proofs.lemmas.List.{length-map}
+use Rattle.i_shape_core.specs.Point.{IsZeroTurn}
+use Rattle.i_shape_core.specs.Contour.{point_at}
+use Rattle.i_shape_core.specs.IntPoint.{contour_of}
+use Rattle.i_shape_core.specs.Cleaners.{SimpleAnswer}
+use Rattle.i_shape_core.specs.Walks.{Finds}
+use Rattle.i_shape_core.proofs.Contours.{length-contour}
+use Rattle.i_shape_core.proofs.PointLists.{points-length}
+use Rattle.i_shape_core.proofs.Ends.{reach_shrinks}
+use Rattle.i_shape_core.proofs.Cleaned.{simple_answer, kept_answer, short_answer, whole_found}
+use Rattle.i_shape_core.proofs.Written.{nothing_written, points_written}
+use Rattle.i_shape_core.proofs.simplifier.ContourSimplifier.simplify_into.Goals as goal
+
+pub returns-then-contour-lt3-clause-written : goal.returns-then-contour-lt3-clause-written
+returns-then-contour-lt3-clause-written g c =
+    let read = λ (list : List g.row.P.Denot). contour_of g.P.Coordinate.IntNumber.value (g.P.ContourPoint.points list) in
+    let counts = λ (list : List g.row.P.Denot). length-contour g.P.Coordinate.IntNumber.value (g.P.ContourPoint.points list) ∙ points-length g.P.ContourPoint.point g.P.ContourPoint.points g.P.ContourPoint.each list in
+    nothing_written g.P.Coordinate.IntNumber.width read counts c.args.contour.now c.args.out.now IsZeroTurn SimpleAnswer (simple_answer (read c.args.contour.now)) (kept_answer (read c.args.contour.now)) 0
+    (short_answer IsZeroTurn (read c.args.contour.now) (omega (arith, counts c.args.contour.now, c.if-contour-lt3.true)))
+
+pub start_of_walk-requires-clause-enough : goal.start_of_walk-requires-clause-enough
+start_of_walk-requires-clause-enough g c =
+    omega (arith, c.if-contour-lt3.false, ap length c.new-probe.ensures.contour, points-length g.P.ContourPoint.point g.P.ContourPoint.points g.P.ContourPoint.each c.args.contour.now)
+
+pub write_whole-requires : goal.write_whole-requires
+write_whole-requires g c =
+    omega (arith, c.requires.room, ap length (c.start_of_walk.ensures.contour ∙ c.new-probe.ensures.contour), points-length g.P.ContourPoint.point g.P.ContourPoint.points g.P.ContourPoint.each c.args.contour.now)
+
+pub returns-in_default-clause-written : goal.returns-in_default-clause-written
+returns-in_default-clause-written g c =
+    let value = g.P.Coordinate.IntNumber.value in
+    let read = λ (list : List g.row.P.Denot). contour_of value (g.P.ContourPoint.points list) in
+    let counts = λ (list : List g.row.P.Denot). length-contour value (g.P.ContourPoint.points list) ∙ points-length g.P.ContourPoint.point g.P.ContourPoint.points g.P.ContourPoint.each list in
+    let whole = read c.args.contour.now in
+    let same = c.start_of_walk.ensures.contour ∙ c.new-probe.ensures.contour in
+    let fresh = c.new-probe.ensures.contour in
+    let many : c.start_of_walk.new.probe.visits ≡ length whole = c.start_of_walk.ensures.visits c.in_default.is ∙ ap length fresh ∙ sym (length-contour value (g.P.ContourPoint.points c.args.contour.now)) in
+    points_written g.P.Coordinate.IntNumber.width read counts c.args.contour.now c.args.out.now IsZeroTurn SimpleAnswer (simple_answer whole) (kept_answer whole)
+    c.write_whole.new.out c.write_whole.result whole c.start_of_walk.new.probe.visits c.requires.points_safe (ap (contour_of value) (c.write_whole.ensures.points ∙ same))
+    (c.write_whole.ensures.count ∙ ap length same ∙ sym (length-contour value (g.P.ContourPoint.points c.args.contour.now))) c.write_whole.ensures.rest
+    (whole_found IsZeroTurn whole c.start_of_walk.new.probe.visits (rw fresh at (c.start_of_walk.ensures.clean c.in_default.is)) (omega (arith, counts c.args.contour.now, c.if-contour-lt3.false)) many)
+
+pub returns-in_default-2-clause-written : goal.returns-in_default-2-clause-written
+returns-in_default-2-clause-written g c =
+    let value = g.P.Coordinate.IntNumber.value in
+    let read = λ (list : List g.row.P.Denot). contour_of value (g.P.ContourPoint.points list) in
+    let counts = λ (list : List g.row.P.Denot). length-contour value (g.P.ContourPoint.points list) ∙ points-length g.P.ContourPoint.point g.P.ContourPoint.points g.P.ContourPoint.each list in
+    let whole = read c.args.contour.now in
+    let first : c.start_of_walk.new.probe.contour ≡ g.P.ContourPoint.points c.args.contour.now = c.start_of_walk.ensures.contour ∙ c.new-probe.ensures.contour in
+    nothing_written g.P.Coordinate.IntNumber.width read counts c.args.contour.now c.args.out.now IsZeroTurn SimpleAnswer (simple_answer whole) (kept_answer whole)
+    c.walk.new.probe.visits (rw (first, c.in_default-2.is) at c.in_ok-left.ensures.answer)
+
+pub write-requires-clause-room : goal.write-requires-clause-room
+write-requires-clause-room g c =
+    let value = g.P.Coordinate.IntNumber.value in
+    let read = λ (list : List g.row.P.Denot). contour_of value (g.P.ContourPoint.points list) in
+    let counts = λ (list : List g.row.P.Denot). length-contour value (g.P.ContourPoint.points list) ∙ points-length g.P.ContourPoint.point g.P.ContourPoint.points g.P.ContourPoint.each list in
+    let whole = read c.args.contour.now in
+    let first : c.start_of_walk.new.probe.contour ≡ g.P.ContourPoint.points c.args.contour.now = c.start_of_walk.ensures.contour ∙ c.new-probe.ensures.contour in
+    let found : Finds IsZeroTurn whole (map (point_at whole) c.in-Some-2.left.now) c.walk.new.probe.visits = rw (first, c.in-Some-2.is) at c.in_ok-left.ensures.answer in
+    omega (arith, c.requires.room, reach_shrinks found.ended.reached, length-map c.in-Some-2.left.now (point_at whole), counts c.args.contour.now)
+
+pub returns-clause-written : goal.returns-clause-written
+returns-clause-written g c =
+    let value = g.P.Coordinate.IntNumber.value in
+    let read = λ (list : List g.row.P.Denot). contour_of value (g.P.ContourPoint.points list) in
+    let counts = λ (list : List g.row.P.Denot). length-contour value (g.P.ContourPoint.points list) ∙ points-length g.P.ContourPoint.point g.P.ContourPoint.points g.P.ContourPoint.each list in
+    let whole = read c.args.contour.now in
+    let first : c.start_of_walk.new.probe.contour ≡ g.P.ContourPoint.points c.args.contour.now = c.start_of_walk.ensures.contour ∙ c.new-probe.ensures.contour in
+    let same : c.walk.new.probe.contour ≡ g.P.ContourPoint.points c.args.contour.now = c.walk.ensures.contour ∙ first in
+    let found : Finds IsZeroTurn whole (map (point_at whole) c.in-Some-2.left.now) c.walk.new.probe.visits = rw (first, c.in-Some-2.is) at c.in_ok-left.ensures.answer in
+    points_written g.P.Coordinate.IntNumber.width read counts c.args.contour.now c.args.out.now IsZeroTurn SimpleAnswer (simple_answer whole) (kept_answer whole)
+    c.write.new.out c.write.result (map (point_at whole) c.in-Some-2.left.now) c.walk.new.probe.visits c.requires.points_safe (rw same at c.write.ensures.points)
+    (c.write.ensures.count ∙ sym (length-map c.in-Some-2.left.now (point_at whole))) c.write.ensures.rest found
