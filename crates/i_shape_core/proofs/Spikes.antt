@@ -1,7 +1,7 @@
 -- The walk that looks for spikes.
-use Rattle.std.proofs.Common.{◌≡◌, ◌≢◌, ℕ, ◌-◌, ◌<◌, ◌≤◌, List, [], ◌∷◌, ◌++◌, reverse, length, drop, get_or, Option, Some, None, option_map, unwrap_or, not, ℤ, pos, int_lt, ◌<ℤ◌, ◌≤ℤ◌, T, refl, sym, ap, subst, ◌∙◌, arith, ◌⊎◌, inl, inr, ◌↔◌, Bool, true, false, cond, ◌&&◌, IsTrue}
+use Rattle.std.proofs.Common.{◌≡◌, ◌≢◌, ℕ, ◌-◌, ◌<◌, ◌≤◌, List, [], ◌∷◌, ◌++◌, reverse, length, get_or, Option, Some, None, option_map, unwrap_or, not, ℤ, pos, int_lt, ◌<ℤ◌, ◌≤ℤ◌, T, refl, sym, ap, subst, subst₂, ◌∙◌, arith, ◌⊎◌, inl, inr, ◌↔◌, Bool, true, false, cond, ◌&&◌, IsTrue, IsNone, is_some}
 use Rattle.std.proofs.lemmas.Int.{ints}
-use Rattle.std.proofs.lemmas.List.{reverse-append}
+use Rattle.std.proofs.lemmas.List.{reverse-append, append-nil, map-append}
 use Rattle.std.proofs.lemmas.List.Elements.{All-head, All-tail, All-push}
 use Rattle.std.proofs.lemmas.List.Folds.{find-append}
 use Rattle.std.specs.List.{All, find}
@@ -11,6 +11,7 @@ use Rattle.std.specs.Ordering.{int_eq}
 use Rattle.std.specs.Cmp.{signed_Decides}
 use Rattle.i_shape_core.specs.Point.{Point, origin, vector, cross, cross_of, dot, dot_of, IsBack}
 use Rattle.i_shape_core.specs.Contour.{Test, point_at, place_before, place_after, IsRemovable}
+use Rattle.i_shape_core.specs.Blocks.{Reverses, GoesBack, last_change}
 use Rattle.i_shape_core.specs.Convex.{is_same, is_reversal, changes_after, last_of, dedup, NoSpikes, IsReversal, turn_at}
 use Rattle.i_shape_core.specs.IntPoint.{point_of, contour_of, IsSafe}
 use Rattle.i_shape_core.specs.declared.point.IntPoint.{IntPoint}
@@ -19,7 +20,7 @@ use Rattle.i_shape_core.proofs.Walked.{last_point}
 use Rattle.i_shape_core.proofs.Around.{Met, Passed, AllSame, met_is, has_met, last_but_one, none_change}
 use Rattle.i_shape_core.proofs.Dedup.{IsApart, AllApart, changes_apart, changes_last, last_again, same_yes, same_no, last_of_append, apart_from_places, dedup-same}
 use Rattle.i_shape_core.proofs.Back.{back_cases, there_and_back, back_from_cases}
-use Rattle.i_shape_core.proofs.Contours.{safe-at, rest-none}
+use Rattle.i_shape_core.proofs.Contours.{safe-at}
 
 -- what is told a reversal is one
 pub reversal_yes : (a b c : Point) → is_reversal a b c ≡ true → IsReversed a b c
@@ -214,9 +215,6 @@ no_spike_found c o p w = record {
     enough = three_left c (first_behind c) (two_left c w.differ) none
 
 -- ---- over the points of a program
-pub walking_over : {I : Type 0} (value : I → ℤ) (cs : List (IntPoint I)) (i : ℕ) (o p : Point) → length cs ≤ i → Walking (contour_of value cs) o p (contour_of value (drop i cs)) → IsTrue true ↔ NoSpikes (contour_of value cs)
-walking_over value cs i o p h w = (λ t. no_spike_found (contour_of value cs) o p (subst (Walking (contour_of value cs) o p) (rest-none value cs i h) w), λ s. refl)
-
 -- without points a contour isn't one without spikes
 pub none_without_points : {I : Type 0} (value : I → ℤ) (cs : List (IntPoint I)) → length cs ≤ 0 → NoSpikes (contour_of value cs) → ⊥
 unfolding dedup
@@ -349,11 +347,11 @@ pub record EdgeWalking (c : List Point) (e p : Point) (rest : List Point) : Type
   pub walking : Walking c from p rest
 
 -- a repeated point changes nothing
-pub edge_skips : (c : List Point) (e p q : Point) (rest : List Point) → is_same p q ≡ true → EdgeWalking c e p (q ∷ rest) → EdgeWalking c e p rest
+edge_skips : (c : List Point) (e p q : Point) (rest : List Point) → is_same p q ≡ true → EdgeWalking c e p (q ∷ rest) → EdgeWalking c e p rest
 edge_skips c e p q rest f w = record { from = w.from; edge = w.edge; walking = walking_skip c w.from p q rest f w.walking }
 
 -- another point at which the way doesn't go back
-pub edge_goes_on : (c : List Point) (e p q : Point) (rest : List Point) → is_same p q ≡ false
+edge_goes_on : (c : List Point) (e p q : Point) (rest : List Point) → is_same p q ≡ false
     → (cross_of e (vector p q) ≡ pos 0 → dot_of e (vector p q) <ℤ pos 0 → ⊥) → EdgeWalking c e p (q ∷ rest) → EdgeWalking c (vector p q) q rest
 unfolding cross dot
 edge_goes_on c e p q rest f onward w = record { from = p; edge = refl; walking = walking_on c w.from p q rest f (go (is_reversal w.from p q) refl) w.walking }
@@ -366,7 +364,7 @@ edge_goes_on c e p q rest f onward w = record { from = p; edge = refl; walking =
     go true g = absurd (none (reversal_yes w.from p q g))
 
 -- where it goes back, there is a spike
-pub edge_stops : (c : List Point) (e p q : Point) (rest : List Point) → is_same p q ≡ false
+edge_stops : (c : List Point) (e p q : Point) (rest : List Point) → is_same p q ≡ false
     → cross_of e (vector p q) ≡ pos 0 → dot_of e (vector p q) <ℤ pos 0 → EdgeWalking c e p (q ∷ rest) → NoSpikes c → ⊥
 unfolding cross dot
 edge_stops c e p q rest f flat back w = spike_found c w.from p q rest f (go (is_reversal w.from p q) refl) w.walking
@@ -377,6 +375,100 @@ edge_stops c e p q rest f flat back w = spike_found c w.from p q rest f (go (is_
     go : (b : Bool) → is_reversal w.from p q ≡ b → b ≡ true
     go true g = refl
     go false g = absurd (reversal_no w.from p q g reversed)
+
+-- it passes a block of points among which the way doesn't go back
+edge_over : (c : List Point) (e p : Point) (qs rs : List Point) → (GoesBack e p qs → ⊥) → EdgeWalking c e p (qs ++ rs) → EdgeWalking c (last_change e p qs) (last_of p qs) rs
+edge_over c e p [] rs n w = w
+edge_over c e p (q ∷ qs) rs n w = go (λ v m x. edge_over c v q qs rs m x) (is_same p q) refl n
+  where
+    go : ((v : Point) → (GoesBack v q qs → ⊥) → EdgeWalking c v q (qs ++ rs) → EdgeWalking c (last_change v q qs) (last_of q qs) rs) → (t : Bool) → is_same p q ≡ t
+        → (cond t (GoesBack e q qs) (Reverses e p q ⊎ GoesBack (vector p q) q qs) → ⊥) → EdgeWalking c (cond t (last_change e q qs) (last_change (vector p q) q qs)) (last_of q qs) rs
+    go later true s m = later e m (subst (λ (r : Point). EdgeWalking c e r (qs ++ rs)) (same_yes p q s) (edge_skips c e p q (qs ++ rs) s w))
+    go later false s m = later (vector p q) (λ b. m (inr b)) (edge_goes_on c e p q (qs ++ rs) s (λ z d. m (inl (z, d))) w)
+
+-- where it goes back among them, there is a spike
+edge_ends : (c : List Point) (e p : Point) (qs rs : List Point) → GoesBack e p qs → EdgeWalking c e p (qs ++ rs) → NoSpikes c → ⊥
+edge_ends c e p [] rs b w h = absurd b
+edge_ends c e p (q ∷ qs) rs b w h = go (λ v m x. edge_ends c v q qs rs m x h) (is_same p q) refl b
+  where
+    go : ((v : Point) → GoesBack v q qs → EdgeWalking c v q (qs ++ rs) → ⊥) → (t : Bool) → is_same p q ≡ t → cond t (GoesBack e q qs) (Reverses e p q ⊎ GoesBack (vector p q) q qs) → ⊥
+    go later true s m = later e m (subst (λ (r : Point). EdgeWalking c e r (qs ++ rs)) (same_yes p q s) (edge_skips c e p q (qs ++ rs) s w))
+    go later false s (inl (z, d)) = edge_stops c e p q (qs ++ rs) s z d w h
+    go later false s (inr m) = later (vector p q) m (edge_goes_on c e p q (qs ++ rs) s (λ z d. edge_stops c e p q (qs ++ rs) s z d w h) w)
+
+-- ---- within a block: what the walk knows at the edge e and the point p, with the rest of the block still to come
+pub record IsOnward (block : List Point) (first start e p : Point) (rest : List Point) : Type 0 where
+  pub told : GoesBack e p rest ↔ GoesBack first start block
+  pub edge : last_change e p rest ≡ last_change first start block
+  pub here : last_of p rest ≡ last_of start block
+
+-- it starts with the whole block
+pub onward_start : (block : List Point) (first start : Point) → IsOnward block first start first start block
+onward_start block first start = record { told = (λ b. b, λ b. b); edge = refl; here = refl }
+
+-- at a repeated point it is asked of the rest alone
+back_at_repeat : (e p q : Point) (rest : List Point) → is_same p q ≡ true → GoesBack e p (q ∷ rest) ≡ GoesBack e q rest
+back_at_repeat e p q rest s = ap (λ (t : Bool). cond t (GoesBack e q rest) (Reverses e p q ⊎ GoesBack (vector p q) q rest)) s
+
+-- at another point it is asked of this point too
+back_at_other : (e p q : Point) (rest : List Point) → is_same p q ≡ false → GoesBack e p (q ∷ rest) ≡ (Reverses e p q ⊎ GoesBack (vector p q) q rest)
+back_at_other e p q rest s = ap (λ (t : Bool). cond t (GoesBack e q rest) (Reverses e p q ⊎ GoesBack (vector p q) q rest)) s
+
+-- passes over a repeated point
+pub onward_skips : (block : List Point) (first start e p q : Point) (rest : List Point) → is_same p q ≡ true → IsOnward block first start e p (q ∷ rest) → IsOnward block first start e q rest
+onward_skips block first start e p q rest s w = record {
+  told = (λ b. w.told.0 (subst (λ (X : Type 0). X) (sym (back_at_repeat e p q rest s)) b), λ b. subst (λ (X : Type 0). X) (back_at_repeat e p q rest s) (w.told.1 b));
+  edge = sym (ap (λ (t : Bool). cond t (last_change e q rest) (last_change (vector p q) q rest)) s) ∙ w.edge;
+  here = w.here;
+}
+
+-- passes another point at which the way doesn't go back
+pub onward_on : (block : List Point) (first start e p q : Point) (rest : List Point) → is_same p q ≡ false → (cross_of e (vector p q) ≡ pos 0 → dot_of e (vector p q) <ℤ pos 0 → ⊥)
+    → IsOnward block first start e p (q ∷ rest) → IsOnward block first start (vector p q) q rest
+onward_on block first start e p q rest s n w = record {
+  told = (λ b. w.told.0 (subst (λ (X : Type 0). X) (sym (back_at_other e p q rest s)) (inr b)), λ b. later (subst (λ (X : Type 0). X) (back_at_other e p q rest s) (w.told.1 b)));
+  edge = sym (ap (λ (t : Bool). cond t (last_change e q rest) (last_change (vector p q) q rest)) s) ∙ w.edge;
+  here = w.here;
+}
+  where
+    later : Reverses e p q ⊎ GoesBack (vector p q) q rest → GoesBack (vector p q) q rest
+    later (inl (z, d)) = absurd (n z d)
+    later (inr b) = b
+
+-- and stops at one at which it does
+pub onward_stops : (block : List Point) (first start e p q : Point) (rest : List Point) → is_same p q ≡ false → cross_of e (vector p q) ≡ pos 0 → dot_of e (vector p q) <ℤ pos 0
+    → IsOnward block first start e p (q ∷ rest) → GoesBack first start block
+onward_stops block first start e p q rest s z d w = w.told.0 (subst (λ (X : Type 0). X) (sym (back_at_other e p q rest s)) (inl (z, d)))
+
+-- ---- the same over the points of a program
+-- after a block among which the way doesn't go back the walk goes on
+pub block_goes_on : {I : Type 0} (value : I → ℤ) (c : List Point) (e p after end : Point) (rest block later : List (IntPoint I)) → rest ≡ block ++ later
+    → after ≡ last_change e p (contour_of value block) → end ≡ last_of p (contour_of value block) → (GoesBack e p (contour_of value block) → ⊥)
+    → EdgeWalking c e p (contour_of value rest) → EdgeWalking c after end (contour_of value later)
+block_goes_on value c e p after end rest block later r f g n w =
+    subst₂ (λ (v q : Point). EdgeWalking c v q (contour_of value later)) (sym f) (sym g)
+    (edge_over c e p (contour_of value block) (contour_of value later) n (subst (EdgeWalking c e p) (ap (contour_of value) r ∙ map-append (point_of value) block later) w))
+
+-- at one in which it does there is a spike
+pub block_goes_back : {I : Type 0} (value : I → ℤ) (c : List Point) (e p : Point) (rest block later : List (IntPoint I)) → rest ≡ block ++ later
+    → GoesBack e p (contour_of value block) → EdgeWalking c e p (contour_of value rest) → NoSpikes c → ⊥
+block_goes_back value c e p rest block later r b w =
+    edge_ends c e p (contour_of value block) (contour_of value later) b (subst (EdgeWalking c e p) (ap (contour_of value) r ∙ map-append (point_of value) block later) w)
+
+-- the last block tells whether the contour has spikes
+pub last_block_tells : {I A : Type 0} (value : I → ℤ) (c : List Point) (e p : Point) (rest : List (IntPoint I)) (found : Option A) (onward : Bool) → onward ≡ is_some found
+    → IsNone found ↔ GoesBack e p (contour_of value rest) → EdgeWalking c e p (contour_of value rest) → IsTrue onward ↔ NoSpikes c
+last_block_tells {I} {A} value c e p rest found onward same told w = go found same told
+  where
+    whole : EdgeWalking c e p (contour_of value rest ++ [])
+    whole = subst (EdgeWalking c e p) (sym (append-nil (contour_of value rest))) w
+
+    free : (GoesBack e p (contour_of value rest) → ⊥) → NoSpikes c
+    free n = let w = edge_over c e p (contour_of value rest) [] n whole in no_spike_found c w.from (last_of p (contour_of value rest)) w.walking
+
+    go : (f : Option A) → onward ≡ is_some f → IsNone f ↔ GoesBack e p (contour_of value rest) → IsTrue onward ↔ NoSpikes c
+    go (Some r) s h = (λ x. free (λ b. let f = h.1 b in absurd (cc)), λ x. s)
+    go None s h = (λ x. absurd (cc), λ x. absurd (edge_ends c e p (contour_of value rest) [] (h.0 refl) whole x))
 
 not_above : (d : ℤ) → d <ℤ pos 0 → d ≤ℤ pos 0
 not_above d h = omega (arith, ints)

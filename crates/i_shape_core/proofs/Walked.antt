@@ -1,13 +1,15 @@
 -- The walk over a contour that starts from its last point, and counts the edges that pass a point on its right.
-use Rattle.std.proofs.Common.{◌≡◌, ℕ, suc, ◌+◌, ◌%◌, ◌<◌, ◌≤◌, List, [], ◌∷◌, ◌++◌, length, drop, get_or, ℤ, pos, int_lt, refl, sym, ap, subst, ◌∙◌, arith, ◌↔◌, Bool, true, false, not, cond, count_by, IsTrue, ◌-◌}
+use Rattle.std.proofs.Common.{◌≡◌, ℕ, suc, ◌+◌, ◌%◌, ◌<◌, ◌≤◌, List, [], ◌∷◌, ◌++◌, length, drop, get_or, ℤ, pos, int_lt, refl, sym, ap, ap₂, subst, ◌∙◌, arith, ◌↔◌, Bool, true, false, not, cond, count_by, IsTrue, ◌-◌}
 use Rattle.i_shape_core.specs.IntPoint.{point_of, contour_of}
 use Rattle.i_shape_core.specs.declared.point.IntPoint.{IntPoint}
+use Rattle.std.proofs.lemmas.List.{map-append}
 use Rattle.std.proofs.lemmas.List.Sums.{sum_by-cons, sum_by_push}
 use mathlib.Core.Bool.{beq}
 use Rattle.i_shape_core.specs.Point.{Point, origin, cross}
 use Rattle.i_shape_core.specs.Edges.{Edge, edges_between, edges, is_right, Inside}
 use Rattle.i_shape_core.specs.Convex.{last_of}
-use Rattle.i_shape_core.proofs.Contours.{rest-read, rest-none}
+use Rattle.i_shape_core.specs.Blocks.{inside_after}
+use Rattle.i_shape_core.proofs.Contours.{rest-read}
 use Rattle.i_shape_core.proofs.Turns.{edge}
 use Rattle.i_shape_core.proofs.Inside.{bit, tally, right_when}
 
@@ -72,43 +74,59 @@ unfolding Inside
 walk_done c p true e = (λ h. sym e ∙ refl, λ h. refl)
 walk_done c p false e = (λ h. absurd (cc), λ h. absurd (omega arith))
 
--- ---- the same over the points of a program
-abbrev pub Counted : {I : Type 0} → (I → ℤ) → Point → List (IntPoint I) → ℕ → IntPoint I → Bool → Type 0
-Counted value p cs i start s = (bit s + count_by (is_right p) (path_over (point_of value start) (contour_of value (drop i cs)))) % 2 ≡ count_by (is_right p) (edges (contour_of value cs)) % 2
+-- the walk keeps the parity of what it told and of the edges that are left
+inside_counts : (p : Point) (s : Bool) (q : Point) (rs : List Point) → (bit (inside_after p s q rs) + 0) % 2 ≡ (bit s + count_by (is_right p) (path_over q rs)) % 2
+inside_counts p s q [] = refl
+inside_counts p s q (r ∷ rs) = inside_counts p (cond (is_right p (edge q r)) (not s) s) r rs ∙ walk_more p q r rs s ((bit s + count_by (is_right p) (path_over q (r ∷ rs))) % 2) refl
 
+-- it walks over a block, and then over what is left
+inside_over : (p : Point) (s : Bool) (q : Point) (xs ys : List Point) → inside_after p s q (xs ++ ys) ≡ inside_after p (inside_after p s q xs) (last_of q xs) ys
+inside_over p s q [] ys = refl
+inside_over p s q (x ∷ xs) ys = inside_over p (cond (is_right p (edge q x)) (not s) s) x xs ys
+
+-- ---- the same over the points of a program
 last_item : {I : Type 0} (value : I → ℤ) (x : IntPoint I) (xs : List (IntPoint I)) (d : IntPoint I) → point_of value (get_or (x ∷ xs) (length xs) d) ≡ last_of (point_of value x) (contour_of value xs)
 last_item value x [] d = refl
 last_item value x (y ∷ xs) d = last_item value y xs d
 
--- the last point that the program reads is that of the contour
-pub last_point : {I : Type 0} (value : I → ℤ) (cs : List (IntPoint I)) (last : IntPoint I) → 0 < length cs → last ≡ get_or cs (length cs - 1) last → point_of value last ≡ last_of origin (contour_of value cs)
-last_point value [] last h e = absurd (omega arith)
-last_point value (x ∷ xs) last h e = ap (point_of value) (e ∙ ap (λ (i : ℕ). get_or (x ∷ xs) i last) (less_one (length xs))) ∙ last_item value x xs last
+-- the last point that the program reads is that of the list
+pub last_read : {I : Type 0} (value : I → ℤ) (q : Point) (cs : List (IntPoint I)) (i : ℕ) (last : IntPoint I) → i + 1 ≡ length cs → last ≡ get_or cs i last → point_of value last ≡ last_of q (contour_of value cs)
+last_read value q [] i last h e = absurd (omega arith)
+last_read value q (x ∷ xs) i last h e = ap (point_of value) (e ∙ ap (λ (j : ℕ). get_or (x ∷ xs) j last) (less_one i (length xs) h)) ∙ last_item value x xs last
   where
-    less_one : (n : ℕ) → suc n - 1 ≡ n
-    less_one n = omega arith
+    less_one : (j n : ℕ) → j + 1 ≡ suc n → j ≡ n
+    less_one j n e = omega arith
 
--- before the first point nothing is counted
-pub walk_start : {I : Type 0} (value : I → ℤ) (p : Point) (cs : List (IntPoint I)) (last : IntPoint I) → 0 < length cs → last ≡ get_or cs (length cs - 1) last → Counted value p cs 0 last false
-walk_start value p [] last h e = absurd (omega arith)
-walk_start value p (x ∷ xs) last h e = ap (λ (n : ℕ). n % 2) (zero_plus (count_by (is_right p) (path_over (point_of value last) (contour_of value (x ∷ xs)))))
+pub last_point : {I : Type 0} (value : I → ℤ) (cs : List (IntPoint I)) (last : IntPoint I) → 0 < length cs → last ≡ get_or cs (length cs - 1) last → point_of value last ≡ last_of origin (contour_of value cs)
+last_point value cs last h e = last_read value origin cs (length cs - 1) last (omega arith) e
+
+-- a point more is walked to
+pub walk_step : {I : Type 0} (value : I → ℤ) (p : Point) (cs : List (IntPoint I)) (i : ℕ) (start x : IntPoint I) (s s' t : Bool) → i < length cs → x ≡ get_or cs i x
+    → inside_after p s (point_of value start) (contour_of value (drop i cs)) ≡ t → s' ≡ cond (is_right p (edge (point_of value start) (point_of value x))) (not s) s
+    → inside_after p s' (point_of value x) (contour_of value (drop (i + 1) cs)) ≡ t
+walk_step value p cs i start x s s' t h e k f =
+    rw f (subst (λ (ps : List Point). inside_after p s (point_of value start) ps ≡ t) (rest-read value cs i x h e) k)
+
+-- a block more is walked over
+pub block_walked : {I : Type 0} (value : I → ℤ) (p q r : Point) (s s' t : Bool) (rest block later : List (IntPoint I)) → rest ≡ block ++ later → s' ≡ inside_after p s q (contour_of value block)
+    → r ≡ last_of q (contour_of value block) → inside_after p s q (contour_of value rest) ≡ t → inside_after p s' r (contour_of value later) ≡ t
+block_walked value p q r s s' t rest block later e f g k =
+    ap₂ (λ (u : Bool) (v : Point). inside_after p u v (contour_of value later)) f g
+    ∙ sym (ap (λ (xs : List (IntPoint _)). inside_after p s q (contour_of value xs)) e ∙ ap (inside_after p s q) (map-append (point_of value) block later) ∙ inside_over p s q (contour_of value block) (contour_of value later))
+    ∙ k
+
+-- the walk from the last point over all points tells whether p is inside
+pub walk_end : {I : Type 0} (value : I → ℤ) (p : Point) (cs : List (IntPoint I)) (last : IntPoint I) (s : Bool) → 0 < length cs → last ≡ get_or cs (length cs - 1) last
+    → s ≡ inside_after p false (point_of value last) (contour_of value cs) → IsTrue s ↔ Inside (contour_of value cs) p
+walk_end value p [] last s h e k = absurd (omega arith)
+walk_end value p (x ∷ xs) last s h e k = walk_done (contour_of value (x ∷ xs)) p s
+    (ap (λ (t : Bool). (bit t + 0) % 2) k ∙ inside_counts p false (point_of value last) (contour_of value (x ∷ xs))
+    ∙ ap (λ (n : ℕ). n % 2) (zero_plus (count_by (is_right p) (path_over (point_of value last) (contour_of value (x ∷ xs)))))
     ∙ ap (λ (q : Point). count_by (is_right p) (path_over q (contour_of value (x ∷ xs))) % 2) (last_point value (x ∷ xs) last h e)
-    ∙ ap (λ (n : ℕ). n % 2) (walk_counts (is_right p) (point_of value x) (contour_of value xs))
+    ∙ ap (λ (n : ℕ). n % 2) (walk_counts (is_right p) (point_of value x) (contour_of value xs)))
   where
     zero_plus : (n : ℕ) → 0 + n ≡ n
     zero_plus n = omega arith
-
--- a point more is walked to
-pub walk_step : {I : Type 0} (value : I → ℤ) (p : Point) (cs : List (IntPoint I)) (i : ℕ) (start x : IntPoint I) (s s' : Bool) → i < length cs → x ≡ get_or cs i x
-    → Counted value p cs i start s → s' ≡ cond (is_right p (edge (point_of value start) (point_of value x))) (not s) s → Counted value p cs (i + 1) x s'
-walk_step {I} value p cs i start x s s' h e k f =
-    rw f (walk_more p (point_of value start) (point_of value x) (contour_of value (drop (i + 1) cs)) s (count_by (is_right p) (edges (contour_of value cs)) % 2)
-    (subst (λ (ps : List Point). (bit s + count_by (is_right p) (path_over (point_of value start) ps)) % 2 ≡ count_by (is_right p) (edges (contour_of value cs)) % 2) (rest-read value cs i x h e) k))
-
--- after the last point the parity tells whether p is inside
-pub walk_end : {I : Type 0} (value : I → ℤ) (p : Point) (cs : List (IntPoint I)) (i : ℕ) (start : IntPoint I) (s : Bool) → length cs ≤ i → Counted value p cs i start s → IsTrue s ↔ Inside (contour_of value cs) p
-walk_end {I} value p cs i start s h k = walk_done (contour_of value cs) p s
-    (subst (λ (ps : List Point). (bit s + count_by (is_right p) (path_over (point_of value start) ps)) % 2 ≡ count_by (is_right p) (edges (contour_of value cs)) % 2) (rest-none value cs i h) k)
 
 -- without points nothing is inside
 pub nothing_inside : {I : Type 0} (value : I → ℤ) (p : Point) (cs : List (IntPoint I)) → length cs ≤ 0 → IsTrue false ↔ Inside (contour_of value cs) p

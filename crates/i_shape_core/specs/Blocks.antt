@@ -1,6 +1,8 @@
--- What a walk finds in a block of points that carries its last edge along. Private functions alone speak of it.
-use Rattle.std.specs.Prelude.{◌≡◌, List, [], ◌∷◌, ◌⊎◌, pos}
-use Rattle.i_shape_core.specs.Point.{Point, vector, cross_of}
+-- What a walk finds in a block of points: one that carries its last edge along, and one that tells whether a point is inside. Private functions alone speak of it.
+use Rattle.std.specs.Prelude.{◌≡◌, ◌<ℤ◌, List, [], ◌∷◌, ◌⊎◌, pos, Bool, cond, not}
+use Rattle.i_shape_core.specs.Point.{Point, vector, cross_of, dot_of}
+use Rattle.i_shape_core.specs.Convex.{is_same}
+use Rattle.i_shape_core.specs.Edges.{is_right}
 
 -- after the edge e that leads to p, some turn of the way over p and the points is a zero turn
 abbrev pub Flat : Point → Point → List Point → Type 0
@@ -11,3 +13,22 @@ Flat e p (q ∷ qs) = (cross_of e (vector p q) ≡ pos 0) ⊎ Flat (vector p q) 
 abbrev pub last_edge : Point → Point → List Point → Point
 last_edge e p [] = e
 last_edge e p (q ∷ qs) = last_edge (vector p q) q qs
+
+-- from p, to which the edge e leads, the way goes back to q
+abbrev pub Reverses : Point → Point → Point → Type 0
+Reverses e p q = (cross_of e (vector p q) ≡ pos 0) × (dot_of e (vector p q) <ℤ pos 0)
+
+-- after the edge e that leads to p, the way over the points goes back somewhere; points that equal the one before them are passed over
+abbrev pub GoesBack : Point → Point → List Point → Type 0
+GoesBack e p [] = ⊥
+GoesBack e p (q ∷ qs) = cond (is_same p q) (GoesBack e q qs) (Reverses e p q ⊎ GoesBack (vector p q) q qs)
+
+-- the last edge of that way between different points
+abbrev pub last_change : Point → Point → List Point → Point
+last_change e p [] = e
+last_change e p (q ∷ qs) = cond (is_same p q) (last_change e q qs) (last_change (vector p q) q qs)
+
+-- whether p is inside after the way from q over the points, where s tells it of the way before: each edge that passes p on its right changes it
+abbrev pub inside_after : Point → Bool → Point → List Point → Bool
+inside_after p s q [] = s
+inside_after p s q (r ∷ rs) = inside_after p (cond (is_right p (record { start = q; end = r })) (not s) s) r rs

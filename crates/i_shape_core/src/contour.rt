@@ -6,6 +6,7 @@ ghost use Rattle.std.specs.List.{All};
 ghost use Rattle.i_shape_core.specs.IntPoint.{point_of, contour_of, IsSafe};
 ghost use Rattle.i_shape_core.specs.Point.{Point};
 ghost use Rattle.i_shape_core.specs.Edges.{shoelace, Inside, is_right};
+ghost use Rattle.i_shape_core.specs.Blocks.{inside_after};
 ghost use Rattle.i_shape_core.specs.Convex.{Convex};
 
 use crate::area::area_of;
@@ -84,16 +85,43 @@ impl<I: IntNumber> ContourExtension<I> for &[IntPoint<I>] {
         let Some(last) = points.last() else {
             return false;
         };
-        let mut is_inside = false;
         let mut start = *last;
-        for end in points {
-            if passes_right(point, start, *end) {
-                is_inside = !is_inside;
-            }
-            start = *end;
+        let mut is_inside = false;
+        let mut rest = points;
+        // Blocks of four points, which the compiler can write out one after the other.
+        while rest.len() >= 4 {
+            let (block, later) = rest.split_at(4);
+            is_inside = is_inside_after(is_inside, point, start, block);
+            start = block[3];
+            rest = later;
         }
-        is_inside
+        is_inside_after(is_inside, point, start, rest)
     }
+}
+
+/// Whether `point` is inside after the edges from `first` over the points, where `was_inside` tells it of the edges before: each edge that
+/// passes its height strictly to the right of it turns the answer over.
+#[inline(always)]
+fn is_inside_after<I: IntNumber>(
+    was_inside: bool,
+    point: IntPoint<I>,
+    first: IntPoint<I>,
+    points: &[IntPoint<I>],
+) -> bool
+    requires point_safe { IsSafe I.width (point_of I.value point) }
+    requires first_safe { IsSafe I.width (point_of I.value first) }
+    requires points_safe { All (IsSafe I.width) (contour_of I.value points.now) }
+    ensures { result ≡ inside_after (point_of I.value point) was_inside (point_of I.value first) (contour_of I.value points.now) }
+{
+    let mut is_inside = was_inside;
+    let mut start = first;
+    for end in points {
+        if passes_right(point, start, *end) {
+            is_inside = !is_inside;
+        }
+        start = *end;
+    }
+    is_inside
 }
 
 /// Whether the edge from `start` to `end` passes the height of `point` strictly to the right of it.

@@ -1,12 +1,13 @@
 //! Contours without spikes: the test, and the cleaned copy.
 
-ghost use Rattle.std.specs.Prelude.{◌≡◌, ◌↔◌, ◌+◌, ◌-◌, ◌*◌, ◌^◌, ◌<◌, ◌≤◌, List, length, map, false, IsTrue, IfOk, OnErr, IsOkUnless};
+ghost use Rattle.std.specs.Prelude.{◌≡◌, ◌↔◌, ◌+◌, ◌-◌, ◌*◌, ◌^◌, ◌<◌, ◌≤◌, List, length, map, false, IsTrue, IsNone, IfOk, OnErr, IsOkUnless};
 ghost use Rattle.std.specs.Option.{IfSome};
 ghost use Rattle.std.specs.List.{All};
 ghost use Rattle.i_shape_core.specs.IntPoint.{contour_of, point_of, IsSafe, answered};
 ghost use Rattle.i_shape_core.specs.Point.{Point, IsBack};
 ghost use Rattle.i_shape_core.specs.Contour.{Sublist};
-ghost use Rattle.i_shape_core.specs.Convex.{NoSpikes};
+ghost use Rattle.i_shape_core.specs.Blocks.{GoesBack, last_change};
+ghost use Rattle.i_shape_core.specs.Convex.{NoSpikes, last_of};
 ghost use Rattle.i_shape_core.specs.Cleaners.{IsDespiked, SpikelessAnswer, KeptAnswer, VisitsAnswer};
 ghost use Rattle.i_shape_core.specs.Written.{IsWritten};
 ghost use Rattle.i_shape_core.specs.Contour.{point_at};
@@ -275,18 +276,48 @@ fn has_no_reversal<I: IntNumber>(points: &[IntPoint<I>]) -> bool
         return false;
     };
     let mut edge = here - behind;
-    for point in points {
-        if are_same(here, *point) {
-            continue;
-        }
-        let next = *point - here;
-        if edge.cross_product(next) == I::Wide::ZERO {
-            if edge.dot_product(next) < I::Wide::ZERO {
-                return false;
+    let mut rest = points;
+    // Blocks of four points, which the compiler can write out one after the other.
+    while rest.len() >= 4 {
+        let (block, later) = rest.split_at(4);
+        let Some((last_edge, end)) = walk_onward(edge, here, block) else {
+            return false;
+        };
+        edge = last_edge;
+        here = end;
+        rest = later;
+    }
+    walk_onward(edge, here, rest).is_some()
+}
+
+/// Walks over a block of points from `start`, to which the edge `first` leads, and passes over repeated points: its last edge and its
+/// last point, or `None` where the way goes back.
+#[inline(always)]
+fn walk_onward<I: IntNumber>(
+    first: IntPoint<I>,
+    start: IntPoint<I>,
+    block: &[IntPoint<I>],
+) -> Option<(IntPoint<I>, IntPoint<I>)>
+    requires start_safe { IsSafe I.width (point_of I.value start) }
+    requires block_safe { All (IsSafe I.width) (contour_of I.value block.now) }
+    ensures back { IsNone result ↔ GoesBack (point_of I.value first) (point_of I.value start) (contour_of I.value block.now) }
+    ensures edge { IfSome result (λ r. point_of I.value r.0 ≡ last_change (point_of I.value first) (point_of I.value start) (contour_of I.value block.now)) }
+    ensures end { IfSome result (λ r. point_of I.value r.1 ≡ last_of (point_of I.value start) (contour_of I.value block.now)) }
+    ensures end_safe { IfSome result (λ r. IsSafe I.width (point_of I.value r.1)) }
+{
+    let mut edge = first;
+    let mut here = start;
+    for point in block {
+        if !are_same(here, *point) {
+            let next = *point - here;
+            if edge.cross_product(next) == I::Wide::ZERO {
+                if edge.dot_product(next) < I::Wide::ZERO {
+                    return None;
+                }
             }
+            edge = next;
         }
         here = *point;
-        edge = next;
     }
-    true
+    Some((edge, here))
 }

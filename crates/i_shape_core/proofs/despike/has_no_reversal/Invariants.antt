@@ -1,10 +1,17 @@
-use Rattle.std.proofs.Common.{drop}
+use Rattle.std.proofs.Common.{length}
+use Rattle.std.specs.List.{All}
 use Rattle.i_shape_core.specs.IntPoint.{point_of, contour_of, IsSafe}
 use Rattle.i_shape_core.proofs.Spikes.{EdgeWalking}
 use Rattle.i_shape_core.proofs.despike.has_no_reversal.Given as goal
 
-abbrev pub invariant-loop-point : goal.invariant-loop-point
-invariant-loop-point g l = record {
-  here_safe : IsSafe g.I.IntNumber.width (point_of g.I.IntNumber.value l.here);
-  walking : EdgeWalking (contour_of g.I.IntNumber.value l.points) (point_of g.I.IntNumber.value l.edge) (point_of g.I.IntNumber.value l.here) (contour_of g.I.IntNumber.value (drop l.point-index l.points));
-}
+abbrev pub invariant-loop-rest : goal.invariant-loop-rest
+invariant-loop-rest g l =
+    let value = g.I.IntNumber.value in
+    record {
+      here_safe : IsSafe g.I.IntNumber.width (point_of value l.here);
+      rest_safe : All (IsSafe g.I.IntNumber.width) (contour_of value l.rest);
+      walking : EdgeWalking (contour_of value l.points) (point_of value l.edge) (point_of value l.here) (contour_of value l.rest);
+    }
+
+abbrev pub decreases-loop-rest : goal.decreases-loop-rest
+decreases-loop-rest g l = length l.rest

@@ -1,32 +1,34 @@
-use Rattle.std.proofs.Common.{◌∙◌, ap, arith, sym, not, cond, Bool}
+use Rattle.std.proofs.Common.{◌∙◌, arith, refl}
 use Rattle.i_shape_core.specs.IntPoint.{point_of}
 use Rattle.i_shape_core.proofs.Contours.{read-safe}
-use Rattle.i_shape_core.proofs.Walked.{walk_start, walk_step, walk_end, nothing_inside}
+use Rattle.i_shape_core.proofs.LastEdge.{first-safe, later-safe}
+use Rattle.i_shape_core.proofs.Walked.{last_read, block_walked, walk_end, nothing_inside}
 use Rattle.i_shape_core.proofs.contour.RefSliceIntPointContourExtension.contains_point.Goals as goal
-use Rattle.i_shape_core.proofs.contour.RefSliceIntPointContourExtension.contains_point.Goals.{then-passes_right, else-passes_right}
 
 pub returns-in_default : goal.returns-in_default
 returns-in_default g c = nothing_inside g.I.IntNumber.value (point_of g.I.IntNumber.value c.args.point) c.args.self.now.now c.in_default.ensures.item.3
 
-pub loop-end-init : goal.loop-end-init
-loop-end-init g c = record {
+pub loop-rest-init : goal.loop-rest-init
+loop-rest-init g c = record {
   start_safe = read-safe g.I.IntNumber.width g.I.IntNumber.value c.args.self.now.now _ c.in-Some.last.now c.requires.points_safe (omega (arith, c.in-Some.ensures.item.3.0)) c.in-Some.ensures.item.1;
-  counted = walk_start g.I.IntNumber.value (point_of g.I.IntNumber.value c.args.point) c.args.self.now.now c.in-Some.last.now c.in-Some.ensures.item.3.0 c.in-Some.ensures.item.1;
+  rest_safe = c.requires.points_safe;
+  told = refl;
 }
 
-pub passes_right-requires-clause-end_safe : goal.passes_right-requires-clause-end_safe
-passes_right-requires-clause-end_safe g c = read-safe g.I.IntNumber.width g.I.IntNumber.value c.args.self.now.now _ _ c.requires.points_safe c.loop-end-test.true c.end-item.is
+pub is_inside_after-is_inside-requires-clause-points_safe : goal.is_inside_after-is_inside-requires-clause-points_safe
+is_inside_after-is_inside-requires-clause-points_safe g c = first-safe g.I.IntNumber.width g.I.IntNumber.value _ _ 4 c.split_at.ensures.front c.loop-rest.invariant.rest_safe
 
-pub loop-end-preserved : goal.loop-end-preserved
-loop-end-preserved g c = record {
-  start_safe = read-safe g.I.IntNumber.width g.I.IntNumber.value c.args.self.now.now _ _ c.requires.points_safe c.loop-end-test.true c.end-item.is;
-  counted = walk_step g.I.IntNumber.value (point_of g.I.IntNumber.value c.args.point) c.args.self.now.now c.loop-end.end-index c.loop-end.start c.end-item.result c.loop-end.is_inside c.if-passes_right.is_inside
-      c.loop-end-test.true c.end-item.is c.loop-end.invariant.counted
-      (elim c.if-passes_right.branch [
-        | then-passes_right w ↦ w.is_inside-is ∙ ap (λ (t : Bool). cond t (not c.loop-end.is_inside) c.loop-end.is_inside) (sym w.if-passes_right.true ∙ c.passes_right.ensures)
-        | else-passes_right w ↦ w.is_inside-is ∙ ap (λ (t : Bool). cond t (not c.loop-end.is_inside) c.loop-end.is_inside) (sym w.if-passes_right.false ∙ c.passes_right.ensures)
-      ]);
-}
+pub loop-rest-preserved : goal.loop-rest-preserved
+loop-rest-preserved g c =
+    let value = g.I.IntNumber.value in
+    let block_safe = first-safe g.I.IntNumber.width value _ _ 4 c.split_at.ensures.front c.loop-rest.invariant.rest_safe in
+    record {
+      start_safe = read-safe g.I.IntNumber.width value c.split_at.result.0.now 3 c.index-block-3.result block_safe (omega (arith, c.split_at.ensures.front_len)) c.index-block-3.is;
+      rest_safe = later-safe g.I.IntNumber.width value _ _ 4 c.split_at.ensures.back c.loop-rest.invariant.rest_safe;
+      told = block_walked value (point_of value c.args.point) (point_of value c.loop-rest.start) _ c.loop-rest.is_inside _ _ c.loop-rest.rest.now c.split_at.result.0.now c.split_at.result.1.now c.split_at.ensures.by_index.0 c.is_inside_after-is_inside.ensures
+          (last_read value (point_of value c.loop-rest.start) c.split_at.result.0.now 3 c.index-block-3.result (omega (arith, c.split_at.ensures.front_len)) c.index-block-3.is) c.loop-rest.invariant.told;
+    }
 
 pub returns : goal.returns
-returns g c = walk_end g.I.IntNumber.value (point_of g.I.IntNumber.value c.args.point) c.args.self.now.now c.loop-end.end-index c.loop-end.start c.loop-end.is_inside c.loop-end-test.false c.loop-end.invariant.counted
+returns g c = walk_end g.I.IntNumber.value (point_of g.I.IntNumber.value c.args.point) c.args.self.now.now c.in-Some.last.now _ c.in-Some.ensures.item.3.0 c.in-Some.ensures.item.1
+    (c.is_inside_after.ensures ∙ c.loop-rest.invariant.told)

@@ -1,9 +1,17 @@
-use Rattle.i_shape_core.specs.IntPoint.{point_of, IsSafe}
-use Rattle.i_shape_core.proofs.Walked.{Counted}
+use Rattle.std.proofs.Common.{◌≡◌, false, length}
+use Rattle.std.specs.List.{All}
+use Rattle.i_shape_core.specs.IntPoint.{point_of, contour_of, IsSafe}
+use Rattle.i_shape_core.specs.Blocks.{inside_after}
 use Rattle.i_shape_core.proofs.contour.RefSliceIntPointContourExtension.contains_point.Given as goal
 
-abbrev pub invariant-loop-end : goal.invariant-loop-end
-invariant-loop-end g l = record {
-  start_safe : IsSafe g.I.IntNumber.width (point_of g.I.IntNumber.value l.start);
-  counted : Counted g.I.IntNumber.value (point_of g.I.IntNumber.value l.point) l.points l.end-index l.start l.is_inside;
-}
+abbrev pub invariant-loop-rest : goal.invariant-loop-rest
+invariant-loop-rest g l =
+    let value = g.I.IntNumber.value in
+    record {
+      start_safe : IsSafe g.I.IntNumber.width (point_of value l.start);
+      rest_safe : All (IsSafe g.I.IntNumber.width) (contour_of value l.rest);
+      told : inside_after (point_of value l.point) l.is_inside (point_of value l.start) (contour_of value l.rest) ≡ inside_after (point_of value l.point) false (point_of value l.initial.start) (contour_of value l.initial.rest);
+    }
+
+abbrev pub decreases-loop-rest : goal.decreases-loop-rest
+decreases-loop-rest g l = length l.rest
