@@ -5,7 +5,7 @@ ghost use Rattle.std.specs.Option.{IfSome};
 ghost use Rattle.std.specs.List.{All};
 ghost use Rattle.std.specs.Ordering.{MatchOrdering};
 ghost use Rattle.i_shape_core.specs.IntPoint.{contour_of, IsSafe, answered};
-ghost use Rattle.i_shape_core.specs.Contour.{point_at};
+ghost use Rattle.i_shape_core.specs.Contour.{IsSimple, point_at};
 ghost use Rattle.i_shape_core.specs.Cleaners.{KeptAnswer};
 ghost use Rattle.i_shape_core.specs.Written.{IsWritten};
 ghost use Rattle.i_shape_core.specs.Canonical.{IsBefore, IsLeast, CanonicalAnswer, started_at};
@@ -52,6 +52,8 @@ impl ContourSimplifier {
         ensures written { IfOk result (λ n. IsWritten CanonicalAnswer P.Coordinate.width (λ list. contour_of P.Coordinate.value (P.points list)) contour.now out.old out.new n) }
         ensures len { length out.new ≡ length out.old }
         ensures err { OnErr result (out.new ≡ out.old) }
+        ensures short { length contour.now < 3 → result ≡ Ok 0 }
+        ensures unclean { OnErr result (IsSimple (contour_of P.Coordinate.value (P.points contour.now)) → ⊥) }
         ensures memory { IsOkUnless result ShapeError.OutOfMemory }
     {
         let count = self.simplify_into(contour, out)?;

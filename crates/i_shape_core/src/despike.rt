@@ -8,7 +8,7 @@ ghost use Rattle.i_shape_core.specs.Point.{Point, IsBack};
 ghost use Rattle.i_shape_core.specs.Contour.{Sublist};
 ghost use Rattle.i_shape_core.specs.Blocks.{GoesBack, last_change};
 ghost use Rattle.i_shape_core.specs.Convex.{NoSpikes, last_of};
-ghost use Rattle.i_shape_core.specs.Cleaners.{SpikelessAnswer, KeptAnswer, VisitsAnswer};
+ghost use Rattle.i_shape_core.specs.Cleaners.{IsDespiked, SpikelessAnswer, KeptAnswer, VisitsAnswer};
 ghost use Rattle.i_shape_core.specs.Written.{IsWritten};
 ghost use Rattle.i_shape_core.specs.Contour.{point_at};
 ghost use Rattle.i_shape_core.specs.Walks.{WalkAnswer, Finds, Falls, FirstAnswer, IsRingState, PassesAtPlace, in_order};
@@ -135,6 +135,8 @@ impl ContourDeSpiker {
         ensures written { IfOk result (λ n. IsWritten SpikelessAnswer P.Coordinate.width (λ list. contour_of P.Coordinate.value (P.points list)) contour.now out.old out.new n) }
         ensures len { length out.new ≡ length out.old }
         ensures err { OnErr result (out.new ≡ out.old) }
+        ensures short { length contour.now < 3 → result ≡ Ok 0 }
+        ensures unclean { let c = contour_of P.Coordinate.value (P.points contour.now) in OnErr result (IsDespiked c c → ⊥) }
         ensures memory { IsOkUnless result ShapeError.OutOfMemory }
     {
         if contour.len() < 3 {

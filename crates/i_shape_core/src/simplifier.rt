@@ -5,7 +5,7 @@ ghost use Rattle.std.specs.Option.{IfSome};
 ghost use Rattle.std.specs.List.{All, range_with_len};
 ghost use Rattle.i_shape_core.specs.IntPoint.{contour_of, IsSafe, answered};
 ghost use Rattle.i_shape_core.specs.Point.{IsZeroTurn};
-ghost use Rattle.i_shape_core.specs.Contour.{End, Sublist, point_at};
+ghost use Rattle.i_shape_core.specs.Contour.{End, IsSimple, Sublist, point_at};
 ghost use Rattle.i_shape_core.specs.Cleaners.{SimpleAnswer, KeptAnswer, VisitsAnswer};
 ghost use Rattle.i_shape_core.specs.Written.{IsWritten};
 ghost use Rattle.i_shape_core.specs.Walks.{IsWalked, IsStacked, IsSettled, WalkAnswer};
@@ -98,6 +98,8 @@ impl ContourSimplifier {
         ensures written { IfOk result (λ n. IsWritten SimpleAnswer P.Coordinate.width (λ list. contour_of P.Coordinate.value (P.points list)) contour.now out.old out.new n) }
         ensures len { length out.new ≡ length out.old }
         ensures err { OnErr result (out.new ≡ out.old) }
+        ensures short { length contour.now < 3 → result ≡ Ok 0 }
+        ensures unclean { OnErr result (IsSimple (contour_of P.Coordinate.value (P.points contour.now)) → ⊥) }
         ensures memory { IsOkUnless result ShapeError.OutOfMemory }
     {
         if contour.len() < 3 {
@@ -167,6 +169,7 @@ fn start_of_walk<P: ContourPoint>(probe: &mut Probe<'_, P>) -> Option<(usize, us
     ensures end_within { IfSome result (λ s. s.1 ≤ length probe.old.contour) }
     ensures place_within { IfSome result (λ s. s.2 ≤ length probe.old.contour) }
     ensures clean { let c = contour_of P.Coordinate.value probe.old.contour in result ≡ None → End IsZeroTurn c c }
+    ensures unclean { IfSome result (λ _. IsSimple (contour_of P.Coordinate.value probe.old.contour) → ⊥) }
     ensures visits { result ≡ None → probe.new.visits ≡ length probe.old.contour }
 {
     let place = clean_prefix(probe);

@@ -1,9 +1,10 @@
-use Rattle.std.proofs.Common.{◌≡◌, ◌≤◌, ℕ, List, length, ap, subst, refl, arith, ◌∙◌}
+use Rattle.std.proofs.Common.{◌≡◌, ◌≤◌, ◌<◌, ◌-◌, ℕ, List, length, ap, subst, refl, arith, ◌∙◌, inl, inr}
 use Rattle.std.specs.List.{range_with_len}
 use Rattle.i_shape_core.specs.IntPoint.{contour_of}
 use Rattle.i_shape_core.specs.Point.{Point, IsZeroTurn}
 use Rattle.i_shape_core.specs.Walks.{IsStacked}
 use Rattle.i_shape_core.proofs.Contours.{length-contour}
+use Rattle.i_shape_core.proofs.FirstPlaces.{removable_between}
 use Rattle.i_shape_core.proofs.Walks.{held, failed}
 use Rattle.i_shape_core.proofs.Prefixes.{prefix_walked, whole_without_first, whole_without_last, whole_ends}
 use Rattle.i_shape_core.proofs.simplifier.start_of_walk.Goals as goal
@@ -59,3 +60,37 @@ returns-clause-clean g c = λ none.
     whole_ends IsZeroTurn points (length points) refl three whole
     (failed c.is_zero_at.result (rw (prefix.contour, e) at c.is_zero_at.ensures.test) c.if-is_zero_at.false)
     (failed c.is_zero_at-2.result (rw (same, e) at c.is_zero_at-2.ensures.test) c.if-is_zero_at-2.false)
+
+pub returns-then-place-count-clause-unclean : goal.returns-then-place-count-clause-unclean
+returns-then-place-count-clause-unclean g c = λ simple.
+    let prefix = c.clean_prefix-place.ensures in
+    let points : List Point = contour_of g.P.Coordinate.IntNumber.value c.args.probe.now.contour in
+    let all = length-contour g.P.Coordinate.IntNumber.value c.args.probe.now.contour in
+    let place : ℕ = c.clean_prefix-place.result in
+    let within : place < length points = omega (arith, c.if-place-count.true, c.len-count.ensures, ap length prefix.contour, all) in
+    let least = prefix.least in
+    simple.none (place - 1) (removable_between points (place - 2) (place - 1) place simple.enough (omega (arith, within)) (omega (arith, within))
+    (inl (omega (arith, within, least), omega (arith, least))) (inl (omega (arith, within, least), omega (arith, least))) (prefix.zero_turn within))
+
+pub returns-then-is_zero_at-clause-unclean : goal.returns-then-is_zero_at-clause-unclean
+returns-then-is_zero_at-clause-unclean g c = λ simple.
+    let prefix = c.clean_prefix-place.ensures in
+    let points : List Point = contour_of g.P.Coordinate.IntNumber.value c.args.probe.now.contour in
+    let all = length-contour g.P.Coordinate.IntNumber.value c.args.probe.now.contour in
+    let e : c.len-count.result ≡ length points = omega (arith, c.len-count.ensures, ap length prefix.contour, all) in
+    let last : ℕ = length points - 1 in
+    let three = simple.enough in
+    simple.none 0 (removable_between points last 0 1 three (omega (arith, three)) (omega (arith, three)) (inr (omega (arith, three), refl)) (inl (omega (arith, three), refl))
+    (held c.is_zero_at.result (rw (prefix.contour, e) at c.is_zero_at.ensures.test) c.if-is_zero_at.true))
+
+pub returns-then-is_zero_at-2-clause-unclean : goal.returns-then-is_zero_at-2-clause-unclean
+returns-then-is_zero_at-2-clause-unclean g c = λ simple.
+    let prefix = c.clean_prefix-place.ensures in
+    let points : List Point = contour_of g.P.Coordinate.IntNumber.value c.args.probe.now.contour in
+    let all = length-contour g.P.Coordinate.IntNumber.value c.args.probe.now.contour in
+    let e : c.len-count.result ≡ length points = omega (arith, c.len-count.ensures, ap length prefix.contour, all) in
+    let same : c.is_zero_at.new.probe.contour ≡ c.args.probe.now.contour = c.is_zero_at.ensures.contour ∙ prefix.contour in
+    let last : ℕ = length points - 1 in
+    let three = simple.enough in
+    simple.none last (removable_between points (last - 1) last 0 three (omega (arith, three)) (omega (arith, three)) (inl (omega (arith, three), omega (arith, three)))
+    (inr (omega (arith, three), refl)) (held c.is_zero_at-2.result (rw (same, e) at c.is_zero_at-2.ensures.test) c.if-is_zero_at-2.true))

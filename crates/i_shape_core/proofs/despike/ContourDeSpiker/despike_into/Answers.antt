@@ -1,5 +1,6 @@
 use Rattle.std.proofs.Common.{◌≡◌, ◌∙◌, ◌<◌, List, map, length, refl, ap, sym, subst, arith}
 use Rattle.std.proofs.lemmas.List.{length-map}
+use Rattle.std.proofs.lemmas.Result.{err_from_is_err_and}
 use Rattle.i_shape_core.specs.Point.{IsBack}
 use Rattle.i_shape_core.specs.Contour.{point_at}
 use Rattle.i_shape_core.specs.IntPoint.{contour_of}
@@ -58,6 +59,12 @@ returns-then-count-eq3-clause-written g c =
     let found = rw fresh at c.in-Some.ensures.answer in
     nothing_written g.P.Coordinate.IntNumber.width read counts c.args.contour.now c.args.out.now IsBack SpikelessAnswer (spikeless_answer whole) (kept_spikeless whole) c.first_back.new.probe.visits
     (first_collapses whole c.in-Some.place c.first_back.new.probe.visits found.0 (count ∙ c.if-count-eq3.true) found.1)
+
+pub returns-in_err-reserve-clause-unclean : goal.returns-in_err-reserve-clause-unclean
+returns-in_err-reserve-clause-unclean g c =
+    let found = rw c.new-probe.ensures.contour at c.in-Some.ensures.answer in
+    let refused = err_from_is_err_and c.from_residual.result c.from_residual.ensures.1 in
+    rw refused.1 (λ despiked. despiked.ended.none_left c.in-Some.place found.0.here)
 
 pub standing-ring-requires-clause-within : goal.standing-ring-requires-clause-within
 standing-ring-requires-clause-within g c =
