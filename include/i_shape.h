@@ -1,5 +1,5 @@
-/* i_shape: contours of whole-number points, cleaned and measured. Each call is proved to answer what is said of it here; docs/C.md says
- * by which clause.
+/* i_shape: contours of whole-number points, cleaned and measured. Each call is proved to answer what is said of it here, but for
+ * I_SHAPE_NO_MEMORY and what takes memory, which are tested; docs/C.md says by which clause.
  *
  * Each call is total: it tests what it needs, and answers a code where that isn't met. Nothing is kept between calls. There is no
  * callback, and no call ends the program. Calls may run side by side.
@@ -75,16 +75,16 @@ typedef struct { uint64_t low, high; } i_shape_halves;
     /* Polygons: contours[] parts the points into contours, as above, and shapes[] parts these into polygons, the outer contour of each \
        first. The answer lies in the same way in out_points, out_contours and out_shapes, from 0 on, without the contours that collapse and \
        the polygons whose outer contour does. They answer how many polygons these are, n: they end at out_shapes[n], and their \
-       contours at out_contours[out_shapes[n]]. I_SHAPE_UNFIT as above, and where the same is wrong of shapes[] over the contours. Behind the \
-       answer nothing is written, nor after a code. */ \
+       contours at out_contours[out_shapes[n]]. I_SHAPE_UNFIT as above, and where the same is wrong of shapes[] over the contours. \
+       I_SHAPE_UNSAFE: contours that no polygon has are tested too. Behind the answer nothing is written, nor after a code. */ \
     I_SHAPE_CLEAN_SHAPES(simplify, W) \
     I_SHAPE_CLEAN_SHAPES(despike, W)   /* a contour that has no spikes stays as it is */ \
     I_SHAPE_CLEAN_SHAPES(canonical, W) /* the holes of each polygon sorted, and then the polygons: equal arrays are the same polygons */ \
     /* Tests. They answer 1 or 0, I_SHAPE_UNSAFE or I_SHAPE_NO_MEMORY. */ \
     I_SHAPE_TEST(is_simple, W)      /* at least three points, and no zero turn */ \
     I_SHAPE_TEST(has_no_spikes, W)  /* at least three points without repeated ones, and the way over them nowhere goes back */ \
-    I_SHAPE_TEST(is_convex, W)      /* the way nowhere goes back, and doesn't bend to both sides */ \
-    /* Whether an odd number of edges pass the height of (x, y) to the right of it. I_SHAPE_UNSAFE: that point isn't safe either. */ \
+    I_SHAPE_TEST(is_convex, W)      /* at most two points without repeated ones, or the way over them nowhere goes back or bends to both sides */ \
+    /* Whether an odd number of edges pass the height of (x, y) strictly to the right of it. I_SHAPE_UNSAFE: that point isn't safe either. */ \
     int32_t i_shape_contains_i##W(const i_shape_point_i##W *points, size_t count, int##W##_t x, int##W##_t y); \
     /* Whether each point is safe: 1 or 0. It takes no memory. */ \
     I_SHAPE_TEST(is_safe, W) \

@@ -63,7 +63,7 @@ impl<I: IntNumber> ContourTest<I> for Spikeless {
     }
 }
 
-/// Whether the way nowhere goes back, and doesn't bend to both sides.
+/// Whether at most two points are left without repeated ones, or the way over them nowhere goes back or bends to both sides.
 #[derive(Clone, Copy)]
 pub struct Bulging {}
 

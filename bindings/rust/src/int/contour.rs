@@ -4,10 +4,10 @@ use super::{IntNumber, IntPoint};
 use crate::calls::{contains, holds};
 
 pub trait ContourExtension<I: IntNumber> {
-    /// Whether the way nowhere goes back, and doesn't bend to both sides.
+    /// Whether at most two points are left without repeated ones, or the way over them nowhere goes back or bends to both sides.
     fn is_convex(&self) -> bool;
 
-    /// Whether an odd number of edges pass the height of the point to the right of it.
+    /// Whether an odd number of edges pass the height of the point strictly to the right of it.
     fn contains_point(&self, point: IntPoint<I>) -> bool;
 }
 

@@ -214,7 +214,7 @@ pub extern "C" fn i_shape_has_no_spikes_i32(alloc: Global, points: &[PointI32]) 
     test_contour(alloc, points, Spikeless {})
 }
 
-/// Whether the way nowhere goes back, and doesn't bend to both sides. Answers 1 or 0, or a code below 0.
+/// Whether at most two points are left without repeated ones, or the way over them nowhere goes back or bends to both sides. Answers 1 or 0, or a code below 0.
 #[unsafe(no_mangle)]
 pub extern "C" fn i_shape_is_convex_i32(alloc: Global, points: &[PointI32]) -> i32
     ensures answer { TestAnswer (Convex (map point_i32 points.now)) result }
