@@ -8,6 +8,7 @@ pub mod chain;
 pub mod chain_at_i64;
 pub mod contour;
 pub mod first;
+pub mod into;
 pub mod list;
 pub mod refusal;
 pub mod shape;

@@ -12,6 +12,8 @@ pub enum Refusal {
     OutOfRange,
     /// A range of a buffer runs backwards, or out of its points.
     Unreadable,
+    /// A slice has no room for what may be left.
+    NoRoom,
     /// The call was refused.
     Call(ShapeError),
 }

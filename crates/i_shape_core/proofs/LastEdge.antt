@@ -1,5 +1,5 @@
 -- The walk over a contour that carries the last point and the last edge along.
-use Rattle.std.proofs.Common.{◌≡◌, ℕ, ◌-◌, ◌≤◌, List, [], ◌∷◌, ◌++◌, length, get_or, take, drop, ℤ, pos, refl, sym, ap, subst, ◌∙◌, arith, ◌⊎◌, inl, inr, ◌↔◌, Bool, true, false, ◌||◌, IsTrue, ◌-ℤ◌, FitsSigned, rules}
+use Rattle.std.proofs.Common.{◌≡◌, ℕ, ◌-◌, ◌≤◌, List, [], ◌∷◌, ◌++◌, length, get_or, take, drop, ℤ, pos, refl, sym, ap, subst, ◌∙◌, arith, ◌⊎◌, inl, inr, ◌↔◌, Bool, true, false, ◌||◌, not, IsTrue, ◌-ℤ◌, FitsSigned, rules}
 use Rattle.std.specs.Int.{Width}
 use Rattle.std.specs.List.{All}
 use Rattle.std.proofs.lemmas.List.{map-append, take-map, drop-map}
@@ -63,10 +63,6 @@ flat-more e p [] rs f = absurd f
 flat-more e p (q ∷ qs) rs (inl z) = inl z
 flat-more e p (q ∷ qs) rs (inr f) = inr (flat-more (vector p q) q qs rs f)
 
--- and ends with none
-walking-end : (c : List Point) (e p : Point) → IsWalking c e p [] → IsSimple c
-walking-end c e p w = w.told.1 (λ f. f)
-
 -- a product that was compared with zero
 pub zero-told : {W : Type 0} (value : W → ℤ) (equal : W → W → Bool) → ((a b : W) → IsTrue (equal a b) ↔ (value a ≡ value b))
     → (product zero : W) (b : Bool) → value zero ≡ pos 0 → b ≡ equal product zero → IsTrue b ↔ (value product ≡ pos 0)
@@ -125,10 +121,10 @@ pub block-stops : {I : Type 0} (value : I → ℤ) (c : List Point) (e p : Point
 block-stops value c e p rest block later r f w s =
     (subst (IsWalking c e p) (ap (contour_of value) r ∙ map-append (point_of value) block later) w).told.0 s (flat-more e p (contour_of value block) (contour_of value later) f)
 
--- and without more points the contour is simple
-pub walking-done : {I : Type 0} (value : I → ℤ) (c : List Point) (e p : Point) (rest : List (IntPoint I)) → length rest ≤ 0 → IsWalking c e p (contour_of value rest) → IsSimple c
-walking-done value c e p [] h w = walking-end c e p w
-walking-done value c e p (x ∷ xs) h w = absurd (omega arith)
+-- a test that tells of the rest whether a zero turn is met tells by its negation what none tells
+pub none_told : {F S : Type 0} (met : Bool) → IsTrue met ↔ F → S ↔ (F → ⊥) → IsTrue (not met) ↔ S
+none_told true flat told = (λ t. absurd (cc), λ s. absurd (told.0 s (flat.0 refl)))
+none_told false flat told = (λ t. told.1 (λ f. absurd (let u = flat.1 f in cc)), λ s. refl)
 
 -- the edge between two safe points fits
 pub step-fits : (w : Width) (p q : Point) → IsSafe w p → IsSafe w q → FitsSigned w (q.x -ℤ p.x) × FitsSigned w (q.y -ℤ p.y)

@@ -80,8 +80,9 @@ impl<I: IntNumber> SimpleContour<I> for &[IntPoint<I>] {
         let mut here = points[last];
         let mut edge = here - points[last - 1];
         let mut rest = points;
-        while rest.len() > 0 {
-            let (block, later) = rest.split_at(rest.len().min(64));
+        // Blocks of four points, which the compiler can write out one after the other.
+        while rest.len() >= 4 {
+            let (block, later) = rest.split_at(4);
             let (has_zero_turn, last_edge, end) = walk_block(edge, here, block);
             if has_zero_turn {
                 return false;
@@ -90,7 +91,8 @@ impl<I: IntNumber> SimpleContour<I> for &[IntPoint<I>] {
             here = end;
             rest = later;
         }
-        true
+        let (has_zero_turn, _last_edge, _end) = walk_block(edge, here, rest);
+        !has_zero_turn
     }
 
     fn simplified(&self, alloc: Global) -> Result<Option<IntContour<I>>, ShapeError> {
@@ -108,6 +110,7 @@ impl<I: IntNumber> SimpleContour<I> for &[IntPoint<I>] {
 
 /// Walks over a block of points from `start`, to which the edge `first` leads: whether it passes a zero turn, its last edge, and
 /// its last point. It has no early end, and so no branch between points.
+#[inline(always)]
 fn walk_block<I: IntNumber>(
     first: IntPoint<I>,
     start: IntPoint<I>,

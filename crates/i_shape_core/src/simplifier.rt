@@ -81,7 +81,7 @@ impl ContourSimplifier {
         let Some(start) = start_of_walk(&mut probe) else {
             return probe.keep_whole(alloc);
         };
-        let left = self.walk(&mut probe, start)?;
+        let (probe, left) = self.walk(probe, start)?;
         probe.keep_left(alloc, left)
     }
 
@@ -109,30 +109,31 @@ impl ContourSimplifier {
         let Some(start) = start_of_walk(&mut probe) else {
             return Ok(probe.write_whole(out));
         };
-        let Some(left) = self.walk(&mut probe, start)? else {
+        let (probe, left) = self.walk(probe, start)?;
+        let Some(places) = left else {
             return Ok(0);
         };
-        Ok(probe.write(out, left))
+        Ok(probe.write(out, places))
     }
 
     /// Walks on from a start. Gives the places that are left, `None` where these are fewer than three.
-    fn walk<P: ContourPoint>(
+    fn walk<'a, P: ContourPoint>(
         &mut self,
-        probe: &mut Probe<'_, P>,
+        probe: Probe<'a, P>,
         start: (usize, usize, usize),
-    ) -> Result<Option<&[usize]>, ShapeError>
-        requires walked { IsWalked IsZeroTurn (contour_of P.Coordinate.value probe.old.contour) (range_with_len start.0 (start.1 - start.0)) start.2 probe.old.visits }
+    ) -> Result<(Probe<'a, P>, Option<&[usize]>), ShapeError>
+        requires walked { IsWalked IsZeroTurn (contour_of P.Coordinate.value probe.contour) (range_with_len start.0 (start.1 - start.0)) start.2 probe.visits }
         requires in_order { start.0 ≤ start.1 }
-        requires end_within { start.1 ≤ length probe.old.contour }
-        requires place_within { start.2 ≤ length probe.old.contour }
-        ensures contour { probe.new.contour ≡ probe.old.contour }
-        ensures answer { let c = contour_of P.Coordinate.value probe.old.contour in IfOk result (λ left. WalkAnswer IsZeroTurn c (option_map (λ places. map (point_at c) places.now) left) probe.new.visits) }
-        ensures below { IfOk result (λ left. IfSome left (λ places. All (λ k. k < length probe.old.contour) places.now)) }
+        requires end_within { start.1 ≤ length probe.contour }
+        requires place_within { start.2 ≤ length probe.contour }
+        ensures contour { IfOk result (λ r. r.0.contour ≡ probe.entry.contour) }
+        ensures answer { let c = contour_of P.Coordinate.value probe.entry.contour in IfOk result (λ r. WalkAnswer IsZeroTurn c (option_map (λ places. map (point_at c) places.now) r.1) r.0.visits) }
+        ensures below { IfOk result (λ r. IfSome r.1 (λ places. All (λ k. k < length probe.entry.contour) places.now)) }
         ensures memory { IsOkUnless result ShapeError.OutOfMemory }
     {
         let (first, end, place) = start;
         fill(&mut self.stack, probe.len().max(self.room), first, end)?;
-        stack_places(probe, &mut self.stack, place);
+        let probe = stack_places(probe, &mut self.stack, place);
         Ok(close(probe, self.stack.as_slice()))
     }
 }
@@ -242,40 +243,48 @@ fn pop_zero_turns<P: ContourPoint>(probe: &mut Probe<'_, P>, stack: &mut Vec<usi
 }
 
 /// Puts the places of the contour from `start` on on the stack one by one, and takes zero turns off it.
-fn stack_places<P: ContourPoint>(probe: &mut Probe<'_, P>, stack: &mut Vec<usize>, start: usize)
-    requires within { start ≤ length probe.old.contour }
-    requires walked { IsWalked IsZeroTurn (contour_of P.Coordinate.value probe.old.contour) stack.old.items start probe.old.visits }
-    requires room { length probe.old.contour ≤ vec_capacity stack.old }
-    ensures contour { probe.new.contour ≡ probe.old.contour }
-    ensures walked { let c = contour_of P.Coordinate.value probe.old.contour in IsWalked IsZeroTurn c stack.new.items (length c) probe.new.visits }
+fn stack_places<'a, P: ContourPoint>(
+    mut probe: Probe<'a, P>,
+    stack: &mut Vec<usize>,
+    start: usize,
+) -> Probe<'a, P>
+    requires within { start ≤ length probe.contour }
+    requires walked { IsWalked IsZeroTurn (contour_of P.Coordinate.value probe.contour) stack.old.items start probe.visits }
+    requires room { length probe.contour ≤ vec_capacity stack.old }
+    ensures contour { result.contour ≡ probe.entry.contour }
+    ensures walked { let c = contour_of P.Coordinate.value probe.entry.contour in IsWalked IsZeroTurn c stack.new.items (length c) result.visits }
 {
     for place in start..probe.len() {
-        pop_zero_turns(probe, stack, place);
+        pop_zero_turns(&mut probe, stack, place);
         stack.push_reserved(place);
     }
+    probe
 }
 
 /// Takes zero turns from both ends of the stack, where it closes to a cycle. Gives the places that are left, `None` where these
 /// are fewer than three.
-fn close<'s, P: ContourPoint>(probe: &mut Probe<'_, P>, stack: &'s [usize]) -> Option<&'s [usize]>
-    requires walked { let c = contour_of P.Coordinate.value probe.old.contour in IsWalked IsZeroTurn c stack.now (length c) probe.old.visits }
-    requires room { length probe.old.contour ≤ usize.MAX }
-    ensures contour { probe.new.contour ≡ probe.old.contour }
-    ensures answer { let c = contour_of P.Coordinate.value probe.old.contour in WalkAnswer IsZeroTurn c (option_map (λ places. map (point_at c) places.now) result) probe.new.visits }
-    ensures below { IfSome result (λ places. All (λ k. k < length probe.old.contour) places.now) }
+fn close<'a, 's, P: ContourPoint>(
+    mut probe: Probe<'a, P>,
+    stack: &'s [usize],
+) -> (Probe<'a, P>, Option<&'s [usize]>)
+    requires walked { let c = contour_of P.Coordinate.value probe.contour in IsWalked IsZeroTurn c stack.now (length c) probe.visits }
+    requires room { length probe.contour ≤ usize.MAX }
+    ensures contour { result.0.contour ≡ probe.entry.contour }
+    ensures answer { let c = contour_of P.Coordinate.value probe.entry.contour in WalkAnswer IsZeroTurn c (option_map (λ places. map (point_at c) places.now) result.1) result.0.visits }
+    ensures below { IfSome result.1 (λ places. All (λ k. k < length probe.entry.contour) places.now) }
 {
     let mut left = stack;
     while left.len() >= 3 {
         let last = left.len() - 1;
-        if is_zero_at(probe, left[last], left[0], left[1]) {
+        if is_zero_at(&mut probe, left[last], left[0], left[1]) {
             left = without_first(left);
-        } else if is_zero_at(probe, left[last - 1], left[last], left[0]) {
+        } else if is_zero_at(&mut probe, left[last - 1], left[last], left[0]) {
             left = without_last(left);
         } else {
-            return Some(left);
+            return (probe, Some(left));
         }
     }
-    None
+    (probe, None)
 }
 
 fn without_first(places: &[usize]) -> &[usize]

@@ -10,12 +10,13 @@ use Rattle.std.proofs.lemmas.List.Elements.{All-nil, All-cons, All-head, All-tai
 use Rattle.std.proofs.lemmas.List.{map-append}
 use Rattle.std.proofs.lemmas.List.Sums.{sum_by-cons}
 use Rattle.std.proofs.lemmas.Simd.{map-map}
-use Rattle.i_shape_core.specs.Point.{Point}
-use Rattle.i_shape_core.specs.IntPoint.{contour_of, IsSafe}
-use Rattle.i_shape_core.specs.Contour.{IsSimple}
+use Rattle.i_shape_core.specs.Point.{Point, IsBack}
+use Rattle.i_shape_core.specs.IntPoint.{contour_of, point_of, IsSafe}
+use Rattle.i_shape_core.specs.Contour.{IsSimple, IsRemovable, Reach, stay, step}
 use Rattle.i_shape_core.specs.Edges.{Inside}
 use Rattle.i_shape_core.specs.Convex.{NoSpikes}
-use Rattle.i_shape_core.specs.Cleaners.{SimpleAnswer, DespikeAnswer}
+use Rattle.i_shape_core.specs.Cleaners.{SimpleAnswer, SpikelessAnswer, DespikeAnswer, KeptAnswer, IsKept}
+use Rattle.i_shape_core.specs.Written.{slot, IsWritten}
 use Rattle.i_shape_core.specs.declared.error.ShapeError.{ShapeError}
 use Rattle.i_shape_core.specs.declared.point.IntPoint.{IntPoint}
 use Rattle.i_shape_source.specs.Paths.{paths_of_shape, paths_of_shapes, shape_lists, joined}
@@ -26,8 +27,10 @@ use Rattle.i_shape_int.specs.declared.flat.buffer.shapes.FlatShapesBuffer.{FlatS
 use Rattle.i_shape_int.specs.ShapeLists.{shape_of, shapes_of, IsSafeShape, IsSafeList, AreSafePaths}
 use Rattle.i_shape_int.specs.ShapeAnswers.{HasPoints, inside_count, shapes_shoelace, Survivors, ShapeClean, ListClean, EachContour, EachShape, AreKept, ListKept}
 use Rattle.i_shape_int.specs.InPlace.{Leaves, CleansContour, DespikesContour, CleansShape, CleansList}
-use Rattle.i_shape_core.proofs.Answered.{simple_kept}
+use Rattle.i_shape_core.proofs.Answered.{simple_kept, nothing_keeps}
+use Rattle.i_shape_core.proofs.Ends.{reach_shrinks, no_step}
 use Rattle.i_shape_core.proofs.Spikes.{spikeless_end}
+use Rattle.i_shape_source.proofs.SafePaths.{mapped}
 use Rattle.i_shape_int.proofs.Keeping.{inside_count-append}
 use Rattle.i_shape_int.proofs.Surviving.{survivors_have}
 use Rattle.i_shape_int.proofs.ShapeRanges.{slice_range-map, slices-part_of}
@@ -303,3 +306,40 @@ module _ {old between new : List (List (List Point))} {q r : Result Bool ShapeEr
   -- and keeps its double area where as many shapes are left
   pub list_cleaned_area : CleansList IsSimple SimpleAnswer old between q → IsOk q → CleansList NoSpikes DespikeAnswer between new r → length new ≡ length old → shapes_shoelace new ≡ shapes_shoelace old
   list_cleaned_area first ok second = list_area (list_cleaned first ok second)
+
+-- points of a caller's type are safe where each of them is
+pub points_safe : {P I : Type 0} (width : Width) (value : I → ℤ) (point : P → IntPoint I) (points : List P → List (IntPoint I)) → ((list : List P) → points list ≡ map point list)
+    → (list : List P) → All (λ p. IsSafe width (point_of value (point p))) list ↔ All (IsSafe width) (contour_of value (points list))
+points_safe width value point points each list =
+    let one = mapped (λ q. IsSafe width (point_of value q)) point list in
+    let all = mapped (IsSafe width) (point_of value) (map point list) in
+    rw (each list) (λ safe. all.0 (one.0 safe), λ safe. one.1 (all.1 safe))
+
+slot_keeps : (c s : List Point) → KeptAnswer c (slot s) → IsKept c s
+slot_keeps c [] flat = nothing_keeps c flat
+slot_keeps c (p ∷ s) kept = kept
+
+-- what is left where zero turns were removed stays where spikes are removed from it
+slot_stays : (c e d : List Point) → SimpleAnswer c (slot e) → SpikelessAnswer e (slot d) → d ≡ e
+slot_stays c [] [] simple despiked = refl
+slot_stays c [] (q ∷ d) simple despiked = absurd (omega (arith, reach_shrinks despiked.ended.reached, despiked.enough))
+slot_stays c (p ∷ e) [] simple despiked = absurd (omega (arith, despiked (p ∷ e) (record { reached = stay; none_left = simple.ended.none_left }), simple.enough))
+slot_stays c (p ∷ e) (q ∷ d) simple despiked = go despiked.ended.reached
+  where
+    none : (k : ℕ) → IsRemovable IsBack (p ∷ e) k → ⊥
+    none k back = simple.ended.none_left k (record { enough = back.enough; within = back.within; passes = back.passes.0 })
+
+    go : {d : List Point} → Reach IsBack (p ∷ e) d → d ≡ p ∷ e
+    go stay = refl
+    go (step first more) = absurd (no_step none first)
+
+module _ {P : Type 0} {width : Width} {read : List P → List Point} {given old new : List P} {n : ℕ} where
+  -- what a cleaner writes has the double area of what it was given, and the same points inside, also where it writes nothing
+  pub written_kept : {Answer : List Point → Option (List Point) → Type 0} → IsWritten Answer width read given old new n → IsKept (read given) (read (take n new))
+  written_kept written = slot_keeps (read given) (read (take n new)) written.cleaned.kept
+
+  -- where zero turns were removed, what is written where spikes are removed from the rest is the contour without zero turns too
+  pub cleaned_twice : {before after : List P} {m : ℕ} → IsWritten SimpleAnswer width read given old new n → IsWritten SpikelessAnswer width read (take n new) before after m → SimpleAnswer (read given) (slot (read (take m after)))
+  cleaned_twice {before} {after} {m} simple despiked =
+      let same = slot_stays (read given) (read (take n new)) (read (take m after)) simple.cleaned.answer despiked.cleaned.answer in
+      rw same simple.cleaned.answer

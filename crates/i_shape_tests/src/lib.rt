@@ -14,6 +14,8 @@ mod canonical;
 #[cfg(test)]
 mod claims;
 #[cfg(test)]
+mod cleaned_into;
+#[cfg(test)]
 mod comparisons;
 #[cfg(test)]
 mod contour;

@@ -1,6 +1,7 @@
 //! Contours of a hundred thousand points, at each width: one that stays, one that loses a spike, and one that collapses.
 
 use crate::buffer::{cleans, flat};
+use crate::cleaned_into::{Cleaners, Left, is_written};
 use crate::given::{all_hold, safe_contour};
 use crate::in_place::{despikes, simplifies};
 use crate::through_buffer::both_leave;
@@ -81,6 +82,23 @@ fn changes_to<I: IntNumber>(
     cleans(rt, alloc, name, buffer, true, kept)
 }
 
+/// Each call that writes what is left into a slice writes these points, or none where the contour collapses.
+fn slices_get<I: IntNumber>(
+    rt: &impl Abort,
+    alloc: Global,
+    cleaners: &mut Cleaners,
+    name: &str,
+    given: &[[I; 2]],
+    left: &[[I; 2]],
+) -> Result<(), Fail> {
+    let left = Left {
+        simplified: left,
+        despiked: left,
+        canonical: left,
+    };
+    is_written(rt, alloc, cleaners, name, given, &left)
+}
+
 /// The first contour stays, the second one loses its spike, which leaves the first, and the third one collapses.
 fn are_cleaned<'a, I: IntNumber>(
     rt: &impl Abort,
@@ -92,6 +110,10 @@ fn are_cleaned<'a, I: IntNumber>(
 ) -> Result<(), Fail> {
     copies_leave(rt, alloc, name, stays, stays)?;
     copies_leave(rt, alloc, name, flat, &[])?;
+    let mut cleaners = Cleaners::new(alloc);
+    slices_get(rt, alloc, &mut cleaners, name, stays, stays)?;
+    slices_get(rt, alloc, &mut cleaners, name, spiked, stays)?;
+    slices_get(rt, alloc, &mut cleaners, name, flat, &[])?;
     changes_to(rt, alloc, name, spiked, stays)?;
     changes_to(rt, alloc, name, flat, &[])?;
     both_leave(rt, alloc, name, &[&[spiked], &[flat]], &[&[stays]])

@@ -36,3 +36,5 @@ mod spots;
 mod told;
 #[cfg(test)]
 mod walks;
+#[cfg(test)]
+mod written;

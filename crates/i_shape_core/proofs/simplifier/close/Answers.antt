@@ -31,7 +31,7 @@ is_zero_at-requires-clause-next_within g c =
 
 pub is_zero_at-requires-clause-room : goal.is_zero_at-requires-clause-room
 is_zero_at-requires-clause-room g c =
-    grind (arith, c.requires.room, c.loop-left.invariant.most, length-contour g.P.Coordinate.IntNumber.value c.args.probe.now.contour)
+    grind (arith, c.requires.room, c.loop-left.invariant.most, length-contour g.P.Coordinate.IntNumber.value c.args.probe.contour)
 
 pub loop-left-preserved-then-is_zero_at : goal.loop-left-preserved-then-is_zero_at
 loop-left-preserved-then-is_zero_at g c =
@@ -61,7 +61,7 @@ is_zero_at-requires-else-is_zero_at-clause-next_within g c =
 
 pub is_zero_at-requires-else-is_zero_at-clause-room : goal.is_zero_at-requires-else-is_zero_at-clause-room
 is_zero_at-requires-else-is_zero_at-clause-room g c =
-    grind (arith, c.requires.room, c.loop-left.invariant.most, c.is_zero_at.ensures.visits, length-contour g.P.Coordinate.IntNumber.value c.args.probe.now.contour)
+    grind (arith, c.requires.room, c.loop-left.invariant.most, c.is_zero_at.ensures.visits, length-contour g.P.Coordinate.IntNumber.value c.args.probe.contour)
 
 pub loop-left-preserved : goal.loop-left-preserved
 loop-left-preserved g c =
@@ -87,9 +87,9 @@ returns-else-is_zero_at-2-clause-answer g c =
     let inv = c.loop-left.invariant in
     let left : List ℕ = c.loop-left.left.now in
     let second = c.is_zero_at.ensures.contour ∙ inv.contour in
-    let whole : List Point = contour_of g.P.Coordinate.IntNumber.value c.args.probe.now.contour in
+    let whole : List Point = contour_of g.P.Coordinate.IntNumber.value c.args.probe.contour in
     record {
-      ended = end-read g.P.Coordinate.IntNumber.value c.args.probe.now.contour c.loop-left.probe.contour inv.contour c.is_zero_at.new.probe.contour second left (length left - 1 - 1) (length left - 1)
+      ended = end-read g.P.Coordinate.IntNumber.value c.args.probe.contour c.loop-left.probe.contour inv.contour c.is_zero_at.new.probe.contour second left (length left - 1 - 1) (length left - 1)
           c.is_zero_at.result c.is_zero_at-else-is_zero_at.result inv.stacked (omega arith) (omega arith) (omega arith)
           c.is_zero_at.ensures.test c.if-is_zero_at.false c.is_zero_at-else-is_zero_at.ensures.test c.if-is_zero_at-2.false;
       enough = omega (arith, length-map left (point_at whole));
@@ -100,7 +100,7 @@ returns-else-is_zero_at-2-clause-answer g c =
 pub returns-clause-answer : goal.returns-clause-answer
 returns-clause-answer g c =
     let inv = c.loop-left.invariant in
-    let whole : List Point = contour_of g.P.Coordinate.IntNumber.value c.args.probe.now.contour in
+    let whole : List Point = contour_of g.P.Coordinate.IntNumber.value c.args.probe.contour in
     record {
       rest = points_left whole c.loop-left.left.now (length whole);
       reached = inv.stacked.reached;

@@ -30,8 +30,8 @@ loop-place-preserved g c =
 pub returns : goal.returns
 returns g c =
     let walked = c.loop-place.invariant.walked in
-    let all : c.loop-place.place ≡ length (contour_of g.P.Coordinate.IntNumber.value c.args.probe.now.contour) =
-    omega (arith, length-contour g.P.Coordinate.IntNumber.value c.args.probe.now.contour, c.len-place-end.ensures, c.requires.within) in record {
+    let all : c.loop-place.place ≡ length (contour_of g.P.Coordinate.IntNumber.value c.args.probe.contour) =
+    omega (arith, length-contour g.P.Coordinate.IntNumber.value c.args.probe.contour, c.len-place-end.ensures, c.requires.within) in record {
       contour = c.loop-place.invariant.contour;
-      walked = subst (λ (k : ℕ). IsWalked IsZeroTurn (contour_of g.P.Coordinate.IntNumber.value c.args.probe.now.contour) c.loop-place.stack.items k c.loop-place.probe.visits) all walked;
+      walked = subst (λ (k : ℕ). IsWalked IsZeroTurn (contour_of g.P.Coordinate.IntNumber.value c.args.probe.contour) c.loop-place.stack.items k c.loop-place.probe.visits) all walked;
     }

@@ -74,8 +74,8 @@ returns-clause-answer g c =
     let value = g.I.IntNumber.value in
     let points = contour_of value c.args.contour.now in
     let first : c.start_of_walk.new.probe.contour ≡ c.args.contour.now = c.start_of_walk.ensures.contour ∙ c.new-probe.ensures.contour in
-    let same : c.walk.new.probe.contour ≡ c.args.contour.now = c.walk.ensures.contour ∙ first in
-    let told : Found value c.args.contour.now c.keep_left.result = walk_kept IsZeroTurn points (shown value) (λ r. r.1) c.keep_left.result _ c.walk.new.probe.visits (rw same at c.keep_left.ensures.kept) (rw first at c.in_ok-left.ensures.answer) in
+    let same : c.in_ok-probe.probe.contour ≡ c.args.contour.now = c.in_ok-probe.ensures.contour ∙ first in
+    let told : Found value c.args.contour.now c.keep_left.result = walk_kept IsZeroTurn points (shown value) (λ r. r.1) c.keep_left.result _ c.in_ok-probe.probe.visits (rw same at c.keep_left.ensures.kept) (rw first at c.in_ok-probe.ensures.answer) in
     IfOk-weaker c.keep_left.result _ _ (λ r w. simple_answer points (shown value r) r.1 w) told
 
 pub returns-clause-kept : goal.returns-clause-kept
@@ -83,8 +83,8 @@ returns-clause-kept g c =
     let value = g.I.IntNumber.value in
     let points = contour_of value c.args.contour.now in
     let first : c.start_of_walk.new.probe.contour ≡ c.args.contour.now = c.start_of_walk.ensures.contour ∙ c.new-probe.ensures.contour in
-    let same : c.walk.new.probe.contour ≡ c.args.contour.now = c.walk.ensures.contour ∙ first in
-    let told : Found value c.args.contour.now c.keep_left.result = walk_kept IsZeroTurn points (shown value) (λ r. r.1) c.keep_left.result _ c.walk.new.probe.visits (rw same at c.keep_left.ensures.kept) (rw first at c.in_ok-left.ensures.answer) in
+    let same : c.in_ok-probe.probe.contour ≡ c.args.contour.now = c.in_ok-probe.ensures.contour ∙ first in
+    let told : Found value c.args.contour.now c.keep_left.result = walk_kept IsZeroTurn points (shown value) (λ r. r.1) c.keep_left.result _ c.in_ok-probe.probe.visits (rw same at c.keep_left.ensures.kept) (rw first at c.in_ok-probe.ensures.answer) in
     IfOk-weaker c.keep_left.result _ _ (λ r w. kept_answer points (shown value r) r.1 w) told
 
 pub returns-clause-safe : goal.returns-clause-safe
@@ -92,8 +92,8 @@ returns-clause-safe g c =
     let value = g.I.IntNumber.value in
     let points = contour_of value c.args.contour.now in
     let first : c.start_of_walk.new.probe.contour ≡ c.args.contour.now = c.start_of_walk.ensures.contour ∙ c.new-probe.ensures.contour in
-    let same : c.walk.new.probe.contour ≡ c.args.contour.now = c.walk.ensures.contour ∙ first in
-    let told : Found value c.args.contour.now c.keep_left.result = walk_kept IsZeroTurn points (shown value) (λ r. r.1) c.keep_left.result _ c.walk.new.probe.visits (rw same at c.keep_left.ensures.kept) (rw first at c.in_ok-left.ensures.answer) in
+    let same : c.in_ok-probe.probe.contour ≡ c.args.contour.now = c.in_ok-probe.ensures.contour ∙ first in
+    let told : Found value c.args.contour.now c.keep_left.result = walk_kept IsZeroTurn points (shown value) (λ r. r.1) c.keep_left.result _ c.in_ok-probe.probe.visits (rw same at c.keep_left.ensures.kept) (rw first at c.in_ok-probe.ensures.answer) in
     IfOk-weaker c.keep_left.result _ _ (λ r w. all_answered IsZeroTurn (IsSafe g.I.IntNumber.width) (λ kept. contour_of value kept.items) points r.0 r.1 w c.requires) told
 
 pub returns-clause-in_order : goal.returns-clause-in_order
@@ -101,6 +101,6 @@ returns-clause-in_order g c =
     let value = g.I.IntNumber.value in
     let points = contour_of value c.args.contour.now in
     let first : c.start_of_walk.new.probe.contour ≡ c.args.contour.now = c.start_of_walk.ensures.contour ∙ c.new-probe.ensures.contour in
-    let same : c.walk.new.probe.contour ≡ c.args.contour.now = c.walk.ensures.contour ∙ first in
-    let told : Found value c.args.contour.now c.keep_left.result = walk_kept IsZeroTurn points (shown value) (λ r. r.1) c.keep_left.result _ c.walk.new.probe.visits (rw same at c.keep_left.ensures.kept) (rw first at c.in_ok-left.ensures.answer) in
+    let same : c.in_ok-probe.probe.contour ≡ c.args.contour.now = c.in_ok-probe.ensures.contour ∙ first in
+    let told : Found value c.args.contour.now c.keep_left.result = walk_kept IsZeroTurn points (shown value) (λ r. r.1) c.keep_left.result _ c.in_ok-probe.probe.visits (rw same at c.keep_left.ensures.kept) (rw first at c.in_ok-probe.ensures.answer) in
     IfOk-weaker c.keep_left.result _ _ (λ r w. in_order_answered IsZeroTurn (λ kept. contour_of value kept.items) points r.0 r.1 w) told

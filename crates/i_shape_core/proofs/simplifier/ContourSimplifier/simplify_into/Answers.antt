@@ -41,15 +41,15 @@ returns-in_default-clause-written g c =
     (c.write_whole.ensures.count ∙ ap length same ∙ sym (length-contour value (g.P.ContourPoint.points c.args.contour.now))) c.write_whole.ensures.rest
     (whole_found IsZeroTurn whole c.start_of_walk.new.probe.visits (rw fresh at (c.start_of_walk.ensures.clean c.in_default.is)) (omega (arith, counts c.args.contour.now, c.if-contour-lt3.false)) many)
 
-pub returns-in_default-2-clause-written : goal.returns-in_default-2-clause-written
-returns-in_default-2-clause-written g c =
+pub returns-in_default-left-clause-written : goal.returns-in_default-left-clause-written
+returns-in_default-left-clause-written g c =
     let value = g.P.Coordinate.IntNumber.value in
     let read = λ (list : List g.row.P.Denot). contour_of value (g.P.ContourPoint.points list) in
     let counts = λ (list : List g.row.P.Denot). length-contour value (g.P.ContourPoint.points list) ∙ points-length g.P.ContourPoint.point g.P.ContourPoint.points g.P.ContourPoint.each list in
     let whole = read c.args.contour.now in
     let first : c.start_of_walk.new.probe.contour ≡ g.P.ContourPoint.points c.args.contour.now = c.start_of_walk.ensures.contour ∙ c.new-probe.ensures.contour in
     nothing_written g.P.Coordinate.IntNumber.width read counts c.args.contour.now c.args.out.now IsZeroTurn SimpleAnswer (simple_answer whole) (kept_answer whole)
-    c.walk.new.probe.visits (rw (first, c.in_default-2.is) at c.in_ok-left.ensures.answer)
+    c.in_ok-probe.probe.visits (rw (first, c.in_default-left.is) at c.in_ok-probe.ensures.answer)
 
 pub write-requires-clause-room : goal.write-requires-clause-room
 write-requires-clause-room g c =
@@ -58,8 +58,8 @@ write-requires-clause-room g c =
     let counts = λ (list : List g.row.P.Denot). length-contour value (g.P.ContourPoint.points list) ∙ points-length g.P.ContourPoint.point g.P.ContourPoint.points g.P.ContourPoint.each list in
     let whole = read c.args.contour.now in
     let first : c.start_of_walk.new.probe.contour ≡ g.P.ContourPoint.points c.args.contour.now = c.start_of_walk.ensures.contour ∙ c.new-probe.ensures.contour in
-    let found : Finds IsZeroTurn whole (map (point_at whole) c.in-Some-2.left.now) c.walk.new.probe.visits = rw (first, c.in-Some-2.is) at c.in_ok-left.ensures.answer in
-    omega (arith, c.requires.room, reach_shrinks found.ended.reached, length-map c.in-Some-2.left.now (point_at whole), counts c.args.contour.now)
+    let found : Finds IsZeroTurn whole (map (point_at whole) c.in-Some-left.places.now) c.in_ok-probe.probe.visits = rw (first, c.in-Some-left.is) at c.in_ok-probe.ensures.answer in
+    omega (arith, c.requires.room, reach_shrinks found.ended.reached, length-map c.in-Some-left.places.now (point_at whole), counts c.args.contour.now)
 
 pub returns-clause-written : goal.returns-clause-written
 returns-clause-written g c =
@@ -68,8 +68,8 @@ returns-clause-written g c =
     let counts = λ (list : List g.row.P.Denot). length-contour value (g.P.ContourPoint.points list) ∙ points-length g.P.ContourPoint.point g.P.ContourPoint.points g.P.ContourPoint.each list in
     let whole = read c.args.contour.now in
     let first : c.start_of_walk.new.probe.contour ≡ g.P.ContourPoint.points c.args.contour.now = c.start_of_walk.ensures.contour ∙ c.new-probe.ensures.contour in
-    let same : c.walk.new.probe.contour ≡ g.P.ContourPoint.points c.args.contour.now = c.walk.ensures.contour ∙ first in
-    let found : Finds IsZeroTurn whole (map (point_at whole) c.in-Some-2.left.now) c.walk.new.probe.visits = rw (first, c.in-Some-2.is) at c.in_ok-left.ensures.answer in
+    let same : c.in_ok-probe.probe.contour ≡ g.P.ContourPoint.points c.args.contour.now = c.in_ok-probe.ensures.contour ∙ first in
+    let found : Finds IsZeroTurn whole (map (point_at whole) c.in-Some-left.places.now) c.in_ok-probe.probe.visits = rw (first, c.in-Some-left.is) at c.in_ok-probe.ensures.answer in
     points_written g.P.Coordinate.IntNumber.width read counts c.args.contour.now c.args.out.now IsZeroTurn SimpleAnswer (simple_answer whole) (kept_answer whole)
-    c.write.new.out c.write.result (map (point_at whole) c.in-Some-2.left.now) c.walk.new.probe.visits c.requires.points_safe (rw same at c.write.ensures.points)
-    (c.write.ensures.count ∙ sym (length-map c.in-Some-2.left.now (point_at whole))) c.write.ensures.rest found
+    c.write.new.out c.write.result (map (point_at whole) c.in-Some-left.places.now) c.in_ok-probe.probe.visits c.requires.points_safe (rw same at c.write.ensures.points)
+    (c.write.ensures.count ∙ sym (length-map c.in-Some-left.places.now (point_at whole))) c.write.ensures.rest found
