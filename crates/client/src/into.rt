@@ -1,31 +1,30 @@
 //! Contours that are cleaned from one slice into another, over the library's points or the caller's own. The double area stays what it
 //! was.
 
-ghost use Rattle.std.specs.Prelude.{◌≡◌, ◌↔◌, take, IsTrue, IfOk, IfSome, IsErrOf};
+ghost use Rattle.std.specs.Prelude.{◌≡◌, ◌↔◌, take, IsTrue, IfOk, IsErrOf};
 ghost use Rattle.std.specs.List.{All};
 ghost use Rattle.std.specs.Int.{int_wrap};
 ghost use Rattle.i_shape_core.specs.IntPoint.{point_of, contour_of, IsSafe};
 ghost use Rattle.i_shape_core.specs.Edges.{shoelace};
-ghost use Rattle.i_shape_core.specs.Cleaners.{SimpleAnswer};
+ghost use Rattle.i_shape_core.specs.Cleaners.{SimpleAnswer, EachEndCollapses};
 ghost use Rattle.i_shape_core.specs.Written.{slot};
 
 use crate::refusal::Refusal;
 use i_shape::IntNumber;
-use i_shape::int::area::Area;
 use i_shape::int::despike::ContourDeSpiker;
 use i_shape::int::safe_range::IntSafeRange;
-use i_shape::int::simple::ContourSimplifier;
+use i_shape::int::simple::{ContourSimplifier, SimpleContour};
 use i_shape::int::{ContourPoint, IntPoint};
+use i_shape_core::area::area_of;
 
-/// Twice the area of a contour, told by what is left of it without zero turns at the front of `out`. `None` where nothing is.
-#[tactic(auto, using(i_shape_int::proofs::CallerLemmas::written_kept))]
+/// Twice the area of a contour, told by what is left of it without zero turns at the front of `out`.
 pub fn area_into<I: IntNumber>(
     simplifier: &mut ContourSimplifier,
     contour: &[IntPoint<I>],
     out: &mut [IntPoint<I>],
-) -> Result<Option<I::Wide>, Refusal>
+) -> Result<I::Wide, Refusal>
     ensures range { IsErrOf result Refusal.OutOfRange ↔ (All (IsSafe I.width) (contour_of I.value contour.now) → ⊥) }
-    ensures area { IfOk result (λ r. IfSome r (λ area. I.Wide.value area ≡ int_wrap I.Wide.width (shoelace (contour_of I.value contour.now)))) }
+    ensures area { IfOk result (λ area. I.Wide.value area ≡ int_wrap I.Wide.width (shoelace (contour_of I.value contour.now))) }
 {
     if !contour.is_in_safe_range() {
         return Err(Refusal::OutOfRange);
@@ -34,11 +33,27 @@ pub fn area_into<I: IntNumber>(
         return Err(Refusal::NoRoom);
     }
     let count = simplifier.simplify_into(contour, out)?;
-    if count == 0 {
-        return Ok(None);
+    Ok(area_of(&out[..count]))
+}
+
+/// Whether something is left of a contour without zero turns, told by a test of what is written.
+pub fn stands_into<I: IntNumber>(
+    simplifier: &mut ContourSimplifier,
+    contour: &[IntPoint<I>],
+    out: &mut [IntPoint<I>],
+) -> Result<bool, Refusal>
+    ensures range { IsErrOf result Refusal.OutOfRange ↔ (All (IsSafe I.width) (contour_of I.value contour.now) → ⊥) }
+    ensures stands { IfOk result (λ r. IsTrue r ↔ (EachEndCollapses (contour_of I.value contour.now) → ⊥)) }
+{
+    if !contour.is_in_safe_range() {
+        return Err(Refusal::OutOfRange);
     }
+    if out.len() < contour.len() {
+        return Err(Refusal::NoRoom);
+    }
+    let count = simplifier.simplify_into(contour, out)?;
     let left: &[IntPoint<I>] = &out[..count];
-    Ok(Some(left.area_two()))
+    Ok(left.is_simple())
 }
 
 fn is_safe<P: ContourPoint>(point: &P) -> bool

@@ -15,7 +15,7 @@ use Rattle.i_shape_core.specs.IntPoint.{contour_of, point_of, IsSafe}
 use Rattle.i_shape_core.specs.Contour.{IsSimple, IsRemovable, Reach, stay, step}
 use Rattle.i_shape_core.specs.Edges.{Inside}
 use Rattle.i_shape_core.specs.Convex.{NoSpikes}
-use Rattle.i_shape_core.specs.Cleaners.{SimpleAnswer, SpikelessAnswer, DespikeAnswer, KeptAnswer, IsKept}
+use Rattle.i_shape_core.specs.Cleaners.{SimpleAnswer, SpikelessAnswer, DespikeAnswer, KeptAnswer, IsKept, EachEndCollapses}
 use Rattle.i_shape_core.specs.Written.{slot, IsWritten}
 use Rattle.i_shape_core.specs.declared.error.ShapeError.{ShapeError}
 use Rattle.i_shape_core.specs.declared.point.IntPoint.{IntPoint}
@@ -315,6 +315,10 @@ points_safe width value point points each list =
     let all = mapped (IsSafe width) (point_of value) (map point list) in
     rw (each list) (λ safe. all.0 (one.0 safe), λ safe. one.1 (all.1 safe))
 
+slot_simple : (c s : List Point) → SimpleAnswer c (slot s) → IsSimple s ↔ (EachEndCollapses c → ⊥)
+slot_simple c [] collapse = (λ simple. absurd (omega (arith, simple.enough)), λ stands. absurd (stands collapse))
+slot_simple c (p ∷ s) one = (λ simple collapse. omega (arith, collapse (p ∷ s) one.ended, one.enough), λ stands. record { enough = one.enough; none = one.ended.none_left })
+
 slot_keeps : (c s : List Point) → KeptAnswer c (slot s) → IsKept c s
 slot_keeps c [] flat = nothing_keeps c flat
 slot_keeps c (p ∷ s) kept = kept
@@ -337,6 +341,10 @@ module _ {P : Type 0} {width : Width} {read : List P → List Point} {given old 
   -- what a cleaner writes has the double area of what it was given, and the same points inside, also where it writes nothing
   pub written_kept : {Answer : List Point → Option (List Point) → Type 0} → IsWritten Answer width read given old new n → IsKept (read given) (read (take n new))
   written_kept written = slot_keeps (read given) (read (take n new)) written.cleaned.kept
+
+  -- what is written without zero turns is simple exactly where something is left
+  pub written_simple : IsWritten SimpleAnswer width read given old new n → IsSimple (read (take n new)) ↔ (EachEndCollapses (read given) → ⊥)
+  written_simple written = slot_simple (read given) (read (take n new)) written.cleaned.answer
 
   -- where zero turns were removed, what is written where spikes are removed from the rest is the contour without zero turns too
   pub cleaned_twice : {before after : List P} {m : ℕ} → IsWritten SimpleAnswer width read given old new n → IsWritten SpikelessAnswer width read (take n new) before after m → SimpleAnswer (read given) (slot (read (take m after)))

@@ -5,7 +5,7 @@ ghost use Rattle.std.specs.List.{All};
 ghost use Rattle.i_shape.specs.IntPoint.{point_of, contour_of, IsSafe};
 ghost use mathlib.Core.Path.{refl};
 
-use crate::claims::{equal, holds};
+use crate::claims::holds;
 use i_shape::int::despike::{ContourDeSpiker, DeSpikeContour};
 use i_shape::int::shape::IntContour;
 use i_shape::int::simple::ContourSimplifier;
