@@ -151,8 +151,6 @@ class Trial:
     def __init__(self, crate, edits, room):
         self.crate, self.left, self.room, self.kept = crate, edits, room, f"{room}/kept"
         self.passed = 0
-        if os.path.isdir(f"{crate.folder}/out/incremental"):
-            shutil.copytree(f"{crate.folder}/out/incremental", self.kept)
 
     def run(self):
         for edit in list(self.left):
@@ -175,9 +173,9 @@ class Trial:
     def lay_round(self):
         """Lays a copy of the crate with as many of the edits that are left as can be tried beside one another, and returns those."""
         for part in KIT.PARTS:
-            shutil.rmtree(f"{self.room}/{part}", ignore_errors=True)
-            if os.path.isdir(f"{self.crate.folder}/{part}"):
-                shutil.copytree(f"{self.crate.folder}/{part}", f"{self.room}/{part}")
+            self.lay(part, f"{self.room}/{part}")
+        # a round keeps what it checked of the wrong bodies, and the right ones would be proved once more beside the next
+        self.lay("out/incremental", self.kept)
         taken = []
         for edit in self.left:
             texts, _ = edit.edited(self.room)
@@ -187,6 +185,12 @@ class Trial:
                     with open(f"{self.room}/{path}", "w", encoding="utf-8") as out:
                         out.write(text)
         return taken
+
+    def lay(self, part, to):
+        """Lays a part of the crate, where it has that, in the place of what is there."""
+        if os.path.isdir(f"{self.crate.folder}/{part}"):
+            shutil.rmtree(to, ignore_errors=True)
+            shutil.copytree(f"{self.crate.folder}/{part}", to)
 
     def can_stand_beside(self, edit, other):
         is_apart = edit.function in other.apart_from or other.function in edit.apart_from

@@ -28,3 +28,6 @@ returns-clause-safe g c =
     let value = g.I.IntNumber.value in
     let answer : ShapeForm g.F.ContourForm.forms (shape_of value c.args.shape.now) (Some (shape_of value c.insert.new.self.items)) = search rules in
     form_safe g.F.ContourForm.forms g.I.IntNumber.width g.met.F.ContourForm.stays_safe _ _ answer c.requires
+
+pub returns-in_default-2-clause-answer : goal.returns-in_default-2-clause-answer
+returns-in_default-2-clause-answer g c = search rules

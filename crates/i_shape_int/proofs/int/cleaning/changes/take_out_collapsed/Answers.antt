@@ -16,3 +16,6 @@ returns-then-stands g c =
     let kept : c.retain.new.self.items ≡ filter test c.args.shape.now.items = filter_same _ test _ (λ x b f' k. search (rules, has_points_told value x.items x.len x.ok.0)) _ _ c.retain.ensures.filtered in
     ap (shape_of value) kept ∙ filter_read (λ v. contour_of value v.items) has_points c.args.shape.now.items
     ∙ standing_kept (shape_of value c.args.shape.now.items) (sym c.if-stands.true ∙ c.stands.ensures ∙ ap (λ w. stands (shape_of value w)) c.as_slice.ensures.value)
+
+pub returns-else-stands : goal.returns-else-stands
+returns-else-stands g c = search rules
