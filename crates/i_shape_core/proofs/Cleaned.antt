@@ -10,7 +10,7 @@ use Rattle.i_shape_core.specs.Point.{Point, IsZeroTurn, IsBack}
 use Rattle.i_shape_core.specs.Contour.{Test, Reach, stay, End, IsCollapsed, IsSimple, Sublist}
 use Rattle.i_shape_core.specs.Walks.{WalkAnswer}
 use Rattle.i_shape_core.specs.Edges.{shoelace, area_of_edge}
-use Rattle.i_shape_core.specs.Cleaners.{SimpleAnswer, SpikelessAnswer, KeptAnswer, IsKept, IsFlat}
+use Rattle.i_shape_core.specs.Cleaners.{SimpleAnswer, SpikelessAnswer, KeptAnswer, VisitsAnswer, IsKept, IsFlat}
 use Rattle.i_shape_core.proofs.CycleLaws.{every_order, agreed}
 use Rattle.i_shape_core.proofs.Ends.{all_left, reach_by_weaker}
 use Rattle.i_shape_core.proofs.Sublists.{sublist_reached}
@@ -70,6 +70,11 @@ all_answered P Q f c (Some x) visits w h = all_left Q w.ended.reached h
 pub in_order_answered : (P : Test) {X : Type 0} (f : X → List Point) (c : List Point) (r : Option X) (visits : ℕ) → WalkAnswer P c (option_map f r) visits → IfSome r (λ x. Sublist c (f x))
 in_order_answered P f c None visits w = tt
 in_order_answered P f c (Some x) visits w = sublist_reached w.ended.reached
+
+-- its visits are within the bounds
+pub visits_answer : (c : List Point) (r : Option (List Point)) (visits : ℕ) → WalkAnswer IsZeroTurn c r visits → VisitsAnswer c r visits
+visits_answer c None visits w = record { least = w.least; most = w.most }
+visits_answer c (Some e) visits w = record { least = w.least; most = w.most }
 
 -- fewer than three points have collapsed before the first visit
 pub short_answer : (P : Test) (c : List Point) → length c < 3 → WalkAnswer P c None 0

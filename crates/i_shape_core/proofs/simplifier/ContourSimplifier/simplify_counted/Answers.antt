@@ -8,7 +8,7 @@ use Rattle.i_shape_core.specs.IntPoint.{contour_of, IsSafe}
 use Rattle.i_shape_core.specs.Walks.{WalkAnswer}
 use Rattle.i_shape_core.specs.declared.point.IntPoint.{IntPoint}
 use Rattle.i_shape_core.proofs.Contours.{length-contour}
-use Rattle.i_shape_core.proofs.Cleaned.{simple_answer, kept_answer, all_answered, in_order_answered, short_answer, walk_kept, whole_found}
+use Rattle.i_shape_core.proofs.Cleaned.{simple_answer, kept_answer, all_answered, in_order_answered, visits_answer, short_answer, walk_kept, whole_found}
 use Rattle.i_shape_core.proofs.simplifier.ContourSimplifier.simplify_counted.Given.{Over}
 use Rattle.i_shape_core.proofs.simplifier.ContourSimplifier.simplify_counted.Goals.{After-keep_whole}
 use Rattle.i_shape_core.proofs.simplifier.ContourSimplifier.simplify_counted.Goals as goal
@@ -68,6 +68,12 @@ returns-in_default-clause-in_order g c =
     let value = g.I.IntNumber.value in
     let points = contour_of value c.args.contour.now in
     IfOk-weaker c.keep_whole.result _ _ (λ r w. in_order_answered IsZeroTurn (λ kept. contour_of value kept.items) points r.0 r.1 w) (whole g c)
+
+pub returns-in_default-clause-visits : goal.returns-in_default-clause-visits
+returns-in_default-clause-visits g c =
+    let value = g.I.IntNumber.value in
+    let points = contour_of value c.args.contour.now in
+    IfOk-weaker c.keep_whole.result _ _ (λ r w. visits_answer points (shown value r) r.1 w) (whole g c)
 
 pub returns-clause-answer : goal.returns-clause-answer
 returns-clause-answer g c =
