@@ -63,14 +63,6 @@ flat-more e p [] rs f = absurd f
 flat-more e p (q ∷ qs) rs (inl z) = inl z
 flat-more e p (q ∷ qs) rs (inr f) = inr (flat-more (vector p q) q qs rs f)
 
--- a product that was compared with zero
-pub zero-told : {W : Type 0} (value : W → ℤ) (equal : W → W → Bool) → ((a b : W) → IsTrue (equal a b) ↔ (value a ≡ value b))
-    → (product zero : W) (b : Bool) → value zero ≡ pos 0 → b ≡ equal product zero → IsTrue b ↔ (value product ≡ pos 0)
-zero-told value equal law product zero b z e = (
-  (λ t. (law product zero).0 (sym e ∙ t) ∙ z),
-  (λ h. e ∙ (law product zero).1 (h ∙ sym z)),
-)
-
 -- ---- within a block: what the walk knows at the edge e and the point p, with the rest of the block still to come
 pub record IsOver (block : List Point) (first start : Point) (flat : Bool) (e p : Point) (rest : List Point) : Type 0 where
   pub told : (IsTrue flat ⊎ Flat e p rest) ↔ Flat first start block

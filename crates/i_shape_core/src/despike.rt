@@ -310,7 +310,7 @@ fn walk_onward<I: IntNumber>(
     for point in block {
         if !are_same(here, *point) {
             let next = *point - here;
-            if edge.cross_product(next) == I::Wide::ZERO {
+            if edge.is_parallel_to(next) {
                 if edge.dot_product(next) < I::Wide::ZERO {
                     return None;
                 }

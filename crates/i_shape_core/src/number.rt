@@ -99,6 +99,10 @@ pub trait IntNumber: Copy + Ord {
         requires { FitsSigned width (value self -ℤ value other) }
         ensures { value result ≡ value self -ℤ value other };
 
+    /// Whether `a` times `b` is `c` times `d`, as whole numbers.
+    fn are_products_equal(a: Self, b: Self, c: Self, d: Self) -> bool
+        ensures { IsTrue result ↔ (value a *ℤ value b ≡ value c *ℤ value d) };
+
     ghost bits_are: { BITS ≡ bits width };
 
     ghost some_bits: { 2 ≤ hbits width };

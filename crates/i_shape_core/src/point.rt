@@ -1,6 +1,6 @@
 //! Points and vectors over whole coordinates.
 
-ghost use Rattle.std.specs.Prelude.{◌≡◌, ◌-ℤ◌, ◌↔◌, List, map, IsTrue, FitsSigned};
+ghost use Rattle.std.specs.Prelude.{◌≡◌, ◌-ℤ◌, ◌↔◌, List, map, pos, IsTrue, FitsSigned};
 ghost use Rattle.std.proofs.Common.{sym};
 ghost use Rattle.std.proofs.lemmas.List.{map-id};
 ghost use Rattle.i_shape_core.specs.IntPoint.{point_of, IsSafe, IsSafeCoordinate};
@@ -39,6 +39,13 @@ impl<I: IntNumber> IntPoint<I> {
         let left = self.x.to_wide().wrapping_mul(other.y.to_wide());
         let right = self.y.to_wide().wrapping_mul(other.x.to_wide());
         left.wrapping_sub(right)
+    }
+
+    /// Whether the cross product of two vectors is zero: they lie on one line, or one of them is zero.
+    pub fn is_parallel_to(self, other: IntPoint<I>) -> bool
+        ensures { IsTrue result ↔ (cross_of (point_of I.value self) (point_of I.value other) ≡ pos 0) }
+    {
+        I::are_products_equal(self.x, other.y, self.y, other.x)
     }
 
     /// The dot product of two vectors. It fits unless all four coordinates are the least number.

@@ -12,7 +12,7 @@ ghost use Rattle.i_shape_core.specs.Cleaners.{SimpleAnswer, KeptAnswer};
 ghost use Rattle.i_shape_core.specs.Canonical.{CanonicalAnswer, UnorientedAnswer, KeptEitherWay};
 
 use crate::error::ShapeError;
-use crate::number::{IntNumber, WideIntNumber};
+use crate::number::IntNumber;
 use crate::point::{IntContour, IntPoint};
 use crate::simplifier::ContourSimplifier;
 use std::alloc::Global;
@@ -128,8 +128,7 @@ fn walk_block<I: IntNumber>(
     let mut has_zero_turn = false;
     for point in block {
         let next = *point - here;
-        let is_zero = edge.cross_product(next) == I::Wide::ZERO;
-        has_zero_turn = has_zero_turn | is_zero;
+        has_zero_turn = has_zero_turn | edge.is_parallel_to(next);
         edge = next;
         here = *point;
     }

@@ -28,7 +28,7 @@ pub fn turn_of<I: IntNumber>(a: IntPoint<I>, b: IntPoint<I>, c: IntPoint<I>) -> 
 {
     let first = b - a;
     let second = c - b;
-    if first.cross_product(second) != I::Wide::ZERO {
+    if !first.is_parallel_to(second) {
         Turn::Turning
     } else if first.dot_product(second) > I::Wide::ZERO {
         Turn::Straight

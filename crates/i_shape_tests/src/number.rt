@@ -122,9 +122,47 @@ fn products_of_the_two_ways_at_a_point(rt: HostRuntime) {
         let answers = [
             (first.cross_product(second) == *cross, "the cross product"),
             (first.dot_product(second) == *dot, "the dot product"),
+            (
+                first.is_parallel_to(second) == (*cross == 0),
+                "whether they are parallel",
+            ),
         ];
         all_hold(&rt, name, &answers);
     }
+}
+
+#[test]
+fn products_that_agree_in_the_low_half_alone_are_told_apart(rt: HostRuntime) {
+    let side_16 = IntPoint::<i16>::new(256, 0);
+    let side_32 = IntPoint::<i32>::new(65536, 0);
+    let side_64 = IntPoint::<i64>::new(4294967296, 0);
+    let answers = [
+        (
+            !side_16.is_parallel_to(IntPoint::new(0, 256)),
+            "upright sides of 16 bits",
+        ),
+        (
+            side_16.is_parallel_to(IntPoint::new(-256, 0)),
+            "sides of 16 bits there and back",
+        ),
+        (
+            !side_32.is_parallel_to(IntPoint::new(0, 65536)),
+            "upright sides of 32 bits",
+        ),
+        (
+            side_32.is_parallel_to(IntPoint::new(-65536, 0)),
+            "sides of 32 bits there and back",
+        ),
+        (
+            !side_64.is_parallel_to(IntPoint::new(0, 4294967296)),
+            "upright sides of 64 bits",
+        ),
+        (
+            side_64.is_parallel_to(IntPoint::new(-4294967296, 0)),
+            "sides of 64 bits there and back",
+        ),
+    ];
+    all_hold(&rt, "vectors", &answers);
 }
 
 #[test]

@@ -302,9 +302,26 @@ fn narrow_contours_leave_their_one_end(rt: HostRuntime) {
     }
 }
 
+/// A square whose sides have products that are zero in their low half.
+const HALVES_64: [[i64; 2]; 4] = [
+    [0, 0],
+    [4294967296, 0],
+    [4294967296, 4294967296],
+    [0, 4294967296],
+];
+
 #[test]
 fn wide_contours_are_their_one_end(rt: HostRuntime) {
     let mut simplifier = ContourSimplifier::new(rt.alloc());
+    let name = "a square of sides of 33 bits";
+    leaves_at(
+        &rt,
+        rt.alloc(),
+        &mut simplifier,
+        name,
+        &HALVES_64,
+        &HALVES_64,
+    );
     for (name, list) in &SQUARES_64 {
         leaves_at::<i64>(&rt, rt.alloc(), &mut simplifier, name, list, list);
     }

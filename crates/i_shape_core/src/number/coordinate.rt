@@ -6,6 +6,7 @@ ghost use Rattle.std.proofs.Common.{lit≤};
 ghost use Rattle.std.proofs.lemmas.Bool.Decides.{Decides-int_eq};
 
 use crate::number::IntNumber;
+use crate::number::wide::are_wrapped_products_equal;
 
 impl IntNumber for i16 {
     type Wide = i32;
@@ -40,6 +41,10 @@ impl IntNumber for i16 {
 
     fn minus(self, other: i16) -> i16 {
         self - other
+    }
+
+    fn are_products_equal(a: i16, b: i16, c: i16, d: i16) -> bool {
+        are_wrapped_products_equal(a.to_wide(), b.to_wide(), c.to_wide(), d.to_wide())
     }
 
     ghost bits_are = { refl };
@@ -102,6 +107,10 @@ impl IntNumber for i32 {
         self - other
     }
 
+    fn are_products_equal(a: i32, b: i32, c: i32, d: i32) -> bool {
+        are_wrapped_products_equal(a.to_wide(), b.to_wide(), c.to_wide(), d.to_wide())
+    }
+
     ghost bits_are = { refl };
 
     ghost some_bits = { lit≤ tt };
@@ -160,6 +169,12 @@ impl IntNumber for i64 {
 
     fn minus(self, other: i64) -> i64 {
         self - other
+    }
+
+    fn are_products_equal(a: i64, b: i64, c: i64, d: i64) -> bool {
+        // The low halves are equal where the products are, and cost half as much.
+        are_wrapped_products_equal::<i64>(a, b, c, d)
+            && are_wrapped_products_equal(a.to_wide(), b.to_wide(), c.to_wide(), d.to_wide())
     }
 
     ghost bits_are = { refl };

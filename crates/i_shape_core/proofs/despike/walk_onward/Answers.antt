@@ -3,10 +3,9 @@ use Rattle.i_shape_core.specs.Point.{Point, vector, cross_of, dot_of}
 use Rattle.i_shape_core.specs.IntPoint.{point_of, contour_of}
 use Rattle.i_shape_core.proofs.Contours.{read-safe, rest-read, rest-none, refuted}
 use Rattle.i_shape_core.proofs.Coordinates.{safe_points-apart, safe_difference-above, below-told}
-use Rattle.i_shape_core.proofs.LastEdge.{zero-told}
 use Rattle.i_shape_core.proofs.Spikes.{onward_start, onward_skips, onward_on, onward_stops}
 use Rattle.i_shape_core.proofs.despike.walk_onward.Goals as goal
-use Rattle.i_shape_core.proofs.despike.walk_onward.Goals.{then-not-are_same+then-eq+else-lt, then-not-are_same+else-eq, else-not-are_same}
+use Rattle.i_shape_core.proofs.despike.walk_onward.Goals.{then-not-are_same+then-is_parallel_to+else-lt, then-not-are_same+else-is_parallel_to, else-not-are_same}
 
 pub sub-next-requires : goal.sub-next-requires
 sub-next-requires g c =
@@ -29,10 +28,9 @@ pub returns-then-lt-clause-back : goal.returns-then-lt-clause-back
 returns-then-lt-clause-back g c =
     let value = g.I.IntNumber.value in
     let wide = g.met.I.Wide.WideIntNumber in
-    let zero = zero-told _ _ wide.equality _ _ c.eq.result (ap g.I.Wide.WideIntNumber.value c.ZERO.ensures ∙ wide.zero_value) c.eq.ensures in
     let rest = rest-read value c.args.block.now _ _ c.loop-point-test.true c.point-item.is in
-    let flat = ap (cross_of (point_of value c.loop-point.edge)) (sym c.sub-next.ensures) ∙ sym c.cross_product.ensures ∙ zero.0 c.if-eq.true in
-    let told = below-told g.I.Wide.WideIntNumber.value c.dot_product.result c.ZERO-then-eq.result c.lt.result _ _ c.lt.ensures (wide.partial_order _ _) (ap g.I.Wide.WideIntNumber.value c.ZERO-then-eq.ensures ∙ wide.zero_value)
+    let flat = ap (cross_of (point_of value c.loop-point.edge)) (sym c.sub-next.ensures) ∙ c.is_parallel_to.ensures.0 c.if-is_parallel_to.true in
+    let told = below-told g.I.Wide.WideIntNumber.value c.dot_product.result c.ZERO.result c.lt.result _ _ c.lt.ensures (wide.partial_order _ _) (ap g.I.Wide.WideIntNumber.value c.ZERO.ensures ∙ wide.zero_value)
     (c.dot_product.ensures ∙ ap (dot_of (point_of value c.loop-point.edge)) c.sub-next.ensures) in
     let back = onward_stops _ _ _ _ _ _ _ (sym c.are_same.ensures ∙ c.if-not-are_same.true) flat (told.0 c.if-lt.true) (rw rest at c.loop-point.invariant.onward) in
     (λ t. back, λ b. refl)
@@ -46,14 +44,13 @@ loop-point-preserved g c =
     record {
       here_safe = read-safe g.I.IntNumber.width value c.args.block.now _ _ c.requires.block_safe c.loop-point-test.true c.point-item.is;
       onward = elim c.if-not-are_same.branch [
-        | then-not-are_same+then-eq+else-lt w ↦
-            let told = below-told g.I.Wide.WideIntNumber.value w.dot_product.result w.ZERO-then-eq.result w.lt.result _ _ w.lt.ensures (wide.partial_order _ _) (ap g.I.Wide.WideIntNumber.value w.ZERO-then-eq.ensures ∙ wide.zero_value)
+        | then-not-are_same+then-is_parallel_to+else-lt w ↦
+            let told = below-told g.I.Wide.WideIntNumber.value w.dot_product.result w.ZERO.result w.lt.result _ _ w.lt.ensures (wide.partial_order _ _) (ap g.I.Wide.WideIntNumber.value w.ZERO.ensures ∙ wide.zero_value)
             (w.dot_product.ensures ∙ ap (dot_of (point_of value c.loop-point.edge)) w.sub-next.ensures) in
             rw (w.edge-is, w.sub-next.ensures) (onward_on _ _ _ _ _ _ _ (sym c.are_same.ensures ∙ w.if-not-are_same.true) (λ z back. refuted w.lt.result told (λ h. h, λ h. h) w.if-lt.false back) onward)
-        | then-not-are_same+else-eq w ↦
-            let zero = zero-told _ _ wide.equality _ _ w.eq.result (ap g.I.Wide.WideIntNumber.value w.ZERO.ensures ∙ wide.zero_value) w.eq.ensures in
+        | then-not-are_same+else-is_parallel_to w ↦
             let turns : cross_of (point_of value c.loop-point.edge) (vector (point_of value c.loop-point.here) (point_of value c.point-item.result)) ≡ pos 0 → ⊥ =
-            λ z. (let t = zero.1 (w.cross_product.ensures ∙ ap (cross_of (point_of value c.loop-point.edge)) w.sub-next.ensures ∙ z) in let f = w.if-eq.false in absurd (cc)) in
+            λ z. (let t = w.is_parallel_to.ensures.1 (ap (cross_of (point_of value c.loop-point.edge)) w.sub-next.ensures ∙ z) in let f = w.if-is_parallel_to.false in absurd (cc)) in
             rw (w.edge-is, w.sub-next.ensures) (onward_on _ _ _ _ _ _ _ (sym c.are_same.ensures ∙ w.if-not-are_same.true) (λ z back. turns z) onward)
         | else-not-are_same w ↦ rw w.edge-is (onward_skips _ _ _ _ _ _ _ (sym c.are_same.ensures ∙ w.if-not-are_same.false) onward)
       ];

@@ -2,7 +2,7 @@ use Rattle.std.proofs.Common.{◌≡◌, ◌↔◌, ◌∙◌, IsTrue, pos, sym,
 use Rattle.i_shape_core.specs.Point.{vector, cross_of}
 use Rattle.i_shape_core.specs.IntPoint.{point_of, contour_of}
 use Rattle.i_shape_core.proofs.Contours.{read-safe, rest-read, rest-none}
-use Rattle.i_shape_core.proofs.LastEdge.{over-start, over-on, over-end, step-fits, zero-told}
+use Rattle.i_shape_core.proofs.LastEdge.{over-start, over-on, over-end, step-fits}
 use Rattle.i_shape_core.proofs.simple.walk_block.Goals as goal
 
 pub sub-next-requires : goal.sub-next-requires
@@ -19,11 +19,10 @@ loop-point-init g c = record {
 pub loop-point-preserved : goal.loop-point-preserved
 loop-point-preserved g c =
     let value = g.I.IntNumber.value in
-    let wide = g.met.I.Wide.WideIntNumber in
-    let zero = zero-told _ _ wide.equality _ _ c.eq-is_zero.result (ap g.I.Wide.WideIntNumber.value c.ZERO.ensures ∙ wide.zero_value) c.eq-is_zero.ensures in
+    let zero = c.is_parallel_to-has_zero_turn.ensures in
     let rest = rest-read value c.args.block.now _ _ c.loop-point-test.true c.point-item.is in
-    let turn = c.cross_product.ensures ∙ ap (cross_of (point_of value c.loop-point.edge)) c.sub-next.ensures in
-    let told : IsTrue c.eq-is_zero.result ↔ (cross_of (point_of value c.loop-point.edge) (vector (point_of value c.loop-point.here) (point_of value c.point-item.result)) ≡ pos 0) =
+    let turn = ap (cross_of (point_of value c.loop-point.edge)) c.sub-next.ensures in
+    let told : IsTrue c.is_parallel_to-has_zero_turn.result ↔ (cross_of (point_of value c.loop-point.edge) (vector (point_of value c.loop-point.here) (point_of value c.point-item.result)) ≡ pos 0) =
     (λ t. sym turn ∙ zero.0 t, λ z. zero.1 (turn ∙ z)) in
     record {
       here_safe = read-safe g.I.IntNumber.width value c.args.block.now _ _ c.requires.block_safe c.loop-point-test.true c.point-item.is;

@@ -7,9 +7,9 @@ pub dot_product-requires : goal.dot_product-requires
 unfolding cross dot
 dot_product-requires g c = grind (arith, common_steps, g.met.I.IntNumber, g.met.I.Wide.WideIntNumber)
 
-pub returns-then-ne : goal.returns-then-ne
+pub returns-then-not-is_parallel_to : goal.returns-then-not-is_parallel_to
 unfolding cross dot
-returns-then-ne g c = search rules
+returns-then-not-is_parallel_to g c = search rules
 
 pub returns-then-gt : goal.returns-then-gt
 unfolding cross dot
