@@ -1,4 +1,4 @@
-//! Twice the area, and the area, of the points that an iterator has left.
+//! Twice the area of a slice, and twice the area and the area of the points that an iterator has left.
 
 ghost use Rattle.std.specs.Prelude.{◌≡◌, pos, None, List, int_div};
 ghost use Rattle.std.specs.Int.{int_wrap};

@@ -16,7 +16,7 @@ use crate::point::IntPoint;
 use crate::same::{are_same, last_other};
 use crate::triangle::Triangle;
 
-/// Tests of a contour as a whole. Each is one pass and takes no memory.
+/// Tests of a contour as a whole. Each takes linear time and no memory.
 pub trait ContourExtension<I: IntNumber> {
     /// The contour over whole numbers.
     ghost contour: { Self → List Point };

@@ -41,7 +41,7 @@ impl<I: IntNumber> IntPoint<I> {
         left.wrapping_sub(right)
     }
 
-    /// Whether the cross product of two vectors is zero: they lie on one line, or one of them is zero.
+    /// Whether the cross product of two vectors is zero: they point the same way or opposite ways, or one of them is zero.
     pub fn is_parallel_to(self, other: IntPoint<I>) -> bool
         ensures { IsTrue result ↔ (cross_of (point_of I.value self) (point_of I.value other) ≡ pos 0) }
     {

@@ -158,8 +158,8 @@ fn clean_prefix<P: ContourPoint>(probe: &mut Probe<'_, P>) -> usize
     probe.len()
 }
 
-/// Where the contour has a zero turn: the first place and the end of those that are on the stack after the first of them is taken
-/// off, and the place with which the walk goes on. Counts a visit for each test.
+/// Where the contour has a zero turn: the first place and the end of a stack of places, none of them at a zero turn, and the place
+/// with which the walk goes on. Counts a visit for each test.
 fn start_of_walk<P: ContourPoint>(probe: &mut Probe<'_, P>) -> Option<(usize, usize, usize)>
     requires fresh { probe.old.visits ≡ 0 }
     requires enough { 3 ≤ length probe.old.contour }
