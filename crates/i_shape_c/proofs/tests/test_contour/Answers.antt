@@ -22,3 +22,6 @@ returns-clause-answer g c = λ holds.
 
 pub returns-clause-unsafe_points : goal.returns-clause-unsafe_points
 returns-clause-unsafe_points g c = (λ is. search rules, λ not_safe. absurd (not_safe (c.if-not-are_safe.ensures.0 refl)))
+
+pub returns-in_default-clause-unsafe_points : goal.returns-in_default-clause-unsafe_points
+returns-in_default-clause-unsafe_points g c = (λ is. search rules, λ not_safe. absurd (not_safe (c.if-not-are_safe.ensures.0 refl)))
