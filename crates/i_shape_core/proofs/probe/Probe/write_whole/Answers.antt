@@ -1,4 +1,4 @@
-use Rattle.std.proofs.Common.{◌≡◌, ◌∙◌, ◌++◌, length, drop, take, rules}
+use Rattle.std.proofs.Common.{◌≡◌, length, drop, rules}
 use Rattle.std.proofs.Math.Seq.{take-append_seam, drop-append_seam}
 use Rattle.i_shape_core.proofs.probe.Probe.write_whole.Goals as goal
 
