@@ -72,9 +72,9 @@ in_order_answered P f c None visits w = tt
 in_order_answered P f c (Some x) visits w = sublist_reached w.ended.reached
 
 -- its visits are within the bounds
-pub visits_answer : (c : List Point) (r : Option (List Point)) (visits : ℕ) → WalkAnswer IsZeroTurn c r visits → VisitsAnswer c r visits
-visits_answer c None visits w = record { least = w.least; most = w.most }
-visits_answer c (Some e) visits w = record { least = w.least; most = w.most }
+pub visits_answer : (P : Test) (c : List Point) (r : Option (List Point)) (visits : ℕ) → WalkAnswer P c r visits → VisitsAnswer c r visits
+visits_answer P c None visits w = record { least = w.least; most = w.most }
+visits_answer P c (Some e) visits w = record { least = w.least; most = w.most }
 
 -- fewer than three points have collapsed before the first visit
 pub short_answer : (P : Test) (c : List Point) → length c < 3 → WalkAnswer P c None 0

@@ -73,7 +73,7 @@ pub returns-in_default-clause-visits : goal.returns-in_default-clause-visits
 returns-in_default-clause-visits g c =
     let value = g.I.IntNumber.value in
     let points = contour_of value c.args.contour.now in
-    IfOk-weaker c.keep_whole.result _ _ (λ r w. visits_answer points (shown value r) r.1 w) (whole g c)
+    IfOk-weaker c.keep_whole.result _ _ (λ r w. visits_answer IsZeroTurn points (shown value r) r.1 w) (whole g c)
 
 pub returns-clause-answer : goal.returns-clause-answer
 returns-clause-answer g c =
