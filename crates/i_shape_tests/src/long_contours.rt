@@ -1,12 +1,14 @@
 //! Contours of a hundred thousand points, at each width: one that stays, one that loses a spike, and one that collapses.
 
 use crate::buffer::{cleans, flat};
+use crate::claims::holds;
 use crate::cleaned_into::{Cleaners, Left, is_written};
-use crate::given::{all_hold, safe_contour};
+use crate::given::safe_contour;
 use crate::in_place::{despikes, simplifies};
 use crate::through_buffer::both_leave;
 use i_shape::IntNumber;
 use i_shape::int::despike::DeSpikeContour;
+use i_shape::int::shape::IntContour;
 use i_shape::int::simple::{ContourSimplifier, SimpleContour};
 use std::alloc::{AllocError, Global};
 use std::process::Abort;
@@ -26,6 +28,74 @@ fn followed_by<I: IntNumber>(
     Ok(points)
 }
 
+/// The contour of these points, or none where there are none.
+fn contour_left<I: IntNumber>(
+    rt: &impl Abort,
+    alloc: Global,
+    left: &[[I; 2]],
+) -> Option<IntContour<I>> {
+    if left.is_empty() {
+        return None;
+    }
+    Some(safe_contour(rt, alloc, left))
+}
+
+/// Each call that makes a copy without zero turns leaves these points, or collapses where there are none.
+fn simplified_leave<I: IntNumber>(
+    rt: &impl Abort,
+    alloc: Global,
+    name: &str,
+    given: &[[I; 2]],
+    left: &[[I; 2]],
+) -> Result<(), Fail> {
+    let given = safe_contour(rt, alloc, given);
+    let wanted = contour_left(rt, alloc, left);
+    let points = given.as_slice();
+    let mut simplifier = ContourSimplifier::new(alloc);
+    let kept = points.simplified(alloc)?;
+    holds(rt, kept == wanted, name, "simplified");
+    let kept = simplifier.simplify_contour(points)?;
+    holds(rt, kept == wanted, name, "simplify_contour");
+    let kept = simplifier.simplify_counted(points)?.0;
+    holds(rt, kept == wanted, name, "simplify_counted");
+    Ok(())
+}
+
+/// The same of the calls that turn the copy to its least rotation.
+fn canonical_leave<I: IntNumber>(
+    rt: &impl Abort,
+    alloc: Global,
+    name: &str,
+    given: &[[I; 2]],
+    left: &[[I; 2]],
+) -> Result<(), Fail> {
+    let given = safe_contour(rt, alloc, given);
+    let wanted = contour_left(rt, alloc, left);
+    let points = given.as_slice();
+    let kept = points.canonical(alloc)?;
+    holds(rt, kept == wanted, name, "canonical");
+    let kept = ContourSimplifier::new(alloc).canonical(points)?;
+    holds(rt, kept == wanted, name, "a simplifier's canonical");
+    Ok(())
+}
+
+/// The same of the calls that make a copy without spikes.
+fn despiked_leave<I: IntNumber>(
+    rt: &impl Abort,
+    alloc: Global,
+    name: &str,
+    given: &[[I; 2]],
+    left: &[[I; 2]],
+) -> Result<(), Fail> {
+    let given = safe_contour(rt, alloc, given);
+    let wanted = contour_left(rt, alloc, left);
+    let kept = given.despiked_contour(alloc)?;
+    holds(rt, kept == wanted, name, "despiked_contour");
+    let kept = given.despiked_counted(alloc)?.0;
+    holds(rt, kept == wanted, name, "despiked_counted");
+    Ok(())
+}
+
 /// Each call that makes a cleaned copy leaves these points, or collapses where there are none.
 fn copies_leave<I: IntNumber>(
     rt: &impl Abort,
@@ -34,34 +104,9 @@ fn copies_leave<I: IntNumber>(
     given: &[[I; 2]],
     left: &[[I; 2]],
 ) -> Result<(), Fail> {
-    let given = safe_contour(rt, alloc, given);
-    let left = safe_contour(rt, alloc, left);
-    let wanted = if left.is_empty() { None } else { Some(left) };
-    let points = given.as_slice();
-    let mut simplifier = ContourSimplifier::new(alloc);
-    let answers = [
-        (points.simplified(alloc)? == wanted, "simplified"),
-        (
-            simplifier.simplify_contour(points)? == wanted,
-            "simplify_contour",
-        ),
-        (
-            simplifier.simplify_counted(points)?.0 == wanted,
-            "simplify_counted",
-        ),
-        (points.canonical(alloc)? == wanted, "canonical"),
-        (
-            simplifier.canonical(points)? == wanted,
-            "a simplifier's canonical",
-        ),
-        (given.despiked_contour(alloc)? == wanted, "despiked_contour"),
-        (
-            given.despiked_counted(alloc)?.0 == wanted,
-            "despiked_counted",
-        ),
-    ];
-    all_hold(rt, name, &answers);
-    Ok(())
+    simplified_leave(rt, alloc, name, given, left)?;
+    canonical_leave(rt, alloc, name, given, left)?;
+    despiked_leave(rt, alloc, name, given, left)
 }
 
 /// What is cleaned in place or inside a buffer changes to these points.
