@@ -205,9 +205,9 @@ def fault_of_edits():
     page = read(f"{TOP}/docs/CONTRACTS.md")
     edits = {kind: {tuple(name.removesuffix(".edit").split("/")[-3::2]) for name in files([f"crates/*/{kind}/*.edit"])} for kind in ("must-fail", "wrong")}
     named = set()
-    for cell in re.findall(r"^\|[^|]*\| ((?:core|source|int|shape|tool) `[^|]*) \|", page, re.MULTILINE):
-        for crate, names in re.findall(r"\b(core|source|int|shape|tool) (`[^|]*?)(?=; \w+ `|, \w+ `|$)", cell):
-            named |= {("i_shape" if crate == "shape" else f"i_shape_{crate}", name) for name in re.findall(r"`(\w+)`", names)}
+    for cell in re.findall(r"^\|[^|]*\| ((?:core|source|int|shape|tool|callers) `[^|]*) \|", page, re.MULTILINE):
+        for crate, names in re.findall(r"\b(core|source|int|shape|tool|callers) (`[^|]*?)(?=; \w+ `|, \w+ `|$)", cell):
+            named |= {({"shape": "i_shape", "callers": "callers"}.get(crate, f"i_shape_{crate}"), name) for name in re.findall(r"`(\w+)`", names)}
     missing = [f"{crate}'s {name} isn't named" for crate, name in edits["must-fail"] - named]
     strange = [f"{crate} has no edit {name}" for crate, name in named - edits["must-fail"] - edits["wrong"]]
     return "; ".join(sorted(missing + strange)) or None

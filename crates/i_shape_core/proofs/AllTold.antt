@@ -1,9 +1,9 @@
--- What a loop over a list has told of the items so far.
-use Rattle.std.proofs.Common.{◌≡◌, ◌↔◌, ◌∙◌, ℕ, ◌+◌, ◌<◌, ◌≤◌, List, [], ◌∷◌, ◌++◌, length, take, get_or, Bool, ◌&&◌, IsTrue, Some, refl, subst, sym, ap}
+-- What is told of each item of a list: of those that a loop has read so far, and of the items of a mapped list.
+use Rattle.std.proofs.Common.{◌≡◌, ◌↔◌, ◌∙◌, ℕ, ◌+◌, ◌<◌, ◌≤◌, List, [], ◌∷◌, ◌++◌, length, take, get_or, map, Bool, ◌&&◌, IsTrue, Some, refl, subst, sym, ap}
 use Rattle.std.specs.List.{All}
 use Rattle.std.proofs.lemmas.Bool.Decides.{Decides-and}
 use Rattle.std.proofs.lemmas.List.{take_all, take_more}
-use Rattle.std.proofs.lemmas.List.Elements.{All-push, All-pop}
+use Rattle.std.proofs.lemmas.List.Elements.{All-nil, All-cons, All-head, All-tail, All-push, All-pop, All-map}
 
 module _ {X : Type 0} where
   -- the first items, and the one that is read after them
@@ -19,3 +19,12 @@ module _ {X : Type 0} where
   -- and of all of them is told of the list
   pub whole_told : (P : X → Type 0) (xs : List X) (i : ℕ) (s : Bool) → length xs ≤ i → IsTrue s ↔ All P (take i xs) → IsTrue s ↔ All P xs
   whole_told P xs i s over f = subst (λ (ys : List X). IsTrue s ↔ All P ys) (take_all i xs over) f
+
+module _ {X Y : Type 0} (P : X → Type 0) (f : Y → X) where
+  unmapped : (ys : List Y) → All P (map f ys) → All (λ y. P (f y)) ys
+  unmapped [] h = All-nil (λ y. P (f y))
+  unmapped (y ∷ ys) h = All-cons (λ z. P (f z)) y ys (All-head P (f y) (map f ys) h) (unmapped ys (All-tail P (f y) (map f ys) h))
+
+  -- what holds of each member, read through a function, is what holds of each member of the mapped list
+  pub mapped : (ys : List Y) → All (λ y. P (f y)) ys ↔ All P (map f ys)
+  mapped ys = (All-map P f ys, unmapped ys)

@@ -8,7 +8,7 @@ pub mod Turns
 pub mod Back
 pub mod Contours
 pub mod PointLists
--- loops over a list
+-- loops over a list, and mapped lists
 pub mod AllTold
 -- removals, for any test of three points
 pub mod TestLaws
@@ -48,6 +48,8 @@ pub mod Spikes
 pub mod LastEdge
 pub mod Answered
 pub mod Written
+-- what cleaning leaves of a list
+pub mod Survivors
 -- measures
 pub mod Compared
 pub mod Bends

@@ -6,6 +6,7 @@ pub mod Edges
 pub mod Convex
 pub mod Laws
 pub mod Cleaners
+pub mod Survivors
 pub mod Written
 pub mod Turn
 pub mod Refusals

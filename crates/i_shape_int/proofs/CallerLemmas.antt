@@ -30,7 +30,7 @@ use Rattle.i_shape_int.specs.InPlace.{Leaves, CleansContour, DespikesContour, Cl
 use Rattle.i_shape_core.proofs.Answered.{simple_kept, nothing_keeps}
 use Rattle.i_shape_core.proofs.Ends.{reach_shrinks, no_step}
 use Rattle.i_shape_core.proofs.Spikes.{spikeless_end}
-use Rattle.i_shape_source.proofs.SafePaths.{mapped}
+use Rattle.i_shape_core.proofs.AllTold.{mapped}
 use Rattle.i_shape_int.proofs.Keeping.{inside_count-append}
 use Rattle.i_shape_int.proofs.Surviving.{survivors_have}
 use Rattle.i_shape_int.proofs.ShapeRanges.{slice_range-map, slices-part_of}

@@ -20,7 +20,7 @@ use Rattle.i_shape_int.specs.ShapeLists.{IsSafeShape}
 use Rattle.i_shape_int.specs.ShapeAnswers.{Survivors, ShapeClean, ListClean, HasPoints, EachContour, EachShape, AreKept}
 use Rattle.i_shape_int.specs.InPlace.{Leaves, CleansShape, CleansList}
 use Rattle.i_shape_int.specs.Changes.{Edit, edits_of, IsLeft, put_contour, put_in_list, FitsShape, FitsList, all_put, AllFit, ComesFor, CleansAside, CleansListAside, has_points, stands, standing, standing_shapes}
-use Rattle.i_shape_int.proofs.Surviving.{survivors-none}
+use Rattle.i_shape_core.proofs.Survivors.{survivors-none}
 use Rattle.i_shape_int.proofs.Keeping.{same_kept, shape_keeps, shape_safe, list_keeps}
 
 no_first : {X : Type 0} (xs ys : List X) → xs ++ ys ≡ [] → xs ≡ []

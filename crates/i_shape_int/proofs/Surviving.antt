@@ -1,11 +1,11 @@
 -- Steps of a loop over the members of a list that is read through a function: what holds of them all, and what is left of them.
-use Rattle.std.proofs.Common.{◌≡◌, ℕ, ◌+◌, ◌<◌, List, [], ◌∷◌, ◌++◌, length, get_or, take, map, refl, sym, ap, ◌∙◌, subst, Option, Some, None}
+use Rattle.std.proofs.Common.{◌≡◌, ℕ, ◌+◌, ◌<◌, List, [], ◌∷◌, ◌++◌, length, get_or, take, map, sym, ap, ◌∙◌, subst, Option, Some, None}
 use Rattle.std.specs.List.{All, AllZip, filter_map}
 use Rattle.std.specs.Option.{option_to_list}
 use Rattle.std.proofs.lemmas.List.{get_or-map, length-map, map-append}
-use Rattle.std.proofs.lemmas.List.Elements.{All-nil, All-cons, All-head, All-tail, All-push, filter_map-append}
-use Rattle.std.proofs.lemmas.Slice.Zip.{all_zipped_more}
+use Rattle.std.proofs.lemmas.List.Elements.{All-nil, All-cons, All-head, All-tail, All-push}
 use Rattle.i_shape_core.proofs.AllTold.{taken}
+use Rattle.i_shape_core.proofs.Survivors.{survivors-none, survivors-push}
 use Rattle.i_shape_int.specs.ShapeAnswers.{Survivors}
 
 -- what holds of all members holds of the one that is read
@@ -20,22 +20,6 @@ mapped-taken f xs i x lt read = ap (map f) (taken xs i x lt read) ∙ map-append
 -- what holds of the first members and of the next holds of one more
 pub mapped-more : {X Y : Type 0} (f : X → Y) (P : Y → Type 0) (xs : List X) (i : ℕ) (x : X) → i < length xs → x ≡ get_or xs i x → All P (map f (take i xs)) → P (f x) → All P (map f (take (i + 1) xs))
 mapped-more f P xs i x lt read holds here = rw (mapped-taken f xs i x lt read) (All-push P (map f (take i xs)) (f x) holds here)
-
--- nothing is left of no members
-pub survivors-none : {X Y : Type 0} (Answer : X → Option Y → Type 0) → Survivors Answer [] []
-survivors-none Answer = ([], tt, refl)
-
-last-kept : {Y : Type 0} (kept : List Y) (a : Option Y) → kept ++ filter_map (λ answer. answer) (a ∷ []) ≡ kept ++ option_to_list a
-last-kept kept None = refl
-last-kept kept (Some y) = refl
-
--- a member more, with its answer
-pub survivors-push : {X Y : Type 0} (Answer : X → Option Y → Type 0) (xs : List X) (x : X) (kept : List Y) (a : Option Y) → Survivors Answer xs kept → Answer x a → Survivors Answer (xs ++ x ∷ []) (kept ++ option_to_list a)
-survivors-push Answer xs x kept a (answers, zipped, is_kept) answer = (
-  answers ++ a ∷ [],
-  all_zipped_more Answer xs answers x a zipped answer,
-  sym (filter_map-append (λ r. r) answers (a ∷ []) ∙ ap (λ w. w ++ filter_map (λ r. r) (a ∷ [])) (sym is_kept) ∙ last-kept kept a),
-)
 
 -- the member that is read, with its answer
 pub survivors-more : {X Y Z : Type 0} (f : X → Y) (Answer : Y → Option Z → Type 0) (xs : List X) (i : ℕ) (x : X) (kept : List Z) (a : Option Z) → i < length xs → x ≡ get_or xs i x

@@ -9,8 +9,7 @@ use Rattle.i_shape_int.specs.Flat.{InOrder, part_of, slices, end_to_end, IsReada
 use Rattle.i_shape_int.specs.declared.flat.buffer.shapes.FlatShapesBuffer.{FlatShapesBuffer}
 use Rattle.i_shape_core.specs.Point.{Point}
 use Rattle.i_shape_core.specs.IntPoint.{contour_of}
-use Rattle.i_shape_core.specs.Cleaners.{SimpleAnswer}
-use Rattle.i_shape_int.specs.ShapeAnswers.{Survivors}
+pub use Rattle.i_shape_core.specs.Survivors.{Compact}
 
 -- the buffer has the contours end to end, and nothing else
 pub record HoldsContours {T : Type 0} (buffer : FlatContoursBuffer T) (contours : List (List (IntPoint T))) : Type 0 where
@@ -70,10 +69,6 @@ pub record AddsShape {T : Type 0} (old new : FlatShapesBuffer T) (shape : List (
 -- the contours that the ranges of a buffer name, over whole numbers, where `value` is what a coordinate stands for
 abbrev pub contours_in : {T : Type 0} → (T → ℤ) → FlatContoursBuffer T → List (List Point)
 contours_in value buffer = map (contour_of value) (slices buffer.points.items buffer.ranges.items)
-
--- the kept contours are the ends of cleaning each, in order, without those that collapse
-abbrev pub Compact : List (List Point) → List (List Point) → Type 0
-Compact contours kept = Survivors SimpleAnswer contours kept
 
 -- how many points a range names: none where it runs backwards
 abbrev pub range_len : Range ℕ → ℕ

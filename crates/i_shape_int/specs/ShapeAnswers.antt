@@ -1,12 +1,9 @@
 -- What cleaning leaves of a shape and of a list of shapes, where `Answer` relates a contour to its cleaned one, and to none where it collapses.
 use Rattle.std.specs.Prelude.{◌≡◌, List, Option, ℕ, ◌<◌, ◌%◌, ℤ, pos, ◌+ℤ◌, [], ◌∷◌, length, Some, None, IfSome}
-use Rattle.std.specs.List.{AllZip, filter_map, count_by, sum_by, All}
+use Rattle.std.specs.List.{count_by, sum_by, All}
 use Rattle.i_shape_core.specs.Point.{Point}
 use Rattle.i_shape_core.specs.Edges.{edges, is_right, shoelace}
-
--- the answers at the members, in order, without those that collapse
-abbrev pub Survivors : {X Y : Type 0} → (X → Option Y → Type 0) → List X → List Y → Type 0
-Survivors {X} {Y} Answer xs kept = (answers : List (Option Y)) × AllZip Answer xs answers × (kept ≡ filter_map (λ answer. answer) answers)
+pub use Rattle.i_shape_core.specs.Survivors.{Survivors}
 
 -- the sum of a whole number for each item
 abbrev pub sum_of : {X : Type 0} → (X → ℤ) → List X → ℤ

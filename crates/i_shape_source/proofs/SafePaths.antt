@@ -4,10 +4,11 @@ use Rattle.std.specs.Global.{Vec}
 use Rattle.std.specs.Int.{Width}
 use Rattle.std.specs.List.{All}
 use Rattle.std.proofs.lemmas.List.{map-append}
-use Rattle.std.proofs.lemmas.List.Elements.{All-nil, All-cons, All-head, All-tail, All-append, All-map, All-weaker}
+use Rattle.std.proofs.lemmas.List.Elements.{All-nil, All-cons, All-head, All-tail, All-append, All-weaker}
 use Rattle.std.proofs.lemmas.Simd.{map-map}
 use Rattle.i_shape_core.specs.declared.point.IntPoint.{IntPoint}
 use Rattle.i_shape_core.specs.IntPoint.{contour_of, IsSafe}
+use Rattle.i_shape_core.proofs.AllTold.{mapped}
 use Rattle.i_shape_source.specs.Paths.{paths_of_shape, paths_of_shapes}
 use Rattle.i_shape_source.specs.ShapeLists.{shape_of, shapes_of, IsSafeShape, IsSafeList, AreSafePaths}
 
@@ -22,14 +23,6 @@ module _ {X : Type 0} (P : X → Type 0) where
   -- a list of one member
   alone : (x : X) → All P (x ∷ []) ↔ P x
   alone x = (λ h. All-head P x [] h, λ h. All-cons P x [] h (All-nil P))
-
-  unmapped : {Y : Type 0} (f : Y → X) (ys : List Y) → All P (map f ys) → All (λ y. P (f y)) ys
-  unmapped f [] h = All-nil (λ y. P (f y))
-  unmapped f (y ∷ ys) h = All-cons (λ z. P (f z)) y ys (All-head P (f y) (map f ys) h) (unmapped f ys (All-tail P (f y) (map f ys) h))
-
-  -- a fact of each member of a mapped list is a fact of each member of the list
-  pub mapped : {Y : Type 0} (f : Y → X) (ys : List Y) → All (λ y. P (f y)) ys ↔ All P (map f ys)
-  mapped f ys = (All-map P f ys, unmapped f ys)
 
   -- after a block that passes, a list passes where the rest does
   pub block_on : (path rest block later : List X) (b : Bool) → rest ≡ block ++ later → IsTrue b ↔ All P block → IsTrue b → All P rest ↔ All P path → All P later ↔ All P path

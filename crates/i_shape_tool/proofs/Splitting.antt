@@ -3,8 +3,9 @@ use Rattle.std.proofs.Common.{◌≡◌, ◌⊎◌, ℕ, ◌+◌, List, [], ◌�
 use Rattle.std.specs.List.{slice_split, onto_first, flat_map, filter_map, AllByRecursion, AllZip}
 use Rattle.std.proofs.lemmas.Grind.{flat_map-append}
 use Rattle.std.proofs.lemmas.List.Elements.{filter_map-append}
-use Rattle.i_shape_int.specs.Cleaners.{SimpleAnswer}
-use Rattle.i_shape_int.specs.ShapeAnswers.{Survivors}
+use Rattle.i_shape_core.specs.Cleaners.{SimpleAnswer}
+use Rattle.i_shape_core.specs.Survivors.{Survivors}
+use Rattle.i_shape_core.proofs.Survivors.{zip-append, survivors-append}
 use Rattle.i_shape_tool.specs.declared.command.Command.{Command}
 use Rattle.i_shape_tool.specs.declared.command.Command.TheVariants.{Simplify, Despike, Area, Canonical, Compact}
 use Rattle.i_shape_tool.specs.declared.command.LineCommand.{LineCommand}
@@ -63,16 +64,6 @@ pub lines_joined : (text more : List ℕ) → EndsItsLines text → lines_of (te
 lines_joined text more (inl none) = rw none refl
 lines_joined text more (inr (front, is)) =
     rw is (ap lines_of (append_assoc front (newline ∷ []) more) ∙ lines_after front more ∙ ap (λ l. l ++ lines_of more) (sym (append-nil (parts front)) ∙ sym (lines_after front [])))
-
-zip-append : {A B : Type 0} (R : A → B → Type 0) (xs zs : List A) (ys ws : List B) → AllZip R xs ys → AllZip R zs ws → AllZip R (xs ++ zs) (ys ++ ws)
-zip-append R [] zs [] ws h k = k
-zip-append R [] zs (y ∷ ys) ws h k = absurd h
-zip-append R (x ∷ xs) zs [] ws h k = absurd h
-zip-append R (x ∷ xs) zs (y ∷ ys) ws h k = (h.0, zip-append R xs zs ys ws h.1 k)
-
-survivors-append : {X Y : Type 0} (Answer : X → Option Y → Type 0) (xs zs : List X) (kept more : List Y) → Survivors Answer xs kept → Survivors Answer zs more → Survivors Answer (xs ++ zs) (kept ++ more)
-survivors-append Answer xs zs kept more (a, h, p) (b, k, q) =
-    (a ++ b, zip-append Answer xs zs a b h k, ap₂ ◌++◌ p q ∙ sym (filter_map-append (λ r. r) a b))
 
 lines_both : (command : LineCommand) (text more output added : List ℕ) → EndsItsLines text → AnswersLines command text output → AnswersLines command more added → AnswersLines command (text ++ more) (output ++ added)
 lines_both command text more output added whole (a, each, is) (b, others, same) = (

@@ -3,7 +3,7 @@
 ghost use Rattle.std.specs.Prelude.{◌≡◌};
 ghost use Rattle.i_shape_tool.specs.declared.fault.ToolFault.TheVariants.{OutOfMemory};
 
-use i_shape_int::ShapeError;
+use i_shape_core::error::ShapeError;
 use std::alloc::{AllocError, AllocFailed};
 
 /// Why a text is not answered. Lines are counted from 1.
@@ -33,7 +33,7 @@ impl<T: Drop> From<AllocFailed<T>> for ToolFault {
     }
 }
 
-/// A text has fewer points than bytes, so their number never is what is refused.
+/// The only error of the cleaners of a contour is `OutOfMemory`.
 impl From<ShapeError> for ToolFault {
     ghost from_gives = { λ _ fault. fault ≡ OutOfMemory };
 

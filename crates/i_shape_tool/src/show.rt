@@ -3,12 +3,11 @@
 ghost use Rattle.std.specs.Prelude.{◌≡◌, ◌++◌, option_map, OnOk, string_bytes};
 ghost use Rattle.i_shape_tool.specs.Points.{contour_of, point_of};
 ghost use Rattle.i_shape_tool.specs.Text.{shown, spaced};
-ghost use Rattle.i_shape_tool.specs.Run.{shown_or_none, shown_area};
+ghost use Rattle.i_shape_tool.specs.Run.{shown_line, shown_or_none, shown_area};
 
 use crate::decimal::{POINT_ROOM, write_number};
-use i_shape_int::int::IntPoint;
-use i_shape_int::int::area::Area;
-use i_shape_int::int::shape::IntContour;
+use i_shape_core::area::area_of;
+use i_shape_core::point::{IntContour, IntPoint};
 use std::alloc::AllocError;
 
 /// Appends the coordinates of the points in turn, parted by single spaces.
@@ -35,6 +34,14 @@ fn push_point(output: &mut String, point: IntPoint<i32>) -> Result<(), AllocErro
     output.push_str(unsafe { str::from_utf8_unchecked(&text[start..]) })
 }
 
+/// Appends a contour, on a line of its own.
+pub fn show_line(output: &mut String, contour: &[IntPoint<i32>]) -> Result<(), AllocError>
+    ensures { OnOk result (string_bytes output.new ≡ string_bytes output.old ++ shown_line (contour_of contour.now)) }
+{
+    show_contour(output, contour)?;
+    output.push('\n')
+}
+
 /// Appends a cleaned contour, or a word where it collapsed.
 pub fn show_cleaned(
     output: &mut String,
@@ -56,5 +63,5 @@ pub fn show_area(output: &mut String, contour: &[IntPoint<i32>]) -> Result<(), A
     if contour.is_empty() {
         return output.push_str("empty");
     }
-    write!(output, "{}", contour.area_two())
+    write!(output, "{}", area_of(contour))
 }

@@ -33,6 +33,8 @@ mod program;
 #[cfg(test)]
 mod spots;
 #[cfg(test)]
+mod through_buffer;
+#[cfg(test)]
 mod told;
 #[cfg(test)]
 mod walks;

@@ -5,7 +5,8 @@ use Rattle.std.proofs.lemmas.List.{take_all}
 use Rattle.i_shape_core.specs.declared.point.IntPoint.{IntPoint}
 use Rattle.i_shape_core.specs.IntPoint.{contour_of, IsSafe}
 use Rattle.i_shape_int.specs.ShapeLists.{shape_of}
-use Rattle.i_shape_int.proofs.Surviving.{mapped-read, survivors-none, survivors-more}
+use Rattle.i_shape_core.proofs.Survivors.{survivors-none}
+use Rattle.i_shape_int.proofs.Surviving.{mapped-read, survivors-more}
 use Rattle.i_shape_int.proofs.int.cleaning.append_holes.Goals as goal
 
 pub append_hole-requires : goal.append_hole-requires

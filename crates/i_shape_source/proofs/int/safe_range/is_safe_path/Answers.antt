@@ -1,5 +1,6 @@
 use Rattle.i_shape_core.specs.IntPoint.{point_of, IsSafe}
-use Rattle.i_shape_source.proofs.SafePaths.{mapped, safe_path, block_on, block_stops}
+use Rattle.i_shape_core.proofs.AllTold.{mapped}
+use Rattle.i_shape_source.proofs.SafePaths.{safe_path, block_on, block_stops}
 use Rattle.i_shape_source.proofs.int.safe_range.is_safe_path.Goals as goal
 
 pub loop-rest-init : goal.loop-rest-init

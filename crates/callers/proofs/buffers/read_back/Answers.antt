@@ -1,5 +1,5 @@
 use Rattle.std.proofs.Common.{rules}
-use Rattle.i_shape_tool.proofs.buffers.read_back.Goals as goal
+use Rattle.callers.proofs.buffers.read_back.Goals as goal
 
 pub returns-clause-same : goal.returns-clause-same
 returns-clause-same g c = search rules

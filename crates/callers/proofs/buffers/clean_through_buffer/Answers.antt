@@ -1,10 +1,10 @@
 use Rattle.std.proofs.Common.{rules, ◌∙◌, ap, sym, subst, IfOk}
-use Rattle.i_shape_int.specs.Cleaners.{SimpleAnswer}
-use Rattle.i_shape_int.specs.Paths.{shape_lists}
-use Rattle.i_shape_int.specs.ShapeLists.{shapes_of, IsSafeList}
-use Rattle.i_shape_int.specs.ShapeAnswers.{ListClean, ListKept}
+use Rattle.i_shape.specs.Cleaners.{SimpleAnswer}
+use Rattle.i_shape.specs.Paths.{shape_lists}
+use Rattle.i_shape.specs.ShapeLists.{shapes_of, IsSafeList}
+use Rattle.i_shape.specs.ShapeAnswers.{ListClean, ListKept}
 use Rattle.i_shape_int.proofs.CallerLemmas.{same_shapes}
-use Rattle.i_shape_tool.proofs.buffers.clean_through_buffer.Goals as goal
+use Rattle.callers.proofs.buffers.clean_through_buffer.Goals as goal
 
 pub simplified-requires : goal.simplified-requires
 simplified-requires g c =

@@ -1,16 +1,16 @@
 //! Shapes that are cleaned after they went through a flat buffer.
 
 ghost use Rattle.std.specs.Prelude.{◌≡◌, ◌<◌, ◌↔◌, ◌⊎◌, length, IfOk, IsErrOf};
-ghost use Rattle.i_shape_int.specs.Cleaners.{SimpleAnswer, DespikeAnswer};
-ghost use Rattle.i_shape_int.specs.Paths.{shape_lists, joined};
-ghost use Rattle.i_shape_int.specs.ShapeLists.{shapes_of, IsSafeList};
-ghost use Rattle.i_shape_int.specs.ShapeAnswers.{ListClean, ListKept};
+ghost use Rattle.i_shape.specs.Cleaners.{SimpleAnswer, DespikeAnswer};
+ghost use Rattle.i_shape.specs.Paths.{shape_lists, joined};
+ghost use Rattle.i_shape.specs.ShapeLists.{shapes_of, IsSafeList};
+ghost use Rattle.i_shape.specs.ShapeAnswers.{ListClean, ListKept};
 
-use i_shape_int::flat::buffer::FlatShapesBuffer;
-use i_shape_int::int::despike::DeSpike;
-use i_shape_int::int::shape::{IntShape, IntShapes};
-use i_shape_int::int::simple::SimpleShapes;
-use i_shape_int::{IntNumber, ShapeError};
+use i_shape::flat::buffer::FlatShapesBuffer;
+use i_shape::int::despike::DeSpike;
+use i_shape::int::shape::{IntShape, IntShapes};
+use i_shape::int::simple::SimpleShapes;
+use i_shape::{IntNumber, ShapeError};
 use std::alloc::Global;
 
 /// The shapes without zero turns, as they are read back from a flat buffer that was filled with them. Shapes whose first

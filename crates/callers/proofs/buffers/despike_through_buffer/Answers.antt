@@ -1,9 +1,9 @@
 use Rattle.std.proofs.Common.{rules, sym, subst}
-use Rattle.i_shape_int.specs.Cleaners.{DespikeAnswer}
-use Rattle.i_shape_int.specs.ShapeLists.{shapes_of, IsSafeList}
-use Rattle.i_shape_int.specs.ShapeAnswers.{ListClean, ListKept}
+use Rattle.i_shape.specs.Cleaners.{DespikeAnswer}
+use Rattle.i_shape.specs.ShapeLists.{shapes_of, IsSafeList}
+use Rattle.i_shape.specs.ShapeAnswers.{ListClean, ListKept}
 use Rattle.i_shape_int.proofs.CallerLemmas.{same_shapes}
-use Rattle.i_shape_tool.proofs.buffers.despike_through_buffer.Goals as goal
+use Rattle.callers.proofs.buffers.despike_through_buffer.Goals as goal
 
 pub remove_spikes-requires : goal.remove_spikes-requires
 remove_spikes-requires g c =
