@@ -1,9 +1,12 @@
 #!/bin/sh
-# The gate: the tests of wrong.py and of pages.py; proofs, tests and named wrong bodies by rt ci; the C library; the Python package, over the C library; the
-# other wrong bodies; the refusals; texts in parts and the pictures, by the program that rt ci has built; what the pages show. Each part ends in a line '.. N passed, M failed', and
-# ', K skipped' behind it where tests are skipped; the last line adds them up.
+# The gate. Each part ends in a line '.. N passed, M failed', and ', K skipped' behind it where tests are skipped; the last line adds them up. docs/GATE.md
+# says what each part shows. The wrong bodies are tried in a copy while rt ci runs, and what is proved there to try them is kept: the C library is built
+# from it afterwards.
 log=$(mktemp)
-trap 'rm -f "$log" "$log.bad"' EXIT
+copy=$(mktemp -d)
+beside=
+trap 'kill -- ${beside:+-$beside} 2> /dev/null; rm -rf "$log" "$log".* "$copy"' EXIT
+trap 'exit 1' HUP INT TERM
 passed=0
 failed=0
 skipped=0
@@ -30,13 +33,23 @@ COUNTS
     skipped=$((skipped + its_skipped))
 }
 
+# Tells what was said of the wrong bodies, and ends with their status.
+tell_wrong_bodies() {
+    cat "$log.wrong"
+    return "$status"
+}
+
 part python3 .ci/test_wrong.py
 part python3 .ci/test_pages.py
+setsid ./.ci/wrong_bodies.sh "$copy" > "$log.wrong" 2>&1 < /dev/null &
+beside=$!
 part rt ci
-# What the C library is built from is proved and kept, and the wrong bodies are tried over it.
+wait "$beside"
+status=$?
+beside=
+part tell_wrong_bodies
 part ./.ci/c_library.sh
 part ./.ci/python_package.sh
-part python3 .ci/wrong.py --gate
 part ./.ci/refusals.sh
 part ./.ci/scaling.sh
 part ./.ci/pictures.sh

@@ -1,7 +1,7 @@
 #!/usr/bin/env python3
 """Tries the wrong bodies in crates/NAME/wrong/: the prover must refuse each at the function that it turns.
 
-usage: .ci/wrong.py [--gate] [--only WORD..]
+usage: .ci/wrong.py [--lanes N] [--only WORD..]
 
 An edit is a file crates/NAME/wrong/WHAT_IT_DOES.edit: a line 'file: src/..', a line 'refused: module::Type::function' with
 the function whose fault it must be, and pairs of lines 'old: TEXT' and 'new: TEXT'. Each old text stands in its file once.
@@ -10,8 +10,10 @@ Edits are put into a copy of their crate, at most one for each function, and che
 kept. An edit passes where the prover does not prove its own function; a fault of a function that it calls, or a text that
 cannot be read, is not enough. Rounds go on until each edit is judged. The last line is 'wrong bodies: N passed, M failed'.
 
---gate         takes the libraries below a crate as the gate's earlier parts left them; otherwise what changed is proved first
+--lanes N      tries the edits of as many crates at once; as many as there are processors where it isn't given
 --only WORD..  tries the edits of these crates, and those whose names contain one of these words
+
+The libraries below a crate are proved first, where they aren't.
 """
 import argparse
 import glob
@@ -237,13 +239,10 @@ def edits_by_crate(root, words):
     return found
 
 
-def has_libraries(crates, is_gate):
-    """Proves the libraries below these crates where they are not, and returns whether all are. Those that 'rt ci' left have no stamp."""
-    for library in dict.fromkeys(it for crate in crates for it in crate.below()):
-        is_left = is_gate and os.path.isdir(library.rlib) and not os.path.isfile(f"{library.folder}/out/rlib/stamp")
-        if not is_left and library.build_rlib(["--jobs", str(processors())], anew=False):
-            return False
-    return True
+def has_libraries(crates):
+    """Proves the libraries below these crates where they are not, and returns whether all are."""
+    libraries = dict.fromkeys(it for crate in crates for it in crate.below())
+    return all(it.build_rlib(["--jobs", str(processors())], anew=False) == 0 for it in libraries)
 
 
 def processors():
@@ -257,7 +256,7 @@ def try_crate(crate, edits):
 
 def main():
     parser = argparse.ArgumentParser(description=__doc__, formatter_class=argparse.RawDescriptionHelpFormatter)
-    parser.add_argument("--gate", action="store_true")
+    parser.add_argument("--lanes", type=int, default=processors(), metavar="N")
     parser.add_argument("--only", nargs="+", default=[], metavar="WORD")
     asked = parser.parse_args()
     root = os.path.dirname(os.path.dirname(os.path.realpath(__file__)))
@@ -275,8 +274,8 @@ def main():
     # its first call sets a signal's handler, which only the main thread may
     KIT.guarded()
     passed = 0
-    if has_libraries(crates, asked.gate):
-        with ThreadPoolExecutor(processors()) as pool:
+    if has_libraries(crates):
+        with ThreadPoolExecutor(asked.lanes) as pool:
             passed = sum(it.passed for it in pool.map(lambda it: try_crate(it, edits[it.name]), crates))
     # an edit that was not judged counts as failed
     failed = len(chosen) - passed
