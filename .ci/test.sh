@@ -41,7 +41,7 @@ tell_wrong_bodies() {
 
 part python3 .ci/test_wrong.py
 part python3 .ci/test_pages.py
-setsid ./.ci/wrong_bodies.sh "$copy" > "$log.wrong" 2>&1 < /dev/null &
+setsid nice ./.ci/wrong_bodies.sh "$copy" > "$log.wrong" 2>&1 < /dev/null &
 beside=$!
 part rt ci
 wait "$beside"
