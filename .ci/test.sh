@@ -2,10 +2,10 @@
 # The gate. Each part ends in a line '.. N passed, M failed', and ', K skipped' behind it where tests are skipped; the last line adds them up. docs/GATE.md
 # says what each part shows. The wrong bodies are tried in a copy while rt ci runs, and what is proved there to try them is kept: the C library is built
 # from it afterwards.
-log=$(mktemp)
-copy=$(mktemp -d)
+work=$(mktemp -d) || exit 1
+log=$work/log
 beside=
-trap 'kill -- ${beside:+-$beside} 2> /dev/null; rm -rf "$log" "$log".* "$copy"' EXIT
+trap 'kill -- "-$beside" 2> /dev/null; wait; rm -rf "$work"' EXIT
 trap 'exit 1' HUP INT TERM
 passed=0
 failed=0
@@ -34,20 +34,20 @@ COUNTS
 }
 
 # Tells what was said of the wrong bodies, and ends with their status.
-tell_wrong_bodies() {
-    cat "$log.wrong"
+wrong_bodies() {
+    cat "$work/wrong"
     return "$status"
 }
 
 part python3 .ci/test_wrong.py
 part python3 .ci/test_pages.py
-setsid nice ./.ci/wrong_bodies.sh "$copy" > "$log.wrong" 2>&1 < /dev/null &
+TMPDIR=$work python3 .ci/wrong_bodies.py "$work/copy" > "$work/wrong" 2>&1 < /dev/null &
 beside=$!
 part rt ci
 wait "$beside"
 status=$?
-beside=
-part tell_wrong_bodies
+kill -- "-$beside" 2> /dev/null
+part wrong_bodies
 part ./.ci/c_library.sh
 part ./.ci/python_package.sh
 part ./.ci/refusals.sh

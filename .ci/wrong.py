@@ -269,6 +269,8 @@ def main():
     parser.add_argument("--lanes", type=int, default=processors(), metavar="N")
     parser.add_argument("--only", nargs="+", default=[], metavar="WORD")
     asked = parser.parse_args()
+    if asked.lanes < 1:
+        parser.error("--lanes is a number from 1 on")
     root = os.path.dirname(os.path.dirname(os.path.realpath(__file__)))
     os.chdir(root)
     listed = {it.name: it for it in KIT.crates_below(root)}
