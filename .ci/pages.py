@@ -27,9 +27,10 @@ TOP = os.path.dirname(os.path.dirname(os.path.abspath(__file__)))
 PAGES = ["README.md", "CHANGELOG.md", "docs/*.md", "examples/*/README.md"]
 RUST = ["crates/*/src/**/*.rt", "bindings/rust/**/*.rs", "examples/**/*.rs", "bench/**/*.rs"]
 C = ["bindings/c/*.c", "bindings/c/*.h", "examples/**/*.c", "bench/**/*.c", "include/*.h"]
-# Whether what the four libraries have kept of their proofs is newer than they are.
+# Whether what the four libraries have kept of their proofs, or the C library that was built from it, is newer than they are.
 PROVED = """rt version && test -d crates/i_shape/out/rlib && test -z "$(find crates/i_shape_core crates/i_shape_source crates/i_shape_int crates/i_shape \\
-    -name out -prune -o \\( -name '*.rt' -o -name '*.antt' \\) -newer crates/i_shape/out/rlib/stamp -print -quit)\""""
+    -name out -prune -o \\( -name '*.rt' -o -name '*.antt' \\) \\
+    -newer "$(ls -t crates/i_shape/out/rlib/stamp crates/i_shape_c/out/libi_shape_c.a 2> /dev/null | head -n 1)" -print -quit)\""""
 NEEDED = {
     "proof": PROVED,
     "program": "test -x crates/i_shape_tool_main/out/i_shape_tool_main",
