@@ -5,7 +5,7 @@
 work=$(mktemp -d) || exit 1
 log=$work/log
 beside=
-trap 'kill -- "-$beside" 2> /dev/null; wait; rm -rf "$work"' EXIT
+trap 'end_beside; wait; rm -rf "$work"' EXIT
 trap 'exit 1' HUP INT TERM
 passed=0
 failed=0
@@ -33,6 +33,12 @@ COUNTS
     skipped=$((skipped + its_skipped))
 }
 
+# Ends what is left of the processes that try the wrong bodies.
+end_beside() {
+    [ -z "$beside" ] || kill -- "-$beside" 2> /dev/null
+    beside=
+}
+
 # Tells what was said of the wrong bodies, and ends with their status.
 wrong_bodies() {
     cat "$work/wrong"
@@ -46,7 +52,7 @@ beside=$!
 part rt ci
 wait "$beside"
 status=$?
-kill -- "-$beside" 2> /dev/null
+end_beside
 part wrong_bodies
 part ./.ci/c_library.sh
 part ./.ci/python_package.sh

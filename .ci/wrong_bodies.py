@@ -15,14 +15,14 @@ import sys
 TOP = os.path.dirname(os.path.dirname(os.path.realpath(__file__)))
 
 
-def is_built(folder, names):
-    """Returns those of the names in a folder that a copy leaves out: what is built of a crate."""
-    return {"out", "__pycache__"} & set(names) if os.path.dirname(folder) == f"{TOP}/crates" else set()
+def left_out(folder, names):
+    """Returns the names in a folder that the copy leaves out: what is built of a crate."""
+    return ["out"] if os.path.dirname(folder) == f"{TOP}/crates" else []
 
 
 def lay_copy(copy):
     for part in (".ci", "crates"):
-        shutil.copytree(f"{TOP}/{part}", f"{copy}/{part}", ignore=is_built)
+        shutil.copytree(f"{TOP}/{part}", f"{copy}/{part}", ignore=left_out)
     for name in ("crates.txt", "HANDLES"):
         shutil.copy(f"{TOP}/{name}", copy)
 
