@@ -1,8 +1,10 @@
 #!/usr/bin/env python3
-"""Tests wrong.py on a small repository: a wrong body passes where its own function is refused, and nothing else passes.
+"""Tests wrong.py on a small repository: a wrong body passes where its own function is refused, and nothing else passes. What passed is noted, and
+passes without a check until something changes that it was judged by.
 
 The last line is 'tests of wrong.py: N passed, M failed'.
 """
+import importlib.util
 import os
 import shutil
 import subprocess
@@ -132,8 +134,53 @@ def lay(root):
 
 def run(root, *words):
     """Runs wrong.py with these words, and returns its status and what it said."""
-    ran = subprocess.run([sys.executable, f"{root}/.ci/wrong.py", *words], stdout=subprocess.PIPE, stderr=subprocess.STDOUT, text=True)
+    where = {**os.environ, "XDG_CACHE_HOME": f"{root}/cache"}
+    ran = subprocess.run([sys.executable, f"{root}/.ci/wrong.py", *words], stdout=subprocess.PIPE, stderr=subprocess.STDOUT, text=True, env=where)
     return ran.returncode, ran.stdout
+
+
+def rows_of_notes(root):
+    """Returns what is asked of a run after another: which edits it tries again."""
+    edits = ("stands_still", "turns_nothing_in_a_file")
+    again, anew = run(root, "--only", *edits), run(root, "--anew", "--only", edits[0])
+    is_told = lambda ran, line: f"wrong steps/{line}" in ran[1].splitlines()
+    return [
+        ("an edit that passed passes without a check", is_told(again, "stands_still: refused at stepped by an earlier run")),
+        ("an edit that failed is tried again", is_told(again, "turns_nothing_in_a_file: NOT REFUSED at stepped_four_times") and again[0] == 1),
+        ("an edit that passed is tried anew", is_told(anew, "stands_still: refused at stepped") and anew[0] == 0),
+    ]
+
+
+# what a note stands on: a file, and whether it is read for the edit of steps
+JUDGES = [
+    ("crates/steps/wrong/stands_still.edit", True),
+    ("crates/steps/src/lib.rt", True),
+    ("crates/steps/proofs/stepped_four_times/Answers.antt", True),
+    ("crates/doubles/src/lib.rt", True),
+    (".ci/wrong.py", True),
+    ("crates/steps/wrong/takes_two_steps.edit", False),
+    ("crates/unlisted/src/lib.rt", False),
+]
+
+
+def rows_of_judges(root):
+    """Returns what is asked of the note of an edit: that it is another one once a file has changed that the edit is judged by."""
+    write(f"{root}/crates.txt", "doubles:\nsteps: doubles\n")
+    told = importlib.util.spec_from_file_location("wrong", f"{root}/.ci/wrong.py")
+    wrong = importlib.util.module_from_spec(told)
+    told.loader.exec_module(wrong)
+
+    def note():
+        crate = next(it for it in wrong.KIT.crates_below(root) if it.name == "steps")
+        return wrong.Notes(crate).place(wrong.Edit(f"{root}/crates/steps/wrong/stands_still.edit"))
+
+    rows = []
+    for file, is_judge in JUDGES:
+        before = note()
+        with open(f"{root}/{file}", "a", encoding="utf-8") as text:
+            text.write("\n")
+        rows.append((f"a note {'stands' if is_judge else 'does not stand'} on {file}", (note() != before) == is_judge))
+    return rows
 
 
 def main():
@@ -142,6 +189,7 @@ def main():
         status, said = run(root)
         rows = [("the status of a run", status == 1)]
         rows += [(f"a word that names nothing: {word}", run(root, "--only", word)[0] == 2) for word in ("tripled", "adds_two")]
+        rows += rows_of_notes(root) + rows_of_judges(root)
     told = [(f"{crate}/{name}", what) for crate, _, edits in CRATES for name, _, _, _, what in edits]
     passing = sum(what.startswith("refused") for _, what in told)
     wanted = [(name, f"wrong {name}: {what}") for name, what in told]

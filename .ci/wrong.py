@@ -1,7 +1,7 @@
 #!/usr/bin/env python3
 """Tries the wrong bodies in crates/NAME/wrong/: the prover must refuse each at the function that it turns.
 
-usage: .ci/wrong.py [--lanes N] [--only WORD..]
+usage: .ci/wrong.py [--lanes N] [--anew] [--only WORD..]
 
 An edit is a file crates/NAME/wrong/WHAT_IT_DOES.edit: a line 'file: src/..', a line 'refused: module::Type::function' with
 the function whose fault it must be, and pairs of lines 'old: TEXT' and 'new: TEXT'. Each old text stands in its file once.
@@ -10,13 +10,18 @@ Edits are put into a copy of their crate, at most one for each function, and che
 kept. An edit passes where the prover does not prove its own function; a fault of a function that it calls, or a text that
 cannot be read, is not enough. Rounds go on until each edit is judged. The last line is 'wrong bodies: N passed, M failed'.
 
+An edit that passed is noted on this machine, by a sum of all that it was judged by: the kit, this script, the edit, and the
+texts of its crate and of those below. While none of these changes, it passes again without a check.
+
 --lanes N      tries the edits of as many crates at once; as many as there are processors where it isn't given
+--anew         tries the edits that are noted too
 --only WORD..  tries the edits of these crates, and those whose names contain one of these words
 
 The libraries below a crate are proved first, where they aren't.
 """
 import argparse
 import glob
+import hashlib
 import os
 import re
 import shutil
@@ -39,6 +44,9 @@ def load_kit():
 
 KIT = load_kit()
 
+# the folder of this machine's user in which the wrong bodies that passed are noted
+NOTES = os.path.join(os.environ.get("XDG_CACHE_HOME") or os.path.expanduser("~/.cache"), "raspochre", "wrong_bodies")
+
 # what an error says of a name that is no longer there, or of a proof that rests on one that was refused
 GONE = r"has no field|is not in scope|has no `|was not admitted"
 
@@ -52,7 +60,7 @@ class Edit:
     """A wrong body, as its file tells it."""
 
     def __init__(self, file):
-        self.crate, self.name = file.split("/")[-3], os.path.basename(file).removesuffix(".edit")
+        self.file, self.crate, self.name = file, file.split("/")[-3], os.path.basename(file).removesuffix(".edit")
         self.function, self.pairs = None, []
         # the functions beside whose edits it is not tried, and whether it is tried beside none
         self.apart_from, self.is_alone = set(), False
@@ -157,44 +165,79 @@ def tell(edit, what):
     print(f"wrong {edit.crate}/{edit.name}: {what}", flush=True)
 
 
+class Notes:
+    """The wrong bodies of one crate that passed on this machine: an empty file for each, named for the sum of all that it was judged by."""
+
+    def __init__(self, crate):
+        self.crate, self.texts = crate, crate.stamp()
+        kit = os.stat(KIT.RATTLE)
+        self.judges = KIT.RATTLE, kit.st_size, kit.st_mtime_ns, read(os.path.realpath(__file__))
+
+    def place(self, edit):
+        told = self.judges, self.texts, edit.name, read(edit.file)
+        return f"{NOTES}/{hashlib.sha256(repr(told).encode()).hexdigest()}"
+
+    def has(self, edit):
+        return os.path.isfile(self.place(edit))
+
+    def add(self, edits):
+        """Notes that these passed, unless a text has changed since the run began, or there is no room for a note."""
+        if self.texts != self.crate.stamp():
+            return
+        try:
+            os.makedirs(NOTES, exist_ok=True)
+            for edit in edits:
+                open(self.place(edit), "w", encoding="utf-8").close()
+        except OSError:
+            pass
+
+
 class Trial:
     """The wrong bodies of one crate, tried in rounds on one copy of it."""
 
-    def __init__(self, crate, edits, room):
-        self.crate, self.left, self.room, self.kept = crate, edits, room, f"{room}/kept"
-        self.passed = 0
+    def __init__(self, crate, edits):
+        self.crate, self.left, self.notes, self.passed = crate, edits, Notes(crate), []
 
-    def run(self):
+    def sort_out(self, is_anew):
+        """Judges the edits that need no check: those that can't be tried, and those that are noted, unless all are tried anew."""
         for edit in list(self.left):
             if fault := edit.fault(self.crate.folder):
                 self.judge(edit, f"BAD EDIT: {fault}")
+            elif not is_anew and self.notes.has(edit):
+                self.judge(edit, None, f"refused at {edit.function} by an earlier run")
             elif not edit.stays_inside(self.crate.folder):
                 edit.is_alone = True
-        while self.left:
-            taken = self.lay_round()
-            found = self.check(taken)
-            for edit in taken:
-                self.look_at(edit, found, len(taken) == 1)
         return self
+
+    def run(self):
+        with tempfile.TemporaryDirectory(prefix="wrong-") as room:
+            while self.left:
+                taken = self.lay_round(room)
+                found = self.check(taken, room)
+                known = len(self.passed)
+                for edit in taken:
+                    self.look_at(edit, found, len(taken) == 1)
+                self.notes.add(self.passed[known:])
 
     def judge(self, edit, why_not, told=""):
         self.left.remove(edit)
-        self.passed += not why_not
+        if not why_not:
+            self.passed.append(edit)
         tell(edit, why_not or told)
 
-    def lay_round(self):
+    def lay_round(self, room):
         """Lays a copy of the crate with as many of the edits that are left as can be tried beside one another, and returns those."""
         for part in KIT.PARTS:
-            self.lay(part, f"{self.room}/{part}")
+            self.lay(part, f"{room}/{part}")
         # a round keeps what it checked of the wrong bodies, and the right ones would be proved once more beside the next
-        self.lay("out/incremental", self.kept)
+        self.lay("out/incremental", f"{room}/kept")
         taken = []
         for edit in self.left:
-            texts, _ = edit.edited(self.room)
+            texts, _ = edit.edited(room)
             if texts and all(self.can_stand_beside(edit, other) for other in taken):
                 taken.append(edit)
                 for path, text in texts.items():
-                    with open(f"{self.room}/{path}", "w", encoding="utf-8") as out:
+                    with open(f"{room}/{path}", "w", encoding="utf-8") as out:
                         out.write(text)
         return taken
 
@@ -208,12 +251,12 @@ class Trial:
         is_apart = edit.function in other.apart_from or other.function in edit.apart_from
         return not is_apart and edit.function != other.function and not edit.is_alone and not other.is_alone
 
-    def check(self, taken):
-        words = [KIT.RATTLE, "check", *self.crate.words(["--jobs", "1"], keeps=False), "--incremental", self.kept]
+    def check(self, taken, room):
+        words = [KIT.RATTLE, "check", *self.crate.words(["--jobs", "1"], keeps=False), "--incremental", f"{room}/kept"]
         for edit in taken:
             words += ["--only", edit.function]
         how = {"stdin": subprocess.DEVNULL, "stdout": subprocess.PIPE, "stderr": subprocess.STDOUT, "errors": "replace"}
-        return Found(self.crate.name, subprocess.run([*KIT.guarded(), *words], cwd=self.room, **how).stdout)
+        return Found(self.crate.name, subprocess.run([*KIT.guarded(), *words], cwd=room, **how).stdout)
 
     def look_at(self, edit, found, was_alone):
         """Judges the edit by what a check found. Where that may be another edit's doing, it is left for a later round."""
@@ -259,14 +302,10 @@ def processors():
     return len(os.sched_getaffinity(0))
 
 
-def try_crate(crate, edits):
-    with tempfile.TemporaryDirectory(prefix="wrong-") as room:
-        return Trial(crate, edits, room).run()
-
-
 def main():
     parser = argparse.ArgumentParser(description=__doc__, formatter_class=argparse.RawDescriptionHelpFormatter)
     parser.add_argument("--lanes", type=int, default=processors(), metavar="N")
+    parser.add_argument("--anew", action="store_true")
     parser.add_argument("--only", nargs="+", default=[], metavar="WORD")
     asked = parser.parse_args()
     if asked.lanes < 1:
@@ -282,15 +321,19 @@ def main():
     for edit in chosen:
         if edit.crate not in listed:
             tell(edit, "BAD EDIT: crates.txt does not list its crate")
-    crates = sorted((listed[it] for it in edits if it in listed), key=lambda it: -len(edits[it.name]))
+    trials = [Trial(listed[it], edits[it]).sort_out(asked.anew) for it in edits if it in listed]
+    noted = sum(len(it.passed) for it in trials)
+    open_ones = sorted((it for it in trials if it.left), key=lambda it: -len(it.left))
     # its first call sets a signal's handler, which only the main thread may
     KIT.guarded()
-    passed = 0
-    if has_libraries(crates):
+    if has_libraries([it.crate for it in open_ones]):
         with ThreadPoolExecutor(asked.lanes) as pool:
-            passed = sum(it.passed for it in pool.map(lambda it: try_crate(it, edits[it.name]), crates))
+            list(pool.map(Trial.run, open_ones))
+    passed = sum(len(it.passed) for it in trials)
     # an edit that was not judged counts as failed
     failed = len(chosen) - passed
+    if noted:
+        print(f"{noted} of them passed in earlier runs on this machine, and nothing that they were judged by has changed")
     print(f"wrong bodies: {passed} passed, {failed} failed")
     return 1 if failed else 0
 
