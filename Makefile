@@ -2,7 +2,7 @@ PREFIX ?= /usr/local
 
 .PHONY: test check fmt c wheel pictures install install-program install-c clean
 
-# The whole gate: proves everything, runs all tests, and checks that wrong bodies are refused and refused memory is told.
+# The whole gate: proves everything, runs all tests, and checks that wrong bodies are refused and refused memory is told. docs/GATE.md says more.
 test:
 	@sh .ci/test.sh
 

@@ -10,6 +10,7 @@ import shutil
 import subprocess
 import sys
 import tempfile
+import time
 
 DOUBLES = """#![tactic(auto)]
 
@@ -134,24 +135,59 @@ def lay(root):
 
 def run(root, *words):
     """Runs wrong.py with these words, and returns its status and what it said."""
-    where = {**os.environ, "XDG_CACHE_HOME": f"{root}/cache"}
-    ran = subprocess.run([sys.executable, f"{root}/.ci/wrong.py", *words], stdout=subprocess.PIPE, stderr=subprocess.STDOUT, text=True, env=where)
+    environment = {**os.environ, "XDG_CACHE_HOME": f"{root}/cache"}
+    ran = subprocess.run([sys.executable, f"{root}/.ci/wrong.py", *words], stdout=subprocess.PIPE, stderr=subprocess.STDOUT, text=True, env=environment)
     return ran.returncode, ran.stdout
 
 
-def rows_of_notes(root):
-    """Returns what is asked of a run after another: which edits it tries again."""
-    edits = ("stands_still", "turns_nothing_in_a_file")
-    again, anew = run(root, "--only", *edits), run(root, "--anew", "--only", edits[0])
-    is_told = lambda ran, line: f"wrong steps/{line}" in ran[1].splitlines()
+def load(root):
+    """Returns the script wrong.py of the small repository as a module, which keeps its notes there."""
+    os.environ["XDG_CACHE_HOME"] = f"{root}/cache"
+    told = importlib.util.spec_from_file_location("wrong", f"{root}/.ci/wrong.py")
+    wrong = importlib.util.module_from_spec(told)
+    told.loader.exec_module(wrong)
+    return wrong
+
+
+def notes_and_edit(wrong, root, name):
+    """Returns the notes of the crate steps, and this edit of it, as they stand now."""
+    # (the kit reads crates.txt once)
+    wrong.KIT.listed.cache_clear()
+    crate = next(it for it in wrong.KIT.crates_below(root) if it.name == "steps")
+    return wrong.Notes(crate), wrong.Edit(f"{root}/crates/steps/wrong/{name}.edit")
+
+
+def is_noted(wrong, root, name="stands_still"):
+    notes, edit = notes_and_edit(wrong, root, name)
+    return notes.has(edit)
+
+
+def rows_of_runs(root, wrong, passing):
+    """Returns what is asked of a run after another: which edits it tries again, and what it tells of the others."""
+    noted = len(os.listdir(f"{root}/cache/raspochre/wrong_bodies"))
+    both = ("--only", "stands_still", "turns_nothing_in_a_file")
+    again = run(root, *both)
+    notes, edit = notes_and_edit(wrong, root, both[2])
+    notes.add([edit])
+    anew = run(root, "--anew", *both)
+
+    def tells(ran, line):
+        return line in ran[1].splitlines()
+
     return [
-        ("an edit that passed passes without a check", is_told(again, "stands_still: refused at stepped by an earlier run")),
-        ("an edit that failed is tried again", is_told(again, "turns_nothing_in_a_file: NOT REFUSED at stepped_four_times") and again[0] == 1),
-        ("an edit that passed is tried anew", is_told(anew, "stands_still: refused at stepped") and anew[0] == 0),
+        ("each edit that passed is noted", noted == passing),
+        ("an edit that passed passes without a check", tells(again, "wrong steps/stands_still: refused at stepped by an earlier run")),
+        ("an edit that failed is tried again", tells(again, "wrong steps/turns_nothing_in_a_file: NOT REFUSED at stepped_four_times") and again[0] == 1),
+        ("those that are noted count", again[1].splitlines()[-1] == "wrong bodies: 1 passed, 1 failed"),
+        ("those that are noted are told of", "\n1 wrong bodies passed in earlier runs" in again[1]),
+        ("an edit that passed is tried anew", tells(anew, "wrong steps/stands_still: refused at stepped")),
+        ("a false note doesn't save an edit that is tried anew", tells(anew, "wrong steps/turns_nothing_in_a_file: NOT REFUSED at stepped_four_times")),
+        ("an edit that fails loses its note", not is_noted(wrong, root, both[2])),
+        ("one that passes keeps its note", is_noted(wrong, root)),
     ]
 
 
-# what a note stands on: a file, and whether it is read for the edit of steps
+# a file, and whether the edit stands_still is judged by it
 JUDGES = [
     ("crates/steps/wrong/stands_still.edit", True),
     ("crates/steps/src/lib.rt", True),
@@ -163,35 +199,75 @@ JUDGES = [
 ]
 
 
-def rows_of_judges(root):
-    """Returns what is asked of the note of an edit: that it is another one once a file has changed that the edit is judged by."""
+def append_line(file):
+    with open(file, "a", encoding="utf-8") as text:
+        text.write("\n")
+
+
+def note_now(wrong, root):
+    notes, edit = notes_and_edit(wrong, root, "stands_still")
+    notes.add([edit])
+
+
+def rows_of_judges(root, wrong):
+    """Returns what is asked of a note: that it serves until something changes that the edit is judged by. It leaves the repository changed."""
     write(f"{root}/crates.txt", "doubles:\nsteps: doubles\n")
-    told = importlib.util.spec_from_file_location("wrong", f"{root}/.ci/wrong.py")
-    wrong = importlib.util.module_from_spec(told)
-    told.loader.exec_module(wrong)
-
-    def note():
-        crate = next(it for it in wrong.KIT.crates_below(root) if it.name == "steps")
-        return wrong.Notes(crate).place(wrong.Edit(f"{root}/crates/steps/wrong/stands_still.edit"))
-
-    rows = []
+    rows = [("a note doesn't stand where crates.txt changed", not is_noted(wrong, root))]
     for file, is_judge in JUDGES:
-        before = note()
-        with open(f"{root}/{file}", "a", encoding="utf-8") as text:
-            text.write("\n")
-        rows.append((f"a note {'stands' if is_judge else 'does not stand'} on {file}", (note() != before) == is_judge))
+        note_now(wrong, root)
+        append_line(f"{root}/{file}")
+        rows.append((f"a note {'does not stand' if is_judge else 'stands'} where {file} changed", is_noted(wrong, root) != is_judge))
+    note_now(wrong, root)
+    folder = f"{root}/crates/steps/wrong"
+    shutil.copy(f"{folder}/stands_still.edit", f"{folder}/stands_so.edit")
+    rows.append(("a note doesn't stand for an edit of another name", not is_noted(wrong, root, "stands_so")))
+    with tempfile.TemporaryDirectory(prefix="wrong-test-") as other:
+        shutil.copytree(root, other, dirs_exist_ok=True)
+        rows.append(("a note stands in another clone", is_noted(wrong, other)))
+    checker, wrong.KIT.RATTLE = wrong.KIT.RATTLE, f"{root}/.ci/wrong.py"
+    rows.append(("a note doesn't stand for another checker", not is_noted(wrong, root)))
+    wrong.KIT.RATTLE = checker
     return rows
 
 
+def is_noticed(root, wrong, source):
+    """Whether no note is made where this file was changed and changed back since the run began."""
+    append_line(source)
+    before = wrong.read(source)
+    notes, edit = notes_and_edit(wrong, root, "stands_still")
+    # (a file's times are those of the system's last tick)
+    time.sleep(0.05)
+    write(source, before + "// changed\n")
+    write(source, before)
+    notes.add([edit])
+    return not is_noted(wrong, root)
+
+
+def rows_of_changes(root, wrong):
+    """Returns what is asked of a note that is made while something changes, or where it can't be: that none is."""
+    sources = (f"crates/{it}/src/lib.rt" for it in ("steps", "doubles"))
+    rows = [(f"no note is made where {it} was changed and changed back", is_noticed(root, wrong, f"{root}/{it}")) for it in sources]
+    notes, edit = notes_and_edit(wrong, root, "stands_still")
+    append_line(f"{root}/crates/steps/wrong/stands_still.edit")
+    notes.add([edit])
+    rows.append(("an edit is noted as it was read", not is_noted(wrong, root)))
+    wrong.NOTES = f"{root}/crates.txt/notes"
+    note_now(wrong, root)
+    rows.append(("where no note can be written there is none", not is_noted(wrong, root)))
+    os.environ["XDG_CACHE_HOME"] = "notes"
+    return [*rows, ("no note lies below a path that is not absolute", os.path.isabs(wrong.cache()))]
+
+
 def main():
+    told = [(f"{crate}/{name}", what) for crate, _, edits in CRATES for name, _, _, _, what in edits]
+    passing = sum(what.startswith("refused") for _, what in told)
     with tempfile.TemporaryDirectory(prefix="wrong-test-") as root:
         lay(root)
+        wrong = load(root)
         status, said = run(root)
         rows = [("the status of a run", status == 1)]
         rows += [(f"a word that names nothing: {word}", run(root, "--only", word)[0] == 2) for word in ("tripled", "adds_two")]
-        rows += rows_of_notes(root) + rows_of_judges(root)
-    told = [(f"{crate}/{name}", what) for crate, _, edits in CRATES for name, _, _, _, what in edits]
-    passing = sum(what.startswith("refused") for _, what in told)
+        rows += rows_of_runs(root, wrong, passing) + rows_of_judges(root, wrong) + rows_of_changes(root, wrong)
     wanted = [(name, f"wrong {name}: {what}") for name, what in told]
     wanted += [("the count", f"wrong bodies: {passing} passed, {len(told) - passing} failed")]
     rows += [(name, any(it.startswith(line) for it in said.splitlines())) for name, line in wanted]

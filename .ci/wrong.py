@@ -10,16 +10,18 @@ Edits are put into a copy of their crate, at most one for each function, and che
 kept. An edit passes where the prover does not prove its own function; a fault of a function that it calls, or a text that
 cannot be read, is not enough. Rounds go on until each edit is judged. The last line is 'wrong bodies: N passed, M failed'.
 
-An edit that passed is noted on this machine, by a sum of all that it was judged by: the kit, this script, the edit, and the
-texts of its crate and of those below. While none of these changes, it passes again without a check.
+An edit that passed is noted in ~/.cache/raspochre, or below $XDG_CACHE_HOME, by a sum of what it was judged by: the kit's
+checker, this script, the edit, its crate's line in crates.txt, and the code, contracts and proofs of its crate and of those
+below. While none of these changes, it passes again without a check, in any clone. One that fails loses its note.
 
 --lanes N      tries the edits of as many crates at once; as many as there are processors where it isn't given
 --anew         tries the edits that are noted too
 --only WORD..  tries the edits of these crates, and those whose names contain one of these words
 
-The libraries below a crate are proved first, where they aren't.
+The libraries below a crate whose edits are tried are proved first, where they aren't.
 """
 import argparse
+import contextlib
 import glob
 import hashlib
 import os
@@ -28,6 +30,7 @@ import shutil
 import subprocess
 import sys
 import tempfile
+import time
 from concurrent.futures import ThreadPoolExecutor
 
 sys.dont_write_bytecode = True
@@ -44,8 +47,16 @@ def load_kit():
 
 KIT = load_kit()
 
-# the folder of this machine's user in which the wrong bodies that passed are noted
-NOTES = os.path.join(os.environ.get("XDG_CACHE_HOME") or os.path.expanduser("~/.cache"), "raspochre", "wrong_bodies")
+
+def cache():
+    """Returns the folder in which the user's programs keep what they can make again."""
+    given = os.environ.get("XDG_CACHE_HOME", "")
+    return given if os.path.isabs(given) else os.path.expanduser("~/.cache")
+
+
+# where the wrong bodies that passed are noted, and the seconds after which a note goes that no run has used
+NOTES = f"{cache()}/raspochre/wrong_bodies"
+NOTE_LASTS = 60 * 24 * 60 * 60
 
 # what an error says of a name that is no longer there, or of a proof that rests on one that was refused
 GONE = r"has no field|is not in scope|has no `|was not admitted"
@@ -60,12 +71,12 @@ class Edit:
     """A wrong body, as its file tells it."""
 
     def __init__(self, file):
-        self.file, self.crate, self.name = file, file.split("/")[-3], os.path.basename(file).removesuffix(".edit")
-        self.function, self.pairs = None, []
+        self.crate, self.name = file.split("/")[-3], os.path.basename(file).removesuffix(".edit")
+        self.text, self.function, self.pairs = read(file), None, []
         # the functions beside whose edits it is not tried, and whether it is tried beside none
         self.apart_from, self.is_alone = set(), False
         path = old = None
-        lines = [line.partition(":") for line in read(file).splitlines() if line]
+        lines = [line.partition(":") for line in self.text.splitlines() if line]
         self.is_well_formed = bool(re.fullmatch("(file |refused |old new )+", "".join(f"{word} " for word, _, _ in lines)))
         for word, _, text in lines:
             if word == "file":
@@ -166,30 +177,50 @@ def tell(edit, what):
 
 
 class Notes:
-    """The wrong bodies of one crate that passed on this machine: an empty file for each, named for the sum of all that it was judged by."""
+    """The wrong bodies of one crate that passed on this machine: a file for each, named for the sum of all that it was judged by."""
 
     def __init__(self, crate):
-        self.crate, self.texts = crate, crate.stamp()
-        kit = os.stat(KIT.RATTLE)
-        self.judges = KIT.RATTLE, kit.st_size, kit.st_mtime_ns, read(os.path.realpath(__file__))
+        self.crate = crate
+        self.files, self.stamp = self.look(), crate.stamp()
+
+    def look(self):
+        """Returns what tells whether a file by which the crate's edits are judged was changed meanwhile, also where it was changed back."""
+        files = [KIT.RATTLE, *(file for crate in [self.crate, *self.crate.below()] for file in KIT.files_of(crate.folder))]
+        return [(it.st_ino, it.st_size, it.st_mtime_ns, it.st_ctime_ns) for it in map(os.lstat, files)]
 
     def place(self, edit):
-        told = self.judges, self.texts, edit.name, read(edit.file)
-        return f"{NOTES}/{hashlib.sha256(repr(told).encode()).hexdigest()}"
+        kit = os.stat(KIT.RATTLE)
+        judges = read(os.path.realpath(__file__)), read(KIT.__file__), kit.st_size, kit.st_mtime_ns, self.stamp
+        return f"{NOTES}/{hashlib.sha256(repr((judges, edit.name, edit.text)).encode()).hexdigest()}"
 
     def has(self, edit):
-        return os.path.isfile(self.place(edit))
+        try:
+            os.utime(self.place(edit))
+        except OSError:
+            return False
+        return True
 
     def add(self, edits):
-        """Notes that these passed, unless a text has changed since the run began, or there is no room for a note."""
-        if self.texts != self.crate.stamp():
-            return
-        try:
+        """Notes that these passed, unless a file has changed since the run began, or there is no room for a note."""
+        with contextlib.suppress(OSError):
+            if not edits or self.files != self.look():
+                return
             os.makedirs(NOTES, exist_ok=True)
             for edit in edits:
-                open(self.place(edit), "w", encoding="utf-8").close()
-        except OSError:
-            pass
+                with open(self.place(edit), "w", encoding="utf-8") as note:
+                    note.write(f"{edit.crate}/{edit.name}: refused at {edit.function}\n")
+
+    def drop(self, edit):
+        with contextlib.suppress(OSError):
+            os.remove(self.place(edit))
+
+
+def sweep_notes():
+    """Removes the notes that no run has used for long."""
+    with contextlib.suppress(OSError):
+        for note in os.scandir(NOTES):
+            if time.time() - note.stat().st_mtime > NOTE_LASTS:
+                os.remove(note.path)
 
 
 class Trial:
@@ -199,7 +230,8 @@ class Trial:
         self.crate, self.left, self.notes, self.passed = crate, edits, Notes(crate), []
 
     def sort_out(self, is_anew):
-        """Judges the edits that need no check: those that can't be tried, and those that are noted, unless all are tried anew."""
+        """Judges the edits that need no check, those that can't be tried and those that are noted, unless all are tried anew, and tells which of the
+        others are tried alone."""
         for edit in list(self.left):
             if fault := edit.fault(self.crate.folder):
                 self.judge(edit, f"BAD EDIT: {fault}")
@@ -221,7 +253,9 @@ class Trial:
 
     def judge(self, edit, why_not, told=""):
         self.left.remove(edit)
-        if not why_not:
+        if why_not:
+            self.notes.drop(edit)
+        else:
             self.passed.append(edit)
         tell(edit, why_not or told)
 
@@ -332,8 +366,9 @@ def main():
     passed = sum(len(it.passed) for it in trials)
     # an edit that was not judged counts as failed
     failed = len(chosen) - passed
+    sweep_notes()
     if noted:
-        print(f"{noted} of them passed in earlier runs on this machine, and nothing that they were judged by has changed")
+        print(f"{noted} wrong bodies passed in earlier runs on this machine, and nothing that they were judged by has changed")
     print(f"wrong bodies: {passed} passed, {failed} failed")
     return 1 if failed else 0
 
