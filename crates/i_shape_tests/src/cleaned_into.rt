@@ -472,11 +472,12 @@ macro_rules! rows {
     };
 }
 
-const ROWS_16: [Row<i16>; 15] = rows!();
+// (Statics, since a function that names constants of this size takes a minute to prove.)
+static ROWS_16: [Row<i16>; 15] = rows!();
 
-const ROWS_32: [Row<i32>; 15] = rows!();
+static ROWS_32: [Row<i32>; 15] = rows!();
 
-const ROWS_64: [Row<i64>; 15] = rows!();
+static ROWS_64: [Row<i64>; 15] = rows!();
 
 /// Each row is written by these cleaners, one after another.
 fn rows_are_written<I: IntNumber>(
