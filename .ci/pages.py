@@ -27,8 +27,8 @@ TOP = os.path.dirname(os.path.dirname(os.path.abspath(__file__)))
 PAGES = ["README.md", "CHANGELOG.md", "docs/*.md", "examples/*/README.md"]
 RUST = ["crates/*/src/**/*.rt", "bindings/rust/**/*.rs", "examples/**/*.rs", "bench/**/*.rs"]
 C = ["bindings/c/*.c", "bindings/c/*.h", "examples/**/*.c", "bench/**/*.c", "include/*.h"]
-# Whether what the four libraries have kept of their proofs, or the C library that was built from it, is newer than they are.
-PROVED = """rt version && test -d crates/i_shape/out/rlib && test -z "$(find crates/i_shape_core crates/i_shape_source crates/i_shape_int crates/i_shape \\
+# Whether what the three libraries have kept of their proofs, or the C library that was built from it, is newer than they are.
+PROVED = """rt version && test -d crates/i_shape/out/rlib && test -z "$(find crates/i_shape_core crates/i_shape_source crates/i_shape \\
     -name out -prune -o \\( -name '*.rt' -o -name '*.antt' \\) \\
     -newer "$(ls -t crates/i_shape/out/rlib/stamp crates/i_shape_c/out/libi_shape_c.a 2> /dev/null | head -n 1)" -print -quit)\""""
 NEEDED = {
@@ -206,8 +206,8 @@ def fault_of_edits():
     page = read(f"{TOP}/docs/CONTRACTS.md")
     edits = {kind: {tuple(name.removesuffix(".edit").split("/")[-3::2]) for name in files([f"crates/*/{kind}/*.edit"])} for kind in ("must-fail", "wrong")}
     named = set()
-    for cell in re.findall(r"^\|[^|]*\| ((?:core|source|int|shape|tool|callers) `[^|]*) \|", page, re.MULTILINE):
-        for crate, names in re.findall(r"\b(core|source|int|shape|tool|callers) (`[^|]*?)(?=; \w+ `|, \w+ `|$)", cell):
+    for cell in re.findall(r"^\|[^|]*\| ((?:core|source|shape|tool|callers) `[^|]*) \|", page, re.MULTILINE):
+        for crate, names in re.findall(r"\b(core|source|shape|tool|callers) (`[^|]*?)(?=; \w+ `|, \w+ `|$)", cell):
             named |= {({"shape": "i_shape", "callers": "callers"}.get(crate, f"i_shape_{crate}"), name) for name in re.findall(r"`(\w+)`", names)}
     missing = [f"{crate}'s {name} isn't named" for crate, name in edits["must-fail"] - named]
     strange = [f"{crate} has no edit {name}" for crate, name in named - edits["must-fail"] - edits["wrong"]]

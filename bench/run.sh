@@ -27,7 +27,7 @@ kit=$(cd "$(dirname "$(readlink -f "$(command -v rt)")")/.." && pwd)
 mkdir -p "${BENCH_DIR:=${TMPDIR:-/tmp}/i_shape_bench}"
 work=$(cd "$BENCH_DIR" && pwd)
 rounds=$work/crates/bench_rounds
-libraries='i_shape_core i_shape_source i_shape_int i_shape'
+libraries='i_shape_core i_shape_source i_shape'
 
 # The crates, without what changed nothing: a file that is as it was keeps its time, so that nothing is proved twice.
 copy_crates() {
@@ -40,7 +40,7 @@ copy_crates() {
         (cd "$top/crates/$crate" && find . -mindepth 1 -maxdepth 1 ! -name out -exec cp -a {} "$work/crates/$crate/" \;)
     done
     { grep -E "^($(echo $libraries | tr ' ' '|'))( |:)" "$top/crates.txt"
-      echo 'bench_rounds staticlib: i_shape i_shape_int i_shape_core'; } > "$work/crates.txt"
+      echo 'bench_rounds staticlib: i_shape i_shape_core'; } > "$work/crates.txt"
     cp "$top/HANDLES" "$work/"
 }
 

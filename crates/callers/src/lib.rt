@@ -1,7 +1,6 @@
 //! Callers of the library, each proved from the contracts of its public calls alone.
 #![tactic(auto)]
 
-pub mod buffers;
 pub mod consumer;
 pub mod copies;
 pub mod corners;

@@ -76,7 +76,7 @@ pub fn simplify_buffer(buffer: &mut FlatContoursBuffer<i64>) -> Result<bool, Ref
 }
 
 /// Puts the contours of the shape into the buffer, and removes zero turns there.
-#[tactic(auto, using(i_shape_int::proofs::CallerLemmas::contours_held))]
+#[tactic(auto, using(i_shape::proofs::CallerLemmas::contours_held))]
 pub fn set_shape(
     buffer: &mut FlatContoursBuffer<i64>,
     shape: &[IntContour<i64>],

@@ -42,7 +42,7 @@ pub fn set_contour<I: IntNumber>(
 }
 
 /// Puts the contours of the shape into the buffer, and removes zero turns there.
-#[tactic(auto, using(i_shape_int::proofs::CallerLemmas::contours_held))]
+#[tactic(auto, using(i_shape::proofs::CallerLemmas::contours_held))]
 pub fn set_shape<I: IntNumber>(
     buffer: &mut FlatContoursBuffer<I>,
     shape: &[IntContour<I>],
@@ -57,7 +57,7 @@ pub fn set_shape<I: IntNumber>(
 }
 
 /// The same of a shape in a vector.
-#[tactic(auto, using(i_shape_int::proofs::CallerLemmas::contours_held))]
+#[tactic(auto, using(i_shape::proofs::CallerLemmas::contours_held))]
 pub fn set_shape_vector<I: IntNumber>(
     buffer: &mut FlatContoursBuffer<I>,
     shape: &IntShape<I>,
@@ -72,7 +72,7 @@ pub fn set_shape_vector<I: IntNumber>(
 }
 
 /// Puts the contours of the shapes into the buffer, and removes zero turns there.
-#[tactic(auto, using(i_shape_int::proofs::CallerLemmas::shapes_held))]
+#[tactic(auto, using(i_shape::proofs::CallerLemmas::shapes_held))]
 pub fn set_shapes<I: IntNumber>(
     buffer: &mut FlatContoursBuffer<I>,
     shapes: &[IntShape<I>],

@@ -60,7 +60,7 @@ pub fn cleaned_contains<I: IntNumber>(
 }
 
 /// Removes zero turns from a contour in place, and then spikes, of which none is left by then. It answers what the first call did.
-#[tactic(auto, using(i_shape_int::proofs::CallerLemmas::contour_cleaned, i_shape_int::proofs::CallerLemmas::contour_never_refused))]
+#[tactic(auto, using(i_shape::proofs::CallerLemmas::contour_cleaned, i_shape::proofs::CallerLemmas::contour_never_refused))]
 pub fn clean_contour<I: IntNumber>(contour: &mut IntContour<I>) -> Result<bool, Refusal>
     ensures range { IsErrOf result Refusal.OutOfRange ↔ (All (IsSafe I.width) (contour_of I.value contour.old.items) → ⊥) }
     ensures cleaned { OnOk result (Leaves SimpleAnswer (contour_of I.value contour.old.items) (contour_of I.value contour.new.items)) }
@@ -77,7 +77,7 @@ pub fn clean_contour<I: IntNumber>(contour: &mut IntContour<I>) -> Result<bool, 
 }
 
 /// Removes zero turns from a shape in place, and then spikes. The shape is empty where its first contour collapses.
-#[tactic(auto, using(i_shape_int::proofs::CallerLemmas::shape_cleaned, i_shape_int::proofs::CallerLemmas::shape_never_refused))]
+#[tactic(auto, using(i_shape::proofs::CallerLemmas::shape_cleaned, i_shape::proofs::CallerLemmas::shape_never_refused))]
 pub fn clean_shape<I: IntNumber>(shape: &mut IntShape<I>) -> Result<bool, Refusal>
     ensures range { IsErrOf result Refusal.OutOfRange ↔ (IsSafeShape I.width (shape_of I.value shape.old.items) → ⊥) }
     ensures cleaned { OnOk result (Leaves (ShapeClean SimpleAnswer) (shape_of I.value shape.old.items) (shape_of I.value shape.new.items)) }
@@ -93,7 +93,7 @@ pub fn clean_shape<I: IntNumber>(shape: &mut IntShape<I>) -> Result<bool, Refusa
 }
 
 /// Removes zero turns from each shape in place, and then spikes. The double area is kept where as many shapes are left.
-#[tactic(auto, using(i_shape_int::proofs::CallerLemmas::list_cleaned, i_shape_int::proofs::CallerLemmas::list_never_refused, i_shape_int::proofs::CallerLemmas::list_cleaned_area))]
+#[tactic(auto, using(i_shape::proofs::CallerLemmas::list_cleaned, i_shape::proofs::CallerLemmas::list_never_refused, i_shape::proofs::CallerLemmas::list_cleaned_area))]
 pub fn clean_list<I: IntNumber>(shapes: &mut IntShapes<I>) -> Result<bool, Refusal>
     ensures range { IsErrOf result Refusal.OutOfRange ↔ (IsSafeList I.width (shapes_of I.value shapes.old.items) → ⊥) }
     ensures kept { OnOk result (ListKept SimpleAnswer (shapes_of I.value shapes.old.items) (shapes_of I.value shapes.new.items)) }
@@ -109,7 +109,7 @@ pub fn clean_list<I: IntNumber>(shapes: &mut IntShapes<I>) -> Result<bool, Refus
 }
 
 /// The contours of a shape, cleaned inside a buffer and read back.
-#[tactic(auto, using(i_shape_int::proofs::CallerLemmas::contours_held))]
+#[tactic(auto, using(i_shape::proofs::CallerLemmas::contours_held))]
 pub fn cleaned_by_buffer<I: IntNumber>(
     buffer: &mut FlatContoursBuffer<I>,
     shape: &[IntContour<I>],
@@ -127,7 +127,7 @@ pub fn cleaned_by_buffer<I: IntNumber>(
 }
 
 /// Twice the area of a shape, told by its contours without zero turns, in a buffer.
-#[tactic(auto, using(i_shape_int::proofs::CallerLemmas::contours_held))]
+#[tactic(auto, using(i_shape::proofs::CallerLemmas::contours_held))]
 pub fn area_by_buffer<I: IntNumber>(
     buffer: &mut FlatContoursBuffer<I>,
     shape: &[IntContour<I>],

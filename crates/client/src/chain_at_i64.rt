@@ -53,7 +53,7 @@ pub fn cleaned_contains(
 }
 
 /// Removes zero turns from a contour in place, and then spikes, of which none is left by then. It answers what the first call did.
-#[tactic(auto, using(i_shape_int::proofs::CallerLemmas::contour_cleaned, i_shape_int::proofs::CallerLemmas::contour_never_refused))]
+#[tactic(auto, using(i_shape::proofs::CallerLemmas::contour_cleaned, i_shape::proofs::CallerLemmas::contour_never_refused))]
 pub fn clean_contour(contour: &mut IntContour<i64>) -> Result<bool, Refusal>
     ensures cleaned { OnOk result (Leaves SimpleAnswer (contour_of (λ z. z) contour.old.items) (contour_of (λ z. z) contour.new.items)) }
     ensures err { OnErr result (contour_of (λ z. z) contour.new.items ≡ contour_of (λ z. z) contour.old.items) }
@@ -79,7 +79,7 @@ pub fn clean_shape(shape: &mut IntShape<i64>) -> Result<bool, Refusal>
 }
 
 /// Removes zero turns from each shape in place, and then spikes. The double area is kept where as many shapes are left.
-#[tactic(auto, using(i_shape_int::proofs::CallerLemmas::list_cleaned, i_shape_int::proofs::CallerLemmas::list_never_refused, i_shape_int::proofs::CallerLemmas::list_cleaned_area))]
+#[tactic(auto, using(i_shape::proofs::CallerLemmas::list_cleaned, i_shape::proofs::CallerLemmas::list_never_refused, i_shape::proofs::CallerLemmas::list_cleaned_area))]
 pub fn clean_list(shapes: &mut IntShapes<i64>) -> Result<bool, Refusal>
     ensures kept { OnOk result (ListKept SimpleAnswer (shapes_of (λ z. z) shapes.old.items) (shapes_of (λ z. z) shapes.new.items)) }
     ensures err { OnErr result (shapes_of (λ z. z) shapes.new.items ≡ shapes_of (λ z. z) shapes.old.items) }
@@ -94,7 +94,7 @@ pub fn clean_list(shapes: &mut IntShapes<i64>) -> Result<bool, Refusal>
 }
 
 /// The contours of a shape, cleaned inside a buffer and read back.
-#[tactic(auto, using(i_shape_int::proofs::CallerLemmas::contours_held))]
+#[tactic(auto, using(i_shape::proofs::CallerLemmas::contours_held))]
 pub fn cleaned_by_buffer(
     buffer: &mut FlatContoursBuffer<i64>,
     shape: &[IntContour<i64>],

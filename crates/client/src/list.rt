@@ -60,7 +60,7 @@ pub fn despiked<I: IntNumber>(alloc: Global, shapes: &IntShapes<I>) -> Result<In
 }
 
 /// Removes zero turns in place. The double area is kept where as many shapes are left.
-#[tactic(auto, using(i_shape_int::proofs::CallerLemmas::simplified_list_area))]
+#[tactic(auto, using(i_shape::proofs::CallerLemmas::simplified_list_area))]
 pub fn simplify<I: IntNumber>(shapes: &mut IntShapes<I>) -> Result<bool, Refusal>
     ensures kept { OnOk result (ListKept SimpleAnswer (shapes_of I.value shapes.old.items) (shapes_of I.value shapes.new.items)) }
     ensures err { OnErr result (shapes_of I.value shapes.new.items ≡ shapes_of I.value shapes.old.items) }
@@ -73,7 +73,7 @@ pub fn simplify<I: IntNumber>(shapes: &mut IntShapes<I>) -> Result<bool, Refusal
 }
 
 /// Removes spikes in place. The double area is kept where as many shapes are left.
-#[tactic(auto, using(i_shape_int::proofs::CallerLemmas::despiked_list_area))]
+#[tactic(auto, using(i_shape::proofs::CallerLemmas::despiked_list_area))]
 pub fn despike<I: IntNumber>(shapes: &mut IntShapes<I>) -> Result<bool, Refusal>
     ensures kept { OnOk result (ListKept DespikeAnswer (shapes_of I.value shapes.old.items) (shapes_of I.value shapes.new.items)) }
     ensures err { OnErr result (shapes_of I.value shapes.new.items ≡ shapes_of I.value shapes.old.items) }

@@ -4,10 +4,10 @@ use Rattle.std.specs.declared.ops.Range.{Range}
 use Rattle.i_shape_core.specs.Point.{Point, cross}
 use Rattle.i_shape_core.specs.Edges.{shoelace, area_of_edge, is_right}
 use Rattle.i_shape_source.specs.Paths.{joined}
-use Rattle.i_shape_int.specs.Flat.{InOrder, part_of, slices, shapes, IsReadableShape, end_to_end}
-use Rattle.i_shape_int.specs.Buffers.{CanReadFirst, first_contour, range_len}
+use Rattle.i_shape.specs.Flat.{InOrder, part_of, slices, shapes, IsReadableShape, end_to_end}
+use Rattle.i_shape.specs.Buffers.{CanReadFirst, first_contour, range_len}
 use Rattle.i_shape.specs.FloatBuffers.{readable_slices, in_one_shape}
-use Rattle.i_shape_int.specs.ShapeAnswers.{ShapeClean, ListClean, shape_shoelace, shapes_shoelace, inside_count}
+use Rattle.i_shape.specs.ShapeAnswers.{ShapeClean, ListClean, shape_shoelace, shapes_shoelace, inside_count}
 
 abbrev from_to : ℕ → ℕ → Range ℕ
 from_to start end = record { start = start; end = end }

@@ -5,7 +5,7 @@ use Rattle.std.proofs.lemmas.List.Sorted.{sum_by-IsPermutation}
 use Rattle.i_shape_core.specs.Point.{Point}
 use Rattle.i_shape.specs.CanonicalShapes.{SortedForms, ShapeForm, ListForm, IsShapeAtMost}
 use Rattle.i_shape.specs.Paths.{joined}
-use Rattle.i_shape_int.proofs.Fewer.{survivors_fewer, shape_fewer, fewer_by_sums}
+use Rattle.i_shape.proofs.Fewer.{survivors_fewer, shape_fewer, fewer_by_sums}
 use Rattle.i_shape.proofs.ShapeForms.{form_cleans}
 
 -- where no answer has more of something than its member, the sorted answers have no more of it together

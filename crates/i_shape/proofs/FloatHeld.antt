@@ -5,11 +5,11 @@ use Rattle.std.specs.declared.ops.Range.{Range}
 use Rattle.std.proofs.lemmas.Bool.{le-leb}
 use Rattle.std.proofs.lemmas.List.Elements.{All-head, All-tail}
 use Rattle.i_shape_source.specs.Paths.{joined}
-use Rattle.i_shape_int.specs.Flat.{InOrder, slices, end_to_end}
+use Rattle.i_shape.specs.Flat.{InOrder, slices, end_to_end}
 use Rattle.i_shape.specs.FloatBuffers.{is_readable, LieEndToEnd, FormOneShape, in_one_shape}
 use Rattle.i_shape.specs.declared.flat.float.shapes.FloatFlatShapesBuffer.{FloatFlatShapesBuffer}
-use Rattle.i_shape_int.proofs.EndToEnd.{slices_joined, InOrder_joined}
-use Rattle.i_shape_int.proofs.ShapeRanges.{readable_joined, shapes-end_to_end}
+use Rattle.i_shape.proofs.EndToEnd.{slices_joined, InOrder_joined}
+use Rattle.i_shape.proofs.ShapeRanges.{readable_joined, shapes-end_to_end}
 
 -- where every range can be read none is passed over
 readable_all : (n : ℕ) (ranges : List (Range ℕ)) → All (InOrder n) ranges → filter (is_readable n) ranges ≡ ranges

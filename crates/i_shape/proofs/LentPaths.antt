@@ -3,7 +3,7 @@ use Rattle.std.proofs.Common.{◌≡◌, ◌∙◌, ◌++◌, ◌+◌, ◌≤◌
 use Rattle.std.specs.Iterator.{Yields}
 use Rattle.i_shape_source.specs.Paths.{LendsExactly, path_of, joined}
 use Rattle.i_shape_source.proofs.Lent.{saw_next}
-use Rattle.i_shape_int.proofs.EndToEnd.{joined-append}
+use Rattle.i_shape.proofs.EndToEnd.{joined-append}
 
 -- the paths up to this one have no more points than all of them
 pub points_within : {S P : Type 0} {steps : S → Option (Bor (List P)) → S → Type 0} {s : S} {paths : List (List P)} → LendsExactly steps s paths

@@ -2,7 +2,7 @@
 use Rattle.std.proofs.Common.{◌≡◌, ◌↔◌, List, [], ◌∷◌, Option, Some, None, refl, sym, ap, subst, ◌∙◌, IsPermutation}
 use Rattle.std.specs.List.{AllZip, filter_map}
 use Rattle.std.proofs.lemmas.List.Sorted.{IsPermutation-sym, IsPermutation-trans}
-use Rattle.i_shape_int.specs.ShapeAnswers.{Survivors}
+use Rattle.i_shape.specs.ShapeAnswers.{Survivors}
 use Rattle.i_shape.specs.CanonicalShapes.{Stays, MatchedStanding, SortedForms}
 use Rattle.i_shape.proofs.Shuffles.{follows}
 use Rattle.i_shape.proofs.Uniqueness.{in_one_order}

@@ -8,15 +8,16 @@ use Rattle.std.proofs.lemmas.List.Sorted.{All-permutation, IsPermutation-refl, I
 use Rattle.i_shape_core.specs.Point.{Point, IsZeroTurn}
 use Rattle.i_shape_core.specs.IntPoint.{IsSafe}
 use Rattle.i_shape_core.specs.Edges.{edges, is_right, shoelace, Inside}
+use Rattle.i_shape_core.specs.Winding.{winding}
 use Rattle.i_shape_core.specs.Cleaners.{EachEndCollapses}
 use Rattle.i_shape_core.specs.Canonical.{IsAtMost, CanonicalAnswer, Joined, UnorientedAnswer, JoinedEitherWay}
 use Rattle.i_shape_core.proofs.Order.{at_most_refl, at_most_total, at_most_trans, at_most_antisym}
 use Rattle.i_shape_core.proofs.ContourForms.{canonical_stands, canonical_one, has_canonical, canonical_again, canonical_kept, unoriented_stands, unoriented_one, has_unoriented, unoriented_again, unoriented_kept}
-use Rattle.i_shape_int.specs.ShapeAnswers.{Survivors, sum_of, inside_count, ShapeClean, AreKept}
+use Rattle.i_shape.specs.ShapeAnswers.{Survivors, sum_of, inside_count, ShapeClean, AreKept}
 use Rattle.i_shape.specs.ShapeLists.{IsSafeShape, IsSafeList}
 use Rattle.i_shape.specs.CanonicalShapes.{SortedForms, ShapeForm, ListForm, IsShapeAtMost, OuterCollapses, SameShape, OneShapeForm, OneListForm, HasShapeForm, HasListForm, AreKeptEitherWay, FormsKept}
-use Rattle.i_shape_int.proofs.Surviving.{survivors_weaker, survivors_stay, survivors_have}
-use Rattle.i_shape_int.proofs.Keeping.{parity, same_parity, shape_keeps, shape_safe}
+use Rattle.i_shape.proofs.Surviving.{survivors_weaker, survivors_stay, survivors_have}
+use Rattle.i_shape.proofs.Keeping.{parity, same_parity, shape_keeps, shape_safe}
 use Rattle.i_shape.proofs.Shuffles.{along_permutation}
 use Rattle.i_shape.proofs.SortedLists.{sorted_exists}
 use Rattle.i_shape.proofs.ShapeOrder.{contour_decided, shape_decided, shape_itself, shape_antisym, shape_total, shape_trans}
@@ -172,7 +173,7 @@ canonical_keeps s None a = tt
 canonical_keeps s (Some l) a =
     let k = form_cleans CanonicalAnswer s l a in
     let kept : AreKept s k.0 = shape_keeps CanonicalAnswer canonical_kept s (Some k.0) k.1 in
-    record { area = sym (sum_shuffled shoelace k.0 l k.2) ∙ kept.area; inside = λ p. inside_shuffled k.0 l k.2 p ∙ kept.inside p }
+    record { area = sym (sum_shuffled shoelace k.0 l k.2) ∙ kept.area; inside = λ p. inside_shuffled k.0 l k.2 p ∙ kept.inside p; winding = λ p. sym (sum_shuffled (λ c. winding c p) k.0 l k.2) ∙ kept.winding p }
 
 -- where an answer keeps a number, and a contour without one has none of it, so does a cleaned shape
 module _ (f : List Point → ℕ) (none : (c : List Point) → UnorientedAnswer c None → f c ≡ 0) (some : (c e : List Point) → UnorientedAnswer c (Some e) → f e ≡ f c) where

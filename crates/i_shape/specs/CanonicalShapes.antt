@@ -1,7 +1,7 @@
 -- One form for all polygons whose contours lead to one another, and for all lists of such polygons. `Form` relates a contour to its form, and to none where it collapses.
 use Rattle.std.specs.Prelude.{◌≡◌, List, Option, Some, None, IsPermutation, ◌⊎◌, ◌↔◌, nat_abs, [], ◌∷◌, IfSome}
 use Rattle.std.specs.List.{AllZip, AllPairs, sum_by}
-use Rattle.i_shape_int.specs.ShapeAnswers.{Survivors, inside_count}
+use Rattle.i_shape.specs.ShapeAnswers.{Survivors, inside_count}
 use Rattle.i_shape_core.specs.Point.{Point}
 use Rattle.i_shape_core.specs.Edges.{shoelace}
 use Rattle.i_shape_core.specs.Cleaners.{EachEndCollapses}

@@ -2,7 +2,7 @@
 use Rattle.std.specs.Prelude.{ℕ, List, length, Bool, ◌&&◌, nat_le, ◌≡◌, [], ◌∷◌}
 use Rattle.std.specs.List.{filter, All}
 use Rattle.std.specs.declared.ops.Range.{Range}
-use Rattle.i_shape_int.specs.Flat.{slices, InOrder, IsReadableShape, shapes, end_to_end}
+use Rattle.i_shape.specs.Flat.{slices, InOrder, IsReadableShape, shapes, end_to_end}
 use Rattle.i_shape.specs.declared.flat.float.contours.FloatFlatContoursBuffer.{FloatFlatContoursBuffer}
 use Rattle.i_shape.specs.declared.flat.float.shapes.FloatFlatShapesBuffer.{FloatFlatShapesBuffer}
 use Rattle.i_shape_source.specs.Paths.{joined}

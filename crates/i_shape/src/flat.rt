@@ -1,5 +1,5 @@
 //! Flat buffers: one list of points beside lists of ranges.
 
+pub mod buffer;
 pub mod float;
-
-pub use i_shape_int::flat::buffer;
+pub(crate) mod lists;

@@ -1,7 +1,17 @@
 //! Contours, shapes and shape lists of whole-number points.
 
+pub mod area;
 pub mod canonical;
+pub(crate) mod cleaning;
+pub mod count;
+pub mod despike;
+pub mod path;
+pub mod shape;
+pub mod simple;
 
-pub use i_shape_int::int::{
-    ContourPoint, IntPoint, area, count, despike, path, safe_range, shape, simple,
-};
+pub use i_shape_core::point::{ContourPoint, IntPoint};
+
+/// The safe-range test of a resource.
+pub mod safe_range {
+    pub use i_shape_source::int::safe_range::IntSafeRange;
+}

@@ -1,10 +1,12 @@
-//! Contours, shapes and shape lists over whole numbers.
+//! Contours, shapes and shape lists over whole numbers, their flat buffers, and the paths that they lend.
 #![tactic(auto)]
 
+pub mod base;
 pub mod flat;
 pub mod int;
 pub mod laws;
 mod macros;
 pub mod source;
 
-pub use i_shape_int::{IntNumber, ShapeError, base};
+pub use i_shape_core::error::ShapeError;
+pub use i_shape_core::number::IntNumber;

@@ -1,5 +1,4 @@
 //! Borrowed paths.
 
 pub mod float;
-
-pub use i_shape_int::source::int;
+pub mod int;

@@ -9,8 +9,8 @@ use Rattle.i_shape.specs.IntPoint.{contour_of}
 use Rattle.i_shape.specs.IntPoints.{IntPoint}
 use Rattle.i_shape.specs.Paths.{joined}
 use Rattle.i_shape.specs.Buffers.{HoldsShapes}
-use Rattle.i_shape_int.specs.declared.flat.buffer.shapes.FlatShapesBuffer.{FlatShapesBuffer}
-use Rattle.i_shape_int.proofs.Fewer.{sum_by-one, sum_by-length}
+use Rattle.i_shape.specs.declared.flat.buffer.shapes.FlatShapesBuffer.{FlatShapesBuffer}
+use Rattle.i_shape.proofs.Fewer.{sum_by-one, sum_by-length}
 use Rattle.i_shape_c.specs.Batch.{offset, ring, InOrder}
 use Rattle.i_shape_c.specs.Polygons.{parts, polygons, AreFewer}
 use Rattle.i_shape_c.proofs.PolygonLists.{held_counts}

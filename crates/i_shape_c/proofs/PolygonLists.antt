@@ -12,9 +12,9 @@ use Rattle.i_shape.specs.IntPoint.{point_of, contour_of, IsSafe}
 use Rattle.i_shape.specs.Paths.{joined}
 use Rattle.i_shape.specs.Flat.{end_to_end}
 use Rattle.i_shape.specs.Buffers.{HoldsShapes}
-use Rattle.i_shape_int.specs.declared.flat.buffer.shapes.FlatShapesBuffer.{FlatShapesBuffer}
-use Rattle.i_shape_int.proofs.EndToEnd.{length-end_to_end}
-use Rattle.i_shape_int.proofs.ShapeRanges.{slice_range-map}
+use Rattle.i_shape.specs.declared.flat.buffer.shapes.FlatShapesBuffer.{FlatShapesBuffer}
+use Rattle.i_shape.proofs.EndToEnd.{length-end_to_end}
+use Rattle.i_shape.proofs.ShapeRanges.{slice_range-map}
 use Rattle.i_shape.specs.IntPoints.{IntPoint}
 use Rattle.i_shape.specs.ShapeLists.{shape_of, shapes_of, IsSafeList}
 use Rattle.i_shape_c.specs.Batch.{offset, ring, InOrder, AreSafeContours}

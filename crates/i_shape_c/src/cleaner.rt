@@ -14,7 +14,7 @@ ghost use Rattle.i_shape.specs.Written.{IsWritten};
 ghost use Rattle.i_shape_c.specs.Polygons.{AreFewer};
 ghost use Rattle.i_shape_core.proofs.Ends.{reach_shrinks};
 ghost use Rattle.i_shape_core.proofs.Rotations.{rotation_length};
-ghost use Rattle.i_shape_int.proofs.Fewer.{list_fewer, despike_fewer};
+ghost use Rattle.i_shape.proofs.Fewer.{list_fewer, despike_fewer};
 ghost use Rattle.i_shape.proofs.FewerForms.{forms_fewer};
 
 use i_shape::int::ContourPoint;

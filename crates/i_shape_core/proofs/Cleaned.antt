@@ -18,14 +18,16 @@ use Rattle.i_shape_core.proofs.Survive.{straightens}
 use Rattle.i_shape_core.proofs.Spikes.{spikeless_end}
 use Rattle.i_shape_core.proofs.Edges as edges
 use Rattle.i_shape_core.proofs.Inside.{inside_laws}
+use Rattle.i_shape_core.proofs.Windings.{winding_kept, winding_none}
 use Rattle.i_shape_core.proofs.Polynomials.{ring, plus, number}
 use Rattle.i_shape_core.proofs.Turns.{coordinates, area_term, A, B}
 
--- what is reached has the same double area and the same points inside
+-- what is reached has the same double area, the same points inside and the same winding numbers
 pub kept : (c e : List Point) → Reach IsZeroTurn c e → IsKept c e
 kept c e r = record {
   area = sym (edges.area_kept c e r);
   inside = λ p. let same = (inside_laws c e).kept r p in (same.1, same.0);
+  winding = λ p. sym (winding_kept c e r p);
 }
 
 -- fewer than three points have no area
@@ -36,11 +38,12 @@ no_area (a ∷ []) h = ring (coordinates (a ∷ [])) (plus (area_term A A) (numb
 no_area (a ∷ b ∷ []) h = ring (coordinates (a ∷ b ∷ [])) (plus (area_term A B) (plus (area_term B A) (number (pos 0)))) (number (pos 0)) refl
 no_area (a ∷ b ∷ d ∷ ds) h = absurd (omega arith)
 
--- a contour that collapses has no area and no point inside
+-- a contour that collapses has no area and no point inside, and winds about none
 pub flat : (c d : List Point) → Reach IsZeroTurn c d → IsCollapsed d → IsFlat c
 flat c d r h = record {
   area = edges.area_kept c d r ∙ no_area d h;
   inside = λ p i. (inside_laws d d).none h p (((inside_laws c d).kept r p).0 i);
+  winding = λ p. winding_kept c d r p ∙ winding_none d h p;
 }
 
 -- an end that has not collapsed is the one
@@ -88,14 +91,14 @@ spikeless_answer c (Some d) visits w = record {
   enough = w.enough;
   spikeless = spikeless_end d w.enough w.ended.none_left;
   stands = stands;
-  ends = λ e f a b. (agreed c d).ends e f w.ended w.enough a b;
+  ends = λ e f a b. (agreed c).ends d e f w.ended w.enough a b;
 }
   where
     stands : (e : List Point) → End IsZeroTurn c e → 3 ≤ length e
     stands e a = go (cases_lt (length e) 3)
       where
         go : IsCollapsed e ⊎ (3 ≤ length e) → 3 ≤ length e
-        go (inl h) = absurd (omega (arith, w.enough, ((agreed c d).alike e w.ended a).1 h))
+        go (inl h) = absurd (omega (arith, w.enough, ((agreed c).alike d e w.ended a).1 h))
         go (inr h) = h
 
 -- and so does what a walk by back vertices answers

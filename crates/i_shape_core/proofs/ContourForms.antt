@@ -19,6 +19,7 @@ use Rattle.i_shape_core.proofs.Rotations.{rotation_refl, rotation_sym, rotation_
 use Rattle.i_shape_core.proofs.RotatedEdges.{kept_by_rotation}
 use Rattle.i_shape_core.proofs.Cleaned.{kept}
 use Rattle.i_shape_core.proofs.Answered.{collapsed_flat}
+use Rattle.i_shape_core.proofs.Windings.{winding_reversed}
 use Rattle.i_shape_core.proofs.Cycle.{step_of_rotated}
 use Rattle.i_shape_core.proofs.Starts.{has_least_start}
 use Rattle.i_shape_core.proofs.BothDirections.{canonical_reversed, joined_reversed, joined_back, shoelace_reversed, inside_reversed}
@@ -162,12 +163,13 @@ unoriented_kept c (Some l) a = go a.one
     go : (l ≡ a.forwards) ⊎ (l ≡ a.backwards) → IsKeptEitherWay c l
     go (inl e) =
         let k : IsKept c a.forwards = canonical_kept c (Some a.forwards) a.is_forwards in
-        subst (IsKeptEitherWay c) (sym e) (record { area = ap nat_abs k.area; inside = k.inside })
+        subst (IsKeptEitherWay c) (sym e) (record { area = ap nat_abs k.area; inside = k.inside; winding = inl k.winding })
     go (inr e) =
         let k : IsKept (reverse c) a.backwards = canonical_kept (reverse c) (Some a.backwards) a.is_backwards in
         subst (IsKeptEitherWay c) (sym e) (record {
           area = ap nat_abs (k.area ∙ shoelace_reversed c) ∙ abs_negated (shoelace c);
           inside = λ p. (λ h. (inside_reversed c p).0 ((k.inside p).0 h), λ h. (k.inside p).1 ((inside_reversed c p).1 h));
+          winding = inr (λ p. k.winding p ∙ winding_reversed c p);
         })
 
 pub unoriented_left : (Q : Point → Type 0) (c l : List Point) → UnorientedAnswer c (Some l) → All Q c → All Q l

@@ -146,10 +146,10 @@ convex_kept c e h r = go (has_end zero_turn_decided (dedup c))
             (b, (λ z. y.0 (x.1.0 z), λ z. x.1.1 (y.1 z)))
 
 -- rotation, reading backwards, a repeated point and, without spikes, removing zero turns keep convexity
-pub convex_laws : (c d : List Point) → ConvexKept c d
-convex_laws c d = record {
+pub convex_laws : (c : List Point) → ConvexKept c
+convex_laws c = record {
   ends = λ h e r. convex_kept c e h r;
-  turned = convex_rotated c d;
+  turned = convex_rotated c;
   backwards = convex_reversed c;
   repeated = λ u p t e. subst (λ (x : List Point). Convex x ↔ Convex (u ++ p ∷ p ∷ t)) (sym e) (convex_repeated u p t);
 }

@@ -63,17 +63,17 @@ end_of_collapsed : {P : Test} {c d : List Point} → Reach P c d → IsCollapsed
 end_of_collapsed r h = record { reached = r; none_left = λ k m. absurd (omega (arith, m.enough)) }
 
 -- the ends without back vertices agree with those without zero turns
-pub agreed : (c d : List Point) → Agreed c d
-agreed c d = record {
-  alike = λ e w a. (collapses e w a, stands e w a);
-  ends = λ e f w h a b. turned_by (one_end c e f a (end_by_weaker straightens w.reached b)) (keeps_three straightens w h b);
+pub agreed : (c : List Point) → Agreed c
+agreed c = record {
+  alike = λ d e w a. (collapses d e w a, stands d e w a);
+  ends = λ d e f w h a b. turned_by (one_end c e f a (end_by_weaker straightens w.reached b)) (keeps_three straightens w h b);
 }
   where
-    collapses : (e : List Point) → End IsBack c d → End IsZeroTurn c e → IsCollapsed d → IsCollapsed e
-    collapses e w a h = is_alone (one_end c d e (end_of_collapsed (reach_by_weaker straightens.weaker w.reached) h) a) h
+    collapses : (d e : List Point) → End IsBack c d → End IsZeroTurn c e → IsCollapsed d → IsCollapsed e
+    collapses d e w a h = is_alone (one_end c d e (end_of_collapsed (reach_by_weaker straightens.weaker w.reached) h) a) h
 
-    stands : (e : List Point) → End IsBack c d → End IsZeroTurn c e → IsCollapsed e → IsCollapsed d
-    stands e w a h = go (dec_lt (length d) 3)
+    stands : (d e : List Point) → End IsBack c d → End IsZeroTurn c e → IsCollapsed e → IsCollapsed d
+    stands d e w a h = go (dec_lt (length d) 3)
       where
         go : Dec (IsCollapsed d) → IsCollapsed d
         go (yes x) = x

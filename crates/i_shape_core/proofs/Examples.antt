@@ -1,8 +1,9 @@
 -- The definitions at contours that are written out.
-use Rattle.std.proofs.Common.{◌≡◌, ℕ, ℤ, List, [], ◌∷◌, pos, negsuc, refl, reverse, lit≤, lit<}
+use Rattle.std.proofs.Common.{◌≡◌, ℕ, ℤ, List, [], ◌∷◌, ◌++◌, pos, negsuc, refl, reverse, lit≤, lit<}
 use Rattle.i_shape_core.specs.Point.{Point, cross, dot, IsZeroTurn}
 use Rattle.i_shape_core.specs.Contour.{Reach, stay, step}
 use Rattle.i_shape_core.specs.Edges.{shoelace, area_of_edge, Inside, is_right}
+use Rattle.i_shape_core.specs.Winding.{winding, winding_of_edge}
 use Rattle.i_shape_core.specs.Convex.{dedup, is_same, turn_at}
 
 -- a point by its coordinates
@@ -32,6 +33,16 @@ box_outside h = cc
 box_edges : (Inside box (at 10 5) → ⊥) × Inside box (at 0 5)
 unfolding Inside is_right cross
 box_edges = (λ h. cc, refl)
+
+-- to the left a contour winds once about a point inside, and to the right once the other way; twice around it winds twice, where evenly many edges are to the right
+box_winds : (winding box (at 5 5) ≡ pos 1) × (winding (reverse box) (at 5 5) ≡ negsuc 0) × (winding box (at 15 5) ≡ pos 0) × (winding (box ++ box) (at 5 5) ≡ pos 2) × (Inside (box ++ box) (at 5 5) → ⊥)
+unfolding winding winding_of_edge Inside is_right cross
+box_winds = (refl, refl, refl, refl, λ h. cc)
+
+-- where one way around lies within another, the winding numbers add up; where it goes the other way, they cancel
+rings_wind : (winding (box ++ at 0 0 ∷ at 2 2 ∷ at 8 2 ∷ at 8 8 ∷ at 2 8 ∷ at 2 2 ∷ []) (at 5 5) ≡ pos 2) × (winding (box ++ at 0 0 ∷ at 2 2 ∷ at 2 8 ∷ at 8 8 ∷ at 8 2 ∷ at 2 2 ∷ []) (at 5 5) ≡ pos 0)
+unfolding winding winding_of_edge is_right cross
+rings_wind = (refl, refl)
 
 repeats : dedup (at 1 1 ∷ at 1 1 ∷ at 2 1 ∷ at 2 1 ∷ at 3 5 ∷ at 1 1 ∷ []) ≡ at 2 1 ∷ at 3 5 ∷ at 1 1 ∷ []
 unfolding dedup is_same

@@ -19,12 +19,12 @@ height a b c p = ring (coordinates (a ∷ b ∷ c ∷ p ∷ []))
     (plus (times (plus C.y (minus A.y)) (cross_term B D C)) (times (plus C.y (minus D.y)) (cross_term A B C))) refl
 
 -- on one line: c is above p, a and b are not
-right_low : (a b c p : Point) → cross a b c ≡ pos 0 → a.y ≤ℤ p.y → b.y ≤ℤ p.y → p.y <ℤ c.y → int_lt (cross a p c) (pos 0) ≡ int_lt (cross b p c) (pos 0)
+pub right_low : (a b c p : Point) → cross a b c ≡ pos 0 → a.y ≤ℤ p.y → b.y ≤ℤ p.y → p.y <ℤ c.y → int_lt (cross a p c) (pos 0) ≡ int_lt (cross b p c) (pos 0)
 right_low a b c p e f g h = (alike_scaled (c.y -ℤ a.y) (c.y -ℤ b.y) (cross a p c) (cross b p c) (omega (arith, ints)) (omega (arith, ints))
     (drop_last ((c.y -ℤ b.y) *ℤ cross a p c) ((c.y -ℤ a.y) *ℤ cross b p c) (c.y -ℤ p.y) (cross a b c) (height a b c p) e)).below
 
 -- and the other way round
-right_high : (a b c p : Point) → cross a b c ≡ pos 0 → p.y <ℤ a.y → p.y <ℤ b.y → c.y ≤ℤ p.y → int_lt (cross c p a) (pos 0) ≡ int_lt (cross c p b) (pos 0)
+pub right_high : (a b c p : Point) → cross a b c ≡ pos 0 → p.y <ℤ a.y → p.y <ℤ b.y → c.y ≤ℤ p.y → int_lt (cross c p a) (pos 0) ≡ int_lt (cross c p b) (pos 0)
 right_high a b c p e f g h = (alike_scaled (a.y -ℤ c.y) (b.y -ℤ c.y) (cross c p a) (cross c p b) (omega (arith, ints)) (omega (arith, ints)) turned).below
   where
     flipped : (s t x : ℤ) → (s -ℤ t) *ℤ neg_ℤ x ≡ (t -ℤ s) *ℤ x
@@ -43,10 +43,12 @@ bit t = cond t 1 0
 abbrev pub tally : Point → Edge → ℕ
 tally p e = bit (is_right p e)
 
-above : (p a : Point) → int_lt p.y a.y ≡ true → p.y <ℤ a.y
+-- a point is above p where it is told so
+pub above : (p a : Point) → int_lt p.y a.y ≡ true → p.y <ℤ a.y
 above p a e = omega (arith, ints)
 
-not_above : (p a : Point) → int_lt p.y a.y ≡ false → a.y ≤ℤ p.y
+-- and else it isn't
+pub not_above : (p a : Point) → int_lt p.y a.y ≡ false → a.y ≤ℤ p.y
 not_above p a e = omega (arith, ints)
 
 -- the edges of a triangle without area, by which ends lie above p

@@ -24,6 +24,8 @@ pub mod Straight
 -- what removals keep
 pub mod Edges
 pub mod Inside
+pub mod RotatedEdges
+pub mod Windings
 pub mod Survive
 pub mod Convex
 pub mod Dedup
@@ -33,6 +35,14 @@ pub mod Repeats
 pub mod Certain
 pub mod CycleLaws
 pub mod ConvexLaws
+-- contours that are moved, the boundary, and fill rules
+pub mod Mapped
+pub mod Moved
+pub mod MovedBack
+pub mod MappedSpikes
+pub mod MovedLaws
+pub mod Fillings
+pub mod Boundaries
 -- walks
 pub mod Stacks
 pub mod Walks
@@ -43,6 +53,7 @@ pub mod RingStates
 pub mod Prefixes
 pub mod FirstPlaces
 pub mod Walked
+pub mod WindingWalk
 pub mod Around
 pub mod Spikes
 pub mod LastEdge
@@ -66,7 +77,6 @@ pub mod Search
 pub mod SearchSteps
 pub mod Readings
 pub mod StartSteps
-pub mod RotatedEdges
 pub mod CanonicalForm
 pub mod BothDirections
 pub mod ContourForms

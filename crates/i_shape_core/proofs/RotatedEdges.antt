@@ -5,6 +5,7 @@ use Rattle.std.proofs.lemmas.Int.{ints}
 use Rattle.i_shape_core.specs.Point.{Point}
 use Rattle.i_shape_core.specs.Contour.{Rotation}
 use Rattle.i_shape_core.specs.Edges.{Edge, edges_between, edges, sum_of_edges, area_of_edge, shoelace, is_right, Inside}
+use Rattle.i_shape_core.specs.Winding.{winding_of_edge, winding}
 use Rattle.i_shape_core.specs.Cleaners.{IsKept}
 use Rattle.i_shape_core.proofs.Inside.{tally, counted}
 
@@ -34,9 +35,10 @@ same_count p c d r = of_sums _ _ (sym (counted p (edges c)) ∙ same_sum (λ e. 
 
 -- what a contour keeps, each rotation of that keeps
 pub kept_by_rotation : (c e l : List Point) → IsKept c e → Rotation e l → IsKept c l
-unfolding shoelace Inside
+unfolding shoelace Inside winding
 kept_by_rotation c e l k r = record {
   area = sym (same_sum area_of_edge e l r) ∙ k.area;
   inside = λ p. let s : count_by (is_right p) (edges e) % 2 ≡ count_by (is_right p) (edges l) % 2 = ap (λ (n : ℕ). n % 2) (same_count p e l r) in
       (λ h. (k.inside p).0 (s ∙ h), λ h. sym s ∙ (k.inside p).1 h);
+  winding = λ p. sym (same_sum (winding_of_edge p) e l r) ∙ k.winding p;
 }

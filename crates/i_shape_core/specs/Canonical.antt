@@ -1,9 +1,10 @@
 -- One form for all contours that lead to one another: the least rotation of the end.
-use Rattle.std.specs.Prelude.{◌≡◌, ◌≤◌, ◌⊎◌, ◌↔◌, ◌<ℤ◌, ℕ, List, [], ◌∷◌, ◌++◌, take, drop, length, Option, Some, None, nat_abs, reverse}
+use Rattle.std.specs.Prelude.{◌≡◌, ◌≤◌, ◌⊎◌, ◌↔◌, ◌<ℤ◌, ℕ, List, [], ◌∷◌, ◌++◌, take, drop, length, Option, Some, None, nat_abs, neg_ℤ, reverse}
 use Rattle.i_shape_core.specs.Point.{Point, IsZeroTurn}
 use Rattle.i_shape_core.specs.Contour.{Test, Step, End, Rotation}
 use Rattle.i_shape_core.specs.Cleaners.{IsOneEnd, EachEndCollapses, IsFlat}
 use Rattle.i_shape_core.specs.Edges.{shoelace, Inside}
+use Rattle.i_shape_core.specs.Winding.{winding}
 
 -- p comes before q: by x, and then by y
 abbrev pub IsBefore : Point → Point → Type 0
@@ -65,10 +66,11 @@ abbrev pub UnorientedAnswer : List Point → Option (List Point) → Type 0
 UnorientedAnswer c None = EachEndCollapses c
 UnorientedAnswer c (Some l) = IsUnoriented c l
 
--- e has the double area of c but for its sign, and the same points inside
+-- e has the double area of c but for its sign and the same points inside, and winds as often about each point, or as often the other way
 pub record IsKeptEitherWay (c e : List Point) : Type 0 where
   pub area : nat_abs (shoelace e) ≡ nat_abs (shoelace c)
   pub inside : (p : Point) → Inside e p ↔ Inside c p
+  pub winding : ((p : Point) → winding e p ≡ winding c p) ⊎ ((p : Point) → winding e p ≡ neg_ℤ (winding c p))
 
 abbrev pub KeptEitherWay : List Point → Option (List Point) → Type 0
 KeptEitherWay c None = IsFlat c

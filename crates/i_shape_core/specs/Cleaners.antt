@@ -4,6 +4,7 @@ use Rattle.i_shape_core.specs.Point.{Point, IsZeroTurn, IsBack}
 use Rattle.i_shape_core.specs.Convex.{NoSpikes}
 use Rattle.i_shape_core.specs.Contour.{End, IsCollapsed, Rotation}
 use Rattle.i_shape_core.specs.Edges.{shoelace, Inside}
+use Rattle.i_shape_core.specs.Winding.{winding}
 
 -- e is the one end of c up to rotation, and has at least three points; as an end it lists points of c in the order of c
 pub record IsOneEnd (c e : List Point) : Type 0 where
@@ -20,15 +21,17 @@ abbrev pub SimpleAnswer : List Point → Option (List Point) → Type 0
 SimpleAnswer c None = EachEndCollapses c
 SimpleAnswer c (Some e) = IsOneEnd c e
 
--- c and e have the same double area, and the same points inside
+-- c and e have the same double area and the same points inside, and wind as often about each point
 pub record IsKept (c e : List Point) : Type 0 where
   pub area : shoelace e ≡ shoelace c
   pub inside : (p : Point) → Inside e p ↔ Inside c p
+  pub winding : (p : Point) → winding e p ≡ winding c p
 
--- c has no area, and no point inside
+-- c has no area and no point inside, and winds about no point
 pub record IsFlat (c : List Point) : Type 0 where
   pub area : shoelace c ≡ pos 0
   pub inside : (p : Point) → Inside c p → ⊥
+  pub winding : (p : Point) → winding c p ≡ pos 0
 
 -- what each answer of a cleaner keeps
 abbrev pub KeptAnswer : List Point → Option (List Point) → Type 0

@@ -1,9 +1,9 @@
 -- Points of the program, as points over whole numbers.
-use Rattle.std.specs.Prelude.{ℤ, ◌<ℤ◌, ◌-◌, ◌^◌, pos, neg_ℤ, List, map, Option, option_map}
+use Rattle.std.specs.Prelude.{ℤ, List, map, Option, option_map}
 use Rattle.std.specs.Global.{Vec}
 use Rattle.std.specs.Int.{Width}
 use Rattle.i_shape_core.specs.Point.{Point}
-use Rattle.i_shape_core.specs.Widths.{bits}
+pub use Rattle.i_shape_core.specs.SafeCoordinates.{IsSafeCoordinate}
 use Rattle.i_shape_core.specs.declared.point.IntPoint.{IntPoint}
 
 -- the point that a program's point stands for, where `value` is what its coordinates stand for
@@ -18,10 +18,6 @@ contour_of value points = map (point_of value) points
 abbrev pub answered : {X Y : Type 0} → (List X → Y) → Option (Vec X) → Option Y
 answered read answer = option_map (λ kept. read kept.items) answer
 
--- a coordinate lies strictly between -2^(B-2) and 2^(B-2), where B is the number of bits
-abbrev pub IsSafeCoordinate : Width → ℤ → Type 0
-IsSafeCoordinate width z = (neg_ℤ (pos (2 ^ (bits width - 2))) <ℤ z) × (z <ℤ pos (2 ^ (bits width - 2)))
-
--- both coordinates of the point do
+-- both coordinates of the point are safe
 abbrev pub IsSafe : Width → Point → Type 0
 IsSafe width p = IsSafeCoordinate width p.x × IsSafeCoordinate width p.y

@@ -42,10 +42,10 @@ Distinct (p ∷ c) = (IsIn p c → ⊥) × Distinct c
 abbrev pub OneCertainEnd : List Point → Type 0
 OneCertainEnd c = Distinct c → (e f : List Point) → End IsZeroTurn c e → 3 ≤ length e → End IsZeroTurn c f → f ≡ e
 
--- d is what is left of c where back vertices alone are removed: it has collapsed where the ends of c have, and otherwise has their ends
-pub record Agreed (c d : List Point) : Type 0 where
-  pub alike : (e : List Point) → End IsBack c d → End IsZeroTurn c e → IsCollapsed d ↔ IsCollapsed e
-  pub ends : (e f : List Point) → End IsBack c d → 3 ≤ length d → End IsZeroTurn c e → End IsZeroTurn d f → Rotation e f
+-- what is left of c where back vertices alone are removed has collapsed where the ends of c have, and otherwise has their ends
+pub record Agreed (c : List Point) : Type 0 where
+  pub alike : (d e : List Point) → End IsBack c d → End IsZeroTurn c e → IsCollapsed d ↔ IsCollapsed e
+  pub ends : (d e f : List Point) → End IsBack c d → 3 ≤ length d → End IsZeroTurn c e → End IsZeroTurn d f → Rotation e f
 
 -- removals keep the double area
 abbrev pub AreaKept : List Point → List Point → Type 0
@@ -57,8 +57,8 @@ pub record InsideKept (c d : List Point) : Type 0 where
   pub none : length c < 3 → (p : Point) → Inside c p → ⊥
 
 -- without spikes no end collapses, and each is convex where the contour is; rotation, reversal and a point repeated beside itself keep convexity
-pub record ConvexKept (c d : List Point) : Type 0 where
+pub record ConvexKept (c : List Point) : Type 0 where
   pub ends : NoSpikes c → (e : List Point) → End IsZeroTurn c e → (3 ≤ length e) × (Convex c ↔ Convex e)
-  pub turned : Rotation c d → Convex c ↔ Convex d
+  pub turned : (d : List Point) → Rotation c d → Convex c ↔ Convex d
   pub backwards : Convex c ↔ Convex (reverse c)
   pub repeated : (u : List Point) (p : Point) (t : List Point) → c ≡ u ++ p ∷ t → Convex c ↔ Convex (u ++ p ∷ p ∷ t)

@@ -6,6 +6,7 @@ ghost use Rattle.std.specs.List.{All};
 ghost use Rattle.i_shape_core.specs.IntPoint.{point_of, contour_of, IsSafe};
 ghost use Rattle.i_shape_core.specs.Point.{Point};
 ghost use Rattle.i_shape_core.specs.Edges.{shoelace, Inside, is_right};
+ghost use Rattle.i_shape_core.specs.Winding.{winding, winding_of_edge};
 ghost use Rattle.i_shape_core.specs.Blocks.{inside_after};
 ghost use Rattle.i_shape_core.specs.Convex.{Convex};
 
@@ -37,6 +38,13 @@ pub trait ContourExtension<I: IntNumber> {
         requires points_safe { All (IsSafe I.width) (contour self.now) }
         requires point_safe { IsSafe I.width (point_of I.value point) }
         ensures { IsTrue result ↔ Inside (contour self.now) (point_of I.value point) };
+
+    /// How often the contour winds about `point`, to the left: how many edges pass the height of `point` upwards and strictly to
+    /// the right of it, less those that do so downwards. A contour without points winds about none.
+    fn winding_number(&self, point: IntPoint<I>) -> isize
+        requires points_safe { All (IsSafe I.width) (contour self.now) }
+        requires point_safe { IsSafe I.width (point_of I.value point) }
+        ensures { result ≡ winding (contour self.now) (point_of I.value point) };
 }
 
 impl<I: IntNumber> ContourExtension<I> for &[IntPoint<I>] {
@@ -97,6 +105,24 @@ impl<I: IntNumber> ContourExtension<I> for &[IntPoint<I>] {
         }
         is_inside_after(is_inside, point, start, rest)
     }
+
+    fn winding_number(&self, point: IntPoint<I>) -> isize
+        requires points_safe { All (IsSafe I.width) (contour_of I.value self.now.now) }
+        requires point_safe { IsSafe I.width (point_of I.value point) }
+        ensures { result ≡ winding (contour_of I.value self.now.now) (point_of I.value point) }
+    {
+        let points: &[IntPoint<I>] = *self;
+        let Some(last) = points.last() else {
+            return 0;
+        };
+        let mut before = *last;
+        let mut turns: isize = 0;
+        for end in points {
+            turns += turn_about(point, before, *end);
+            before = *end;
+        }
+        turns
+    }
 }
 
 /// Whether `point` is inside after the edges from `first` over the points, where `was_inside` tells it of the edges before: each edge that
@@ -139,5 +165,21 @@ fn passes_right<I: IntNumber>(point: IntPoint<I>, start: IntPoint<I>, end: IntPo
         Triangle::is_clockwise(end, point, start)
     } else {
         Triangle::is_clockwise(start, point, end)
+    }
+}
+
+/// What the edge from `start` to `end` adds to the winding number about `point`.
+fn turn_about<I: IntNumber>(point: IntPoint<I>, start: IntPoint<I>, end: IntPoint<I>) -> isize
+    requires point_safe { IsSafe I.width (point_of I.value point) }
+    requires start_safe { IsSafe I.width (point_of I.value start) }
+    requires end_safe { IsSafe I.width (point_of I.value end) }
+    ensures { result ≡ winding_of_edge (point_of I.value point) (record { start = point_of I.value start; end = point_of I.value end }) }
+{
+    if !passes_right(point, start, end) {
+        0
+    } else if end.y > point.y {
+        1
+    } else {
+        -1
     }
 }

@@ -1,11 +1,18 @@
-//! The laws of cleaning, and of the comparison of points. Each function takes the contours or points that its law names, does
-//! nothing, and has the law alone for its clauses: they speak of definitions, and of every other list and point that they
-//! mention. No safe range is asked.
+//! The laws of cleaning, and of the comparison of points. Each function takes the contours or points that its law names, or none
+//! where it is of all lists of points, does nothing, and has the law alone for its clauses: they speak of definitions, and of
+//! every other list and point that they mention. No safe range is asked.
 
-ghost use Rattle.std.specs.Prelude.{◌≡◌, ◌↔◌, IsTrue};
-ghost use Rattle.std.specs.Ordering.{MatchOrdering};
+ghost use Rattle.std.specs.Prelude.{◌≡◌, ◌≢◌, ◌↔◌, IsTrue, pos, List, Some};
+ghost use Rattle.std.specs.Ordering.{MatchOrdering, partial_lt};
 ghost use Rattle.i_shape_core.specs.Canonical.{CanonicalJoined, IsBefore, UnorientedJoined};
 ghost use Rattle.i_shape_core.specs.IntPoint.{contour_of, point_of};
+ghost use Rattle.i_shape_core.specs.Edges.{Inside};
+ghost use Rattle.i_shape_core.specs.Point.{Point};
+ghost use Rattle.i_shape_core.specs.Boundary.{BoundaryWithin};
+ghost use Rattle.i_shape_core.specs.Filling.{FillingKept};
+ghost use Rattle.i_shape_core.specs.Moves.{Move, determinant, MovedAlike};
+ghost use Rattle.i_shape_core.specs.RationalPoints.{WindingBetween};
+ghost use Rattle.i_shape_core.specs.Winding.{winding, IsOdd, WindingKept, WindingTurned};
 ghost use Rattle.i_shape_core.specs.Laws.{
   Agreed,
   AreaKept,
@@ -55,8 +62,8 @@ pub fn one_certain_end<I: IntNumber>(_c: &[IntPoint<I>])
 
 /// What is left where back vertices alone are removed has collapsed exactly where the ends of the contour have, and
 /// otherwise it has their ends.
-pub fn agreed<I: IntNumber>(_c: &[IntPoint<I>], _d: &[IntPoint<I>])
-    ensures { Agreed (contour_of I.value _c.now) (contour_of I.value _d.now) }
+pub fn agreed<I: IntNumber>(_c: &[IntPoint<I>])
+    ensures { Agreed (contour_of I.value _c.now) }
 {}
 
 /// The removal of zero turns keeps the double area.
@@ -69,10 +76,47 @@ pub fn inside_kept<I: IntNumber>(_c: &[IntPoint<I>], _d: &[IntPoint<I>])
     ensures { InsideKept (contour_of I.value _c.now) (contour_of I.value _d.now) }
 {}
 
+/// The removal of zero turns keeps how often the contour winds about each point.
+pub fn winding_kept<I: IntNumber>(_c: &[IntPoint<I>], _d: &[IntPoint<I>])
+    ensures { WindingKept (contour_of I.value _c.now) (contour_of I.value _d.now) }
+{}
+
+/// A point is inside exactly where the contour winds about it an odd number of times.
+pub fn winding_parity<I: IntNumber>(_c: &[IntPoint<I>])
+    ensures { (p : Point) → Inside (contour_of I.value _c.now) p ↔ IsOdd (winding (contour_of I.value _c.now) p) }
+{}
+
+/// The start of a contour doesn't matter, and read backwards it winds the other way.
+pub fn winding_turned<I: IntNumber>(_c: &[IntPoint<I>], _d: &[IntPoint<I>])
+    ensures { WindingTurned (contour_of I.value _c.now) (contour_of I.value _d.now) }
+{}
+
+/// The removal of zero turns keeps how often the contour winds about each point of rational coordinates.
+pub fn winding_between()
+    ensures { (c d : List Point) → WindingBetween c d }
+{}
+
+/// Where the contours of a shape are cleaned, each fill rule of overlays fills the points that it filled: even-odd, non-zero,
+/// positive and negative.
+pub fn filling_kept()
+    ensures { (contours left : List (List Point)) → FillingKept contours left }
+{}
+
+/// The removal of zero turns adds no point to the edges: each point of an edge that is left lies on an edge that was there.
+pub fn boundary_within()
+    ensures { (c d : List Point) → BoundaryWithin c d }
+{}
+
+/// An affine map by whole numbers that keeps areas apart from zero commutes with cleaning: translations, mirrorings, quarter turns
+/// and scalings do.
+pub fn moved_alike()
+    ensures { (m : Move) → determinant m ≢ pos 0 → (c : List Point) → MovedAlike m c }
+{}
+
 /// A contour without spikes doesn't collapse, and is convex exactly where its ends are. Convexity stays under rotation,
 /// reversal and a point repeated beside itself.
-pub fn convex_kept<I: IntNumber>(_c: &[IntPoint<I>], _d: &[IntPoint<I>])
-    ensures { ConvexKept (contour_of I.value _c.now) (contour_of I.value _d.now) }
+pub fn convex_kept<I: IntNumber>(_c: &[IntPoint<I>])
+    ensures { ConvexKept (contour_of I.value _c.now) }
 {}
 
 /// Two contours that don't collapse have equal least rotations of their ends exactly where a chain joins them, of rotations,
@@ -96,4 +140,10 @@ pub fn points_equal<I: IntNumber>(_a: &IntPoint<I>, _b: &IntPoint<I>)
 /// Points are ordered by `cmp` by x, and then by y, as whole numbers.
 pub fn points_ordered<I: IntNumber>(_a: &IntPoint<I>, _b: &IntPoint<I>)
     ensures { let a = point_of I.value _a.now in let b = point_of I.value _b.now in MatchOrdering (⟦<IntPoint<I> as Ord>⟧.cmp _a.now _b.now) (IsBefore a b) (a ≡ b) (IsBefore b a) }
+{}
+
+/// `partial_cmp` says of two points what `cmp` says, and `<` is told exactly where the first comes before the second.
+pub fn points_compared<I: IntNumber>(_a: &IntPoint<I>, _b: &IntPoint<I>)
+    ensures partial { ⟦<IntPoint<I> as PartialOrd>⟧.partial_cmp _a.now _b.now ≡ Some (⟦<IntPoint<I> as Ord>⟧.cmp _a.now _b.now) }
+    ensures less { IsTrue (partial_lt ⟦<IntPoint<I> as PartialOrd>⟧.partial_cmp _a.now _b.now) ↔ IsBefore (point_of I.value _a.now) (point_of I.value _b.now) }
 {}

@@ -4,6 +4,7 @@ ghost use Rattle.std.specs.Prelude.{◌≡◌, ◌≢◌, ◌+◌, ◌-◌, ◌*
 ghost use Rattle.std.specs.Int.{Width, int_wrap, int_signum};
 ghost use Rattle.std.specs.Ordering.{int_cmp};
 ghost use Rattle.i_shape_core.specs.Widths.{bits, hbits};
+ghost use Rattle.i_shape_core.specs.SafeCoordinates.{IsSafeCoordinate};
 
 mod coordinate;
 mod wide;
@@ -102,6 +103,14 @@ pub trait IntNumber: Copy + Ord {
     /// Whether `a` times `b` is `c` times `d`, as whole numbers.
     fn are_products_equal(a: Self, b: Self, c: Self, d: Self) -> bool
         ensures { IsTrue result ↔ (value a *ℤ value b ≡ value c *ℤ value d) };
+
+    /// Does nothing. Its clauses say why safe coordinates are called so: the difference of two of them fits the type, and the product of
+    /// two such differences fits the wider type.
+    fn safe_differences_fit()
+        ensures differences { (a b : ℤ) → IsSafeCoordinate width a → IsSafeCoordinate width b → FitsSigned width (a -ℤ b) }
+        ensures products { (a b c d : ℤ) → IsSafeCoordinate width a → IsSafeCoordinate width b → IsSafeCoordinate width c → IsSafeCoordinate width d
+            → FitsSigned Self.Wide.width ((a -ℤ b) *ℤ (c -ℤ d)) }
+    {}
 
     ghost bits_are: { BITS ≡ bits width };
 

@@ -171,7 +171,7 @@ fn clockwise_where_the_double_area_is_not_above_zero(rt: HostRuntime) {
 }
 
 /// Asks whether the contour runs clockwise and whether it contains the zero point, which are opposites for the widest squares:
-/// once round, a square runs against the clock about its middle, and twice round, its area wraps.
+/// once round, a square runs against the clock about its middle, and twice round, its area wraps. Either way it winds as often.
 macro_rules! wraps_to_clockwise {
     ($width:ty, $rt:expr, $alloc:expr, $name:expr, $list:expr, $is_clockwise:expr) => {
         let middle = IntPoint::<$width>::new(0, 0);
@@ -179,9 +179,11 @@ macro_rules! wraps_to_clockwise {
         let given = safe_contour::<$width>($rt, $alloc, $list);
         let points = given.as_slice();
         assert!($rt; !points.is_empty());
+        let times: isize = if $is_clockwise { 2 } else { 1 };
         let answers = [
             (points.is_clockwise_ordered() == $is_clockwise, "clockwise"),
             (points.contains_point(middle) != $is_clockwise, "contains"),
+            (points.winding_number(middle) == times, "winds"),
         ];
         all_hold($rt, $name, &answers);
     };

@@ -11,13 +11,18 @@ fn laws_hold<I: IntNumber>(c: &[IntPoint<I>], d: &[IntPoint<I>]) {
     laws::twice(c);
     laws::every_order(c);
     laws::one_certain_end(c);
-    laws::agreed(c, d);
+    laws::agreed(c);
     laws::area_kept(c, d);
     laws::inside_kept(c, d);
-    laws::convex_kept(c, d);
+    laws::convex_kept(c);
+    laws::winding_kept(c, d);
+    laws::winding_parity(c);
+    laws::winding_turned(c, d);
     laws::canonical_joined(c, d);
     laws::points_equal(&IntPoint::<I>::ZERO, &IntPoint::<I>::ZERO);
     laws::points_ordered(&IntPoint::<I>::ZERO, &IntPoint::<I>::ZERO);
+    laws::points_compared(&IntPoint::<I>::ZERO, &IntPoint::<I>::ZERO);
+    I::safe_differences_fit();
 }
 
 #[test]

@@ -259,7 +259,7 @@ const CLEANED: [(&str, Shapes, Shapes, Shapes); 4] = [
 ];
 
 #[test]
-#[tactic(auto, using(i_shape_int::proofs::CallerLemmas::named_held))]
+#[tactic(auto, using(i_shape::proofs::CallerLemmas::named_held))]
 fn shapes_cleaned_in_a_buffer(rt: HostRuntime) -> Result<(), Fail> {
     let alloc = rt.alloc();
     for (name, given, simple, _) in CLEANED {
@@ -291,7 +291,7 @@ fn shapes_cleaned_in_a_buffer(rt: HostRuntime) -> Result<(), Fail> {
 }
 
 #[test]
-#[tactic(auto, using(i_shape_int::proofs::CallerLemmas::named_held))]
+#[tactic(auto, using(i_shape::proofs::CallerLemmas::named_held))]
 fn spikes_removed_in_a_buffer_of_shapes(rt: HostRuntime) -> Result<(), Fail> {
     let alloc = rt.alloc();
     for (name, given, _, blunt) in CLEANED {
@@ -312,7 +312,7 @@ fn spikes_removed_in_a_buffer_of_shapes(rt: HostRuntime) -> Result<(), Fail> {
 }
 
 #[test]
-#[tactic(auto, using(i_shape_int::proofs::CallerLemmas::contours_held))]
+#[tactic(auto, using(i_shape::proofs::CallerLemmas::contours_held))]
 fn spikes_removed_in_a_buffer_of_contours(rt: HostRuntime) -> Result<(), Fail> {
     let alloc = rt.alloc();
     let given = shape::<i32>(&rt, alloc, &[SPIKED, FLAT, OUTER])?;

@@ -296,6 +296,34 @@ fn lends_points_borrowed_paths<P: ShapePoint + PartialEq>(
     Ok(())
 }
 
+/// A vector of the points, of no point and of the last point, all borrowed, lends these three.
+fn lends_vector_of_borrowed_paths<I: IntNumber>(
+    rt: &impl Abort,
+    alloc: Global,
+    name: &str,
+    points: &[IntPoint<I>],
+) -> Result<(), Fail> {
+    let wanted = some_paths(alloc, points)?;
+    let vector = vec![in alloc; points, &points[..0], &points[1.min(points.len())..]]?;
+    lends(rt, name, "a vector", &vector, &wanted);
+    lends(rt, name, "a reference to a vector", &&vector, &wanted);
+    Ok(())
+}
+
+/// A vector of the points, of no point and of the last point, all borrowed, lends these three.
+fn lends_points_vector_of_borrowed_paths<P: ShapePoint + PartialEq>(
+    rt: &impl Abort,
+    alloc: Global,
+    name: &str,
+    points: &[P],
+) -> Result<(), Fail> {
+    let wanted = some_paths(alloc, points)?;
+    let vector = vec![in alloc; points, &points[..0], &points[1.min(points.len())..]]?;
+    lends_points(rt, name, "a vector", &vector, &wanted);
+    lends_points(rt, name, "a reference to a vector", &&vector, &wanted);
+    Ok(())
+}
+
 /// Points lend their paths: in lists of shapes, in lists of paths, in lists of borrowed paths, and as one path.
 fn lends_each<I: IntNumber>(
     rt: &impl Abort,
@@ -306,6 +334,7 @@ fn lends_each<I: IntNumber>(
     lends_lists_of_shapes(rt, alloc, name, points.as_slice())?;
     lends_lists_of_paths(rt, alloc, name, points.as_slice())?;
     lends_borrowed_paths(rt, alloc, name, points.as_slice())?;
+    lends_vector_of_borrowed_paths(rt, alloc, name, points.as_slice())?;
     lends_one_path(rt, alloc, name, points)
 }
 
@@ -335,6 +364,7 @@ fn lists_of_each_width_lend_their_paths(rt: HostRuntime) -> Result<(), Fail> {
     lends_points_lists_of_shapes(&rt, alloc, name, &whole)?;
     lends_points_lists_of_paths(&rt, alloc, name, &whole)?;
     lends_points_borrowed_paths(&rt, alloc, name, &whole)?;
+    lends_points_vector_of_borrowed_paths(&rt, alloc, name, &whole)?;
     lends_points_one_path(&rt, alloc, name, whole)
 }
 
@@ -585,4 +615,52 @@ fn count_passes_over_empty_shapes(rt: HostRuntime) -> Result<(), Fail> {
     walk.next();
     equal(&rt, walk.count(), 0, name, "paths after four");
     Ok(())
+}
+
+/// Of four nested paths three are left after one, and of three paths two.
+fn counts_paths_left<I: IntNumber>(
+    rt: &impl Abort,
+    alloc: Global,
+    name: &str,
+    path: &[IntPoint<I>],
+) -> Result<(), Fail> {
+    let shapes = some_shapes(alloc, path)?;
+    equal(rt, (&shapes).iter_paths().count(), 4, name, "nested paths");
+    let mut walk = (&shapes).iter_paths();
+    walk.next();
+    equal(rt, walk.count(), 3, name, "nested paths after one");
+    let paths = some_paths(alloc, path)?;
+    let mut walk = (&paths).iter_paths();
+    walk.next();
+    equal(rt, walk.count(), 2, name, "paths after one");
+    Ok(())
+}
+
+/// The same over points of another kind.
+fn counts_paths_of_points_left<P: ShapePoint>(
+    rt: &impl Abort,
+    alloc: Global,
+    name: &str,
+    path: &[P],
+) -> Result<(), Fail> {
+    let shapes = some_shapes(alloc, path)?;
+    equal(rt, (&shapes).iter_paths().count(), 4, name, "nested paths");
+    let mut walk = (&shapes).iter_paths();
+    walk.next();
+    equal(rt, walk.count(), 3, name, "nested paths after one");
+    let paths = some_paths(alloc, path)?;
+    let mut walk = (&paths).iter_paths();
+    walk.next();
+    equal(rt, walk.count(), 2, name, "paths after one");
+    Ok(())
+}
+
+#[test]
+fn nested_paths_of_each_width_are_counted(rt: HostRuntime) -> Result<(), Fail> {
+    let alloc = rt.alloc();
+    counts_paths_left(&rt, alloc, "16 bits", &[IntPoint::new(7i16, 1)])?;
+    counts_paths_left(&rt, alloc, "32 bits", &[IntPoint::new(7i32, 1)])?;
+    counts_paths_left(&rt, alloc, "64 bits", &[IntPoint::new(7i64, 1)])?;
+    let name = "points of the tests' own";
+    counts_paths_of_points_left(&rt, alloc, name, &[WholePoint { x: 7, y: 1 }])
 }

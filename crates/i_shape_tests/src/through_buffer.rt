@@ -1,8 +1,8 @@
 use crate::claims::holds;
 use crate::given_shapes::shapes;
-use callers::buffers::{clean_through_buffer, despike_through_buffer};
 use i_shape::IntNumber;
 use i_shape::int::despike::DeSpikeShapes;
+use i_shape_tool::{clean_through_buffer, despike_through_buffer};
 use std::alloc::Global;
 use std::process::Abort;
 use std::test::Fail;

@@ -3,9 +3,9 @@ use Rattle.std.proofs.Common.{◌≡◌, ℕ, ◌+◌, ◌<◌, List, [], ◌∷
 use Rattle.std.specs.List.{AllZip, AllByRecursion, flat_map}
 use Rattle.std.proofs.lemmas.Grind.{flat_map-append}
 use Rattle.std.proofs.lemmas.Slice.Zip.{all_zipped_more}
-use Rattle.i_shape_core.specs.Point.{Point}
-use Rattle.i_shape_core.specs.Survivors as cleaned
-use Rattle.i_shape_core.specs.Cleaners.{SimpleAnswer}
+use Rattle.i_shape.specs.Point.{Point}
+use Rattle.i_shape.specs.Survivors as cleaned
+use Rattle.i_shape.specs.Cleaners.{SimpleAnswer}
 use Rattle.i_shape_core.proofs.Survivors.{survivors-none, survivors-push}
 use Rattle.i_shape_tool.specs.declared.command.Command.TheVariants.{Compact}
 use Rattle.i_shape_tool.specs.declared.fault.ToolFault.{ToolFault}

@@ -4,7 +4,7 @@ use Rattle.std.specs.Prelude.{ℤ, pos, negsuc, codes}
 use Rattle.std.specs.Fmt.{signed_decimal}
 use Rattle.std.specs.Int.{w32}
 use Rattle.std.specs.Int.RustNames.{FitsSigned}
-use Rattle.i_shape_core.specs.Point.{Point}
+use Rattle.i_shape.specs.Point.{Point}
 use Rattle.i_shape_tool.specs.Text.{space, IsDecimal, lines_of, shown}
 
 abbrev point : ℤ → ℤ → Point

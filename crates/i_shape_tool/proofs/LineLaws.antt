@@ -9,7 +9,7 @@ use Rattle.std.specs.Str.Parse.{IsNumeral, without_leading_sign, signed_digits_v
 use Rattle.std.proofs.lemmas.Bool.Decides.{nat_tests}
 use Rattle.std.proofs.lemmas.Fmt.{decimal_is_IsNumeral}
 use Rattle.std.proofs.lemmas.Str.Parse.{digit_from_value}
-use Rattle.i_shape_core.specs.Point.{Point}
+use Rattle.i_shape.specs.Point.{Point}
 use Rattle.i_shape_tool.specs.Text.{space, IsDecimal, SayPoints, Reads, coordinates, shown, FitPoint}
 use Rattle.i_shape_tool.proofs.Reading.{words_are_parts}
 

@@ -6,7 +6,7 @@ use Rattle.std.proofs.lemmas.Bool.Decides.{nat_tests}
 use Rattle.std.proofs.lemmas.List.Splits.{slice_split_none, slice_split_at, join_with_byte-slice_split, length-slice_split}
 use Rattle.std.proofs.lemmas.List.Elements.{All-from_recursion}
 use Rattle.std.proofs.lemmas.Str.Parse.{digit_from_value}
-use Rattle.i_shape_core.specs.Point.{Point}
+use Rattle.i_shape.specs.Point.{Point}
 use Rattle.i_shape_tool.specs.Text.{space, IsDecimal, SayPoints, SayPoint, Reads, ReadsNone, words_of}
 use Rattle.i_shape_tool.specs.Numeral.{SaysNumber}
 

@@ -6,8 +6,8 @@ use Rattle.std.specs.Fmt.{signed_decimal}
 use Rattle.std.proofs.lemmas.List.{map-append}
 use Rattle.std.proofs.lemmas.Grind.{flat_map-append}
 use Rattle.std.proofs.lemmas.List.{take_more, length-map}
-use Rattle.i_shape_core.specs.declared.point.IntPoint.{IntPoint}
-use Rattle.i_shape_core.specs.Point.{Point}
+use Rattle.i_shape.specs.IntPoints.{IntPoint}
+use Rattle.i_shape.specs.Point.{Point}
 use Rattle.i_shape_tool.specs.Points.{point_of, contour_of}
 use Rattle.i_shape_tool.specs.Text.{space, coordinates, shown, spaced}
 

@@ -3,8 +3,8 @@ use Rattle.std.proofs.Common.{◌≡◌, ◌⊎◌, ℕ, ◌+◌, List, [], ◌�
 use Rattle.std.specs.List.{slice_split, onto_first, flat_map, filter_map, AllByRecursion, AllZip}
 use Rattle.std.proofs.lemmas.Grind.{flat_map-append}
 use Rattle.std.proofs.lemmas.List.Elements.{filter_map-append}
-use Rattle.i_shape_core.specs.Cleaners.{SimpleAnswer}
-use Rattle.i_shape_core.specs.Survivors.{Survivors}
+use Rattle.i_shape.specs.Cleaners.{SimpleAnswer}
+use Rattle.i_shape.specs.Survivors.{Survivors}
 use Rattle.i_shape_core.proofs.Survivors.{zip-append, survivors-append}
 use Rattle.i_shape_tool.specs.declared.command.Command.{Command}
 use Rattle.i_shape_tool.specs.declared.command.Command.TheVariants.{Simplify, Despike, Area, Canonical, Compact}

@@ -2,9 +2,9 @@
 use Rattle.std.specs.Prelude.{ℤ, List}
 use Rattle.std.specs.Int.{w32}
 use Rattle.std.specs.List.{All}
-use Rattle.i_shape_core.specs.IntPoint as shape
-use Rattle.i_shape_core.specs.Point.{Point}
-use Rattle.i_shape_core.specs.declared.point.IntPoint.{IntPoint}
+use Rattle.i_shape.specs.IntPoint as shape
+use Rattle.i_shape.specs.Point.{Point}
+use Rattle.i_shape.specs.IntPoints.{IntPoint}
 
 -- the point that a program's point stands for
 abbrev pub point_of : IntPoint ℤ → Point

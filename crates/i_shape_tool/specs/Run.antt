@@ -3,11 +3,11 @@ use Rattle.std.specs.Prelude.{◌≡◌, ℕ, ◌+◌, List, [], ◌∷◌, ◌+
 use Rattle.std.specs.List.{flat_map, AllByRecursion, AllZip}
 use Rattle.std.specs.Fmt.{signed_decimal}
 use Rattle.std.specs.Int.{w64, int_wrap}
-use Rattle.i_shape_core.specs.Point.{Point}
-use Rattle.i_shape_core.specs.Edges.{shoelace}
-use Rattle.i_shape_core.specs.Cleaners.{SimpleAnswer, SpikelessAnswer}
-use Rattle.i_shape_core.specs.Canonical.{CanonicalAnswer}
-use Rattle.i_shape_core.specs.Survivors as cleaned
+use Rattle.i_shape.specs.Point.{Point}
+use Rattle.i_shape.specs.Edges.{shoelace}
+use Rattle.i_shape.specs.Cleaners.{SimpleAnswer, SpikelessAnswer}
+use Rattle.i_shape.specs.Canonical.{CanonicalAnswer}
+use Rattle.i_shape.specs.Survivors as cleaned
 use Rattle.i_shape_tool.specs.declared.command.Command.{Command}
 use Rattle.i_shape_tool.specs.declared.command.Command.TheVariants.{Simplify, Despike, Area, Canonical, Compact}
 use Rattle.i_shape_tool.specs.declared.command.LineCommand.{LineCommand}

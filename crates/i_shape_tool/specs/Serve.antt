@@ -39,11 +39,10 @@ IsServed words input before after =
     (command : Command) × Asks words command
     × IfSome input (λ text. (answer : List ℕ) × AnswersText command text answer × Appends before after answer)
 
--- the complaint is true of the words and of the input, where that is known; memory can always be refused
+-- the complaint is true of the words and of the input, where that is known; a fault is one of the text that was read
 abbrev pub IsTrueComplaint : List (String Global) → Option (List ℕ) → Complaint → Type 0
 IsTrueComplaint words input Usage = (command : Command) → Asks words command → ⊥
 IsTrueComplaint words input NotUtf8 = IfSome input (λ text. IsUtf8 text → ⊥)
-IsTrueComplaint words input (Fault faults.OutOfMemory) = (command : Command) × Asks words command
 IsTrueComplaint words input (Fault fault) =
     (command : Command) × Asks words command × IfSome input (λ text. IsFirstFault command text fault)
 IsTrueComplaint words input InputOrOutput = (command : Command) × Asks words command

@@ -5,7 +5,7 @@ use Rattle.std.specs.Fmt.{signed_decimal}
 use Rattle.std.specs.Int.{w32}
 use Rattle.std.specs.Int.RustNames.{FitsSigned}
 use Rattle.std.specs.Str.Parse.{IsNumeral, without_leading_sign, signed_digits_value}
-use Rattle.i_shape_core.specs.Point.{Point}
+use Rattle.i_shape.specs.Point.{Point}
 
 -- a space
 abbrev pub space : ℕ

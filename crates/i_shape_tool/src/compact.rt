@@ -8,7 +8,7 @@ use crate::command::Command;
 use crate::fault::ToolFault;
 use crate::line::{first_line, read_line};
 use crate::show::show_line;
-use i_shape_core::simple::SimpleContour;
+use i_shape::int::simple::SimpleContour;
 use std::alloc::Global;
 
 /// The contours of all lines without their zero turns, each on a line of its own, without those that collapse.

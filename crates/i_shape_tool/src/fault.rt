@@ -3,7 +3,7 @@
 ghost use Rattle.std.specs.Prelude.{◌≡◌};
 ghost use Rattle.i_shape_tool.specs.declared.fault.ToolFault.TheVariants.{OutOfMemory};
 
-use i_shape_core::error::ShapeError;
+use i_shape::ShapeError;
 use std::alloc::{AllocError, AllocFailed};
 
 /// Why a text is not answered. Lines are counted from 1.

@@ -2,7 +2,7 @@
 
 ghost use Rattle.std.specs.Prelude.{◌≡◌, ◌⊎◌, ◌++◌, ℕ, List};
 ghost use Rattle.std.specs.List.{AllByRecursion};
-ghost use Rattle.i_shape_core.specs.Point.{Point};
+ghost use Rattle.i_shape.specs.Point.{Point};
 ghost use Rattle.i_shape_tool.specs.Run.{AnswersText, IsFirstFault};
 ghost use Rattle.i_shape_tool.specs.PartedTexts.{EndsItsLines, PartedAnswer, IsFaultOfSecond};
 ghost use Rattle.i_shape_tool.specs.Text.{FitPoint, Reads, shown};

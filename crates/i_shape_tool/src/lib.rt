@@ -1,6 +1,7 @@
 //! Cleans the contours of a text.
 #![tactic(auto)]
 
+mod buffers;
 mod command;
 mod compact;
 mod decimal;
@@ -12,6 +13,7 @@ mod program;
 mod show;
 mod text;
 
+pub use buffers::{clean_through_buffer, despike_through_buffer};
 pub use command::Command;
 pub use fault::ToolFault;
 pub use program::{Complaint, serve};

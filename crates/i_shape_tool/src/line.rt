@@ -1,7 +1,7 @@
 //! Lines of a text, and the contours that they read.
 
 ghost use Rattle.std.specs.Prelude.{◌≡◌, ◌<◌, ◌↔◌, List, ◌∷◌, length, IsTrue, MatchBool, IfOk, IfErr, OnOk, IfSome, IfNone, option_copied};
-ghost use Rattle.i_shape_core.specs.Point.{Point};
+ghost use Rattle.i_shape.specs.Point.{Point};
 ghost use Rattle.i_shape_tool.specs.Points.{contour_of, point_of, IsSafe};
 ghost use Rattle.i_shape_tool.specs.Text.{Reads, ReadsNone, SayPoint, SayPoints, lines_of, words_of, words_left};
 ghost use Rattle.i_shape_tool.specs.Run.{Gives, IsFaultOfLine};
@@ -9,7 +9,9 @@ ghost use Rattle.i_shape_tool.specs.Run.{Gives, IsFaultOfLine};
 use crate::command::Command;
 use crate::fault::ToolFault;
 use crate::number::first_number;
-use i_shape_core::point::{IntContour, IntPoint};
+use i_shape::int::IntPoint;
+use i_shape::int::safe_range::IntSafeRange;
+use i_shape::int::shape::IntContour;
 use std::alloc::AllocError;
 
 /// The first line of a text, and the text after it.
@@ -44,7 +46,7 @@ pub fn read_line(
 fn is_safe(contour: &IntContour<i32>) -> bool
     ensures { IsTrue result ↔ IsSafe (contour_of contour.now.items) }
 {
-    contour.iter().all(|point| point.is_in_safe_range())
+    contour.is_in_safe_range()
 }
 
 /// Puts the contour that a line reads in place of what `contour` held, and tells whether it reads one.

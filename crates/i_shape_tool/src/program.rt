@@ -1,7 +1,6 @@
 //! One run of the program: its words, its input, its two outputs and its exit status.
 
-ghost use Rattle.std.specs.Prelude.{◌≡◌, ◌≢◌, ◌⊎◌, ◌++◌, ◌∷◌, [], Some, IfOk, IfErr, OnOk, IfSome, IfNone};
-ghost use Rattle.std.specs.IoError.{error_kind};
+ghost use Rattle.std.specs.Prelude.{◌≡◌, ◌++◌, ◌∷◌, [], Some, IfOk, IfErr, OnOk, IfSome, IfNone};
 ghost use Rattle.std.specs.Io.KnownBytes.{Appends, Keeps};
 ghost use Rattle.i_shape_tool.specs.Text.{newline};
 ghost use Rattle.i_shape_tool.specs.declared.program.Complaint.TheVariants.{Fault, InputOrOutput};
@@ -11,7 +10,7 @@ use crate::command::Command;
 use crate::fault::ToolFault;
 use crate::text::run;
 use std::alloc::Global;
-use std::io::{ErrorKind, Read, Write};
+use std::io::{Read, Write};
 use std::{fmt, io};
 
 /// Why the program stops, as it tells on standard error.
@@ -23,22 +22,11 @@ pub enum Complaint {
     NotUtf8,
     /// The command has no answer to the input.
     Fault(ToolFault),
-    /// A read or a write failed, and a read not for want of memory.
+    /// A read or a write failed, whatever the cause.
     InputOrOutput,
 }
 
 impl Complaint {
-    /// The complaint about a read that failed: want of memory, where the error is of that kind.
-    pub fn of_read(error: io::Error) -> Complaint
-        ensures memory { error_kind error ≡ ErrorKind.OutOfMemory → result ≡ Fault ToolFault.OutOfMemory }
-        ensures other { error_kind error ≢ ErrorKind.OutOfMemory → result ≡ InputOrOutput }
-    {
-        match error.kind() {
-            ErrorKind::OutOfMemory => Complaint::Fault(ToolFault::OutOfMemory),
-            _ => Complaint::InputOrOutput,
-        }
-    }
-
     /// The exit status that goes with it.
     pub fn status(self) -> u8
         ensures { result ≡ status_of self }
@@ -109,13 +97,13 @@ fn asked(words: &[String]) -> Option<Command>
     }
 }
 
-/// All input that is left.
+/// All input that is left. The only complaint is `InputOrOutput`, also where a growth is refused.
 fn read_all<R: Read>(alloc: Global, input: &mut R) -> Result<Vec<u8>, Complaint>
     ensures ok { IfOk result (λ bytes. IfSome (R.remaining input.old) (λ xs. bytes.items ≡ xs)) }
-    ensures err { IfErr result (λ complaint. (complaint ≡ Fault ToolFault.OutOfMemory) ⊎ (complaint ≡ InputOrOutput)) }
+    ensures err { IfErr result (λ complaint. complaint ≡ InputOrOutput) }
 {
     let mut bytes = Vec::new(alloc);
-    input.read_to_end(&mut bytes).map_err(Complaint::of_read)?;
+    input.read_to_end(&mut bytes)?;
     Ok(bytes)
 }
 

@@ -6,8 +6,9 @@ ghost use Rattle.i_shape_tool.specs.Text.{shown, spaced};
 ghost use Rattle.i_shape_tool.specs.Run.{shown_line, shown_or_none, shown_area};
 
 use crate::decimal::{POINT_ROOM, write_number};
-use i_shape_core::area::area_of;
-use i_shape_core::point::{IntContour, IntPoint};
+use i_shape::int::IntPoint;
+use i_shape::int::area::Area;
+use i_shape::int::shape::IntContour;
 use std::alloc::AllocError;
 
 /// Appends the coordinates of the points in turn, parted by single spaces.
@@ -63,5 +64,5 @@ pub fn show_area(output: &mut String, contour: &[IntPoint<i32>]) -> Result<(), A
     if contour.is_empty() {
         return output.push_str("empty");
     }
-    write!(output, "{}", area_of(contour))
+    write!(output, "{}", contour.area_two())
 }

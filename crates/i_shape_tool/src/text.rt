@@ -10,9 +10,9 @@ use crate::compact::compact_lines;
 use crate::fault::ToolFault;
 use crate::line::{first_line, read_line};
 use crate::show::{show_area, show_cleaned};
-use i_shape_core::despike::DeSpikeContour;
-use i_shape_core::point::IntContour;
-use i_shape_core::simple::SimpleContour;
+use i_shape::int::despike::DeSpikeContour;
+use i_shape::int::shape::IntContour;
+use i_shape::int::simple::SimpleContour;
 use std::alloc::Global;
 
 /// The answer of a command to a text of contours: for each line, in order, what the command says of its contour on a line

@@ -16,7 +16,7 @@ fn main(rt: HostRuntime) -> ExitCode {
             &mut errors,
         ),
         Err(error) => {
-            let complaint = Complaint::of_read(error);
+            let complaint = Complaint::from(error);
             let _ = complaint.tell(&mut errors);
             complaint.status()
         }

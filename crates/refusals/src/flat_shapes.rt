@@ -174,7 +174,7 @@ fn to_shapes(rt: HostRuntime) -> Result<(), Fail> {
 }
 
 #[test]
-#[tactic(auto, using(i_shape_int::proofs::CallerLemmas::named_held))]
+#[tactic(auto, using(i_shape::proofs::CallerLemmas::named_held))]
 fn simplify_shapes(rt: HostRuntime) -> Result<(), Fail> {
     let alloc = rt.alloc();
     let Ok(given) = one_shape(&rt, alloc, &[&SPIKED, &TRIANGLE]) else {
@@ -197,7 +197,7 @@ fn simplify_shapes(rt: HostRuntime) -> Result<(), Fail> {
 }
 
 #[test]
-#[tactic(auto, using(i_shape_int::proofs::CallerLemmas::named_held))]
+#[tactic(auto, using(i_shape::proofs::CallerLemmas::named_held))]
 fn simplify_shapes_of_a_clean_value(rt: HostRuntime) -> Result<(), Fail> {
     let alloc = rt.alloc();
     let Ok(given) = one_shape(&rt, alloc, &[&SQUARE, &TRIANGLE]) else {
@@ -214,7 +214,7 @@ fn simplify_shapes_of_a_clean_value(rt: HostRuntime) -> Result<(), Fail> {
 }
 
 #[test]
-#[tactic(auto, using(i_shape_int::proofs::CallerLemmas::named_held))]
+#[tactic(auto, using(i_shape::proofs::CallerLemmas::named_held))]
 fn remove_spikes(rt: HostRuntime) -> Result<(), Fail> {
     let alloc = rt.alloc();
     let Ok(given) = one_shape(&rt, alloc, &[&SPIKED, &TRIANGLE]) else {
@@ -237,7 +237,7 @@ fn remove_spikes(rt: HostRuntime) -> Result<(), Fail> {
 }
 
 #[test]
-#[tactic(auto, using(i_shape_int::proofs::CallerLemmas::named_held))]
+#[tactic(auto, using(i_shape::proofs::CallerLemmas::named_held))]
 fn remove_spikes_of_a_clean_value(rt: HostRuntime) -> Result<(), Fail> {
     let alloc = rt.alloc();
     let Ok(given) = one_shape(&rt, alloc, &[&SQUARE, &TRIANGLE]) else {

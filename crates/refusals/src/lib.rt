@@ -37,6 +37,8 @@ mod through_buffer;
 #[cfg(test)]
 mod told;
 #[cfg(test)]
+mod values;
+#[cfg(test)]
 mod walks;
 #[cfg(test)]
 mod written;

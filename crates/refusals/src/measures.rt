@@ -31,6 +31,11 @@ fn tests_of_a_contour(rt: HostRuntime) -> Result<(), Fail> {
         "ContourExtension::contains_point",
         points.contains_point(centre),
     )?;
+    told_done(
+        &rt,
+        "ContourExtension::winding_number",
+        points.winding_number(centre) == 1,
+    )?;
     Ok(())
 }
 

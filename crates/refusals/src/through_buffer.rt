@@ -1,6 +1,6 @@
 use crate::given::{SPIKED, SQUARE, shape};
 use crate::told::{has_one_shape, told};
-use callers::buffers::{clean_through_buffer, despike_through_buffer};
+use i_shape_tool::{clean_through_buffer, despike_through_buffer};
 use std::process::Abort;
 use std::test::Fail;
 

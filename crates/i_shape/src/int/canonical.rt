@@ -5,16 +5,16 @@ ghost use Rattle.i_shape_core.specs.Point.{Point};
 ghost use Rattle.i_shape_core.specs.IntPoint.{answered};
 ghost use Rattle.i_shape_core.specs.Canonical.{CanonicalAnswer, UnorientedAnswer};
 ghost use Rattle.i_shape.specs.ShapeLists.{shape_of, shapes_of, IsSafeShape, IsSafeList};
-ghost use Rattle.i_shape_int.specs.ShapeAnswers.{AreKept};
+ghost use Rattle.i_shape.specs.ShapeAnswers.{AreKept};
 ghost use Rattle.i_shape.specs.CanonicalShapes.{ShapeForm, ListForm, FormsKept, AreKeptEitherWay};
 
 mod forms;
 pub mod laws;
 
 use crate::int::canonical::forms::{Oriented, Unoriented, list_form, shape_form};
+use crate::int::shape::{IntContour, IntShape, IntShapes};
 use i_shape_core::error::ShapeError;
 use i_shape_core::number::IntNumber;
-use i_shape_int::int::shape::{IntContour, IntShape, IntShapes};
 use std::alloc::Global;
 
 /// The canonical forms of a shape of safe points.

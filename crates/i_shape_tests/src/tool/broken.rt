@@ -13,16 +13,17 @@ const FAILED: &str = "input or output failed\n";
 
 const USAGE: &str = "usage: i_shape_tool simplify|despike|area|canonical|compact\n";
 
-/// Gives empty lines, and fails after so many.
+/// Gives empty lines, and fails after so many with an error of this kind.
 #[derive(Drop)]
 struct BrokenReader {
     left: usize,
+    kind: io::ErrorKind,
 }
 
 impl Read for BrokenReader {
     fn read(&mut self, buf: &mut [u8]) -> io::Result<usize> {
         if self.left == 0 || buf.is_empty() {
-            return Err(io::Error::from(io::ErrorKind::BrokenPipe));
+            return Err(io::Error::from(self.kind));
         }
         self.left -= 1;
         buf[0] = b'\n';
@@ -54,16 +55,15 @@ impl Write for BrokenWriter {
     }
 }
 
-/// With a reader that fails after so many lines, the program ends with this status and tells this, without an output.
+/// With this reader the program ends with this status and tells this, without an output.
 fn reads(
     rt: &impl Abort,
     alloc: Global,
     name: &str,
-    (word, left): (&str, usize),
+    (word, mut input): (&str, BrokenReader),
     (wanted, told): (u8, &str),
 ) -> Result<(), Fail> {
     let words = words(alloc, &[word])?;
-    let mut input = BrokenReader { left };
     let mut output = Vec::new(alloc);
     let mut errors = Vec::new(alloc);
     let status = serve(
@@ -82,11 +82,28 @@ fn reads(
 #[test]
 fn a_read_fails(rt: HostRuntime) -> Result<(), Fail> {
     let alloc = rt.alloc();
-    reads(&rt, alloc, "at once", ("simplify", 0), (4, FAILED))?;
-    reads(&rt, alloc, "after a line", ("simplify", 1), (4, FAILED))?;
-    reads(&rt, alloc, "after two", ("simplify", 2), (4, FAILED))?;
+    let fails = |left| BrokenReader {
+        left,
+        kind: io::ErrorKind::BrokenPipe,
+    };
+    let is_refused = |left| BrokenReader {
+        left,
+        kind: io::ErrorKind::OutOfMemory,
+    };
+    let failed = (4, FAILED);
+    reads(&rt, alloc, "at once", ("simplify", fails(0)), failed)?;
+    reads(&rt, alloc, "after a line", ("simplify", fails(1)), failed)?;
+    reads(&rt, alloc, "after two", ("simplify", fails(2)), failed)?;
+    reads(&rt, alloc, "no memory", ("simplify", is_refused(0)), failed)?;
+    reads(
+        &rt,
+        alloc,
+        "no memory for more",
+        ("simplify", is_refused(1)),
+        failed,
+    )?;
     let name = "words are judged before input";
-    reads(&rt, alloc, name, ("simplified", 0), (2, USAGE))
+    reads(&rt, alloc, name, ("simplified", fails(0)), (2, USAGE))
 }
 
 /// With a writer of so much room, the answer to an empty line ends with this status, and this is told.

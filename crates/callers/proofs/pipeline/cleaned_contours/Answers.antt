@@ -2,7 +2,7 @@ use Rattle.std.proofs.Common.{◌≡◌, Err, ap, arith}
 use Rattle.std.proofs.lemmas.Result.{err_from_is_err_and}
 use Rattle.i_shape.specs.Paths.{paths_of_shape}
 use Rattle.i_shape.specs.declared.ShapeError.TheVariants.{TooManyPoints}
-use Rattle.i_shape_int.proofs.CallerLemmas.{safe_held, points_held, compact_read}
+use Rattle.i_shape.proofs.CallerLemmas.{safe_held, points_held, compact_read}
 use Rattle.callers.proofs.pipeline.cleaned_contours.Goals as goal
 
 pub simplify_contours-requires-clause-safe : goal.simplify_contours-requires-clause-safe

@@ -1,4 +1,4 @@
-use Rattle.i_shape_int.proofs.CallerLemmas.{safe_shapes_held}
+use Rattle.i_shape.proofs.CallerLemmas.{safe_shapes_held}
 use Rattle.client.proofs.buffer.set_shapes.Goals as goal
 
 pub simplify_contours-requires-clause-safe : goal.simplify_contours-requires-clause-safe

@@ -1,4 +1,4 @@
-use Rattle.i_shape_int.proofs.CallerLemmas.{points_read}
+use Rattle.i_shape.proofs.CallerLemmas.{points_read}
 use Rattle.client.proofs.chain.area_by_buffer.Goals as goal
 
 pub area_two-requires : goal.area_two-requires

@@ -1,4 +1,4 @@
-use Rattle.i_shape_int.proofs.CallerLemmas.{shape_cleaned}
+use Rattle.i_shape.proofs.CallerLemmas.{shape_cleaned}
 use Rattle.client.proofs.chain.clean_shape.Goals as goal
 
 pub returns-clause-cleaned : goal.returns-clause-cleaned

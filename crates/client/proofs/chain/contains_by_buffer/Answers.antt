@@ -1,4 +1,4 @@
-use Rattle.i_shape_int.proofs.CallerLemmas.{told_by_first, told_by_none, safe_read}
+use Rattle.i_shape.proofs.CallerLemmas.{told_by_first, told_by_none, safe_read}
 use Rattle.client.proofs.chain.contains_by_buffer.Goals as goal
 
 pub contains_point-requires-clause-points_safe : goal.contains_point-requires-clause-points_safe

@@ -1,4 +1,4 @@
-use Rattle.i_shape_int.proofs.CallerLemmas.{points_safe}
+use Rattle.i_shape.proofs.CallerLemmas.{points_safe}
 use Rattle.client.proofs.into.are_safe.Goals as goal
 
 pub returns : goal.returns

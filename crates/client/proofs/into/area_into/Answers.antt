@@ -1,6 +1,6 @@
 use Rattle.std.proofs.Common.{◌∙◌, ap}
 use Rattle.std.specs.Int.{int_wrap}
-use Rattle.i_shape_int.proofs.CallerLemmas.{written_kept}
+use Rattle.i_shape.proofs.CallerLemmas.{written_kept}
 use Rattle.client.proofs.into.area_into.Goals as goal
 
 pub returns-clause-area : goal.returns-clause-area

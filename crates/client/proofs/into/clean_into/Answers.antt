@@ -1,5 +1,5 @@
 use Rattle.std.proofs.Common.{◌∙◌}
-use Rattle.i_shape_int.proofs.CallerLemmas.{written_kept, cleaned_twice}
+use Rattle.i_shape.proofs.CallerLemmas.{written_kept, cleaned_twice}
 use Rattle.client.proofs.into.clean_into.Goals as goal
 
 pub returns-clause-answer : goal.returns-clause-answer

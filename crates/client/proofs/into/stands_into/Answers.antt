@@ -1,4 +1,4 @@
-use Rattle.i_shape_int.proofs.CallerLemmas.{written_simple}
+use Rattle.i_shape.proofs.CallerLemmas.{written_simple}
 use Rattle.client.proofs.into.stands_into.Goals as goal
 
 pub returns-clause-stands : goal.returns-clause-stands

@@ -4,13 +4,13 @@ ghost use Rattle.std.specs.Prelude.{◌≡◌, ◌+◌, ◌<◌, ◌≤◌, ◌+
 ghost use Rattle.std.specs.List.{All};
 ghost use Rattle.std.specs.Iterator.{Drains, IsFinite};
 ghost use Rattle.i_shape_source.specs.Paths.{paths_of_shape, joined};
-ghost use Rattle.i_shape_int.specs.Flat.{InOrder, slices};
+ghost use Rattle.i_shape.specs.Flat.{InOrder, slices};
 ghost use Rattle.i_shape.specs.FloatBuffers.{HasLists, LieEndToEnd};
 
 use super::fill::{append_items, append_paths, append_ranges, checked_path_counts, greatest_end};
 use crate::ShapeError;
-use i_shape_int::base::data::Contour;
-use i_shape_int::flat::lists::{
+use crate::base::data::Contour;
+use crate::flat::lists::{
     all_in_order, append_contour, copied_parts, copied_ranges, reserve_total,
 };
 use i_shape_source::float::resource::{ShapePoint, ShapeResource};

@@ -4,10 +4,10 @@ ghost use Rattle.std.specs.Prelude.{◌≡◌, ◌+◌, ◌<◌, ◌≤◌, ◌+
 ghost use Rattle.std.specs.List.{All, Contains};
 ghost use Rattle.std.specs.Iterator.{Drains, IsFinite};
 ghost use Rattle.i_shape_source.specs.Paths.{joined};
-ghost use Rattle.i_shape_int.specs.Flat.{end_to_end};
+ghost use Rattle.i_shape.specs.Flat.{end_to_end};
 
 use crate::ShapeError;
-use i_shape_int::flat::lists::{Counts, append_contour};
+use crate::flat::lists::{Counts, append_contour};
 use i_shape_source::float::resource::{ShapePoint, ShapeResource};
 use std::ops::Range;
 

@@ -10,11 +10,11 @@ ghost use Rattle.i_shape_core.proofs.ContourForms.{canonical_left, unoriented_le
 ghost use Rattle.i_shape.specs.ShapeLists.{shape_of, shapes_of, IsSafeShape, IsSafeList};
 ghost use Rattle.i_shape.specs.CanonicalShapes.{SortedForms, ShapeForm, ListForm};
 
+use crate::int::shape::{IntContour, IntShape, IntShapes};
 use i_shape_core::error::ShapeError;
 use i_shape_core::number::IntNumber;
 use i_shape_core::point::IntPoint;
 use i_shape_core::simplifier::ContourSimplifier;
-use i_shape_int::int::shape::{IntContour, IntShape, IntShapes};
 use std::alloc::Global;
 
 /// A form of contours of safe points. One value gives any number of them, and may keep its memory from one to the next.

@@ -6,8 +6,8 @@ ghost use Rattle.i_shape_core.specs.Canonical.{CanonicalAnswer, Joined, Unorient
 ghost use Rattle.i_shape.specs.ShapeLists.{shape_of, shapes_of};
 ghost use Rattle.i_shape.specs.CanonicalShapes.{OneShapeForm, OneListForm, HasShapeForm, HasListForm};
 
+use crate::int::shape::{IntContour, IntShape};
 use i_shape_core::number::IntNumber;
-use i_shape_int::int::shape::{IntContour, IntShape};
 
 /// Two shapes whose outer contours don't collapse have the same form exactly where their outer contours are joined, and the holes
 /// that don't collapse can be paired one to one so that partners are joined; in the unoriented form, joined either way round.

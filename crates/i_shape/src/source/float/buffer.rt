@@ -7,7 +7,7 @@ ghost use Rattle.i_shape_source.specs.Paths.{LendsExactly, RunsThrough};
 ghost use Rattle.i_shape.specs.FloatBuffers.{readable_slices};
 
 use crate::flat::float::{FloatFlatContoursBuffer, FloatFlatShapesBuffer};
-use i_shape_int::flat::lists::is_in_order;
+use crate::flat::lists::is_in_order;
 use i_shape_source::float::resource::{ShapePoint, ShapeResource};
 use std::marker::Model;
 use std::ops::Range;

@@ -2,7 +2,7 @@ use Rattle.std.proofs.Common.{map}
 use Rattle.i_shape.specs.Point.{Point}
 use Rattle.i_shape.specs.IntPoint.{point_of, contour_of}
 use Rattle.i_shape.specs.Paths.{shape_lists}
-use Rattle.i_shape_int.proofs.CallerLemmas.{shapes_of_lists}
+use Rattle.i_shape.proofs.CallerLemmas.{shapes_of_lists}
 use Rattle.i_shape_c.specs.Polygons.{polygons}
 use Rattle.i_shape_c.proofs.PolygonLists.{safe_polygons}
 use Rattle.i_shape_c.proofs.Counts.{left_fits}

@@ -3,4 +3,4 @@ use Rattle.i_shape_core.proofs.ConvexLaws as lemmas
 use Rattle.i_shape_core.proofs.laws.convex_kept.Goals as goal
 
 pub returns : goal.returns
-returns g c = lemmas.convex_laws (contour_of g.I.IntNumber.value c.args._c.now) (contour_of g.I.IntNumber.value c.args._d.now)
+returns g c = lemmas.convex_laws (contour_of g.I.IntNumber.value c.args._c.now)

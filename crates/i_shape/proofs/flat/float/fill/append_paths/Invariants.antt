@@ -1,6 +1,6 @@
 use Rattle.std.proofs.Common.{◌≡◌, ◌+◌, ◌≤◌, ◌++◌, length, map, vec_len, vec_capacity}
 use Rattle.i_shape_source.specs.Paths.{path_of, joined}
-use Rattle.i_shape_int.specs.Flat.{end_to_end}
+use Rattle.i_shape.specs.Flat.{end_to_end}
 use Rattle.i_shape.proofs.flat.float.fill.append_paths.Given as goal
 
 abbrev pub invariant-loop-path : goal.invariant-loop-path

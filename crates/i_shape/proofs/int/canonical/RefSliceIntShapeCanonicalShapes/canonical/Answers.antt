@@ -1,5 +1,5 @@
 use Rattle.i_shape_core.specs.Canonical.{CanonicalAnswer}
-use Rattle.i_shape_int.specs.ShapeAnswers.{AreKept}
+use Rattle.i_shape.specs.ShapeAnswers.{AreKept}
 use Rattle.i_shape.specs.ShapeLists.{shapes_of}
 use Rattle.i_shape.proofs.ShapeForms.{canonical_keeps, given_forms_keep}
 use Rattle.i_shape.proofs.int.canonical.RefSliceIntShapeCanonicalShapes.canonical.Goals as goal

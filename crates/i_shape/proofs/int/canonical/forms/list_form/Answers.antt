@@ -7,7 +7,7 @@ use Rattle.std.proofs.lemmas.List.Sorted.{IsPermutation-map}
 use Rattle.i_shape_core.specs.declared.point.IntPoint.{IntPoint}
 use Rattle.i_shape_core.specs.IntPoint.{point_of, contour_of}
 use Rattle.i_shape.specs.ShapeLists.{shape_of, shapes_of, IsSafeShape}
-use Rattle.i_shape_int.proofs.Surviving.{mapped-read, survivors-more}
+use Rattle.i_shape.proofs.Surviving.{mapped-read, survivors-more}
 use Rattle.i_shape.specs.CanonicalShapes.{ShapeForm, IsShapeAtMost}
 use Rattle.i_shape_core.proofs.ContourOrder.{point_cmp, points_told, points_total, contours_told}
 use Rattle.i_shape.proofs.Orders.{shape_told, sorted_pairs}

@@ -10,7 +10,7 @@ use Rattle.i_shape.proofs.Orders.{sorted_pairs}
 use Rattle.i_shape_core.specs.IntPoint.{point_of, contour_of, IsSafe}
 use Rattle.i_shape_core.specs.Canonical.{IsAtMost}
 use Rattle.i_shape.specs.ShapeLists.{shape_of}
-use Rattle.i_shape_int.proofs.Surviving.{mapped-read, survivors-more}
+use Rattle.i_shape.proofs.Surviving.{mapped-read, survivors-more}
 use Rattle.i_shape.proofs.int.canonical.forms.sorted_forms.Goals as goal
 
 pub append_contour-requires : goal.append_contour-requires

@@ -1,0 +1,353 @@
+-- What callers need beside the contracts: from a buffer to the contours that it holds, from lists of points to shapes, and what whole lists keep.
+use Rattle.std.proofs.Common.{◌≡◌, ◌↔◌, ◌≤◌, ℕ, ◌+◌, ◌-◌, ℤ, List, [], ◌∷◌, ◌++◌, length, map, take, drop, refl, sym, ap, subst, ◌∙◌, arith, length-append, Option, Some, None, option_map, IfSome, Bool, false, IsTrue, Result, Ok, Err, IfOk}
+use Rattle.std.specs.Global.{Vec}
+use Rattle.std.specs.Int.{Width}
+use Rattle.std.specs.declared.ops.Range.{Range}
+use Rattle.std.specs.Result.{IsOk, IsErr, is_ok, OnOk}
+use Rattle.std.specs.List.{All, AllZip, filter_map, sum_by, slice_get}
+use Rattle.std.proofs.lemmas.Int.{ints}
+use Rattle.std.proofs.lemmas.List.Elements.{All-nil, All-cons, All-head, All-tail, All-append, All-take, All-drop}
+use Rattle.std.proofs.lemmas.List.{map-append}
+use Rattle.std.proofs.lemmas.List.Sums.{sum_by-cons}
+use Rattle.std.proofs.lemmas.Simd.{map-map}
+use Rattle.i_shape_core.specs.Point.{Point, IsBack}
+use Rattle.i_shape_core.specs.IntPoint.{contour_of, point_of, IsSafe}
+use Rattle.i_shape_core.specs.Contour.{IsSimple, IsRemovable, Reach, stay, step}
+use Rattle.i_shape_core.specs.Edges.{Inside}
+use Rattle.i_shape_core.specs.Convex.{NoSpikes}
+use Rattle.i_shape_core.specs.Cleaners.{SimpleAnswer, SpikelessAnswer, DespikeAnswer, KeptAnswer, IsKept, EachEndCollapses}
+use Rattle.i_shape_core.specs.Written.{slot, IsWritten}
+use Rattle.i_shape_core.specs.declared.error.ShapeError.{ShapeError}
+use Rattle.i_shape_core.specs.declared.point.IntPoint.{IntPoint}
+use Rattle.i_shape_source.specs.Paths.{paths_of_shape, paths_of_shapes, shape_lists, joined}
+use Rattle.i_shape.specs.declared.flat.buffer.contours.FlatContoursBuffer.{FlatContoursBuffer}
+use Rattle.i_shape.specs.Flat.{part_of, slices, shapes, end_to_end}
+use Rattle.i_shape.specs.Buffers.{Compact, contours_in, range_len, HoldsContours, HoldsShapes, contours_of, named_shapes}
+use Rattle.i_shape.specs.declared.flat.buffer.shapes.FlatShapesBuffer.{FlatShapesBuffer}
+use Rattle.i_shape.specs.ShapeLists.{shape_of, shapes_of, IsSafeShape, IsSafeList, AreSafePaths}
+use Rattle.i_shape.specs.ShapeAnswers.{HasPoints, inside_count, shapes_shoelace, Survivors, ShapeClean, ListClean, EachContour, EachShape, AreKept, ListKept}
+use Rattle.i_shape.specs.InPlace.{Leaves, CleansContour, DespikesContour, CleansShape, CleansList}
+use Rattle.i_shape_core.proofs.Answered.{simple_kept, nothing_keeps}
+use Rattle.i_shape_core.proofs.Ends.{reach_shrinks, no_step}
+use Rattle.i_shape_core.proofs.Spikes.{spikeless_end}
+use Rattle.i_shape_core.proofs.AllTold.{mapped}
+use Rattle.i_shape.proofs.Keeping.{inside_count-append}
+use Rattle.i_shape.proofs.Surviving.{survivors_have}
+use Rattle.i_shape.proofs.ShapeRanges.{slice_range-map, slices-part_of}
+
+-- the contours of a shape are read from the lists of its points
+pub shape_of_paths : {I : Type 0} (value : I → ℤ) (contours : List (Vec (IntPoint I))) → shape_of value contours ≡ map (contour_of value) (paths_of_shape contours)
+shape_of_paths value contours = sym (map-map (contour_of value) (λ contour. contour.items) contours)
+
+-- shapes are read from the lists of points of their contours
+pub shapes_of_lists : {I : Type 0} (value : I → ℤ) (shapes : List (Vec (Vec (IntPoint I)))) → shapes_of value shapes ≡ map (map (contour_of value)) (shape_lists shapes)
+shapes_of_lists value [] = refl
+shapes_of_lists value (shape ∷ shapes) = λ i. shape_of_paths value shape.items i ∷ shapes_of_lists value shapes i
+
+-- a buffer of shapes names the shapes that it was filled with
+pub named_held : {I : Type 0} (value : I → ℤ) (buffer : FlatShapesBuffer I) (shapes : List (Vec (Vec (IntPoint I)))) → HoldsShapes buffer (shape_lists shapes) → named_shapes value buffer ≡ shapes_of value shapes
+named_held value buffer shapes held = ap (map (map (contour_of value))) held.shapes ∙ sym (shapes_of_lists value shapes)
+
+safe_ranges : {I : Type 0} (width : Width) (value : I → ℤ) (points : List (IntPoint I)) (contours shapes_named : List (Range ℕ)) → IsSafeShape width (map (contour_of value) (slices points contours)) → IsSafeList width (map (contours_of value) (shapes points contours shapes_named))
+safe_ranges width value points contours [] safe = All-nil (IsSafeShape width)
+safe_ranges width value points contours (range ∷ ranges) safe =
+    let n = range.end - range.start in
+    let all = map (contour_of value) (slices points contours) in
+    let same : take n (drop range.start all) ≡ contours_of value (slices points (part_of contours range)) =
+    slice_range-map (contour_of value) (slices points contours) range.start range.end ∙ ap (map (contour_of value)) (sym (slices-part_of points contours range)) in
+    let here = subst (IsSafeShape width) same (All-take (All (IsSafe width)) n (drop range.start all) (All-drop (All (IsSafe width)) range.start all safe)) in
+    All-cons (IsSafeShape width) (contours_of value (slices points (part_of contours range))) (map (contours_of value) (shapes points contours ranges)) here (safe_ranges width value points contours ranges safe)
+
+-- the shapes that a buffer names are safe where its contours are, as the test of the buffer tells it
+pub safe_named : {I : Type 0} (width : Width) (value : I → ℤ) (buffer : FlatShapesBuffer I) → AreSafePaths width value (slices buffer.points.items buffer.contour_ranges.items) → IsSafeList width (named_shapes value buffer)
+unfolding AreSafePaths
+safe_named width value buffer safe = safe_ranges width value buffer.points.items buffer.contour_ranges.items buffer.shape_ranges.items safe
+
+-- shapes of the same lists of points are the same shapes
+pub same_shapes : {I : Type 0} (value : I → ℤ) (a b : List (Vec (Vec (IntPoint I)))) → shape_lists a ≡ shape_lists b → shapes_of value a ≡ shapes_of value b
+same_shapes value a b same = shapes_of_lists value a ∙ ap (map (map (contour_of value))) same ∙ sym (shapes_of_lists value b)
+
+-- a buffer names the contours that it was filled with
+pub contours_held : {I : Type 0} (value : I → ℤ) (buffer : FlatContoursBuffer I) (contours : List (Vec (IntPoint I))) → HoldsContours buffer (paths_of_shape contours) → contours_in value buffer ≡ shape_of value contours
+contours_held value buffer contours held = ap (map (contour_of value)) held.slices ∙ sym (shape_of_paths value contours)
+
+-- and they are safe where these are
+pub safe_held : {I : Type 0} (width : Width) (value : I → ℤ) (buffer : FlatContoursBuffer I) (contours : List (Vec (IntPoint I))) → HoldsContours buffer (paths_of_shape contours) → IsSafeShape width (shape_of value contours) → IsSafeShape width (contours_in value buffer)
+safe_held width value buffer contours held safe = subst (IsSafeShape width) (sym (contours_held value buffer contours held)) safe
+
+named_points : {P : Type 0} (start : ℕ) (contours : List (List P)) → sum_by range_len (end_to_end start contours) ≡ length (joined contours)
+named_points start [] = refl
+named_points start (c ∷ contours) =
+    let more = sum_by-cons range_len (record { start = start; end = start + length c }) (end_to_end (start + length c) contours) in
+    omega (arith, more, named_points (start + length c) contours, length-append c (joined contours))
+
+-- the ranges of the buffer name as many points as the contours have, as `too_many` of `simplify_contours` asks
+pub points_held : {I : Type 0} (buffer : FlatContoursBuffer I) (contours : List (List (IntPoint I))) → HoldsContours buffer contours → sum_by range_len buffer.ranges.items ≡ length (joined contours)
+points_held buffer contours held = ap (sum_by range_len) held.ranges ∙ named_points 0 contours
+
+shapes_of_paths : {I : Type 0} (value : I → ℤ) (shapes : List (Vec (Vec (IntPoint I)))) → joined (shapes_of value shapes) ≡ map (contour_of value) (paths_of_shapes shapes)
+shapes_of_paths value [] = refl
+shapes_of_paths value (shape ∷ shapes) =
+    ap (λ w. w ++ joined (shapes_of value shapes)) (shape_of_paths value shape.items)
+    ∙ ap (λ w. map (contour_of value) (paths_of_shape shape.items) ++ w) (shapes_of_paths value shapes)
+    ∙ sym (map-append (contour_of value) (paths_of_shape shape.items) (paths_of_shapes shapes))
+
+-- a buffer that was filled with shapes names their contours
+pub shapes_held : {I : Type 0} (value : I → ℤ) (buffer : FlatContoursBuffer I) (shapes : List (Vec (Vec (IntPoint I)))) → HoldsContours buffer (paths_of_shapes shapes) → contours_in value buffer ≡ joined (shapes_of value shapes)
+shapes_held value buffer shapes held = ap (map (contour_of value)) held.slices ∙ sym (shapes_of_paths value shapes)
+
+safe_joined : (width : Width) (shapes : List (List (List Point))) → IsSafeList width shapes → IsSafeShape width (joined shapes)
+safe_joined width [] safe = All-nil (All (IsSafe width))
+safe_joined width (shape ∷ shapes) safe =
+    All-append (All (IsSafe width)) shape (joined shapes) (All-head (IsSafeShape width) shape shapes safe) (safe_joined width shapes (All-tail (IsSafeShape width) shape shapes safe))
+
+-- and they are safe where these are
+pub safe_shapes_held : {I : Type 0} (width : Width) (value : I → ℤ) (buffer : FlatContoursBuffer I) (shapes : List (Vec (Vec (IntPoint I)))) → HoldsContours buffer (paths_of_shapes shapes) → IsSafeList width (shapes_of value shapes) → IsSafeShape width (contours_in value buffer)
+safe_shapes_held width value buffer shapes held safe = subst (IsSafeShape width) (sym (shapes_held value buffer shapes held)) (safe_joined width (shapes_of value shapes) safe)
+
+-- the contours that are read from a buffer are those that it names
+pub contours_read : {I : Type 0} (value : I → ℤ) (buffer : FlatContoursBuffer I) (contours : List (Vec (IntPoint I))) → paths_of_shape contours ≡ slices buffer.points.items buffer.ranges.items → shape_of value contours ≡ contours_in value buffer
+contours_read value buffer contours same = shape_of_paths value contours ∙ ap (map (contour_of value)) same
+
+pointed : (contours : List (List Point)) (answers : List (Option (List Point))) → AllZip SimpleAnswer contours answers → All HasPoints (filter_map (λ answer. answer) answers)
+pointed [] [] h = All-nil HasPoints
+pointed [] (a ∷ answers) h = absurd h
+pointed (c ∷ contours) [] h = absurd h
+pointed (c ∷ contours) (None ∷ answers) h = pointed contours answers h.1
+pointed (c ∷ contours) (Some e ∷ answers) h = let kept = h.0 in All-cons HasPoints e _ (omega (arith, kept.enough)) (pointed contours answers h.1)
+
+-- the contours that cleaning leaves in a buffer have points, as their area asks
+pub points_left : (contours kept : List (List Point)) → Compact contours kept → All HasPoints kept
+points_left contours kept compact = let (answers, zipped, are) = compact in subst (All HasPoints) (sym are) (pointed contours answers zipped)
+
+-- and so have those that are read from it
+pub points_read : {I : Type 0} (value : I → ℤ) (before : List (List Point)) (buffer : FlatContoursBuffer I) (contours : List (Vec (IntPoint I)))
+    → Compact before (contours_in value buffer) → paths_of_shape contours ≡ slices buffer.points.items buffer.ranges.items → All HasPoints (shape_of value contours)
+points_read value before buffer contours compact same = subst (All HasPoints) (sym (contours_read value buffer contours same)) (points_left before (contours_in value buffer) compact)
+
+-- where a buffer was filled, cleaned and read back, the contours that were read are what cleaning leaves of those that were given
+pub compact_read : {I : Type 0} (value : I → ℤ) (contours : List (Vec (IntPoint I))) (old new : FlatContoursBuffer I) (r : Result (Vec (Vec (IntPoint I))) ShapeError)
+    → HoldsContours old (paths_of_shape contours) → Compact (contours_in value old) (contours_in value new)
+    → IfOk r (λ back. paths_of_shape back.items ≡ slices new.points.items new.ranges.items) → IfOk r (λ kept. Compact (shape_of value contours) (shape_of value kept.items))
+compact_read value contours old new (Ok back) held compact same = rw (contours_held value old contours held, sym (contours_read value new back.items same)) at compact
+compact_read value contours old new (Err e) held compact same = tt
+
+-- p is inside of the contour that is read, where there is one, exactly where it is inside of c
+abbrev ToldInside : List Point → Point → Option (List Point) → Type 0
+ToldInside c p None = Inside c p → ⊥
+ToldInside c p (Some e) = Inside e p ↔ Inside c p
+
+answer_told : (c : List Point) (p : Point) (answers : List (Option (List Point))) → AllZip SimpleAnswer (c ∷ []) answers → ToldInside c p (slice_get (filter_map (λ answer. answer) answers) 0)
+answer_told c p [] h = absurd h
+answer_told c p (None ∷ []) h = (simple_kept c None h.0).inside p
+answer_told c p (Some e ∷ []) h = (simple_kept c (Some e) h.0).inside p
+answer_told c p (a ∷ b ∷ answers) h = absurd h.1
+
+first_of : {I : Type 0} (value : I → ℤ) (contours : List (Vec (IntPoint I))) → slice_get (shape_of value contours) 0 ≡ option_map (λ contour. contour_of value contour.items) (slice_get contours 0)
+first_of value [] = refl
+first_of value (contour ∷ contours) = refl
+
+module _ {I : Type 0} (value : I → ℤ) (buffer : FlatContoursBuffer I) (contours : List (Vec (IntPoint I))) (same : paths_of_shape contours ≡ slices buffer.points.items buffer.ranges.items) where
+  told : (old : FlatContoursBuffer I) (contour : List (IntPoint I)) → HoldsContours old (contour ∷ []) → Compact (contours_in value old) (contours_in value buffer)
+      → (p : Point) (first : Option (Vec (IntPoint I))) → first ≡ slice_get contours 0 → ToldInside (contour_of value contour) p (option_map (λ contour. contour_of value contour.items) first)
+  told old contour held (answers, zipped, are) p first is =
+      subst (ToldInside (contour_of value contour) p)
+      (sym (ap (λ l. slice_get l 0) are) ∙ sym (ap (λ l. slice_get l 0) (contours_read value buffer contours same)) ∙ first_of value contours ∙ ap (option_map (λ contour. contour_of value contour.items)) (sym is))
+      (answer_told (contour_of value contour) p answers (subst (λ l. AllZip SimpleAnswer l answers) (ap (map (contour_of value)) held.slices) zipped))
+
+  -- where one contour was put into a buffer, cleaned there and read back: what tells whether a point is inside of what is left tells whether it is inside of that contour
+  pub told_by_first : {R : Type 0} (old : FlatContoursBuffer I) (contour : List (IntPoint I)) → HoldsContours old (contour ∷ []) → Compact (contours_in value old) (contours_in value buffer)
+      → (p : Point) (first : Vec (IntPoint I)) → Some first ≡ slice_get contours 0 → R ↔ Inside (contour_of value first.items) p → R ↔ Inside (contour_of value contour) p
+  told_by_first old contour held compact p first is asked = let same = told old contour held compact p (Some first) is in (λ r. same.0 (asked.0 r), λ inside. asked.1 (same.1 inside))
+
+  -- where nothing is left it is inside of neither
+  pub told_by_none : (old : FlatContoursBuffer I) (contour : List (IntPoint I)) → HoldsContours old (contour ∷ []) → Compact (contours_in value old) (contours_in value buffer)
+      → (p : Point) → None ≡ slice_get contours 0 → IsTrue false ↔ Inside (contour_of value contour) p
+  told_by_none old contour held compact p is = (λ r. absurd cc, λ inside. absurd (told old contour held compact p None is inside))
+
+  -- and that is safe where the contours of the buffer are
+  pub safe_read : (width : Width) → IsSafeShape width (contours_in value buffer) → (first : Vec (IntPoint I)) → Some first ≡ slice_get contours 0 → All (IsSafe width) (contour_of value first.items)
+  safe_read width safe first is = first_safe contours is (subst (IsSafeShape width) (sym (contours_read value buffer contours same)) safe)
+    where
+      first_safe : (contours : List (Vec (IntPoint I))) → Some first ≡ slice_get contours 0 → IsSafeShape width (shape_of value contours) → All (IsSafe width) (contour_of value first.items)
+      first_safe [] is safe = absurd cc
+      first_safe (contour ∷ contours) is safe =
+          let it : contour ≡ first = cc in
+          subst (λ (x : Vec (IntPoint I)). All (IsSafe width) (contour_of value x.items)) it (All-head (All (IsSafe width)) (contour_of value contour.items) (shape_of value contours) safe)
+
+module _ (Answer : List Point → Option (List Point) → Type 0) where
+  -- a shape and its answer, and what it keeps
+  abbrev Keeps : List (List Point) → Option (List (List Point)) → Type 0
+  Keeps shape r = ShapeClean Answer shape r × IfSome r (AreKept shape)
+
+  left_shorter : (shapes : List (List (List Point))) (answers : List (Option (List (List Point)))) → AllZip Keeps shapes answers → length (filter_map (λ answer. answer) answers) ≤ length shapes
+  left_shorter [] [] h = omega arith
+  left_shorter [] (a ∷ answers) h = absurd h
+  left_shorter (shape ∷ shapes) [] h = absurd h
+  left_shorter (shape ∷ shapes) (None ∷ answers) h = omega (arith, left_shorter shapes answers h.1)
+  left_shorter (shape ∷ shapes) (Some kept ∷ answers) h = omega (arith, left_shorter shapes answers h.1)
+
+  left_kept : (shapes : List (List (List Point))) (answers : List (Option (List (List Point)))) → AllZip Keeps shapes answers → length (filter_map (λ answer. answer) answers) ≡ length shapes
+      → (shapes_shoelace (filter_map (λ answer. answer) answers) ≡ shapes_shoelace shapes) × ((p : Point) → inside_count (joined (filter_map (λ answer. answer) answers)) p ≡ inside_count (joined shapes) p)
+  left_kept [] [] h whole = (refl, λ p. refl)
+  left_kept [] (a ∷ answers) h whole = absurd h
+  left_kept (shape ∷ shapes) [] h whole = absurd h
+  left_kept (shape ∷ shapes) (None ∷ answers) h whole = absurd (omega (arith, left_shorter shapes answers h.1))
+  left_kept (shape ∷ shapes) (Some kept ∷ answers) h whole =
+      let rest = left_kept shapes answers h.1 (omega arith) in
+      let here : AreKept shape kept = h.0.1 in
+      let here_area = here.area in
+      let rest_area = rest.0 in (
+        omega (arith, ints),
+        λ p. omega (arith, inside_count-append shape (joined shapes) p, inside_count-append kept (joined (filter_map (λ answer. answer) answers)) p, here.inside p, rest.1 p),
+      )
+
+-- cleaning a list leaves no more shapes than there were
+pub list_shorter : {Answer : List Point → Option (List Point) → Type 0} {shapes kept : List (List (List Point))} → ListKept Answer shapes kept → length kept ≤ length shapes
+list_shorter {Answer} {shapes} kept_list = let (answers, zipped, are) = kept_list.each in omega (arith, left_shorter Answer shapes answers zipped, ap length are)
+
+-- where as many shapes are left, the list keeps its double area
+pub list_area : {Answer : List Point → Option (List Point) → Type 0} {shapes kept : List (List (List Point))} → ListKept Answer shapes kept → length kept ≡ length shapes → shapes_shoelace kept ≡ shapes_shoelace shapes
+list_area {Answer} {shapes} kept_list whole = let (answers, zipped, are) = kept_list.each in ap shapes_shoelace are ∙ (left_kept Answer shapes answers zipped (sym (ap length are) ∙ whole)).0
+
+-- and each point is inside of as many of its contours
+pub list_inside : {Answer : List Point → Option (List Point) → Type 0} {shapes kept : List (List (List Point))} → ListKept Answer shapes kept → length kept ≡ length shapes
+    → (p : Point) → inside_count (joined kept) p ≡ inside_count (joined shapes) p
+list_inside {Answer} {shapes} kept_list whole p =
+    let (answers, zipped, are) = kept_list.each in
+    ap (λ w. inside_count (joined w) p) are ∙ (left_kept Answer shapes answers zipped (sym (ap length are) ∙ whole)).1 p
+
+-- the same of the area where the answer is named, in the form that a function names
+pub simplified_list_area : {shapes kept : List (List (List Point))} → ListKept SimpleAnswer shapes kept → length kept ≡ length shapes → shapes_shoelace kept ≡ shapes_shoelace shapes
+simplified_list_area kept_list whole = list_area kept_list whole
+
+pub despiked_list_area : {shapes kept : List (List (List Point))} → ListKept DespikeAnswer shapes kept → length kept ≡ length shapes → shapes_shoelace kept ≡ shapes_shoelace shapes
+despiked_list_area kept_list whole = list_area kept_list whole
+
+-- what removing zero turns leaves has no spikes
+contour_spikeless : (c e : List Point) → SimpleAnswer c (Some e) → NoSpikes e
+contour_spikeless c e answer = spikeless_end e answer.enough (λ k back. answer.ended.none_left k (record {
+  enough = back.enough;
+  within = back.within;
+  passes = back.passes.0;
+}))
+
+contours_spikeless : (contours kept : List (List Point)) → Survivors SimpleAnswer contours kept → EachContour NoSpikes kept
+contours_spikeless contours kept survive = survivors_have SimpleAnswer (λ c. Unit {0}) NoSpikes (λ c e answer any. contour_spikeless c e answer) contours kept survive (λ k d lt. tt)
+
+shape_spikeless : (shape kept : List (List Point)) → ShapeClean SimpleAnswer shape (Some kept) → EachContour NoSpikes kept
+shape_spikeless [] kept clean = let none : kept ≡ [] = cc in rw none (All-nil NoSpikes)
+shape_spikeless (outer ∷ holes) [] clean = absurd clean
+shape_spikeless (outer ∷ holes) (contour ∷ kept) clean = All-cons NoSpikes contour kept (contour_spikeless outer contour clean.0) (contours_spikeless holes kept clean.1)
+
+list_spikeless : (shapes kept : List (List (List Point))) → ListClean SimpleAnswer shapes kept → EachShape NoSpikes kept
+list_spikeless shapes kept clean =
+    survivors_have (ShapeClean SimpleAnswer) (λ shape. Unit {0}) (EachContour NoSpikes) (λ shape left answer any. shape_spikeless shape left answer) shapes kept clean (λ k d lt. tt)
+
+-- where zero turns were removed in place, a call that removes spikes isn't refused, and changes nothing
+contour_stays : {old between new : List Point} {q r : Result Bool ShapeError}
+    → CleansContour IsSimple SimpleAnswer old between q → IsOk q → DespikesContour between new r → IsOk r × (new ≡ between)
+contour_stays {q = Err e} first ok second = absurd cc
+contour_stays {old} {between} {new} {q = Ok b} {r} first ok second = go first.cleans.left
+  where
+    go : Leaves SimpleAnswer old between → IsOk r × (new ≡ between)
+    go (None, collapses, none) = let stays = second.contour.short (rw none (omega arith)) in (ap is_ok stays.0, stays.1 ∙ sym none)
+    go (Some e, answer, is) = let stays = second.contour.cleans.passes (rw is (contour_spikeless old e answer)) in (ap is_ok stays.0, stays.1)
+
+shape_stays : {old between new : List (List Point)} {q r : Result Bool ShapeError}
+    → CleansShape IsSimple SimpleAnswer old between q → IsOk q → CleansShape NoSpikes DespikeAnswer between new r → IsOk r × (new ≡ between)
+shape_stays {q = Err e} first ok second = absurd cc
+shape_stays {old} {between} {new} {q = Ok b} {r} first ok second = let stays = second.cleans.passes (go first.cleans.left) in (ap is_ok stays.0, stays.1)
+  where
+    go : Leaves (ShapeClean SimpleAnswer) old between → EachContour NoSpikes between
+    go (None, collapses, none) = rw none (All-nil NoSpikes)
+    go (Some kept, answer, is) = rw is (shape_spikeless old kept answer)
+
+list_stays : {old between new : List (List (List Point))} {q r : Result Bool ShapeError}
+    → CleansList IsSimple SimpleAnswer old between q → IsOk q → CleansList NoSpikes DespikeAnswer between new r → IsOk r × (new ≡ between)
+list_stays {q = Err e} first ok second = absurd cc
+list_stays {old} {between} {q = Ok b} first ok second = let stays = second.cleans.passes (list_spikeless old between first.cleans.left) in (ap is_ok stays.0, stays.1)
+
+left_cleaned : {P : Type 0} (r : Result Bool ShapeError) → OnOk r P → IsOk r → P
+left_cleaned (Ok b) left ok = left
+left_cleaned (Err e) left ok = absurd cc
+
+never : {A B : Type 0} (r : Result A B) → IsOk r → IsErr r → ⊥
+never (Ok a) ok err = absurd cc
+never (Err b) ok err = absurd cc
+
+module _ {old between new : List Point} {q r : Result Bool ShapeError} where
+  -- where zero turns were removed from a contour in place, the contour without them is left after the removal of spikes too
+  pub contour_cleaned : CleansContour IsSimple SimpleAnswer old between q → IsOk q → DespikesContour between new r → Leaves SimpleAnswer old new
+  contour_cleaned first ok second = let same = (contour_stays first ok second).1 in rw same (left_cleaned q first.cleans.left ok)
+
+  -- and isn't refused
+  pub contour_never_refused : CleansContour IsSimple SimpleAnswer old between q → IsOk q → DespikesContour between new r → IsErr r → ⊥
+  contour_never_refused first ok second = never r (contour_stays first ok second).0
+
+module _ {old between new : List (List Point)} {q r : Result Bool ShapeError} where
+  -- so it is of a shape
+  pub shape_cleaned : CleansShape IsSimple SimpleAnswer old between q → IsOk q → CleansShape NoSpikes DespikeAnswer between new r → Leaves (ShapeClean SimpleAnswer) old new
+  shape_cleaned first ok second = let same = (shape_stays first ok second).1 in rw same (left_cleaned q first.cleans.left ok)
+
+  -- which isn't refused either
+  pub shape_never_refused : CleansShape IsSimple SimpleAnswer old between q → IsOk q → CleansShape NoSpikes DespikeAnswer between new r → IsErr r → ⊥
+  shape_never_refused first ok second = never r (shape_stays first ok second).0
+
+module _ {old between new : List (List (List Point))} {q r : Result Bool ShapeError} where
+  -- and of a list
+  pub list_cleaned : CleansList IsSimple SimpleAnswer old between q → IsOk q → CleansList NoSpikes DespikeAnswer between new r → ListKept SimpleAnswer old new
+  list_cleaned first ok second = let same = (list_stays first ok second).1 in rw same (left_cleaned q first.kept ok)
+
+  -- which isn't refused either
+  pub list_never_refused : CleansList IsSimple SimpleAnswer old between q → IsOk q → CleansList NoSpikes DespikeAnswer between new r → IsErr r → ⊥
+  list_never_refused first ok second = never r (list_stays first ok second).0
+
+  -- and keeps its double area where as many shapes are left
+  pub list_cleaned_area : CleansList IsSimple SimpleAnswer old between q → IsOk q → CleansList NoSpikes DespikeAnswer between new r → length new ≡ length old → shapes_shoelace new ≡ shapes_shoelace old
+  list_cleaned_area first ok second = list_area (list_cleaned first ok second)
+
+-- points of a caller's type are safe where each of them is
+pub points_safe : {P I : Type 0} (width : Width) (value : I → ℤ) (point : P → IntPoint I) (points : List P → List (IntPoint I)) → ((list : List P) → points list ≡ map point list)
+    → (list : List P) → All (λ p. IsSafe width (point_of value (point p))) list ↔ All (IsSafe width) (contour_of value (points list))
+points_safe width value point points each list =
+    let one = mapped (λ q. IsSafe width (point_of value q)) point list in
+    let all = mapped (IsSafe width) (point_of value) (map point list) in
+    rw (each list) (λ safe. all.0 (one.0 safe), λ safe. one.1 (all.1 safe))
+
+slot_simple : (c s : List Point) → SimpleAnswer c (slot s) → IsSimple s ↔ (EachEndCollapses c → ⊥)
+slot_simple c [] collapse = (λ simple. absurd (omega (arith, simple.enough)), λ stands. absurd (stands collapse))
+slot_simple c (p ∷ s) one = (λ simple collapse. omega (arith, collapse (p ∷ s) one.ended, one.enough), λ stands. record { enough = one.enough; none = one.ended.none_left })
+
+slot_keeps : (c s : List Point) → KeptAnswer c (slot s) → IsKept c s
+slot_keeps c [] flat = nothing_keeps c flat
+slot_keeps c (p ∷ s) kept = kept
+
+-- what is left where zero turns were removed stays where spikes are removed from it
+slot_stays : (c e d : List Point) → SimpleAnswer c (slot e) → SpikelessAnswer e (slot d) → d ≡ e
+slot_stays c [] [] simple despiked = refl
+slot_stays c [] (q ∷ d) simple despiked = absurd (omega (arith, reach_shrinks despiked.ended.reached, despiked.enough))
+slot_stays c (p ∷ e) [] simple despiked = absurd (omega (arith, despiked (p ∷ e) (record { reached = stay; none_left = simple.ended.none_left }), simple.enough))
+slot_stays c (p ∷ e) (q ∷ d) simple despiked = go despiked.ended.reached
+  where
+    none : (k : ℕ) → IsRemovable IsBack (p ∷ e) k → ⊥
+    none k back = simple.ended.none_left k (record { enough = back.enough; within = back.within; passes = back.passes.0 })
+
+    go : {d : List Point} → Reach IsBack (p ∷ e) d → d ≡ p ∷ e
+    go stay = refl
+    go (step first more) = absurd (no_step none first)
+
+module _ {P : Type 0} {width : Width} {read : List P → List Point} {given old new : List P} {n : ℕ} where
+  -- what a cleaner writes has the double area of what it was given, and the same points inside, also where it writes nothing
+  pub written_kept : {Answer : List Point → Option (List Point) → Type 0} → IsWritten Answer width read given old new n → IsKept (read given) (read (take n new))
+  written_kept written = slot_keeps (read given) (read (take n new)) written.cleaned.kept
+
+  -- what is written without zero turns is simple exactly where something is left
+  pub written_simple : IsWritten SimpleAnswer width read given old new n → IsSimple (read (take n new)) ↔ (EachEndCollapses (read given) → ⊥)
+  written_simple written = slot_simple (read given) (read (take n new)) written.cleaned.answer
+
+  -- where zero turns were removed, what is written where spikes are removed from the rest is the contour without zero turns too
+  pub cleaned_twice : {before after : List P} {m : ℕ} → IsWritten SimpleAnswer width read given old new n → IsWritten SpikelessAnswer width read (take n new) before after m → SimpleAnswer (read given) (slot (read (take m after)))
+  cleaned_twice {before} {after} {m} simple despiked =
+      let same = slot_stays (read given) (read (take n new)) (read (take m after)) simple.cleaned.answer despiked.cleaned.answer in
+      rw same simple.cleaned.answer

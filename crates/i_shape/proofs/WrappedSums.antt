@@ -1,0 +1,40 @@
+-- Sums over the items of a list that wrap at each item, and counts.
+use Rattle.std.proofs.Common.{◌≡◌, ℕ, ◌+◌, ◌<◌, ℤ, ◌+ℤ◌, ◌-ℤ◌, List, map, length, drop, get_or, sym, ap, ◌∙◌, arith}
+use Rattle.std.proofs.lemmas.Int.{ints, int_wrap-add_left, int_wrap-add_right}
+use Rattle.std.proofs.lemmas.List.Sums.{sum_by-cons}
+use Rattle.std.specs.Int.{Width, int_wrap}
+use Rattle.std.specs.List.{sum_by}
+use Rattle.i_shape.specs.ShapeAnswers.{sum_of}
+use Rattle.i_shape_core.proofs.Contours.{drop-read}
+
+-- what a walk has summed up before place k
+abbrev pub IsSummedUp : {A X : Type 0} → Width → (X → ℤ) → (A → X) → List A → ℕ → ℤ → Type 0
+IsSummedUp w f view xs k s = s ≡ int_wrap w (sum_of f (map view xs) -ℤ sum_of f (map view (drop k xs)))
+
+-- an item more is summed up
+pub sum-more : {A X : Type 0} (w : Width) (f : X → ℤ) (view : A → X) (xs : List A) (k : ℕ) (a : A) (before item after : ℤ) → k < length xs → a ≡ get_or xs k a
+    → IsSummedUp w f view xs k before → item ≡ int_wrap w (f (view a)) → after ≡ int_wrap w (before +ℤ item) → IsSummedUp w f view xs (k + 1) after
+sum-more w f view xs k a before item after within read so_far here now =
+    now ∙ ap (λ (z : ℤ). int_wrap w (before +ℤ z)) here ∙ int_wrap-add_right w before (f (view a))
+    ∙ ap (λ (z : ℤ). int_wrap w (z +ℤ f (view a))) so_far ∙ int_wrap-add_left w (total -ℤ sum_of f (map view (drop k xs))) (f (view a))
+    ∙ ap (int_wrap w) (moved total (sum_of f (map view (drop k xs))) (f (view a)) (sum_of f (map view (drop (k + 1) xs))) (ap (λ ys. sum_of f (map view ys)) (drop-read xs k a within read)))
+  where
+    total : ℤ
+    total = sum_of f (map view xs)
+
+    moved : (t r x q : ℤ) → r ≡ x +ℤ q → (t -ℤ r) +ℤ x ≡ t -ℤ q
+    moved t r x q e = omega (arith, ints)
+
+-- what a walk has counted before place k, with what is still to come
+abbrev pub IsCounted : {A : Type 0} → (A → ℕ) → List A → ℕ → ℕ → Type 0
+IsCounted f xs k n = n + sum_by f (drop k xs) ≡ sum_by f xs
+
+-- an item and what comes after it make up the count
+pub count-rest : {A : Type 0} (f : A → ℕ) (xs : List A) (k n : ℕ) (a : A) → k < length xs → a ≡ get_or xs k a → IsCounted f xs k n → n + f a + sum_by f (drop (k + 1) xs) ≡ sum_by f xs
+count-rest {A} f xs k n a within read so_far = regroup n (f a) (sum_by f (drop (k + 1) xs)) (sum_by f xs) (sym (ap (λ (m : ℕ). n + m) rest) ∙ so_far)
+  where
+    rest : sum_by f (drop k xs) ≡ f a + sum_by f (drop (k + 1) xs)
+    rest = ap (sum_by f) (drop-read xs k a within read) ∙ sum_by-cons f a (drop (k + 1) xs)
+
+    regroup : (n x r t : ℕ) → n + (x + r) ≡ t → n + x + r ≡ t
+    regroup n x r t e = omega arith

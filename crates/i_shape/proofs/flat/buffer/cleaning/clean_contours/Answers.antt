@@ -1,0 +1,46 @@
+use Rattle.std.proofs.Common.{rules, ◌≡◌, ap, ◌∙◌, IsTrue, Err}
+use Rattle.std.specs.List.{All}
+use Rattle.std.proofs.lemmas.Result.{err_from_is_err_and}
+use Rattle.i_shape_core.specs.declared.error.ShapeError.TheVariants.{TooManyPoints}
+use Rattle.i_shape.specs.ShapeAnswers.{Survivors}
+use Rattle.i_shape.specs.Buffers.{contours_in}
+use Rattle.i_shape.proofs.Surviving.{survivors_stay}
+use Rattle.i_shape.proofs.Keeping.{survivors_keep, survivors_safe}
+use Rattle.i_shape.proofs.flat.buffer.cleaning.clean_contours.Goals as goal
+
+pub returns-then-are_clean-clause-cleaned : goal.returns-then-are_clean-clause-cleaned
+returns-then-are_clean-clause-cleaned g c =
+    survivors_stay g.C.ContourCleaner.clean g.C.ContourCleaner.answers g.met.C.ContourCleaner.stays (contours_in g.T.IntNumber.value c.args.buffer.now) (rw (c.as_slice.ensures.value, c.as_slice-2.ensures.value) at (c.are_clean.ensures.0 c.if-are_clean.true))
+
+pub returns-then-are_clean-clause-too_many : goal.returns-then-are_clean-clause-too_many
+returns-then-are_clean-clause-too_many g c =
+    let all = rw (c.as_slice.ensures.value, c.as_slice-2.ensures.value) at (c.are_clean.ensures.0 c.if-are_clean.true) in
+    (λ e. absurd (cc), λ h. absurd (h.1 all))
+
+pub returns-in_err-buffer-clause-too_many : goal.returns-in_err-buffer-clause-too_many
+returns-in_err-buffer-clause-too_many g c =
+    let dirty : All g.C.ContourCleaner.clean (contours_in g.T.IntNumber.value c.args.buffer.now) → ⊥ =
+    λ all. let told : IsTrue c.are_clean.result = c.are_clean.ensures.1 (rw (c.as_slice.ensures.value, c.as_slice-2.ensures.value) all) in absurd (cc) in
+    let told = rw c.as_slice-4.ensures.value at c.in_err-buffer.ensures.too_many in
+    let error = err_from_is_err_and c.from_residual.result c.from_residual.ensures.1 in
+    let same : c.from_residual.result ≡ Err c.in_err-buffer.field-0.0 = error.1 ∙ ap Err error.2 in (
+      λ e. let cause : c.in_err-buffer.field-0.0 ≡ TooManyPoints = cc in (told.0 (ap Err cause), dirty),
+      λ h. let is_err = told.1 h.0 in let cause : c.in_err-buffer.field-0.0 ≡ TooManyPoints = cc in same ∙ ap Err cause,
+    )
+
+pub returns-clause-clean : goal.returns-clause-clean
+returns-clause-clean g c =
+    (λ e. absurd (cc), λ all. let told : IsTrue c.are_clean.result = c.are_clean.ensures.1 (rw (c.as_slice.ensures.value, c.as_slice-2.ensures.value) all) in absurd (cc))
+
+pub returns-clause-unchanged : goal.returns-clause-unchanged
+returns-clause-unchanged g c = search rules
+
+pub returns-clause-kept : goal.returns-clause-kept
+returns-clause-kept g c =
+    let compact : Survivors g.C.ContourCleaner.answers (contours_in g.T.IntNumber.value c.args.buffer.now) (contours_in g.T.IntNumber.value c.in_ok-buffer.field-0) = search rules in
+    survivors_keep g.C.ContourCleaner.answers g.met.C.ContourCleaner.keeps _ _ compact
+
+pub returns-clause-safe : goal.returns-clause-safe
+returns-clause-safe g c =
+    let compact : Survivors g.C.ContourCleaner.answers (contours_in g.T.IntNumber.value c.args.buffer.now) (contours_in g.T.IntNumber.value c.in_ok-buffer.field-0) = search rules in
+    survivors_safe g.C.ContourCleaner.answers g.T.IntNumber.width g.met.C.ContourCleaner.stays_safe _ _ compact c.requires.safe

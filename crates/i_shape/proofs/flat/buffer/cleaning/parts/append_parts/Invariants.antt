@@ -1,0 +1,13 @@
+use Rattle.std.proofs.Common.{map, take, List}
+use Rattle.i_shape_core.specs.declared.point.IntPoint.{IntPoint}
+use Rattle.i_shape.specs.ShapeAnswers.{Survivors}
+use Rattle.i_shape.proofs.CompactLaws.{contour_at}
+use Rattle.i_shape.specs.Buffers.{contours_of}
+use Rattle.i_shape.specs.AppendedAnswers.{Grows}
+use Rattle.i_shape.proofs.flat.buffer.cleaning.parts.append_parts.Given as goal
+
+abbrev pub invariant-loop-range : goal.invariant-loop-range
+invariant-loop-range g l =
+    let value = g.T.IntNumber.value in
+    (more : List (List (IntPoint g.row.T.Denot))) × Survivors g.C.ContourCleaner.answers (map (contour_at value l.source) (take l.range-index l.named)) (contours_of value more)
+    × Grows l.initial.points.items l.points.items l.initial.ranges.items l.ranges.items more

@@ -1,0 +1,7 @@
+use Rattle.std.proofs.Common.{map, take}
+use Rattle.std.specs.List.{All}
+use Rattle.i_shape.proofs.CompactLaws.{contour_at}
+use Rattle.i_shape.proofs.flat.buffer.cleaning.parts.are_clean.Given as goal
+
+abbrev pub invariant-loop-range : goal.invariant-loop-range
+invariant-loop-range g l = All g.C.ContourCleaner.clean (map (contour_at g.T.IntNumber.value l.points) (take l.range-index l.ranges))

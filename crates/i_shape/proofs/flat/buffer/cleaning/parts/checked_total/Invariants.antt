@@ -1,0 +1,7 @@
+use Rattle.std.proofs.Common.{◌≡◌, take}
+use Rattle.std.specs.List.{sum_by}
+use Rattle.i_shape.specs.Buffers.{range_len}
+use Rattle.i_shape.proofs.flat.buffer.cleaning.parts.checked_total.Given as goal
+
+abbrev pub invariant-loop-range : goal.invariant-loop-range
+invariant-loop-range l = l.total ≡ sum_by range_len (take l.range-index l.ranges)

@@ -1,0 +1,11 @@
+use Rattle.std.proofs.Common.{map, take}
+use Rattle.i_shape.specs.Buffers.{HoldsShapes, shapes_in, named_shapes}
+use Rattle.i_shape.specs.ShapeAnswers.{ListClean}
+use Rattle.i_shape.proofs.ShapesCleaned.{named_at}
+use Rattle.i_shape.proofs.flat.buffer.cleaning.shapes.cleaned_shapes.Given as goal
+
+abbrev pub invariant-loop-range : goal.invariant-loop-range
+invariant-loop-range g l = record {
+  held : HoldsShapes l.kept (shapes_in l.kept);
+  clean : ListClean g.C.ContourCleaner.answers (map (named_at g.T.IntNumber.value l.points l.contour_ranges) (take l.range-index l.shape_ranges)) (named_shapes g.T.IntNumber.value l.kept);
+}

@@ -1,0 +1,35 @@
+use Rattle.std.proofs.Common.{◌++◌, ◌∙◌, ap, append_assoc, append-nil, sym, subst, List, []}
+use Rattle.std.specs.List.{All}
+use Rattle.std.specs.Option.{option_to_list}
+use Rattle.std.proofs.lemmas.List.{take_all}
+use Rattle.i_shape_core.specs.declared.point.IntPoint.{IntPoint}
+use Rattle.i_shape_core.specs.IntPoint.{contour_of, IsSafe}
+use Rattle.i_shape.specs.ShapeLists.{shape_of}
+use Rattle.i_shape_core.proofs.Survivors.{survivors-none}
+use Rattle.i_shape.proofs.Surviving.{mapped-read, survivors-more}
+use Rattle.i_shape.proofs.int.cleaning.append_holes.Goals as goal
+
+pub append_hole-requires : goal.append_hole-requires
+append_hole-requires g c =
+    let Safe : List (IntPoint g.row.I.Denot) → Type 0 = λ w. All (IsSafe g.I.IntNumber.width) (contour_of g.I.IntNumber.value w) in
+    subst Safe (sym c.as_slice.ensures.value) (mapped-read (λ v. contour_of g.I.IntNumber.value v.items) (All (IsSafe g.I.IntNumber.width)) c.args.contours.now c.loop-contour.contour-index c.contour-item.result c.loop-contour-test.true c.contour-item.is c.requires)
+
+pub loop-contour-init : goal.loop-contour-init
+loop-contour-init g c = ([], survivors-none g.C.ContourCleaner.answers, sym (append-nil (shape_of g.I.IntNumber.value c.args.kept.now.items)))
+
+pub loop-contour-preserved : goal.loop-contour-preserved
+loop-contour-preserved g c =
+    let value = g.I.IntNumber.value in
+    let inv = c.loop-contour.invariant in
+    let step = c.in_ok-append_hole.ensures.ok in
+    let Answered : List (IntPoint g.row.I.Denot) → Type 0 = λ w. g.C.ContourCleaner.answers (contour_of value w) step.0 in (
+      inv.0 ++ option_to_list step.0,
+      survivors-more (λ v. contour_of value v.items) g.C.ContourCleaner.answers c.args.contours.now c.loop-contour.contour-index c.contour-item.result inv.0 step.0 c.loop-contour-test.true c.contour-item.is inv.1 (subst Answered c.as_slice.ensures.value step.1),
+      step.2 ∙ ap (λ w. w ++ option_to_list step.0) inv.2 ∙ append_assoc (shape_of value c.args.kept.now.items) inv.0 (option_to_list step.0),
+    )
+
+pub returns-clause-ok : goal.returns-clause-ok
+returns-clause-ok g c =
+    let inv = c.loop-contour.invariant in
+    let whole = take_all c.loop-contour.contour-index c.args.contours.now c.loop-contour-test.false in
+    (inv.0, rw whole at inv.1, inv.2)

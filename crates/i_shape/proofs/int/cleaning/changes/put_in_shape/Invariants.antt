@@ -1,0 +1,13 @@
+use Rattle.std.proofs.Common.{◌≡◌, vec_len}
+use Rattle.i_shape.specs.ShapeLists.{shape_of}
+use Rattle.i_shape.specs.Changes.{edits_of, put_contour, FitsShape, all_put, AllFit}
+use Rattle.i_shape.proofs.int.cleaning.changes.put_in_shape.Given as goal
+
+abbrev pub invariant-loop-change : goal.invariant-loop-change
+invariant-loop-change g l =
+    let value = g.I.IntNumber.value in
+    AllFit put_contour FitsShape (shape_of value l.shape.items) (edits_of value l.changes.items)
+    × (all_put put_contour (shape_of value l.shape.items) (edits_of value l.changes.items) ≡ all_put put_contour (shape_of value l.initial.shape.items) (edits_of value l.initial.changes.items))
+
+abbrev pub decreases-loop-change : goal.decreases-loop-change
+decreases-loop-change g l = vec_len l.changes

@@ -1,0 +1,9 @@
+use Rattle.std.proofs.Common.{take}
+use Rattle.i_shape.specs.ShapeLists.{shapes_of}
+use Rattle.i_shape.specs.ShapeAnswers.{ListClean}
+use Rattle.i_shape.proofs.int.cleaning.clean_list.Given as goal
+
+abbrev pub invariant-loop-shape : goal.invariant-loop-shape
+invariant-loop-shape g l =
+    let value = g.I.IntNumber.value in
+    ListClean g.C.ContourCleaner.answers (shapes_of value (take l.shape-index l.shapes)) (shapes_of value l.kept.items)

@@ -1,0 +1,40 @@
+use Rattle.std.proofs.Common.{rules, arith, List, Some, sym, subst}
+use Rattle.std.proofs.lemmas.Grind.{common_steps}
+use Rattle.std.specs.List.{All}
+use Rattle.std.specs.Global.{Vec}
+use Rattle.std.proofs.lemmas.List.Elements.{All-head, All-tail}
+use Rattle.i_shape_core.specs.declared.point.IntPoint.{IntPoint}
+use Rattle.i_shape_core.specs.IntPoint.{contour_of, IsSafe}
+use Rattle.i_shape.specs.ShapeLists.{shape_of, IsSafeShape}
+use Rattle.i_shape.specs.ShapeAnswers.{ShapeClean}
+use Rattle.i_shape.proofs.Keeping.{shape_keeps, shape_safe}
+use Rattle.i_shape.proofs.int.cleaning.clean_shape.Goals as goal
+
+pub cleaned_copy-requires : goal.cleaned_copy-requires
+cleaned_copy-requires g c =
+    let value = g.I.IntNumber.value in
+    let Safe : List (Vec (IntPoint g.row.I.Denot)) → Type 0 = λ w. IsSafeShape g.I.IntNumber.width (shape_of value w) in
+    let SafeContour : List (IntPoint g.row.I.Denot) → Type 0 = λ w. All (IsSafe g.I.IntNumber.width) (contour_of value w) in
+    subst SafeContour (sym c.as_slice.ensures.value)
+    (All-head (All (IsSafe g.I.IntNumber.width)) (contour_of value c.in-Some.outer.now.items) (shape_of value c.in-Some.holes.now) (subst Safe c.in-Some.ensures.cases.0 c.requires))
+
+pub append_holes-requires : goal.append_holes-requires
+append_holes-requires g c =
+    let value = g.I.IntNumber.value in
+    let Safe : List (Vec (IntPoint g.row.I.Denot)) → Type 0 = λ w. IsSafeShape g.I.IntNumber.width (shape_of value w) in
+    All-tail (All (IsSafe g.I.IntNumber.width)) (contour_of value c.in-Some.outer.now.items) (shape_of value c.in-Some.holes.now) (subst Safe c.in-Some.ensures.cases.0 c.requires)
+
+pub returns-in_default-clause-answer : goal.returns-in_default-clause-answer
+returns-in_default-clause-answer g c = grind (arith, common_steps)
+
+pub returns-clause-kept : goal.returns-clause-kept
+returns-clause-kept g c =
+    let value = g.I.IntNumber.value in
+    let answer : ShapeClean g.C.ContourCleaner.answers (shape_of value c.args.shape.now) (Some (shape_of value c.append_holes.new.kept.items)) = search rules in
+    shape_keeps g.C.ContourCleaner.answers g.met.C.ContourCleaner.keeps _ _ answer
+
+pub returns-clause-safe : goal.returns-clause-safe
+returns-clause-safe g c =
+    let value = g.I.IntNumber.value in
+    let answer : ShapeClean g.C.ContourCleaner.answers (shape_of value c.args.shape.now) (Some (shape_of value c.append_holes.new.kept.items)) = search rules in
+    shape_safe g.C.ContourCleaner.answers g.I.IntNumber.width g.met.C.ContourCleaner.stays_safe _ _ answer c.requires

@@ -1,0 +1,7 @@
+use Rattle.std.proofs.Common.{take}
+use Rattle.i_shape.specs.ShapeLists.{shape_of}
+use Rattle.i_shape.specs.ShapeAnswers.{EachContour}
+use Rattle.i_shape.proofs.int.cleaning.is_clean_shape.Given as goal
+
+abbrev pub invariant-loop-contour : goal.invariant-loop-contour
+invariant-loop-contour g l = EachContour g.C.ContourCleaner.clean (shape_of g.I.IntNumber.value (take l.contour-index l.shape))

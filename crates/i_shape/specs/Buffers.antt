@@ -1,0 +1,91 @@
+-- What flat buffers hold and name, and what cleaning inside them leaves.
+use Rattle.std.specs.Prelude.{◌≡◌, ℕ, List, [], ◌∷◌, length, ◌+◌, ◌++◌, ◌-◌, ℤ, map}
+use Rattle.std.specs.List.{All, sum_by}
+use Rattle.std.specs.declared.ops.Range.{Range}
+use Rattle.i_shape_core.specs.declared.point.IntPoint.{IntPoint}
+use Rattle.i_shape.specs.declared.flat.buffer.contours.FlatContoursBuffer.{FlatContoursBuffer}
+use Rattle.i_shape_source.specs.Paths.{joined}
+use Rattle.i_shape.specs.Flat.{InOrder, part_of, slices, end_to_end, IsReadableShape, shapes}
+use Rattle.i_shape.specs.declared.flat.buffer.shapes.FlatShapesBuffer.{FlatShapesBuffer}
+use Rattle.i_shape_core.specs.Point.{Point}
+use Rattle.i_shape_core.specs.IntPoint.{contour_of}
+pub use Rattle.i_shape_core.specs.Survivors.{Compact}
+
+-- the buffer has the contours end to end, and nothing else
+pub record HoldsContours {T : Type 0} (buffer : FlatContoursBuffer T) (contours : List (List (IntPoint T))) : Type 0 where
+  pub points : buffer.points.items ≡ joined contours
+  pub ranges : buffer.ranges.items ≡ end_to_end 0 contours
+  pub readable : All (InOrder (length buffer.points.items)) buffer.ranges.items
+  pub slices : slices buffer.points.items buffer.ranges.items ≡ contours
+
+-- the two buffers have the same points and the same ranges
+pub record SameLists {T : Type 0} (old new : FlatContoursBuffer T) : Type 0 where
+  pub points : new.points.items ≡ old.points.items
+  pub ranges : new.ranges.items ≡ old.ranges.items
+
+-- there is no range, or the first can be read
+abbrev pub CanReadFirst : List (Range ℕ) → ℕ → Type 0
+CanReadFirst [] n = Unit {0}
+CanReadFirst (range ∷ ranges) n = InOrder n range
+
+-- the part of the points that the first range names, or all of them where there is no range
+abbrev pub first_contour : {P : Type 0} → List P → List (Range ℕ) → List P
+first_contour points [] = points
+first_contour points (range ∷ ranges) = part_of points range
+
+-- every shape can be read
+abbrev pub CanReadShapes : {T : Type 0} → FlatShapesBuffer T → Type 0
+CanReadShapes buffer = All (IsReadableShape (length buffer.points.items) buffer.contour_ranges.items) buffer.shape_ranges.items
+
+-- the shapes that the buffer names
+abbrev pub shapes_in : {T : Type 0} → FlatShapesBuffer T → List (List (List (IntPoint T)))
+shapes_in buffer = shapes buffer.points.items buffer.contour_ranges.items buffer.shape_ranges.items
+
+-- the buffer has the contours of the shapes end to end, and nothing else
+pub record HoldsShapes {T : Type 0} (buffer : FlatShapesBuffer T) (list : List (List (List (IntPoint T)))) : Type 0 where
+  pub points : buffer.points.items ≡ joined (joined list)
+  pub contour_ranges : buffer.contour_ranges.items ≡ end_to_end 0 (joined list)
+  pub shape_ranges : buffer.shape_ranges.items ≡ end_to_end 0 list
+  pub contours_readable : All (InOrder (length buffer.points.items)) buffer.contour_ranges.items
+  pub shapes_readable : CanReadShapes buffer
+  pub slices : slices buffer.points.items buffer.contour_ranges.items ≡ joined list
+  pub shapes : shapes_in buffer ≡ list
+
+-- the two buffers have the same points and the same ranges
+pub record SameShapeLists {T : Type 0} (old new : FlatShapesBuffer T) : Type 0 where
+  pub points : new.points.items ≡ old.points.items
+  pub contour_ranges : new.contour_ranges.items ≡ old.contour_ranges.items
+  pub shape_ranges : new.shape_ranges.items ≡ old.shape_ranges.items
+
+-- the new buffer is the old one with one shape more at the end
+pub record AddsShape {T : Type 0} (old new : FlatShapesBuffer T) (shape : List (List (IntPoint T))) : Type 0 where
+  pub points : new.points.items ≡ old.points.items ++ joined shape
+  pub contour_ranges : new.contour_ranges.items ≡ old.contour_ranges.items ++ end_to_end (length old.points.items) shape
+  pub shape_ranges : new.shape_ranges.items ≡ old.shape_ranges.items ++ record { start = length old.contour_ranges.items; end = length old.contour_ranges.items + length shape } ∷ []
+  -- where the shapes could be read, they can be read still, with this one at the end
+  pub readable : CanReadShapes old → CanReadShapes new
+  pub shapes : CanReadShapes old → shapes_in new ≡ shapes_in old ++ shape ∷ []
+
+-- the contours that the ranges of a buffer name, over whole numbers, where `value` is what a coordinate stands for
+abbrev pub contours_in : {T : Type 0} → (T → ℤ) → FlatContoursBuffer T → List (List Point)
+contours_in value buffer = map (contour_of value) (slices buffer.points.items buffer.ranges.items)
+
+-- how many points a range names: none where it runs backwards
+abbrev pub range_len : Range ℕ → ℕ
+range_len range = range.end - range.start
+
+-- contours over whole numbers, where `value` is what a coordinate stands for
+abbrev pub contours_of : {T : Type 0} → (T → ℤ) → List (List (IntPoint T)) → List (List Point)
+contours_of value contours = map (contour_of value) contours
+
+-- the shapes that a buffer names, over whole numbers
+abbrev pub named_shapes : {T : Type 0} → (T → ℤ) → FlatShapesBuffer T → List (List (List Point))
+named_shapes value buffer = map (contours_of value) (shapes_in buffer)
+
+-- how many points the shapes have together, each as often as it is named
+abbrev pub named_points : List (Range ℕ) → List (Range ℕ) → ℕ
+named_points contour_ranges shape_ranges = sum_by (λ range. sum_by range_len (part_of contour_ranges range)) shape_ranges
+
+-- and how many contours
+abbrev pub named_contours : List (Range ℕ) → List (Range ℕ) → ℕ
+named_contours contour_ranges shape_ranges = sum_by (λ range. length (part_of contour_ranges range)) shape_ranges

@@ -1,0 +1,46 @@
+-- What a call that cleans in place leaves.
+use Rattle.std.specs.Prelude.{◌≡◌, ◌↔◌, ◌<◌, Bool, true, false, Option, Result, Ok, Err, List, [], length, unwrap_or, OnOk}
+use Rattle.i_shape_core.specs.Point.{Point}
+use Rattle.i_shape_core.specs.Convex.{NoSpikes}
+use Rattle.i_shape_core.specs.Cleaners.{DespikeAnswer, IsKept}
+use Rattle.i_shape_core.specs.declared.error.ShapeError.{ShapeError}
+use Rattle.i_shape_core.specs.declared.error.ShapeError.TheVariants.{OutOfMemory}
+use Rattle.i_shape.specs.ShapeAnswers.{ShapeClean, ListClean, EachContour, EachShape, AreKept, ListKept}
+
+-- new is the answer to old, or empty where there is none
+abbrev pub Leaves : {Y : Type 0} → (List Y → Option (List Y) → Type 0) → List Y → List Y → Type 0
+Leaves {Y} Answer old new = (answer : Option (List Y)) × Answer old answer × (new ≡ unwrap_or answer [])
+
+-- a value was seen as `old`, and is seen as `new` after the call answered r. `Passes` is its test, and `Cleans` relates a value to what is left of it
+pub record CleansInPlace {X : Type 0} (Passes : X → Type 0) (Cleans : X → X → Type 0) (old new : X) (r : Result Bool ShapeError) : Type 0 where
+  -- where it passes nothing changes, and no memory is taken
+  pub passes : Passes old → (r ≡ Ok false) × (new ≡ old)
+  -- it answers so only there
+  pub clean : r ≡ Ok false → Passes old
+  -- whichever it answers, the cleaned value is left
+  pub left : OnOk r (Cleans old new)
+  -- after a refusal it is as it was, and only memory is refused
+  pub refused : (e : ShapeError) → r ≡ Err e → (e ≡ OutOfMemory) × (new ≡ old)
+
+-- the same of a contour, which keeps its double area and the points inside, whatever the call answered
+pub record CleansContour (Passes : List Point → Type 0) (Answer : List Point → Option (List Point) → Type 0) (old new : List Point) (r : Result Bool ShapeError) : Type 0 where
+  pub cleans : CleansInPlace Passes (Leaves Answer) old new r
+  pub kept : IsKept old new
+  -- of fewer than three points none is left, and no memory is taken
+  pub short : length old < 3 → (r ≡ Ok true) × (new ≡ [])
+
+-- the same where spikes are removed
+pub record DespikesContour (old new : List Point) (r : Result Bool ShapeError) : Type 0 where
+  pub contour : CleansContour NoSpikes DespikeAnswer old new r
+  -- a second call finds the contour clean exactly where it isn't empty
+  pub again : (b : Bool) → r ≡ Ok b → NoSpikes new ↔ (0 < length new)
+
+-- the same of a shape, where a contour is left
+pub record CleansShape (Passes : List Point → Type 0) (Answer : List Point → Option (List Point) → Type 0) (old new : List (List Point)) (r : Result Bool ShapeError) : Type 0 where
+  pub cleans : CleansInPlace (EachContour Passes) (Leaves (ShapeClean Answer)) old new r
+  pub kept : 0 < length new → AreKept old new
+
+-- and of a list, shape by shape
+pub record CleansList (Passes : List Point → Type 0) (Answer : List Point → Option (List Point) → Type 0) (old new : List (List (List Point))) (r : Result Bool ShapeError) : Type 0 where
+  pub cleans : CleansInPlace (EachShape Passes) (ListClean Answer) old new r
+  pub kept : OnOk r (ListKept Answer old new)

@@ -1,0 +1,121 @@
+//! The cleaning inside a flat buffer of contours.
+
+ghost use Rattle.std.specs.Prelude.{◌≡◌, ◌<◌, ◌↔◌, true, false, map, length, IfOk, OnOk, OnErr, IsErrOf};
+ghost use Rattle.std.specs.List.{All, sum_by};
+ghost use Rattle.i_shape_core.specs.IntPoint.{contour_of, IsSafe};
+ghost use Rattle.i_shape_core.specs.Contour.{IsSimple};
+ghost use Rattle.i_shape_core.specs.Convex.{NoSpikes};
+ghost use Rattle.i_shape_core.specs.Cleaners.{DespikeAnswer};
+ghost use Rattle.i_shape.specs.ShapeAnswers.{Survivors, AreKept};
+ghost use Rattle.i_shape.specs.Flat.{InOrder, slices};
+ghost use Rattle.i_shape.specs.Buffers.{HoldsContours, Compact, contours_in, range_len};
+
+mod parts;
+mod shapes;
+
+use crate::ShapeError;
+use crate::flat::buffer::FlatContoursBuffer;
+use crate::flat::buffer::cleaning::parts::{append_parts, are_clean, checked_total};
+use crate::int::IntPoint;
+use crate::int::cleaning::ContourCleaner;
+use crate::int::despike::SpikeRemover;
+use crate::int::simple::ContourSimplifier;
+use i_shape_core::number::IntNumber;
+use std::alloc::Global;
+use std::ops::Range;
+
+impl<T: IntNumber> FlatContoursBuffer<T> {
+    /// Removes zero turns from each contour, and contours that collapse. Answers whether any contour had to be cleaned.
+    /// Where none had, nothing changes, and no memory is taken. Otherwise the buffer has the cleaned contours end to end,
+    /// in order, and nothing else. `TooManyPoints` where a contour has to be cleaned and the ranges name more than `usize::MAX` points
+    /// together, tested before any memory is taken; else `OutOfMemory`. After an error the lists are as they were.
+    /// Whatever it answers, the contours can be read still, have safe points, and keep double area and containment together.
+    pub fn simplify_contours(&mut self) -> Result<bool, ShapeError>
+        requires readable { All (InOrder (length self.old.points.items)) self.old.ranges.items }
+        requires safe { All (All (IsSafe T.width)) (contours_in T.value self.old) }
+        ensures compact { OnOk result (Compact (contours_in T.value self.old) (contours_in T.value self.new)) }
+        ensures clean { result ≡ Ok false ↔ All IsSimple (contours_in T.value self.old) }
+        ensures kept { AreKept (contours_in T.value self.old) (contours_in T.value self.new) }
+        ensures unchanged { result ≡ Ok false → self.new ≡ self.old }
+        ensures end_to_end { result ≡ Ok true → HoldsContours self.new (slices self.new.points.items self.new.ranges.items) }
+        ensures readable { All (InOrder (length self.new.points.items)) self.new.ranges.items }
+        ensures safe { All (All (IsSafe T.width)) (contours_in T.value self.new) }
+        ensures err { OnErr result (self.new ≡ self.old) }
+        ensures too_many { IsErrOf result ShapeError.TooManyPoints
+            ↔ ((usize.MAX < sum_by range_len self.old.ranges.items)
+            × (All IsSimple (contours_in T.value self.old) → ⊥)) }
+    {
+        clean_contours::<T, ContourSimplifier>(self)
+    }
+
+    /// Removes spikes from each contour that has some, and contours that collapse, in the same way. Answers whether any had to be
+    /// cleaned.
+    pub fn remove_spikes(&mut self) -> Result<bool, ShapeError>
+        requires readable { All (InOrder (length self.old.points.items)) self.old.ranges.items }
+        requires safe { All (All (IsSafe T.width)) (contours_in T.value self.old) }
+        ensures cleaned { OnOk result (Survivors DespikeAnswer (contours_in T.value self.old) (contours_in T.value self.new)) }
+        ensures clean { result ≡ Ok false ↔ All NoSpikes (contours_in T.value self.old) }
+        ensures kept { AreKept (contours_in T.value self.old) (contours_in T.value self.new) }
+        ensures unchanged { result ≡ Ok false → self.new ≡ self.old }
+        ensures end_to_end { result ≡ Ok true → HoldsContours self.new (slices self.new.points.items self.new.ranges.items) }
+        ensures readable { All (InOrder (length self.new.points.items)) self.new.ranges.items }
+        ensures safe { All (All (IsSafe T.width)) (contours_in T.value self.new) }
+        ensures err { OnErr result (self.new ≡ self.old) }
+        ensures too_many { IsErrOf result ShapeError.TooManyPoints
+            ↔ ((usize.MAX < sum_by range_len self.old.ranges.items)
+            × (All NoSpikes (contours_in T.value self.old) → ⊥)) }
+    {
+        clean_contours::<T, SpikeRemover>(self)
+    }
+}
+
+/// Cleans each contour of a buffer.
+fn clean_contours<T: IntNumber, C: ContourCleaner<T>>(
+    buffer: &mut FlatContoursBuffer<T>,
+) -> Result<bool, ShapeError>
+    requires readable { All (InOrder (length buffer.old.points.items)) buffer.old.ranges.items }
+    requires safe { All (All (IsSafe T.width)) (contours_in T.value buffer.old) }
+    ensures cleaned { OnOk result (Survivors C.answers (contours_in T.value buffer.old) (contours_in T.value buffer.new)) }
+    ensures clean { result ≡ Ok false ↔ All C.clean (contours_in T.value buffer.old) }
+    ensures kept { AreKept (contours_in T.value buffer.old) (contours_in T.value buffer.new) }
+    ensures unchanged { result ≡ Ok false → buffer.new ≡ buffer.old }
+    ensures end_to_end { result ≡ Ok true → HoldsContours buffer.new (slices buffer.new.points.items buffer.new.ranges.items) }
+    ensures readable { All (InOrder (length buffer.new.points.items)) buffer.new.ranges.items }
+    ensures safe { All (All (IsSafe T.width)) (contours_in T.value buffer.new) }
+    ensures err { OnErr result (buffer.new ≡ buffer.old) }
+    ensures too_many { IsErrOf result ShapeError.TooManyPoints
+        ↔ ((usize.MAX < sum_by range_len buffer.old.ranges.items)
+        × (All C.clean (contours_in T.value buffer.old) → ⊥)) }
+{
+    if are_clean::<T, C>(buffer.points.as_slice(), buffer.ranges.as_slice()) {
+        return Ok(false);
+    }
+    let alloc = *buffer.points.allocator();
+    *buffer = cleaned_parts::<T, C>(alloc, buffer.points.as_slice(), buffer.ranges.as_slice())?;
+    Ok(true)
+}
+
+/// A buffer of the cleaned contours. `TooManyPoints` where the ranges name more than `usize::MAX` points together.
+fn cleaned_parts<T: IntNumber, C: ContourCleaner<T>>(
+    alloc: Global,
+    points: &[IntPoint<T>],
+    ranges: &[Range<usize>],
+) -> Result<FlatContoursBuffer<T>, ShapeError>
+    requires readable { All (InOrder (length points.now)) ranges.now }
+    requires safe { All (All (IsSafe T.width)) (map (contour_of T.value) (slices points.now ranges.now)) }
+    ensures cleaned { IfOk result (λ kept. Survivors C.answers (map (contour_of T.value) (slices points.now ranges.now)) (contours_in T.value kept)) }
+    ensures end_to_end { IfOk result (λ kept. HoldsContours kept (slices kept.points.items kept.ranges.items)) }
+    ensures too_many { IsErrOf result ShapeError.TooManyPoints ↔ (usize.MAX < sum_by range_len ranges.now) }
+{
+    let count = checked_total(ranges).ok_or(ShapeError::TooManyPoints)?;
+    let mut kept = FlatContoursBuffer::new(alloc);
+    kept.clear_and_reserve(count, ranges.len())?;
+    append_parts(
+        &mut C::start(alloc),
+        &mut kept.points,
+        &mut kept.ranges,
+        points,
+        ranges,
+    )?;
+    Ok(kept)
+}

@@ -1,0 +1,111 @@
+//! What the cleaning inside both forms of a flat buffer does with contours that ranges name.
+
+ghost use Rattle.std.specs.Prelude.{◌≡◌, ◌<◌, ◌↔◌, ◌∷◌, [], List, Option, map, length, IfOk, OnOk, IsOkUnless, IsTrue, MatchOption, option_map};
+ghost use Rattle.std.specs.List.{All, sum_by};
+ghost use Rattle.std.specs.Option.{option_to_list, is_some};
+ghost use Rattle.i_shape_core.specs.IntPoint.{contour_of, IsSafe};
+ghost use Rattle.i_shape_core.specs.declared.point.IntPoint.{IntPoint};
+ghost use Rattle.i_shape.specs.ShapeAnswers.{Survivors};
+ghost use Rattle.i_shape.specs.Flat.{InOrder, part_of, slices};
+ghost use Rattle.i_shape.specs.Buffers.{range_len, contours_of};
+ghost use Rattle.i_shape.specs.AppendedAnswers.{Grows};
+
+use crate::ShapeError;
+use crate::int::IntPoint;
+use crate::int::cleaning::ContourCleaner;
+use i_shape_core::number::IntNumber;
+use std::ops::Range;
+
+/// The points that a range names.
+pub fn part<'a, T: IntNumber>(points: &'a [IntPoint<T>], range: &Range<usize>) -> &'a [IntPoint<T>]
+    requires { InOrder (length points.now) range.now }
+    ensures { result.now ≡ part_of points.now range.now }
+{
+    &points[range.start..range.end]
+}
+
+/// Whether no contour that the ranges name has to be cleaned.
+pub fn are_clean<T: IntNumber, C: ContourCleaner<T>>(
+    points: &[IntPoint<T>],
+    ranges: &[Range<usize>],
+) -> bool
+    requires readable { All (InOrder (length points.now)) ranges.now }
+    requires safe { All (All (IsSafe T.width)) (map (contour_of T.value) (slices points.now ranges.now)) }
+    ensures { IsTrue result ↔ All C.clean (map (contour_of T.value) (slices points.now ranges.now)) }
+{
+    for range in ranges {
+        if !C::is_clean(part(points, range)) {
+            return false;
+        }
+    }
+    true
+}
+
+/// How many points the ranges name together; `None` where that exceeds `usize::MAX`.
+pub fn checked_total(ranges: &[Range<usize>]) -> Option<usize>
+    ensures { MatchOption result (usize.MAX < sum_by range_len ranges.now) (λ n. n ≡ sum_by range_len ranges.now) }
+{
+    let mut total: usize = 0;
+    for range in ranges {
+        total = total.checked_add(range.end.saturating_sub(range.start))?;
+    }
+    Some(total)
+}
+
+/// Appends a contour and its range.
+fn push_contour<T: IntNumber>(
+    points: &mut Vec<IntPoint<T>>,
+    ranges: &mut Vec<Range<usize>>,
+    contour: &[IntPoint<T>],
+) -> Result<(), ShapeError>
+    ensures ok { OnOk result (Grows points.old.items points.new.items ranges.old.items ranges.new.items (contour.now ∷ [])) }
+    ensures memory { IsOkUnless result ShapeError.OutOfMemory }
+{
+    let start = points.len();
+    points.extend_from_slice(contour)?;
+    ranges.push(start..points.len())?;
+    Ok(())
+}
+
+/// Appends the cleaned contour, and nothing where it collapses. Answers whether anything is left of it.
+pub fn append_cleaned<T: IntNumber, C: ContourCleaner<T>>(
+    cleaner: &mut C,
+    points: &mut Vec<IntPoint<T>>,
+    ranges: &mut Vec<Range<usize>>,
+    contour: &[IntPoint<T>],
+) -> Result<bool, ShapeError>
+    requires { All (IsSafe T.width) (contour_of T.value contour.now) }
+    ensures ok { IfOk result (λ left. (answer : Option (List (IntPoint T))) × C.answers (contour_of T.value contour.now) (option_map (contour_of T.value) answer) × Grows points.old.items points.new.items ranges.old.items ranges.new.items (option_to_list answer) × (left ≡ is_some answer)) }
+    ensures memory { IsOkUnless result ShapeError.OutOfMemory }
+{
+    if C::is_clean(contour) {
+        push_contour(points, ranges, contour)?;
+        return Ok(true);
+    }
+    match cleaner.cleaned(contour)? {
+        Some(kept) => {
+            push_contour(points, ranges, kept.as_slice())?;
+            Ok(true)
+        }
+        None => Ok(false),
+    }
+}
+
+/// Appends the cleaned contours that ranges name, without those that collapse.
+pub fn append_parts<T: IntNumber, C: ContourCleaner<T>>(
+    cleaner: &mut C,
+    points: &mut Vec<IntPoint<T>>,
+    ranges: &mut Vec<Range<usize>>,
+    source: &[IntPoint<T>],
+    named: &[Range<usize>],
+) -> Result<(), ShapeError>
+    requires readable { All (InOrder (length source.now)) named.now }
+    requires safe { All (All (IsSafe T.width)) (map (contour_of T.value) (slices source.now named.now)) }
+    ensures ok { OnOk result ((more : List (List (IntPoint T))) × Survivors C.answers (map (contour_of T.value) (slices source.now named.now)) (contours_of T.value more) × Grows points.old.items points.new.items ranges.old.items ranges.new.items more) }
+    ensures memory { IsOkUnless result ShapeError.OutOfMemory }
+{
+    for range in named {
+        append_cleaned(cleaner, points, ranges, part(source, range))?;
+    }
+    Ok(())
+}

@@ -1,0 +1,223 @@
+//! The flat buffer whose ranges name contours.
+
+ghost use Rattle.std.specs.Prelude.{◌≡◌, ◌+◌, ◌<◌, ◌≤◌, ◌++◌, ◌∷◌, ◌↔◌, ◌⊎◌, [], length, vec_len, vec_capacity, IfOk, OnOk, OnErr, IsOkUnless, IsErrOf, IsTrue};
+ghost use Rattle.std.specs.List.{All};
+ghost use Rattle.std.specs.Borrow.{sem};
+ghost use Rattle.i_shape_source.specs.Paths.{paths_of_shape, joined, paths_of_shapes};
+ghost use Rattle.i_shape.specs.Flat.{InOrder, part_of, slices};
+ghost use Rattle.i_shape.specs.Buffers.{HoldsContours, SameLists, CanReadFirst, first_contour};
+ghost use Rattle.i_shape.specs.Lending.{LendsFirst, first_start};
+
+use crate::ShapeError;
+use crate::flat::lists::{
+    all_in_order, append_all_contours, append_contour, append_contours, checked_counts,
+    checked_points_count, copied_parts, copied_ranges, is_in_order, reserve_total,
+};
+use crate::int::IntPoint;
+use crate::int::shape::{IntContour, IntShape};
+use i_shape_core::number::IntNumber;
+use std::alloc::Global;
+use std::ops::Range;
+
+/// Contours in one list of points: each range names the points of a contour. Ranges may be anything;
+/// `can_read_first` and `can_read_contours` test those that a reader needs.
+#[derive(PartialEq, Eq, Debug, Drop)]
+pub struct FlatContoursBuffer<T> {
+    /// The points of all contours.
+    pub points: Vec<IntPoint<T>>,
+    /// The places of each contour's points.
+    pub ranges: Vec<Range<usize>>,
+}
+
+/// Makers and tests.
+impl<T: IntNumber> FlatContoursBuffer<T> {
+    /// An empty buffer that takes its memory from `alloc`.
+    pub fn new(alloc: Global) -> Self
+        ensures { HoldsContours result [] }
+    {
+        FlatContoursBuffer {
+            points: Vec::new(alloc),
+            ranges: Vec::new(alloc),
+        }
+    }
+
+    /// An empty buffer with room for `capacity` points. The only error is `OutOfMemory`.
+    pub fn with_capacity(alloc: Global, capacity: usize) -> Result<Self, ShapeError>
+        ensures ok { IfOk result (λ buffer. HoldsContours buffer []) }
+        ensures room { IfOk result (λ buffer. capacity ≤ vec_capacity buffer.points) }
+        ensures memory { IsOkUnless result ShapeError.OutOfMemory }
+    {
+        Ok(FlatContoursBuffer {
+            points: Vec::with_capacity(alloc, capacity)?,
+            ranges: Vec::new(alloc),
+        })
+    }
+
+    /// A buffer with the same points and ranges. The only error is `OutOfMemory`.
+    pub fn clone(&self) -> Result<Self, ShapeError>
+        ensures ok { IfOk result (λ copy. SameLists self.now copy) }
+        ensures memory { IsOkUnless result ShapeError.OutOfMemory }
+    {
+        let alloc = *self.points.allocator();
+        Ok(FlatContoursBuffer {
+            points: Vec::from_slice(alloc, self.points.as_slice())?,
+            ranges: copied_ranges(alloc, self.ranges.as_slice())?,
+        })
+    }
+
+    /// Whether there are no points. Ranges aren't looked at.
+    pub fn is_empty(&self) -> bool
+        ensures { IsTrue result ↔ (self.now.points.items ≡ []) }
+    {
+        self.points.is_empty()
+    }
+
+    /// Whether there is exactly one range.
+    pub fn is_single_contour(&self) -> bool
+        ensures { IsTrue result ↔ (length self.now.ranges.items ≡ 1) }
+    {
+        self.ranges.len() == 1
+    }
+
+    /// Whether `as_first_contour` may be called: there is no range, or the first is in order and within the points.
+    pub fn can_read_first(&self) -> bool
+        ensures { IsTrue result ↔ CanReadFirst self.now.ranges.items (length self.now.points.items) }
+    {
+        match self.ranges.first() {
+            None => true,
+            Some(range) => is_in_order(range, self.points.len()),
+        }
+    }
+
+    /// Whether `to_contours` may be called: each range is in order and within the points.
+    pub fn can_read_contours(&self) -> bool
+        ensures { IsTrue result ↔ All (InOrder (length self.now.points.items)) self.now.ranges.items }
+    {
+        all_in_order(self.ranges.as_slice(), self.points.len())
+    }
+}
+
+/// Setters. Each makes room before it changes a list, so the buffer stays as it was where it fails.
+impl<T: IntNumber> FlatContoursBuffer<T> {
+    /// Empties the buffer, with room for so many points and contours. The only error is `OutOfMemory`;
+    /// the lists then stay as they were.
+    pub fn clear_and_reserve(&mut self, points: usize, contours: usize) -> Result<(), ShapeError>
+        ensures ok { OnOk result (HoldsContours self.new []) }
+        ensures err { OnErr result (SameLists self.old self.new) }
+        ensures room { OnOk result ((points ≤ vec_capacity self.new.points) × (contours ≤ vec_capacity self.new.ranges)) }
+        ensures memory { IsOkUnless result ShapeError.OutOfMemory }
+    {
+        reserve_total(&mut self.points, points)?;
+        reserve_total(&mut self.ranges, contours)?;
+        self.points.clear();
+        self.ranges.clear();
+        Ok(())
+    }
+
+    /// Puts this one contour in place of all others. The only error is `OutOfMemory`; the lists then stay as they were.
+    pub fn set_with_contour(&mut self, contour: &[IntPoint<T>]) -> Result<(), ShapeError>
+        ensures ok { OnOk result (HoldsContours self.new (contour.now ∷ [])) }
+        ensures err { OnErr result (SameLists self.old self.new) }
+        ensures memory { IsOkUnless result ShapeError.OutOfMemory }
+    {
+        self.clear_and_reserve(contour.len(), 1)?;
+        append_contour(&mut self.points, &mut self.ranges, contour);
+        Ok(())
+    }
+
+    /// Puts the contours of this shape in place of all others. `TooManyPoints` where they have more than `usize::MAX`
+    /// points together, tested first; else `OutOfMemory`. After an error the lists are as they were.
+    pub fn set_with_shape(&mut self, shape: &[IntContour<T>]) -> Result<(), ShapeError>
+        ensures ok { OnOk result (HoldsContours self.new (paths_of_shape shape.now)) }
+        ensures err { OnErr result (SameLists self.old self.new) }
+        ensures too_many { IsErrOf result ShapeError.TooManyPoints ↔ (usize.MAX < length (joined (paths_of_shape shape.now))) }
+    {
+        let count = checked_points_count(shape).ok_or(ShapeError::TooManyPoints)?;
+        self.clear_and_reserve(count, shape.len())?;
+        append_contours(&mut self.points, &mut self.ranges, shape);
+        Ok(())
+    }
+
+    /// Puts all contours of these shapes in place of all others. `TooManyPoints` where they have more than `usize::MAX`
+    /// points together, or are more than `usize::MAX`, tested first; else `OutOfMemory`. After an error the lists are as they were.
+    pub fn set_with_shapes(&mut self, shapes: &[IntShape<T>]) -> Result<(), ShapeError>
+        ensures ok { OnOk result (HoldsContours self.new (paths_of_shapes shapes.now)) }
+        ensures err { OnErr result (SameLists self.old self.new) }
+        ensures too_many { IsErrOf result ShapeError.TooManyPoints
+            ↔ ((usize.MAX < length (joined (paths_of_shapes shapes.now)))
+            ⊎ (usize.MAX < length (paths_of_shapes shapes.now))) }
+    {
+        let counts = checked_counts(shapes).ok_or(ShapeError::TooManyPoints)?;
+        self.clear_and_reserve(counts.points, counts.contours)?;
+        append_all_contours(&mut self.points, &mut self.ranges, shapes);
+        Ok(())
+    }
+
+    /// Appends the points of a contour, and their range. `TooManyPoints` where there would be more than `usize::MAX` points,
+    /// tested first; else `OutOfMemory`. After an error the lists are as they were.
+    pub fn add_contour(&mut self, contour: &[IntPoint<T>]) -> Result<(), ShapeError>
+        ensures points { OnOk result (self.new.points.items ≡ self.old.points.items ++ contour.now) }
+        ensures ranges { let start = vec_len self.old.points in
+            OnOk result (self.new.ranges.items
+            ≡ self.old.ranges.items ++ record { start = start; end = start + length contour.now } ∷ []) }
+        ensures err { OnErr result (SameLists self.old self.new) }
+        ensures too_many { IsErrOf result ShapeError.TooManyPoints
+            ↔ (usize.MAX < vec_len self.old.points + length contour.now) }
+    {
+        if contour.len() > usize::MAX - self.points.len() {
+            return Err(ShapeError::TooManyPoints);
+        }
+        self.points.reserve(contour.len())?;
+        self.ranges.reserve(1)?;
+        append_contour(&mut self.points, &mut self.ranges, contour);
+        Ok(())
+    }
+}
+
+/// Readers.
+impl<T: IntNumber> FlatContoursBuffer<T> {
+    /// A copy of each contour, in the order of the ranges. The only error is `OutOfMemory`.
+    pub fn to_contours(&self) -> Result<IntShape<T>, ShapeError>
+        requires { All (InOrder (length self.now.points.items)) self.now.ranges.items }
+        ensures ok { IfOk result (λ contours. paths_of_shape contours.items ≡ slices self.now.points.items self.now.ranges.items) }
+        ensures memory { IsOkUnless result ShapeError.OutOfMemory }
+    {
+        copied_parts(
+            *self.points.allocator(),
+            self.points.as_slice(),
+            self.ranges.as_slice(),
+        )
+    }
+
+    /// The points that the first range names; all points where there is no range.
+    pub fn as_first_contour(&self) -> &[IntPoint<T>]
+        requires { CanReadFirst self.now.ranges.items (length self.now.points.items) }
+        ensures { result.now ≡ first_contour self.now.points.items self.now.ranges.items }
+    {
+        let range = self.first_range();
+        &self.points[range.start..range.end]
+    }
+
+    /// The same points, to be written.
+    pub fn as_first_contour_mut(&mut self) -> &mut [IntPoint<T>]
+        requires { CanReadFirst self.old.ranges.items (length self.old.points.items) }
+        ensures* writes_back { sem 𝓛 (LendsFirst T.row self.entry result) }
+        ensures value { result.now ≡ first_contour self.old.points.items self.old.ranges.items }
+    {
+        let range = self.first_range();
+        self.points.slice_mut(range)
+    }
+
+    /// The places of the points that the first range names; of all points where there is no range.
+    fn first_range(&self) -> Range<usize>
+        requires { CanReadFirst self.now.ranges.items (length self.now.points.items) }
+        ensures in_order { InOrder (length self.now.points.items) result }
+        ensures start { result.start ≡ first_start self.now.ranges.items }
+        ensures part { part_of self.now.points.items result ≡ first_contour self.now.points.items self.now.ranges.items }
+    {
+        match self.ranges.first() {
+            None => 0..self.points.len(),
+            Some(range) => range.start..range.end,
+        }
+    }
+}

@@ -1,0 +1,223 @@
+//! Work on the lists that every flat buffer has: points, and ranges of them.
+
+ghost use Rattle.std.specs.Prelude.{◌≡◌, ◌+◌, ◌<◌, ◌≤◌, ◌++◌, ◌∷◌, ◌⊎◌, ◌↔◌, IsTrue, [], length, vec_len, vec_capacity, OnOk, IfOk, IsOkUnless, MatchOption};
+ghost use Rattle.std.specs.List.{All};
+ghost use Rattle.i_shape_source.specs.Paths.{paths_of_shape, shape_lists, joined, paths_of_shapes};
+ghost use Rattle.i_shape.specs.Flat.{InOrder, IsReadableShape, end_to_end, part_of, slices, shapes};
+
+use crate::ShapeError;
+use std::alloc::{AllocError, Global};
+use std::ops::Range;
+
+/// The number of points of some contours, and `None` where it exceeds `usize::MAX`.
+pub fn checked_points_count<P>(contours: &[Vec<P>]) -> Option<usize>
+    ensures { MatchOption result (usize.MAX < length (joined (paths_of_shape contours.now))) (λ n. n ≡ length (joined (paths_of_shape contours.now))) }
+{
+    let mut total: usize = 0;
+    for contour in contours {
+        total = total.checked_add(contour.len())?;
+    }
+    Some(total)
+}
+
+/// Room for `total` members in all. The members stay, whatever the answer.
+pub fn reserve_total<T>(list: &mut Vec<T>, total: usize) -> Result<(), ShapeError>
+    ensures items { list.new.items ≡ list.old.items }
+    ensures len { vec_len list.new ≡ vec_len list.old }
+    ensures room { OnOk result (total ≤ vec_capacity list.new) }
+    ensures memory { IsOkUnless result ShapeError.OutOfMemory }
+{
+    let additional = total.saturating_sub(list.len());
+    list.reserve(additional)?;
+    Ok(())
+}
+
+/// Appends a contour and its range, where there is room for them.
+pub fn append_contour<P: Copy>(points: &mut Vec<P>, ranges: &mut Vec<Range<usize>>, contour: &[P])
+    requires points_room { vec_len points.old + length contour.now ≤ vec_capacity points.old }
+    requires ranges_room { vec_len ranges.old < vec_capacity ranges.old }
+    ensures points { points.new.items ≡ points.old.items ++ contour.now }
+    ensures ranges { ranges.new.items ≡ ranges.old.items ++ record { start = vec_len points.old; end = vec_len points.old + length contour.now } ∷ [] }
+    ensures points_len { vec_len points.new ≡ vec_len points.old + length contour.now }
+    ensures ranges_len { vec_len ranges.new ≡ vec_len ranges.old + 1 }
+    ensures points_capacity { vec_capacity points.old ≤ vec_capacity points.new }
+    ensures ranges_capacity { vec_capacity ranges.old ≤ vec_capacity ranges.new }
+{
+    let start = points.len();
+    points.extend_from_slice(contour).unwrap();
+    ranges.push_reserved(start..points.len());
+}
+
+/// Appends contours end to end and their ranges, where there is room for them.
+pub fn append_contours<P: Copy>(
+    points: &mut Vec<P>,
+    ranges: &mut Vec<Range<usize>>,
+    contours: &[Vec<P>],
+)
+    requires points_room { vec_len points.old + length (joined (paths_of_shape contours.now)) ≤ vec_capacity points.old }
+    requires ranges_room { vec_len ranges.old + length contours.now ≤ vec_capacity ranges.old }
+    ensures points { points.new.items ≡ points.old.items ++ joined (paths_of_shape contours.now) }
+    ensures ranges { ranges.new.items ≡ ranges.old.items ++ end_to_end (vec_len points.old) (paths_of_shape contours.now) }
+    ensures points_len { vec_len points.new ≡ vec_len points.old + length (joined (paths_of_shape contours.now)) }
+    ensures ranges_len { vec_len ranges.new ≡ vec_len ranges.old + length contours.now }
+    ensures points_capacity { vec_capacity points.old ≤ vec_capacity points.new }
+    ensures ranges_capacity { vec_capacity ranges.old ≤ vec_capacity ranges.new }
+{
+    for contour in contours {
+        append_contour(points, ranges, contour.as_slice());
+    }
+}
+
+/// A copy of some ranges.
+pub fn copied_ranges(
+    alloc: Global,
+    ranges: &[Range<usize>],
+) -> Result<Vec<Range<usize>>, AllocError>
+    ensures { IfOk result (λ copy. copy.items ≡ ranges.now) }
+{
+    Vec::from_clones(alloc, ranges)
+}
+
+/// How many points and contours some shapes have.
+#[derive(Clone, Copy)]
+pub struct Counts {
+    pub points: usize,
+    pub contours: usize,
+}
+
+/// The counts of some shapes, and `None` where one of them exceeds `usize::MAX`.
+pub fn checked_counts<P>(shapes: &[Vec<Vec<P>>]) -> Option<Counts>
+    ensures { MatchOption result ((usize.MAX < length (joined (paths_of_shapes shapes.now))) ⊎ (usize.MAX < length (paths_of_shapes shapes.now))) (λ counts. (counts.points ≡ length (joined (paths_of_shapes shapes.now))) × (counts.contours ≡ length (paths_of_shapes shapes.now))) }
+{
+    let mut points: usize = 0;
+    let mut contours: usize = 0;
+    for shape in shapes {
+        points = points.checked_add(checked_points_count(shape.as_slice())?)?;
+        contours = contours.checked_add(shape.len())?;
+    }
+    Some(Counts { points, contours })
+}
+
+/// Appends the contours of shapes end to end and their ranges, where there is room for them.
+pub fn append_all_contours<P: Copy>(
+    points: &mut Vec<P>,
+    ranges: &mut Vec<Range<usize>>,
+    shapes: &[Vec<Vec<P>>],
+)
+    requires points_room { vec_len points.old + length (joined (paths_of_shapes shapes.now)) ≤ vec_capacity points.old }
+    requires ranges_room { vec_len ranges.old + length (paths_of_shapes shapes.now) ≤ vec_capacity ranges.old }
+    ensures points { points.new.items ≡ points.old.items ++ joined (paths_of_shapes shapes.now) }
+    ensures ranges { ranges.new.items ≡ ranges.old.items ++ end_to_end (vec_len points.old) (paths_of_shapes shapes.now) }
+{
+    for shape in shapes {
+        append_contours(points, ranges, shape.as_slice());
+    }
+}
+
+/// Copies of the parts that some ranges name.
+pub fn copied_parts<P: Copy>(
+    alloc: Global,
+    points: &[P],
+    ranges: &[Range<usize>],
+) -> Result<Vec<Vec<P>>, ShapeError>
+    requires { All (InOrder (length points.now)) ranges.now }
+    ensures ok { IfOk result (λ parts. paths_of_shape parts.items ≡ slices points.now ranges.now) }
+    ensures memory { IsOkUnless result ShapeError.OutOfMemory }
+{
+    let mut parts = Vec::with_capacity(alloc, ranges.len())?;
+    for range in ranges {
+        parts.push(Vec::from_slice(alloc, &points[range.start..range.end])?)?;
+    }
+    Ok(parts)
+}
+
+/// Whether a range can be read in a list of `len` members.
+pub fn is_in_order(range: &Range<usize>, len: usize) -> bool
+    ensures { IsTrue result ↔ InOrder len range.now }
+{
+    range.start <= range.end && range.end <= len
+}
+
+/// Whether each range can be read in a list of `len` members.
+pub fn all_in_order(ranges: &[Range<usize>], len: usize) -> bool
+    ensures { IsTrue result ↔ All (InOrder len) ranges.now }
+{
+    ranges.iter().all(|range| is_in_order(range, len))
+}
+
+/// Appends a shape: its contours end to end, their ranges, and the range of these, where there is room for them.
+pub fn append_shape<P: Copy>(
+    points: &mut Vec<P>,
+    contour_ranges: &mut Vec<Range<usize>>,
+    shape_ranges: &mut Vec<Range<usize>>,
+    shape: &[Vec<P>],
+)
+    requires points_room { vec_len points.old + length (joined (paths_of_shape shape.now)) ≤ vec_capacity points.old }
+    requires contours_room { vec_len contour_ranges.old + length shape.now ≤ vec_capacity contour_ranges.old }
+    requires shapes_room { vec_len shape_ranges.old < vec_capacity shape_ranges.old }
+    ensures points { points.new.items ≡ points.old.items ++ joined (paths_of_shape shape.now) }
+    ensures contour_ranges { contour_ranges.new.items ≡ contour_ranges.old.items ++ end_to_end (vec_len points.old) (paths_of_shape shape.now) }
+    ensures shape_ranges { shape_ranges.new.items ≡ shape_ranges.old.items ++ record { start = vec_len contour_ranges.old; end = vec_len contour_ranges.old + length shape.now } ∷ [] }
+    ensures points_len { vec_len points.new ≡ vec_len points.old + length (joined (paths_of_shape shape.now)) }
+    ensures contours_len { vec_len contour_ranges.new ≡ vec_len contour_ranges.old + length shape.now }
+    ensures shapes_len { vec_len shape_ranges.new ≡ vec_len shape_ranges.old + 1 }
+    ensures points_capacity { vec_capacity points.old ≤ vec_capacity points.new }
+    ensures contours_capacity { vec_capacity contour_ranges.old ≤ vec_capacity contour_ranges.new }
+    ensures shapes_capacity { vec_capacity shape_ranges.old ≤ vec_capacity shape_ranges.new }
+{
+    let start = contour_ranges.len();
+    append_contours(points, contour_ranges, shape);
+    shape_ranges.push_reserved(start..contour_ranges.len());
+}
+
+/// Appends shapes, where there is room for them.
+pub fn append_shapes<P: Copy>(
+    points: &mut Vec<P>,
+    contour_ranges: &mut Vec<Range<usize>>,
+    shape_ranges: &mut Vec<Range<usize>>,
+    shapes: &[Vec<Vec<P>>],
+)
+    requires points_room { vec_len points.old + length (joined (paths_of_shapes shapes.now)) ≤ vec_capacity points.old }
+    requires contours_room { vec_len contour_ranges.old + length (paths_of_shapes shapes.now) ≤ vec_capacity contour_ranges.old }
+    requires shapes_room { vec_len shape_ranges.old + length shapes.now ≤ vec_capacity shape_ranges.old }
+    ensures points { points.new.items ≡ points.old.items ++ joined (paths_of_shapes shapes.now) }
+    ensures contour_ranges { contour_ranges.new.items ≡ contour_ranges.old.items ++ end_to_end (vec_len points.old) (paths_of_shapes shapes.now) }
+    ensures shape_ranges { shape_ranges.new.items ≡ shape_ranges.old.items ++ end_to_end (vec_len contour_ranges.old) (shape_lists shapes.now) }
+{
+    for shape in shapes {
+        append_shape(points, contour_ranges, shape_ranges, shape.as_slice());
+    }
+}
+
+/// Whether the contour ranges that a shape range names are there, and each can be read in a list of `len` points.
+pub fn shape_in_order(range: &Range<usize>, contour_ranges: &[Range<usize>], len: usize) -> bool
+    ensures { IsTrue result ↔ IsReadableShape len contour_ranges.now range.now }
+{
+    if range.end <= range.start {
+        return true;
+    }
+    range.end <= contour_ranges.len() && all_in_order(&contour_ranges[range.start..range.end], len)
+}
+
+/// The shapes that some shape ranges name, copied.
+pub fn copied_shapes<P: Copy>(
+    alloc: Global,
+    points: &[P],
+    contour_ranges: &[Range<usize>],
+    shape_ranges: &[Range<usize>],
+) -> Result<Vec<Vec<Vec<P>>>, ShapeError>
+    requires { All (IsReadableShape (length points.now) contour_ranges.now) shape_ranges.now }
+    ensures ok { IfOk result (λ list. shape_lists list.items ≡ shapes points.now contour_ranges.now shape_ranges.now) }
+    ensures memory { IsOkUnless result ShapeError.OutOfMemory }
+{
+    let mut list = Vec::with_capacity(alloc, shape_ranges.len())?;
+    for range in shape_ranges {
+        let shape = if range.start < range.end {
+            copied_parts(alloc, points, &contour_ranges[range.start..range.end])?
+        } else {
+            Vec::new(alloc)
+        };
+        list.push(shape)?;
+    }
+    Ok(list)
+}

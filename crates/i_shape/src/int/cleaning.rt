@@ -1,0 +1,232 @@
+//! Shapes and shape lists, cleaned by any cleaner of contours.
+
+ghost use Rattle.std.specs.Prelude.{◌≡◌, ◌↔◌, ◌++◌, List, Option, Some, IsTrue, IfOk, IfSome, OnOk, IsOkUnless};
+ghost use Rattle.std.specs.List.{All};
+ghost use Rattle.std.specs.Option.{option_to_list};
+ghost use Rattle.i_shape_core.specs.Point.{Point};
+ghost use Rattle.i_shape_core.specs.IntPoint.{contour_of, IsSafe, answered};
+ghost use Rattle.i_shape_core.specs.Cleaners.{KeptAnswer};
+ghost use Rattle.i_shape.specs.ShapeAnswers.{HasPoints, Survivors, ShapeClean, ListClean, EachContour, EachShape, AreKept, ListKept};
+ghost use Rattle.i_shape.specs.ShapeLists.{shape_of, shapes_of, IsSafeShape, IsSafeList};
+ghost use Rattle.i_shape.specs.InPlace.{CleansShape, CleansList};
+
+mod changes;
+
+use crate::int::cleaning::changes::{
+    are_left, list_changes, put_in_list, put_in_shape, shape_changes, take_out_collapsed,
+    take_out_of_list,
+};
+use crate::int::shape::{IntContour, IntShape, IntShapes};
+use i_shape_core::error::ShapeError;
+use i_shape_core::number::IntNumber;
+use i_shape_core::point::IntPoint;
+use std::alloc::Global;
+
+/// A cleaner of contours of safe points. One value cleans any number of them, and may keep its memory from one to the next.
+pub trait ContourCleaner<I: IntNumber>: Drop {
+    /// What a contour that needs no cleaning is.
+    ghost clean: { List Point → Type 0 };
+
+    /// What a contour becomes: none where it collapses.
+    ghost answers: { List Point → Option (List Point) → Type 0 };
+
+    /// A cleaner that takes its memory from `alloc`.
+    fn start(alloc: Global) -> Self;
+
+    /// Whether the contour needs no cleaning. It takes no memory.
+    fn is_clean(contour: &[IntPoint<I>]) -> bool
+        requires { All (IsSafe I.width) (contour_of I.value contour.now) }
+        ensures clean { IsTrue result ↔ clean (contour_of I.value contour.now) }
+        ensures points { IsTrue result → HasPoints (contour_of I.value contour.now) };
+
+    /// The cleaned contour, of one that needs cleaning. The only error is `OutOfMemory`.
+    fn cleaned(&mut self, contour: &[IntPoint<I>]) -> Result<Option<IntContour<I>>, ShapeError>
+        requires safe { All (IsSafe I.width) (contour_of I.value contour.now) }
+        requires unclean { clean (contour_of I.value contour.now) → ⊥ }
+        ensures answer { IfOk result (λ r. answers (contour_of I.value contour.now) (answered (contour_of I.value) r)) }
+        ensures points { IfOk result (λ r. IfSome r (λ kept. HasPoints (contour_of I.value kept.items))) }
+        ensures memory { IsOkUnless result ShapeError.OutOfMemory };
+
+    /// The cleaned contour, of any: a copy of one that needs no cleaning. The only error is `OutOfMemory`.
+    fn cleaned_copy(&mut self, contour: &[IntPoint<I>]) -> Result<Option<IntContour<I>>, ShapeError>
+        requires { All (IsSafe I.width) (contour_of I.value contour.now) }
+        ensures answer { IfOk result (λ r. answers (contour_of I.value contour.now) (answered (contour_of I.value) r)) }
+        ensures memory { IsOkUnless result ShapeError.OutOfMemory };
+
+    /// A contour that needs no cleaning is its own answer.
+    ghost stays: { (c : List Point) → clean c → answers c (Some c) };
+
+    /// An answer keeps the double area and the points inside.
+    ghost keeps: { (c : List Point) (r : Option (List Point)) → answers c r → KeptAnswer c r };
+
+    /// An answer has safe points where the contour has.
+    ghost stays_safe: { (c e : List Point) → answers c (Some e) → All (IsSafe I.width) c → All (IsSafe I.width) e };
+}
+
+/// Whether no contour of the shape needs cleaning.
+pub fn is_clean_shape<I: IntNumber, C: ContourCleaner<I>>(shape: &[IntContour<I>]) -> bool
+    requires { IsSafeShape I.width (shape_of I.value shape.now) }
+    ensures { IsTrue result ↔ EachContour C.clean (shape_of I.value shape.now) }
+{
+    for contour in shape {
+        if !C::is_clean(contour.as_slice()) {
+            return false;
+        }
+    }
+    true
+}
+
+/// Whether no contour of any shape needs cleaning.
+pub fn is_clean_list<I: IntNumber, C: ContourCleaner<I>>(shapes: &[IntShape<I>]) -> bool
+    requires { IsSafeList I.width (shapes_of I.value shapes.now) }
+    ensures { IsTrue result ↔ EachShape C.clean (shapes_of I.value shapes.now) }
+{
+    for shape in shapes {
+        if !is_clean_shape::<I, C>(shape.as_slice()) {
+            return false;
+        }
+    }
+    true
+}
+
+/// Appends the cleaned contour, and nothing where it collapses.
+fn append_hole<I: IntNumber, C: ContourCleaner<I>>(
+    cleaner: &mut C,
+    kept: &mut IntShape<I>,
+    contour: &[IntPoint<I>],
+) -> Result<(), ShapeError>
+    requires { All (IsSafe I.width) (contour_of I.value contour.now) }
+    ensures ok { OnOk result ((answer : Option (List Point)) × C.answers (contour_of I.value contour.now) answer × (shape_of I.value kept.new.items ≡ shape_of I.value kept.old.items ++ option_to_list answer)) }
+    ensures memory { IsOkUnless result ShapeError.OutOfMemory }
+{
+    match cleaner.cleaned_copy(contour)? {
+        Some(hole) => {
+            kept.push(hole)?;
+            Ok(())
+        }
+        None => Ok(()),
+    }
+}
+
+/// Appends the cleaned contours, without those that collapse.
+fn append_holes<I: IntNumber, C: ContourCleaner<I>>(
+    cleaner: &mut C,
+    kept: &mut IntShape<I>,
+    contours: &[IntContour<I>],
+) -> Result<(), ShapeError>
+    requires { IsSafeShape I.width (shape_of I.value contours.now) }
+    ensures ok { OnOk result ((more : List (List Point)) × Survivors C.answers (shape_of I.value contours.now) more × (shape_of I.value kept.new.items ≡ shape_of I.value kept.old.items ++ more)) }
+    ensures memory { IsOkUnless result ShapeError.OutOfMemory }
+{
+    for contour in contours {
+        append_hole(cleaner, kept, contour.as_slice())?;
+    }
+    Ok(())
+}
+
+/// The cleaned shape, and none where its outer contour collapses.
+pub fn clean_shape<I: IntNumber, C: ContourCleaner<I>>(
+    cleaner: &mut C,
+    alloc: Global,
+    shape: &[IntContour<I>],
+) -> Result<Option<IntShape<I>>, ShapeError>
+    requires { IsSafeShape I.width (shape_of I.value shape.now) }
+    ensures answer { IfOk result (λ r. ShapeClean C.answers (shape_of I.value shape.now) (answered (shape_of I.value) r)) }
+    ensures kept { IfOk result (λ r. IfSome r (λ kept. AreKept (shape_of I.value shape.now) (shape_of I.value kept.items))) }
+    ensures safe { IfOk result (λ r. IfSome r (λ kept. IsSafeShape I.width (shape_of I.value kept.items))) }
+    ensures memory { IsOkUnless result ShapeError.OutOfMemory }
+{
+    let Some((outer, holes)) = shape.split_first() else {
+        return Ok(Some(Vec::new(alloc)));
+    };
+    let Some(contour) = cleaner.cleaned_copy(outer.as_slice())? else {
+        return Ok(None);
+    };
+    let mut kept = Vec::with_capacity(alloc, shape.len())?;
+    kept.push(contour)?;
+    append_holes(cleaner, &mut kept, holes)?;
+    Ok(Some(kept))
+}
+
+/// Appends the cleaned shape, and nothing where it is left out.
+fn append_shape<I: IntNumber, C: ContourCleaner<I>>(
+    cleaner: &mut C,
+    kept: &mut IntShapes<I>,
+    shape: &[IntContour<I>],
+) -> Result<(), ShapeError>
+    requires { IsSafeShape I.width (shape_of I.value shape.now) }
+    ensures ok { OnOk result ((answer : Option (List (List Point))) × ShapeClean C.answers (shape_of I.value shape.now) answer × (shapes_of I.value kept.new.items ≡ shapes_of I.value kept.old.items ++ option_to_list answer)) }
+    ensures memory { IsOkUnless result ShapeError.OutOfMemory }
+{
+    let alloc = *kept.allocator();
+    match clean_shape(cleaner, alloc, shape)? {
+        Some(cleaned) => {
+            kept.push(cleaned)?;
+            Ok(())
+        }
+        None => Ok(()),
+    }
+}
+
+/// The cleaned shapes of a list, without those that are left out.
+pub fn clean_list<I: IntNumber, C: ContourCleaner<I>>(
+    cleaner: &mut C,
+    alloc: Global,
+    shapes: &[IntShape<I>],
+) -> Result<IntShapes<I>, ShapeError>
+    requires { IsSafeList I.width (shapes_of I.value shapes.now) }
+    ensures answer { IfOk result (λ r. ListClean C.answers (shapes_of I.value shapes.now) (shapes_of I.value r.items)) }
+    ensures kept { IfOk result (λ r. ListKept C.answers (shapes_of I.value shapes.now) (shapes_of I.value r.items)) }
+    ensures safe { IfOk result (λ r. IsSafeList I.width (shapes_of I.value r.items)) }
+    ensures memory { IsOkUnless result ShapeError.OutOfMemory }
+{
+    let mut kept = Vec::with_capacity(alloc, shapes.len())?;
+    for shape in shapes {
+        append_shape(cleaner, &mut kept, shape.as_slice())?;
+    }
+    Ok(kept)
+}
+
+/// Puts the cleaned shape in the place of the shape, or empties it where its outer contour collapses. Answers whether a contour
+/// needed cleaning; otherwise, and after a refusal, the shape is as it was.
+pub fn clean_shape_in_place<I: IntNumber, C: ContourCleaner<I>>(
+    shape: &mut IntShape<I>,
+) -> Result<bool, ShapeError>
+    requires { IsSafeShape I.width (shape_of I.value shape.old.items) }
+    ensures gives { CleansShape C.clean C.answers (shape_of I.value shape.old.items) (shape_of I.value shape.new.items) result }
+    ensures safe { IsSafeShape I.width (shape_of I.value shape.new.items) }
+{
+    let alloc = *shape.allocator();
+    let changes = shape_changes::<I, C>(alloc, shape.as_slice())?;
+    if changes.is_empty() {
+        return Ok(false);
+    }
+    let all_left = are_left(changes.as_slice());
+    put_in_shape(shape, changes);
+    if !all_left {
+        take_out_collapsed(shape);
+    }
+    Ok(true)
+}
+
+/// Puts the cleaned list in the place of the list. Answers whether a contour needed cleaning; otherwise, and after a refusal,
+/// the list is as it was.
+pub fn clean_list_in_place<I: IntNumber, C: ContourCleaner<I>>(
+    shapes: &mut IntShapes<I>,
+) -> Result<bool, ShapeError>
+    requires { IsSafeList I.width (shapes_of I.value shapes.old.items) }
+    ensures gives { CleansList C.clean C.answers (shapes_of I.value shapes.old.items) (shapes_of I.value shapes.new.items) result }
+    ensures safe { IsSafeList I.width (shapes_of I.value shapes.new.items) }
+{
+    let alloc = *shapes.allocator();
+    let changes = list_changes::<I, C>(alloc, shapes.as_slice())?;
+    if changes.is_empty() {
+        return Ok(false);
+    }
+    let all_left = are_left(changes.as_slice());
+    put_in_list(shapes, changes);
+    if !all_left {
+        take_out_of_list(shapes);
+    }
+    Ok(true)
+}

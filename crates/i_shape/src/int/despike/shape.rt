@@ -1,0 +1,151 @@
+//! Shapes and shape lists without spikes: the tests, the cleaned copies, and the cleaning in place.
+
+ghost use Rattle.std.specs.Prelude.{◌≡◌, ◌↔◌, List, IsTrue, IfOk, IfSome, IsOkUnless, refl};
+ghost use Rattle.i_shape_core.specs.Point.{Point};
+ghost use Rattle.i_shape_core.specs.IntPoint.{contour_of, IsSafe, answered};
+ghost use Rattle.i_shape_core.specs.Convex.{NoSpikes};
+ghost use Rattle.i_shape_core.specs.Cleaners.{DespikeAnswer};
+ghost use Rattle.i_shape_core.proofs.Answered.{despike_kept, despike_left};
+ghost use Rattle.i_shape.specs.ShapeLists.{shape_of, shapes_of, IsSafeShape, IsSafeList};
+ghost use Rattle.i_shape.specs.ShapeAnswers.{ShapeClean, ListClean, EachContour, EachShape, AreKept, ListKept};
+ghost use Rattle.i_shape.specs.InPlace.{CleansShape, CleansList};
+
+use crate::int::cleaning::{
+    ContourCleaner, clean_list, clean_list_in_place, clean_shape, clean_shape_in_place,
+    is_clean_list, is_clean_shape,
+};
+use crate::int::despike::DeSpike;
+use crate::int::shape::{IntContour, IntShape, IntShapes};
+use i_shape_core::despike::DeSpikeContour;
+use i_shape_core::error::ShapeError;
+use i_shape_core::number::IntNumber;
+use i_shape_core::point::IntPoint;
+use std::alloc::Global;
+
+/// The test of a shape of safe points for spikes, and its copy without them.
+pub trait DeSpikeShape<I: IntNumber> {
+    /// The contours over whole numbers.
+    ghost shape: { Self → List (List Point) };
+
+    /// Whether no contour has a spike, and each has three points or more without repeated ones; an empty shape passes.
+    /// It takes no memory.
+    fn has_no_spikes(&self) -> bool
+        requires { IsSafeShape I.width (shape self.now) }
+        ensures { IsTrue result ↔ EachContour NoSpikes (shape self.now) };
+
+    /// The shape without spikes. `None` where the first contour collapses; later contours that collapse are left out.
+    /// A contour without spikes is copied as it is, and an empty shape stays empty. The only error is `OutOfMemory`.
+    fn despiked_shape(&self, alloc: Global) -> Result<Option<IntShape<I>>, ShapeError>
+        requires { IsSafeShape I.width (shape self.now) }
+        ensures answer { IfOk result (λ r. ShapeClean DespikeAnswer (shape self.now) (answered (shape_of I.value) r)) }
+        ensures kept { IfOk result (λ r. IfSome r (λ kept. AreKept (shape self.now) (shape_of I.value kept.items))) }
+        ensures safe { IfOk result (λ r. IfSome r (λ kept. IsSafeShape I.width (shape_of I.value kept.items))) }
+        ensures memory { IsOkUnless result ShapeError.OutOfMemory };
+}
+
+/// The test of a list of shapes of safe points for spikes, and its copy without them.
+pub trait DeSpikeShapes<I: IntNumber> {
+    /// The shapes over whole numbers.
+    ghost shapes: { Self → List (List (List Point)) };
+
+    /// Whether no contour of any shape has a spike, and each has three points or more without repeated ones.
+    /// It takes no memory.
+    fn has_no_spikes(&self) -> bool
+        requires { IsSafeList I.width (shapes self.now) }
+        ensures { IsTrue result ↔ EachShape NoSpikes (shapes self.now) };
+
+    /// The shapes without spikes, in order. A shape whose first contour collapses is left out; an empty shape stays.
+    /// The only error is `OutOfMemory`.
+    fn despiked_shapes(&self, alloc: Global) -> Result<IntShapes<I>, ShapeError>
+        requires { IsSafeList I.width (shapes self.now) }
+        ensures answer { IfOk result (λ r. ListClean DespikeAnswer (shapes self.now) (shapes_of I.value r.items)) }
+        ensures kept { IfOk result (λ r. ListKept DespikeAnswer (shapes self.now) (shapes_of I.value r.items)) }
+        ensures safe { IfOk result (λ r. IsSafeList I.width (shapes_of I.value r.items)) }
+        ensures memory { IsOkUnless result ShapeError.OutOfMemory };
+}
+
+/// The cleaner that removes spikes.
+#[derive(Drop)]
+pub struct SpikeRemover {
+    alloc: Global,
+}
+
+impl<I: IntNumber> ContourCleaner<I> for SpikeRemover {
+    ghost clean = { NoSpikes };
+
+    ghost answers = { DespikeAnswer };
+
+    fn start(alloc: Global) -> SpikeRemover {
+        SpikeRemover { alloc }
+    }
+
+    fn is_clean(contour: &[IntPoint<I>]) -> bool {
+        contour.has_no_spikes()
+    }
+
+    fn cleaned(&mut self, contour: &[IntPoint<I>]) -> Result<Option<IntContour<I>>, ShapeError> {
+        contour.despiked_contour(self.alloc)
+    }
+
+    fn cleaned_copy(
+        &mut self,
+        contour: &[IntPoint<I>],
+    ) -> Result<Option<IntContour<I>>, ShapeError> {
+        if contour.has_no_spikes() {
+            return Ok(Some(Vec::from_slice(self.alloc, contour)?));
+        }
+        self.cleaned(contour)
+    }
+
+    ghost stays = { λ c clean. record { clean = λ _. refl; cleaned = λ unclean. absurd (unclean clean) } };
+
+    ghost keeps = { despike_kept };
+
+    ghost stays_safe = { despike_left (IsSafe I.width) };
+}
+
+impl<I: IntNumber> DeSpikeShape<I> for IntShape<I> {
+    ghost shape = { λ contours. shape_of I.value contours.items };
+
+    fn has_no_spikes(&self) -> bool {
+        is_clean_shape::<I, SpikeRemover>(self.as_slice())
+    }
+
+    fn despiked_shape(&self, alloc: Global) -> Result<Option<IntShape<I>>, ShapeError> {
+        clean_shape(&mut SpikeRemover { alloc }, alloc, self.as_slice())
+    }
+}
+
+impl<I: IntNumber> DeSpikeShapes<I> for IntShapes<I> {
+    ghost shapes = { λ list. shapes_of I.value list.items };
+
+    fn has_no_spikes(&self) -> bool {
+        is_clean_list::<I, SpikeRemover>(self.as_slice())
+    }
+
+    fn despiked_shapes(&self, alloc: Global) -> Result<IntShapes<I>, ShapeError> {
+        clean_list(&mut SpikeRemover { alloc }, alloc, self.as_slice())
+    }
+}
+
+/// A shape whose first contour collapses is left empty; later contours that collapse are taken out. An empty shape answers false.
+impl<I: IntNumber> DeSpike for IntShape<I> {
+    ghost can_despike = { λ shape. IsSafeShape I.width (shape_of I.value shape.items) };
+
+    ghost despike_gives = { λ old r new. CleansShape NoSpikes DespikeAnswer (shape_of I.value old.items) (shape_of I.value new.items) r };
+
+    fn remove_spikes(&mut self) -> Result<bool, ShapeError> {
+        clean_shape_in_place::<I, SpikeRemover>(self)
+    }
+}
+
+/// A shape whose first contour collapses is taken out; a shape that was empty stays.
+impl<I: IntNumber> DeSpike for IntShapes<I> {
+    ghost can_despike = { λ shapes. IsSafeList I.width (shapes_of I.value shapes.items) };
+
+    ghost despike_gives = { λ old r new. CleansList NoSpikes DespikeAnswer (shapes_of I.value old.items) (shapes_of I.value new.items) r };
+
+    fn remove_spikes(&mut self) -> Result<bool, ShapeError> {
+        clean_list_in_place::<I, SpikeRemover>(self)
+    }
+}

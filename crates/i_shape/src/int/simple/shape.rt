@@ -1,0 +1,143 @@
+//! Shapes and shape lists without zero turns: the tests, and the cleaned copies.
+
+ghost use Rattle.std.specs.Prelude.{◌≡◌, ◌↔◌, List, IsTrue, IfOk, IfSome, IsOkUnless};
+ghost use Rattle.std.specs.List.{All};
+ghost use Rattle.i_shape_core.specs.Point.{Point};
+ghost use Rattle.i_shape_core.specs.IntPoint.{contour_of, IsSafe, answered};
+ghost use Rattle.i_shape_core.specs.Contour.{IsSimple};
+ghost use Rattle.i_shape_core.specs.Cleaners.{SimpleAnswer};
+ghost use Rattle.i_shape_core.proofs.Cleaned.{simple_stays};
+ghost use Rattle.i_shape_core.proofs.Answered.{simple_kept, simple_left};
+ghost use Rattle.i_shape.specs.ShapeLists.{shape_of, shapes_of, IsSafeShape, IsSafeList};
+ghost use Rattle.i_shape.specs.ShapeAnswers.{ShapeClean, ListClean, EachContour, EachShape, AreKept, ListKept};
+ghost use Rattle.i_shape.specs.InPlace.{CleansShape, CleansList};
+
+use crate::int::cleaning::{
+    ContourCleaner, clean_list, clean_list_in_place, clean_shape, clean_shape_in_place,
+    is_clean_list, is_clean_shape,
+};
+use crate::int::shape::{IntContour, IntShape, IntShapes};
+use crate::int::simple::Simplify;
+use i_shape_core::error::ShapeError;
+use i_shape_core::number::IntNumber;
+use i_shape_core::point::IntPoint;
+use i_shape_core::simple::SimpleContour;
+use i_shape_core::simplifier::ContourSimplifier;
+use std::alloc::Global;
+
+/// The test of a shape of safe points for zero turns, and its copy without them.
+pub trait SimpleShape<I: IntNumber> {
+    /// The contours over whole numbers.
+    ghost shape: { Self → List (List Point) };
+
+    /// Whether every contour is simple; an empty shape is. It takes no memory.
+    fn is_simple(&self) -> bool
+        requires { IsSafeShape I.width (shape self.now) }
+        ensures { IsTrue result ↔ EachContour IsSimple (shape self.now) };
+
+    /// The shape without zero turns. `None` where the first contour collapses; later contours that collapse are left out.
+    /// A simple contour is copied as it is, and an empty shape stays empty. The only error is `OutOfMemory`.
+    fn simplified(&self, alloc: Global) -> Result<Option<IntShape<I>>, ShapeError>
+        requires { IsSafeShape I.width (shape self.now) }
+        ensures answer { IfOk result (λ r. ShapeClean SimpleAnswer (shape self.now) (answered (shape_of I.value) r)) }
+        ensures kept { IfOk result (λ r. IfSome r (λ kept. AreKept (shape self.now) (shape_of I.value kept.items))) }
+        ensures safe { IfOk result (λ r. IfSome r (λ kept. IsSafeShape I.width (shape_of I.value kept.items))) }
+        ensures memory { IsOkUnless result ShapeError.OutOfMemory };
+}
+
+/// The test of a list of shapes of safe points for zero turns, and its copy without them.
+pub trait SimpleShapes<I: IntNumber> {
+    /// The shapes over whole numbers.
+    ghost shapes: { Self → List (List (List Point)) };
+
+    /// Whether every contour of every shape is simple. It takes no memory.
+    fn is_simple(&self) -> bool
+        requires { IsSafeList I.width (shapes self.now) }
+        ensures { IsTrue result ↔ EachShape IsSimple (shapes self.now) };
+
+    /// The shapes without zero turns, in order. A shape whose first contour collapses is left out; an empty shape stays.
+    /// The only error is `OutOfMemory`.
+    fn simplified(&self, alloc: Global) -> Result<IntShapes<I>, ShapeError>
+        requires { IsSafeList I.width (shapes self.now) }
+        ensures answer { IfOk result (λ r. ListClean SimpleAnswer (shapes self.now) (shapes_of I.value r.items)) }
+        ensures kept { IfOk result (λ r. ListKept SimpleAnswer (shapes self.now) (shapes_of I.value r.items)) }
+        ensures safe { IfOk result (λ r. IsSafeList I.width (shapes_of I.value r.items)) }
+        ensures memory { IsOkUnless result ShapeError.OutOfMemory };
+}
+
+impl<I: IntNumber> ContourCleaner<I> for ContourSimplifier {
+    ghost clean = { IsSimple };
+
+    ghost answers = { SimpleAnswer };
+
+    fn start(alloc: Global) -> ContourSimplifier {
+        ContourSimplifier::new(alloc)
+    }
+
+    fn is_clean(contour: &[IntPoint<I>]) -> bool {
+        contour.is_simple()
+    }
+
+    fn cleaned(&mut self, contour: &[IntPoint<I>]) -> Result<Option<IntContour<I>>, ShapeError> {
+        self.simplify_contour(contour)
+    }
+
+    fn cleaned_copy(
+        &mut self,
+        contour: &[IntPoint<I>],
+    ) -> Result<Option<IntContour<I>>, ShapeError> {
+        self.simplify_contour(contour)
+    }
+
+    ghost stays = { simple_stays };
+
+    ghost keeps = { simple_kept };
+
+    ghost stays_safe = { simple_left (IsSafe I.width) };
+}
+
+impl<I: IntNumber> SimpleShape<I> for &[IntContour<I>] {
+    ghost shape = { λ contours. shape_of I.value contours.now };
+
+    fn is_simple(&self) -> bool {
+        is_clean_shape::<I, ContourSimplifier>(*self)
+    }
+
+    fn simplified(&self, alloc: Global) -> Result<Option<IntShape<I>>, ShapeError> {
+        clean_shape(&mut ContourSimplifier::new(alloc), alloc, *self)
+    }
+}
+
+impl<I: IntNumber> SimpleShapes<I> for &[IntShape<I>] {
+    ghost shapes = { λ list. shapes_of I.value list.now };
+
+    fn is_simple(&self) -> bool {
+        is_clean_list::<I, ContourSimplifier>(*self)
+    }
+
+    fn simplified(&self, alloc: Global) -> Result<IntShapes<I>, ShapeError> {
+        clean_list(&mut ContourSimplifier::new(alloc), alloc, *self)
+    }
+}
+
+/// A shape whose first contour collapses is left empty; later contours that collapse are taken out. An empty shape answers false.
+impl<I: IntNumber> Simplify for IntShape<I> {
+    ghost can_simplify = { λ shape. IsSafeShape I.width (shape_of I.value shape.items) };
+
+    ghost simplify_gives = { λ old r new. CleansShape IsSimple SimpleAnswer (shape_of I.value old.items) (shape_of I.value new.items) r };
+
+    fn simplify_contour(&mut self) -> Result<bool, ShapeError> {
+        clean_shape_in_place::<I, ContourSimplifier>(self)
+    }
+}
+
+/// A shape whose first contour collapses is taken out; a shape that was empty stays.
+impl<I: IntNumber> Simplify for IntShapes<I> {
+    ghost can_simplify = { λ shapes. IsSafeList I.width (shapes_of I.value shapes.items) };
+
+    ghost simplify_gives = { λ old r new. CleansList IsSimple SimpleAnswer (shapes_of I.value old.items) (shapes_of I.value new.items) r };
+
+    fn simplify_contour(&mut self) -> Result<bool, ShapeError> {
+        clean_list_in_place::<I, ContourSimplifier>(self)
+    }
+}

@@ -1,3 +1,0 @@
-//! Resources of paths over points of any kind.
-
-pub use i_shape_source::float::resource::{ShapePoint, ShapeResource};

@@ -1,0 +1,5 @@
+use Rattle.i_shape_core.proofs.MovedLaws as lemmas
+use Rattle.i_shape_core.proofs.laws.moved_alike.Goals as goal
+
+pub returns : goal.returns
+returns c = lemmas.moved_laws

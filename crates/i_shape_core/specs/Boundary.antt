@@ -1,0 +1,20 @@
+-- The points on the edges of a contour.
+use Rattle.std.specs.Prelude.{◌≡◌, ◌<◌, ◌≤ℤ◌, ℕ, ℤ, pos, List, length}
+use Rattle.i_shape_core.specs.Point.{Point, cross, dot, IsZeroTurn}
+use Rattle.i_shape_core.specs.Contour.{point_at, place_after, Reach}
+use Rattle.i_shape_core.specs.Moves.{moved, scaling}
+
+-- p lies on the segment from a to b, or is an end of it
+pub record IsBetween (a p b : Point) : Type 0 where
+  pub straight : cross a p b ≡ pos 0
+  pub ahead : pos 0 ≤ℤ dot a p b
+
+-- p lies on an edge of c
+pub record IsOnEdge (c : List Point) (p : Point) : Type 0 where
+  pub place : ℕ
+  pub within : place < length c
+  pub between : IsBetween (point_at c place) p (point_at c (place_after (length c) place))
+
+-- removals add no point to the edges; n is a common denominator: a point whose coordinates are p.x / n and p.y / n lies on an edge of c where p lies on an edge of c scaled by n
+abbrev pub BoundaryWithin : List Point → List Point → Type 0
+BoundaryWithin c d = Reach IsZeroTurn c d → (n : ℤ) (p : Point) → IsOnEdge (moved (scaling n) d) p → IsOnEdge (moved (scaling n) c) p

@@ -1,0 +1,31 @@
+-- How often a contour winds about a point.
+use Rattle.std.specs.Prelude.{◌≡◌, ◌<◌, ◌%◌, ℤ, pos, neg_ℤ, ◌-ℤ◌, List, reverse, length, cond, unsigned_abs}
+use Rattle.i_shape_core.specs.Point.{Point, IsZeroTurn}
+use Rattle.i_shape_core.specs.Contour.{Reach, Rotation}
+use Rattle.i_shape_core.specs.Edges.{Edge, edges, sum_of_edges, is_above, is_right}
+
+-- 1 for a point above p, and otherwise 0
+abbrev pub level : Point → Point → ℤ
+level p a = cond (is_above p a) (pos 1) (pos 0)
+
+-- what an edge adds: 1 where it passes the height of p upwards and strictly to the right of p, -1 where it does so downwards, and otherwise 0
+unfoldable pub winding_of_edge : Point → Edge → ℤ
+winding_of_edge p e = cond (is_right p e) (level p e.end -ℤ level p e.start) (pos 0)
+
+-- how often the contour winds about p, to the left
+unfoldable pub winding : List Point → Point → ℤ
+winding c p = sum_of_edges (winding_of_edge p) (edges c)
+
+-- removals keep how often the contour winds about each point; fewer than three points wind about none
+pub record WindingKept (c d : List Point) : Type 0 where
+  pub kept : Reach IsZeroTurn c d → (p : Point) → winding c p ≡ winding d p
+  pub none : length c < 3 → (p : Point) → winding c p ≡ pos 0
+
+-- a point is inside where the contour winds about it an odd number of times
+abbrev pub IsOdd : ℤ → Type 0
+IsOdd z = unsigned_abs z % 2 ≡ 1
+
+-- a contour has the same winding numbers from whichever point it starts, and the opposite ones backwards
+pub record WindingTurned (c d : List Point) : Type 0 where
+  pub turned : Rotation c d → (p : Point) → winding c p ≡ winding d p
+  pub backwards : (p : Point) → winding (reverse c) p ≡ neg_ℤ (winding c p)

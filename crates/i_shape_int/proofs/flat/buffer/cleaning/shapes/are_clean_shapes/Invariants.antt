@@ -1,7 +1,0 @@
-use Rattle.std.proofs.Common.{map, take}
-use Rattle.std.specs.List.{All}
-use Rattle.i_shape_int.proofs.ShapesCleaned.{named_at}
-use Rattle.i_shape_int.proofs.flat.buffer.cleaning.shapes.are_clean_shapes.Given as goal
-
-abbrev pub invariant-loop-range : goal.invariant-loop-range
-invariant-loop-range g l = All (All g.C.ContourCleaner.clean) (map (named_at g.T.IntNumber.value l.points l.contour_ranges) (take l.range-index l.shape_ranges))

@@ -1,7 +1,0 @@
-use Rattle.std.proofs.Common.{◌≡◌, take}
-use Rattle.i_shape_source.specs.Paths.{paths_of_shape}
-use Rattle.i_shape_int.specs.Flat.{slices}
-use Rattle.i_shape_int.proofs.flat.lists.copied_parts.Given as goal
-
-abbrev pub invariant-loop-range : goal.invariant-loop-range
-invariant-loop-range g l = paths_of_shape l.parts.items ≡ slices l.points (take l.range-index l.ranges)

@@ -1,8 +1,0 @@
-use Rattle.i_shape_int.specs.IntPoint.{contour_of}
-use Rattle.i_shape_int.specs.Edges.{shoelace}
-use Rattle.i_shape_int.proofs.WrappedSums.{IsSummedUp}
-use Rattle.i_shape_int.proofs.int.area.RefSliceIntContourArea.area_two.Given as goal
-
-abbrev pub invariant-loop-contour : goal.invariant-loop-contour
-invariant-loop-contour g l =
-    IsSummedUp g.I.Wide.WideIntNumber.width shoelace (λ contour. contour_of g.I.IntNumber.value contour.items) l.contours l.contour-index (g.I.Wide.WideIntNumber.value l.sum)

@@ -1,4 +1,0 @@
-use Rattle.i_shape_int.proofs.int.area.RefSliceIntPointArea.area_two.Goals as goal
-
-pub returns : goal.returns
-returns g c = c.area_of.ensures

@@ -1,9 +1,0 @@
-use Rattle.std.proofs.Common.{take}
-use Rattle.i_shape_int.specs.ShapeLists.{shapes_of}
-use Rattle.i_shape_int.specs.ShapeAnswers.{ListClean}
-use Rattle.i_shape_int.proofs.int.cleaning.clean_list.Given as goal
-
-abbrev pub invariant-loop-shape : goal.invariant-loop-shape
-invariant-loop-shape g l =
-    let value = g.I.IntNumber.value in
-    ListClean g.C.ContourCleaner.answers (shapes_of value (take l.shape-index l.shapes)) (shapes_of value l.kept.items)

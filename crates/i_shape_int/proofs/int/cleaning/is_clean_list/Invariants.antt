@@ -1,7 +1,0 @@
-use Rattle.std.proofs.Common.{take}
-use Rattle.i_shape_int.specs.ShapeLists.{shapes_of}
-use Rattle.i_shape_int.specs.ShapeAnswers.{EachShape}
-use Rattle.i_shape_int.proofs.int.cleaning.is_clean_list.Given as goal
-
-abbrev pub invariant-loop-shape : goal.invariant-loop-shape
-invariant-loop-shape g l = EachShape g.C.ContourCleaner.clean (shapes_of g.I.IntNumber.value (take l.shape-index l.shapes))

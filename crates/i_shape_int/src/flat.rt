@@ -1,4 +1,0 @@
-//! Flat buffers: one list of points beside lists of ranges.
-
-pub mod buffer;
-pub mod lists;

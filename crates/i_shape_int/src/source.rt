@@ -1,3 +1,0 @@
-//! Borrowed paths.
-
-pub mod int;
