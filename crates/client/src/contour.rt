@@ -32,7 +32,7 @@ pub fn contains<I: IntNumber>(contour: &[IntPoint<I>], point: IntPoint<I>) -> bo
 }
 
 /// A probe of the contour, where its points are safe.
-pub fn probe<'a, I: IntNumber>(contour: &'a [IntPoint<I>]) -> Option<Probe<'a, IntPoint<I>>> {
+pub fn probe<'a, I: IntNumber>(contour: &'a [IntPoint<I>]) -> Option<Probe<'a, I>> {
     if !contour.is_in_safe_range() {
         return None;
     }

@@ -167,7 +167,7 @@ impl ContourDeSpiker {
 
 /// Whether the contour turns back or stands still at `place`, with these neighbours. Counts one visit.
 fn is_back_between<P: ContourPoint>(
-    probe: &mut Probe<'_, P>,
+    probe: &mut Probe<'_, P::Coordinate, P>,
     previous: usize,
     place: usize,
     next: usize,
@@ -184,7 +184,7 @@ fn is_back_between<P: ContourPoint>(
 }
 
 /// The first place at which the contour turns back or stands still. Counts a visit of each place up to it, or of all.
-fn first_back<P: ContourPoint>(probe: &mut Probe<'_, P>) -> Option<usize>
+fn first_back<P: ContourPoint>(probe: &mut Probe<'_, P::Coordinate, P>) -> Option<usize>
     requires enough { 3 ≤ length probe.old.contour }
     requires fresh { probe.old.visits ≡ 0 }
     ensures answer { FirstAnswer IsBack (contour_of P.Coordinate.value probe.old.contour) result probe.new.visits }
@@ -207,7 +207,7 @@ fn first_back<P: ContourPoint>(probe: &mut Probe<'_, P>) -> Option<usize>
 /// Gives all points where none turns back. From the first that does, it walks round a ring of all places.
 fn despiked<P: ContourPoint>(
     alloc: Global,
-    mut probe: Probe<'_, P>,
+    mut probe: Probe<'_, P::Coordinate, P>,
 ) -> Result<(Option<Vec<P>>, u128), ShapeError>
     requires enough { 3 ≤ length probe.contour }
     requires fresh { probe.visits ≡ 0 }
@@ -231,7 +231,7 @@ fn despiked<P: ContourPoint>(
 }
 
 /// Whether the contour turns back or stands still at the ring's place. Counts one visit.
-fn is_back_at<P: ContourPoint>(probe: &mut Probe<'_, P>, ring: &Ring) -> bool
+fn is_back_at<P: ContourPoint>(probe: &mut Probe<'_, P::Coordinate, P>, ring: &Ring) -> bool
     requires enough { 1 < length ring.now.places }
     requires below { All (λ k. k < length probe.old.contour) ring.now.places }
     requires room { probe.old.visits < u128.MAX }
@@ -243,7 +243,7 @@ fn is_back_at<P: ContourPoint>(probe: &mut Probe<'_, P>, ring: &Ring) -> bool
 }
 
 /// Walks round the ring until each place of it is tested, and takes out those that turn back. Whether three are left.
-fn walk<P: ContourPoint>(probe: &mut Probe<'_, P>, ring: &mut Ring) -> bool
+fn walk<P: ContourPoint>(probe: &mut Probe<'_, P::Coordinate, P>, ring: &mut Ring) -> bool
     requires state { IsRingState IsBack (contour_of P.Coordinate.value probe.old.contour) ring.old probe.old.visits }
     requires room { length probe.old.contour ≤ usize.MAX }
     ensures contour { probe.new.contour ≡ probe.old.contour }

@@ -9,6 +9,7 @@ ghost use Rattle.i_shape_core.specs.Walks.{Seen};
 ghost use Rattle.i_shape_core.specs.Turn.{IsTurn};
 
 use crate::error::ShapeError;
+use crate::number::IntNumber;
 use crate::point::{ContourPoint, IntPoint};
 use crate::turn::{Turn, turn_of};
 use std::alloc::Global;
@@ -16,23 +17,23 @@ use std::marker::Model;
 
 /// The only view of a contour that a cleaner's walk is given. It counts the vertices visited.
 #[derive(Drop)]
-pub struct Probe<'a, P: ContourPoint> {
+pub struct Probe<'a, I: IntNumber, P: ContourPoint<Coordinate = I> = IntPoint<I>> {
     points: &'a [P],
     count: u128,
 }
 
-impl<'a, P: ContourPoint> Model for Probe<'a, P> {
-    ghost Value = { Seen P.Coordinate };
+impl<'a, I: IntNumber, P: ContourPoint<Coordinate = I>> Model for Probe<'a, I, P> {
+    ghost Value = { Seen I };
 
     ghost view = { λ p. record { contour = P.points p.points.now; visits = p.count } };
 
-    ghost invariant = { λ p. All (IsSafe P.Coordinate.width) (contour_of P.Coordinate.value (P.points p.points.now)) };
+    ghost invariant = { λ p. All (IsSafe I.width) (contour_of I.value (P.points p.points.now)) };
 }
 
-impl<'a, P: ContourPoint> Probe<'a, P> {
+impl<'a, I: IntNumber, P: ContourPoint<Coordinate = I>> Probe<'a, I, P> {
     /// A probe of a contour of safe points, with nothing visited.
-    pub fn new(contour: &'a [P]) -> Probe<'a, P>
-        requires { All (IsSafe P.Coordinate.width) (contour_of P.Coordinate.value (P.points contour.now)) }
+    pub fn new(contour: &'a [P]) -> Probe<'a, I, P>
+        requires { All (IsSafe I.width) (contour_of I.value (P.points contour.now)) }
         ensures contour { result.contour ≡ P.points contour.now }
         ensures visits { result.visits ≡ 0 }
     {
@@ -55,7 +56,7 @@ impl<'a, P: ContourPoint> Probe<'a, P> {
         requires place_within { place < length self.old.contour }
         requires next_within { next < length self.old.contour }
         requires room { self.old.visits < u128.MAX }
-        ensures turn { let c = contour_of P.Coordinate.value self.old.contour in IsTurn (point_at c previous) (point_at c place) (point_at c next) result }
+        ensures turn { let c = contour_of I.value self.old.contour in IsTurn (point_at c previous) (point_at c place) (point_at c next) result }
         ensures contour { self.new.contour ≡ self.old.contour }
         ensures visits { self.new.visits ≡ self.old.visits + 1 }
     {
@@ -64,10 +65,10 @@ impl<'a, P: ContourPoint> Probe<'a, P> {
     }
 
     /// The point at a place.
-    fn point(&self, place: usize) -> IntPoint<P::Coordinate>
+    fn point(&self, place: usize) -> IntPoint<I>
         requires { place < length self.now.contour }
         ensures point { result ≡ get_or self.now.contour place result }
-        ensures safe { IsSafe P.Coordinate.width (point_of P.Coordinate.value result) }
+        ensures safe { IsSafe I.width (point_of I.value result) }
     {
         let points = self.points;
         points[place].to_point()
@@ -115,7 +116,7 @@ impl<'a, P: ContourPoint> Probe<'a, P> {
 
     /// All points, as what is left of the contour, and the number of visits. The only error is `OutOfMemory`.
     pub(crate) fn keep_whole(self, alloc: Global) -> Result<(Option<Vec<P>>, u128), ShapeError>
-        ensures kept { IfOk result (λ kept. (answered (λ list. contour_of P.Coordinate.value (P.points list)) kept.0 ≡ Some (contour_of P.Coordinate.value self.entry.contour)) × (kept.1 ≡ self.entry.visits)) }
+        ensures kept { IfOk result (λ kept. (answered (λ list. contour_of I.value (P.points list)) kept.0 ≡ Some (contour_of I.value self.entry.contour)) × (kept.1 ≡ self.entry.visits)) }
         ensures memory { IsOkUnless result ShapeError.OutOfMemory }
     {
         let (kept, visits) = self.keep_all(alloc)?;
@@ -130,7 +131,7 @@ impl<'a, P: ContourPoint> Probe<'a, P> {
         left: Option<&[usize]>,
     ) -> Result<(Option<Vec<P>>, u128), ShapeError>
         requires { IfSome left (λ places. All (λ k. k < length self.contour) places.now) }
-        ensures kept { let c = contour_of P.Coordinate.value self.entry.contour in IfOk result (λ kept. (answered (λ list. contour_of P.Coordinate.value (P.points list)) kept.0 ≡ option_map (λ places. map (point_at c) places.now) left.entry) × (kept.1 ≡ self.entry.visits)) }
+        ensures kept { let c = contour_of I.value self.entry.contour in IfOk result (λ kept. (answered (λ list. contour_of I.value (P.points list)) kept.0 ≡ option_map (λ places. map (point_at c) places.now) left.entry) × (kept.1 ≡ self.entry.visits)) }
         ensures memory { IsOkUnless result ShapeError.OutOfMemory }
     {
         let Some(places) = left else {
@@ -158,7 +159,7 @@ impl<'a, P: ContourPoint> Probe<'a, P> {
         requires below { All (λ k. k < length self.now.contour) indices.now }
         requires room { length indices.now ≤ length out.old }
         ensures count { result ≡ length indices.now }
-        ensures points { let c = contour_of P.Coordinate.value self.now.contour in contour_of P.Coordinate.value (P.points (take result out.new)) ≡ map (point_at c) indices.now }
+        ensures points { let c = contour_of I.value self.now.contour in contour_of I.value (P.points (take result out.new)) ≡ map (point_at c) indices.now }
         ensures rest { drop result out.new ≡ drop result out.old }
         ensures len { length out.new ≡ length out.old }
     {

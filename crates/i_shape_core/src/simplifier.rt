@@ -119,9 +119,9 @@ impl ContourSimplifier {
     /// Walks on from a start. Gives the places that are left, `None` where these are fewer than three.
     fn walk<'a, P: ContourPoint>(
         &mut self,
-        probe: Probe<'a, P>,
+        probe: Probe<'a, P::Coordinate, P>,
         start: (usize, usize, usize),
-    ) -> Result<(Probe<'a, P>, Option<&[usize]>), ShapeError>
+    ) -> Result<(Probe<'a, P::Coordinate, P>, Option<&[usize]>), ShapeError>
         requires walked { IsWalked IsZeroTurn (contour_of P.Coordinate.value probe.contour) (range_with_len start.0 (start.1 - start.0)) start.2 probe.visits }
         requires in_order { start.0 ≤ start.1 }
         requires end_within { start.1 ≤ length probe.contour }
@@ -140,7 +140,7 @@ impl ContourSimplifier {
 
 /// The first place that makes a zero turn of the one before it, or the number of points where there is none. Counts a visit
 /// for each test.
-fn clean_prefix<P: ContourPoint>(probe: &mut Probe<'_, P>) -> usize
+fn clean_prefix<P: ContourPoint>(probe: &mut Probe<'_, P::Coordinate, P>) -> usize
     requires fresh { probe.old.visits ≡ 0 }
     requires enough { 3 ≤ length probe.old.contour }
     ensures contour { probe.new.contour ≡ probe.old.contour }
@@ -160,7 +160,9 @@ fn clean_prefix<P: ContourPoint>(probe: &mut Probe<'_, P>) -> usize
 
 /// Where the contour has a zero turn: the first place and the end of a stack of places, none of them at a zero turn, and the place
 /// with which the walk goes on. Counts a visit for each test.
-fn start_of_walk<P: ContourPoint>(probe: &mut Probe<'_, P>) -> Option<(usize, usize, usize)>
+fn start_of_walk<P: ContourPoint>(
+    probe: &mut Probe<'_, P::Coordinate, P>,
+) -> Option<(usize, usize, usize)>
     requires fresh { probe.old.visits ≡ 0 }
     requires enough { 3 ≤ length probe.old.contour }
     ensures contour { probe.new.contour ≡ probe.old.contour }
@@ -205,7 +207,7 @@ fn fill(stack: &mut Vec<usize>, count: usize, first: usize, end: usize) -> Resul
 
 /// Whether the contour has a zero turn at `place`, between these neighbours. Counts one visit.
 fn is_zero_at<P: ContourPoint>(
-    probe: &mut Probe<'_, P>,
+    probe: &mut Probe<'_, P::Coordinate, P>,
     previous: usize,
     place: usize,
     next: usize,
@@ -222,7 +224,11 @@ fn is_zero_at<P: ContourPoint>(
 }
 
 /// Pops from the stack while its top is a zero turn between the one below it and `place`.
-fn pop_zero_turns<P: ContourPoint>(probe: &mut Probe<'_, P>, stack: &mut Vec<usize>, place: usize)
+fn pop_zero_turns<P: ContourPoint>(
+    probe: &mut Probe<'_, P::Coordinate, P>,
+    stack: &mut Vec<usize>,
+    place: usize,
+)
     requires within { place < length probe.old.contour }
     requires walked { IsWalked IsZeroTurn (contour_of P.Coordinate.value probe.old.contour) stack.old.items place probe.old.visits }
     ensures contour { probe.new.contour ≡ probe.old.contour }
@@ -244,10 +250,10 @@ fn pop_zero_turns<P: ContourPoint>(probe: &mut Probe<'_, P>, stack: &mut Vec<usi
 
 /// Puts the places of the contour from `start` on on the stack one by one, and takes zero turns off it.
 fn stack_places<'a, P: ContourPoint>(
-    mut probe: Probe<'a, P>,
+    mut probe: Probe<'a, P::Coordinate, P>,
     stack: &mut Vec<usize>,
     start: usize,
-) -> Probe<'a, P>
+) -> Probe<'a, P::Coordinate, P>
     requires within { start ≤ length probe.contour }
     requires walked { IsWalked IsZeroTurn (contour_of P.Coordinate.value probe.contour) stack.old.items start probe.visits }
     requires room { length probe.contour ≤ vec_capacity stack.old }
@@ -264,9 +270,9 @@ fn stack_places<'a, P: ContourPoint>(
 /// Takes zero turns from both ends of the stack, where it closes to a cycle. Gives the places that are left, `None` where these
 /// are fewer than three.
 fn close<'a, 's, P: ContourPoint>(
-    mut probe: Probe<'a, P>,
+    mut probe: Probe<'a, P::Coordinate, P>,
     stack: &'s [usize],
-) -> (Probe<'a, P>, Option<&'s [usize]>)
+) -> (Probe<'a, P::Coordinate, P>, Option<&'s [usize]>)
     requires walked { let c = contour_of P.Coordinate.value probe.contour in IsWalked IsZeroTurn c stack.now (length c) probe.visits }
     requires room { length probe.contour ≤ usize.MAX }
     ensures contour { result.0.contour ≡ probe.entry.contour }

@@ -23,5 +23,5 @@ returns-clause-point = read
 
 pub returns-clause-safe : goal.returns-clause-safe
 returns-clause-safe g c =
-    read-safe g.P.Coordinate.IntNumber.width g.P.Coordinate.IntNumber.value (g.P.ContourPoint.points c.self.inside.points.now) c.args.place c.to_point.result c.self.invariant
+    read-safe g.I.IntNumber.width g.I.IntNumber.value (g.P.ContourPoint.points c.self.inside.points.now) c.args.place c.to_point.result c.self.invariant
     (rw (← c.self.view_is) at c.requires) (rw (← c.self.view_is) at (read g c))

@@ -37,7 +37,7 @@ pub returns-clause-points : goal.returns-clause-points
 returns-clause-points g c =
     let all : c.loop-place.place ≡ length c.args.indices.now = omega (arith, c.loop-place-test.false, c.loop-place.auto.place-end) in
     let kept = rw (take_all c.loop-place.place c.args.indices.now (omega (arith, all))) at c.loop-place.invariant.points in
-    rw (← c.self.view_is) (rw all at (kept-contour g.P.Coordinate.IntNumber.value _ (g.P.ContourPoint.points (take c.loop-place.place c.loop-place.out)) c.args.indices.now kept))
+    rw (← c.self.view_is) (rw all at (kept-contour g.I.IntNumber.value _ (g.P.ContourPoint.points (take c.loop-place.place c.loop-place.out)) c.args.indices.now kept))
 
 pub returns-clause-rest : goal.returns-clause-rest
 returns-clause-rest g c =
