@@ -1,64 +1,43 @@
 -- What cleaning leaves of the contours of a text.
-use Rattle.std.proofs.Common.{◌≡◌, ℕ, ◌+◌, ◌<◌, List, [], ◌∷◌, ◌++◌, length, Some, None, sym, ◌∙◌, subst, append-nil}
-use Rattle.std.specs.List.{AllZip, AllByRecursion, flat_map}
-use Rattle.std.proofs.lemmas.Grind.{flat_map-append}
+use Rattle.std.proofs.Common.{◌≡◌, ℕ, ℤ, ◌+◌, ◌<◌, List, [], ◌∷◌, ◌++◌, length, map, sym, ap, ◌∙◌, subst, arith, refl}
+use Rattle.std.specs.List.{All, AllZip, AllByRecursion}
+use Rattle.std.proofs.lemmas.List.{map-append}
+use Rattle.std.proofs.lemmas.List.Elements.{All-from_recursion}
 use Rattle.std.proofs.lemmas.Slice.Zip.{all_zipped_more}
 use Rattle.i_shape.specs.Point.{Point}
-use Rattle.i_shape.specs.Survivors as cleaned
-use Rattle.i_shape.specs.Cleaners.{SimpleAnswer}
-use Rattle.i_shape_core.proofs.Survivors.{survivors-none, survivors-push}
+use Rattle.i_shape.specs.IntPoints.{IntPoint}
+use Rattle.i_shape.specs.declared.flat.buffer.contours.FlatContoursBuffer.{FlatContoursBuffer}
+use Rattle.i_shape.specs.Buffers.{HoldsContours}
 use Rattle.i_shape_tool.specs.declared.command.Command.TheVariants.{Compact}
 use Rattle.i_shape_tool.specs.declared.fault.ToolFault.{ToolFault}
+use Rattle.i_shape_tool.specs.declared.fault.ToolFault.TheVariants.{OutOfMemory}
+use Rattle.i_shape_tool.specs.Points.{contour_of, contours_in, IsSafe}
 use Rattle.i_shape_tool.specs.Text.{lines_of}
-use Rattle.i_shape_tool.specs.Run.{Gives, IsGood, IsFaultOfLine, IsFirstFault, ShowsCompact, shown_line}
+use Rattle.i_shape_tool.specs.Run.{Gives, IsGood, IsFaultOfLine, IsFirstFault, ShowsCompact}
 use Rattle.i_shape_tool.proofs.Running.{HasPassed, passed_nothing, pass_more, passed_all, first_fault}
+use Rattle.i_shape_tool.proofs.Splitting.{some_line}
 
--- the output shows what cleaning leaves of the contours of the lines before those of what is left
-pub record HasCleaned (text left output : List ℕ) (number : ℕ) : Type 0 where
+-- the buffer holds the contours of the lines before those of what is left
+pub record HasRead (text left : List ℕ) (buffer : FlatContoursBuffer ℤ) (number : ℕ) : Type 0 where
   pub before : List (List ℕ)
   pub passed : HasPassed text left before number
-  pub contours : List (List Point)
-  pub read : AllZip (Gives Compact) before contours
-  pub kept : List (List Point)
-  pub compact : cleaned.Compact contours kept
-  pub shown : output ≡ flat_map shown_line kept
+  pub lists : List (List (IntPoint ℤ))
+  pub held : HoldsContours buffer lists
+  pub read : AllZip (Gives Compact) before (map contour_of lists)
 
--- before the first line nothing is shown
-pub cleaned_nothing : (text output : List ℕ) → output ≡ [] → HasCleaned text text output 0
-cleaned_nothing text output is = record {
-  before = [];
-  passed = passed_nothing text;
-  contours = [];
-  read = tt;
-  kept = [];
-  compact = survivors-none SimpleAnswer;
-  shown = is;
-}
+-- before the first line it is empty
+pub read_nothing : (text : List ℕ) (buffer : FlatContoursBuffer ℤ) → HoldsContours buffer [] → HasRead text text buffer 0
+read_nothing text buffer held = record { before = []; passed = passed_nothing text; lists = []; held = held; read = tt }
 
--- a line more, whose contour collapses
-pub clean_collapsed : (text left after line output : List ℕ) (c : List Point) (number : ℕ) → HasCleaned text left output number → lines_of left ≡ line ∷ lines_of after → length after < length left
-    → Gives Compact line c → SimpleAnswer c None → HasCleaned text after output (number + 1)
-clean_collapsed text left after line output c number done is shorter gives collapses = record {
+-- a line more, whose contour is appended
+pub read_more : (text left after line : List ℕ) (old new : FlatContoursBuffer ℤ) (points : List (IntPoint ℤ)) (number : ℕ) → (done : HasRead text left old number) → lines_of left ≡ line ∷ lines_of after → length after < length left
+    → Gives Compact line (contour_of points) → HoldsContours new (done.lists ++ points ∷ []) → HasRead text after new (number + 1)
+read_more text left after line old new points number done is shorter gives longer = record {
   before = done.before ++ line ∷ [];
   passed = pass_more text left after line done.before number done.passed is shorter;
-  contours = done.contours ++ c ∷ [];
-  read = all_zipped_more (Gives Compact) done.before done.contours line c done.read gives;
-  kept = done.kept;
-  compact = subst (cleaned.Compact (done.contours ++ c ∷ [])) (append-nil done.kept) (survivors-push SimpleAnswer done.contours c done.kept None done.compact collapses);
-  shown = done.shown;
-}
-
--- a line more, of whose contour e is left and shown
-pub clean_kept : (text left after line output new : List ℕ) (c e : List Point) (number : ℕ) → HasCleaned text left output number → lines_of left ≡ line ∷ lines_of after → length after < length left
-    → Gives Compact line c → SimpleAnswer c (Some e) → new ≡ output ++ shown_line e → HasCleaned text after new (number + 1)
-clean_kept text left after line output new c e number done is shorter gives answer grown = record {
-  before = done.before ++ line ∷ [];
-  passed = pass_more text left after line done.before number done.passed is shorter;
-  contours = done.contours ++ c ∷ [];
-  read = all_zipped_more (Gives Compact) done.before done.contours line c done.read gives;
-  kept = done.kept ++ e ∷ [];
-  compact = survivors-push SimpleAnswer done.contours c done.kept (Some e) done.compact answer;
-  shown = grown ∙ (λ i. done.shown i ++ sym (append-nil (shown_line e)) i) ∙ sym (flat_map-append shown_line done.kept (e ∷ []));
+  lists = done.lists ++ points ∷ [];
+  held = longer;
+  read = subst (AllZip (Gives Compact) (done.before ++ line ∷ [])) (sym (map-append contour_of done.lists (points ∷ []))) (all_zipped_more (Gives Compact) done.before (map contour_of done.lists) line (contour_of points) done.read gives);
 }
 
 good_lines : (lines : List (List ℕ)) (contours : List (List Point)) → AllZip (Gives Compact) lines contours → AllByRecursion (IsGood Compact) lines
@@ -67,11 +46,30 @@ good_lines (line ∷ lines) [] each = absurd each
 good_lines (line ∷ lines) (c ∷ contours) each = ((c, each.0), good_lines lines contours each.1)
 
 -- a fault of the next line is the first
-pub fault_after_cleaning : (text left after line output : List ℕ) (number : ℕ) (fault : ToolFault) → HasCleaned text left output number → lines_of left ≡ line ∷ lines_of after → IsFaultOfLine Compact line (number + 1) fault → IsFirstFault Compact text fault
-fault_after_cleaning text left after line output number fault done is wrong =
-    first_fault Compact text left after line done.before number fault done.passed (good_lines done.before done.contours done.read) is wrong
+pub fault_after_reading : (text left after line : List ℕ) (buffer : FlatContoursBuffer ℤ) (number : ℕ) (fault : ToolFault) → HasRead text left buffer number → lines_of left ≡ line ∷ lines_of after → IsFaultOfLine Compact line (number + 1) fault → IsFirstFault Compact text fault
+fault_after_reading text left after line buffer number fault done is wrong =
+    first_fault Compact text left after line done.before number fault done.passed (good_lines done.before (map contour_of done.lists) done.read) is wrong
 
--- where no line is left, all is shown
-pub compact_shown : (text left output : List ℕ) (number : ℕ) → HasCleaned text left output number → length left ≡ 0 → ShowsCompact text output
-compact_shown text left output number done none =
-    (done.contours, done.kept, subst (λ lines. AllZip (Gives Compact) lines done.contours) (sym (passed_all text left done.before number done.passed none)) done.read, done.compact, done.shown)
+-- where no line is left, all are read
+pub all_read : (text left : List ℕ) (buffer : FlatContoursBuffer ℤ) (number : ℕ) → HasRead text left buffer number → length left ≡ 0 → AllZip (Gives Compact) (lines_of text) (contours_in buffer)
+all_read text left buffer number done none =
+    rw (passed_all text left done.before number done.passed none) (subst (λ (lists : List (List (IntPoint ℤ))). AllZip (Gives Compact) done.before (map contour_of lists)) (sym done.held.slices) done.read)
+
+-- contours that lines give are safe
+safe_each : (lines : List (List ℕ)) (contours : List (List Point)) → AllZip (Gives Compact) lines contours → AllByRecursion IsSafe contours
+safe_each [] [] each = tt
+safe_each [] (c ∷ contours) each = absurd each
+safe_each (line ∷ lines) [] each = absurd each
+safe_each (line ∷ lines) (c ∷ contours) each = (each.0.1 tt, safe_each lines contours each.1)
+
+pub given_safe : (lines : List (List ℕ)) (contours : List (List Point)) → AllZip (Gives Compact) lines contours → All IsSafe contours
+given_safe lines contours each = All-from_recursion IsSafe contours (safe_each lines contours each)
+
+-- memory can be refused at any text that has a line
+pub refused_memory : (text : List ℕ) → 0 < length text → IsFirstFault Compact text OutOfMemory
+refused_memory text some = let first = some_line text some in ([], first.head, first.tail, first.is, tt, tt)
+
+-- an empty text has no contours
+pub nothing_shown : (text output : List ℕ) → length text ≡ 0 → output ≡ [] → ShowsCompact text output
+nothing_shown [] output none is = ([], [], tt, ([], tt, refl), is)
+nothing_shown (b ∷ text) output none is = absurd (omega (arith, none))

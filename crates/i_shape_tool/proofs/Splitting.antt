@@ -1,6 +1,7 @@
 -- Two texts one after the other, of which the first ends its lines: their lines, answers and faults.
-use Rattle.std.proofs.Common.{◌≡◌, ◌⊎◌, ℕ, ◌+◌, List, [], ◌∷◌, ◌++◌, inl, inr, Bool, true, false, cond, ◌==◌, Option, refl, sym, ap, ap₂, ◌∙◌, append_assoc, append-nil, subst, arith, length, length-append}
+use Rattle.std.proofs.Common.{◌≡◌, ◌⊎◌, ℕ, ◌+◌, ◌<◌, List, [], ◌∷◌, ◌++◌, inl, inr, Bool, true, false, cond, ◌==◌, Option, refl, sym, ap, ap₂, ◌∙◌, append_assoc, append-nil, subst, arith, length, length-append}
 use Rattle.std.specs.List.{slice_split, onto_first, flat_map, filter_map, AllByRecursion, AllZip}
+use Rattle.std.proofs.lemmas.Bool.Decides.{nat_tests}
 use Rattle.std.proofs.lemmas.Grind.{flat_map-append}
 use Rattle.std.proofs.lemmas.List.Elements.{filter_map-append}
 use Rattle.i_shape.specs.Cleaners.{SimpleAnswer}
@@ -23,11 +24,13 @@ ends b = b == newline
 abbrev parts : List ℕ → List (List ℕ)
 parts text = slice_split ends text
 
+-- a list has a first member
+pub record HasFirst (list : List (List ℕ)) : Type 0 where
+  pub head : List ℕ
+  pub tail : List (List ℕ)
+  pub is : list ≡ head ∷ tail
+
 -- a text has a first part
-record HasFirst (list : List (List ℕ)) : Type 0 where
-  head : List ℕ
-  tail : List (List ℕ)
-  is : list ≡ head ∷ tail
 
 first_part : (text : List ℕ) → HasFirst (parts text)
 first_part [] = record { head = []; tail = []; is = refl }
@@ -36,6 +39,22 @@ first_part (b ∷ text) = go (ends b) (first_part text)
     go : (e : Bool) → HasFirst (parts text) → HasFirst (cond e ([] ∷ parts text) (onto_first b (parts text)))
     go true more = record { head = []; tail = parts text; is = refl }
     go false more = record { head = b ∷ more.head; tail = more.tail; is = ap (onto_first b) more.is }
+
+lines_after_part : (part : List ℕ) (parts : List (List ℕ)) → HasFirst parts → HasFirst (lines_of_parts (part ∷ parts))
+lines_after_part part parts more = record { head = part; tail = lines_of_parts parts; is = rw more.is refl }
+
+filled_part : (b : ℕ) (part : List ℕ) (parts : List (List ℕ)) → HasFirst (lines_of_parts ((b ∷ part) ∷ parts))
+filled_part b part [] = record { head = b ∷ part; tail = []; is = grind (arith, nat_tests) }
+filled_part b part (next ∷ parts) = lines_after_part (b ∷ part) (next ∷ parts) (record { head = next; tail = parts; is = refl })
+
+-- a text that isn't empty has a first line
+pub some_line : (text : List ℕ) → 0 < length text → HasFirst (lines_of text)
+some_line [] some = absurd (omega (arith, some))
+some_line (b ∷ text) some = go (ends b) (first_part text)
+  where
+    go : (e : Bool) → HasFirst (parts text) → HasFirst (lines_of_parts (cond e ([] ∷ parts text) (onto_first b (parts text))))
+    go true more = lines_after_part [] (parts text) more
+    go false more = rw more.is (filled_part b more.head more.tail)
 
 onto_first-append : (b : ℕ) (list more : List (List ℕ)) → HasFirst list → onto_first b (list ++ more) ≡ onto_first b list ++ more
 onto_first-append b list more first = rw first.is refl

@@ -5,6 +5,8 @@ use Rattle.std.specs.List.{All}
 use Rattle.i_shape.specs.IntPoint as shape
 use Rattle.i_shape.specs.Point.{Point}
 use Rattle.i_shape.specs.IntPoints.{IntPoint}
+use Rattle.i_shape.specs.Buffers as buffers
+use Rattle.i_shape.specs.declared.flat.buffer.contours.FlatContoursBuffer.{FlatContoursBuffer}
 
 -- the point that a program's point stands for
 abbrev pub point_of : IntPoint ℤ → Point
@@ -17,3 +19,7 @@ contour_of points = shape.contour_of (λ z. z) points
 -- both coordinates of each point lie strictly between -2^30 and 2^30
 abbrev pub IsSafe : List Point → Type 0
 IsSafe c = All (shape.IsSafe w32) c
+
+-- the contours that a buffer of the program names
+abbrev pub contours_in : FlatContoursBuffer ℤ → List (List Point)
+contours_in buffer = buffers.contours_in (λ z. z) buffer

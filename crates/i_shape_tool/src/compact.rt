@@ -1,33 +1,62 @@
 //! The contours that cleaning leaves of a text.
 
-ghost use Rattle.std.specs.Prelude.{IfOk, IfErr, string_bytes};
+ghost use Rattle.std.specs.Prelude.{◌≡◌, length, IfOk, IfErr, string_bytes};
+ghost use Rattle.std.specs.List.{All, AllZip, flat_map};
+ghost use Rattle.i_shape.specs.Flat.{InOrder};
 ghost use Rattle.i_shape_tool.specs.declared.command.Command.TheVariants.{Compact};
-ghost use Rattle.i_shape_tool.specs.Run.{IsFirstFault, ShowsCompact};
+ghost use Rattle.i_shape_tool.specs.Points.{contours_in};
+ghost use Rattle.i_shape_tool.specs.Text.{lines_of};
+ghost use Rattle.i_shape_tool.specs.Run.{Gives, IsFirstFault, ShowsCompact, shown_line};
 
 use crate::command::Command;
 use crate::fault::ToolFault;
 use crate::line::{first_line, read_line};
 use crate::show::show_line;
-use i_shape::int::simple::SimpleContour;
-use std::alloc::Global;
+use i_shape::flat::buffer::FlatContoursBuffer;
+use i_shape::source::int::resource::IntShapeResource;
+use std::alloc::{AllocError, Global};
 
 /// The contours of all lines without their zero turns, each on a line of its own, without those that collapse.
 pub fn compact_lines(alloc: Global, text: &str) -> Result<String, ToolFault>
     ensures ok { IfOk result (λ output. ShowsCompact text.now (string_bytes output)) }
     ensures err { IfErr result (IsFirstFault Compact text.now) }
 {
+    if text.is_empty() {
+        return Ok(String::new(alloc));
+    }
+    let mut buffer = read_lines(alloc, text)?;
+    buffer.simplify_contours()?;
+    Ok(show_contours(alloc, &buffer)?)
+}
+
+/// The contours of all lines, in one buffer.
+fn read_lines(alloc: Global, text: &str) -> Result<FlatContoursBuffer<i32>, ToolFault>
+    ensures readable { IfOk result (λ buffer. All (InOrder (length buffer.points.items)) buffer.ranges.items) }
+    ensures read { IfOk result (λ buffer. AllZip (Gives Compact) (lines_of text.now) (contours_in buffer)) }
+    ensures err { IfErr result (IsFirstFault Compact text.now) }
+{
+    let mut buffer = FlatContoursBuffer::new(alloc);
     let mut contour = Vec::new(alloc);
-    let mut output = String::new(alloc);
     let mut number = 0;
     let mut rest = text;
     while !rest.is_empty() {
         let (line, after) = first_line(rest);
         number += 1;
         read_line(Command::Compact, line, number, &mut contour)?;
-        if let Some(kept) = contour.as_slice().simplified(alloc)? {
-            show_line(&mut output, kept.as_slice())?;
-        }
+        buffer.add_contour(contour.as_slice())?;
         rest = after;
+    }
+    Ok(buffer)
+}
+
+/// The contours of a buffer, each on a line of its own.
+fn show_contours(alloc: Global, buffer: &FlatContoursBuffer<i32>) -> Result<String, AllocError>
+    requires { All (InOrder (length buffer.now.points.items)) buffer.now.ranges.items }
+    ensures { IfOk result (λ output. string_bytes output ≡ flat_map shown_line (contours_in buffer.now)) }
+{
+    let mut output = String::new(alloc);
+    for contour in buffer.iter_paths() {
+        show_line(&mut output, contour)?;
     }
     Ok(output)
 }

@@ -12,7 +12,7 @@ use crate::line::{first_line, read_line};
 use crate::show::{show_area, show_cleaned};
 use i_shape::int::despike::DeSpikeContour;
 use i_shape::int::shape::IntContour;
-use i_shape::int::simple::SimpleContour;
+use i_shape::int::simple::{ContourSimplifier, SimpleContour};
 use std::alloc::Global;
 
 /// The answer of a command to a text of contours: for each line, in order, what the command says of its contour on a line
@@ -45,6 +45,7 @@ fn answer_lines(alloc: Global, command: LineCommand, text: &str) -> Result<Strin
     ensures ok { IfOk result (λ output. AnswersLines command text.now (string_bytes output)) }
     ensures err { IfErr result (IsFirstFault (command_of command) text.now) }
 {
+    let mut simplifier = ContourSimplifier::new(alloc);
     let mut contour = Vec::new(alloc);
     let mut output = String::new(alloc);
     let mut number = 0;
@@ -53,17 +54,18 @@ fn answer_lines(alloc: Global, command: LineCommand, text: &str) -> Result<Strin
         let (line, after) = first_line(rest);
         number += 1;
         read_line(command.command(), line, number, &mut contour)?;
-        answer_contour(alloc, command, &contour, &mut output)?;
+        answer_contour(alloc, command, &mut simplifier, &contour, &mut output)?;
         output.push('\n')?;
         rest = after;
     }
     Ok(output)
 }
 
-/// Appends what the command says of a contour.
+/// Appends what the command says of a contour, which `simplifier` cleans for `Simplify`.
 fn answer_contour(
     alloc: Global,
     command: LineCommand,
+    simplifier: &mut ContourSimplifier,
     contour: &IntContour<i32>,
     output: &mut String,
 ) -> Result<(), ToolFault>
@@ -74,7 +76,7 @@ fn answer_contour(
 {
     match command {
         LineCommand::Simplify => {
-            let cleaned = contour.as_slice().simplified(alloc)?;
+            let cleaned = simplifier.simplify_contour(contour.as_slice())?;
             show_cleaned(output, &cleaned)?;
         }
         LineCommand::Despike => {
