@@ -20,3 +20,8 @@ pub mod simplifier;
 pub mod triangle;
 pub mod turn;
 mod unoriented;
+
+pub use number::{IntNumber, WideIntNumber};
+pub use probe::Probe;
+pub use triangle::Triangle;
+pub use turn::Turn;
