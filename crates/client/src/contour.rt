@@ -7,8 +7,8 @@ use i_shape::int::despike::{DeSpike, DeSpikeContour};
 use i_shape::int::safe_range::IntSafeRange;
 use i_shape::int::shape::IntContour;
 use i_shape::int::simple::{ContourSimplifier, SimpleContour, Simplify};
-use i_shape_core::contour::ContourExtension;
 use i_shape_core::Probe;
+use i_shape_core::contour::ContourExtension;
 use std::alloc::Global;
 
 /// Whether the points are safe, and the contour simple.

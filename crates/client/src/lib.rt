@@ -10,5 +10,6 @@ pub mod contour;
 pub mod first;
 pub mod into;
 pub mod list;
+pub mod names;
 pub mod refusal;
 pub mod shape;

@@ -1,0 +1,259 @@
+//! Every path by which the library is asked for, and the calls that the other modules of this crate don't make, each once and in the
+//! types that a caller would write.
+
+ghost use Rattle.std.specs.Prelude.{◌≤◌, vec_len};
+ghost use Rattle.std.specs.List.{sum_by};
+
+use i_shape::base::data::{Contour, Path, Paths, Shape, Shapes};
+use i_shape::flat::buffer::{FlatContoursBuffer, FlatShapesBuffer};
+use i_shape::flat::float::{FloatFlatContoursBuffer, FloatFlatShapesBuffer};
+use i_shape::int::IntPoint;
+use i_shape::int::area::{Area, IteratorArea, UnsafeArea};
+use i_shape::int::count::PointsCount;
+use i_shape::int::despike::DeSpikeContour;
+use i_shape::int::path::{ContourExtension, IntPath, IntPaths};
+use i_shape::int::safe_range::IntSafeRange;
+use i_shape::int::shape::{IntContour, IntShape, IntShapes};
+use i_shape::int::simple::ContourSimplifier;
+use i_shape::source::float::buffer::{
+    FloatContoursBufferResourceIterator, FloatShapesBufferResourceIterator,
+};
+use i_shape::source::float::resource::{ShapePoint, ShapeResource};
+use i_shape::source::int::buffer::IntBufferResourceIterator;
+use i_shape::source::int::resource::IntShapeResource;
+use i_shape::source::{float, int};
+use i_shape::{IntNumber, ShapeError, int_path, int_shape, int_shapes, path, paths};
+use i_shape_core::{Probe, Triangle, Turn, WideIntNumber, laws};
+use std::alloc::Global;
+use std::iter::Copied;
+use std::ops::Range;
+use std::slice::Iter;
+
+/// Twice a product of two numbers, wrapped, and its sign.
+pub fn doubled<I: IntNumber>(a: I, b: I) -> (I::Wide, I::Wide) {
+    let product = a.to_wide().wrapping_mul(b.to_wide());
+    let twice = product.wrapping_add(product).wrapping_sub(I::Wide::ZERO);
+    (twice, twice.signum())
+}
+
+/// The products of two vectors from one safe point to two others, and whether the three turn clockwise. `None` where one isn't safe.
+pub fn products<I: IntNumber>(
+    a: IntPoint<I>,
+    b: IntPoint<I>,
+    c: IntPoint<I>,
+) -> Option<(I::Wide, I::Wide, bool)> {
+    if !(a.is_in_safe_range() && b.is_in_safe_range() && c.is_in_safe_range()) {
+        return None;
+    }
+    let (v, w) = (b - a, c - a);
+    Some((
+        v.cross_product(w),
+        v.dot_product(w),
+        Triangle::is_clockwise(a, b, c),
+    ))
+}
+
+/// Measures of a contour, `None` where it has no point.
+pub fn measures<I: IntNumber>(contour: &[IntPoint<I>]) -> Option<(I::Wide, I::Wide, bool)> {
+    if contour.is_empty() {
+        return None;
+    }
+    Some((
+        contour.area_two(),
+        contour.area(),
+        contour.is_clockwise_ordered(),
+    ))
+}
+
+/// What three points of a contour turn by, and the visits so far. `None` where it has fewer points, or one isn't safe.
+pub fn first_turn<I: IntNumber>(contour: &[IntPoint<I>]) -> Option<(Turn, u128)> {
+    if contour.len() < 3 || !contour.is_in_safe_range() {
+        return None;
+    }
+    let mut probe: Probe<'_, I> = Probe::new(contour);
+    let turn = probe.turn(0, 1, 2);
+    probe.skip();
+    Some((turn, probe.visits()))
+}
+
+/// The number of points that a walk is given.
+pub fn points_of_probe<'a, I: IntNumber>(probe: &Probe<'a, I>) -> usize {
+    probe.len()
+}
+
+/// The first point of a contour, by a probe, and no visit.
+pub fn first_kept<I: IntNumber>(
+    alloc: Global,
+    contour: &[IntPoint<I>],
+) -> Result<(IntContour<I>, u128), ShapeError> {
+    if contour.is_empty() || !contour.is_in_safe_range() {
+        return Ok((Vec::new(alloc), 0));
+    }
+    Probe::new(contour).keep(alloc, &[0])
+}
+
+/// How many vertices each cleaner visits. `None` where a point isn't safe.
+pub fn visits<I: IntNumber>(
+    alloc: Global,
+    contour: &IntContour<I>,
+) -> Result<Option<(u128, u128)>, ShapeError> {
+    if !contour.is_in_safe_range() {
+        return Ok(None);
+    }
+    let mut simplifier = ContourSimplifier::new(alloc);
+    let (_kept, simplified) = simplifier.simplify_counted(contour.as_slice())?;
+    let (_kept, despiked) = contour.despiked_counted(alloc)?;
+    Ok(Some((simplified, despiked)))
+}
+
+/// The laws, at two contours.
+pub fn told_by_laws<I: IntNumber>(c: &[IntPoint<I>], d: &[IntPoint<I>]) {
+    laws::one_end(c);
+    laws::rotated(c, d);
+    laws::reversed(c);
+    laws::twice(c);
+    laws::agreed(c);
+    laws::area_kept(c, d);
+    laws::inside_kept(c, d);
+    laws::convex_kept(c);
+}
+
+/// Lists of points of any kind as they are written out, in the names for them.
+pub fn lists(alloc: Global) -> Result<(Path<[u8; 2]>, Paths<[u8; 2]>), ShapeError> {
+    Ok((path![alloc; [0, 0], [4, 0]]?, paths![alloc; [[0, 0]], []]?))
+}
+
+/// A list of shapes of one contour.
+pub fn one_shape<P: Copy>(alloc: Global, contour: Contour<P>) -> Result<Shapes<P>, ShapeError> {
+    let shape: Shape<P> = Vec::from_array(alloc, [contour])?;
+    Ok(Vec::from_array(alloc, [shape])?)
+}
+
+/// The same of whole-number points.
+pub fn whole_number_lists(
+    alloc: Global,
+) -> Result<(IntPath<i16>, IntShape<i16>, IntShapes<i16>), ShapeError> {
+    Ok((
+        int_path![alloc; [0, 0], [4, 0], [4, 4]]?,
+        int_shape![alloc; [[0, 0], [4, 0], [4, 4]], []]?,
+        int_shapes![alloc; [[[0, 0], [4, 0], [4, 4]]], []]?,
+    ))
+}
+
+/// The number of points of paths, which fits `usize`.
+pub fn points_of_paths<I: IntNumber>(paths: &IntPaths<I>) -> usize
+    requires { sum_by (λ path. vec_len path) paths.now.items ≤ usize.MAX }
+{
+    paths.as_slice().points_count()
+}
+
+/// The first contour of a buffer, changed in place: its first point becomes `point`.
+pub fn change_first<I: IntNumber>(buffer: &mut FlatContoursBuffer<I>, point: IntPoint<I>) -> bool {
+    if buffer.is_empty() || !buffer.is_single_contour() || !buffer.can_read_first() {
+        return false;
+    }
+    if buffer.as_first_contour().is_empty() {
+        return false;
+    }
+    buffer.as_first_contour_mut()[0] = point;
+    true
+}
+
+/// A buffer with room, filled again and again, and copied.
+pub fn filled<I: IntNumber>(
+    alloc: Global,
+    contour: &[IntPoint<I>],
+    shape: &[IntContour<I>],
+    shapes: &[IntShape<I>],
+) -> Result<(FlatContoursBuffer<I>, FlatShapesBuffer<I>), ShapeError> {
+    let mut contours = FlatContoursBuffer::with_capacity(alloc, contour.len())?;
+    contours.set_with_contour(contour)?;
+    contours.set_with_shape(shape)?;
+    contours.set_with_shapes(shapes)?;
+    contours.clear_and_reserve(contour.len(), 1)?;
+    contours.add_contour(contour)?;
+    let mut buffer = FlatShapesBuffer::with_capacity(alloc, contour.len(), 1, 1)?;
+    buffer.set_with_contour(contour)?;
+    buffer.set_with_shape(shape)?;
+    buffer.set_with_shapes(shapes)?;
+    buffer.clear_and_reserve(contour.len(), 1, 1)?;
+    buffer.add_shape(shape)?;
+    Ok((contours.clone()?, buffer.clone()?))
+}
+
+/// What is read back of buffers, `None` where one can't be read.
+pub fn read<I: IntNumber>(
+    contours: &FlatContoursBuffer<I>,
+    shapes: &FlatShapesBuffer<I>,
+) -> Result<Option<(IntShape<I>, IntShapes<I>)>, ShapeError> {
+    if !contours.can_read_contours() || !shapes.can_read_shapes() {
+        return Ok(None);
+    }
+    Ok(Some((contours.to_contours()?, shapes.to_shapes()?)))
+}
+
+/// Buffers over points of any kind, filled by slices, iterators and a resource that can be read.
+pub fn gathered<P: ShapePoint + Drop>(
+    alloc: Global,
+    points: &[P],
+    ranges: &[Range<usize>],
+    paths: &[Vec<P>],
+) -> Result<(FloatFlatContoursBuffer<P>, FloatFlatShapesBuffer<P>), ShapeError> {
+    let mut contours = FloatFlatContoursBuffer::with_capacity(alloc, points.len(), ranges.len())?;
+    contours.set_flat(points, ranges)?;
+    contours.set_with_resource(paths)?;
+    contours.clear_and_reserve(points.len(), 2)?;
+    contours.add_contour(points)?;
+    contours.add_contour_iter(points.iter().copied())?;
+    let mut shapes = FloatFlatShapesBuffer::with_capacity(alloc, points.len(), 1, 1)?;
+    shapes.set_with_resource(paths)?;
+    shapes.clear_and_reserve(points.len(), 2, 2)?;
+    shapes.add_contour(points)?;
+    shapes.add_contour_iter(points.iter().copied())?;
+    Ok((contours.clone()?, shapes.clone()?))
+}
+
+/// The iterators over what is lent of whole-number points, by their names.
+pub fn lent<'a, I: IntNumber>(
+    path: &'a [IntPoint<I>],
+    shape: &'a [IntContour<I>],
+    shapes: &'a [IntShape<I>],
+    slices: &'a [&'a [IntPoint<I>]],
+) -> [Option<&'a [IntPoint<I>]>; 4] {
+    let mut path: int::contour::ContourResourceIterator<'a, IntPoint<I>> = path.iter_paths();
+    let mut shape: int::shape::ShapeResourceIterator<'a, IntPoint<I>> = shape.iter_paths();
+    let mut shapes: int::shapes::ShapesResourceIterator<'a, IntPoint<I>> = shapes.iter_paths();
+    let mut slices: Copied<Iter<'a, &'a [IntPoint<I>]>> = slices.iter_paths();
+    [path.next(), shape.next(), shapes.next(), slices.next()]
+}
+
+/// The iterator over the paths of a buffer, and how many they are. `None` where it can't be read.
+pub fn lent_by_buffer<I: IntNumber>(buffer: &FlatContoursBuffer<I>) -> Option<usize> {
+    if !buffer.can_read_contours() {
+        return None;
+    }
+    let paths: IntBufferResourceIterator<'_, I> = buffer.iter_paths();
+    Some(paths.len())
+}
+
+/// The iterators over what is lent of points of any kind, by their names.
+pub fn lent_of_any_kind<'a, P: ShapePoint>(
+    path: &'a [P],
+    shape: &'a [Vec<P>],
+    contours: &'a FloatFlatContoursBuffer<P>,
+    shapes: &'a FloatFlatShapesBuffer<P>,
+) -> [Option<&'a [P]>; 4] {
+    let mut path: float::contour::ContourResourceIterator<'a, P> = path.iter_paths();
+    let mut shape: float::shape::ShapeResourceIterator<'a, P> = shape.iter_paths();
+    let mut contours: FloatContoursBufferResourceIterator<'a, P> = contours.iter_paths();
+    let mut shapes: FloatShapesBufferResourceIterator<'a, P> = shapes.iter_paths();
+    [path.next(), shape.next(), contours.next(), shapes.next()]
+}
+
+/// The double area of the points of an iterator with an item left, by either name.
+pub fn of_three<I: IntNumber>(points: [IntPoint<I>; 3]) -> (I::Wide, I::Wide) {
+    (
+        points.iter().copied().unsafe_area(),
+        points.iter().copied().area_two(),
+    )
+}
