@@ -1,7 +1,4 @@
-//! Contours of many points, at each width: one that stays, one that loses a spike, and one that collapses. Those of a hundred thousand
-//! points are ignored here, and are run one by one by the gate.
-
-ghost use Rattle.std.specs.Prelude.{◌<◌, ◌≤◌};
+//! Contours of a hundred thousand points, at each width: one that stays, one that loses a spike, and one that collapses.
 
 use crate::buffer::{cleans, flat};
 use crate::claims::holds;
@@ -167,21 +164,17 @@ fn are_cleaned<'a, I: IntNumber>(
     both_leave(rt, alloc, name, &[&[spiked], &[flat]], &[&[stays]])
 }
 
-/// A square so many times is cleaned, also with a spike at its first edge, and its first edge there and back twice as often.
+/// A square again and again is cleaned, also with a spike at its first edge, and its first edge there and back again and again.
 fn squares_are_cleaned<I: IntNumber>(
     rt: &impl Abort,
     alloc: Global,
-    times: usize,
+    name: &str,
     square: &[[I; 2]; 4],
     spiked: &[[I; 2]; 5],
-) -> Result<(), Fail>
-    requires some { 0 < times }
-    requires few { times ≤ 25000 }
-{
-    let name = "many squares";
-    let stays = followed_by(alloc, &[], square, times)?;
-    let spiked = followed_by(alloc, spiked, square, times - 1)?;
-    let flat = followed_by(alloc, &[], &square[..2], 2 * times)?;
+) -> Result<(), Fail> {
+    let stays = followed_by(alloc, &[], square, 25000)?;
+    let spiked = followed_by(alloc, spiked, square, 24999)?;
+    let flat = followed_by(alloc, &[], &square[..2], 50000)?;
     are_cleaned(
         rt,
         alloc,
@@ -192,65 +185,26 @@ fn squares_are_cleaned<I: IntNumber>(
     )
 }
 
-fn squares_of_16_bits(rt: &impl Abort, alloc: Global, times: usize) -> Result<(), Fail>
-    requires some { 0 < times }
-    requires few { times ≤ 25000 }
-{
+#[test]
+fn a_hundred_thousand_points_of_16_bits_are_cleaned(rt: HostRuntime) -> Result<(), Fail> {
     let [near, far] = [16382, 16383];
     let [a, b, c, d] = [[-far, -far], [near, -far], [near, far], [-far, far]];
     let spiked = [a, [far, -far], b, c, d];
-    squares_are_cleaned::<i16>(rt, alloc, times, &[a, b, c, d], &spiked)
+    squares_are_cleaned::<i16>(&rt, rt.alloc(), "16 bits", &[a, b, c, d], &spiked)
 }
 
-fn squares_of_32_bits(rt: &impl Abort, alloc: Global, times: usize) -> Result<(), Fail>
-    requires some { 0 < times }
-    requires few { times ≤ 25000 }
-{
+#[test]
+fn a_hundred_thousand_points_of_32_bits_are_cleaned(rt: HostRuntime) -> Result<(), Fail> {
     let [near, far] = [1073741822, 1073741823];
     let [a, b, c, d] = [[-far, -far], [near, -far], [near, far], [-far, far]];
     let spiked = [a, [far, -far], b, c, d];
-    squares_are_cleaned::<i32>(rt, alloc, times, &[a, b, c, d], &spiked)
+    squares_are_cleaned::<i32>(&rt, rt.alloc(), "32 bits", &[a, b, c, d], &spiked)
 }
 
-fn squares_of_64_bits(rt: &impl Abort, alloc: Global, times: usize) -> Result<(), Fail>
-    requires some { 0 < times }
-    requires few { times ≤ 25000 }
-{
+#[test]
+fn a_hundred_thousand_points_of_64_bits_are_cleaned(rt: HostRuntime) -> Result<(), Fail> {
     let [near, far] = [4611686018427387902, 4611686018427387903];
     let [a, b, c, d] = [[-far, -far], [near, -far], [near, far], [-far, far]];
     let spiked = [a, [far, -far], b, c, d];
-    squares_are_cleaned::<i64>(rt, alloc, times, &[a, b, c, d], &spiked)
-}
-
-#[test]
-fn ten_thousand_points_of_16_bits_are_cleaned(rt: HostRuntime) -> Result<(), Fail> {
-    squares_of_16_bits(&rt, rt.alloc(), 2500)
-}
-
-#[test]
-#[ignore]
-fn a_hundred_thousand_points_of_16_bits_are_cleaned(rt: HostRuntime) -> Result<(), Fail> {
-    squares_of_16_bits(&rt, rt.alloc(), 25000)
-}
-
-#[test]
-fn ten_thousand_points_of_32_bits_are_cleaned(rt: HostRuntime) -> Result<(), Fail> {
-    squares_of_32_bits(&rt, rt.alloc(), 2500)
-}
-
-#[test]
-#[ignore]
-fn a_hundred_thousand_points_of_32_bits_are_cleaned(rt: HostRuntime) -> Result<(), Fail> {
-    squares_of_32_bits(&rt, rt.alloc(), 25000)
-}
-
-#[test]
-fn ten_thousand_points_of_64_bits_are_cleaned(rt: HostRuntime) -> Result<(), Fail> {
-    squares_of_64_bits(&rt, rt.alloc(), 2500)
-}
-
-#[test]
-#[ignore]
-fn a_hundred_thousand_points_of_64_bits_are_cleaned(rt: HostRuntime) -> Result<(), Fail> {
-    squares_of_64_bits(&rt, rt.alloc(), 25000)
+    squares_are_cleaned::<i64>(&rt, rt.alloc(), "64 bits", &[a, b, c, d], &spiked)
 }

@@ -296,34 +296,6 @@ fn lends_points_borrowed_paths<P: ShapePoint + PartialEq>(
     Ok(())
 }
 
-/// A vector of the points, of no point and of the last point, all borrowed, lends these three.
-fn lends_vector_of_borrowed_paths<I: IntNumber>(
-    rt: &impl Abort,
-    alloc: Global,
-    name: &str,
-    points: &[IntPoint<I>],
-) -> Result<(), Fail> {
-    let wanted = some_paths(alloc, points)?;
-    let vector = vec![in alloc; points, &points[..0], &points[1.min(points.len())..]]?;
-    lends(rt, name, "a vector", &vector, &wanted);
-    lends(rt, name, "a reference to a vector", &&vector, &wanted);
-    Ok(())
-}
-
-/// A vector of the points, of no point and of the last point, all borrowed, lends these three.
-fn lends_points_vector_of_borrowed_paths<P: ShapePoint + PartialEq>(
-    rt: &impl Abort,
-    alloc: Global,
-    name: &str,
-    points: &[P],
-) -> Result<(), Fail> {
-    let wanted = some_paths(alloc, points)?;
-    let vector = vec![in alloc; points, &points[..0], &points[1.min(points.len())..]]?;
-    lends_points(rt, name, "a vector", &vector, &wanted);
-    lends_points(rt, name, "a reference to a vector", &&vector, &wanted);
-    Ok(())
-}
-
 /// Points lend their paths: in lists of shapes, in lists of paths, in lists of borrowed paths, and as one path.
 fn lends_each<I: IntNumber>(
     rt: &impl Abort,
@@ -334,7 +306,6 @@ fn lends_each<I: IntNumber>(
     lends_lists_of_shapes(rt, alloc, name, points.as_slice())?;
     lends_lists_of_paths(rt, alloc, name, points.as_slice())?;
     lends_borrowed_paths(rt, alloc, name, points.as_slice())?;
-    lends_vector_of_borrowed_paths(rt, alloc, name, points.as_slice())?;
     lends_one_path(rt, alloc, name, points)
 }
 
@@ -364,7 +335,6 @@ fn lists_of_each_width_lend_their_paths(rt: HostRuntime) -> Result<(), Fail> {
     lends_points_lists_of_shapes(&rt, alloc, name, &whole)?;
     lends_points_lists_of_paths(&rt, alloc, name, &whole)?;
     lends_points_borrowed_paths(&rt, alloc, name, &whole)?;
-    lends_points_vector_of_borrowed_paths(&rt, alloc, name, &whole)?;
     lends_points_one_path(&rt, alloc, name, whole)
 }
 
