@@ -11,6 +11,7 @@ use Rattle.i_shape_core.proofs.CycleLaws.{zero_turn_decided}
 use Rattle.i_shape_core.proofs.Survive.{straightens}
 use Rattle.i_shape_core.proofs.Cleaned.{kept, flat, no_area}
 use Rattle.i_shape_core.proofs.Windings.{winding_none}
+use Rattle.i_shape_core.proofs.RationalWindings.{between_none}
 use Rattle.i_shape_core.proofs.Inside.{inside_laws}
 use Rattle.i_shape_core.proofs.Spikes.{reversal_yes, reversal_no}
 
@@ -53,11 +54,11 @@ spikes_decided c = go (dec_le 3 (length (dedup c))) (find_number (IsReversal (de
 
 -- a contour keeps what it has
 pub itself : (c : List Point) → IsKept c c
-itself c = record { area = refl; inside = λ p. (λ i. i, λ i. i); winding = λ p. refl }
+itself c = record { area = refl; inside = λ p. (λ i. i, λ i. i); winding = λ p. refl; between = λ n p. refl }
 
 -- where it has no area, and no point inside, nothing keeps it
 pub nothing_keeps : (c : List Point) → IsFlat c → IsKept c []
-nothing_keeps c f = record { area = no_area [] (omega arith) ∙ sym f.area; inside = λ p. (λ i. absurd ((inside_laws [] []).none (omega arith) p i), λ i. absurd (f.inside p i)); winding = λ p. winding_none [] (omega arith) p ∙ sym (f.winding p) }
+nothing_keeps c f = record { area = no_area [] (omega arith) ∙ sym f.area; inside = λ p. (λ i. absurd ((inside_laws [] []).none (omega arith) p i), λ i. absurd (f.inside p i)); winding = λ p. winding_none [] (omega arith) p ∙ sym (f.winding p); between = λ n p. between_none [] (omega arith) n p ∙ sym (f.between n p) }
 
 -- what collapses has no area, and no point inside
 pub collapsed_flat : (c : List Point) → EachEndCollapses c → IsFlat c

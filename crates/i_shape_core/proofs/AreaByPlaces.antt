@@ -6,7 +6,7 @@ use Rattle.i_shape_core.specs.Point.{Point, cross_of}
 use Rattle.i_shape_core.specs.Contour.{point_at}
 use Rattle.i_shape_core.specs.IntPoint.{point_of, contour_of}
 use Rattle.i_shape_core.specs.declared.point.IntPoint.{IntPoint}
-use Rattle.i_shape_core.specs.Edges.{edges_between, sum_of_edges, area_of_edge, shoelace}
+use Rattle.i_shape_core.specs.Edges.{edges_between, sum_of, area_of_edge, shoelace}
 use Rattle.i_shape_core.proofs.Contours.{read-point, length-contour}
 use Rattle.i_shape_core.proofs.SummedArea.{wrapped-zero, wrapped-more}
 
@@ -26,7 +26,7 @@ area_from_first a b bs (suc k) = let h = area_from_first a b bs k in omega (arit
 
 -- a path to z is summed up over its places and its last edge
 path_by_places : (a : Point) (bs : List Point) (z : Point)
-    → sum_of_edges area_of_edge (edges_between a bs z) ≡ area_up_to (a ∷ bs) (length bs) +ℤ cross_of (point_at (a ∷ bs) (length bs)) z
+    → sum_of area_of_edge (edges_between a bs z) ≡ area_up_to (a ∷ bs) (length bs) +ℤ cross_of (point_at (a ∷ bs) (length bs)) z
 unfolding area_of_edge
 path_by_places a [] z = omega (arith, ints)
 path_by_places a (b ∷ bs) z =

@@ -6,9 +6,10 @@ use Rattle.i_shape_core.specs.Point.{Point, cross, IsZeroTurn}
 use Rattle.i_shape_core.specs.IntPoint.{point_of, contour_of}
 use Rattle.i_shape_core.specs.declared.point.IntPoint.{IntPoint}
 use Rattle.i_shape_core.specs.Contour.{Step, Rotation}
-use Rattle.i_shape_core.specs.Edges.{Edge, edges_between, edges, sum_of_edges, area_of_edge, shoelace, is_above, is_right, Inside}
+use Rattle.i_shape_core.specs.Edges.{Edge, edges_between, edges, sum_of, area_of_edge, shoelace, is_above, is_right, Inside}
 use Rattle.i_shape_core.specs.Canonical.{IsLeast, IsCanonical, by_rotation, by_removal, by_insertion, Joined, alone, link}
 use Rattle.i_shape_core.proofs.Polynomials.{variable, plus, times, minus, ring}
+use Rattle.i_shape_core.proofs.Edges.{sum_alike}
 use Rattle.i_shape_core.proofs.Rotations.{rotation_sym, rotation_trans, rotation_length}
 use Rattle.i_shape_core.proofs.Cycle.{turn_from_step, step_from_turn}
 use Rattle.i_shape_core.proofs.Reversal.{rotation_of_reversed, turn_of_reversed, end_of_reversed}
@@ -20,23 +21,16 @@ use Rattle.i_shape_core.proofs.RotatedEdges.{cut_path, same_sum}
 abbrev flip : Edge → Edge
 flip e = record { start = e.end; end = e.start }
 
-sum_alike : (f g : Edge → ℤ) → ((e : Edge) → f e ≡ g e) → (es : List Edge) → sum_of_edges f es ≡ sum_of_edges g es
-sum_alike f g same [] = refl
-sum_alike f g same (e ∷ es) =
-    let here = same e in
-    let rest = sum_alike f g same es in
-    omega (arith, ints)
-
-path_reversed : (f : Edge → ℤ) (a : Point) (u : List Point) (z : Point) → sum_of_edges f (edges_between a (reverse u) z) ≡ sum_of_edges (λ e. f (flip e)) (edges_between z u a)
+path_reversed : (f : Edge → ℤ) (a : Point) (u : List Point) (z : Point) → sum_of f (edges_between a (reverse u) z) ≡ sum_of (λ e. f (flip e)) (edges_between z u a)
 path_reversed f a [] z = refl
 path_reversed f a (p ∷ u) z =
     let apart : reverse (p ∷ u) ≡ reverse u ++ p ∷ [] = reverse-append (p ∷ []) u in
     let cut = cut_path f a (reverse u) p [] z in
     let rest = path_reversed f a u p in
-    ap (λ w. sum_of_edges f (edges_between a w z)) apart ∙ omega (arith, ints)
+    ap (λ w. sum_of f (edges_between a w z)) apart ∙ omega (arith, ints)
 
 -- the edges of a contour read backwards are its edges, each from its end to its start
-sum_reversed : (f : Edge → ℤ) (c : List Point) → sum_of_edges f (edges (reverse c)) ≡ sum_of_edges (λ e. f (flip e)) (edges c)
+sum_reversed : (f : Edge → ℤ) (c : List Point) → sum_of f (edges (reverse c)) ≡ sum_of (λ e. f (flip e)) (edges c)
 sum_reversed f [] = refl
 sum_reversed f (a ∷ u) =
     same_sum f (reverse (a ∷ u)) (a ∷ reverse u) (record { front = reverse u; back = a ∷ []; before = reverse-append (a ∷ []) u; after = refl }) ∙ path_reversed f a u a
@@ -47,7 +41,7 @@ area_flipped e = ring (e.start.x ∷ e.start.y ∷ e.end.x ∷ e.end.y ∷ [])
     (plus (times (variable 2) (variable 1)) (minus (times (variable 3) (variable 0))))
     (minus (plus (times (variable 0) (variable 3)) (minus (times (variable 1) (variable 2))))) refl
 
-sum_negated : (f : Edge → ℤ) (es : List Edge) → sum_of_edges (λ e. neg_ℤ (f e)) es ≡ neg_ℤ (sum_of_edges f es)
+sum_negated : (f : Edge → ℤ) (es : List Edge) → sum_of (λ e. neg_ℤ (f e)) es ≡ neg_ℤ (sum_of f es)
 sum_negated f [] = refl
 sum_negated f (e ∷ es) =
     let rest = sum_negated f es in

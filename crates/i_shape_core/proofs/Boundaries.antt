@@ -1,23 +1,18 @@
 -- The points on the edges of a contour, where zero turns are taken out.
-use Rattle.std.proofs.Common.{◌≡◌, ◌⊎◌, ℕ, ◌+◌, ◌<◌, List, [], ◌∷◌, length, remove, ℤ, pos, ◌+ℤ◌, ◌-ℤ◌, ◌*ℤ◌, ◌≤ℤ◌, ◌<ℤ◌, neg_ℤ, ◌≢◌, subst₂, refl, sym, subst, ◌∙◌, arith, inl, inr}
+use Rattle.std.proofs.Common.{◌≡◌, ◌⊎◌, ℕ, ◌+◌, ◌<◌, List, [], ◌∷◌, length, remove, ℤ, pos, ◌+ℤ◌, ◌*ℤ◌, ◌≤ℤ◌, ◌<ℤ◌, neg_ℤ, ◌≢◌, subst₂, refl, sym, subst, ◌∙◌, arith, inl, inr}
 use Rattle.std.proofs.lemmas.Int.{ints, by_lt_z}
 use Rattle.std.proofs.lemmas.List.Edits.{length-remove}
 use Rattle.i_shape_core.specs.Point.{Point, cross, dot, IsZeroTurn}
 use Rattle.i_shape_core.specs.Contour.{point_at, place_before, place_after, Reach, stay, step}
-use Rattle.i_shape_core.proofs.Polynomials.{Term, number, plus, times, minus, ring}
-use Rattle.i_shape_core.proofs.Turns.{Place, coordinates, cross_term, dot_term, A, B, C, D, slide, triangle, zero_reversed, same_point}
-use Rattle.i_shape_core.proofs.WholeNumbers.{squares_not_negative, squares_zero, not_positive_of, equal_of_difference, drop_last}
+use Rattle.i_shape_core.proofs.Polynomials.{number, plus, times, minus, ring}
+use Rattle.i_shape_core.proofs.Turns.{coordinates, cross_term, dot_term, A, B, C, D, slide, triangle, zero_reversed}
+use Rattle.i_shape_core.proofs.WholeNumbers.{not_positive_of, drop_last}
 use Rattle.i_shape_core.proofs.Places.{Follows, Stood, after_is, before_from, stood, stood_point, stood_within, follows_over}
 use Rattle.i_shape_core.specs.Moves.{moved_point, moved, scaling}
 use Rattle.i_shape_core.specs.Boundary.{IsBetween, IsOnEdge, BoundaryWithin}
 use Rattle.i_shape_core.proofs.Mapped.{reach_mapped}
 use Rattle.i_shape_core.proofs.Moved.{zero_moved}
-
-abbrev square : Point → Point → ℤ
-square a p = (p.x -ℤ a.x) *ℤ (p.x -ℤ a.x) +ℤ (p.y -ℤ a.y) *ℤ (p.y -ℤ a.y)
-
-abbrev square_term : Place → Place → Term
-square_term a p = plus (times (plus p.x (minus a.x)) (plus p.x (minus a.x))) (times (plus p.y (minus a.y)) (plus p.y (minus a.y)))
+use Rattle.i_shape_core.proofs.MovedBack.{square, square_term, no_way}
 
 -- with the ways from a to p, from p to b and from p to q
 two_ways : (a p q b : Point) → dot a p b *ℤ dot a p q +ℤ cross a p q *ℤ cross a p b ≡ square a p *ℤ neg_ℤ (dot q p b)
@@ -30,7 +25,8 @@ back_again : (a p : Point) → dot a p a ≡ neg_ℤ (square a p)
 unfolding dot
 back_again a p = ring (coordinates (a ∷ p ∷ [])) (dot_term A B A) (minus (square_term A B)) refl
 
-stands : (a q : Point) → dot a a q ≡ pos 0
+-- from where one stands there is no way back
+pub stands : (a q : Point) → dot a a q ≡ pos 0
 unfolding dot
 stands a q = ring (coordinates (a ∷ q ∷ [])) (dot_term A A B) (number (pos 0)) refl
 
@@ -41,14 +37,6 @@ straight_first a q = ring (coordinates (a ∷ q ∷ [])) (cross_term A A B) (num
 -- a point lies on each edge that starts with it
 at_start : (a q : Point) → IsBetween a a q
 at_start a q = record { straight = straight_first a q; ahead = let e = stands a q in omega (arith, ints) }
-
-no_way : (a p : Point) → square a p ≤ℤ pos 0 → a ≡ p
-no_way a p h =
-    let z = squares_zero (p.x -ℤ a.x) (p.y -ℤ a.y) (let s = squares_not_negative (p.x -ℤ a.x) (p.y -ℤ a.y) in least (square a p) s h) in
-    sym (same_point p a (equal_of_difference _ _ z.0) (equal_of_difference _ _ z.1))
-  where
-    least : (x : ℤ) → pos 0 ≤ℤ x → x ≤ℤ pos 0 → x ≡ pos 0
-    least x f g = omega (arith, ints)
 
 -- where a, q and b lie on one line, the edge from a to b lies within those from a to q and from q to b
 pub between_two : (a p q b : Point) → cross a q b ≡ pos 0 → IsBetween a p b → IsBetween a p q ⊎ IsBetween q p b

@@ -1,22 +1,25 @@
 -- What a walk finds, and the answer that it gives.
-use Rattle.std.proofs.Common.{◌≡◌, ℕ, ◌<◌, ◌≤◌, List, [], ◌∷◌, length, Option, Some, None, option_map, sym, ◌∙◌, pos, refl, arith, ◌⊎◌, inl, inr}
-use Rattle.std.specs.List.{All}
+use Rattle.std.proofs.Common.{◌≡◌, ℕ, ◌%◌, ◌<◌, ◌≤◌, List, [], ◌∷◌, length, Option, Some, None, option_map, sym, ◌∙◌, pos, refl, arith, ◌⊎◌, inl, inr, ap}
+use Rattle.std.specs.List.{All, count_by}
 use Rattle.std.specs.Option.{IfSome}
 use Rattle.std.proofs.lemmas.Bool.{cases_lt}
 use Rattle.std.proofs.lemmas.Result.{IfOk-weaker}
 use Rattle.std.specs.Result.{IfOk}
 use Rattle.std.specs.declared.result.Result.{Result}
 use Rattle.i_shape_core.specs.Point.{Point, IsZeroTurn, IsBack}
-use Rattle.i_shape_core.specs.Contour.{Test, Reach, stay, End, IsCollapsed, IsSimple, Sublist}
+use Rattle.i_shape_core.specs.Contour.{Test, Rotation, Reach, stay, End, IsCollapsed, IsSimple, Sublist}
 use Rattle.i_shape_core.specs.Walks.{WalkAnswer}
-use Rattle.i_shape_core.specs.Edges.{shoelace, area_of_edge}
+use Rattle.i_shape_core.specs.Edges.{edges, shoelace, area_of_edge, is_right, Inside}
+use Rattle.i_shape_core.specs.Winding.{winding, winding_of_edge}
 use Rattle.i_shape_core.specs.Cleaners.{SimpleAnswer, SpikelessAnswer, KeptAnswer, VisitsAnswer, IsKept, IsFlat}
 use Rattle.i_shape_core.proofs.CycleLaws.{every_order, agreed}
 use Rattle.i_shape_core.proofs.Ends.{all_left, reach_by_weaker}
 use Rattle.i_shape_core.proofs.Sublists.{sublist_reached}
 use Rattle.i_shape_core.proofs.Survive.{straightens}
 use Rattle.i_shape_core.proofs.Spikes.{spikeless_end}
-use Rattle.i_shape_core.proofs.Edges as edges
+use Rattle.i_shape_core.proofs.Edges.{area_kept}
+use Rattle.i_shape_core.proofs.RotatedEdges.{same_sum, same_count}
+use Rattle.i_shape_core.proofs.RationalWindings.{winding_between, between_none, between_rotated}
 use Rattle.i_shape_core.proofs.Inside.{inside_laws}
 use Rattle.i_shape_core.proofs.Windings.{winding_kept, winding_none}
 use Rattle.i_shape_core.proofs.Polynomials.{ring, plus, number}
@@ -25,9 +28,10 @@ use Rattle.i_shape_core.proofs.Turns.{coordinates, area_term, A, B}
 -- what is reached has the same double area, the same points inside and the same winding numbers
 pub kept : (c e : List Point) → Reach IsZeroTurn c e → IsKept c e
 kept c e r = record {
-  area = sym (edges.area_kept c e r);
+  area = sym (area_kept c e r);
   inside = λ p. let same = (inside_laws c e).kept r p in (same.1, same.0);
   winding = λ p. sym (winding_kept c e r p);
+  between = λ n p. sym (winding_between c e r n p);
 }
 
 -- fewer than three points have no area
@@ -41,9 +45,21 @@ no_area (a ∷ b ∷ d ∷ ds) h = absurd (omega arith)
 -- a contour that collapses has no area and no point inside, and winds about none
 pub flat : (c d : List Point) → Reach IsZeroTurn c d → IsCollapsed d → IsFlat c
 flat c d r h = record {
-  area = edges.area_kept c d r ∙ no_area d h;
+  area = area_kept c d r ∙ no_area d h;
   inside = λ p i. (inside_laws d d).none h p (((inside_laws c d).kept r p).0 i);
   winding = λ p. winding_kept c d r p ∙ winding_none d h p;
+  between = λ n p. winding_between c d r n p ∙ between_none d h n p;
+}
+
+-- what a contour keeps, each rotation of that keeps
+pub kept_by_rotation : (c e l : List Point) → IsKept c e → Rotation e l → IsKept c l
+unfolding shoelace Inside winding
+kept_by_rotation c e l k r = record {
+  area = sym (same_sum area_of_edge e l r) ∙ k.area;
+  inside = λ p. let s : count_by (is_right p) (edges e) % 2 ≡ count_by (is_right p) (edges l) % 2 = ap (λ (n : ℕ). n % 2) (same_count p e l r) in
+      (λ h. (k.inside p).0 (s ∙ h), λ h. sym s ∙ (k.inside p).1 h);
+  winding = λ p. sym (same_sum (winding_of_edge p) e l r) ∙ k.winding p;
+  between = λ n p. sym (between_rotated r n p) ∙ k.between n p;
 }
 
 -- an end that has not collapsed is the one

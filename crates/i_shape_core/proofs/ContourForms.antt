@@ -1,23 +1,21 @@
 -- The forms of contours, canonical and unoriented: where two are one, that there is one, that it is its own form, and what it keeps.
-use Rattle.std.proofs.Common.{◌≡◌, ◌↔◌, ◌⊎◌, ◌<◌, ◌≤◌, ℤ, neg_ℤ, nat_abs, inl, inr, List, length, reverse, Option, Some, None, refl, sym, ap, ◌∙◌, subst, arith}
+use Rattle.std.proofs.Common.{◌≡◌, ◌↔◌, ◌⊎◌, ◌<◌, ◌≤◌, inl, inr, List, length, reverse, Option, Some, None, refl, sym, ap, ◌∙◌, subst, arith}
 use Rattle.std.proofs.lemmas.List.{reverse-reverse, length-reverse}
 use Rattle.std.specs.List.{All}
 use Rattle.std.proofs.lemmas.List.Sorted.{All-permutation, IsPermutation-reverse}
-use Rattle.std.proofs.lemmas.Int.{ints}
 use native.Mathlib.Decide.{dec_le}
 use Rattle.i_shape_core.specs.Point.{Point, IsZeroTurn}
 use Rattle.i_shape_core.specs.Contour.{End, stay}
-use Rattle.i_shape_core.specs.Edges.{shoelace}
 use Rattle.i_shape_core.specs.Cleaners.{EachEndCollapses, IsKept, KeptAnswer}
-use Rattle.i_shape_core.specs.Canonical.{IsAtMost, IsLeast, IsCanonical, CanonicalAnswer, Joined, started_at, IsUnoriented, UnorientedAnswer, IsKeptEitherWay, KeptEitherWay, JoinedEitherWay, UnorientedJoined}
+use Rattle.i_shape_core.specs.Canonical.{IsAtMost, IsLeast, IsCanonical, CanonicalAnswer, Joined, started_at, IsUnoriented, UnorientedAnswer, IsKeptBackwards, IsKeptEitherWay, KeptEitherWay, JoinedEitherWay, UnorientedJoined}
 use Rattle.i_shape_core.proofs.Order.{at_most_refl, at_most_total, at_most_antisym}
 use Rattle.i_shape_core.proofs.Ends.{has_end, no_step, all_left}
 use Rattle.i_shape_core.proofs.CycleLaws.{zero_turn_decided, every_order}
 use Rattle.i_shape_core.proofs.CanonicalForm as chains
 use Rattle.i_shape_core.proofs.CanonicalForm.{joined_trans, joined_sym, joined_by_reach, joined_by_rotation}
 use Rattle.i_shape_core.proofs.Rotations.{rotation_refl, rotation_sym, rotation_trans, rotation_length, all_turned}
-use Rattle.i_shape_core.proofs.RotatedEdges.{kept_by_rotation}
-use Rattle.i_shape_core.proofs.Cleaned.{kept}
+use Rattle.i_shape_core.proofs.RationalWindings.{between_reversed}
+use Rattle.i_shape_core.proofs.Cleaned.{kept, kept_by_rotation}
 use Rattle.i_shape_core.proofs.Answered.{collapsed_flat}
 use Rattle.i_shape_core.proofs.Windings.{winding_reversed}
 use Rattle.i_shape_core.proofs.Cycle.{step_of_rotated}
@@ -145,9 +143,6 @@ unoriented_again c l a = go a.one (has_unoriented l)
     go o (inl h) = absurd (canonical_stands l l (ended o) h)
     go o (inr (m, b)) = let same : m ≡ l = (unoriented_one l c m l b a).1 (near o) in subst (λ (w : List Point). UnorientedAnswer l (Some w)) same b
 
-abs_negated : (z : ℤ) → nat_abs (neg_ℤ z) ≡ nat_abs z
-abs_negated z = omega (arith, ints)
-
 -- what forms keep of their contours
 pub canonical_kept : (c : List Point) (r : Option (List Point)) → CanonicalAnswer c r → KeptAnswer c r
 canonical_kept c None a = collapsed_flat c a
@@ -163,14 +158,15 @@ unoriented_kept c (Some l) a = go a.one
     go : (l ≡ a.forwards) ⊎ (l ≡ a.backwards) → IsKeptEitherWay c l
     go (inl e) =
         let k : IsKept c a.forwards = canonical_kept c (Some a.forwards) a.is_forwards in
-        subst (IsKeptEitherWay c) (sym e) (record { area = ap nat_abs k.area; inside = k.inside; winding = inl k.winding })
+        inl (subst (IsKept c) (sym e) k)
     go (inr e) =
         let k : IsKept (reverse c) a.backwards = canonical_kept (reverse c) (Some a.backwards) a.is_backwards in
-        subst (IsKeptEitherWay c) (sym e) (record {
-          area = ap nat_abs (k.area ∙ shoelace_reversed c) ∙ abs_negated (shoelace c);
+        inr (subst (IsKeptBackwards c) (sym e) (record {
+          area = k.area ∙ shoelace_reversed c;
           inside = λ p. (λ h. (inside_reversed c p).0 ((k.inside p).0 h), λ h. (k.inside p).1 ((inside_reversed c p).1 h));
-          winding = inr (λ p. k.winding p ∙ winding_reversed c p);
-        })
+          between = λ n p. k.between n p ∙ between_reversed c n p;
+          winding = λ p. k.winding p ∙ winding_reversed c p;
+        }))
 
 pub unoriented_left : (Q : Point → Type 0) (c l : List Point) → UnorientedAnswer c (Some l) → All Q c → All Q l
 unoriented_left Q c l a all = go a.one

@@ -1,15 +1,28 @@
 -- What a sum over the edges of a contour becomes where a point is taken out.
-use Rattle.std.proofs.Common.{◌≡◌, ℕ, zero, suc, ◌<◌, ◌≤◌, List, [], ◌∷◌, length, get_or, remove, ℤ, pos, ◌+ℤ◌, refl, sym, ap, ◌∙◌, arith, inl, inr, eq-or-lt_of_le}
+use Rattle.std.proofs.Common.{◌≡◌, ℕ, zero, suc, ◌<◌, ◌≤◌, List, [], ◌∷◌, ◌++◌, length, get_or, remove, ℤ, pos, ◌+ℤ◌, refl, sym, ap, ◌∙◌, arith, inl, inr, eq-or-lt_of_le}
 use Rattle.std.proofs.lemmas.List.{get_or_default, get_or_past}
 use Rattle.std.proofs.lemmas.Int.{ints}
 use Rattle.i_shape_core.specs.Point.{Point, origin, IsZeroTurn}
 use Rattle.i_shape_core.specs.Contour.{point_at, place_before, place_after, Step, Reach, stay, step}
-use Rattle.i_shape_core.specs.Edges.{Edge, edges_between, edges, sum_of_edges, area_of_edge, shoelace}
+use Rattle.i_shape_core.specs.Edges.{Edge, edges_between, edges, sum_of, area_of_edge, shoelace}
 use Rattle.i_shape_core.proofs.Places.{before_first, before_later, after_earlier, after_last}
 use Rattle.i_shape_core.proofs.Turns.{edge, area_of_two}
 
+-- numbers that are the same at each edge have one sum
+pub sum_alike : (f g : Edge → ℤ) → ((e : Edge) → f e ≡ g e) → (es : List Edge) → sum_of f es ≡ sum_of g es
+sum_alike f g same [] = refl
+sum_alike f g same (e ∷ es) =
+    let here = same e in
+    let rest = sum_alike f g same es in
+    omega (arith, ints)
+
+-- an item more at the end
+pub sum_push : {X : Type 0} (f : X → ℤ) (xs : List X) (x : X) → sum_of f (xs ++ x ∷ []) ≡ sum_of f xs +ℤ f x
+sum_push f [] x = omega (arith, ints)
+sum_push f (y ∷ xs) x = let rest = sum_push f xs x in omega (arith, ints)
+
 abbrev along : (Edge → ℤ) → Point → List Point → Point → ℤ
-along f a bs z = sum_of_edges f (edges_between a bs z)
+along f a bs z = sum_of f (edges_between a bs z)
 
 -- a point between the two ends of a path is taken out
 path_without : (f : Edge → ℤ) (a : Point) (bs : List Point) (z : Point) (j : ℕ) → j < length bs
@@ -35,8 +48,8 @@ later_point x bs j h = elim (eq-or-lt_of_le (let l : suc j ≤ length bs = h in 
 
 -- the sums over the edges of a contour and of what is left without its point at place k differ by the edges at that point and the one that comes in their place
 pub sum_without : (f : Edge → ℤ) (c : List Point) (k : ℕ) → 2 ≤ length c → k < length c
-    → sum_of_edges f (edges c) +ℤ f (edge (point_at c (place_before (length c) k)) (point_at c (place_after (length c) k)))
-    ≡ sum_of_edges f (edges (remove c k)) +ℤ (f (edge (point_at c (place_before (length c) k)) (point_at c k)) +ℤ f (edge (point_at c k) (point_at c (place_after (length c) k))))
+    → sum_of f (edges c) +ℤ f (edge (point_at c (place_before (length c) k)) (point_at c (place_after (length c) k)))
+    ≡ sum_of f (edges (remove c k)) +ℤ (f (edge (point_at c (place_before (length c) k)) (point_at c k)) +ℤ f (edge (point_at c k) (point_at c (place_after (length c) k))))
 sum_without f [] k h l = absurd (omega arith)
 sum_without f (x ∷ []) k h l = absurd (omega arith)
 sum_without f (x ∷ y ∷ ys) zero h l =
@@ -57,7 +70,7 @@ pub area_after_step : (c d : List Point) → Step IsZeroTurn c d → shoelace c 
 unfolding shoelace
 area_after_step c d s = let r = s.removable in
     area_after _ _ _ _ _ (sum_without area_of_edge c s.place (omega (arith, r.enough)) r.within) (area_of_two _ _ _) r.passes
-    ∙ ap (λ (e : List Point). sum_of_edges area_of_edge (edges e)) (sym s.left)
+    ∙ ap (λ (e : List Point). sum_of area_of_edge (edges e)) (sym s.left)
 
 -- removing zero turns keeps the double area
 pub area_kept : (c d : List Point) → Reach IsZeroTurn c d → shoelace c ≡ shoelace d

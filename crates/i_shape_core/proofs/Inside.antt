@@ -4,7 +4,7 @@ use Rattle.std.proofs.lemmas.Int.{ints}
 use Rattle.std.proofs.lemmas.List.Sums.{sum_by-cons}
 use Rattle.i_shape_core.specs.Point.{Point, cross, IsZeroTurn}
 use Rattle.i_shape_core.specs.Contour.{point_at, place_before, place_after, Step, Reach, stay, step}
-use Rattle.i_shape_core.specs.Edges.{Edge, edges, sum_of_edges, is_right, Inside}
+use Rattle.i_shape_core.specs.Edges.{Edge, edges, sum_of, is_right, Inside}
 use Rattle.i_shape_core.specs.Laws.{InsideKept}
 use Rattle.i_shape_core.proofs.Polynomials.{variable, plus, times, minus, ring}
 use Rattle.i_shape_core.proofs.Turns.{edge, coordinates, cross_term, A, B, C, D, triangle, cross_reversed}
@@ -75,7 +75,7 @@ counts p a b c z = go (int_lt p.y a.y) (int_lt p.y b.y) (int_lt p.y c.y) refl re
     go false true false e f g = (bit (int_lt (cross a p b) (pos 0)), rw (right_when p a b false true e f, right_when p b c true false f g, right_when p a c false false e g) (twice _ _ (sym (right_low c a b p (triangle c a b ∙ z) (not_above p c g) (not_above p a e) (above p b f))) ∙ omega arith))
 
 -- how many edges pass a test, as a sum of whole numbers
-pub counted : (p : Point) (es : List Edge) → sum_of_edges (λ e. pos (tally p e)) es ≡ pos (count_by (is_right p) es)
+pub counted : (p : Point) (es : List Edge) → sum_of (λ e. pos (tally p e)) es ≡ pos (count_by (is_right p) es)
 counted p [] = refl
 counted p (e ∷ es) = ap (λ (z : ℤ). pos (tally p e) +ℤ z) (counted p es) ∙ ap pos (sym (sum_by-cons (tally p) e es))
 

@@ -26,6 +26,9 @@ pub mod Edges
 pub mod Inside
 pub mod RotatedEdges
 pub mod Windings
+pub mod Mapped
+pub mod Moved
+pub mod RationalWindings
 pub mod Survive
 pub mod Convex
 pub mod Dedup
@@ -36,13 +39,12 @@ pub mod Certain
 pub mod CycleLaws
 pub mod ConvexLaws
 -- contours that are moved, the boundary, and fill rules
-pub mod Mapped
-pub mod Moved
 pub mod MovedBack
 pub mod MappedSpikes
 pub mod MovedLaws
 pub mod Fillings
 pub mod Boundaries
+pub mod MovedWindings
 -- walks
 pub mod Stacks
 pub mod Walks

@@ -26,7 +26,7 @@ abbrev area_factor : Term
 area_factor = plus (times (variable 6) (variable 9)) (minus (times (variable 7) (variable 8)))
 
 -- a turn grows as areas do
-cross_moved : (m : Move) (a b c : Point) → cross (moved_point m a) (moved_point m b) (moved_point m c) ≡ determinant m *ℤ cross a b c
+pub cross_moved : (m : Move) (a b c : Point) → cross (moved_point m a) (moved_point m b) (moved_point m c) ≡ determinant m *ℤ cross a b c
 unfolding cross
 cross_moved m a b c = ring (numbers a b c m) (cross_term (new_place A) (new_place B) (new_place C)) (times area_factor (cross_term A B C)) refl
 

@@ -9,10 +9,11 @@ use Rattle.i_shape_core.specs.Moves.{Move, determinant, moved_point}
 use Rattle.i_shape_core.proofs.Mapped.{Carries, Returns}
 use Rattle.i_shape_core.proofs.Moved.{numbers, new_place, zero_moved, zero_back, moved_apart}
 
-abbrev square : Point → Point → ℤ
+-- the square of the distance
+abbrev pub square : Point → Point → ℤ
 square a p = (p.x -ℤ a.x) *ℤ (p.x -ℤ a.x) +ℤ (p.y -ℤ a.y) *ℤ (p.y -ℤ a.y)
 
-abbrev square_term : Place → Place → Term
+abbrev pub square_term : Place → Place → Term
 square_term a p = plus (times (plus p.x (minus a.x)) (plus p.x (minus a.x))) (times (plus p.y (minus a.y)) (plus p.y (minus a.y)))
 
 -- the moved way from a to b, and the way turned by a quarter and then moved
@@ -33,7 +34,8 @@ dot_moved m a b c = ring (numbers a b c m)
     (times (square_term A B) (dot_term (new_place A) (new_place B) (new_place C)))
     (plus (times (square_term (new_place A) (new_place B)) (dot_term A B C)) (times skew_term (cross_term A B C))) refl
 
-no_way : (a p : Point) → square a p ≤ℤ pos 0 → a ≡ p
+-- where it is not above 0 the points are one
+pub no_way : (a p : Point) → square a p ≤ℤ pos 0 → a ≡ p
 no_way a p h =
     let z = squares_zero (p.x -ℤ a.x) (p.y -ℤ a.y) (let s = squares_not_negative (p.x -ℤ a.x) (p.y -ℤ a.y) in least (square a p) s h) in
     sym (same_point p a (equal_of_difference _ _ z.0) (equal_of_difference _ _ z.1))

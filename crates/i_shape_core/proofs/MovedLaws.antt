@@ -1,9 +1,8 @@
--- A contour and the moved one are cleaned alike, and wind alike about points of rational coordinates.
+-- A contour and the moved one are cleaned alike.
 use Rattle.std.proofs.Common.{◌≢◌, List, pos}
 use Rattle.i_shape_core.specs.Point.{Point}
-use Rattle.i_shape_core.specs.Moves.{Move, determinant, moved_point, moved, scaling, MovedAlike}
-use Rattle.i_shape_core.specs.RationalPoints.{WindingBetween}
-use Rattle.i_shape_core.proofs.Windings.{winding_kept}
+use Rattle.i_shape_core.specs.Moves.{Move, determinant, moved_point}
+use Rattle.i_shape_core.specs.Laws.{MovedAlike}
 use Rattle.i_shape_core.proofs.Mapped.{reach_mapped, reach_back_to, end_mapped, end_back, end_back_to, answer_mapped}
 use Rattle.i_shape_core.proofs.Moved.{zero_moved, zero_back, moved_apart}
 use Rattle.i_shape_core.proofs.MovedBack.{back_moved, back_back, reverses_moved, reverses_back}
@@ -23,6 +22,3 @@ moved_laws m some c =
       answers = answer_mapped f apart carries returns c;
       despiked = despike_mapped f apart (reverses_moved m some) (reverses_back m some) carries returns (back_moved m) (back_back m some) c;
     }
-
-pub winding_between : (c d : List Point) → WindingBetween c d
-winding_between c d r n = winding_kept (moved (scaling n) c) (moved (scaling n) d) (reach_mapped (moved_point (scaling n)) (zero_moved (scaling n)) r)

@@ -15,6 +15,10 @@ module _ {A B : Type 0} (point : A → B) (points : List A → List B) (each : (
   pub points-read : (list : List A) (k : ℕ) (a : A) (b : B) → k < length list → get_or (points list) k b ≡ point (get_or list k a)
   points-read list k a b within = ap (λ l. get_or l k b) (each list) ∙ get_or-map point list k a b within
 
+  -- so a point that stands at a place, read as the library's, stands there
+  pub points-at : (list : List A) (k : ℕ) (a : A) → k < length list → a ≡ get_or list k a → point a ≡ get_or (points list) k (point a)
+  points-at list k a within e = ap point e ∙ sym (points-read list k a (point a) within)
+
   -- one more at the end
   pub points-push : (list longer : List A) (a : A) → longer ≡ list ++ a ∷ [] → points longer ≡ points list ++ point a ∷ []
   points-push list longer a e = ap points e ∙ each (list ++ a ∷ []) ∙ map-append point list (a ∷ []) ∙ ap (λ l. l ++ point a ∷ []) (sym (each list))

@@ -8,19 +8,16 @@ use Rattle.i_shape_core.specs.Widths.{hbits}
 use Rattle.i_shape_core.specs.Point.{Point, cross_of}
 use Rattle.i_shape_core.specs.IntPoint.{point_of, contour_of}
 use Rattle.i_shape_core.specs.declared.point.IntPoint.{IntPoint}
-use Rattle.i_shape_core.specs.Edges.{Edge, sum_of_edges, area_of_edge, shoelace}
+use Rattle.i_shape_core.specs.Edges.{Edge, sum_of, area_of_edge, shoelace}
 use Rattle.i_shape_core.specs.Convex.{last_of}
+use Rattle.i_shape_core.proofs.Edges.{sum_push}
 use Rattle.i_shape_core.proofs.Turns.{edge}
 use Rattle.i_shape_core.proofs.Dedup.{last_of_append}
 use Rattle.i_shape_core.proofs.Walked.{path_over, between_is}
 
 -- what the edges of the way from a over the points add to twice the area
 abbrev pub area_along : Point → List Point → ℤ
-area_along a ps = sum_of_edges area_of_edge (path_over a ps)
-
-sum_push : (f : Edge → ℤ) (es : List Edge) (e : Edge) → sum_of_edges f (es ++ e ∷ []) ≡ sum_of_edges f es +ℤ f e
-sum_push f [] e = omega (arith, ints)
-sum_push f (d ∷ es) e = let h = sum_push f es e in omega (arith, ints)
+area_along a ps = sum_of area_of_edge (path_over a ps)
 
 path_push : (a : Point) (ps : List Point) (q : Point) → path_over a (ps ++ q ∷ []) ≡ path_over a ps ++ edge (last_of a ps) q ∷ []
 path_push a [] q = refl
@@ -29,12 +26,12 @@ path_push a (p ∷ ps) q = ap (λ (es : List Edge). edge a p ∷ es) (path_push 
 -- one point more
 area_push : (a : Point) (ps : List Point) (q : Point) → area_along a (ps ++ q ∷ []) ≡ area_along a ps +ℤ cross_of (last_of a ps) q
 unfolding area_of_edge
-area_push a ps q = ap (sum_of_edges area_of_edge) (path_push a ps q) ∙ sum_push area_of_edge (path_over a ps) (edge (last_of a ps) q)
+area_push a ps q = ap (sum_of area_of_edge) (path_push a ps q) ∙ sum_push area_of_edge (path_over a ps) (edge (last_of a ps) q)
 
 -- and the edge that closes the contour
 area_closed : (a : Point) (ps : List Point) → shoelace (a ∷ ps) ≡ area_along a ps +ℤ cross_of (last_of a ps) a
 unfolding area_of_edge shoelace
-area_closed a ps = ap (sum_of_edges area_of_edge) (between_is a ps a) ∙ sum_push area_of_edge (path_over a ps) (edge (last_of a ps) a)
+area_closed a ps = ap (sum_of area_of_edge) (between_is a ps a) ∙ sum_push area_of_edge (path_over a ps) (edge (last_of a ps) a)
 
 -- a sum that starts at zero
 pub wrapped-zero : (w : Width) (z : ℤ) → z ≡ pos 0 → z ≡ int_wrap w (pos 0)

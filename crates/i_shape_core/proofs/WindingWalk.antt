@@ -1,14 +1,15 @@
 -- The walk over a contour that starts from its last point, and adds what each edge adds to the winding number.
-use Rattle.std.proofs.Common.{◌≡◌, ◌⊎◌, ℕ, ◌+◌, ◌-◌, ◌^◌, ◌<◌, ◌≤◌, List, [], ◌∷◌, ◌++◌, length, drop, get_or, ℤ, pos, negsuc, ◌+ℤ◌, ◌-ℤ◌, ◌≤ℤ◌, int_lt, FitsSigned, w64, to_z, of_z, refl, sym, ap, subst, ◌∙◌, arith, inl, inr, eq-or-lt_of_le, Bool, true, false, cond}
+use Rattle.std.proofs.Common.{◌≡◌, ◌⊎◌, ℕ, suc, ◌+◌, ◌-◌, ◌^◌, ◌<◌, ◌≤◌, List, [], ◌∷◌, length, drop, get_or, ℤ, pos, negsuc, ◌+ℤ◌, ◌-ℤ◌, ◌≤ℤ◌, int_lt, FitsSigned, w64, to_z, of_z, refl, sym, ap, subst, ◌∙◌, arith, inl, inr, eq-or-lt_of_le, Bool, true, false, cond}
 use Rattle.std.proofs.lemmas.Int.{ints, to_z-of_z}
 use Rattle.std.proofs.lemmas.List.{get_or_default}
 use Rattle.i_shape_core.specs.Point.{Point}
 use Rattle.i_shape_core.specs.IntPoint.{point_of, contour_of}
 use Rattle.i_shape_core.specs.declared.point.IntPoint.{IntPoint}
-use Rattle.i_shape_core.specs.Edges.{Edge, sum_of_edges, is_right}
-use Rattle.i_shape_core.specs.Winding.{level, winding_of_edge, winding}
+use Rattle.i_shape_core.specs.Edges.{edges_between, sum_of, is_right}
+use Rattle.i_shape_core.specs.Winding.{level, winding_of_edge, winding, IsWithinHalf}
 use Rattle.i_shape_core.specs.Convex.{last_of}
 use Rattle.i_shape_core.proofs.Contours.{rest-read, rest-none}
+use Rattle.i_shape_core.proofs.Edges.{sum_push}
 use Rattle.i_shape_core.proofs.Turns.{edge}
 use Rattle.i_shape_core.proofs.Inside.{right_when}
 use Rattle.i_shape_core.proofs.Products.{InReach, reach-fits}
@@ -78,9 +79,35 @@ near_step p a b i first turns n = one_nearer i first (level p a) (level p b) tur
 pub near_first : (first : ℤ) → IsNear 0 first first (pos 0)
 near_first first = record { most = omega (arith, ints); least = omega (arith, ints) }
 
+-- a path is so near
+path_near : (p a : Point) (bs : List Point) (z : Point) → IsNear (suc (length bs)) (level p a) (level p z) (sum_of (winding_of_edge p) (edges_between a bs z))
+path_near p a [] z =
+    let one = edge_near p a z in
+    let most = one.most in
+    let least = one.least in
+    record { most = omega (arith, ints); least = omega (arith, ints) }
+path_near p a (b ∷ bs) z =
+    let one = edge_near p a b in
+    let rest = path_near p b bs z in
+    let most = one.most in
+    let least = one.least in
+    let rest_most = rest.most in
+    let rest_least = rest.least in
+    record { most = omega (arith, ints); least = omega (arith, ints) }
+
+-- a contour winds at most half as often as it has points
+pub winding_half : (c : List Point) (p : Point) → IsWithinHalf (length c) (winding c p)
+unfolding winding
+winding_half [] p = record { most = omega (arith, ints); least = omega (arith, ints) }
+winding_half (a ∷ bs) p =
+    let near = path_near p a bs a in
+    let most = near.most in
+    let least = near.least in
+    record { most = omega (arith, ints); least = omega (arith, ints) }
+
 -- ---- the walk
 abbrev turns_over : Point → Point → List Point → ℤ
-turns_over p q ps = sum_of_edges (winding_of_edge p) (path_over q ps)
+turns_over p q ps = sum_of (winding_of_edge p) (path_over q ps)
 
 -- without points there are no turns
 pub no_points : {I : Type 0} (value : I → ℤ) (p : Point) (cs : List (IntPoint I)) → length cs ≤ 0 → pos 0 ≡ winding (contour_of value cs) p
@@ -102,10 +129,6 @@ walk_turn value p cs i start x t w s h e f g =
     grouped : (a b c : ℤ) → a +ℤ b +ℤ c ≡ a +ℤ (b +ℤ c)
     grouped a b c = omega (arith, ints)
 
-sum_push : (f : Edge → ℤ) (es : List Edge) (e : Edge) → sum_of_edges f (es ++ e ∷ []) ≡ sum_of_edges f es +ℤ f e
-sum_push f [] e = omega (arith, ints)
-sum_push f (d ∷ es) e = let rest = sum_push f es e in omega (arith, ints)
-
 -- the walk from the last point over all points winds as the contour does
 pub walk_all : {I : Type 0} (value : I → ℤ) (p : Point) (cs : List (IntPoint I)) (last : IntPoint I) → 0 < length cs → last ≡ get_or cs (length cs - 1) last
     → turns_over p (point_of value last) (contour_of value cs) ≡ winding (contour_of value cs) p
@@ -117,7 +140,7 @@ walk_all value p (x ∷ xs) last h e =
     ap (λ (r : Point). turns_over p r (q ∷ ps)) (last_point value (x ∷ xs) last h e)
     ∙ swap (winding_of_edge p (edge (last_of q ps) q)) (turns_over p q ps)
     ∙ sym (sum_push (winding_of_edge p) (path_over q ps) (edge (last_of q ps) q))
-    ∙ ap (sum_of_edges (winding_of_edge p)) (sym (between_is q ps q))
+    ∙ ap (sum_of (winding_of_edge p)) (sym (between_is q ps q))
   where
     swap : (a b : ℤ) → a +ℤ b ≡ b +ℤ a
     swap a b = omega (arith, ints)

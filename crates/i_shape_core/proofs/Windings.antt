@@ -5,7 +5,7 @@ use Rattle.std.proofs.lemmas.List.{reverse-append}
 use Rattle.std.proofs.lemmas.List.Sums.{sum_by-cons}
 use Rattle.i_shape_core.specs.Point.{Point, cross, IsZeroTurn}
 use Rattle.i_shape_core.specs.Contour.{Step, Reach, stay, step, Rotation}
-use Rattle.i_shape_core.specs.Edges.{Edge, edges_between, edges, sum_of_edges, is_right, Inside}
+use Rattle.i_shape_core.specs.Edges.{Edge, edges_between, edges, sum_of, is_right, Inside}
 use Rattle.i_shape_core.proofs.Turns.{edge, triangle}
 use Rattle.i_shape_core.proofs.Edges.{sum_without}
 use Rattle.i_shape_core.proofs.Inside.{right_when, right_low, right_high, above, not_above}
@@ -59,7 +59,7 @@ winding_after_step : (p : Point) (c d : List Point) → Step IsZeroTurn c d → 
 unfolding winding
 winding_after_step p c d s = let r = s.removable in
     after_step _ _ _ _ (sum_without (winding_of_edge p) c s.place (omega (arith, r.enough)) r.within) (winding_of_two p _ _ _ r.passes)
-    ∙ ap (λ (e : List Point). sum_of_edges (winding_of_edge p) (edges e)) (sym s.left)
+    ∙ ap (λ (e : List Point). sum_of (winding_of_edge p) (edges e)) (sym s.left)
 
 -- removing zero turns keeps how often the contour winds about each point
 pub winding_kept : (c d : List Point) → Reach IsZeroTurn c d → (p : Point) → winding c p ≡ winding d p
@@ -78,10 +78,10 @@ winding_flipped p a b = go (int_lt p.y a.y) (int_lt p.y b.y) refl refl
     go false false e f = rw (flat p a b false e f, flat p b a false f e) refl
 
 -- a path read backwards takes away what it added
-path_reversed : (p a : Point) (u : List Point) (z : Point) → sum_of_edges (winding_of_edge p) (edges_between a (reverse u) z) ≡ neg_ℤ (sum_of_edges (winding_of_edge p) (edges_between z u a))
+path_reversed : (p a : Point) (u : List Point) (z : Point) → sum_of (winding_of_edge p) (edges_between a (reverse u) z) ≡ neg_ℤ (sum_of (winding_of_edge p) (edges_between z u a))
 path_reversed p a [] z = let e = winding_flipped p z a in omega (arith, ints)
 path_reversed p a (b ∷ u) z =
-    let split = ap (λ (l : List Point). sum_of_edges (winding_of_edge p) (edges_between a l z)) (reverse-append (b ∷ []) u) in
+    let split = ap (λ (l : List Point). sum_of (winding_of_edge p) (edges_between a l z)) (reverse-append (b ∷ []) u) in
     let cut = cut_path (winding_of_edge p) a (reverse u) b [] z in
     let rest = path_reversed p a u b in
     let last = winding_flipped p z b in
@@ -140,15 +140,15 @@ passed_edge p a b = go (int_lt p.y a.y) (int_lt p.y b.y) refl refl
     go true false e f = downwards (int_lt (cross b p a) (pos 0)) _ _ (goes_down p a b e f) (ap (λ (t : Bool). cond t 1 0) (right_when p a b true false e f))
     go false true e f = upwards (int_lt (cross a p b) (pos 0)) _ _ (goes_up p a b e f) (ap (λ (t : Bool). cond t 1 0) (right_when p a b false true e f))
 
-passed_edges : (p : Point) (es : List Edge) → Passed (sum_of_edges (winding_of_edge p) es) (count_by (is_right p) es)
+passed_edges : (p : Point) (es : List Edge) → Passed (sum_of (winding_of_edge p) es) (count_by (is_right p) es)
 passed_edges p [] = record { up = 0; down = 0; difference = refl; sum = refl }
 passed_edges p (e ∷ es) =
     let one = passed_edge p e.start e.end in
     let rest = passed_edges p es in
     both one.up one.down rest.up rest.down one.difference rest.difference one.sum rest.sum (sum_by-cons (λ (f : Edge). cond (is_right p f) 1 0) e es)
   where
-    both : (u v s t : ℕ) → winding_of_edge p e ≡ pos u -ℤ pos v → sum_of_edges (winding_of_edge p) es ≡ pos s -ℤ pos t → cond (is_right p e) 1 0 ≡ u + v → count_by (is_right p) es ≡ s + t
-        → count_by (is_right p) (e ∷ es) ≡ cond (is_right p e) 1 0 + count_by (is_right p) es → Passed (sum_of_edges (winding_of_edge p) (e ∷ es)) (count_by (is_right p) (e ∷ es))
+    both : (u v s t : ℕ) → winding_of_edge p e ≡ pos u -ℤ pos v → sum_of (winding_of_edge p) es ≡ pos s -ℤ pos t → cond (is_right p e) 1 0 ≡ u + v → count_by (is_right p) es ≡ s + t
+        → count_by (is_right p) (e ∷ es) ≡ cond (is_right p e) 1 0 + count_by (is_right p) es → Passed (sum_of (winding_of_edge p) (e ∷ es)) (count_by (is_right p) (e ∷ es))
     both u v s t f g h k l = record { up = u + s; down = v + t; difference = omega (arith, ints); sum = omega arith }
 
 odd : (z : ℤ) (n : ℕ) → Passed z n → unsigned_abs z % 2 ≡ n % 2

@@ -12,10 +12,9 @@ use Rattle.i_shape_core.specs.Cleaners.{SimpleAnswer, KeptAnswer}
 use Rattle.i_shape_core.specs.Canonical.{CanonicalAnswer, IsLeast}
 use Rattle.i_shape_core.specs.Walks.{WalkAnswer}
 use Rattle.i_shape_core.specs.Written.{slot, IsWritten}
-use Rattle.i_shape_core.proofs.Cleaned.{all_answered}
+use Rattle.i_shape_core.proofs.Cleaned.{all_answered, kept_by_rotation}
 use Rattle.i_shape_core.proofs.Ends.{reach_shrinks}
 use Rattle.i_shape_core.proofs.Rotations.{all_turned}
-use Rattle.i_shape_core.proofs.RotatedEdges.{kept_by_rotation}
 
 -- a list with a point stands for an answer
 pub slot_some : (e : List Point) → 0 < length e → slot e ≡ Some e

@@ -15,6 +15,6 @@ pub record IsOnEdge (c : List Point) (p : Point) : Type 0 where
   pub within : place < length c
   pub between : IsBetween (point_at c place) p (point_at c (place_after (length c) place))
 
--- removals add no point to the edges; n is a common denominator: a point whose coordinates are p.x / n and p.y / n lies on an edge of c where p lies on an edge of c scaled by n
+-- removals add no point to the edges; n is a common denominator, other than 0: a point whose coordinates are p.x / n and p.y / n lies on an edge of c where p lies on an edge of c scaled by n
 abbrev pub BoundaryWithin : List Point → List Point → Type 0
 BoundaryWithin c d = Reach IsZeroTurn c d → (n : ℤ) (p : Point) → IsOnEdge (moved (scaling n) d) p → IsOnEdge (moved (scaling n) c) p

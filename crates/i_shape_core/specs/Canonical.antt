@@ -1,10 +1,11 @@
 -- One form for all contours that lead to one another: the least rotation of the end.
-use Rattle.std.specs.Prelude.{◌≡◌, ◌≤◌, ◌⊎◌, ◌↔◌, ◌<ℤ◌, ℕ, List, [], ◌∷◌, ◌++◌, take, drop, length, Option, Some, None, nat_abs, neg_ℤ, reverse}
+use Rattle.std.specs.Prelude.{◌≡◌, ◌≤◌, ◌⊎◌, ◌↔◌, ◌<ℤ◌, ℕ, ℤ, List, [], ◌∷◌, ◌++◌, take, drop, length, Option, Some, None, neg_ℤ, reverse}
 use Rattle.i_shape_core.specs.Point.{Point, IsZeroTurn}
 use Rattle.i_shape_core.specs.Contour.{Test, Step, End, Rotation}
-use Rattle.i_shape_core.specs.Cleaners.{IsOneEnd, EachEndCollapses, IsFlat}
+use Rattle.i_shape_core.specs.Cleaners.{IsOneEnd, EachEndCollapses, IsKept, IsFlat}
 use Rattle.i_shape_core.specs.Edges.{shoelace, Inside}
 use Rattle.i_shape_core.specs.Winding.{winding}
+use Rattle.i_shape_core.specs.Moves.{moved, scaling}
 
 -- p comes before q: by x, and then by y
 abbrev pub IsBefore : Point → Point → Type 0
@@ -52,6 +53,10 @@ abbrev pub CanonicalJoined : List Point → List Point → Type 0
 CanonicalJoined c d = (e f l m : List Point) → End IsZeroTurn c e → 3 ≤ length e → End IsZeroTurn d f → 3 ≤ length f
     → IsLeast e l → IsLeast f m → (l ≡ m) ↔ Joined IsZeroTurn c d
 
+-- no contour that is joined to c has fewer points than an end of c
+abbrev pub Shortest : List Point → List Point → Type 0
+Shortest c d = Joined IsZeroTurn c d → (e : List Point) → End IsZeroTurn c e → length e ≤ length d
+
 -- l is the canonical form of c, or that of c read backwards: the one that comes first
 pub record IsUnoriented (c l : List Point) : Type 0 where
   pub forwards : List Point
@@ -66,11 +71,16 @@ abbrev pub UnorientedAnswer : List Point → Option (List Point) → Type 0
 UnorientedAnswer c None = EachEndCollapses c
 UnorientedAnswer c (Some l) = IsUnoriented c l
 
--- e has the double area of c but for its sign and the same points inside, and winds as often about each point, or as often the other way
-pub record IsKeptEitherWay (c e : List Point) : Type 0 where
-  pub area : nat_abs (shoelace e) ≡ nat_abs (shoelace c)
+-- e has the opposite double area of c and the same points inside, and winds as often the other way about each point, and scaled by any n it does
+pub record IsKeptBackwards (c e : List Point) : Type 0 where
+  pub area : shoelace e ≡ neg_ℤ (shoelace c)
   pub inside : (p : Point) → Inside e p ↔ Inside c p
-  pub winding : ((p : Point) → winding e p ≡ winding c p) ⊎ ((p : Point) → winding e p ≡ neg_ℤ (winding c p))
+  pub between : (n : ℤ) (p : Point) → winding (moved (scaling n) e) p ≡ neg_ℤ (winding (moved (scaling n) c) p)
+  pub winding : (p : Point) → winding e p ≡ neg_ℤ (winding c p)
+
+-- e keeps what c has, or all of it the other way
+abbrev pub IsKeptEitherWay : List Point → List Point → Type 0
+IsKeptEitherWay c e = IsKept c e ⊎ IsKeptBackwards c e
 
 abbrev pub KeptEitherWay : List Point → Option (List Point) → Type 0
 KeptEitherWay c None = IsFlat c

@@ -1,10 +1,11 @@
 -- What a cleaner answers.
-use Rattle.std.specs.Prelude.{◌≡◌, ℕ, ◌-◌, ◌*◌, ◌≤◌, ◌↔◌, pos, List, length, Option, Some, None}
+use Rattle.std.specs.Prelude.{◌≡◌, ℕ, ℤ, ◌-◌, ◌*◌, ◌≤◌, ◌↔◌, pos, List, length, Option, Some, None}
 use Rattle.i_shape_core.specs.Point.{Point, IsZeroTurn, IsBack}
 use Rattle.i_shape_core.specs.Convex.{NoSpikes}
 use Rattle.i_shape_core.specs.Contour.{End, IsCollapsed, Rotation}
 use Rattle.i_shape_core.specs.Edges.{shoelace, Inside}
 use Rattle.i_shape_core.specs.Winding.{winding}
+use Rattle.i_shape_core.specs.Moves.{moved, scaling}
 
 -- e is the one end of c up to rotation, and has at least three points; as an end it lists points of c in the order of c
 pub record IsOneEnd (c e : List Point) : Type 0 where
@@ -21,16 +22,18 @@ abbrev pub SimpleAnswer : List Point → Option (List Point) → Type 0
 SimpleAnswer c None = EachEndCollapses c
 SimpleAnswer c (Some e) = IsOneEnd c e
 
--- c and e have the same double area and the same points inside, and wind as often about each point
+-- c and e have the same double area and the same points inside, and wind equally often about each point, also where both are scaled by any n; for n above 0, c winds about the point of rational coordinates p.x / n and p.y / n as often as c scaled by n winds about p
 pub record IsKept (c e : List Point) : Type 0 where
   pub area : shoelace e ≡ shoelace c
   pub inside : (p : Point) → Inside e p ↔ Inside c p
+  pub between : (n : ℤ) (p : Point) → winding (moved (scaling n) e) p ≡ winding (moved (scaling n) c) p
   pub winding : (p : Point) → winding e p ≡ winding c p
 
--- c has no area and no point inside, and winds about no point
+-- c has no area and no point inside, and winds about no point, nor does it scaled by any n
 pub record IsFlat (c : List Point) : Type 0 where
   pub area : shoelace c ≡ pos 0
   pub inside : (p : Point) → Inside c p → ⊥
+  pub between : (n : ℤ) (p : Point) → winding (moved (scaling n) c) p ≡ pos 0
   pub winding : (p : Point) → winding c p ≡ pos 0
 
 -- what each answer of a cleaner keeps

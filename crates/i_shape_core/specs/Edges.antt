@@ -17,10 +17,10 @@ abbrev pub edges : List Point → List Edge
 edges [] = []
 edges (a ∷ bs) = edges_between a bs a
 
--- the sum of a number for each edge
-abbrev pub sum_of_edges : (Edge → ℤ) → List Edge → ℤ
-sum_of_edges f [] = pos 0
-sum_of_edges f (e ∷ es) = f e +ℤ sum_of_edges f es
+-- the sum of a whole number for each item
+abbrev pub sum_of : {X : Type 0} → (X → ℤ) → List X → ℤ
+sum_of f [] = pos 0
+sum_of f (x ∷ xs) = f x +ℤ sum_of f xs
 
 -- the part of an edge in twice the area
 unfoldable pub area_of_edge : Edge → ℤ
@@ -28,7 +28,7 @@ area_of_edge e = e.start.x *ℤ e.end.y -ℤ e.start.y *ℤ e.end.x
 
 -- twice the area, above 0 where the contour turns to the left
 unfoldable pub shoelace : List Point → ℤ
-shoelace c = sum_of_edges area_of_edge (edges c)
+shoelace c = sum_of area_of_edge (edges c)
 
 -- p lies below the point
 abbrev pub is_above : Point → Point → Bool

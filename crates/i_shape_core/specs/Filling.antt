@@ -1,28 +1,19 @@
 -- The fill rules of overlays: whether a point is filled, by how often the contours of a shape wind about it together.
-use Rattle.std.specs.Prelude.{◌≢◌, ◌↔◌, ◌<ℤ◌, ℤ, pos, ◌+ℤ◌, List, [], ◌∷◌}
+use Rattle.std.specs.Prelude.{◌≢◌, ◌↔◌, ◌<ℤ◌, ℤ, pos, List}
 use Rattle.i_shape_core.specs.Point.{Point}
 use Rattle.i_shape_core.specs.Cleaners.{KeptAnswer}
 use Rattle.i_shape_core.specs.Survivors.{Survivors}
-use Rattle.i_shape_core.specs.Winding.{winding, IsOdd}
-
-pub data FillRule : Type 0 where
-  even_odd : FillRule
-  non_zero : FillRule
-  positive : FillRule
-  negative : FillRule
+use Rattle.i_shape_core.specs.Winding.{IsOdd, shape_winding}
+use Rattle.i_shape_core.specs.declared.fill_rule.FillRule.{FillRule}
+use Rattle.i_shape_core.specs.declared.fill_rule.FillRule.TheVariants.{EvenOdd, NonZero, Positive, Negative}
 
 -- whether a rule fills a point about which the contours wind z times
 abbrev pub IsFilled : FillRule → ℤ → Type 0
-IsFilled even_odd z = IsOdd z
-IsFilled non_zero z = z ≢ pos 0
-IsFilled positive z = pos 0 <ℤ z
-IsFilled negative z = z <ℤ pos 0
+IsFilled EvenOdd z = IsOdd z
+IsFilled NonZero z = z ≢ pos 0
+IsFilled Positive z = pos 0 <ℤ z
+IsFilled Negative z = z <ℤ pos 0
 
--- how often contours wind about p together
-abbrev pub winding_of_all : List (List Point) → Point → ℤ
-winding_of_all [] p = pos 0
-winding_of_all (c ∷ cs) p = winding c p +ℤ winding_of_all cs p
-
--- where each contour is left as a cleaner answers, or left out where it answers nothing, the same points are filled by each rule
+-- where each contour is left with what it keeps, or left out where it winds about no point, the same points are filled by each rule
 abbrev pub FillingKept : List (List Point) → List (List Point) → Type 0
-FillingKept contours left = Survivors KeptAnswer contours left → (rule : FillRule) (p : Point) → IsFilled rule (winding_of_all contours p) ↔ IsFilled rule (winding_of_all left p)
+FillingKept contours left = Survivors KeptAnswer contours left → (rule : FillRule) (p : Point) → IsFilled rule (shape_winding contours p) ↔ IsFilled rule (shape_winding left p)

@@ -1,9 +1,12 @@
 -- The laws of removal, over whole numbers: what holds of the contours that removals lead to.
-use Rattle.std.specs.Prelude.{◌≡◌, ◌<◌, ◌≤◌, ◌⊎◌, List, [], ◌∷◌, ◌++◌, reverse, length, ◌↔◌}
+use Rattle.std.specs.Prelude.{◌≡◌, ◌<◌, ◌≤◌, pos, neg_ℤ, ◌<ℤ◌, ◌⊎◌, List, [], ◌∷◌, ◌++◌, reverse, length, ◌↔◌, Option, option_map}
 use Rattle.i_shape_core.specs.Point.{Point, IsZeroTurn, IsBack}
 use Rattle.i_shape_core.specs.Contour.{Reach, End, Rotation, SameEnd, IsCollapsed, IsSimple}
 use Rattle.i_shape_core.specs.Edges.{shoelace, Inside}
 use Rattle.i_shape_core.specs.Convex.{NoSpikes, Convex}
+use Rattle.i_shape_core.specs.Cleaners.{SimpleAnswer, DespikeAnswer}
+use Rattle.i_shape_core.specs.Moves.{Move, determinant, moved_point, moved}
+use Rattle.i_shape_core.specs.Winding.{winding}
 
 -- any two ends of c are one cycle, or both have collapsed
 abbrev pub OneEnd : List Point → Type 0
@@ -62,3 +65,17 @@ pub record ConvexKept (c : List Point) : Type 0 where
   pub turned : (d : List Point) → Rotation c d → Convex c ↔ Convex d
   pub backwards : Convex c ↔ Convex (reverse c)
   pub repeated : (u : List Point) (p : Point) (t : List Point) → c ≡ u ++ p ∷ t → Convex c ↔ Convex (u ++ p ∷ p ∷ t)
+
+-- where a move keeps different points apart, a contour and the moved one reach the same contours, moved, have the same ends, moved, also where points at which the way turns back are removed alone, and have the same answers of a cleaner, moved
+pub record MovedAlike (m : Move) (c : List Point) : Type 0 where
+  pub reached : (d : List Point) → Reach IsZeroTurn c d ↔ Reach IsZeroTurn (moved m c) (moved m d)
+  pub ends : (e : List Point) → End IsZeroTurn c e ↔ End IsZeroTurn (moved m c) (moved m e)
+  pub every : (f : List Point) → End IsZeroTurn (moved m c) f → (e : List Point) × End IsZeroTurn c e × (f ≡ moved m e)
+  pub backwards : (e : List Point) → End IsBack c e ↔ End IsBack (moved m c) (moved m e)
+  pub answers : (r : Option (List Point)) → SimpleAnswer c r ↔ SimpleAnswer (moved m c) (option_map (moved m) r)
+  pub despiked : (r : Option (List Point)) → DespikeAnswer c r ↔ DespikeAnswer (moved m c) (option_map (moved m) r)
+
+-- a moved contour winds about the moved point as often as the contour about the point, and as often the other way where the move turns the plane over
+pub record WindingMoved (m : Move) (c : List Point) (p : Point) : Type 0 where
+  pub kept : pos 0 <ℤ determinant m → winding (moved m c) (moved_point m p) ≡ winding c p
+  pub turned_over : determinant m <ℤ pos 0 → winding (moved m c) (moved_point m p) ≡ neg_ℤ (winding c p)

@@ -5,11 +5,11 @@ pub mod IntPoint
 pub mod Contour
 pub mod Edges
 pub mod Winding
-pub mod Convex
-pub mod Laws
-pub mod Cleaners
-pub mod Survivors
 pub mod Moves
+pub mod Convex
+pub mod Cleaners
+pub mod Laws
+pub mod Survivors
 pub mod RationalPoints
 pub mod Filling
 pub mod Boundary

@@ -5,6 +5,6 @@ use Rattle.i_shape_core.specs.Contour.{Reach}
 use Rattle.i_shape_core.specs.Winding.{winding}
 use Rattle.i_shape_core.specs.Moves.{moved, scaling}
 
--- removals keep how often the contour winds about the point whose coordinates are p.x / n and p.y / n: so often winds the contour scaled by n about p
+-- removals keep how often the contour scaled by n winds about p: for n above 0 so often it winds about the point whose coordinates are p.x / n and p.y / n
 abbrev pub WindingBetween : List Point → List Point → Type 0
 WindingBetween c d = Reach IsZeroTurn c d → (n : ℤ) (p : Point) → winding (moved (scaling n) c) p ≡ winding (moved (scaling n) d) p

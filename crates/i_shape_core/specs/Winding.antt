@@ -1,8 +1,8 @@
 -- How often a contour winds about a point.
-use Rattle.std.specs.Prelude.{◌≡◌, ◌<◌, ◌%◌, ℤ, pos, neg_ℤ, ◌-ℤ◌, List, reverse, length, cond, unsigned_abs}
+use Rattle.std.specs.Prelude.{◌≡◌, ◌<◌, ◌%◌, ℕ, ℤ, pos, neg_ℤ, ◌+ℤ◌, ◌-ℤ◌, ◌≤ℤ◌, List, reverse, length, cond, unsigned_abs}
 use Rattle.i_shape_core.specs.Point.{Point, IsZeroTurn}
 use Rattle.i_shape_core.specs.Contour.{Reach, Rotation}
-use Rattle.i_shape_core.specs.Edges.{Edge, edges, sum_of_edges, is_above, is_right}
+use Rattle.i_shape_core.specs.Edges.{Edge, edges, sum_of, is_above, is_right}
 
 -- 1 for a point above p, and otherwise 0
 abbrev pub level : Point → Point → ℤ
@@ -14,7 +14,16 @@ winding_of_edge p e = cond (is_right p e) (level p e.end -ℤ level p e.start) (
 
 -- how often the contour winds about p, to the left
 unfoldable pub winding : List Point → Point → ℤ
-winding c p = sum_of_edges (winding_of_edge p) (edges c)
+winding c p = sum_of (winding_of_edge p) (edges c)
+
+-- z is at most half of n away from 0
+pub record IsWithinHalf (n : ℕ) (z : ℤ) : Type 0 where
+  pub most : (z +ℤ z) ≤ℤ pos n
+  pub least : neg_ℤ (pos n) ≤ℤ (z +ℤ z)
+
+-- how often the contours of a shape wind about p together, which the fill rules of an overlay ask of it
+abbrev pub shape_winding : List (List Point) → Point → ℤ
+shape_winding contours p = sum_of (λ c. winding c p) contours
 
 -- removals keep how often the contour winds about each point; fewer than three points wind about none
 pub record WindingKept (c d : List Point) : Type 0 where

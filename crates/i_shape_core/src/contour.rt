@@ -1,23 +1,26 @@
 //! Tests of a contour as a whole: its winding, its convexity, and which points it contains.
 
-ghost use Rattle.std.specs.Prelude.{◌≡◌, ◌<◌, ◌↔◌, ◌≤ℤ◌, pos, List, length, IsTrue};
+ghost use Rattle.std.specs.Prelude.{◌≡◌, ◌<◌, ◌↔◌, ◌≤◌, ◌≤ℤ◌, ◌++◌, pos, List, length, map, drop, IsTrue};
 ghost use Rattle.std.specs.Int.{int_wrap};
 ghost use Rattle.std.specs.List.{All};
 ghost use Rattle.i_shape_core.specs.IntPoint.{point_of, contour_of, IsSafe};
 ghost use Rattle.i_shape_core.specs.Point.{Point};
 ghost use Rattle.i_shape_core.specs.Edges.{shoelace, Inside, is_right};
-ghost use Rattle.i_shape_core.specs.Winding.{winding, winding_of_edge};
+ghost use Rattle.i_shape_core.specs.Winding.{winding};
+ghost use Rattle.i_shape_core.specs.Filling.{IsFilled};
 ghost use Rattle.i_shape_core.specs.Blocks.{inside_after};
 ghost use Rattle.i_shape_core.specs.Convex.{Convex};
 
 use crate::area::area_of;
 use crate::bend::{Bend, bend_of};
+use crate::fill_rule::FillRule;
 use crate::number::{IntNumber, WideIntNumber};
-use crate::point::IntPoint;
+use crate::point::{ContourPoint, IntPoint};
 use crate::same::{are_same, last_other};
 use crate::triangle::Triangle;
+use crate::winding::{winding_about, windings_about};
 
-/// Tests of a contour as a whole. Each takes linear time and no memory.
+/// Tests of a contour as a whole. Each takes no memory, and linear time, about many points for each of them.
 pub trait ContourExtension<I: IntNumber> {
     /// The contour over whole numbers.
     ghost contour: { Self → List Point };
@@ -45,6 +48,20 @@ pub trait ContourExtension<I: IntNumber> {
         requires points_safe { All (IsSafe I.width) (contour self.now) }
         requires point_safe { IsSafe I.width (point_of I.value point) }
         ensures { result ≡ winding (contour self.now) (point_of I.value point) };
+
+    /// Whether a fill rule fills `point`, by how often the contour winds about it. By `EvenOdd` it is `contains_point`.
+    fn contains_by(&self, point: IntPoint<I>, rule: FillRule) -> bool
+        requires points_safe { All (IsSafe I.width) (contour self.now) }
+        requires point_safe { IsSafe I.width (point_of I.value point) }
+        ensures { IsTrue result ↔ IsFilled rule (winding (contour self.now) (point_of I.value point)) };
+
+    /// Writes the winding number about each of the points, which may be of any type, to the front of `out`, which is at least as
+    /// long. What stands behind stays as it was.
+    fn winding_numbers_into<P: ContourPoint<Coordinate = I>>(&self, points: &[P], out: &mut [isize])
+        requires contour_safe { All (IsSafe I.width) (contour self.now) }
+        requires points_safe { All (IsSafe I.width) (contour_of I.value (P.points points.now)) }
+        requires room { length points.now ≤ length out.old }
+        ensures { out.new ≡ map (winding (contour self.now)) (contour_of I.value (P.points points.now)) ++ drop (length points.now) out.old };
 }
 
 impl<I: IntNumber> ContourExtension<I> for &[IntPoint<I>] {
@@ -111,17 +128,24 @@ impl<I: IntNumber> ContourExtension<I> for &[IntPoint<I>] {
         requires point_safe { IsSafe I.width (point_of I.value point) }
         ensures { result ≡ winding (contour_of I.value self.now.now) (point_of I.value point) }
     {
-        let points: &[IntPoint<I>] = *self;
-        let Some(last) = points.last() else {
-            return 0;
-        };
-        let mut before = *last;
-        let mut turns: isize = 0;
-        for end in points {
-            turns += turn_about(point, before, *end);
-            before = *end;
-        }
-        turns
+        winding_about(*self, point)
+    }
+
+    fn contains_by(&self, point: IntPoint<I>, rule: FillRule) -> bool
+        requires points_safe { All (IsSafe I.width) (contour_of I.value self.now.now) }
+        requires point_safe { IsSafe I.width (point_of I.value point) }
+        ensures { IsTrue result ↔ IsFilled rule (winding (contour_of I.value self.now.now) (point_of I.value point)) }
+    {
+        rule.fills(winding_about(*self, point) as i128)
+    }
+
+    fn winding_numbers_into<P: ContourPoint<Coordinate = I>>(&self, points: &[P], out: &mut [isize])
+        requires contour_safe { All (IsSafe I.width) (contour_of I.value self.now.now) }
+        requires points_safe { All (IsSafe I.width) (contour_of I.value (P.points points.now)) }
+        requires room { length points.now ≤ length out.old }
+        ensures { out.new ≡ map (winding (contour_of I.value self.now.now)) (contour_of I.value (P.points points.now)) ++ drop (length points.now) out.old }
+    {
+        windings_about(*self, points, out);
     }
 }
 
@@ -151,7 +175,11 @@ fn is_inside_after<I: IntNumber>(
 }
 
 /// Whether the edge from `start` to `end` passes the height of `point` strictly to the right of it.
-fn passes_right<I: IntNumber>(point: IntPoint<I>, start: IntPoint<I>, end: IntPoint<I>) -> bool
+pub(crate) fn passes_right<I: IntNumber>(
+    point: IntPoint<I>,
+    start: IntPoint<I>,
+    end: IntPoint<I>,
+) -> bool
     requires point_safe { IsSafe I.width (point_of I.value point) }
     requires start_safe { IsSafe I.width (point_of I.value start) }
     requires end_safe { IsSafe I.width (point_of I.value end) }
@@ -165,21 +193,5 @@ fn passes_right<I: IntNumber>(point: IntPoint<I>, start: IntPoint<I>, end: IntPo
         Triangle::is_clockwise(end, point, start)
     } else {
         Triangle::is_clockwise(start, point, end)
-    }
-}
-
-/// What the edge from `start` to `end` adds to the winding number about `point`.
-fn turn_about<I: IntNumber>(point: IntPoint<I>, start: IntPoint<I>, end: IntPoint<I>) -> isize
-    requires point_safe { IsSafe I.width (point_of I.value point) }
-    requires start_safe { IsSafe I.width (point_of I.value start) }
-    requires end_safe { IsSafe I.width (point_of I.value end) }
-    ensures { result ≡ winding_of_edge (point_of I.value point) (record { start = point_of I.value start; end = point_of I.value end }) }
-{
-    if !passes_right(point, start, end) {
-        0
-    } else if end.y > point.y {
-        1
-    } else {
-        -1
     }
 }

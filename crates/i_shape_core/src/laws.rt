@@ -4,13 +4,13 @@
 
 ghost use Rattle.std.specs.Prelude.{◌≡◌, ◌≢◌, ◌↔◌, IsTrue, pos, List, Some};
 ghost use Rattle.std.specs.Ordering.{MatchOrdering, partial_lt};
-ghost use Rattle.i_shape_core.specs.Canonical.{CanonicalJoined, IsBefore, UnorientedJoined};
+ghost use Rattle.i_shape_core.specs.Canonical.{CanonicalJoined, IsBefore, Shortest, UnorientedJoined};
 ghost use Rattle.i_shape_core.specs.IntPoint.{contour_of, point_of};
 ghost use Rattle.i_shape_core.specs.Edges.{Inside};
 ghost use Rattle.i_shape_core.specs.Point.{Point};
-ghost use Rattle.i_shape_core.specs.Boundary.{BoundaryWithin};
+ghost use Rattle.i_shape_core.specs.Boundary.{BoundaryWithin, IsOnEdge};
 ghost use Rattle.i_shape_core.specs.Filling.{FillingKept};
-ghost use Rattle.i_shape_core.specs.Moves.{Move, determinant, MovedAlike};
+ghost use Rattle.i_shape_core.specs.Moves.{Move, determinant};
 ghost use Rattle.i_shape_core.specs.RationalPoints.{WindingBetween};
 ghost use Rattle.i_shape_core.specs.Winding.{winding, IsOdd, WindingKept, WindingTurned};
 ghost use Rattle.i_shape_core.specs.Laws.{
@@ -19,11 +19,13 @@ ghost use Rattle.i_shape_core.specs.Laws.{
   ConvexKept,
   EveryOrder,
   InsideKept,
+  MovedAlike,
   OneCertainEnd,
   OneEnd,
   ReversedEnds,
   RotatedEnds,
   Twice,
+  WindingMoved,
 };
 
 use crate::number::IntNumber;
@@ -96,7 +98,7 @@ pub fn winding_between()
     ensures { (c d : List Point) → WindingBetween c d }
 {}
 
-/// Where the contours of a shape are cleaned, each fill rule of overlays fills the points that it filled: even-odd, non-zero,
+/// Where the contours of a shape keep what cleaning keeps, each fill rule of overlays fills the points that it filled: even-odd, non-zero,
 /// positive and negative.
 pub fn filling_kept()
     ensures { (contours left : List (List Point)) → FillingKept contours left }
@@ -111,6 +113,18 @@ pub fn boundary_within()
 /// and scalings do.
 pub fn moved_alike()
     ensures { (m : Move) → determinant m ≢ pos 0 → (c : List Point) → MovedAlike m c }
+{}
+
+/// A moved contour winds about the moved point as often as the contour about the point, where that is off the edges and the map keeps
+/// the plane's orientation: translations, scalings, quarter turns and shears do. Where the map turns the plane over, as mirrorings
+/// do, it winds as often the other way.
+pub fn winding_moved()
+    ensures { (m : Move) (c : List Point) (p : Point) → (IsOnEdge c p → ⊥) → WindingMoved m c p }
+{}
+
+/// No contour that is joined to another has fewer points than an end of that: cleaning leaves as few as can be.
+pub fn shortest()
+    ensures { (c d : List Point) → Shortest c d }
 {}
 
 /// A contour without spikes doesn't collapse, and is convex exactly where its ends are. Convexity stays under rotation,

@@ -9,6 +9,7 @@ mod comparer;
 pub mod contour;
 pub mod despike;
 pub mod error;
+pub mod fill_rule;
 pub mod laws;
 pub mod number;
 pub mod point;
@@ -20,7 +21,9 @@ pub mod simplifier;
 pub mod triangle;
 pub mod turn;
 mod unoriented;
+pub mod winding;
 
+pub use fill_rule::FillRule;
 pub use number::{IntNumber, WideIntNumber};
 pub use probe::Probe;
 pub use triangle::Triangle;

@@ -2,7 +2,7 @@ use Rattle.std.proofs.Common.{arith}
 use Rattle.i_shape_core.specs.IntPoint.{IsSafe}
 use Rattle.i_shape_core.proofs.Contours.{length-contour}
 use Rattle.i_shape_core.proofs.Rotations.{all_turned}
-use Rattle.i_shape_core.proofs.RotatedEdges.{kept_by_rotation}
+use Rattle.i_shape_core.proofs.Cleaned.{kept_by_rotation}
 use Rattle.i_shape_core.proofs.Readings.{least-written}
 use Rattle.i_shape_core.proofs.simplifier.ContourSimplifier.canonical.Goals as goal
 

@@ -1,7 +1,7 @@
 use Rattle.i_shape_core.specs.IntPoint.{point_of}
 use Rattle.i_shape_core.proofs.Compared.{gt-tells}
 use Rattle.i_shape_core.proofs.WindingWalk.{no_turn, turn_up, turn_down}
-use Rattle.i_shape_core.proofs.contour.turn_about.Goals as goal
+use Rattle.i_shape_core.proofs.winding.turn_about.Goals as goal
 
 pub returns-then-not-passes_right : goal.returns-then-not-passes_right
 returns-then-not-passes_right g c = no_turn (point_of g.I.IntNumber.value c.args.point) (point_of g.I.IntNumber.value c.args.start) (point_of g.I.IntNumber.value c.args.end) _ c.passes_right.ensures c.if-not-passes_right.true
