@@ -29,7 +29,7 @@ inside_count-append cs ds p = sum_by-append (λ c. parity c p) cs ds
 
 -- contours keep themselves
 pub same_kept : (contours : List (List Point)) → AreKept contours contours
-same_kept contours = record { area = refl; inside = λ p. refl; winding = λ p. refl }
+same_kept contours = record { area = refl; inside = λ p. refl; between = λ n p. refl; winding = λ p. refl }
 
 pub same_parity : (m n : ℕ) → (m % 2 ≡ 1) ↔ (n % 2 ≡ 1) → m % 2 ≡ n % 2
 same_parity m n h = go (dec_le 1 (m % 2)) (dec_le 1 (n % 2))
@@ -45,6 +45,7 @@ unfolding Inside
 flat_more c cs left flat rest = record {
   area = let here = flat.area in let more = rest.area in omega (arith, ints);
   inside = λ p. let out : parity c p ≡ 1 → ⊥ = flat.inside p in omega (arith, inside_count-cons c cs p, rest.inside p);
+  between = λ n p. let here = flat.between n p in let more = rest.between n p in omega (arith, ints);
   winding = λ p. let here = flat.winding p in let more = rest.winding p in omega (arith, ints);
 }
 
@@ -54,6 +55,7 @@ unfolding Inside
 kept_more c e cs left kept rest = record {
   area = let here = kept.area in let more = rest.area in omega (arith, ints);
   inside = λ p. omega (arith, inside_count-cons c cs p, inside_count-cons e left p, same_parity (count_by (is_right p) (edges e)) (count_by (is_right p) (edges c)) (kept.inside p), rest.inside p);
+  between = λ n p. let here = kept.between n p in let more = rest.between n p in omega (arith, ints);
   winding = λ p. let here = kept.winding p in let more = rest.winding p in omega (arith, ints);
 }
 

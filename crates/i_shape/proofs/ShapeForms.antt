@@ -1,5 +1,5 @@
 -- The forms of shapes and of lists of shapes, by any form of contours: where two are one, that there is one, that it is its own form, and what it keeps.
-use Rattle.std.proofs.Common.{◌≡◌, ◌↔◌, ◌⊎◌, inl, inr, ℕ, ℤ, ◌+ℤ◌, ◌%◌, nat_abs, List, [], ◌∷◌, Option, Some, None, IfSome, option_map, Result, Ok, Err, IfOk, refl, sym, ap, ◌∙◌, arith, IsPermutation}
+use Rattle.std.proofs.Common.{◌≡◌, ◌↔◌, ◌⊎◌, inl, inr, ℕ, ℤ, ◌+ℤ◌, neg_ℤ, ◌%◌, nat_abs, map, List, [], ◌∷◌, Option, Some, None, IfSome, option_map, Result, Ok, Err, IfOk, refl, sym, ap, ◌∙◌, arith, IsPermutation}
 use Rattle.std.specs.List.{All, AllZip, filter_map, sum_by, count_by}
 use Rattle.std.specs.Int.{Width}
 use Rattle.std.proofs.lemmas.Int.{ints}
@@ -9,11 +9,12 @@ use Rattle.i_shape_core.specs.Point.{Point, IsZeroTurn}
 use Rattle.i_shape_core.specs.IntPoint.{IsSafe}
 use Rattle.i_shape_core.specs.Edges.{edges, is_right, shoelace, Inside}
 use Rattle.i_shape_core.specs.Winding.{winding}
+use Rattle.i_shape_core.specs.Moves.{moved, scaling}
 use Rattle.i_shape_core.specs.Cleaners.{EachEndCollapses}
-use Rattle.i_shape_core.specs.Canonical.{IsAtMost, CanonicalAnswer, Joined, UnorientedAnswer, JoinedEitherWay}
+use Rattle.i_shape_core.specs.Canonical.{IsAtMost, CanonicalAnswer, Joined, UnorientedAnswer, IsKeptEitherWay, JoinedEitherWay}
 use Rattle.i_shape_core.proofs.Order.{at_most_refl, at_most_total, at_most_trans, at_most_antisym}
 use Rattle.i_shape_core.proofs.ContourForms.{canonical_stands, canonical_one, has_canonical, canonical_again, canonical_kept, unoriented_stands, unoriented_one, has_unoriented, unoriented_again, unoriented_kept}
-use Rattle.i_shape.specs.ShapeAnswers.{Survivors, sum_of, inside_count, ShapeClean, AreKept}
+use Rattle.i_shape.specs.ShapeAnswers.{Survivors, sum_of, shape_winding, inside_count, ShapeClean, AreKept}
 use Rattle.i_shape.specs.ShapeLists.{IsSafeShape, IsSafeList}
 use Rattle.i_shape.specs.CanonicalShapes.{SortedForms, ShapeForm, ListForm, IsShapeAtMost, OuterCollapses, SameShape, OneShapeForm, OneListForm, HasShapeForm, HasListForm, AreKeptEitherWay, FormsKept}
 use Rattle.i_shape.proofs.Surviving.{survivors_weaker, survivors_stay, survivors_have}
@@ -168,12 +169,19 @@ inside_shuffled : (k l : List (List Point)) → IsPermutation k l → (p : Point
 unfolding inside_count
 inside_shuffled k l moved p = sum_by-IsPermutation (λ c. count_by (is_right p) (edges c) % 2) k l moved
 
+between_shuffled : (n : ℤ) (p : Point) (k l : List (List Point)) → IsPermutation k l → shape_winding (map (moved (scaling n)) l) p ≡ shape_winding (map (moved (scaling n)) k) p
+between_shuffled n p k l shuffled = summed l ∙ sym (sum_shuffled (λ c. winding (moved (scaling n) c) p) k l shuffled) ∙ sym (summed k)
+  where
+    summed : (cs : List (List Point)) → shape_winding (map (moved (scaling n)) cs) p ≡ sum_of (λ c. winding (moved (scaling n) c) p) cs
+    summed [] = refl
+    summed (c ∷ cs) = ap (λ (z : ℤ). winding (moved (scaling n) c) p +ℤ z) (summed cs)
+
 pub canonical_keeps : (s : List (List Point)) (r : Option (List (List Point))) → ShapeForm CanonicalAnswer s r → IfSome r (AreKept s)
 canonical_keeps s None a = tt
 canonical_keeps s (Some l) a =
     let k = form_cleans CanonicalAnswer s l a in
     let kept : AreKept s k.0 = shape_keeps CanonicalAnswer canonical_kept s (Some k.0) k.1 in
-    record { area = sym (sum_shuffled shoelace k.0 l k.2) ∙ kept.area; inside = λ p. inside_shuffled k.0 l k.2 p ∙ kept.inside p; winding = λ p. sym (sum_shuffled (λ c. winding c p) k.0 l k.2) ∙ kept.winding p }
+    record { area = sym (sum_shuffled shoelace k.0 l k.2) ∙ kept.area; inside = λ p. inside_shuffled k.0 l k.2 p ∙ kept.inside p; between = λ n p. between_shuffled n p k.0 l k.2 ∙ kept.between n p; winding = λ p. sym (sum_shuffled (λ c. winding c p) k.0 l k.2) ∙ kept.winding p }
 
 -- where an answer keeps a number, and a contour without one has none of it, so does a cleaned shape
 module _ (f : List Point → ℕ) (none : (c : List Point) → UnorientedAnswer c None → f c ≡ 0) (some : (c e : List Point) → UnorientedAnswer c (Some e) → f e ≡ f c) where
@@ -190,6 +198,28 @@ module _ (f : List Point → ℕ) (none : (c : List Point) → UnorientedAnswer 
   clean_sum (c ∷ s) [] a = absurd a
   clean_sum (c ∷ s) (e ∷ k) (outer, (answers, zipped, are)) = omega (arith, sum_by-cons f c s, sum_by-cons f e k, some c e outer, ap (sum_by f) are, answers_sum s answers zipped)
 
+-- opposite numbers are as far from 0
+opposite : (x y : ℤ) → x ≡ neg_ℤ y → nat_abs x ≡ nat_abs y
+opposite x y e = omega (arith, ints)
+
+-- without signs, what is kept either way is the same
+module _ {c e : List Point} where
+  kept_area : IsKeptEitherWay c e → nat_abs (shoelace e) ≡ nat_abs (shoelace c)
+  kept_area (inl k) = ap nat_abs k.area
+  kept_area (inr k) = opposite _ _ k.area
+
+  kept_inside : IsKeptEitherWay c e → (p : Point) → Inside e p ↔ Inside c p
+  kept_inside (inl k) = k.inside
+  kept_inside (inr k) = k.inside
+
+  kept_between : (n : ℤ) (p : Point) → IsKeptEitherWay c e → nat_abs (winding (moved (scaling n) e) p) ≡ nat_abs (winding (moved (scaling n) c) p)
+  kept_between n p (inl k) = ap nat_abs (k.between n p)
+  kept_between n p (inr k) = opposite _ _ (k.between n p)
+
+  kept_winding : (p : Point) → IsKeptEitherWay c e → nat_abs (winding e p) ≡ nat_abs (winding c p)
+  kept_winding p (inl k) = ap nat_abs (k.winding p)
+  kept_winding p (inr k) = opposite _ _ (k.winding p)
+
 no_parity : (n : ℕ) → (n % 2 ≡ 1 → ⊥) → n % 2 ≡ 0
 no_parity n h = omega arith
 
@@ -200,9 +230,15 @@ unoriented_keeps s (Some l) a =
     let k = form_cleans UnorientedAnswer s l a in
     let area : List Point → ℕ = λ c. nat_abs (shoelace c) in
     record {
-      area = sum_by-IsPermutation area k.0 l k.2 ∙ clean_sum area (λ c h. ap nat_abs (unoriented_kept c None h).area) (λ c e h. (unoriented_kept c (Some e) h).area) s k.0 k.1;
+      area = sum_by-IsPermutation area k.0 l k.2 ∙ clean_sum area (λ c h. ap nat_abs (unoriented_kept c None h).area) (λ c e h. kept_area (unoriented_kept c (Some e) h)) s k.0 k.1;
       inside = λ p. inside_shuffled k.0 l k.2 p ∙ clean_sum (λ c. parity c p) (λ c h. no_parity (count_by (is_right p) (edges c)) ((unoriented_kept c None h).inside p))
-          (λ c e h. same_parity (count_by (is_right p) (edges e)) (count_by (is_right p) (edges c)) ((unoriented_kept c (Some e) h).inside p)) s k.0 k.1;
+          (λ c e h. same_parity (count_by (is_right p) (edges e)) (count_by (is_right p) (edges c)) (kept_inside (unoriented_kept c (Some e) h) p)) s k.0 k.1;
+      between = λ n p. sum_by-IsPermutation (λ c. nat_abs (winding (moved (scaling n) c) p)) k.0 l k.2
+          ∙ clean_sum (λ c. nat_abs (winding (moved (scaling n) c) p)) (λ c h. ap nat_abs ((unoriented_kept c None h).between n p))
+          (λ c e h. kept_between n p (unoriented_kept c (Some e) h)) s k.0 k.1;
+      winding = λ p. sum_by-IsPermutation (λ c. nat_abs (winding c p)) k.0 l k.2
+          ∙ clean_sum (λ c. nat_abs (winding c p)) (λ c h. ap nat_abs ((unoriented_kept c None h).winding p))
+          (λ c e h. kept_winding p (unoriented_kept c (Some e) h)) s k.0 k.1;
     }
 
 -- an answer, as a function gives it

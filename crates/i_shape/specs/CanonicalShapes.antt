@@ -1,9 +1,11 @@
 -- One form for all polygons whose contours lead to one another, and for all lists of such polygons. `Form` relates a contour to its form, and to none where it collapses.
-use Rattle.std.specs.Prelude.{◌≡◌, List, Option, Some, None, IsPermutation, ◌⊎◌, ◌↔◌, nat_abs, [], ◌∷◌, IfSome}
+use Rattle.std.specs.Prelude.{◌≡◌, ℤ, List, Option, Some, None, IsPermutation, ◌⊎◌, ◌↔◌, nat_abs, [], ◌∷◌, IfSome}
 use Rattle.std.specs.List.{AllZip, AllPairs, sum_by}
 use Rattle.i_shape.specs.ShapeAnswers.{Survivors, inside_count}
 use Rattle.i_shape_core.specs.Point.{Point}
 use Rattle.i_shape_core.specs.Edges.{shoelace}
+use Rattle.i_shape_core.specs.Winding.{winding}
+use Rattle.i_shape_core.specs.Moves.{moved, scaling}
 use Rattle.i_shape_core.specs.Cleaners.{EachEndCollapses}
 use Rattle.i_shape_core.specs.Canonical.{IsAtMost}
 
@@ -63,10 +65,12 @@ SameShape Same (c ∷ s) (d ∷ t) = Same c d × MatchedStanding EachEndCollapse
 abbrev pub SameList : (List Point → List Point → Type 0) → List (List (List Point)) → List (List (List Point)) → Type 0
 SameList Same s t = MatchedStanding OuterCollapses (SameShape Same) s t
 
--- the contours that are left have the same double areas together, each without its sign, and each point is inside of as many of them
+-- the contours that are left have the same double areas together, each without its sign, each point is inside of as many of them, and they have the same winding numbers about it together, each without its sign, and scaled by any n they have
 pub record AreKeptEitherWay (contours left : List (List Point)) : Type 0 where
   pub area : sum_by (λ c. nat_abs (shoelace c)) left ≡ sum_by (λ c. nat_abs (shoelace c)) contours
   pub inside : (p : Point) → inside_count left p ≡ inside_count contours p
+  pub between : (n : ℤ) (p : Point) → sum_by (λ c. nat_abs (winding (moved (scaling n) c) p)) left ≡ sum_by (λ c. nat_abs (winding (moved (scaling n) c) p)) contours
+  pub winding : (p : Point) → sum_by (λ c. nat_abs (winding c p)) left ≡ sum_by (λ c. nat_abs (winding c p)) contours
 
 -- the forms of the shapes, each of which keeps this of the shape that it was, in some order
 pub record FormsKept (Form : List Point → Option (List Point) → Type 0) (Kept : List (List Point) → List (List Point) → Type 0) (shapes sorted : List (List (List Point))) : Type 0 where

@@ -3,6 +3,11 @@ pub use Rattle.i_shape_core.specs.Point
 pub use Rattle.i_shape_core.specs.IntPoint
 pub use Rattle.i_shape_core.specs.Contour
 pub use Rattle.i_shape_core.specs.Edges
+pub use Rattle.i_shape_core.specs.Winding
+pub use Rattle.i_shape_core.specs.Moves
+pub use Rattle.i_shape_core.specs.RationalPoints
+pub use Rattle.i_shape_core.specs.Boundary
+pub use Rattle.i_shape_core.specs.Filling
 pub use Rattle.i_shape_core.specs.Convex
 pub use Rattle.i_shape_core.specs.Laws
 pub use Rattle.i_shape_core.specs.Cleaners

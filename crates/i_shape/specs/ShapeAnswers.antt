@@ -1,15 +1,12 @@
 -- What cleaning leaves of a shape and of a list of shapes, where `Answer` relates a contour to its cleaned one, and to none where it collapses.
-use Rattle.std.specs.Prelude.{◌≡◌, List, Option, ℕ, ◌<◌, ◌%◌, ℤ, pos, ◌+ℤ◌, [], ◌∷◌, length, Some, None, IfSome}
+use Rattle.std.specs.Prelude.{◌≡◌, List, Option, ℕ, ◌<◌, ◌%◌, ℤ, [], ◌∷◌, length, map, Some, None, IfSome}
 use Rattle.std.specs.List.{count_by, sum_by, All}
 use Rattle.i_shape_core.specs.Point.{Point}
 use Rattle.i_shape_core.specs.Edges.{edges, is_right, shoelace}
-use Rattle.i_shape_core.specs.Winding.{winding}
+use Rattle.i_shape_core.specs.Moves.{moved, scaling}
+pub use Rattle.i_shape_core.specs.Edges.{sum_of}
+pub use Rattle.i_shape_core.specs.Winding.{shape_winding}
 pub use Rattle.i_shape_core.specs.Survivors.{Survivors}
-
--- the sum of a whole number for each item
-abbrev pub sum_of : {X : Type 0} → (X → ℤ) → List X → ℤ
-sum_of f [] = pos 0
-sum_of f (x ∷ xs) = f x +ℤ sum_of f xs
 
 -- twice the area of a shape is that of its contours together
 abbrev pub shape_shoelace : List (List Point) → ℤ
@@ -22,10 +19,6 @@ shapes_shoelace shapes = sum_of shape_shoelace shapes
 -- how many of the contours p is inside of: 1 for each of which an odd number of edges lie to the right of p
 unfoldable pub inside_count : List (List Point) → Point → ℕ
 inside_count contours p = sum_by (λ c. count_by (is_right p) (edges c) % 2) contours
-
--- how often the contours wind about p together, which the fill rules of an overlay ask of a shape
-abbrev pub shape_winding : List (List Point) → Point → ℤ
-shape_winding contours p = sum_of (λ c. winding c p) contours
 
 -- the contour has a point
 abbrev pub HasPoints : List Point → Type 0
@@ -42,10 +35,11 @@ ShapeClean Answer (outer ∷ holes) (Some (contour ∷ kept)) = Answer outer (So
 abbrev pub ListClean : (List Point → Option (List Point) → Type 0) → List (List (List Point)) → List (List (List Point)) → Type 0
 ListClean Answer shapes kept = Survivors (ShapeClean Answer) shapes kept
 
--- the contours that are left have the same double area together, each point is inside of as many of them, and they wind as often about it together
+-- the contours that are left have the same double area together, each point is inside of as many of them, and they wind as often about it together, and scaled by any n they do
 pub record AreKept (contours left : List (List Point)) : Type 0 where
   pub area : shape_shoelace left ≡ shape_shoelace contours
   pub inside : (p : Point) → inside_count left p ≡ inside_count contours p
+  pub between : (n : ℤ) (p : Point) → shape_winding (map (moved (scaling n)) left) p ≡ shape_winding (map (moved (scaling n)) contours) p
   pub winding : (p : Point) → shape_winding left p ≡ shape_winding contours p
 
 -- the cleaned shapes, each of which keeps this of the shape that it was

@@ -8,6 +8,7 @@ pub mod despike;
 pub mod path;
 pub mod shape;
 pub mod simple;
+pub mod winding;
 
 pub use i_shape_core::point::{ContourPoint, IntPoint};
 

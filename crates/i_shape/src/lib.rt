@@ -9,4 +9,5 @@ mod macros;
 pub mod source;
 
 pub use i_shape_core::error::ShapeError;
+pub use i_shape_core::fill_rule::FillRule;
 pub use i_shape_core::number::IntNumber;

@@ -1,0 +1,58 @@
+//! How often the contours of a shape wind about a point, and which points they fill.
+
+ghost use Rattle.std.specs.Prelude.{◌≡◌, ◌↔◌, List, IsTrue};
+ghost use Rattle.std.specs.List.{All};
+ghost use Rattle.i_shape.specs.IntPoint.{point_of, IsSafe};
+ghost use Rattle.i_shape.specs.Point.{Point};
+ghost use Rattle.i_shape.specs.ShapeLists.{shape_of, IsSafeShape};
+ghost use Rattle.i_shape.specs.ShapeAnswers.{shape_winding};
+ghost use Rattle.i_shape.specs.Filling.{IsFilled};
+
+use crate::int::IntPoint;
+use crate::int::shape::IntContour;
+use i_shape_core::fill_rule::FillRule;
+use i_shape_core::number::IntNumber;
+pub use i_shape_core::winding::{winding_about, windings_about};
+
+/// Tests of a shape as a whole. Each takes linear time and no memory.
+pub trait ShapeExtension<I: IntNumber> {
+    /// The contours of the shape over whole numbers.
+    ghost shape: { Self → List (List Point) };
+
+    /// How often the contours wind about `point` together, to the left: the sum of their winding numbers, which can't overflow.
+    fn winding_number(&self, point: IntPoint<I>) -> i128
+        requires points_safe { IsSafeShape I.width (shape self.now) }
+        requires point_safe { IsSafe I.width (point_of I.value point) }
+        ensures { result ≡ shape_winding (shape self.now) (point_of I.value point) };
+
+    /// Whether a fill rule fills `point`, by how often the contours wind about it together.
+    fn contains_by(&self, point: IntPoint<I>, rule: FillRule) -> bool
+        requires points_safe { IsSafeShape I.width (shape self.now) }
+        requires point_safe { IsSafe I.width (point_of I.value point) }
+        ensures { IsTrue result ↔ IsFilled rule (shape_winding (shape self.now) (point_of I.value point)) };
+}
+
+impl<I: IntNumber> ShapeExtension<I> for &[IntContour<I>] {
+    ghost shape = { λ contours. shape_of I.value contours.now };
+
+    fn winding_number(&self, point: IntPoint<I>) -> i128
+        requires points_safe { IsSafeShape I.width (shape_of I.value self.now.now) }
+        requires point_safe { IsSafe I.width (point_of I.value point) }
+        ensures { result ≡ shape_winding (shape_of I.value self.now.now) (point_of I.value point) }
+    {
+        let contours: &[IntContour<I>] = *self;
+        let mut sum: i128 = 0;
+        for contour in contours {
+            sum += winding_about(contour.as_slice(), point) as i128;
+        }
+        sum
+    }
+
+    fn contains_by(&self, point: IntPoint<I>, rule: FillRule) -> bool
+        requires points_safe { IsSafeShape I.width (shape_of I.value self.now.now) }
+        requires point_safe { IsSafe I.width (point_of I.value point) }
+        ensures { IsTrue result ↔ IsFilled rule (shape_winding (shape_of I.value self.now.now) (point_of I.value point)) }
+    {
+        rule.fills(self.winding_number(point))
+    }
+}
