@@ -5,7 +5,9 @@
  * callback, and no call ends the program. Calls may run side by side.
  *
  * What a caller owes, as ever in C: each pointer is aligned and not null, even at a count of 0; behind it lie as many items as its
- * count says; an array that a call writes overlaps none that it is given; there is stack left.
+ * count says; an array that a call writes overlaps none that it is given; there is stack left. No array changes during a call, by
+ * another thread or by a process that shares it. A call that takes memory is not made from a signal handler, nor in a child that
+ * was forked from a process with threads. The processor has SSE4.2, as x86-64 processors have since 2008.
  *
  * A contour is an array of points, read as a cycle: the last point isn't the first one again. A point is safe where both
  * coordinates lie strictly between -2^(W-2) and 2^(W-2), and W is 16, 32 or 64. */
@@ -31,6 +33,9 @@ enum {
     I_SHAPE_UNFIT = -2,    /* the offsets don't part the points, or an array of the answer is too short; this is tested first */
     I_SHAPE_NO_MEMORY = -3 /* memory was refused */
 };
+
+/* What i_shape_winding_iW answers where a point isn't safe: below every winding number, which may be below 0 itself. */
+#define I_SHAPE_NO_WINDING PTRDIFF_MIN
 
 typedef struct { int16_t x, y; } i_shape_point_i16;
 typedef struct { int32_t x, y; } i_shape_point_i32;
@@ -82,10 +87,19 @@ typedef struct { uint64_t low, high; } i_shape_halves;
     I_SHAPE_CLEAN_SHAPES(canonical, W) /* the holes of each polygon sorted, and then the polygons: equal arrays are the same polygons */ \
     /* Tests. They answer 1 or 0, I_SHAPE_UNSAFE or I_SHAPE_NO_MEMORY. */ \
     I_SHAPE_TEST(is_simple, W)      /* at least three points, and no zero turn */ \
-    I_SHAPE_TEST(has_no_spikes, W)  /* at least three points without repeated ones, and the way over them nowhere goes back */ \
-    I_SHAPE_TEST(is_convex, W)      /* at most two points without repeated ones, or the way over them nowhere goes back or bends to both sides */ \
+    I_SHAPE_TEST(has_no_spikes, W)  /* at least three points without those equal to the one before, and the way over them nowhere goes back */ \
+    I_SHAPE_TEST(is_convex, W)      /* at most two points without those equal to the one before, or the way over them nowhere goes back or bends to both sides */ \
     /* Whether an odd number of edges pass the height of (x, y) strictly to the right of it. I_SHAPE_UNSAFE: that point isn't safe either. */ \
     int32_t i_shape_contains_i##W(const i_shape_point_i##W *points, size_t count, int##W##_t x, int##W##_t y); \
+    /* Winding numbers. How often the contour winds about (x, y), to the left: how many edges pass its height upwards and strictly to the right of it, less \
+       those that do so downwards; or I_SHAPE_NO_WINDING, if that point or one of the contour isn't safe. It takes no memory. */ \
+    ptrdiff_t i_shape_winding_i##W(const i_shape_point_i##W *points, size_t count, int##W##_t x, int##W##_t y); \
+    /* How often all contours, parted as above, wind about each of about_count points together, into out: what a fill rule asks of a \
+       polygon's rings. It answers 0. I_SHAPE_UNFIT: the offsets are wrong as above, or room is below about_count. I_SHAPE_UNSAFE: a point of a \
+       contour or of about isn't safe. After a code, and behind about_count, out is as it was. It takes no memory, and one pass over the \
+       contours for each point. */ \
+    int32_t i_shape_windings_i##W(const i_shape_point_i##W *points, size_t count, const size_t *offsets, size_t offset_count, \
+                                  const i_shape_point_i##W *about, size_t about_count, ptrdiff_t *out, size_t room); \
     /* Whether each point is safe: 1 or 0. It takes no memory. */ \
     I_SHAPE_TEST(is_safe, W) \
     /* Twice the area, above 0 where the contour turns left; false, and *area as it was, where there is no point. No safe range is \

@@ -1,13 +1,13 @@
-#!/bin/sh
+#!/usr/bin/env bash
 # Builds the C library into bindings/c/out: libi_shape.a, libi_shape.so and i_shape.pc.in, for pkg-config. It is proved first, where it isn't built yet or
-# its sources are newer. Both libraries hold the allocator of the C library; a program that defines rattle_alloc, rattle_realloc and
-# rattle_dealloc itself takes its own with libi_shape.a.
+# its sources are newer, and standard error tells how far that is. Both libraries hold the allocator of the C library; a program that defines
+# rattle_alloc, rattle_realloc and rattle_dealloc itself takes its own with libi_shape.a. With the word --is-built it builds nothing, and its status says
+# whether there is something to build.
 set -eu
 top=$(cd "$(dirname "$0")/../.." && pwd)
 crate=$top/crates/i_shape_c
 proved=$crate/out/libi_shape_c.a
 out=$top/bindings/c/out
-kit=$(dirname "$(rt doc)")
 version=$(printf '%d.%d.%d' $(sed -n 's/^#define I_SHAPE_VERSION 0x\(..\)\(..\)\(..\)$/0x\1 0x\2 0x\3/p' "$top/include/i_shape.h"))
 
 is_newer_than() {
@@ -15,9 +15,43 @@ is_newer_than() {
         -newer "$1" -print | head -n 1)" ]
 }
 
-if [ ! -e "$proved" ] || is_newer_than "$proved"; then
-    (cd "$crate" && rt lib --jobs $(($(nproc) > 1 ? 2 : 1)))
-    touch "$proved"
+is_proved() {
+    [ -e "$proved" ] && ! is_newer_than "$proved"
+}
+
+is_built() {
+    is_proved && [ -e "$out/i_shape.pc.in" ] && [ ! "$proved" -nt "$out/i_shape.pc.in" ]
+}
+
+if [ "${1-}" = --is-built ]; then
+    is_built
+    exit
+fi
+mkdir -p "$out"
+exec 9> "$out/build.lock"
+flock 9
+if is_built; then
+    exit
+fi
+if ! command -v rt > /dev/null; then
+    echo 'make c: the C library is proved and built by the Rattle kit, and there is no rt of it on the path. Once it is built, its folder' >&2
+    echo 'bindings/c/out serves without the kit: set I_SHAPE_C_DIR to a copy of it for `make wheel` and for the crate for Rust.' >&2
+    exit 1
+fi
+kit=$(dirname "$(rt doc)")
+if ! is_proved; then
+    name='make c'
+    log=$out/build.log
+    . "$top/scripts/prove.sh"
+    has_room 4000
+    : > "$log"
+    touch "$out/build.started"
+    # Each library after those that it uses.
+    for library in i_shape_core i_shape_source i_shape i_shape_c; do
+        prove "$library" lib --jobs $(($(nproc) > 1 ? 2 : 1))
+    done
+    # sources that were changed meanwhile are newer than the archive
+    touch -r "$out/build.started" "$proved"
 fi
 mkdir -p "$out/objects"
 rm -f "$out"/objects/* "$out/libi_shape.a"

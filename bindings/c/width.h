@@ -187,6 +187,39 @@ static void AT(test_tests)(void) {
     check(CALL(contains)(square, 4, 1, 1) == I_SHAPE_UNSAFE, W, "contains", "a vertex that isn't safe");
 }
 
+static void AT(test_windings)(void) {
+    /* A square wound twice; one in it that turns right; and a triangle that is left out by the offsets. */
+    POINT given[15] = {{0, 0}, {4, 0}, {4, 4}, {0, 4}, {0, 0}, {4, 0}, {4, 4}, {0, 4}, {1, 1}, {1, 3}, {3, 3}, {3, 1}, {0, 0}, {4, 0}, {0, 4}};
+    POINT about[3] = {{2, 2}, {0, 2}, {4, 2}};
+    const ptrdiff_t twice[3] = {2, 2, 0}, both[3] = {1, 2, 0};
+    const size_t offsets[3] = {0, 8, 12}, backwards[3] = {0, 12, 8}, outside[2] = {0, 16};
+    ptrdiff_t out[4];
+    for (size_t k = 0; k < 3; k++)
+        check(CALL(winding)(given, 8, about[k].x, about[k].y) == twice[k], W, "winding", "a square twice");
+    check(CALL(winding)(given + 8, 4, 2, 2) == -1, W, "winding", "a square that turns right");
+    check(CALL(winding)(given, 0, 2, 2) == 0, W, "winding", "no contour");
+    check(CALL(winding)(given, 4, 2, LEAST_UNSAFE) == I_SHAPE_NO_WINDING, W, "winding", "a point that isn't safe");
+    fill(out, sizeof out);
+    check(CALL(windings)(given, 15, offsets, 3, about, 3, out, 4) == 0 && memcmp(out, both, sizeof both) == 0 && is_filled(out + 3, sizeof *out),
+          W, "windings", "two contours together");
+    check(CALL(windings)(given, 15, offsets, 1, about, 1, out, 4) == 0 && out[0] == 0, W, "windings", "no contour");
+    fill(out, sizeof out);
+    check(CALL(windings)(given, 15, offsets, 3, about, 0, out, 0) == 0, W, "windings", "no point");
+    check(CALL(windings)(given, 15, offsets, 0, about, 3, out, 4) == I_SHAPE_UNFIT, W, "windings", "no offset");
+    check(CALL(windings)(given, 15, backwards, 3, about, 3, out, 4) == I_SHAPE_UNFIT, W, "windings", "offsets that run backwards");
+    check(CALL(windings)(given, 15, outside, 2, about, 3, out, 4) == I_SHAPE_UNFIT, W, "windings", "an offset out of the points");
+    check(CALL(windings)(given, 15, offsets, 3, about, 3, out, 2) == I_SHAPE_UNFIT, W, "windings", "room for two of three numbers");
+    about[1].x = LEAST_UNSAFE;
+    check(CALL(windings)(given, 15, offsets, 3, about, 3, out, 4) == I_SHAPE_UNSAFE, W, "windings", "a point that isn't safe");
+    about[1].x = 0;
+    given[13].x = LEAST_UNSAFE;
+    check(is_filled(out, sizeof out), W, "windings", "codes leave the array as it was");
+    check(CALL(windings)(given, 15, offsets, 3, about, 3, out, 4) == 0, W, "windings", "points outside the offsets aren't read");
+    given[11].x = LEAST_UNSAFE;
+    check(CALL(windings)(given, 15, offsets, 3, about, 3, out, 4) == I_SHAPE_UNSAFE, W, "windings", "a vertex that isn't safe");
+    check(CALL(winding)(given + 8, 4, 2, 2) == I_SHAPE_NO_WINDING, W, "winding", "a vertex that isn't safe");
+}
+
 static void AT(test_area)(void) {
     const POINT square[4] = {{0, 0}, {4, 0}, {4, 4}, {0, 4}}, turned[4] = {{0, 0}, {0, 4}, {4, 4}, {4, 0}};
     AREA area;
@@ -219,6 +252,9 @@ static void AT(test_refusals)(void) {
     WITH_EACH_GROWTH_REFUSED(CALL(has_no_spikes)(given, 10), 1, growths == 1, W, "has_no_spikes");
     WITH_EACH_GROWTH_REFUSED(CALL(is_convex)(given, 10), 1, growths == 1, W, "is_convex");
     WITH_EACH_GROWTH_REFUSED(CALL(contains)(given, 10, 1, 1), 1, growths == 1, W, "contains");
+    ptrdiff_t number;
+    WITH_EACH_GROWTH_REFUSED(CALL(winding)(square, 4, 1, 1), 1, growths == 0, W, "winding");
+    WITH_EACH_GROWTH_REFUSED(CALL(windings)(given, 10, offsets, 3, square, 1, &number, 1), 1, growths == 0, W, "windings");
 }
 
 static void AT(test_width)(void) {
@@ -229,6 +265,7 @@ static void AT(test_width)(void) {
     AT(test_shapes)();
     AT(test_shapes_codes)();
     AT(test_tests)();
+    AT(test_windings)();
     AT(test_area)();
     AT(test_refusals)();
 }

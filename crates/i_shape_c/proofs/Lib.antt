@@ -4,3 +4,4 @@ pub mod Batches
 pub mod Areas
 pub mod PolygonLists
 pub mod Counts
+pub mod Windings

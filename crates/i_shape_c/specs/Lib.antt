@@ -4,3 +4,4 @@ pub mod Batch
 pub mod Polygons
 pub mod Tests
 pub mod Areas
+pub mod Windings

@@ -1,4 +1,4 @@
-//! The answers below 0 of the calls that clean.
+//! What the calls answer where there is no other answer.
 
 /// A point that is cleaned isn't safe.
 pub const UNSAFE: isize = -1;
@@ -14,3 +14,9 @@ pub const UNSAFE_TEST: i32 = -1;
 
 /// `NO_MEMORY` as a test answers it.
 pub const NO_MEMORY_TEST: i32 = -3;
+
+/// `UNFIT` as the winding numbers of many points answer it.
+pub const UNFIT_TEST: i32 = -2;
+
+/// Of a winding number: a point isn't safe.
+pub const NO_WINDING: isize = isize::MIN;

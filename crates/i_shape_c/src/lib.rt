@@ -13,3 +13,4 @@ mod point;
 mod polygons;
 mod tests;
 mod version;
+mod winding;

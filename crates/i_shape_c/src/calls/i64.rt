@@ -16,6 +16,8 @@ ghost use Rattle.i_shape_c.specs.Batch.{AreSafeContours, BatchAnswer, CanClean};
 ghost use Rattle.i_shape_c.specs.Polygons.{CanCleanShapes, ShapesAnswer};
 ghost use Rattle.i_shape_c.specs.Tests.{IsTold, TestAnswer};
 ghost use Rattle.i_shape_c.specs.Areas.{AreHalves};
+ghost use Rattle.i_shape.specs.Winding.{winding as winding_of};
+ghost use Rattle.i_shape_c.specs.Windings.{no_winding, CanWind, WindingsAnswer};
 
 use crate::area::{Halves, area_two};
 use crate::batch::clean_contours;
@@ -24,6 +26,7 @@ use crate::contour::clean_contour;
 use crate::point::PointI64;
 use crate::polygons::clean_shapes;
 use crate::tests::{Bulging, Simple, Spikeless, contains, is_safe, test_contour};
+use crate::winding::{winding, windings};
 use std::alloc::Global;
 
 /// The contour without zero turns. Answers how many points are
@@ -231,6 +234,30 @@ pub extern "C" fn i_shape_contains_i64(alloc: Global, points: &[PointI64], x: i6
     ensures unsafe_points { result ≡ unsafe_code ↔ ((AreSafe w64 point_i64 points.now × IsSafe w64 (record { x = x; y = y })) → ⊥) }
 {
     contains(alloc, points, PointI64 { x, y })
+}
+
+/// How often the contour winds about the point (x, y), to the left. Answers that number, or a code below the range of these numbers.
+#[unsafe(no_mangle)]
+pub extern "C" fn i_shape_winding_i64(points: &[PointI64], x: i64, y: i64) -> isize
+    ensures answer { (AreSafe w64 point_i64 points.now × IsSafe w64 (record { x = x; y = y })) → result ≡ winding_of (map point_i64 points.now) (record { x = x; y = y }) }
+    ensures unsafe_points { result ≡ no_winding ↔ ((AreSafe w64 point_i64 points.now × IsSafe w64 (record { x = x; y = y })) → ⊥) }
+{
+    winding(points, PointI64 { x, y })
+}
+
+/// How often the contours wind about each of the points together. Answers 0, or a code below 0.
+#[unsafe(no_mangle)]
+pub extern "C" fn i_shape_windings_i64(
+    points: &[PointI64],
+    offsets: &[usize],
+    about: &[PointI64],
+    out: &mut [isize],
+) -> i32
+    ensures answer { WindingsAnswer point_i64 points.now offsets.now about.now out.old out.new result }
+    ensures unfit { result ≡ unfit_code ↔ (CanWind (length points.now) offsets.now (length about.now) (length out.old) → ⊥) }
+    ensures unsafe_points { result ≡ unsafe_code ↔ (CanWind (length points.now) offsets.now (length about.now) (length out.old) × ((AreSafeContours w64 point_i64 points.now offsets.now × AreSafe w64 point_i64 about.now) → ⊥)) }
+{
+    windings(points, offsets, about, out)
 }
 
 /// Whether each point is safe. Answers 1 or 0.

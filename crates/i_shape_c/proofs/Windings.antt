@@ -1,0 +1,44 @@
+-- Sums of winding numbers over contours that offsets part.
+use Rattle.std.proofs.Common.{◌≡◌, ℕ, zero, suc, ◌+◌, ◌^◌, ◌<◌, FitsSigned, w64, ℤ, ◌+ℤ◌, ap, ◌∙◌, arith}
+use Rattle.std.specs.List.{range_with_len}
+use Rattle.std.proofs.lemmas.Int.{ints}
+use Rattle.i_shape_core.proofs.Products.{reach-fits}
+use Rattle.i_shape_c.specs.Windings.{no_winding}
+use Rattle.i_shape.specs.Edges.{sum_of}
+use Rattle.i_shape.specs.Winding.{IsWithinHalf}
+
+-- one place more is summed up
+sum_more : (f : ℕ → ℤ) (a n : ℕ) → sum_of f (range_with_len a (suc n)) ≡ sum_of f (range_with_len a n) +ℤ f (a + n)
+sum_more f a zero = let same : a + 0 ≡ a = omega arith in let one : f (a + 0) ≡ f a = ap f same in omega (arith, ints)
+sum_more f a (suc n) =
+    let next : a + 1 + n ≡ a + suc n = omega arith in
+    ap (λ (z : ℤ). f a +ℤ z) (sum_more f (a + 1) n ∙ ap (λ (k : ℕ). sum_of f (range_with_len (a + 1) n) +ℤ f k) next) ∙ grouped (f a) (sum_of f (range_with_len (a + 1) n)) (f (a + suc n))
+  where
+    grouped : (x y z : ℤ) → x +ℤ (y +ℤ z) ≡ x +ℤ y +ℤ z
+    grouped x y z = omega (arith, ints)
+
+pub one_more : (f : ℕ → ℤ) (n : ℕ) → sum_of f (range_with_len 0 (suc n)) ≡ sum_of f (range_with_len 0 n) +ℤ f n
+one_more f n = sum_more f 0 n ∙ ap (λ (k : ℕ). sum_of f (range_with_len 0 n) +ℤ f k) (let same : 0 + n ≡ n = omega arith in same)
+
+-- the sum stays within half of the points before the next contour
+pub half_more : (n m k : ℕ) (sum turns : ℤ) → IsWithinHalf n sum → IsWithinHalf m turns → n + m ≡ k → IsWithinHalf k (sum +ℤ turns)
+half_more n m k sum turns a b e =
+    let most = a.most in
+    let least = a.least in
+    let more = b.most in
+    let less = b.least in
+    record { most = omega (arith, ints); least = omega (arith, ints) }
+
+-- and so it fits
+pub half_fits : (n : ℕ) (sum : ℤ) → n < 2 ^ 64 → IsWithinHalf n sum → FitsSigned w64 sum
+half_fits n sum few half =
+    let most = half.most in
+    let least = half.least in
+    reach-fits w64 sum (record { from = omega (arith, ints); below = omega (arith, ints) })
+
+-- and isn't the code
+pub half_apart : (n : ℕ) (sum : ℤ) → n < 2 ^ 64 → IsWithinHalf n sum → sum ≡ no_winding → ⊥
+half_apart n sum few half e =
+    let most = half.most in
+    let least = half.least in
+    omega (arith, ints)

@@ -1,0 +1,26 @@
+-- What the calls about winding numbers answer.
+use Rattle.std.specs.Prelude.{◌≡◌, ℕ, ℤ, ◌-◌, ◌<◌, ◌≤◌, ◌++◌, pos, negsuc, zero, suc, List, map, length, drop}
+use Rattle.std.specs.List.{range_with_len}
+use Rattle.i_shape.specs.Point.{Point}
+use Rattle.i_shape.specs.Edges.{sum_of}
+use Rattle.i_shape.specs.Winding.{winding}
+use Rattle.i_shape_c.specs.Batch.{ring, CanClean}
+
+-- the code of a winding number about a point that isn't safe: the least number of 64 bits, which no winding number is
+abbrev pub no_winding : ℤ
+no_winding = negsuc 9223372036854775807
+
+-- the offsets part so many points, and there is room for the winding number about each of `about` points
+pub record CanWind (points : ℕ) (offsets : List ℕ) (about out : ℕ) : Type 0 where
+  pub parted : CanClean points offsets points (length offsets)
+  pub room : about ≤ out
+
+-- how often the contours that the offsets part wind about p together
+abbrev pub rings_winding : {P : Type 0} → (P → Point) → List P → List ℕ → Point → ℤ
+rings_winding point points offsets p = sum_of (λ k. winding (map point (ring points offsets k)) p) (range_with_len 0 (length offsets - 1))
+
+-- 0, and a number for each of the points, or one of two codes, and nothing is written
+abbrev pub WindingsAnswer : {P : Type 0} → (P → Point) → List P → List ℕ → List P → List ℤ → List ℤ → ℤ → Type 0
+WindingsAnswer point points offsets about old new (pos zero) = new ≡ map (λ q. rings_winding point points offsets (point q)) about ++ drop (length about) old
+WindingsAnswer point points offsets about old new (pos (suc n)) = ⊥
+WindingsAnswer point points offsets about old new (negsuc n) = (n < 2) × (new ≡ old)

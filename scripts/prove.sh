@@ -1,0 +1,23 @@
+# Sourced by what builds from proofs, with $top, the top of the checkout, $name, what standard error is told under, and $log, where all stands that rt says.
+set -o pipefail
+
+# Whether so many megabytes are free for what a build keeps.
+has_room() {
+    local free
+    free=$(df -Pm "$top" | awk 'NR == 2 { print $4 }')
+    [ "${free:-0}" -ge "$1" ] && return
+    echo "$name: the proofs need up to $1 MB in $top, and $free MB are free there" >&2
+    return 1
+}
+
+# Proves a crate by the words of rt that follow its name, and tells how many of its functions are done.
+prove() {
+    echo "$name: proving $1" >&2
+    if ! (cd "$top/crates/$1" && rt "${@:2}" < /dev/null 2>&1) | tee -a "$log" |
+        sed -un "s/^so far: \([0-9]* of [0-9]*\) functions.*/$name: $1: \1 functions/p" >&2; then
+        tail -n 20 "$log" >&2
+        has_room 50 || true
+        echo "$name: it could not be built; all that was said stands in ${log#"$top/"}" >&2
+        return 1
+    fi
+}
