@@ -3,6 +3,11 @@ rings to ask about."""
 
 import numpy as np
 
+import i_shape._library
+
+# The work is shared by as many threads as a test asks for.
+i_shape._library.processors = lambda: 8
+
 DTYPES = (np.int16, np.int32, np.int64)
 
 
@@ -58,6 +63,17 @@ def is_in_order(part, ring):
 def canonical(ring, random):
     left = removed(ring, is_zero_turn, random)
     return left and min(rotations(left))
+
+
+def winding(ring, point):
+    """How often the ring winds about the point, to the left."""
+    turns = 0
+    for a, b in zip(ring, ring[1:] + ring[:1]):
+        if a[1] <= point[1] < b[1] and cross(a, b, point) > 0:
+            turns += 1
+        if b[1] <= point[1] < a[1] and cross(a, b, point) < 0:
+            turns -= 1
+    return turns
 
 
 def area_two(ring):

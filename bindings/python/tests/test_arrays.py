@@ -189,7 +189,7 @@ class OtherArrays(unittest.TestCase):
         others.append(np.ma.masked_array(points, points == 9))
         others.append([[0.5, 0], [4, 0], [4, 4]])
         others.append([[2 ** 63, 0], [4, 0], [4, 4]])
-        others.extend([None, "text", object(), []])
+        others.extend([None, "text", object(), np.array([])])
         for other in others:
             for call in CALLS[:9]:
                 with self.subTest(other=type(other),
@@ -200,6 +200,14 @@ class OtherArrays(unittest.TestCase):
                 for threads in (1, 3):
                     with self.assertRaises(TypeError):
                         call(other, [0, 3], threads)
+
+    def test_an_empty_list_is_no_points(self):
+        self.assertIsNone(i_shape.simplify([]))
+        self.assertIsNone(i_shape.area_two([]))
+        self.assertFalse(i_shape.is_simple([]))
+        left = i_shape.simplify_rings([], [0, 0])
+        self.assertEqual((left.points.shape, left.points.dtype),
+                         ((0, 2), np.int64))
 
     def test_other_shapes_are_refused(self):
         for shape in ((), (4,), (0,), (4, 1), (4, 3), (4, 0), (0, 3),

@@ -178,8 +178,15 @@ class Errors(unittest.TestCase):
                         with self.assertRaises(
                                 i_shape.UnsafePointError) as told:
                             i_shape.contains(square, point)
-                        self.assertIn(f"({point[0]}, {point[1]}) is not",
-                                      str(told.exception))
+                        text = str(told.exception)
+                        self.assertIn(f"({point[0]}, {point[1]})", text)
+                        self.assertIn(f"2**{limit.bit_length() - 1},", text)
+                        self.assertEqual("int64 has room" in text,
+                                         dtype == np.int32
+                                         and abs(number) < 2**62)
+                        self.assertEqual("int32 has room" in text,
+                                         dtype == np.int16
+                                         and abs(number) < 2**30)
                         self.assertIsNone(told.exception.point)
                         self.assertIsNone(told.exception.ring)
 

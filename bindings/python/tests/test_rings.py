@@ -96,6 +96,12 @@ class Answers(unittest.TestCase):
                 self.assertGreaterEqual(np.diff(cuts).min(), 0)
                 self.assertLess(work.max(), work.sum() / parts + 502)
 
+    def test_no_more_threads_than_processors_and_rings(self):
+        self.assertEqual(_library.as_parts(10**6, 20000), 8)
+        self.assertEqual(_library.as_parts(10**6, 3), 3)
+        self.assertEqual(_library.as_parts(2, 20000), 2)
+        self.assertEqual(_library.as_parts(10**6, 0), 1)
+
     def test_offsets_that_start_later_and_end_sooner(self):
         for dtype in plain.DTYPES:
             numbers = random.Random(6)
@@ -201,6 +207,14 @@ class Errors(unittest.TestCase):
             i_shape.simplify_rings(*given, **named)
         self.assertIs(type(told.exception), kind)
         return told.exception
+
+    def test_a_thread_that_cannot_start_is_want_of_memory(self):
+        def refuse(*_):
+            raise RuntimeError("can't start new thread")
+
+        points, offsets = plain.flat([[(0, 0), (4, 0), (4, 4)]] * 9, np.int32)
+        with mock.patch.object(_library.ThreadPoolExecutor, "map", refuse):
+            self.fails(MemoryError, points, offsets, threads=2)
 
     def test_the_first_ring_with_an_unsafe_point(self):
         for dtype in plain.DTYPES:

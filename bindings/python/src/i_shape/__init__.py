@@ -15,12 +15,14 @@ from ._library import version
 from ._polygons import (Polygons, canonical_polygons, same_polygons,
                         simplify_polygons)
 from ._rings import Rings, canonical_rings, despike_rings, simplify_rings
+from ._windings import contains_points, winding_number, winding_numbers
 
 __all__ = [
-    "OffsetsError", "Polygons", "Rings", "UnsafePointError", "area_two",
-    "canonical", "canonical_polygons", "canonical_rings", "contains",
-    "despike", "despike_rings", "has_no_spikes", "is_convex", "is_safe",
-    "is_simple", "same_polygons", "simplify", "simplify_polygons",
-    "simplify_rings",
+    "OffsetsError", "Polygons", "Rings", "UnsafePointError",
+    "area_two", "canonical", "canonical_polygons", "canonical_rings",
+    "contains", "contains_points", "despike", "despike_rings",
+    "has_no_spikes", "is_convex", "is_safe", "is_simple", "same_polygons",
+    "simplify", "simplify_polygons", "simplify_rings", "winding_number",
+    "winding_numbers",
 ]
 __version__ = version()

@@ -3,15 +3,13 @@
 from __future__ import annotations
 
 import ctypes
-import operator
 from typing import Optional, Sequence, TypeVar
 
 import numpy as np
 import numpy.typing as npt
 
-from ._errors import UnsafePointError
-from ._library import (CALLS, Halves, address, as_points,
-                       bound, raise_code)
+from ._library import (CALLS, Halves, address, as_points, as_safe_point,
+                       raise_code)
 
 Int = TypeVar("Int", np.int16, np.int32, np.int64)
 
@@ -362,11 +360,7 @@ def contains(points: npt.NDArray[Int], point: Sequence[int]) -> bool:
     (True, False)
     """
     points = as_points(points)
-    x, y = (operator.index(number) for number in point)
-    limit = bound(points.dtype)
-    if not (-limit < x < limit and -limit < y < limit):
-        raise UnsafePointError(
-            f"({x}, {y}) is not in the safe range of {points.dtype}")
+    x, y = as_safe_point(point, points.dtype)
     answer: int = CALLS[points.itemsize].contains(address(points),
                                                   len(points), x, y)
     if answer < 0:

@@ -18,8 +18,8 @@ class UnsafePointError(ValueError):
         Index of the first ring that has an unsafe point; None where the
         call takes one contour.
     point : int or None
-        Row of the first unsafe point in ``points``; None where it is the
-        point that :func:`i_shape.contains` is asked about.
+        Row of the first unsafe point in ``points``; None where it is a
+        point that a call is asked about, as :func:`i_shape.contains` is.
     """
 
     def __init__(self, message: str, ring: Optional[int] = None,

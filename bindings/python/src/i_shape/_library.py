@@ -9,8 +9,9 @@ from __future__ import annotations
 import ctypes
 import operator
 import os
+from concurrent.futures import ThreadPoolExecutor
 from pathlib import Path
-from typing import Any, NamedTuple, NoReturn, Optional
+from typing import Any, Callable, NamedTuple, NoReturn, Optional, TypeVar
 
 import numpy as np
 import numpy.typing as npt
@@ -18,8 +19,10 @@ import numpy.typing as npt
 from ._errors import OffsetsError, UnsafePointError
 
 Array = npt.NDArray[Any]
+Part = TypeVar("Part")
 
 UNSAFE, UNFIT, NO_MEMORY = -1, -2, -3
+NO_WINDING = -(1 << 8 * ctypes.sizeof(ctypes.c_ssize_t) - 1)
 _VERSION = 0x0001  # the major and minor version of the library's header
 
 
@@ -57,6 +60,8 @@ class Calls(NamedTuple):
     polygons: dict[str, Any]
     test: dict[str, Any]
     contains: Any
+    winding: Any
+    windings: Any
     area_two: Any
     area: Any
 
@@ -85,6 +90,10 @@ def _calls(bits: int, number: Any, area: Any) -> Calls:
               for name in tests},
         contains=_call(f"i_shape_contains_i{bits}", ctypes.c_int32, *array,
                        number, number),
+        winding=_call(f"i_shape_winding_i{bits}", ctypes.c_ssize_t, *array,
+                      number, number),
+        windings=_call(f"i_shape_windings_i{bits}", ctypes.c_int32,
+                       *array * 4),
         area_two=_call(f"i_shape_area_two_i{bits}", ctypes.c_bool, *array,
                        ctypes.POINTER(area)),
         area=area)
@@ -117,6 +126,8 @@ def as_points(points: Any) -> Array:
     if isinstance(points, np.ma.MaskedArray):
         raise TypeError("points are a masked array: fill it first")
     array: Array = np.asarray(points)
+    if not array.size and not isinstance(points, np.ndarray):
+        array = np.empty((0, 2), np.int64)  # of no number numpy makes floats
     dtype = array.dtype
     if dtype.kind != "i" or not dtype.isnative or dtype.itemsize not in CALLS:
         raise TypeError(
@@ -156,10 +167,54 @@ def as_threads(threads: Any) -> int:
     return number
 
 
+def processors() -> int:
+    """How many processors this process may use."""
+    if hasattr(os, "sched_getaffinity"):
+        return len(os.sched_getaffinity(0))
+    return os.cpu_count() or 1
+
+
+def as_parts(threads: Any, items: int) -> int:
+    """How many threads share so many items, where as many are allowed."""
+    return max(min(as_threads(threads), items, processors()), 1)
+
+
+def run_parts(run: Callable[[int], Part], parts: int) -> list[Part]:
+    """What each part answers, each run by a thread of its own."""
+    if parts == 1:
+        return [run(0)]
+    with ThreadPoolExecutor(parts) as pool:
+        try:
+            answers = pool.map(run, range(parts))
+        except RuntimeError as error:
+            raise MemoryError("a thread could not be started") from error
+        return list(answers)
+
+
 def bound(dtype: Any) -> int:
     """What a safe coordinate is below, and above the negative of."""
     size: int = dtype.itemsize
     return 1 << (8 * size - 2)
+
+
+def unsafe_text(name: str, point: Any, dtype: Any) -> str:
+    """What is said of a point that isn't safe for the dtype."""
+    x, y = (int(number) for number in point)
+    power = 8 * dtype.itemsize - 2
+    text = (f"{name} is ({x}, {y}), and not strictly between -2**{power} and"
+            f" 2**{power}, the safe range of {dtype}")
+    wider = (np.dtype(f"i{size}") for size in CALLS if size > dtype.itemsize)
+    fit = [one for one in wider if max(abs(x), abs(y)) < bound(one)]
+    return f"{text}: {fit[0]} has room for it" if fit else text
+
+
+def as_safe_point(point: Any, dtype: Any) -> tuple[int, int]:
+    """The coordinates of a point that is safe for the dtype."""
+    x, y = (operator.index(number) for number in point)
+    limit = bound(dtype)
+    if not (-limit < x < limit and -limit < y < limit):
+        raise UnsafePointError(unsafe_text("the point", (x, y), dtype))
+    return x, y
 
 
 def first_unsafe(points: Array) -> Optional[int]:
@@ -178,7 +233,7 @@ def raise_code(code: int, points: Array) -> NoReturn:
         raise UnsafePointError("a point was not in the safe range, and was"
                                " changed during the call")
     raise UnsafePointError(
-        f"point {point} is not in the safe range of {points.dtype}",
+        unsafe_text(f"point {point}", points[point], points.dtype),
         point=point)
 
 

@@ -3,7 +3,6 @@
 from __future__ import annotations
 
 import ctypes
-from concurrent.futures import ThreadPoolExecutor
 from typing import Any, NamedTuple, TypeVar
 
 import numpy as np
@@ -11,8 +10,8 @@ import numpy.typing as npt
 
 from ._errors import UnsafePointError
 from ._library import (CALLS, NO_MEMORY, UNFIT, UNSAFE, Array, address,
-                       as_offsets, as_points, as_threads, first_unsafe,
-                       raise_code, raise_offsets)
+                       as_offsets, as_parts, as_points, first_unsafe,
+                       raise_code, raise_offsets, run_parts, unsafe_text)
 
 Int = TypeVar("Int", np.int16, np.int32, np.int64)
 
@@ -64,8 +63,8 @@ def raise_codes(codes: list[int], points: Array, offsets: Array,
         point = start + place
         ring = int(np.searchsorted(offsets, point, side="right")) - 1 + before
         raise UnsafePointError(
-            f"ring {ring}: point {point} is not in the safe range of"
-            f" {points.dtype}", ring=ring, point=point)
+            unsafe_text(f"ring {ring}: point {point}", points[point],
+                        points.dtype), ring=ring, point=point)
     if NO_MEMORY in codes:
         raise_code(NO_MEMORY, points)
 
@@ -79,7 +78,7 @@ def clean_rings(cleaner: str, points: Any, offsets: Any, threads: Any,
     """
     points = as_points(points)
     offsets = as_offsets(offsets, name)
-    parts = min(as_threads(threads), max(len(offsets) - 1, 1))
+    parts = as_parts(threads, len(offsets) - 1)
     start, end = int(offsets[0]), int(offsets[-1])
     if (not 0 <= start <= end <= len(points)
             or parts > 1 and (offsets[1:] < offsets[:-1]).any()):
@@ -98,8 +97,7 @@ def clean_rings(cleaner: str, points: Any, offsets: Any, threads: Any,
                                offsets[cuts[part]:cuts[part + 1] + 1],
                                out[starts[part]:starts[part + 1]])
 
-        with ThreadPoolExecutor(parts) as pool:
-            answers = list(pool.map(clean_part, range(parts)))
+        answers = run_parts(clean_part, parts)
         raise_codes([left for left, _ in answers], points, offsets, name,
                     before)
         # What the parts have left is moved together, from the front on.
@@ -132,8 +130,8 @@ def simplify_rings(points: npt.NDArray[Int], offsets: npt.ArrayLike,
         be 0, and points outside the offsets aren't read. Offsets of 64
         bits are read where they lie, others are copied.
     threads : int
-        How many threads clean a part of the rings each. The answer is the
-        same.
+        How many threads clean a part of the rings each, at most as many as
+        there are processors. The answer is the same.
 
     Returns
     -------

@@ -1,0 +1,198 @@
+"""Winding numbers, and which points a fill rule fills."""
+
+from __future__ import annotations
+
+from typing import Any, Literal, Sequence, TypeVar, Union
+
+import numpy as np
+import numpy.typing as npt
+
+from ._errors import UnsafePointError
+from ._library import (CALLS, NO_WINDING, UNSAFE, Array, address, as_offsets,
+                       as_parts, as_points, as_safe_point, first_unsafe,
+                       raise_code, run_parts, unsafe_text)
+from ._rings import Rings, raise_codes
+
+Int = TypeVar("Int", np.int16, np.int32, np.int64)
+Contours = Union[npt.NDArray[Int], Rings]
+FillRule = Literal["evenodd", "nonzero", "positive", "negative"]
+
+_RULES: dict[str, Any] = {
+    "evenodd": lambda turns: turns % 2 == 1,
+    "nonzero": lambda turns: turns != 0,
+    "positive": lambda turns: turns > 0,
+    "negative": lambda turns: turns < 0,
+}
+
+
+def winding_number(points: npt.NDArray[Int], point: Sequence[int]) -> int:
+    """Return how often the contour winds about the point, to the left.
+
+    It is how many edges pass the height of the point upwards and to the
+    right of it, less those that do so downwards: 1 inside of a ring that
+    is wound against the clock, -1 inside of one that is wound clockwise.
+    Cleaning keeps it.
+
+    Parameters
+    ----------
+    points : array of shape (n, 2), int16, int32 or int64
+        The contour, as for :func:`simplify`.
+    point : pair of int
+        x and y, as safe as ``points``.
+
+    Returns
+    -------
+    int
+
+    Raises
+    ------
+    UnsafePointError
+        ``point`` isn't safe for the dtype of ``points`` (then the
+        attribute ``point`` is None), or a point of the contour isn't.
+    TypeError
+        As :func:`simplify` does, and where x or y isn't a whole number.
+    ValueError
+        As :func:`simplify` does.
+
+    Examples
+    --------
+    >>> import numpy as np
+    >>> from i_shape import winding_number
+    >>> star = np.array([(0, 8), (-5, -7), (8, 2), (-8, 2), (5, -7)])
+    >>> winding_number(star, (0, 0)), winding_number(star[::-1], (0, 6))
+    (2, -1)
+    """
+    points = as_points(points)
+    x, y = as_safe_point(point, points.dtype)
+    answer: int = CALLS[points.itemsize].winding(address(points),
+                                                 len(points), x, y)
+    if answer == NO_WINDING:
+        raise_code(UNSAFE, points)
+    return answer
+
+
+def _raise(code: int, points: Array, offsets: Array, about: Array) -> None:
+    """Raise what a code stands for, and nothing for 0."""
+    place = first_unsafe(about) if code == UNSAFE else None
+    if place is not None:
+        raise UnsafePointError(
+            unsafe_text(f"about[{place}]", about[place], about.dtype))
+    raise_codes([code], points, offsets, "offsets", 0)
+
+
+def winding_numbers(contours: Contours[Int], about: npt.NDArray[Int],
+                    threads: int = 1) -> npt.NDArray[np.intp]:
+    """Return how often contours wind about each of many points, together.
+
+    Parameters
+    ----------
+    contours : array of shape (n, 2), int16, int32 or int64, or Rings
+        One contour, as for :func:`simplify`, or many: of these the winding
+        numbers are added up, so that the rings of a polygon tell what its
+        fill rule asks for.
+    about : array of shape (m, 2), of the same dtype
+        The points.
+    threads : int
+        How many threads take a part of the points each, at most as many as
+        there are processors. The answer is the same.
+
+    Returns
+    -------
+    array of shape (m,) and dtype intp
+
+    Raises
+    ------
+    UnsafePointError
+        One of ``about`` isn't safe (then ``ring`` and ``point`` are None),
+        or a point of a contour (they tell which; ``ring`` is 0 of one).
+    OffsetsError
+        The offsets of the rings don't part their points.
+    TypeError
+        As :func:`simplify` does, and where ``about`` has another dtype.
+    ValueError
+        A shape is another one, or ``threads`` is below 1.
+
+    See also
+    --------
+    contains_points : which of the points a fill rule fills.
+
+    Examples
+    --------
+    >>> import numpy as np
+    >>> from i_shape import Rings, winding_numbers
+    >>> square = np.array([(0, 0), (8, 0), (8, 8), (0, 8)])
+    >>> hole = np.array([(2, 2), (2, 6), (6, 6), (6, 2)])
+    >>> both = Rings(np.concatenate([square, hole]), np.array([0, 4, 8]))
+    >>> winding_numbers(both, np.array([(1, 1), (4, 4), (9, 9)])).tolist()
+    [1, 0, 0]
+    """
+    if isinstance(contours, Rings):
+        points = as_points(contours.points)
+        offsets = as_offsets(contours.offsets)
+    else:
+        points = as_points(contours)
+        offsets = np.array([0, len(points)], np.int64)
+    about = as_points(about)
+    if about.dtype != points.dtype:
+        raise TypeError(f"about has dtype {about.dtype}, the contours"
+                        f" {points.dtype}: one dtype is needed")
+    parts = as_parts(threads, len(about))
+    out = np.empty(len(about), np.intp)
+    call = CALLS[points.itemsize].windings
+
+    def wind(part: int) -> int:
+        start = len(about) * part // parts
+        end = len(about) * (part + 1) // parts
+        its, numbers = about[start:end], out[start:end]
+        code: int = call(address(points), len(points), address(offsets),
+                         len(offsets), address(its), len(its),
+                         address(numbers), len(numbers))
+        return code
+
+    for code in run_parts(wind, parts):
+        _raise(code, points, offsets, about)
+    return out
+
+
+def contains_points(contours: Contours[Int], about: npt.NDArray[Int],
+                    rule: FillRule = "evenodd",
+                    threads: int = 1) -> npt.NDArray[np.bool_]:
+    """Return which of many points contours fill together, by a fill rule.
+
+    Parameters
+    ----------
+    contours, about, threads
+        As for :func:`winding_numbers`.
+    rule : "evenodd", "nonzero", "positive" or "negative"
+        Which winding numbers are filled: the odd ones, those that aren't
+        0, those above 0, or those below 0.
+
+    Returns
+    -------
+    array of shape (m,) and dtype bool
+        Of points on an edge some are filled and others aren't.
+
+    Raises
+    ------
+    UnsafePointError, OffsetsError, TypeError
+        As :func:`winding_numbers` does.
+    ValueError
+        As :func:`winding_numbers` does, and where there is no such rule.
+
+    Examples
+    --------
+    >>> import numpy as np
+    >>> from i_shape import contains_points
+    >>> star = np.array([(0, 8), (-5, -7), (8, 2), (-8, 2), (5, -7)])
+    >>> points = np.array([(0, 0), (0, 6), (4, 4)])
+    >>> contains_points(star, points).tolist()
+    [False, True, False]
+    >>> contains_points(star, points, rule="nonzero").tolist()
+    [True, True, False]
+    """
+    if rule not in _RULES:
+        raise ValueError(f"rule is {rule!r}: one of {', '.join(_RULES)} is"
+                         " needed")
+    filled: npt.NDArray[np.bool_] = _RULES[rule](
+        winding_numbers(contours, about, threads))
+    return filled
