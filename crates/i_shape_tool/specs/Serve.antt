@@ -7,7 +7,7 @@ use Rattle.std.specs.Io.KnownBytes.{Appends, Keeps}
 use Rattle.i_shape_tool.specs.declared.command.Command.{Command}
 use Rattle.i_shape_tool.specs.declared.fault.ToolFault.TheVariants as faults
 use Rattle.i_shape_tool.specs.declared.program.Complaint.{Complaint}
-use Rattle.i_shape_tool.specs.declared.program.Complaint.TheVariants.{Usage, NotUtf8, Fault, InputOrOutput}
+use Rattle.i_shape_tool.specs.declared.program.Complaint.TheVariants.{Usage, NotUtf8, Fault, Input, Output}
 use Rattle.i_shape_tool.specs.Command.{word_of}
 use Rattle.i_shape_tool.specs.Run.{AnswersText, IsFirstFault}
 
@@ -22,7 +22,8 @@ status_of NotUtf8 = 1
 status_of (Fault (faults.NotAContour n)) = 1
 status_of (Fault (faults.OutOfRange n)) = 1
 status_of (Fault faults.OutOfMemory) = 3
-status_of InputOrOutput = 4
+status_of Input = 4
+status_of Output = 4
 
 -- the text that tells a complaint
 abbrev pub told : Complaint → List ℕ
@@ -31,7 +32,8 @@ told NotUtf8 = codes "input is not UTF-8"
 told (Fault (faults.NotAContour n)) = codes "line " ++ decimal n ++ codes ": not a contour"
 told (Fault (faults.OutOfRange n)) = codes "line " ++ decimal n ++ codes ": out of range"
 told (Fault faults.OutOfMemory) = codes "out of memory"
-told InputOrOutput = codes "input or output failed"
+told Input = codes "input or output failed"
+told Output = codes "input or output failed"
 
 -- the command is asked for, and the output gained its answer to the input, where those are known
 abbrev pub IsServed : List (String Global) → Option (List ℕ) → Option (List ℕ) → Option (List ℕ) → Type 0
@@ -39,23 +41,29 @@ IsServed words input before after =
     (command : Command) × Asks words command
     × IfSome input (λ text. (answer : List ℕ) × AnswersText command text answer × Appends before after answer)
 
--- the complaint is true of the words and of the input, where that is known; a fault is one of the text that was read
+-- the command has an answer to the text
+abbrev pub HasAnswer : Command → List ℕ → Type 0
+HasAnswer command text = (answer : List ℕ) × AnswersText command text answer
+
+-- the complaint is true of the words and of the input, where that is known; a fault is one of the text that was read, and the output fails where there is something to write
 abbrev pub IsTrueComplaint : List (String Global) → Option (List ℕ) → Complaint → Type 0
 IsTrueComplaint words input Usage = (command : Command) → Asks words command → ⊥
-IsTrueComplaint words input NotUtf8 = IfSome input (λ text. IsUtf8 text → ⊥)
+IsTrueComplaint words input NotUtf8 = (command : Command) × Asks words command × IfSome input (λ text. IsUtf8 text → ⊥)
 IsTrueComplaint words input (Fault fault) =
     (command : Command) × Asks words command × IfSome input (λ text. IsFirstFault command text fault)
-IsTrueComplaint words input InputOrOutput = (command : Command) × Asks words command
+IsTrueComplaint words input Input = (command : Command) × Asks words command
+IsTrueComplaint words input Output = (command : Command) × Asks words command × IfSome input (HasAnswer command)
 
--- unless input or output failed, the output holds what it held, where that is known
+-- unless the output failed, it holds what it held, where that is known
 abbrev pub KeepsOutput : Complaint → Option (List ℕ) → Option (List ℕ) → Type 0
 KeepsOutput Usage before after = Keeps before after
 KeepsOutput NotUtf8 before after = Keeps before after
 KeepsOutput (Fault fault) before after = Keeps before after
-KeepsOutput InputOrOutput before after = Unit {0}
+KeepsOutput Input before after = Keeps before after
+KeepsOutput Output before after = Unit {0}
 
 -- one run of the program: all well and the output answers the input,
--- or a true complaint with its status, and no output unless input or output failed
+-- or a true complaint with its status, and nothing written unless the output failed
 abbrev pub EndsWith : List (String Global) → Option (List ℕ) → Option (List ℕ) → Option (List ℕ) → ℕ → Type 0
 EndsWith words input before after status =
     ((status ≡ 0) × IsServed words input before after)

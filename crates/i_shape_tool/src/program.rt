@@ -3,7 +3,7 @@
 ghost use Rattle.std.specs.Prelude.{◌≡◌, ◌++◌, ◌∷◌, [], Some, IfOk, IfErr, OnOk, IfSome, IfNone};
 ghost use Rattle.std.specs.Io.KnownBytes.{Appends, Keeps};
 ghost use Rattle.i_shape_tool.specs.Text.{newline};
-ghost use Rattle.i_shape_tool.specs.declared.program.Complaint.TheVariants.{Fault, InputOrOutput};
+ghost use Rattle.i_shape_tool.specs.declared.program.Complaint.TheVariants.{Fault, Input};
 ghost use Rattle.i_shape_tool.specs.Serve.{Asks, status_of, IsServed, IsTrueComplaint, KeepsOutput, EndsWith, told};
 
 use crate::command::Command;
@@ -22,8 +22,10 @@ pub enum Complaint {
     NotUtf8,
     /// The command has no answer to the input.
     Fault(ToolFault),
-    /// A read or a write failed, whatever the cause.
-    InputOrOutput,
+    /// The words or the input could not be read, whatever the cause.
+    Input,
+    /// The answer could not be written, whatever the cause.
+    Output,
 }
 
 impl Complaint {
@@ -36,7 +38,7 @@ impl Complaint {
             Complaint::NotUtf8 => 1,
             Complaint::Usage => 2,
             Complaint::Fault(ToolFault::OutOfMemory) => 3,
-            Complaint::InputOrOutput => 4,
+            Complaint::Input | Complaint::Output => 4,
         }
     }
 
@@ -65,7 +67,7 @@ impl fmt::Display for Complaint {
                 write!(f, "line {number}: out of range")
             }
             Complaint::Fault(ToolFault::OutOfMemory) => write!(f, "out of memory"),
-            Complaint::InputOrOutput => write!(f, "input or output failed"),
+            Complaint::Input | Complaint::Output => write!(f, "input or output failed"),
         }
     }
 }
@@ -75,14 +77,6 @@ impl From<ToolFault> for Complaint {
 
     fn from(fault: ToolFault) -> Complaint {
         Complaint::Fault(fault)
-    }
-}
-
-impl From<io::Error> for Complaint {
-    ghost from_gives = { λ _ complaint. complaint ≡ InputOrOutput };
-
-    fn from(_error: io::Error) -> Complaint {
-        Complaint::InputOrOutput
     }
 }
 
@@ -97,13 +91,15 @@ fn asked(words: &[String]) -> Option<Command>
     }
 }
 
-/// All input that is left. The only complaint is `InputOrOutput`, also where a growth is refused.
+/// All input that is left. The only complaint is `Input`, also where a growth is refused.
 fn read_all<R: Read>(alloc: Global, input: &mut R) -> Result<Vec<u8>, Complaint>
     ensures ok { IfOk result (λ bytes. IfSome (R.remaining input.old) (λ xs. bytes.items ≡ xs)) }
-    ensures err { IfErr result (λ complaint. complaint ≡ InputOrOutput) }
+    ensures err { IfErr result (λ complaint. complaint ≡ Input) }
 {
     let mut bytes = Vec::new(alloc);
-    input.read_to_end(&mut bytes)?;
+    input
+        .read_to_end(&mut bytes)
+        .map_err(|_error| Complaint::Input)?;
     Ok(bytes)
 }
 
@@ -126,9 +122,15 @@ fn answer<R: Read, W: Write>(
         return Err(Complaint::NotUtf8);
     };
     let answer = run(alloc, command, text)?;
-    output.write_all(answer.as_bytes())?;
-    output.flush()?;
-    Ok(())
+    write_whole(output, answer.as_bytes()).map_err(|_error| Complaint::Output)
+}
+
+/// Writes all bytes, and hands them on.
+fn write_whole<W: Write>(output: &mut W, bytes: &[u8]) -> io::Result<()>
+    ensures { OnOk result (Appends (W.contents output.old) (W.contents output.new) bytes.now) }
+{
+    output.write_all(bytes)?;
+    output.flush()
 }
 
 /// Serves one run of the program: judges the words after its name, reads all input, writes the answer, or else a line to

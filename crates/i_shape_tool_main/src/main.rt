@@ -15,10 +15,9 @@ fn main(rt: HostRuntime) -> ExitCode {
             &mut rt.stdout(),
             &mut errors,
         ),
-        Err(error) => {
-            let complaint = Complaint::from(error);
-            let _ = complaint.tell(&mut errors);
-            complaint.status()
+        Err(_error) => {
+            let _ = Complaint::Input.tell(&mut errors);
+            Complaint::Input.status()
         }
     };
     ExitCode::from(status)
