@@ -19,10 +19,16 @@ fn laws_hold<I: IntNumber>(c: &[IntPoint<I>], d: &[IntPoint<I>]) {
     laws::winding_parity(c);
     laws::winding_turned(c, d);
     laws::canonical_joined(c, d);
+    laws::shortest();
     laws::points_equal(&IntPoint::<I>::ZERO, &IntPoint::<I>::ZERO);
     laws::points_ordered(&IntPoint::<I>::ZERO, &IntPoint::<I>::ZERO);
     laws::points_compared(&IntPoint::<I>::ZERO, &IntPoint::<I>::ZERO);
     I::safe_differences_fit();
+    laws::winding_between();
+    laws::winding_moved();
+    laws::filling_kept();
+    laws::boundary_within();
+    laws::moved_alike();
 }
 
 #[test]

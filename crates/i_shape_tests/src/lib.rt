@@ -26,6 +26,8 @@ mod debug;
 #[cfg(test)]
 mod despike;
 #[cfg(test)]
+mod filling;
+#[cfg(test)]
 mod generic_buffer;
 #[cfg(test)]
 mod given;

@@ -1,4 +1,7 @@
-//! Contours of a hundred thousand points, at each width: one that stays, one that loses a spike, and one that collapses.
+//! Contours of many points, at each width: one that stays, one that loses a spike, and one that collapses. They have ten thousand
+//! points, and a hundred thousand where the gate runs them once more.
+
+ghost use Rattle.std.specs.Prelude.{◌<◌, ◌≤◌};
 
 use crate::buffer::{cleans, flat};
 use crate::claims::holds;
@@ -11,6 +14,7 @@ use i_shape::int::despike::DeSpikeContour;
 use i_shape::int::shape::IntContour;
 use i_shape::int::simple::{ContourSimplifier, SimpleContour};
 use std::alloc::{AllocError, Global};
+use std::env;
 use std::process::Abort;
 use std::test::Fail;
 
@@ -164,17 +168,21 @@ fn are_cleaned<'a, I: IntNumber>(
     both_leave(rt, alloc, name, &[&[spiked], &[flat]], &[&[stays]])
 }
 
-/// A square again and again is cleaned, also with a spike at its first edge, and its first edge there and back again and again.
+/// A square so many times is cleaned, also with a spike at its first edge, and its first edge there and back twice as often.
 fn squares_are_cleaned<I: IntNumber>(
     rt: &impl Abort,
     alloc: Global,
-    name: &str,
+    times: usize,
     square: &[[I; 2]; 4],
     spiked: &[[I; 2]; 5],
-) -> Result<(), Fail> {
-    let stays = followed_by(alloc, &[], square, 25000)?;
-    let spiked = followed_by(alloc, spiked, square, 24999)?;
-    let flat = followed_by(alloc, &[], &square[..2], 50000)?;
+) -> Result<(), Fail>
+    requires some { 0 < times }
+    requires few { times ≤ 25000 }
+{
+    let name = "many squares";
+    let stays = followed_by(alloc, &[], square, times)?;
+    let spiked = followed_by(alloc, spiked, square, times - 1)?;
+    let flat = followed_by(alloc, &[], &square[..2], 2 * times)?;
     are_cleaned(
         rt,
         alloc,
@@ -185,26 +193,37 @@ fn squares_are_cleaned<I: IntNumber>(
     )
 }
 
+/// How often the square is wound: ten thousand points, and a hundred thousand where the variable LONG_CONTOURS is there.
+fn times(rt: &HostRuntime) -> usize
+    ensures some { 0 < result }
+    ensures few { result ≤ 25000 }
+{
+    match env::var(rt, "LONG_CONTOURS") {
+        Ok(_) => 25000,
+        Err(_) => 2500,
+    }
+}
+
 #[test]
-fn a_hundred_thousand_points_of_16_bits_are_cleaned(rt: HostRuntime) -> Result<(), Fail> {
+fn many_points_of_16_bits_are_cleaned(rt: HostRuntime) -> Result<(), Fail> {
     let [near, far] = [16382, 16383];
     let [a, b, c, d] = [[-far, -far], [near, -far], [near, far], [-far, far]];
     let spiked = [a, [far, -far], b, c, d];
-    squares_are_cleaned::<i16>(&rt, rt.alloc(), "16 bits", &[a, b, c, d], &spiked)
+    squares_are_cleaned::<i16>(&rt, rt.alloc(), times(&rt), &[a, b, c, d], &spiked)
 }
 
 #[test]
-fn a_hundred_thousand_points_of_32_bits_are_cleaned(rt: HostRuntime) -> Result<(), Fail> {
+fn many_points_of_32_bits_are_cleaned(rt: HostRuntime) -> Result<(), Fail> {
     let [near, far] = [1073741822, 1073741823];
     let [a, b, c, d] = [[-far, -far], [near, -far], [near, far], [-far, far]];
     let spiked = [a, [far, -far], b, c, d];
-    squares_are_cleaned::<i32>(&rt, rt.alloc(), "32 bits", &[a, b, c, d], &spiked)
+    squares_are_cleaned::<i32>(&rt, rt.alloc(), times(&rt), &[a, b, c, d], &spiked)
 }
 
 #[test]
-fn a_hundred_thousand_points_of_64_bits_are_cleaned(rt: HostRuntime) -> Result<(), Fail> {
+fn many_points_of_64_bits_are_cleaned(rt: HostRuntime) -> Result<(), Fail> {
     let [near, far] = [4611686018427387902, 4611686018427387903];
     let [a, b, c, d] = [[-far, -far], [near, -far], [near, far], [-far, far]];
     let spiked = [a, [far, -far], b, c, d];
-    squares_are_cleaned::<i64>(&rt, rt.alloc(), "64 bits", &[a, b, c, d], &spiked)
+    squares_are_cleaned::<i64>(&rt, rt.alloc(), times(&rt), &[a, b, c, d], &spiked)
 }

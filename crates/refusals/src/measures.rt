@@ -1,5 +1,6 @@
 use crate::given::{SQUARE, TRIANGLE, contour, one_shape, shape};
 use crate::told::told_done;
+use i_shape::FillRule;
 use i_shape::int::IntPoint;
 use i_shape::int::area::{Area, IteratorArea, UnsafeArea};
 use i_shape::int::count::PointsCount;
@@ -7,6 +8,7 @@ use i_shape::int::despike::{DeSpikeContour, DeSpikeShape, DeSpikeShapes};
 use i_shape::int::path::ContourExtension;
 use i_shape::int::shape::{IntContour, IntShape};
 use i_shape::int::simple::{SimpleContour, SimpleShape, SimpleShapes};
+use i_shape::int::winding::ShapeExtension;
 use i_shape_core::canonical::least_start_counted;
 use std::test::Fail;
 
@@ -36,6 +38,18 @@ fn tests_of_a_contour(rt: HostRuntime) -> Result<(), Fail> {
         "ContourExtension::winding_number",
         points.winding_number(centre) == 1,
     )?;
+    let filled = points.contains_by(centre, FillRule::NonZero);
+    told_done(&rt, "ContourExtension::contains_by", filled)?;
+    let mut numbers = [7; 5];
+    assert!(rt; points.len() <= numbers.len());
+    points.winding_numbers_into(points, &mut numbers);
+    told_done(
+        &rt,
+        "ContourExtension::winding_numbers_into",
+        numbers == [1, 0, 0, 0, 7],
+    )?;
+    let rule = FillRule::Negative;
+    told_done(&rt, "FillRule::fills", rule.fills(-1))?;
     Ok(())
 }
 
@@ -48,6 +62,12 @@ fn tests_of_shapes(rt: HostRuntime) -> Result<(), Fail> {
     ) else {
         return Ok(());
     };
+    let centre = IntPoint::new(1, 1);
+    assert!(rt; centre.is_in_safe_range());
+    let turns = given.as_slice().winding_number(centre);
+    told_done(&rt, "ShapeExtension::winding_number", turns == 1)?;
+    let filled = given.as_slice().contains_by(centre, FillRule::EvenOdd);
+    told_done(&rt, "ShapeExtension::contains_by", filled)?;
     told_done(&rt, "SimpleShape::is_simple", given.as_slice().is_simple())?;
     told_done(&rt, "SimpleShapes::is_simple", list.as_slice().is_simple())?;
     told_done(&rt, "DeSpikeShape::has_no_spikes", given.has_no_spikes())?;

@@ -76,6 +76,7 @@ fn served(rt: HostRuntime) -> Result<(), Fail> {
     };
     let mut input = b"0 0 2 0 4 0 4 4\n".as_slice();
     let status = serve(alloc, &[word], &mut input, &mut output, &mut errors);
+    let is_read = input.is_empty();
     let (wanted, line, end) = match status {
         0 => ("0 0 4 0 4 4\n", "", "done"),
         3 => ("", "out of memory\n", "refused"),
@@ -84,6 +85,10 @@ fn served(rt: HostRuntime) -> Result<(), Fail> {
     println!(rt; "serve {end}")?;
     assert_eq!(rt; output.as_slice(), wanted.as_bytes());
     assert_eq!(rt; errors.as_slice(), line.as_bytes());
-    assert!(rt; matches!(status, 0 | 3 | 4), "{status}");
+    // A growth is refused while the input is read, or else to the command.
+    assert!(rt;
+        matches!((status, is_read), (0 | 3, true) | (4, false)),
+        "{status}"
+    );
     Ok(())
 }

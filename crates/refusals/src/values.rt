@@ -1,13 +1,15 @@
-use crate::given::{FLAT, MARK, SQUARE, contour};
+use crate::flat_contours;
+use crate::given::{BOTH, FLAT, MARK, SQUARE, contour, safe, two_contours};
 use crate::told::{told_done, told_unrefused};
 use i_shape::IntNumber;
 use i_shape::flat::buffer::{FlatContoursBuffer, FlatShapesBuffer};
 use i_shape::flat::float::{FloatFlatContoursBuffer, FloatFlatShapesBuffer};
 use i_shape::int::IntPoint;
-use i_shape::int::despike::DeSpike;
-use i_shape::int::simple::Simplify;
+use i_shape::int::despike::{ContourDeSpiker, DeSpike};
+use i_shape::int::simple::{ContourSimplifier, Simplify};
 use i_shape::source::int::resource::IntShapeResource;
 use i_shape_core::number::WideIntNumber;
+use i_shape_core::probe::Probe;
 use i_shape_core::triangle::Triangle;
 use i_shape_tool::Command;
 use std::test::Fail;
@@ -61,6 +63,23 @@ fn new_buffers(rt: HostRuntime) -> Result<(), Fail> {
 }
 
 #[test]
+fn new_cleaners(rt: HostRuntime) -> Result<(), Fail> {
+    let alloc = rt.alloc();
+    let mark = safe(&rt, MARK.as_slice());
+    let mut out = SQUARE;
+    assert!(rt; mark.len() <= out.len());
+    let mut simplifier = ContourSimplifier::new(alloc);
+    let left = simplifier.simplify_into(mark, &mut out);
+    told_done(&rt, "ContourSimplifier::new", left == Ok(0))?;
+    let mut remover = ContourDeSpiker::new(alloc);
+    let left = remover.despike_into(mark, &mut out);
+    told_done(&rt, "ContourDeSpiker::new", left == Ok(0))?;
+    let probe = Probe::new(mark);
+    told_done(&rt, "Probe::new", probe.len() == 1)?;
+    Ok(())
+}
+
+#[test]
 fn command_of_a_word(rt: HostRuntime) -> Result<(), Fail> {
     let command = Command::from_word("despike");
     told_done(&rt, "Command::from_word", command == Some(Command::Despike))?;
@@ -74,6 +93,25 @@ fn counts_of_iterators(rt: HostRuntime) -> Result<(), Fail> {
     let borrowed = [SQUARE.as_slice(), FLAT.as_slice()];
     let walk = (&borrowed).iter_paths();
     told_done(&rt, "Copied::count of borrowed paths", walk.count() == 2)?;
+    Ok(())
+}
+
+#[test]
+fn counts_of_lent_paths(rt: HostRuntime) -> Result<(), Fail> {
+    let alloc = rt.alloc();
+    let (Ok(contours), Ok(buffer)) = (
+        two_contours(alloc),
+        flat_contours::full(alloc, &BOTH, &[0..4, 4..7]),
+    ) else {
+        return Ok(());
+    };
+    let walk = (&contours).iter_paths();
+    told_done(&rt, "ShapeResourceIterator::count", walk.count() == 2)?;
+    assert!(rt; buffer.can_read_contours());
+    let walk = (&buffer).iter_paths();
+    told_done(&rt, "IntBufferResourceIterator::len", walk.len() == 2)?;
+    let walk = (&buffer).iter_paths();
+    told_done(&rt, "IntBufferResourceIterator::count", walk.count() == 2)?;
     Ok(())
 }
 

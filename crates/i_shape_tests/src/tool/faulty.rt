@@ -178,7 +178,7 @@ fn a_fault_of_the_input_leaves_no_output(rt: HostRuntime) -> Result<(), Fail> {
     Ok(())
 }
 
-const COMPLAINTS: [(Complaint, &str, u8); 6] = [
+const COMPLAINTS: [(Complaint, &str, u8); 7] = [
     (
         Complaint::Fault(ToolFault::NotAContour(1)),
         "line 1: not a contour\n",
@@ -196,7 +196,8 @@ const COMPLAINTS: [(Complaint, &str, u8); 6] = [
         "out of memory\n",
         3,
     ),
-    (Complaint::InputOrOutput, "input or output failed\n", 4),
+    (Complaint::Input, "input or output failed\n", 4),
+    (Complaint::Output, "input or output failed\n", 4),
 ];
 
 #[test]
