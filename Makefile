@@ -1,10 +1,14 @@
 PREFIX ?= /usr/local
 
-.PHONY: test check fmt c wheel pictures install install-program install-c clean
+.PHONY: test gate check fmt c wheel pictures install install-program install-c clean
 
-# The whole gate: proves everything, runs all tests, and checks that wrong bodies are refused and refused memory is told. docs/GATE.md says more.
+# The tests of behaviour, without a proof, in minutes. What isn't built is skipped.
 test:
 	@sh .ci/test.sh
+
+# The whole gate: proves everything, runs all tests, and checks that wrong bodies are refused and refused memory is told. docs/GATE.md says more.
+gate:
+	@sh .ci/gate.sh
 
 check:
 	rt all check
@@ -14,10 +18,10 @@ fmt:
 
 # The C library, in bindings/c/out.
 c:
-	@sh bindings/c/build.sh
+	@bash bindings/c/build.sh
 
-# The wheel of the Python package, in bindings/python/out, by Debian's Python or another PYTHON=..
-wheel: c
+# The wheel of the Python package, in bindings/python/out, by Debian's Python or another PYTHON=.., over the C library or that of the folder I_SHAPE_C_DIR.
+wheel: $(if $(I_SHAPE_C_DIR),,c)
 	@sh bindings/python/build.sh
 
 # The pictures of docs/pictures, by the program.

@@ -9,8 +9,8 @@ usage: .ci/pages.py [PAGE..]
 - a block `c`: it stands in a file of C;
 - a block `console`: its commands run in order, as in one shell at the top of a clone named raspochre, each printing what stands below it;
 - the links within the repository: the page is there, and the heading;
+- docs/GATE.md has a row for each part of the gate;
 - docs/ARCHITECTURE.md names each file of lemmas, and docs/CONTRACTS.md each edit of must-fail/ and no edit that isn't there;
-- docs/ARCHITECTURE.md and docs/PROVED.md say how many calls growths.txt has, and docs/GATE.md how many wrong bodies there are in each row's crates;
 - the version: it is that of the header in CHANGELOG.md, in the archive, in the Python package and in the crate for Rust.
 
 The sources are proved, compiled and tested by other parts of the gate. A block `console` names what has to be there, as in `console library python`, and is
@@ -19,6 +19,7 @@ skipped where it isn't. The last line is 'pages: N passed, M failed', and ', K s
 import glob
 import os
 import re
+import signal
 import subprocess
 import sys
 import tempfile
@@ -33,13 +34,17 @@ PROVED = """rt version && test -d crates/i_shape/out/rlib && test -z "$(find cra
     -newer "$(ls -t crates/i_shape/out/rlib/stamp crates/i_shape_c/out/libi_shape_c.a 2> /dev/null | head -n 1)" -print -quit)\""""
 NEEDED = {
     "proof": PROVED,
-    "program": "test -x crates/i_shape_tool_main/out/i_shape_tool_main",
-    "library": "test -e bindings/c/out/libi_shape.a",
+    "program": "./i_shape_tool --is-built",
+    "library": "bash bindings/c/build.sh --is-built",
     "parallel": "parallel --version",
     "pkg-config": "pkg-config --version",
     "python": "/usr/bin/python3 -c 'import numpy.typing, setuptools, wheel, venv, ensurepip'",
     "cargo": "cargo metadata --offline --no-deps --format-version 1 --manifest-path bindings/rust/Cargo.toml",
 }
+# What is said where one of these isn't there.
+MISSING = {"proof": "there is no rt, or the libraries aren't proved", "program": "the program isn't built", "library": "the C library isn't built"}
+# How many seconds a command of a page may take.
+LONGEST = 600
 LEFT_OUT = re.compile(r"\s*(///|//!|#!?\[|ensures\b|↔|×)|\s*$")
 
 
@@ -138,9 +143,14 @@ def fault_of_console(text):
             os.symlink(os.path.join(TOP, name), os.path.join(folder, name))
         for command, wanted in re.findall(r"^\$ (.*)\n((?:(?!\$ ).*\n)*)", text, re.MULTILINE):
             words = ["bash", "-c", f'{command}\nstatus=$?; pwd > "$0"; exit $status', os.path.join(work, "gone_to")]
-            run = subprocess.run(words, cwd=folder, capture_output=True, text=True, timeout=600, check=False)
-            if run.returncode or (wanted and run.stdout != wanted):
-                return f"`{command}` ended with status {run.returncode} and printed {run.stdout + run.stderr!r}"
+            run = subprocess.Popen(words, cwd=folder, stdout=subprocess.PIPE, stderr=subprocess.PIPE, text=True, start_new_session=True)
+            try:
+                printed, told = run.communicate(timeout=LONGEST)
+            except subprocess.TimeoutExpired:
+                os.killpg(run.pid, signal.SIGTERM)
+                return f"`{command}` took more than {LONGEST} seconds"
+            if run.returncode or (wanted and printed != wanted):
+                return f"`{command}` ended with status {run.returncode} and printed {printed + told!r}"
             folder = read(os.path.join(work, "gone_to")).rstrip("\n")
     return None
 
@@ -186,19 +196,12 @@ def fault_of_lemmas():
     return ", ".join(sorted(f"{name} isn't named" for name in names if f"`{name}`" not in page)) or None
 
 
-def fault_of_counts():
-    """The pages give the numbers of calls under refusal, and of wrong bodies."""
-    growths = re.findall(r"^(\d+) \w", read(f"{TOP}/crates/refusals/growths.txt"), re.MULTILINE)
-    without = growths.count("0")
-    told = [(page, f"{number} calls") for page in ("ARCHITECTURE", "PROVED") for number in (len(growths) - without, without)]
-    missing = [f"docs/{page}.md doesn't say {words}" for page, words in told if words not in read(f"{TOP}/docs/{page}.md")]
-    for row in re.findall(r"^\| (`i_shape.*|`callers`.*) \|$", read(f"{TOP}/docs/GATE.md"), re.MULTILINE):
-        names, *_, named, others = re.split(r"\s*\|\s*", row)
-        for kind, cell in (("must-fail", named), ("wrong", others)):
-            count = sum(len(files([f"crates/{name}/{kind}/*.edit"])) for name in re.findall(r"`(\w+)`", names))
-            if int((re.match(r"\d+", cell) or ["0"])[0]) != count:
-                missing.append(f"docs/GATE.md gives another number than {count} in {kind}/ of {names}")
-    return "; ".join(missing) or None
+def fault_of_gate():
+    """Each part of the gate has a row in docs/GATE.md, and each script of a row is a part."""
+    parts = set(re.findall(r"^part (?:python3 )?(?:\./)?(\S+)", read(f"{TOP}/.ci/gate.sh"), re.MULTILINE))
+    rows = set(re.findall(r"^\|[^|]*\| `(\S+?)(?: [^`]*)?` \|", read(f"{TOP}/docs/GATE.md"), re.MULTILINE))
+    missing = [f"{name} has no row" for name in parts - rows - {"rt", "wrong_bodies"}] + [f"{name} is no part" for name in rows - parts if name.endswith(".sh")]
+    return "; ".join(sorted(missing)) or None
 
 
 def fault_of_edits():
@@ -233,10 +236,10 @@ def main():
     tests = [(os.path.relpath(name, TOP), *test) for name in pages for test in tests_of(name)]
     if not sys.argv[1:]:
         tests += [("CHANGELOG.md", "the version", [], fault_of_version), ("docs/ARCHITECTURE.md", "lemma files", [], fault_of_lemmas),
-                  ("docs/GATE.md", "counts", [], fault_of_counts), ("docs/CONTRACTS.md", "edits", [], fault_of_edits)]
+                  ("docs/CONTRACTS.md", "edits", [], fault_of_edits), ("docs/GATE.md", "parts", [], fault_of_gate)]
     for page, place, needed, look in tests:
         missing = [name for name in needed if not is_at_hand(name)]
-        fault = f"there is no {missing[0]}" if missing else look()
+        fault = MISSING.get(missing[0], f"there is no {missing[0]}") if missing else look()
         verdict = "skipped" if missing else "failed" if fault else "passed"
         counts[verdict] += 1
         if fault:

@@ -9,8 +9,8 @@ export LC_ALL=C
 program=${I_SHAPE_TOOL:-crates/i_shape_tool_main/out/i_shape_tool_main}
 commands=(simplify despike area canonical compact)
 
-if [ ! -x "$program" ] || ! parallel --version > /dev/null 2>&1; then
-    echo "parallel is not tested: there is no $program, or no parallel"
+if ! { [ -n "${I_SHAPE_TOOL-}" ] || ./i_shape_tool --is-built; } || ! parallel --version > /dev/null 2>&1; then
+    echo "parallel is not tested: the program isn't built by ./i_shape_tool, or there is no parallel"
     echo "scaling: 0 passed, 0 failed, $((${#commands[@]} + 4)) skipped"
     exit 0
 fi

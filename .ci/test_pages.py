@@ -79,7 +79,6 @@ def with_text(name, old, new, look):
 
 
 def main():
-    wrong_bodies = len(pages.files(["crates/i_shape_core/wrong/*.edit"]))
     rows = [(name, verdict(text) == wanted) for name, text, wanted in ROWS]
     rows += [
         ("the count of a right page", run("# One\n") == (0, "pages: 1 passed, 0 failed")),
@@ -89,9 +88,6 @@ def main():
         ("another version of the changelog", with_text("CHANGELOG.md", "\n## ", "\n## 9", pages.fault_of_version) is not None),
         ("another version of the package", with_text("_library.py", "_VERSION = 0x", "_VERSION = 0x9", pages.fault_of_version) is not None),
         ("another version of the archive", with_text("version.rt", ": u32 = ", ": u32 = 9", pages.fault_of_version) is not None),
-        ("the counts", pages.fault_of_counts() is None),
-        ("a call too many under refusal", with_text("growths.txt", "\n2 ", "\n2 another\n2 ", pages.fault_of_counts) is not None),
-        ("a wrong body too many", with_text("GATE.md", f"| {wrong_bodies},", f"| {wrong_bodies + 1},", pages.fault_of_counts) is not None),
         ("a file of lemmas that isn't named", with_text("ARCHITECTURE.md", "`Turns`", "", pages.fault_of_lemmas) is not None),
     ]
     failed = [name for name, is_right in rows if not is_right]

@@ -1,0 +1,66 @@
+# What test.sh and gate.sh share, which source it: a folder $work for the run, the parts' counts added up, and an end that leaves no process behind.
+work=$(mktemp -d) || exit 1
+export TMPDIR=$work
+log=$work/log
+passed=0
+failed=0
+skipped=0
+
+# The processes that this one has started, and those that these have.
+below() {
+    ps -eo pid=,ppid= | awk -v top=$$ '{ parent[$1] = $2 } END {
+        for (pid in parent) {
+            for (at = pid; at in parent && at != top; at = parent[at]);
+            if (at == top && pid != top) print pid
+        }
+    }'
+}
+
+# Ends all that was started: by a signal first, so that it can tidy up, and then whatever it does.
+end_all() {
+    trap '' HUP INT TERM
+    started=$(below)
+    kill $started 2> /dev/null
+    for turn in 1 2 3; do
+        ps -o stat= -p "$(echo $started | tr ' ' ,)" 2> /dev/null | grep -qv '^Z' || break
+        sleep 0.2
+    done
+    kill -9 $started 2> /dev/null
+    rm -rf "$work"
+}
+trap end_all EXIT
+trap 'exit 130' HUP INT TERM
+
+# Runs a part and adds up its last count. A part without a count, or that fails though it counts no failure, counts as one failed. It runs in the
+# background, since a shell heeds a signal at once only while it waits.
+part() {
+    rm -f "$log.bad"
+    { "$@" 2>&1 < /dev/null || touch "$log.bad"; } | tee "$log" &
+    wait $!
+    counts=$(sed -nE 's/^([a-z. ]+: )?([0-9]+) passed, ([0-9]+) failed$/\2 \3 0/p
+        s/^([a-z. ]+: )?([0-9]+) passed, ([0-9]+) failed, ([0-9]+) skipped$/\2 \3 \4/p' "$log" | tail -n 1)
+    read -r its_passed its_failed its_skipped << COUNTS
+$counts
+COUNTS
+    if [ -z "$counts" ]; then
+        echo "no count was given by: $*"
+        its_passed=0 its_failed=1 its_skipped=0
+    elif [ "$its_failed" -eq 0 ] && [ -e "$log.bad" ]; then
+        echo "it counts no failure, but fails: $*"
+        its_failed=1
+    fi
+    passed=$((passed + its_passed))
+    failed=$((failed + its_failed))
+    skipped=$((skipped + its_skipped))
+}
+
+# Prints the sum of the parts, and ends with its status.
+tell_sum() {
+    if [ "$skipped" -eq 0 ]; then
+        echo "$passed passed, $failed failed"
+    else
+        echo "$passed passed, $failed failed, $skipped skipped"
+    fi
+    [ "$failed" -eq 0 ]
+    exit
+}
