@@ -22,7 +22,8 @@ start_at() {
 draw() {
     name=$1
     shift
-    "${PYTHON:-python3}" "$here/draw.py" --program "$program" "$@" > "$folder/$name.svg"
+    "${PYTHON:-python3}" "$here/draw.py" --program "$program" "$@" > "$folder/$name.svg.new"
+    mv "$folder/$name.svg.new" "$folder/$name.svg"
 }
 
 snap 800 < "$here/corsica.txt" | draw cleaned --aspect 0.74 --label 'Corsica, as given' simplify
