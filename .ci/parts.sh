@@ -1,5 +1,6 @@
 # What test.sh and gate.sh share, which source it: a folder $work for the run, the parts' counts added up, and an end that leaves no process behind.
-work=$(mktemp -d) || exit 1
+# rt runs programs and tests as nobody, in folders below TMPDIR.
+work=$(mktemp -d) && chmod 755 "$work" || exit 1
 export TMPDIR=$work
 log=$work/log
 passed=0
