@@ -1,5 +1,5 @@
 /* i_shape: contours of whole-number points, cleaned and measured. Each call is proved to answer what is said of it here, but for
- * I_SHAPE_NO_MEMORY and what takes memory, which are tested; docs/C.md says by which clause.
+ * I_SHAPE_NO_MEMORY and what takes memory, which are tested where no clause can say them; docs/C.md says by which clause.
  *
  * Each call is total: it tests what it needs, and answers a code where that isn't met. Nothing is kept between calls. There is no
  * callback, and no call ends the program. Calls may run side by side.
@@ -65,7 +65,8 @@ typedef struct { uint64_t low, high; } i_shape_halves;
 
 #define I_SHAPE_CALLS(W, AREA) \
     /* One contour. They answer how many points are written to the front of out: at least 3, at most count, and 0 where the contour \
-       collapses. I_SHAPE_UNFIT: room is below count. Behind these points, and after a code, out is as it was. */ \
+       collapses. I_SHAPE_UNFIT: room is below count. Behind these points, and after a code, out is as it was. Below three points, and for a contour that is \
+       clean, no memory is taken. */ \
     I_SHAPE_CLEAN_ONE(simplify, W)  /* without zero turns: the one end of removing them in any order */ \
     I_SHAPE_CLEAN_ONE(despike, W)   /* without the points at which the way turns back or stands still */ \
     I_SHAPE_CLEAN_ONE(canonical, W) /* simplified, from the start at which it is least by x and then y, point by point */ \
@@ -73,7 +74,8 @@ typedef struct { uint64_t low, high; } i_shape_halves;
        offset_count = m + 1. The answer lies in the same way in out_points and out_offsets, from 0 on, a contour that collapses empty at \
        its place. They answer how many points are written. I_SHAPE_UNFIT: offset_count is 0, an offset is below the one before it or \
        above count, room is below count, or offset_room below offset_count. Behind these points and offsets nothing is written, nor \
-       after I_SHAPE_UNSAFE and I_SHAPE_UNFIT; after I_SHAPE_NO_MEMORY the first count points and offset_count offsets may be. */ \
+       after I_SHAPE_UNSAFE and I_SHAPE_UNFIT; after I_SHAPE_NO_MEMORY the first count points and offset_count offsets may be. Where each contour \
+       is clean or has fewer than three points, no memory is taken. */ \
     I_SHAPE_CLEAN_MANY(simplify, W) \
     I_SHAPE_CLEAN_MANY(despike, W) \
     I_SHAPE_CLEAN_MANY(canonical, W) \

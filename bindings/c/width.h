@@ -234,7 +234,7 @@ static void AT(test_refusals)(void) {
     const POINT given[10] = {{0, 0}, {4, 0}, {4, 0}, {4, 4}, {0, 0}, {4, 0}, {4, 0}, {4, 4}, {0, 4}, {0, 2}};
     const POINT square[4] = {{0, 0}, {4, 0}, {4, 4}, {0, 4}};
     const size_t offsets[3] = {0, 4, 10};
-    const size_t twice[3] = {0, 4, 4};
+    const size_t twice[3] = {0, 4, 4}, few[4] = {0, 0, 1, 3}, none[1] = {10};
     for (int k = 0; k < CLEANERS; k++) {
         POINT out[11];
         size_t out_offsets[4];
@@ -247,6 +247,11 @@ static void AT(test_refusals)(void) {
                                  is_filled(out + 10, sizeof *out) && is_filled(out_offsets + 3, sizeof *out_offsets), growths == 1, W,
                                  cleaner_names[k]);
         WITH_EACH_GROWTH_REFUSED(AT(batches)[k](square, 4, twice, 3, out, 4, out_offsets, 3), 1, growths == 0, W, cleaner_names[k]);
+        /* Below three points, and of no contour, no memory is taken. */
+        for (size_t count = 0; count < 3; count++)
+            WITH_EACH_GROWTH_REFUSED(AT(cleaners)[k](given, count, out, count), 1, growths == 0, W, cleaner_names[k]);
+        WITH_EACH_GROWTH_REFUSED(AT(batches)[k](given, 10, few, 4, out, 10, out_offsets, 4), 1, growths == 0, W, cleaner_names[k]);
+        WITH_EACH_GROWTH_REFUSED(AT(batches)[k](given, 10, none, 1, out, 10, out_offsets, 1), 1, growths == 0, W, cleaner_names[k]);
     }
     WITH_EACH_GROWTH_REFUSED(CALL(is_simple)(given, 10), 1, growths == 1, W, "is_simple");
     WITH_EACH_GROWTH_REFUSED(CALL(has_no_spikes)(given, 10), 1, growths == 1, W, "has_no_spikes");

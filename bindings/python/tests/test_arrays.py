@@ -132,12 +132,13 @@ class Layouts(unittest.TestCase):
         self.assertEqual((len(left), len(rings.points)), (3, 3))
         self.assertLess(kept, 10 ** 5)
 
-    def test_arrays_that_lie_right_are_not_copied(self):
+    def test_points_that_lie_right_are_not_copied(self):
         for dtype in plain.DTYPES:
             points = plain.array(SQUARE * 25000, dtype)
             offsets = np.arange(0, len(points) + 1, 4)
             for offsets in (offsets, offsets.astype(np.uint64)):
-                answers = points.nbytes + offsets.nbytes
+                # the offsets are copied, and others come out
+                answers = points.nbytes + 2 * offsets.nbytes
                 for call, most in (
                         (i_shape.is_safe, 0),
                         (i_shape.area_two, 0),
@@ -168,10 +169,11 @@ class Layouts(unittest.TestCase):
                         np.shares_memory(given, other),
                         other.flags.c_contiguous and other.flags.aligned)
         for offsets in (np.arange(5), np.arange(5, dtype=np.uint64)):
-            self.assertTrue(np.shares_memory(as_offsets(offsets), offsets))
-            for other in (unaligned(offsets), np.repeat(offsets, 2)[::2],
+            for other in (offsets, unaligned(offsets),
+                          np.repeat(offsets, 2)[::2], offsets[::-1],
                           offsets.astype(">i8"), offsets.astype(np.int32)):
                 given = as_offsets(other)
+                np.testing.assert_array_equal(given, other)
                 self.assertFalse(np.shares_memory(given, other))
                 self.assertTrue(given.flags.c_contiguous
                                 and given.flags.aligned)

@@ -3,7 +3,7 @@ use Rattle.std.specs.Prelude.{◌≡◌, ℕ, ℤ, ◌+◌, ◌-◌, ◌<◌, �
 use Rattle.std.specs.Int.{Width}
 use Rattle.i_shape.specs.Point.{Point}
 use Rattle.i_shape.specs.Written.{IsCleaned}
-use Rattle.i_shape_c.specs.Cleaned.{AreSafe}
+use Rattle.i_shape_c.specs.Cleaned.{AreSafe, TakesNoMemory}
 
 -- the offset at a place
 abbrev pub offset : List ℕ → ℕ → ℕ
@@ -28,6 +28,10 @@ pub record CanClean (points : ℕ) (offsets : List ℕ) (out_points out_offsets 
 -- each point from the first offset to the last is safe
 abbrev pub AreSafeContours : {P : Type 0} → Width → (P → Point) → List P → List ℕ → Type 0
 AreSafeContours width point points offsets = AreSafe width point (slice_range points (offset offsets 0) (offset offsets (length offsets - 1)))
+
+-- each contour is clean, or has fewer than three points
+abbrev pub NoneTakesMemory : {P : Type 0} → (List Point → Type 0) → (P → Point) → List P → List ℕ → Type 0
+NoneTakesMemory Clean point points offsets = (k : ℕ) → k + 1 < length offsets → TakesNoMemory Clean point (ring points offsets k)
 
 -- each contour that the new offsets part is what the cleaner makes of the given one at the same place, empty where that collapses; there
 -- are n points in all, and what stands behind them and behind the offsets is as it was

@@ -1,9 +1,10 @@
 -- What the calls that clean one contour answer.
-use Rattle.std.specs.Prelude.{◌≡◌, ◌<◌, ℤ, pos, negsuc, List, map, Option}
+use Rattle.std.specs.Prelude.{◌≡◌, ◌<◌, ◌⊎◌, ℤ, pos, negsuc, List, length, map, Option}
 use Rattle.i_shape.specs.Point.{Point}
 use Rattle.std.specs.Int.{Width}
 use Rattle.std.specs.List.{All}
 use Rattle.i_shape.specs.IntPoint.{IsSafe}
+use Rattle.i_shape.specs.Cleaners.{IsDespiked}
 use Rattle.i_shape.specs.Written.{IsWritten}
 
 -- the code of points that aren't safe
@@ -13,6 +14,18 @@ unsafe_code = negsuc 0
 -- the code of offsets that don't part the points, and of arrays that are too short
 abbrev pub unfit_code : ℤ
 unfit_code = negsuc 1
+
+-- the code of refused memory
+abbrev pub no_memory_code : ℤ
+no_memory_code = negsuc 2
+
+-- despiking leaves the contour as it is
+abbrev pub IsDespikedAlready : List Point → Type 0
+IsDespikedAlready c = IsDespiked c c
+
+-- the points are fewer than three, or a clean contour
+abbrev pub TakesNoMemory : {P : Type 0} → (List Point → Type 0) → (P → Point) → List P → Type 0
+TakesNoMemory Clean point points = (length points < 3) ⊎ Clean (map point points)
 
 -- each point is safe, where `point` is the point that a point of C stands for
 abbrev pub AreSafe : {P : Type 0} → Width → (P → Point) → List P → Type 0

@@ -2,8 +2,8 @@
 
 ghost use Rattle.std.specs.Prelude.{◌≡◌, ◌↔◌, ℕ, ◌+◌, ◌^◌, ◌<◌, ◌≤◌, length, slice_range, IsTrue, IfOk, OnErr};
 ghost use Rattle.i_shape.specs.IntPoint.{point_of};
-ghost use Rattle.i_shape_c.specs.Cleaned.{unsafe_code, unfit_code};
-ghost use Rattle.i_shape_c.specs.Batch.{offset, InOrder, CanClean, AreSafeContours, IsCleanedBatch, IsWithin, BatchAnswer};
+ghost use Rattle.i_shape_c.specs.Cleaned.{unsafe_code, unfit_code, no_memory_code};
+ghost use Rattle.i_shape_c.specs.Batch.{offset, InOrder, CanClean, AreSafeContours, NoneTakesMemory, IsCleanedBatch, IsWithin, BatchAnswer};
 
 use crate::cleaner::Cleaner;
 use crate::codes::{NO_MEMORY, UNFIT, UNSAFE};
@@ -26,6 +26,7 @@ pub fn clean_contours<P: CPoint, C: Cleaner>(
     ensures answer { BatchAnswer C.gives P.Coordinate.width (λ p. point_of P.Coordinate.value (P.point p)) points.now offsets.now out_points.old out_points.new out_offsets.old out_offsets.new result }
     ensures unfit { result ≡ unfit_code ↔ (CanClean (length points.now) offsets.now (length out_points.old) (length out_offsets.old) → ⊥) }
     ensures unsafe_points { result ≡ unsafe_code ↔ (CanClean (length points.now) offsets.now (length out_points.old) (length out_offsets.old) × (AreSafeContours P.Coordinate.width (λ p. point_of P.Coordinate.value (P.point p)) points.now offsets.now → ⊥)) }
+    ensures memory { result ≡ no_memory_code → NoneTakesMemory C.is_clean (λ p. point_of P.Coordinate.value (P.point p)) points.now offsets.now → ⊥ }
 {
     if !can_clean(points.len(), offsets, out_points.len(), out_offsets.len()) {
         return UNFIT;
@@ -66,6 +67,7 @@ fn clean_all<P: CPoint, C: Cleaner>(
     requires points_safe { AreSafeContours P.Coordinate.width (λ p. point_of P.Coordinate.value (P.point p)) points.now offsets.now }
     ensures ok { IfOk result (λ n. IsCleanedBatch C.gives P.Coordinate.width (λ p. point_of P.Coordinate.value (P.point p)) points.now offsets.now out_points.old out_points.new out_offsets.old out_offsets.new n) }
     ensures err { OnErr result (IsWithin (length points.now) (length offsets.now) out_points.old out_points.new out_offsets.old out_offsets.new) }
+    ensures memory { OnErr result (NoneTakesMemory C.is_clean (λ p. point_of P.Coordinate.value (P.point p)) points.now offsets.now → ⊥) }
 {
     let mut cleaner = C::with_room(alloc, longest(offsets));
     let mut written: usize = 0;

@@ -1,16 +1,18 @@
 //! The three cleaners, of a contour and of a list of polygons.
 
-ghost use Rattle.std.specs.Prelude.{◌≡◌, ◌≤◌, List, length, Option, Some, IfOk, OnErr};
+ghost use Rattle.std.specs.Prelude.{◌≡◌, ◌<◌, ◌≤◌, ◌⊎◌, List, length, Option, Some, IfOk, OnErr};
 ghost use Rattle.std.specs.List.{All};
 ghost use Rattle.std.proofs.Common.{subst};
 ghost use Rattle.i_shape.specs.Point.{Point};
 ghost use Rattle.i_shape.specs.IntPoint.{contour_of, IsSafe};
+ghost use Rattle.i_shape.specs.Contour.{IsSimple};
 ghost use Rattle.i_shape.specs.Cleaners.{SimpleAnswer, SpikelessAnswer, DespikeAnswer};
 ghost use Rattle.i_shape.specs.Canonical.{CanonicalAnswer};
 ghost use Rattle.i_shape.specs.CanonicalShapes.{ListForm};
 ghost use Rattle.i_shape.specs.ShapeAnswers.{ListClean};
 ghost use Rattle.i_shape.specs.ShapeLists.{shapes_of, IsSafeList};
 ghost use Rattle.i_shape.specs.Written.{IsWritten};
+ghost use Rattle.i_shape_c.specs.Cleaned.{IsDespikedAlready};
 ghost use Rattle.i_shape_c.specs.Polygons.{AreFewer};
 ghost use Rattle.i_shape_core.proofs.Ends.{reach_shrinks};
 ghost use Rattle.i_shape_core.proofs.Rotations.{rotation_length};
@@ -30,6 +32,9 @@ pub trait Cleaner: Drop {
     /// Relates a contour to what is left of it, or to none where it collapses.
     ghost gives: { List Point → Option (List Point) → Type 0 };
 
+    /// The contours that are clean: for these it takes no memory.
+    ghost is_clean: { List Point → Type 0 };
+
     /// A cleaner of contours of `room` points at the most, which takes memory once.
     fn with_room(alloc: Global, room: usize) -> Self;
 
@@ -39,7 +44,8 @@ pub trait Cleaner: Drop {
         requires room { length contour.now ≤ length out.old }
         ensures written { IfOk result (λ n. IsWritten gives P.Coordinate.width (λ list. contour_of P.Coordinate.value (P.points list)) contour.now out.old out.new n) }
         ensures len { length out.new ≡ length out.old }
-        ensures err { OnErr result (out.new ≡ out.old) };
+        ensures err { OnErr result (out.new ≡ out.old) }
+        ensures memory { OnErr result ((length contour.now < 3) ⊎ is_clean (contour_of P.Coordinate.value (P.points contour.now)) → ⊥) };
 }
 
 /// Cleans a list of polygons.
@@ -64,6 +70,8 @@ pub struct Simplifier {
 
 impl Cleaner for Simplifier {
     ghost gives = { SimpleAnswer };
+
+    ghost is_clean = { IsSimple };
 
     fn with_room(alloc: Global, room: usize) -> Simplifier {
         Simplifier {
@@ -99,6 +107,8 @@ pub struct DeSpiker {
 impl Cleaner for DeSpiker {
     ghost gives = { SpikelessAnswer };
 
+    ghost is_clean = { IsDespikedAlready };
+
     fn with_room(alloc: Global, room: usize) -> DeSpiker {
         DeSpiker {
             de_spiker: ContourDeSpiker::with_room(alloc, room),
@@ -132,6 +142,8 @@ pub struct Canonicalizer {
 
 impl Cleaner for Canonicalizer {
     ghost gives = { CanonicalAnswer };
+
+    ghost is_clean = { IsSimple };
 
     fn with_room(alloc: Global, room: usize) -> Canonicalizer {
         Canonicalizer {

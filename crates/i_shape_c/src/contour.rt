@@ -3,7 +3,7 @@
 ghost use Rattle.std.specs.Prelude.{◌≡◌, ◌↔◌, ◌+◌, ◌^◌, ◌<◌, ◌≤◌, length, map, take, drop, slice_range, IfOk, OnErr};
 ghost use Rattle.i_shape.specs.IntPoint.{point_of};
 ghost use Rattle.i_shape.specs.Written.{IsCleaned};
-ghost use Rattle.i_shape_c.specs.Cleaned.{AreSafe, CleanAnswer, unsafe_code, unfit_code};
+ghost use Rattle.i_shape_c.specs.Cleaned.{AreSafe, CleanAnswer, TakesNoMemory, unsafe_code, unfit_code, no_memory_code};
 
 use crate::cleaner::Cleaner;
 use crate::codes::{NO_MEMORY, UNFIT, UNSAFE};
@@ -18,6 +18,7 @@ pub fn clean_contour<P: CPoint, C: Cleaner>(alloc: Global, points: &[P], out: &m
     ensures answer { CleanAnswer C.gives P.Coordinate.width (λ p. point_of P.Coordinate.value (P.point p)) points.now out.old out.new result }
     ensures unfit { result ≡ unfit_code ↔ (length out.old < length points.now) }
     ensures unsafe_points { result ≡ unsafe_code ↔ ((length points.now ≤ length out.old) × (AreSafe P.Coordinate.width (λ p. point_of P.Coordinate.value (P.point p)) points.now → ⊥)) }
+    ensures memory { result ≡ no_memory_code → TakesNoMemory C.is_clean (λ p. point_of P.Coordinate.value (P.point p)) points.now → ⊥ }
 {
     if out.len() < points.len() {
         return UNFIT;
@@ -47,6 +48,7 @@ pub fn clean_into<P: CPoint, C: Cleaner>(
     ensures after { IfOk result (λ end. drop end out.new ≡ drop end out.old) }
     ensures len { length out.new ≡ length out.old }
     ensures err { OnErr result (out.new ≡ out.old) }
+    ensures memory { OnErr result (TakesNoMemory C.is_clean (λ p. point_of P.Coordinate.value (P.point p)) given.now → ⊥) }
 {
     let count = cleaner.clean(given, &mut out[at..])?;
     Ok(at + count)

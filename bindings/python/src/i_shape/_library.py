@@ -1,7 +1,7 @@
 """The calls of libi_shape.so, and the arrays that are handed to them.
 
-Nothing here trusts an array: each is tested for its dtype and shape, and is
-copied where the library could not read it as it lies.
+Nothing here trusts an array: each is tested for its dtype and shape. Points
+are copied where the library could not read them as they lie, offsets always.
 """
 
 from __future__ import annotations
@@ -139,9 +139,11 @@ def as_points(points: Any) -> Array:
 
 
 def as_offsets(offsets: Any, name: str = "offsets") -> Array:
-    """The offsets as int64, without a copy where they are of 64 bits.
+    """A copy of the offsets, as int64.
 
-    One of 2**63 or more gets below 0, and is out of order as that too.
+    What the library has tested can't change before it is used: the array
+    may be mapped from a file, or shared with another thread. An offset of
+    2**63 or more gets below 0, and is out of order as that too.
     """
     if isinstance(offsets, np.ma.MaskedArray):
         raise TypeError(f"{name} are a masked array: fill it first")
@@ -154,10 +156,7 @@ def as_offsets(offsets: Any, name: str = "offsets") -> Array:
                          " needed")
     if not array.size:
         raise OffsetsError(f"{name} are empty: no ring has the offsets [0]")
-    if array.dtype.itemsize == 8 and array.dtype.isnative:
-        array = array.view(np.int64)
-        return array if _as_it_lies(array) else array.copy()
-    return array.astype(np.int64)
+    return array.astype(np.int64, order="C")
 
 
 def as_threads(threads: Any) -> int:

@@ -127,8 +127,7 @@ def simplify_rings(points: npt.NDArray[Int], offsets: npt.ArrayLike,
     offsets : array of shape (m + 1,), of whole numbers
         Ring k is ``points[offsets[k]:offsets[k + 1]]``, read as a cycle:
         the last point isn't the first one again. The first offset need not
-        be 0, and points outside the offsets aren't read. Offsets of 64
-        bits are read where they lie, others are copied.
+        be 0, and points outside the offsets aren't read. They are copied.
     threads : int
         How many threads clean a part of the rings each, at most as many as
         there are processors. The answer is the same.

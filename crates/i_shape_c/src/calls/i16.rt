@@ -11,8 +11,8 @@ ghost use Rattle.i_shape.specs.Convex.{Convex, NoSpikes};
 ghost use Rattle.i_shape.specs.Edges.{Inside, shoelace};
 ghost use Rattle.i_shape.specs.IntPoint.{IsSafe};
 ghost use Rattle.i_shape_c.specs.Points.{point_i16};
-ghost use Rattle.i_shape_c.specs.Cleaned.{AreSafe, CleanAnswer, unsafe_code, unfit_code};
-ghost use Rattle.i_shape_c.specs.Batch.{AreSafeContours, BatchAnswer, CanClean};
+ghost use Rattle.i_shape_c.specs.Cleaned.{AreSafe, CleanAnswer, IsDespikedAlready, TakesNoMemory, unsafe_code, unfit_code, no_memory_code};
+ghost use Rattle.i_shape_c.specs.Batch.{AreSafeContours, BatchAnswer, CanClean, NoneTakesMemory};
 ghost use Rattle.i_shape_c.specs.Polygons.{CanCleanShapes, ShapesAnswer};
 ghost use Rattle.i_shape_c.specs.Tests.{IsTold, TestAnswer};
 ghost use Rattle.i_shape.specs.Winding.{winding as winding_of};
@@ -39,6 +39,7 @@ pub extern "C" fn i_shape_simplify_i16(
     ensures answer { CleanAnswer SimpleAnswer w16 point_i16 points.now out.old out.new result }
     ensures unfit { result ≡ unfit_code ↔ (length out.old < length points.now) }
     ensures unsafe_points { result ≡ unsafe_code ↔ ((length points.now ≤ length out.old) × (AreSafe w16 point_i16 points.now → ⊥)) }
+    ensures memory { result ≡ no_memory_code → TakesNoMemory IsSimple point_i16 points.now → ⊥ }
 {
     clean_contour::<PointI16, Simplifier>(alloc, points, out)
 }
@@ -54,6 +55,7 @@ pub extern "C" fn i_shape_despike_i16(
     ensures answer { CleanAnswer SpikelessAnswer w16 point_i16 points.now out.old out.new result }
     ensures unfit { result ≡ unfit_code ↔ (length out.old < length points.now) }
     ensures unsafe_points { result ≡ unsafe_code ↔ ((length points.now ≤ length out.old) × (AreSafe w16 point_i16 points.now → ⊥)) }
+    ensures memory { result ≡ no_memory_code → TakesNoMemory IsDespikedAlready point_i16 points.now → ⊥ }
 {
     clean_contour::<PointI16, DeSpiker>(alloc, points, out)
 }
@@ -69,6 +71,7 @@ pub extern "C" fn i_shape_canonical_i16(
     ensures answer { CleanAnswer CanonicalAnswer w16 point_i16 points.now out.old out.new result }
     ensures unfit { result ≡ unfit_code ↔ (length out.old < length points.now) }
     ensures unsafe_points { result ≡ unsafe_code ↔ ((length points.now ≤ length out.old) × (AreSafe w16 point_i16 points.now → ⊥)) }
+    ensures memory { result ≡ no_memory_code → TakesNoMemory IsSimple point_i16 points.now → ⊥ }
 {
     clean_contour::<PointI16, Canonicalizer>(alloc, points, out)
 }
@@ -85,6 +88,7 @@ pub extern "C" fn i_shape_simplify_contours_i16(
     ensures answer { BatchAnswer SimpleAnswer w16 point_i16 points.now offsets.now out_points.old out_points.new out_offsets.old out_offsets.new result }
     ensures unfit { result ≡ unfit_code ↔ (CanClean (length points.now) offsets.now (length out_points.old) (length out_offsets.old) → ⊥) }
     ensures unsafe_points { result ≡ unsafe_code ↔ (CanClean (length points.now) offsets.now (length out_points.old) (length out_offsets.old) × (AreSafeContours w16 point_i16 points.now offsets.now → ⊥)) }
+    ensures memory { result ≡ no_memory_code → NoneTakesMemory IsSimple point_i16 points.now offsets.now → ⊥ }
 {
     clean_contours::<PointI16, Simplifier>(alloc, points, offsets, out_points, out_offsets)
 }
@@ -101,6 +105,7 @@ pub extern "C" fn i_shape_despike_contours_i16(
     ensures answer { BatchAnswer SpikelessAnswer w16 point_i16 points.now offsets.now out_points.old out_points.new out_offsets.old out_offsets.new result }
     ensures unfit { result ≡ unfit_code ↔ (CanClean (length points.now) offsets.now (length out_points.old) (length out_offsets.old) → ⊥) }
     ensures unsafe_points { result ≡ unsafe_code ↔ (CanClean (length points.now) offsets.now (length out_points.old) (length out_offsets.old) × (AreSafeContours w16 point_i16 points.now offsets.now → ⊥)) }
+    ensures memory { result ≡ no_memory_code → NoneTakesMemory IsDespikedAlready point_i16 points.now offsets.now → ⊥ }
 {
     clean_contours::<PointI16, DeSpiker>(alloc, points, offsets, out_points, out_offsets)
 }
@@ -117,6 +122,7 @@ pub extern "C" fn i_shape_canonical_contours_i16(
     ensures answer { BatchAnswer CanonicalAnswer w16 point_i16 points.now offsets.now out_points.old out_points.new out_offsets.old out_offsets.new result }
     ensures unfit { result ≡ unfit_code ↔ (CanClean (length points.now) offsets.now (length out_points.old) (length out_offsets.old) → ⊥) }
     ensures unsafe_points { result ≡ unsafe_code ↔ (CanClean (length points.now) offsets.now (length out_points.old) (length out_offsets.old) × (AreSafeContours w16 point_i16 points.now offsets.now → ⊥)) }
+    ensures memory { result ≡ no_memory_code → NoneTakesMemory IsSimple point_i16 points.now offsets.now → ⊥ }
 {
     clean_contours::<PointI16, Canonicalizer>(alloc, points, offsets, out_points, out_offsets)
 }

@@ -11,8 +11,8 @@ ghost use Rattle.i_shape.specs.Convex.{Convex, NoSpikes};
 ghost use Rattle.i_shape.specs.Edges.{Inside, shoelace};
 ghost use Rattle.i_shape.specs.IntPoint.{IsSafe};
 ghost use Rattle.i_shape_c.specs.Points.{point_i64};
-ghost use Rattle.i_shape_c.specs.Cleaned.{AreSafe, CleanAnswer, unsafe_code, unfit_code};
-ghost use Rattle.i_shape_c.specs.Batch.{AreSafeContours, BatchAnswer, CanClean};
+ghost use Rattle.i_shape_c.specs.Cleaned.{AreSafe, CleanAnswer, IsDespikedAlready, TakesNoMemory, unsafe_code, unfit_code, no_memory_code};
+ghost use Rattle.i_shape_c.specs.Batch.{AreSafeContours, BatchAnswer, CanClean, NoneTakesMemory};
 ghost use Rattle.i_shape_c.specs.Polygons.{CanCleanShapes, ShapesAnswer};
 ghost use Rattle.i_shape_c.specs.Tests.{IsTold, TestAnswer};
 ghost use Rattle.i_shape_c.specs.Areas.{AreHalves};
@@ -40,6 +40,7 @@ pub extern "C" fn i_shape_simplify_i64(
     ensures answer { CleanAnswer SimpleAnswer w64 point_i64 points.now out.old out.new result }
     ensures unfit { result ≡ unfit_code ↔ (length out.old < length points.now) }
     ensures unsafe_points { result ≡ unsafe_code ↔ ((length points.now ≤ length out.old) × (AreSafe w64 point_i64 points.now → ⊥)) }
+    ensures memory { result ≡ no_memory_code → TakesNoMemory IsSimple point_i64 points.now → ⊥ }
 {
     clean_contour::<PointI64, Simplifier>(alloc, points, out)
 }
@@ -55,6 +56,7 @@ pub extern "C" fn i_shape_despike_i64(
     ensures answer { CleanAnswer SpikelessAnswer w64 point_i64 points.now out.old out.new result }
     ensures unfit { result ≡ unfit_code ↔ (length out.old < length points.now) }
     ensures unsafe_points { result ≡ unsafe_code ↔ ((length points.now ≤ length out.old) × (AreSafe w64 point_i64 points.now → ⊥)) }
+    ensures memory { result ≡ no_memory_code → TakesNoMemory IsDespikedAlready point_i64 points.now → ⊥ }
 {
     clean_contour::<PointI64, DeSpiker>(alloc, points, out)
 }
@@ -70,6 +72,7 @@ pub extern "C" fn i_shape_canonical_i64(
     ensures answer { CleanAnswer CanonicalAnswer w64 point_i64 points.now out.old out.new result }
     ensures unfit { result ≡ unfit_code ↔ (length out.old < length points.now) }
     ensures unsafe_points { result ≡ unsafe_code ↔ ((length points.now ≤ length out.old) × (AreSafe w64 point_i64 points.now → ⊥)) }
+    ensures memory { result ≡ no_memory_code → TakesNoMemory IsSimple point_i64 points.now → ⊥ }
 {
     clean_contour::<PointI64, Canonicalizer>(alloc, points, out)
 }
@@ -86,6 +89,7 @@ pub extern "C" fn i_shape_simplify_contours_i64(
     ensures answer { BatchAnswer SimpleAnswer w64 point_i64 points.now offsets.now out_points.old out_points.new out_offsets.old out_offsets.new result }
     ensures unfit { result ≡ unfit_code ↔ (CanClean (length points.now) offsets.now (length out_points.old) (length out_offsets.old) → ⊥) }
     ensures unsafe_points { result ≡ unsafe_code ↔ (CanClean (length points.now) offsets.now (length out_points.old) (length out_offsets.old) × (AreSafeContours w64 point_i64 points.now offsets.now → ⊥)) }
+    ensures memory { result ≡ no_memory_code → NoneTakesMemory IsSimple point_i64 points.now offsets.now → ⊥ }
 {
     clean_contours::<PointI64, Simplifier>(alloc, points, offsets, out_points, out_offsets)
 }
@@ -102,6 +106,7 @@ pub extern "C" fn i_shape_despike_contours_i64(
     ensures answer { BatchAnswer SpikelessAnswer w64 point_i64 points.now offsets.now out_points.old out_points.new out_offsets.old out_offsets.new result }
     ensures unfit { result ≡ unfit_code ↔ (CanClean (length points.now) offsets.now (length out_points.old) (length out_offsets.old) → ⊥) }
     ensures unsafe_points { result ≡ unsafe_code ↔ (CanClean (length points.now) offsets.now (length out_points.old) (length out_offsets.old) × (AreSafeContours w64 point_i64 points.now offsets.now → ⊥)) }
+    ensures memory { result ≡ no_memory_code → NoneTakesMemory IsDespikedAlready point_i64 points.now offsets.now → ⊥ }
 {
     clean_contours::<PointI64, DeSpiker>(alloc, points, offsets, out_points, out_offsets)
 }
@@ -118,6 +123,7 @@ pub extern "C" fn i_shape_canonical_contours_i64(
     ensures answer { BatchAnswer CanonicalAnswer w64 point_i64 points.now offsets.now out_points.old out_points.new out_offsets.old out_offsets.new result }
     ensures unfit { result ≡ unfit_code ↔ (CanClean (length points.now) offsets.now (length out_points.old) (length out_offsets.old) → ⊥) }
     ensures unsafe_points { result ≡ unsafe_code ↔ (CanClean (length points.now) offsets.now (length out_points.old) (length out_offsets.old) × (AreSafeContours w64 point_i64 points.now offsets.now → ⊥)) }
+    ensures memory { result ≡ no_memory_code → NoneTakesMemory IsSimple point_i64 points.now offsets.now → ⊥ }
 {
     clean_contours::<PointI64, Canonicalizer>(alloc, points, offsets, out_points, out_offsets)
 }

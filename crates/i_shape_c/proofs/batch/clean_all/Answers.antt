@@ -1,4 +1,4 @@
-use Rattle.std.proofs.Common.{arith, ◌<◌, ◌≤◌, ◌-◌, ◌∙◌, length, drop, ap}
+use Rattle.std.proofs.Common.{arith, ◌≡◌, ◌+◌, ◌<◌, ◌≤◌, ◌-◌, ◌∙◌, length, drop, ap}
 use Rattle.std.proofs.lemmas.List.{length-set}
 use Rattle.i_shape.specs.IntPoint.{point_of}
 use Rattle.i_shape_c.specs.Batch.{offset, IsWithin}
@@ -54,3 +54,11 @@ returns-clause-ok g c =
     all_done g.C.Cleaner.gives g.P.Coordinate.IntNumber.width at c.args.points.now c.args.offsets.now c.args.out_points.now c.loop-place.out_points c.args.out_offsets.now c.loop-place.out_offsets
     c.loop-place.place c.loop-place.written c.loop-place-test.false (c.loop-place.auto.place-end (omega (arith, c.requires.can.some))) c.requires.can.last c.loop-place.invariant.done
     c.loop-place.invariant.points_rest c.loop-place.invariant.offsets_rest
+
+pub returns-in_err-written-clause-memory : goal.returns-in_err-written-clause-memory
+returns-in_err-written-clause-memory g c =
+    let place = c.loop-place.place in
+    let next : place - 1 + 1 ≡ place = omega arith in
+    on_err c.from_residual.result (λ none.
+    let here = none (place - 1) (omega (arith, c.loop-place-test.true)) in
+    c.in_err-written.ensures.memory (rw (c.part-ring.ensures.part) (rw next at here)))

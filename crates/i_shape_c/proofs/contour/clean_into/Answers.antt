@@ -1,6 +1,7 @@
 use Rattle.std.proofs.Common.{◌≡◌, List, map, take, refl, arith}
 use Rattle.i_shape.specs.IntPoint.{contour_of, point_of}
 use Rattle.i_shape_c.proofs.Boundary.{copied, safe_contour}
+use Rattle.i_shape_c.proofs.Batches.{on_err}
 use Rattle.i_shape_c.proofs.Parts.{part_from, rest_from}
 use Rattle.i_shape_c.proofs.contour.clean_into.Goals as goal
 
@@ -15,6 +16,12 @@ returns-clause-cleaned g c =
     let as_c : (list : List g.row.P.Denot) → contour_of value (points list) ≡ map (λ p. point_of value (g.P.ContourPoint.point p)) list = λ list. copied g.P.Coordinate.IntNumber.width value g.P.ContourPoint.point list (points list) (g.P.ContourPoint.each list) in
     let n = c.in_ok-count.count in
     rw (part_from c.args.out.now _ c.clean.new.out c.args.at (omega (arith, c.requires.room)) refl n, ← as_c c.args.given.now, ← as_c (take n c.clean.new.out)) c.in_ok-count.ensures.written.cleaned
+
+pub returns-in_err-count-clause-memory : goal.returns-in_err-count-clause-memory
+returns-in_err-count-clause-memory g c =
+    let value = g.P.Coordinate.IntNumber.value in
+    let points = g.P.ContourPoint.points c.args.given.now in
+    on_err c.from_residual.result (rw (copied g.P.Coordinate.IntNumber.width value g.P.ContourPoint.point c.args.given.now points (g.P.ContourPoint.each c.args.given.now)) at c.in_err-count.ensures.memory)
 
 pub returns-clause-after : goal.returns-clause-after
 returns-clause-after g c = rest_from c.args.out.now _ c.clean.new.out c.args.at (omega (arith, c.requires.room)) refl c.in_ok-count.count c.in_ok-count.ensures.written.rest
