@@ -1,14 +1,15 @@
 //! Straight programs: each tests the points, cleans, and goes on with what is left. The double area stays what it was.
 
-ghost use Rattle.std.specs.Prelude.{◌≡◌, ◌<◌, ◌↔◌, None, length, IsTrue, IfOk, IfSome, OnOk, OnErr, IsErrOf};
+ghost use Rattle.std.specs.Prelude.{◌≡◌, ◌<◌, ◌↔◌, None, length, IsTrue, IfOk, IfSome, OnOk, OnErr, IsErrOf, Ok, false};
 ghost use Rattle.std.specs.List.{All};
 ghost use Rattle.std.specs.Int.{int_wrap};
 ghost use Rattle.i_shape_core.specs.Point.{Point};
 ghost use Rattle.i_shape_core.specs.IntPoint.{point_of, contour_of, IsSafe};
+ghost use Rattle.i_shape_core.specs.Contour.{IsSimple};
 ghost use Rattle.i_shape_core.specs.Edges.{shoelace, Inside};
 ghost use Rattle.i_shape_core.specs.Cleaners.{SimpleAnswer, EachEndCollapses};
 ghost use Rattle.i_shape.specs.ShapeLists.{shape_of, shapes_of, IsSafeShape, IsSafeList};
-ghost use Rattle.i_shape.specs.ShapeAnswers.{ShapeClean, ListKept, inside_count, shape_shoelace, shapes_shoelace};
+ghost use Rattle.i_shape.specs.ShapeAnswers.{ShapeClean, ListKept, EachContour, EachShape, inside_count, shape_shoelace, shapes_shoelace};
 ghost use Rattle.i_shape.specs.InPlace.{Leaves};
 
 use crate::refusal::Refusal;
@@ -59,7 +60,8 @@ pub fn cleaned_contains<I: IntNumber>(
     }
 }
 
-/// Removes zero turns from a contour in place, and then spikes, of which none is left by then. It answers what the first call did.
+/// Removes zero turns from a contour in place, and then spikes, of which none is left by then. It answers what the first call did: false where the contour
+/// was simple.
 #[tactic(auto, using(i_shape::proofs::CallerLemmas::contour_cleaned, i_shape::proofs::CallerLemmas::contour_never_refused))]
 pub fn clean_contour<I: IntNumber>(contour: &mut IntContour<I>) -> Result<bool, Refusal>
     ensures range { IsErrOf result Refusal.OutOfRange ↔ (All (IsSafe I.width) (contour_of I.value contour.old.items) → ⊥) }
@@ -67,6 +69,7 @@ pub fn clean_contour<I: IntNumber>(contour: &mut IntContour<I>) -> Result<bool, 
     ensures err { OnErr result (contour_of I.value contour.new.items ≡ contour_of I.value contour.old.items) }
     ensures area { shoelace (contour_of I.value contour.new.items) ≡ shoelace (contour_of I.value contour.old.items) }
     ensures inside { (p : Point) → Inside (contour_of I.value contour.new.items) p ↔ Inside (contour_of I.value contour.old.items) p }
+    ensures flag { result ≡ Ok false ↔ (All (IsSafe I.width) (contour_of I.value contour.old.items) × IsSimple (contour_of I.value contour.old.items)) }
 {
     if !contour.is_in_safe_range() {
         return Err(Refusal::OutOfRange);
@@ -83,6 +86,7 @@ pub fn clean_shape<I: IntNumber>(shape: &mut IntShape<I>) -> Result<bool, Refusa
     ensures cleaned { OnOk result (Leaves (ShapeClean SimpleAnswer) (shape_of I.value shape.old.items) (shape_of I.value shape.new.items)) }
     ensures err { OnErr result (shape_of I.value shape.new.items ≡ shape_of I.value shape.old.items) }
     ensures area { 0 < length (shape_of I.value shape.new.items) → shape_shoelace (shape_of I.value shape.new.items) ≡ shape_shoelace (shape_of I.value shape.old.items) }
+    ensures flag { result ≡ Ok false ↔ (IsSafeShape I.width (shape_of I.value shape.old.items) × EachContour IsSimple (shape_of I.value shape.old.items)) }
 {
     if !shape.is_in_safe_range() {
         return Err(Refusal::OutOfRange);
@@ -99,6 +103,7 @@ pub fn clean_list<I: IntNumber>(shapes: &mut IntShapes<I>) -> Result<bool, Refus
     ensures kept { OnOk result (ListKept SimpleAnswer (shapes_of I.value shapes.old.items) (shapes_of I.value shapes.new.items)) }
     ensures err { OnErr result (shapes_of I.value shapes.new.items ≡ shapes_of I.value shapes.old.items) }
     ensures area { length (shapes_of I.value shapes.new.items) ≡ length (shapes_of I.value shapes.old.items) → shapes_shoelace (shapes_of I.value shapes.new.items) ≡ shapes_shoelace (shapes_of I.value shapes.old.items) }
+    ensures flag { result ≡ Ok false ↔ (IsSafeList I.width (shapes_of I.value shapes.old.items) × EachShape IsSimple (shapes_of I.value shapes.old.items)) }
 {
     if !shapes.is_in_safe_range() {
         return Err(Refusal::OutOfRange);

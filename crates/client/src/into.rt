@@ -1,7 +1,7 @@
 //! Contours that are cleaned from one slice into another, over the library's points or the caller's own. The double area stays what it
 //! was.
 
-ghost use Rattle.std.specs.Prelude.{◌≡◌, ◌↔◌, take, IsTrue, IfOk, IsErrOf};
+ghost use Rattle.std.specs.Prelude.{◌≡◌, ◌↔◌, ◌⊎◌, ◌<◌, length, take, IsTrue, IfOk, IsErrOf};
 ghost use Rattle.std.specs.List.{All};
 ghost use Rattle.std.specs.Int.{int_wrap};
 ghost use Rattle.i_shape_core.specs.IntPoint.{point_of, contour_of, IsSafe};
@@ -24,6 +24,7 @@ pub fn area_into<I: IntNumber>(
     out: &mut [IntPoint<I>],
 ) -> Result<I::Wide, Refusal>
     ensures range { IsErrOf result Refusal.OutOfRange ↔ (All (IsSafe I.width) (contour_of I.value contour.now) → ⊥) }
+    ensures room { IsErrOf result Refusal.NoRoom ↔ (All (IsSafe I.width) (contour_of I.value contour.now) × (length out.old < length contour.now)) }
     ensures area { IfOk result (λ area. I.Wide.value area ≡ int_wrap I.Wide.width (shoelace (contour_of I.value contour.now))) }
 {
     if !contour.is_in_safe_range() {
@@ -43,6 +44,7 @@ pub fn stands_into<I: IntNumber>(
     out: &mut [IntPoint<I>],
 ) -> Result<bool, Refusal>
     ensures range { IsErrOf result Refusal.OutOfRange ↔ (All (IsSafe I.width) (contour_of I.value contour.now) → ⊥) }
+    ensures room { IsErrOf result Refusal.NoRoom ↔ (All (IsSafe I.width) (contour_of I.value contour.now) × (length out.old < length contour.now)) }
     ensures stands { IfOk result (λ r. IsTrue r ↔ (EachEndCollapses (contour_of I.value contour.now) → ⊥)) }
 {
     if !contour.is_in_safe_range() {
@@ -85,6 +87,7 @@ pub fn clean_into<P: ContourPoint>(
     out: &mut [P],
 ) -> Result<usize, Refusal>
     ensures range { IsErrOf result Refusal.OutOfRange ↔ (All (IsSafe P.Coordinate.width) (contour_of P.Coordinate.value (P.points contour.now)) → ⊥) }
+    ensures room { IsErrOf result Refusal.NoRoom ↔ (All (IsSafe P.Coordinate.width) (contour_of P.Coordinate.value (P.points contour.now)) × ((length between.old < length contour.now) ⊎ (length out.old < length contour.now))) }
     ensures answer { IfOk result (λ n. SimpleAnswer (contour_of P.Coordinate.value (P.points contour.now)) (slot (contour_of P.Coordinate.value (P.points (take n out.new))))) }
     ensures area { IfOk result (λ n. shoelace (contour_of P.Coordinate.value (P.points (take n out.new))) ≡ shoelace (contour_of P.Coordinate.value (P.points contour.now))) }
 {

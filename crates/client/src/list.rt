@@ -1,9 +1,11 @@
 //! Lists of shapes that are tested, and then asked about or cleaned.
 
-ghost use Rattle.std.specs.Prelude.{◌≡◌, length, IfOk, OnOk, OnErr};
+ghost use Rattle.std.specs.Prelude.{◌≡◌, ◌↔◌, length, IsTrue, IfOk, OnOk, OnErr, Ok, false};
+ghost use Rattle.i_shape_core.specs.Contour.{IsSimple};
+ghost use Rattle.i_shape_core.specs.Convex.{NoSpikes};
 ghost use Rattle.i_shape_core.specs.Cleaners.{SimpleAnswer, DespikeAnswer};
-ghost use Rattle.i_shape.specs.ShapeLists.{shapes_of};
-ghost use Rattle.i_shape.specs.ShapeAnswers.{shapes_shoelace, ListKept};
+ghost use Rattle.i_shape.specs.ShapeLists.{shapes_of, IsSafeList};
+ghost use Rattle.i_shape.specs.ShapeAnswers.{shapes_shoelace, ListKept, EachShape};
 
 use crate::refusal::Refusal;
 use i_shape::IntNumber;
@@ -14,12 +16,16 @@ use i_shape::int::simple::{SimpleShapes, Simplify};
 use std::alloc::Global;
 
 /// Whether the points are safe, and each contour of each shape simple.
-pub fn is_simple<I: IntNumber>(shapes: &[IntShape<I>]) -> bool {
+pub fn is_simple<I: IntNumber>(shapes: &[IntShape<I>]) -> bool
+    ensures { IsTrue result ↔ (IsSafeList I.width (shapes_of I.value shapes.now) × EachShape IsSimple (shapes_of I.value shapes.now)) }
+{
     shapes.is_in_safe_range() && shapes.is_simple()
 }
 
 /// Whether the points are safe, and no contour of any shape has spikes.
-pub fn has_no_spikes<I: IntNumber>(shapes: &IntShapes<I>) -> bool {
+pub fn has_no_spikes<I: IntNumber>(shapes: &IntShapes<I>) -> bool
+    ensures { IsTrue result ↔ (IsSafeList I.width (shapes_of I.value shapes.now.items) × EachShape NoSpikes (shapes_of I.value shapes.now.items)) }
+{
     shapes.is_in_safe_range() && shapes.has_no_spikes()
 }
 
@@ -65,6 +71,7 @@ pub fn simplify<I: IntNumber>(shapes: &mut IntShapes<I>) -> Result<bool, Refusal
     ensures kept { OnOk result (ListKept SimpleAnswer (shapes_of I.value shapes.old.items) (shapes_of I.value shapes.new.items)) }
     ensures err { OnErr result (shapes_of I.value shapes.new.items ≡ shapes_of I.value shapes.old.items) }
     ensures area { length (shapes_of I.value shapes.new.items) ≡ length (shapes_of I.value shapes.old.items) → shapes_shoelace (shapes_of I.value shapes.new.items) ≡ shapes_shoelace (shapes_of I.value shapes.old.items) }
+    ensures flag { result ≡ Ok false ↔ (IsSafeList I.width (shapes_of I.value shapes.old.items) × EachShape IsSimple (shapes_of I.value shapes.old.items)) }
 {
     if !shapes.is_in_safe_range() {
         return Err(Refusal::OutOfRange);
@@ -78,6 +85,7 @@ pub fn despike<I: IntNumber>(shapes: &mut IntShapes<I>) -> Result<bool, Refusal>
     ensures kept { OnOk result (ListKept DespikeAnswer (shapes_of I.value shapes.old.items) (shapes_of I.value shapes.new.items)) }
     ensures err { OnErr result (shapes_of I.value shapes.new.items ≡ shapes_of I.value shapes.old.items) }
     ensures area { length (shapes_of I.value shapes.new.items) ≡ length (shapes_of I.value shapes.old.items) → shapes_shoelace (shapes_of I.value shapes.new.items) ≡ shapes_shoelace (shapes_of I.value shapes.old.items) }
+    ensures flag { result ≡ Ok false ↔ (IsSafeList I.width (shapes_of I.value shapes.old.items) × EachShape NoSpikes (shapes_of I.value shapes.old.items)) }
 {
     if !shapes.is_in_safe_range() {
         return Err(Refusal::OutOfRange);
