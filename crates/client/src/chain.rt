@@ -60,8 +60,7 @@ pub fn cleaned_contains<I: IntNumber>(
     }
 }
 
-/// Removes zero turns from a contour in place, and then spikes, of which none is left by then. It answers what the first call did: false where the contour
-/// was simple.
+/// Removes zero turns from a contour in place, and then spikes, of which none is left by then. It answers what the first call did.
 #[tactic(auto, using(i_shape::proofs::CallerLemmas::contour_cleaned, i_shape::proofs::CallerLemmas::contour_never_refused))]
 pub fn clean_contour<I: IntNumber>(contour: &mut IntContour<I>) -> Result<bool, Refusal>
     ensures range { IsErrOf result Refusal.OutOfRange ↔ (All (IsSafe I.width) (contour_of I.value contour.old.items) → ⊥) }
