@@ -1,13 +1,14 @@
-//! The three cleaners, of a contour and of a list of polygons.
+//! The cleaners: three of a contour, and these and one more of a list of polygons.
 
-ghost use Rattle.std.specs.Prelude.{◌≡◌, ◌<◌, ◌≤◌, ◌⊎◌, List, length, Option, Some, IfOk, OnErr};
+ghost use Rattle.std.specs.Prelude.{◌≡◌, ◌<◌, ◌≤◌, ◌⊎◌, List, length, reverse, Option, Some, IfOk, OnErr};
 ghost use Rattle.std.specs.List.{All};
-ghost use Rattle.std.proofs.Common.{subst};
+ghost use Rattle.std.proofs.Common.{subst, sym, inl, inr};
+ghost use Rattle.std.proofs.lemmas.List.{length-reverse};
 ghost use Rattle.i_shape.specs.Point.{Point};
 ghost use Rattle.i_shape.specs.IntPoint.{contour_of, IsSafe};
 ghost use Rattle.i_shape.specs.Contour.{IsSimple};
 ghost use Rattle.i_shape.specs.Cleaners.{SimpleAnswer, SpikelessAnswer, DespikeAnswer};
-ghost use Rattle.i_shape.specs.Canonical.{CanonicalAnswer};
+ghost use Rattle.i_shape.specs.Canonical.{IsCanonical, CanonicalAnswer, UnorientedAnswer};
 ghost use Rattle.i_shape.specs.CanonicalShapes.{ListForm};
 ghost use Rattle.i_shape.specs.ShapeAnswers.{ListClean};
 ghost use Rattle.i_shape.specs.ShapeLists.{shapes_of, IsSafeList};
@@ -167,5 +168,26 @@ impl<I: IntNumber> ShapesCleaner<I> for Canonicalizer {
 
     fn clean(alloc: Global, shapes: &IntShapes<I>) -> Result<IntShapes<I>, ShapeError> {
         shapes.as_slice().canonical(alloc)
+    }
+}
+
+/// Takes the lesser of the canonical forms of a contour and of the contour read backwards.
+#[derive(Clone, Copy)]
+pub struct UnorientedCanonicalizer {}
+
+impl<I: IntNumber> ShapesCleaner<I> for UnorientedCanonicalizer {
+    ghost gives = { ListForm UnorientedAnswer };
+
+    ghost fewer = { λ given left form.
+        let own : (c l : List Point) → IsCanonical c l → length l ≤ length c = λ c l one. subst (λ n. n ≤ length c) (rotation_length one.least.rotation) (reach_shrinks one.ends.ended.reached) in
+        let either : (c l : List Point) → UnorientedAnswer c (Some l) → length l ≤ length c = λ c l one. elim one.one [
+          | inl same ↦ subst (λ d. length d ≤ length c) (sym same) (own c one.forwards one.is_forwards)
+          | inr same ↦ subst (λ d. length d ≤ length c) (sym same) (subst (λ n. length one.backwards ≤ n) (length-reverse c) (own (reverse c) one.backwards one.is_backwards))
+        ] in
+        let counts = forms_fewer UnorientedAnswer either given left form in
+        record { shapes = counts.0; contours = counts.1; points = counts.2 } };
+
+    fn clean(alloc: Global, shapes: &IntShapes<I>) -> Result<IntShapes<I>, ShapeError> {
+        shapes.as_slice().canonical_unoriented(alloc)
     }
 }

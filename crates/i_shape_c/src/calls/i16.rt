@@ -3,7 +3,7 @@
 ghost use Rattle.std.specs.Prelude.{◌≡◌, ◌↔◌, ◌<◌, ◌≤◌, length, map, IsTrue};
 ghost use Rattle.std.specs.Int.{int_wrap, w16, w32};
 ghost use Rattle.i_shape.specs.Cleaners.{SimpleAnswer, SpikelessAnswer, DespikeAnswer};
-ghost use Rattle.i_shape.specs.Canonical.{CanonicalAnswer};
+ghost use Rattle.i_shape.specs.Canonical.{CanonicalAnswer, UnorientedAnswer};
 ghost use Rattle.i_shape.specs.CanonicalShapes.{ListForm};
 ghost use Rattle.i_shape.specs.ShapeAnswers.{ListClean};
 ghost use Rattle.i_shape.specs.Contour.{IsSimple};
@@ -20,7 +20,7 @@ ghost use Rattle.i_shape_c.specs.Windings.{no_winding, CanWind, WindingsAnswer};
 
 use crate::area::area_two;
 use crate::batch::clean_contours;
-use crate::cleaner::{Canonicalizer, DeSpiker, Simplifier};
+use crate::cleaner::{Canonicalizer, DeSpiker, Simplifier, UnorientedCanonicalizer};
 use crate::contour::clean_contour;
 use crate::point::PointI16;
 use crate::polygons::clean_shapes;
@@ -195,6 +195,32 @@ pub extern "C" fn i_shape_canonical_shapes_i16(
     ensures unsafe_points { result ≡ unsafe_code ↔ (CanCleanShapes (length points.now) contours.now shapes.now (length out_points.old) (length out_contours.old) (length out_shapes.old) × (AreSafeContours w16 point_i16 points.now contours.now → ⊥)) }
 {
     clean_shapes::<PointI16, Canonicalizer>(
+        alloc,
+        points,
+        contours,
+        shapes,
+        out_points,
+        out_contours,
+        out_shapes,
+    )
+}
+
+/// The canonical form of the polygons where each contour may be read backwards too. Answers how many polygons are left.
+#[unsafe(no_mangle)]
+pub extern "C" fn i_shape_canonical_unoriented_shapes_i16(
+    alloc: Global,
+    points: &[PointI16],
+    contours: &[usize],
+    shapes: &[usize],
+    out_points: &mut [PointI16],
+    out_contours: &mut [usize],
+    out_shapes: &mut [usize],
+) -> isize
+    ensures answer { ShapesAnswer (ListForm UnorientedAnswer) point_i16 points.now contours.now shapes.now out_points.old out_points.new out_contours.old out_contours.new out_shapes.old out_shapes.new result }
+    ensures unfit { result ≡ unfit_code ↔ (CanCleanShapes (length points.now) contours.now shapes.now (length out_points.old) (length out_contours.old) (length out_shapes.old) → ⊥) }
+    ensures unsafe_points { result ≡ unsafe_code ↔ (CanCleanShapes (length points.now) contours.now shapes.now (length out_points.old) (length out_contours.old) (length out_shapes.old) × (AreSafeContours w16 point_i16 points.now contours.now → ⊥)) }
+{
+    clean_shapes::<PointI16, UnorientedCanonicalizer>(
         alloc,
         points,
         contours,

@@ -3,7 +3,7 @@
 ghost use Rattle.std.specs.Prelude.{◌≡◌, ◌↔◌, ◌<◌, ◌≤◌, length, map, IsTrue};
 ghost use Rattle.std.specs.Int.{int_wrap, w64, w128};
 ghost use Rattle.i_shape.specs.Cleaners.{SimpleAnswer, SpikelessAnswer, DespikeAnswer};
-ghost use Rattle.i_shape.specs.Canonical.{CanonicalAnswer};
+ghost use Rattle.i_shape.specs.Canonical.{CanonicalAnswer, UnorientedAnswer};
 ghost use Rattle.i_shape.specs.CanonicalShapes.{ListForm};
 ghost use Rattle.i_shape.specs.ShapeAnswers.{ListClean};
 ghost use Rattle.i_shape.specs.Contour.{IsSimple};
@@ -21,7 +21,7 @@ ghost use Rattle.i_shape_c.specs.Windings.{no_winding, CanWind, WindingsAnswer};
 
 use crate::area::{Halves, area_two};
 use crate::batch::clean_contours;
-use crate::cleaner::{Canonicalizer, DeSpiker, Simplifier};
+use crate::cleaner::{Canonicalizer, DeSpiker, Simplifier, UnorientedCanonicalizer};
 use crate::contour::clean_contour;
 use crate::point::PointI64;
 use crate::polygons::clean_shapes;
@@ -196,6 +196,32 @@ pub extern "C" fn i_shape_canonical_shapes_i64(
     ensures unsafe_points { result ≡ unsafe_code ↔ (CanCleanShapes (length points.now) contours.now shapes.now (length out_points.old) (length out_contours.old) (length out_shapes.old) × (AreSafeContours w64 point_i64 points.now contours.now → ⊥)) }
 {
     clean_shapes::<PointI64, Canonicalizer>(
+        alloc,
+        points,
+        contours,
+        shapes,
+        out_points,
+        out_contours,
+        out_shapes,
+    )
+}
+
+/// The canonical form of the polygons where each contour may be read backwards too. Answers how many polygons are left.
+#[unsafe(no_mangle)]
+pub extern "C" fn i_shape_canonical_unoriented_shapes_i64(
+    alloc: Global,
+    points: &[PointI64],
+    contours: &[usize],
+    shapes: &[usize],
+    out_points: &mut [PointI64],
+    out_contours: &mut [usize],
+    out_shapes: &mut [usize],
+) -> isize
+    ensures answer { ShapesAnswer (ListForm UnorientedAnswer) point_i64 points.now contours.now shapes.now out_points.old out_points.new out_contours.old out_contours.new out_shapes.old out_shapes.new result }
+    ensures unfit { result ≡ unfit_code ↔ (CanCleanShapes (length points.now) contours.now shapes.now (length out_points.old) (length out_contours.old) (length out_shapes.old) → ⊥) }
+    ensures unsafe_points { result ≡ unsafe_code ↔ (CanCleanShapes (length points.now) contours.now shapes.now (length out_points.old) (length out_contours.old) (length out_shapes.old) × (AreSafeContours w64 point_i64 points.now contours.now → ⊥)) }
+{
+    clean_shapes::<PointI64, UnorientedCanonicalizer>(
         alloc,
         points,
         contours,
