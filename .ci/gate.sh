@@ -31,6 +31,6 @@ part ./.ci/refusals.sh
 part ./.ci/scaling.sh
 part ./.ci/pictures.sh
 part python3 .ci/pages.py
-# The last one, since it runs this script up to the proofs, over stand-ins.
+# It runs this script up to the proofs, over stand-ins.
 part ./.ci/test_stops.sh
 tell_sum

@@ -32,7 +32,7 @@ end_all() {
 trap end_all EXIT
 trap 'exit 130' HUP INT TERM
 
-# Runs a part and adds up its last count. A part without a count, or that fails though it counts no failure, counts as one failed. It runs in the
+# Runs a part and adds its counts, of its last line with any. A part without a count, or that fails though it counts no failure, counts as one failed. It runs in the
 # background, since a shell heeds a signal at once only while it waits.
 part() {
     rm -f "$log.bad"
@@ -55,7 +55,7 @@ COUNTS
     skipped=$((skipped + its_skipped))
 }
 
-# Prints the sum of the parts, and ends with its status.
+# Prints the sum of the parts, and ends with status 0 where none failed.
 tell_sum() {
     if [ "$skipped" -eq 0 ]; then
         echo "$passed passed, $failed failed"

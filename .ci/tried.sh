@@ -1,13 +1,13 @@
 #!/usr/bin/env bash
 # Runs the tests of crates/i_shape_tests, and the program on a line, as `rt try` builds them: without a proof. The last line is
-# 'tried: N passed, M failed'.
+# 'tried: N passed, M failed', and ', K skipped' behind it where there is no rt.
 set -u
 cd "$(dirname "$0")/.." || exit 1
 . .ci/count.sh || exit 1
 
 if ! command -v rt > /dev/null; then
     echo "the tests are not run: there is no rt of the Rattle kit on the path"
-    echo "tried: 0 passed, 0 failed, $(cat crates/i_shape_tests/src/*.rt crates/i_shape_tests/src/*/*.rt | grep -c '^#\[test\]') skipped"
+    echo "tried: 0 passed, 0 failed, $(($(cat crates/i_shape_tests/src/*.rt crates/i_shape_tests/src/*/*.rt | grep -c '^#\[test\]') + 1)) skipped"
     exit 0
 fi
 work=$(mktemp -d) || exit 1

@@ -1,7 +1,7 @@
 # Sourced by what builds from proofs, with $top, the top of the checkout, $name, what standard error is told under, and $log, where all stands that rt says.
 set -o pipefail
 
-# Whether so many megabytes are free for what a build keeps.
+# Whether so many megabytes are free for what a build keeps; where they aren't, it says so.
 has_room() {
     local free
     free=$(df -Pm "$top" | awk 'NR == 2 { print $4 }')
@@ -10,13 +10,20 @@ has_room() {
     return 1
 }
 
+# Says how many megabytes are left, where a full disk may be why a proof failed.
+tell_room() {
+    local free
+    free=$(df -Pm "$top" | awk 'NR == 2 { print $4 }')
+    [ "${free:-0}" -ge 50 ] || echo "$name: $free MB are free in $top" >&2
+}
+
 # Proves a crate by the words of rt that follow its name, and tells how many of its functions are done.
 prove() {
     echo "$name: proving $1" >&2
     if ! (cd "$top/crates/$1" && rt "${@:2}" < /dev/null 2>&1) | tee -a "$log" |
         sed -un "s/^so far: \([0-9]* of [0-9]*\) functions.*/$name: $1: \1 functions/p" >&2; then
         tail -n 20 "$log" >&2
-        has_room 50 || true
+        tell_room
         echo "$name: it could not be built; all that was said stands in ${log#"$top/"}" >&2
         return 1
     fi

@@ -65,7 +65,7 @@ SameShape Same (c ∷ s) (d ∷ t) = Same c d × MatchedStanding EachEndCollapse
 abbrev pub SameList : (List Point → List Point → Type 0) → List (List (List Point)) → List (List (List Point)) → Type 0
 SameList Same s t = MatchedStanding OuterCollapses (SameShape Same) s t
 
--- the contours that are left have the same double areas together, each without its sign, each point is inside of as many of them, and they have the same winding numbers about it together, each without its sign, and scaled by any n they have
+-- the contours that are left have the same double areas together, each without its sign; each point is inside of as many of them, and they have the same winding numbers about it together, each without its sign, also where all contours are scaled by any n
 pub record AreKeptEitherWay (contours left : List (List Point)) : Type 0 where
   pub area : sum_by (λ c. nat_abs (shoelace c)) left ≡ sum_by (λ c. nat_abs (shoelace c)) contours
   pub inside : (p : Point) → inside_count left p ≡ inside_count contours p

@@ -71,17 +71,18 @@ abbrev pub UnorientedAnswer : List Point → Option (List Point) → Type 0
 UnorientedAnswer c None = EachEndCollapses c
 UnorientedAnswer c (Some l) = IsUnoriented c l
 
--- e has the opposite double area of c and the same points inside, and winds as often the other way about each point, and scaled by any n it does
+-- e has the opposite double area of c and the same points inside, and winds as often the other way about each point, also where both are scaled by any n
 pub record IsKeptBackwards (c e : List Point) : Type 0 where
   pub area : shoelace e ≡ neg_ℤ (shoelace c)
   pub inside : (p : Point) → Inside e p ↔ Inside c p
   pub between : (n : ℤ) (p : Point) → winding (moved (scaling n) e) p ≡ neg_ℤ (winding (moved (scaling n) c) p)
   pub winding : (p : Point) → winding e p ≡ neg_ℤ (winding c p)
 
--- e keeps what c has, or all of it the other way
+-- e keeps what c has, or keeps it backwards
 abbrev pub IsKeptEitherWay : List Point → List Point → Type 0
 IsKeptEitherWay c e = IsKept c e ⊎ IsKeptBackwards c e
 
+-- what the unoriented form keeps of c, and no area and no winding where each end collapses
 abbrev pub KeptEitherWay : List Point → Option (List Point) → Type 0
 KeptEitherWay c None = IsFlat c
 KeptEitherWay c (Some e) = IsKeptEitherWay c e
@@ -90,6 +91,6 @@ KeptEitherWay c (Some e) = IsKeptEitherWay c e
 abbrev pub JoinedEitherWay : List Point → List Point → Type 0
 JoinedEitherWay c d = Joined IsZeroTurn c d ⊎ Joined IsZeroTurn c (reverse d)
 
--- the unoriented forms of two contours are one list exactly where the contours are joined either way
+-- where two contours have unoriented forms, these are one list exactly where the contours are joined either way
 abbrev pub UnorientedJoined : List Point → List Point → Type 0
 UnorientedJoined c d = (l m : List Point) → UnorientedAnswer c (Some l) → UnorientedAnswer d (Some m) → (l ≡ m) ↔ JoinedEitherWay c d

@@ -29,7 +29,7 @@ pub record IsKept (c e : List Point) : Type 0 where
   pub between : (n : ℤ) (p : Point) → winding (moved (scaling n) e) p ≡ winding (moved (scaling n) c) p
   pub winding : (p : Point) → winding e p ≡ winding c p
 
--- c has no area and no point inside, and winds about no point, nor does it scaled by any n
+-- c has no area and no point inside, and winds about no point, nor does c scaled by any n
 pub record IsFlat (c : List Point) : Type 0 where
   pub area : shoelace c ≡ pos 0
   pub inside : (p : Point) → Inside c p → ⊥

@@ -29,8 +29,8 @@ pub trait SimpleContour<I: IntNumber> {
         ensures { IsTrue result ↔ IsSimple (contour self.now) };
 
     /// The contour without zero turns, in the order of the input: the one end up to rotation of removing them in any order.
-    /// `None` exactly where every order leaves fewer than three points. Double area and containment are kept, and the points
-    /// are safe again.
+    /// `None` exactly where every order leaves fewer than three points. Double area, containment and winding numbers are
+    /// kept, and the points are safe again.
     /// The only error is `OutOfMemory`; below three points no memory is taken.
     fn simplified(&self, alloc: Global) -> Result<Option<IntContour<I>>, ShapeError>
         requires { All (IsSafe I.width) (contour self.now) }
@@ -44,7 +44,7 @@ pub trait SimpleContour<I: IntNumber> {
     /// The canonical form: of the contour without zero turns the rotation that comes first, where lists are compared
     /// point by point, and points by x and then by y. Two contours that don't collapse have the same canonical form
     /// exactly where removals and insertions of zero-turn vertices, and rotations, lead from one to the other.
-    /// `None` exactly where `simplified` is. Winding, double area and containment are kept, and the points are safe again.
+    /// `None` exactly where `simplified` is. Double area, containment and winding numbers are kept, and the points are safe again.
     /// The only error is `OutOfMemory`; below three points no memory is taken.
     fn canonical(&self, alloc: Global) -> Result<Option<IntContour<I>>, ShapeError>
         requires { All (IsSafe I.width) (contour self.now) }
@@ -57,7 +57,8 @@ pub trait SimpleContour<I: IntNumber> {
     /// The canonical form whichever way round the contour is wound: the one that comes first of the canonical forms of the contour
     /// and of the contour read backwards. Two contours that don't collapse have the same such form exactly where removals and
     /// insertions of zero-turn vertices, and rotations, lead from one to the other, or to the other read backwards.
-    /// `None` exactly where `simplified` is. Double area but for its sign, and containment, are kept, and the points are safe again.
+    /// `None` exactly where `simplified` is. Containment is kept, and so are double area and winding numbers, or all of these get their
+    /// opposites; the points are safe again.
     /// The only error is `OutOfMemory`; below three points no memory is taken.
     fn canonical_unoriented(&self, alloc: Global) -> Result<Option<IntContour<I>>, ShapeError>
         requires { All (IsSafe I.width) (contour self.now) }

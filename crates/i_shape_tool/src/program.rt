@@ -22,7 +22,7 @@ pub enum Complaint {
     NotUtf8,
     /// The command has no answer to the input.
     Fault(ToolFault),
-    /// The words or the input could not be read, whatever the cause.
+    /// The input could not be read, whatever the cause. The program tells it of its words too.
     Input,
     /// The answer could not be written, whatever the cause.
     Output,
@@ -103,7 +103,7 @@ fn read_all<R: Read>(alloc: Global, input: &mut R) -> Result<Vec<u8>, Complaint>
     Ok(bytes)
 }
 
-/// Reads all input, and writes the answer to it and nothing else.
+/// Reads all input, and where it is `Ok`, has written the answer to it and nothing else.
 fn answer<R: Read, W: Write>(
     alloc: Global,
     words: &[String],
@@ -125,7 +125,7 @@ fn answer<R: Read, W: Write>(
     write_whole(output, answer.as_bytes()).map_err(|_error| Complaint::Output)
 }
 
-/// Writes all bytes, and hands them on.
+/// Writes all bytes, and flushes, which no clause says.
 fn write_whole<W: Write>(output: &mut W, bytes: &[u8]) -> io::Result<()>
     ensures { OnOk result (Appends (W.contents output.old) (W.contents output.new) bytes.now) }
 {

@@ -26,7 +26,7 @@ pub trait CanonicalShape<I: IntNumber> {
     /// their lists of points. `None` where the first contour collapses; an empty shape stays empty. Two shapes that have forms have the
     /// same one exactly where they are the same polygon: where their first contours lead to each other by removals and insertions of
     /// zero-turn vertices and rotations, and so do the others that don't collapse, one to one in some order.
-    /// Double area and containment are kept, and the points are safe again. The only error is `OutOfMemory`.
+    /// Double area, containment and winding numbers are kept, and the points are safe again. The only error is `OutOfMemory`.
     fn canonical(&self, alloc: Global) -> Result<Option<IntShape<I>>, ShapeError>
         requires { IsSafeShape I.width (shape self.now) }
         ensures answer { IfOk result (λ r. ShapeForm CanonicalAnswer (shape self.now) (answered (shape_of I.value) r)) }
@@ -35,8 +35,9 @@ pub trait CanonicalShape<I: IntNumber> {
         ensures memory { IsOkUnless result ShapeError.OutOfMemory };
 
     /// The same, of forms that don't tell which way round a contour is wound: two shapes that have forms have the same one exactly
-    /// where they are the same polygon but for the direction of each contour. The contours' double areas, each without its sign, have the same sum, and
-    /// each point is inside of as many contours; the points are safe again. The only error is `OutOfMemory`.
+    /// where they are the same polygon but for the direction of each contour. The contours' double areas, each without its sign, have the same
+    /// sum, and so have their winding numbers about each point; each point is inside of as many contours; the points are safe again. The only
+    /// error is `OutOfMemory`.
     fn canonical_unoriented(&self, alloc: Global) -> Result<Option<IntShape<I>>, ShapeError>
         requires { IsSafeShape I.width (shape self.now) }
         ensures answer { IfOk result (λ r. ShapeForm UnorientedAnswer (shape self.now) (answered (shape_of I.value) r)) }
@@ -52,7 +53,8 @@ pub trait CanonicalShapes<I: IntNumber> {
 
     /// The canonical form: those of the shapes, without the shapes whose first contour collapses, in order, contour by contour. Two
     /// lists have the same one exactly where their other shapes are the same polygons, one to one in some order.
-    /// Each form keeps double area and containment of its shape, and the points are safe again. The only error is `OutOfMemory`.
+    /// Each form keeps double area, containment and winding numbers of its shape, and the points are safe again. The only error is
+    /// `OutOfMemory`.
     fn canonical(&self, alloc: Global) -> Result<IntShapes<I>, ShapeError>
         requires { IsSafeList I.width (shapes self.now) }
         ensures answer { IfOk result (λ r. ListForm CanonicalAnswer (shapes self.now) (shapes_of I.value r.items)) }
@@ -60,7 +62,8 @@ pub trait CanonicalShapes<I: IntNumber> {
         ensures safe { IfOk result (λ r. IsSafeList I.width (shapes_of I.value r.items)) }
         ensures memory { IsOkUnless result ShapeError.OutOfMemory };
 
-    /// The same, of forms that don't tell which way round a contour is wound.
+    /// The same, of forms that don't tell which way round a contour is wound, and which keep of their shapes what
+    /// `CanonicalShape::canonical_unoriented` says.
     fn canonical_unoriented(&self, alloc: Global) -> Result<IntShapes<I>, ShapeError>
         requires { IsSafeList I.width (shapes self.now) }
         ensures answer { IfOk result (λ r. ListForm UnorientedAnswer (shapes self.now) (shapes_of I.value r.items)) }

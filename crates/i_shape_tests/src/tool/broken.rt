@@ -31,10 +31,11 @@ impl Read for BrokenReader {
     }
 }
 
-/// Takes some bytes, one at a time, and then fails; a flush fails where no room is left.
+/// Keeps some bytes, one at a time, and then fails; a flush fails where no room is left.
 #[derive(Drop)]
 struct BrokenWriter {
     room: usize,
+    kept: Vec<u8>,
 }
 
 impl Write for BrokenWriter {
@@ -42,9 +43,12 @@ impl Write for BrokenWriter {
         if self.room == 0 {
             return Err(io::Error::from(io::ErrorKind::BrokenPipe));
         }
-        let count = buf.len().min(1);
-        self.room -= count;
-        Ok(count)
+        let Some(first) = buf.first() else {
+            return Ok(0);
+        };
+        self.kept.push(*first)?;
+        self.room -= 1;
+        Ok(1)
     }
 
     fn flush(&mut self) -> io::Result<()> {
@@ -106,7 +110,8 @@ fn a_read_fails(rt: HostRuntime) -> Result<(), Fail> {
     reads(&rt, alloc, name, ("simplified", fails(0)), (2, USAGE))
 }
 
-/// With a writer of so much room, the answer to an empty line ends with this status, and this is told.
+/// With a writer of so much room, the answer to an empty line ends with this status, and this is told. The writer holds as much of
+/// the answer as it has room for, and nothing else.
 fn writes(
     rt: &impl Abort,
     alloc: Global,
@@ -116,7 +121,10 @@ fn writes(
 ) -> Result<(), Fail> {
     let words = words(alloc, &["simplify"])?;
     let mut input = b"\n".as_slice();
-    let mut output = BrokenWriter { room };
+    let mut output = BrokenWriter {
+        room,
+        kept: Vec::new(alloc),
+    };
     let mut errors = Vec::new(alloc);
     let status = serve(
         alloc,
@@ -125,7 +133,10 @@ fn writes(
         &mut output,
         &mut errors,
     );
+    let answer = b"none\n".as_slice();
+    let kept = &answer[..room.min(5)];
     equal(rt, status, wanted, name, "the status");
+    equal(rt, output.kept.as_slice(), kept, name, "the output");
     equal(rt, errors.as_slice(), told.as_bytes(), name, "what is told");
     Ok(())
 }
@@ -146,7 +157,10 @@ fn tells(rt: &impl Abort, alloc: Global, word: &str, text: &str, wanted: u8) -> 
     for room in [0, 3] {
         let mut input = text.as_bytes();
         let mut output = Vec::new(alloc);
-        let mut errors = BrokenWriter { room };
+        let mut errors = BrokenWriter {
+            room,
+            kept: Vec::new(alloc),
+        };
         let status = serve(
             alloc,
             words.as_slice(),
