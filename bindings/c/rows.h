@@ -1,7 +1,8 @@
 /* Worked contours, and what is left of each. */
-enum { MOST = 8, CLEANERS = 3 };
+enum { MOST = 8, CLEANERS = 3, POLYGON_CLEANERS = 4 };
 
 static const char *const cleaner_names[CLEANERS] = {"simplify", "despike", "canonical"};
+static const char *const polygon_cleaner_names[POLYGON_CLEANERS] = {"simplify", "despike", "canonical", "canonical_unoriented"};
 
 struct left {
     size_t count;
@@ -60,11 +61,13 @@ struct polygons {
     size_t contours[5], shapes[4];
 };
 
-static const struct polygons polygons_left[CLEANERS] = {
+static const struct polygons polygons_left[POLYGON_CLEANERS] = {
     {{{10, 0}, {10, 10}, {0, 10}, {0, 0}, {8, 6}, {6, 6}, {6, 8}, {2, 4}, {4, 2}, {2, 2}, {0, -4}, {4, 0}, {-4, 0}},
      {0, 4, 7, 10, 13}, {0, 3, 3, 4}},
     {{{10, 0}, {10, 10}, {0, 10}, {0, 0}, {5, 0}, {8, 6}, {6, 6}, {6, 8}, {7, 7}, {2, 4}, {4, 2}, {2, 2}, {0, -4}, {4, 0}, {-4, 0}},
      {0, 5, 9, 12, 15}, {0, 3, 3, 4}},
     {{{-4, 0}, {0, -4}, {4, 0}, {0, 0}, {10, 0}, {10, 10}, {0, 10}, {2, 2}, {2, 4}, {4, 2}, {6, 6}, {6, 8}, {8, 6}},
+     {0, 3, 7, 10, 13}, {0, 0, 1, 4}},
+    {{{-4, 0}, {0, -4}, {4, 0}, {0, 0}, {0, 10}, {10, 10}, {10, 0}, {2, 2}, {2, 4}, {4, 2}, {6, 6}, {6, 8}, {8, 6}},
      {0, 3, 7, 10, 13}, {0, 0, 1, 4}},
 };

@@ -89,7 +89,7 @@ class Answers(unittest.TestCase):
             counts = [numbers.choice([0, 0, 3, 10, 500]) for _ in range(300)]
             offsets = np.concatenate([[7], 7 + np.cumsum(counts)])
             for parts in range(2, 9):
-                cuts = _rings._cuts(offsets, parts)
+                cuts = _rings.equal_cuts(offsets, parts)
                 self.assertEqual((cuts[0], cuts[-1], len(cuts)),
                                  (0, 300, parts + 1))
                 work = np.diff(offsets[cuts]) + np.diff(cuts)

@@ -85,7 +85,7 @@ def _calls(bits: int, number: Any, area: Any) -> Calls:
               for name in cleaners},
         polygons={name: _call(f"i_shape_{name}_shapes_i{bits}",
                               ctypes.c_ssize_t, *array * 6)
-                  for name in cleaners},
+                  for name in (*cleaners, "canonical_unoriented")},
         test={name: _call(f"i_shape_{name}_i{bits}", ctypes.c_int32, *array)
               for name in tests},
         contains=_call(f"i_shape_contains_i{bits}", ctypes.c_int32, *array,

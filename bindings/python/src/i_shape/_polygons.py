@@ -1,9 +1,6 @@
 """Polygons: rings with offsets of their own.
 
-On one thread they are cleaned whole by one call of the library. On more
-threads the library cleans the rings, and what is done with them here, the
-rule of polygons and their forms, is tested and not proved. So are forms
-whichever way round.
+The library cleans them whole, by one call for each thread.
 """
 
 from __future__ import annotations
@@ -13,9 +10,9 @@ from typing import Any, NamedTuple, Tuple, TypeVar
 import numpy as np
 import numpy.typing as npt
 
-from ._library import (CALLS, Array, address, as_offsets, as_points,
-                       as_threads, raise_offsets)
-from ._rings import Rings, clean_rings, raise_codes
+from ._library import (CALLS, Array, address, as_offsets, as_parts, as_points,
+                       as_threads, raise_offsets, run_parts)
+from ._rings import equal_cuts, raise_codes
 
 Int = TypeVar("Int", np.int16, np.int32, np.int64)
 
@@ -34,30 +31,6 @@ class Polygons(NamedTuple):
     points: npt.NDArray[Any]
     ring_offsets: npt.NDArray[np.int64]
     polygon_offsets: npt.NDArray[np.int64]
-
-
-def _ends(counts: Array) -> Array:
-    """The offsets of parts that have so many items."""
-    ends = np.zeros(len(counts) + 1, np.int64)
-    np.cumsum(counts, out=ends[1:])
-    return ends
-
-
-def _gather(rings: Rings, order: Array) -> Rings:
-    """The rings at some places, end to end."""
-    counts = np.diff(rings.offsets)[order]
-    ends = _ends(counts)
-    moves = rings.offsets[:-1][order] - ends[:-1]
-    rows = np.repeat(moves, counts) + np.arange(ends[-1])
-    return Rings(rings.points[rows], ends)
-
-
-def _reversed(rings: Rings) -> Rings:
-    """Each ring backwards."""
-    starts, ends = rings.offsets[:-1], rings.offsets[1:]
-    rows = np.repeat(starts + ends - 1, ends - starts)
-    rows -= np.arange(rings.offsets[-1])
-    return Rings(rings.points[rows], rings.offsets)
 
 
 class _Given(NamedTuple):
@@ -82,43 +55,61 @@ def _given(points: Any, ring_offsets: Any, polygon_offsets: Any) -> _Given:
     return _Given(points, rings[start:end + 1], parts - start, start)
 
 
-def _clean_by_call(cleaner: str, given: _Given) -> Polygons:
-    """Clean the polygons by one call of the library."""
-    first, last = int(given.rings[0]), int(given.rings[-1])
-    if not 0 <= first <= last <= len(given.points):
-        raise_offsets(given.rings, len(given.points), "ring_offsets",
-                      before=given.before)
-    points, rings = given.points[first:last], given.rings - first
-    out, ends, parts = (np.empty_like(points), np.empty_like(rings),
-                        np.empty_like(given.parts))
-    arrays = (points, rings, given.parts, out, ends, parts)
-    count = CALLS[points.itemsize].polygons[cleaner](
-        *(word for array in arrays for word in (address(array), len(array))))
-    raise_codes([count], given.points, given.rings, "ring_offsets",
-                given.before)
-    ring_count = int(parts[count])
-    return Polygons(out[:int(ends[ring_count])].copy(),
-                    ends[:ring_count + 1].copy(), parts[:count + 1].copy())
+def _part(given: _Given, start: int, end: int) -> _Given:
+    """The polygons from one place to another."""
+    parts = given.parts[start:end + 1]
+    first, last = int(parts[0]), int(parts[-1])
+    return _Given(given.points, given.rings[first:last + 1], parts - first,
+                  given.before + first)
 
 
-def _clean_polygons(cleaner: str, given: _Given, threads: int) -> Polygons:
-    """Clean each ring, and leave out what collapses.
+def _clean_part(cleaner: str, given: _Given) -> tuple[int, Polygons]:
+    """Clean the polygons by one call of the library.
 
-    A hole that does, and a polygon whose outer ring does.
+    It answers how many are left, or a code, and the arrays with their room.
     """
-    parts = given.parts
-    rings = clean_rings(cleaner, given.points, given.rings, threads,
-                        "ring_offsets", given.before)
-    is_ring_left = rings.offsets[1:] > rings.offsets[:-1]
-    has_outer = parts[1:] > parts[:-1]
-    is_left = ~has_outer
-    is_left[has_outer] = is_ring_left[parts[:-1][has_outer]]
-    is_ring_left &= np.repeat(is_left, np.diff(parts))
-    rings_before = _ends(is_ring_left)
-    counts = np.diff(rings_before[parts])[is_left]
-    if not is_ring_left.all():
-        rings = _gather(rings, np.flatnonzero(is_ring_left))
-    return Polygons(rings.points, rings.offsets, _ends(counts))
+    first, last = int(given.rings[0]), int(given.rings[-1])
+    points, rings = given.points[first:last], given.rings - first
+    out = Polygons(np.empty_like(points), np.empty_like(rings),
+                   np.empty_like(given.parts))
+    arrays = (points, rings, given.parts, *out)
+    count: int = CALLS[points.itemsize].polygons[cleaner](
+        *(word for array in arrays for word in (address(array), len(array))))
+    return count, out
+
+
+def _end_to_end(answers: list[tuple[int, Polygons]]) -> Polygons:
+    """The polygons of some answers, in new arrays of their own length."""
+    points, rings, parts = [], [np.zeros(1, np.int64)], [np.zeros(1, np.int64)]
+    point_count = ring_count = 0
+    for count, out in answers:
+        its_parts = out.polygon_offsets[:count + 1]
+        its_rings = out.ring_offsets[:int(its_parts[-1]) + 1]
+        points.append(out.points[:int(its_rings[-1])])
+        rings.append(its_rings[1:] + point_count)
+        parts.append(its_parts[1:] + ring_count)
+        point_count += int(its_rings[-1])
+        ring_count += int(its_parts[-1])
+    return Polygons(np.concatenate(points), np.concatenate(rings),
+                    np.concatenate(parts))
+
+
+def _clean_polygons(cleaner: str, given: _Given, parts: int) -> Polygons:
+    """Clean the polygons, parted among so many threads."""
+    rings, count = given.rings, len(given.points)
+    if (not 0 <= rings[0] <= rings[-1] <= count
+            or parts > 1 and (rings[1:] < rings[:-1]).any()):
+        raise_offsets(rings, count, "ring_offsets", before=given.before)
+    cuts = [0, len(given.parts) - 1]
+    if parts > 1:
+        cuts = equal_cuts(rings[given.parts], parts)
+    answers = run_parts(
+        lambda part: _clean_part(cleaner,
+                                 _part(given, cuts[part], cuts[part + 1])),
+        len(cuts) - 1)
+    raise_codes([left for left, _ in answers], given.points, rings,
+                "ring_offsets", given.before)
+    return _end_to_end(answers)
 
 
 def simplify_polygons(points: npt.NDArray[Int], ring_offsets: npt.ArrayLike,
@@ -129,9 +120,8 @@ def simplify_polygons(points: npt.NDArray[Int], ring_offsets: npt.ArrayLike,
     A polygon whose outer ring collapses is left out, and so are holes that
     collapse. A polygon without rings stays as it is.
 
-    On one thread the answer is that of a proved call. On more, each ring is
-    cleaned by a proved call, and that the right rings are left out is tested
-    and not proved.
+    The answer is that of a proved call, or of one for each thread, end to
+    end.
 
     Parameters
     ----------
@@ -172,23 +162,8 @@ def simplify_polygons(points: npt.NDArray[Int], ring_offsets: npt.ArrayLike,
     ([0, 4, 7], [0, 2])
     """
     given = _given(points, ring_offsets, polygon_offsets)
-    if as_threads(threads) == 1:
-        return _clean_by_call("simplify", given)
-    return _clean_polygons("simplify", given, threads)
-
-
-def _keys(rings: Rings) -> list[bytes]:
-    """Texts of the rings that are in order as their lists of points are.
-
-    Coordinates are moved above 0 and written with the highest byte first,
-    so that bytes are in order as numbers are. A list that another one
-    begins with comes before it, in both.
-    """
-    size = rings.points.itemsize
-    numbers = rings.points.view(f"u{size}") ^ (1 << (8 * size - 1))
-    text = numbers.astype(f">u{size}").tobytes()
-    ends = (rings.offsets * (2 * size)).tolist()
-    return [text[start:end] for start, end in zip(ends, ends[1:])]
+    parts = as_parts(threads, len(given.parts) - 1)
+    return _clean_polygons("simplify", given, parts)
 
 
 def canonical_polygons(points: npt.NDArray[Int], ring_offsets: npt.ArrayLike,
@@ -207,9 +182,7 @@ def canonical_polygons(points: npt.NDArray[Int], ring_offsets: npt.ArrayLike,
     or polygons are put in another order; a hole that collapses, or a
     polygon whose outer ring does, goes or comes.
 
-    On one thread, and with ``oriented``, the answer is that of a proved
-    call. Otherwise the canonical forms of the rings are, and the sorting
-    around them is tested and not proved.
+    The answer is that of a proved call.
 
     Parameters
     ----------
@@ -221,7 +194,8 @@ def canonical_polygons(points: npt.NDArray[Int], ring_offsets: npt.ArrayLike,
         False lets a ring be read backwards too: its form is then the least
         of those of both ways.
     threads : int
-        As for :func:`simplify_rings`.
+        At least 1. One thread makes the form, however many are allowed: to
+        put the forms of parts in order takes longer.
 
     Returns
     -------
@@ -247,32 +221,9 @@ def canonical_polygons(points: npt.NDArray[Int], ring_offsets: npt.ArrayLike,
     [0, 3, 7]
     """
     given = _given(points, ring_offsets, polygon_offsets)
-    if oriented and as_threads(threads) == 1:
-        return _clean_by_call("canonical", given)
-    left = _clean_polygons("canonical", given, threads)
-    rings = Rings(left.points, left.ring_offsets)
-    keys = _keys(rings)
-    if not oriented:
-        back = clean_rings("canonical", *_reversed(rings), threads)
-        both = Rings(np.concatenate([rings.points, back.points]),
-                     _ends(np.tile(np.diff(rings.offsets), 2)))
-        choice = np.arange(len(keys))
-        for place, key in enumerate(_keys(back)):
-            if key < keys[place]:
-                keys[place] = key
-                choice[place] += len(keys)
-        rings = _gather(both, choice)
-    ends = left.polygon_offsets.tolist()
-    polygons = []
-    for start, end in zip(ends, ends[1:]):
-        places = list(range(start, end))
-        places[1:] = sorted(places[1:], key=keys.__getitem__)
-        polygons.append(([keys[place] for place in places], places))
-    polygons.sort()
-    order = [place for _, places in polygons for place in places]
-    rings = _gather(rings, np.array(order, np.int64))
-    counts = np.array([len(places) for _, places in polygons], np.int64)
-    return Polygons(rings.points, rings.offsets, _ends(counts))
+    cleaner = "canonical" if oriented else "canonical_unoriented"
+    as_threads(threads)
+    return _clean_polygons(cleaner, given, 1)
 
 
 def same_polygons(a: Triple, b: Triple, oriented: bool = True,
@@ -280,7 +231,7 @@ def same_polygons(a: Triple, b: Triple, oriented: bool = True,
     """Return whether two lists of polygons are the same.
 
     They are where their canonical forms are equal, of which
-    :func:`canonical_polygons` tells, and what of them is proved.
+    :func:`canonical_polygons` tells.
 
     Parameters
     ----------
@@ -289,7 +240,7 @@ def same_polygons(a: Triple, b: Triple, oriented: bool = True,
     oriented : bool
         False lets a ring be read backwards too.
     threads : int
-        As for :func:`simplify_rings`.
+        At least 1. With more, each of the two forms has a thread.
 
     Returns
     -------
@@ -313,6 +264,11 @@ def same_polygons(a: Triple, b: Triple, oriented: bool = True,
     >>> same_polygons(a, (b[0][::-1], *b[1:]), oriented=False)
     True
     """
-    forms = [canonical_polygons(*polygons, oriented=oriented, threads=threads)
-             for polygons in (a, b)]
+    def form(place: int) -> Polygons:
+        return canonical_polygons(*(a, b)[place], oriented=oriented)
+
+    if as_parts(threads, 2) == 1:
+        forms = [form(0), form(1)]
+    else:
+        forms = run_parts(form, 2)
     return all(np.array_equal(one, other) for one, other in zip(*forms))

@@ -40,7 +40,7 @@ def _clean_part(call: Any, points: Array, offsets: Array,
     return left, ends
 
 
-def _cuts(offsets: Array, parts: int) -> list[int]:
+def equal_cuts(offsets: Array, parts: int) -> list[int]:
     """The rings at which to part the work: equal sums of points and rings."""
     work = offsets + np.arange(len(offsets))
     whole = int(work[-1]) - int(work[0])
@@ -50,8 +50,12 @@ def _cuts(offsets: Array, parts: int) -> list[int]:
 
 
 def raise_codes(codes: list[int], points: Array, offsets: Array,
-                 name: str, before: int) -> None:
-    """Raise what one call on all the rings would have."""
+                name: str = "offsets", before: int = 0) -> None:
+    """Raise what one call on all the rings would have.
+
+    The error calls the offsets by ``name``, and counts them and the rings
+    from ``before`` on.
+    """
     if UNFIT in codes:
         raise_offsets(offsets, len(points), name, before=before)
     if UNSAFE in codes:
@@ -69,27 +73,23 @@ def raise_codes(codes: list[int], points: Array, offsets: Array,
         raise_code(NO_MEMORY, points)
 
 
-def clean_rings(cleaner: str, points: Any, offsets: Any, threads: Any,
-                name: str = "offsets", before: int = 0) -> Rings:
-    """Clean each ring.
-
-    An error calls the offsets by ``name``, and counts them and the rings
-    from ``before`` on.
-    """
+def _clean_rings(cleaner: str, points: Any, offsets: Any,
+                 threads: Any) -> Rings:
+    """Clean each ring."""
     points = as_points(points)
-    offsets = as_offsets(offsets, name)
+    offsets = as_offsets(offsets)
     parts = as_parts(threads, len(offsets) - 1)
     start, end = int(offsets[0]), int(offsets[-1])
     if (not 0 <= start <= end <= len(points)
             or parts > 1 and (offsets[1:] < offsets[:-1]).any()):
-        raise_offsets(offsets, len(points), name, before=before)
+        raise_offsets(offsets, len(points))
     call = CALLS[points.itemsize].many[cleaner]
     out = np.empty((end - start, 2), points.dtype)
     if parts == 1:
         total, ends = _clean_part(call, points, offsets, out)
-        raise_codes([total], points, offsets, name, before)
+        raise_codes([total], points, offsets)
     else:
-        cuts = _cuts(offsets, parts)
+        cuts = equal_cuts(offsets, parts)
         starts = (offsets[cuts] - start).tolist()
 
         def clean_part(part: int) -> tuple[int, Array]:
@@ -98,8 +98,7 @@ def clean_rings(cleaner: str, points: Any, offsets: Any, threads: Any,
                                out[starts[part]:starts[part + 1]])
 
         answers = run_parts(clean_part, parts)
-        raise_codes([left for left, _ in answers], points, offsets, name,
-                    before)
+        raise_codes([left for left, _ in answers], points, offsets)
         # What the parts have left is moved together, from the front on.
         ends = np.empty(offsets.shape, np.int64)
         ends[0] = total = 0
@@ -169,7 +168,7 @@ def simplify_rings(points: npt.NDArray[Int], offsets: npt.ArrayLike,
     >>> left.offsets.tolist()
     [0, 4, 4]
     """
-    return clean_rings("simplify", points, offsets, threads)
+    return _clean_rings("simplify", points, offsets, threads)
 
 
 def despike_rings(points: npt.NDArray[Int], offsets: npt.ArrayLike,
@@ -201,7 +200,7 @@ def despike_rings(points: npt.NDArray[Int], offsets: npt.ArrayLike,
     >>> despike_rings(points, [0, 6]).offsets.tolist()
     [0, 4]
     """
-    return clean_rings("despike", points, offsets, threads)
+    return _clean_rings("despike", points, offsets, threads)
 
 
 def canonical_rings(points: npt.NDArray[Int], offsets: npt.ArrayLike,
@@ -233,4 +232,4 @@ def canonical_rings(points: npt.NDArray[Int], offsets: npt.ArrayLike,
     >>> canonical_rings(points, [0, 5]).points.tolist()
     [[0, 0], [4, 0], [4, 4], [0, 4]]
     """
-    return clean_rings("canonical", points, offsets, threads)
+    return _clean_rings("canonical", points, offsets, threads)

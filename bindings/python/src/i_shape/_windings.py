@@ -77,7 +77,7 @@ def _raise(code: int, points: Array, offsets: Array, about: Array) -> None:
     if place is not None:
         raise UnsafePointError(
             unsafe_text(f"about[{place}]", about[place], about.dtype))
-    raise_codes([code], points, offsets, "offsets", 0)
+    raise_codes([code], points, offsets)
 
 
 def winding_numbers(contours: Contours[Int], about: npt.NDArray[Int],
