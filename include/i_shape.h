@@ -88,7 +88,7 @@ typedef struct { uint64_t low, high; } i_shape_halves;
     I_SHAPE_CLEAN_SHAPES(despike, W)   /* a contour that has no spikes stays as it is */ \
     I_SHAPE_CLEAN_SHAPES(canonical, W) /* the holes of each polygon sorted, and then the polygons: equal arrays are the same polygons */ \
     I_SHAPE_CLEAN_SHAPES(canonical_unoriented, W) /* the same where a contour may be read backwards too: the lesser of the forms of both ways */ \
-    /* Tests. They answer 1 or 0, I_SHAPE_UNSAFE or I_SHAPE_NO_MEMORY. */ \
+    /* Tests. They answer 1 or 0, or I_SHAPE_UNSAFE, and take no memory. */ \
     I_SHAPE_TEST(is_simple, W)      /* at least three points, and no zero turn */ \
     I_SHAPE_TEST(has_no_spikes, W)  /* at least three points without those equal to the one before, and the way over them nowhere goes back */ \
     I_SHAPE_TEST(is_convex, W)      /* at most two points without those equal to the one before, or the way over them nowhere goes back or bends to both sides */ \

@@ -254,10 +254,10 @@ static void AT(test_refusals)(void) {
         WITH_EACH_GROWTH_REFUSED(AT(batches)[k](given, 10, few, 4, out, 10, out_offsets, 4), 1, growths == 0, W, cleaner_names[k]);
         WITH_EACH_GROWTH_REFUSED(AT(batches)[k](given, 10, none, 1, out, 10, out_offsets, 1), 1, growths == 0, W, cleaner_names[k]);
     }
-    WITH_EACH_GROWTH_REFUSED(CALL(is_simple)(given, 10), 1, growths == 1, W, "is_simple");
-    WITH_EACH_GROWTH_REFUSED(CALL(has_no_spikes)(given, 10), 1, growths == 1, W, "has_no_spikes");
-    WITH_EACH_GROWTH_REFUSED(CALL(is_convex)(given, 10), 1, growths == 1, W, "is_convex");
-    WITH_EACH_GROWTH_REFUSED(CALL(contains)(given, 10, 1, 1), 1, growths == 1, W, "contains");
+    WITH_EACH_GROWTH_REFUSED(CALL(is_simple)(given, 10), 1, growths == 0, W, "is_simple");
+    WITH_EACH_GROWTH_REFUSED(CALL(has_no_spikes)(given, 10), 1, growths == 0, W, "has_no_spikes");
+    WITH_EACH_GROWTH_REFUSED(CALL(is_convex)(given, 10), 1, growths == 0, W, "is_convex");
+    WITH_EACH_GROWTH_REFUSED(CALL(contains)(given, 10, 1, 1), 1, growths == 0, W, "contains");
     ptrdiff_t number;
     WITH_EACH_GROWTH_REFUSED(CALL(winding)(square, 4, 1, 1), 1, growths == 0, W, "winding");
     WITH_EACH_GROWTH_REFUSED(CALL(windings)(given, 10, offsets, 3, square, 1, &number, 1), 1, growths == 0, W, "windings");

@@ -8,10 +8,8 @@ IsTold Holds (pos (suc zero)) = Holds
 IsTold Holds (pos (suc (suc n))) = ⊥
 IsTold Holds (negsuc n) = ⊥
 
--- the same, or the code of points that aren't safe or of memory
+-- the same, or the code of points that aren't safe
 abbrev pub TestAnswer : Type 0 → ℤ → Type 0
 TestAnswer Holds (pos n) = IsTold Holds (pos n)
 TestAnswer Holds (negsuc zero) = Unit {0}
-TestAnswer Holds (negsuc (suc zero)) = ⊥
-TestAnswer Holds (negsuc (suc (suc zero))) = Unit {0}
-TestAnswer Holds (negsuc (suc (suc (suc n)))) = ⊥
+TestAnswer Holds (negsuc (suc n)) = ⊥

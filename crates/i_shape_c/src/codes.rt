@@ -12,9 +12,6 @@ pub const NO_MEMORY: isize = -3;
 /// `UNSAFE` as a test answers it.
 pub const UNSAFE_TEST: i32 = -1;
 
-/// `NO_MEMORY` as a test answers it.
-pub const NO_MEMORY_TEST: i32 = -3;
-
 /// `UNFIT` as the winding numbers of many points answer it.
 pub const UNFIT_TEST: i32 = -2;
 

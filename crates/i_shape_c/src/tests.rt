@@ -1,4 +1,4 @@
-//! The tests of a contour, at any width. Each answers 1 or 0, or a code below 0.
+//! The tests of a contour, at any width. Each answers 1 or 0, or a code below 0, and takes no memory.
 
 ghost use Rattle.std.specs.Prelude.{◌≡◌, ◌↔◌, List, map, IsTrue};
 ghost use Rattle.std.specs.List.{All};
@@ -10,16 +10,14 @@ ghost use Rattle.i_shape.specs.Point.{Point};
 ghost use Rattle.i_shape_c.specs.Cleaned.{AreSafe, unsafe_code};
 ghost use Rattle.i_shape_c.specs.Tests.{IsTold, TestAnswer};
 
-use crate::codes::{NO_MEMORY_TEST, UNSAFE_TEST};
-use crate::lists::{are_safe, copy_in};
+use crate::codes::UNSAFE_TEST;
+use crate::lists::are_safe;
 use crate::point::CPoint;
 use i_shape::IntNumber;
-use i_shape::int::IntPoint;
-use i_shape::int::despike::DeSpikeContour;
-use i_shape::int::shape::IntContour;
-use i_shape::int::simple::SimpleContour;
-use i_shape_core::contour::ContourExtension;
-use std::alloc::Global;
+use i_shape::int::{ContourPoint, IntPoint};
+use i_shape_core::contour::{contains_point, is_convex};
+use i_shape_core::despike::has_no_spikes;
+use i_shape_core::simple::is_simple;
 
 /// A test of a contour of safe points.
 pub trait ContourTest<I: IntNumber>: Copy {
@@ -29,10 +27,10 @@ pub trait ContourTest<I: IntNumber>: Copy {
     /// What is told of a contour.
     ghost holds: { Self → List Point → Type 0 };
 
-    fn test(self, contour: &IntContour<I>) -> bool
+    fn test<P: ContourPoint<Coordinate = I>>(self, contour: &[P]) -> bool
         requires can { can_test self }
-        requires points_safe { All (IsSafe I.width) (contour_of I.value contour.now.items) }
-        ensures { IsTrue result ↔ holds self (contour_of I.value contour.now.items) };
+        requires points_safe { All (IsSafe I.width) (contour_of I.value (P.points contour.now)) }
+        ensures { IsTrue result ↔ holds self (contour_of I.value (P.points contour.now)) };
 }
 
 /// Whether there are at least three points, and none of them is a zero turn.
@@ -44,8 +42,8 @@ impl<I: IntNumber> ContourTest<I> for Simple {
 
     ghost holds = { λ test. IsSimple };
 
-    fn test(self, contour: &IntContour<I>) -> bool {
-        contour.as_slice().is_simple()
+    fn test<P: ContourPoint<Coordinate = I>>(self, contour: &[P]) -> bool {
+        is_simple(contour)
     }
 }
 
@@ -58,8 +56,8 @@ impl<I: IntNumber> ContourTest<I> for Spikeless {
 
     ghost holds = { λ test. NoSpikes };
 
-    fn test(self, contour: &IntContour<I>) -> bool {
-        contour.has_no_spikes()
+    fn test<P: ContourPoint<Coordinate = I>>(self, contour: &[P]) -> bool {
+        has_no_spikes(contour)
     }
 }
 
@@ -72,8 +70,8 @@ impl<I: IntNumber> ContourTest<I> for Bulging {
 
     ghost holds = { λ test. Convex };
 
-    fn test(self, contour: &IntContour<I>) -> bool {
-        contour.as_slice().is_convex()
+    fn test<P: ContourPoint<Coordinate = I>>(self, contour: &[P]) -> bool {
+        is_convex(contour)
     }
 }
 
@@ -88,17 +86,13 @@ impl<I: IntNumber> ContourTest<I> for Around<I> {
 
     ghost holds = { λ test c. Inside c (point_of I.value test.point) };
 
-    fn test(self, contour: &IntContour<I>) -> bool {
-        contour.as_slice().contains_point(self.point)
+    fn test<P: ContourPoint<Coordinate = I>>(self, contour: &[P]) -> bool {
+        contains_point(contour, self.point)
     }
 }
 
 /// The answer of a test of the points.
-pub fn test_contour<P: CPoint, T: ContourTest<P::Coordinate>>(
-    alloc: Global,
-    points: &[P],
-    test: T,
-) -> i32
+pub fn test_contour<P: CPoint, T: ContourTest<P::Coordinate>>(points: &[P], test: T) -> i32
     requires { T.can_test test }
     ensures answer { TestAnswer (T.holds test (map (λ p. point_of P.Coordinate.value (P.point p)) points.now)) result }
     ensures unsafe_points { result ≡ unsafe_code ↔ (AreSafe P.Coordinate.width (λ p. point_of P.Coordinate.value (P.point p)) points.now → ⊥) }
@@ -106,15 +100,11 @@ pub fn test_contour<P: CPoint, T: ContourTest<P::Coordinate>>(
     if !are_safe(points) {
         return UNSAFE_TEST;
     }
-    let mut copy = Vec::new(alloc);
-    let Ok(()) = copy_in(points, &mut copy) else {
-        return NO_MEMORY_TEST;
-    };
-    if test.test(&copy) { 1 } else { 0 }
+    if test.test(points) { 1 } else { 0 }
 }
 
 /// Whether the point is inside the contour.
-pub fn contains<P: CPoint>(alloc: Global, points: &[P], given: P) -> i32
+pub fn contains<P: CPoint>(points: &[P], given: P) -> i32
     ensures answer { TestAnswer (Inside (map (λ p. point_of P.Coordinate.value (P.point p)) points.now) (point_of P.Coordinate.value (P.point given))) result }
     ensures unsafe_points { result ≡ unsafe_code ↔ ((AreSafe P.Coordinate.width (λ p. point_of P.Coordinate.value (P.point p)) points.now × IsSafe P.Coordinate.width (point_of P.Coordinate.value (P.point given))) → ⊥) }
 {
@@ -122,7 +112,7 @@ pub fn contains<P: CPoint>(alloc: Global, points: &[P], given: P) -> i32
     if !point.is_in_safe_range() {
         return UNSAFE_TEST;
     }
-    test_contour(alloc, points, Around { point })
+    test_contour(points, Around { point })
 }
 
 /// Whether each point is safe. It takes no memory.

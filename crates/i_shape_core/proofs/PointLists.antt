@@ -1,6 +1,7 @@
 -- Lists of a caller's points, read as lists of the library's.
-use Rattle.std.proofs.Common.{◌≡◌, ◌∙◌, ℕ, ◌<◌, List, [], ◌∷◌, ◌++◌, map, take, drop, length, get_or, sym, ap}
-use Rattle.std.proofs.lemmas.List.{get_or-map, length-map, map-append, take-map, drop-map}
+use Rattle.std.proofs.Common.{◌≡◌, ◌∙◌, ℕ, ◌<◌, List, [], ◌∷◌, ◌++◌, map, take, drop, length, get_or, reverse, Bool, true, false, cond, Some, option_map, refl, sym, ap, ap₂}
+use Rattle.std.specs.List.{find}
+use Rattle.std.proofs.lemmas.List.{get_or-map, length-map, map-append, take-map, drop-map, reverse-append}
 
 -- what is made of each item of a list that starts at another place
 pub map-turned : {A B : Type 0} (f : A → B) (k : ℕ) (list : List A) → map f (drop k list ++ take k list) ≡ drop k (map f list) ++ take k (map f list)
@@ -26,3 +27,38 @@ module _ {A B : Type 0} (point : A → B) (points : List A → List B) (each : (
   -- the same list, started at another place
   pub points-turned : (list turned : List A) (k : ℕ) → turned ≡ drop k list ++ take k list → points turned ≡ drop k (points list) ++ take k (points list)
   points-turned list turned k e = ap points e ∙ each (drop k list ++ take k list) ∙ map-turned point k list ∙ ap (λ l. drop k l ++ take k l) (sym (each list))
+
+  -- the first ones, and the others
+  pub points-take : (list front : List A) (n : ℕ) → front ≡ take n list → points front ≡ take n (points list)
+  points-take list front n e = ap points e ∙ each (take n list) ∙ sym (take-map point n list) ∙ ap (take n) (sym (each list))
+
+  pub points-drop : (list rest : List A) (n : ℕ) → rest ≡ drop n list → points rest ≡ drop n (points list)
+  points-drop list rest n e = ap points e ∙ each (drop n list) ∙ sym (drop-map point n list) ∙ ap (drop n) (sym (each list))
+
+  -- two lists end to end
+  pub points-append : (whole front back : List A) → whole ≡ front ++ back → points whole ≡ points front ++ points back
+  points-append whole front back e = ap points e ∙ each (front ++ back) ∙ map-append point front back ∙ ap₂ (λ (l m : List B). l ++ m) (sym (each front)) (sym (each back))
+
+  -- a point that was read at a place, as the library's
+  pub points-item : (list : List A) (k : ℕ) (a : A) (b : B) → b ≡ point a → k < length list → a ≡ get_or list k a → b ≡ get_or (points list) k b
+  points-item list k a b is within e = rw is (points-at list k a within e)
+
+-- what is made of each item of a list read backwards
+pub map-reversed : {A B : Type 0} (f : A → B) (list : List A) → map f (reverse list) ≡ reverse (map f list)
+map-reversed f [] = refl
+map-reversed f (a ∷ list) =
+    ap (map f) (reverse-append (a ∷ []) list) ∙ map-append f (reverse list) (a ∷ []) ∙ ap (λ l. l ++ f a ∷ []) (map-reversed f list) ∙ sym (reverse-append (f a ∷ []) (map f list))
+
+-- the first item of a list made of another that passes a test is made of the first that does
+find-map : {A B : Type 0} (f : A → B) (q : B → Bool) (list : List A) → find q (map f list) ≡ option_map f (find (λ a. q (f a)) list)
+find-map f q [] = refl
+find-map f q (a ∷ list) = go (q (f a)) (find-map f q list)
+  where
+    go : (t : Bool) → find q (map f list) ≡ option_map f (find (λ b. q (f b)) list) → cond t (Some (f a)) (find q (map f list)) ≡ option_map f (cond t (Some a) (find (λ b. q (f b)) list))
+    go true later = refl
+    go false later = later
+
+module _ {A B : Type 0} (point : A → B) (points : List A → List B) (each : (list : List A) → points list ≡ map point list) where
+  -- the last point that passes a test
+  pub points-found : (q : B → Bool) (list : List A) → find q (reverse (points list)) ≡ option_map point (find (λ a. q (point a)) (reverse list))
+  points-found q list = ap (λ l. find q (reverse l)) (each list) ∙ ap (find q) (sym (map-reversed point list)) ∙ find-map point q (reverse list)

@@ -7,7 +7,7 @@ ghost use Rattle.i_shape_core.specs.IntPoint.{contour_of};
 ghost use Rattle.i_shape_core.specs.Edges.{shoelace};
 
 use crate::number::{IntNumber, WideIntNumber};
-use crate::point::IntPoint;
+use crate::point::{ContourPoint, IntPoint};
 
 /// The double area of the points that an iterator has left.
 pub trait UnsafeArea<I: IntNumber>: Iterator<Item = IntPoint<I>> + Sized {
@@ -64,16 +64,19 @@ impl<I: IntNumber, T: Iterator<Item = IntPoint<I>>> IteratorArea<I> for T {
 
 /// The double area of the contour of the points, above zero where it is wound counter-clockwise, and zero where there are none. No
 /// safe range is asked: a sum that doesn't fit wraps. One pass; it takes no memory.
-pub fn area_of<I: IntNumber>(points: &[IntPoint<I>]) -> I::Wide
-    ensures { I.Wide.value result ≡ int_wrap I.Wide.width (shoelace (contour_of I.value points.now)) }
+pub fn area_of<P: ContourPoint>(points: &[P]) -> <P::Coordinate as IntNumber>::Wide
+    ensures { P.Coordinate.Wide.value result ≡ int_wrap P.Coordinate.Wide.width (shoelace (contour_of P.Coordinate.value (P.points points.now))) }
 {
     if points.is_empty() {
-        return I::Wide::ZERO;
+        return <P::Coordinate as IntNumber>::Wide::ZERO;
     }
     let last = points.len() - 1;
-    let mut sum = I::Wide::ZERO;
+    let mut sum = <P::Coordinate as IntNumber>::Wide::ZERO;
     for place in 0..last {
-        sum = sum.wrapping_add(points[place].cross_product(points[place + 1]));
+        let start = points[place].to_point();
+        let end = points[place + 1].to_point();
+        sum = sum.wrapping_add(start.cross_product(end));
     }
-    sum.wrapping_add(points[last].cross_product(points[0]))
+    let end = points[last].to_point();
+    sum.wrapping_add(end.cross_product(points[0].to_point()))
 }

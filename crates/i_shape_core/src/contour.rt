@@ -68,32 +68,7 @@ impl<I: IntNumber> ContourExtension<I> for &[IntPoint<I>] {
     ghost contour = { λ points. contour_of I.value points.now };
 
     fn is_convex(&self) -> bool {
-        let points: &[IntPoint<I>] = *self;
-        let Some(last) = points.last() else {
-            return true;
-        };
-        let mut here = *last;
-        let Some(behind) = last_other(points, here) else {
-            return true;
-        };
-        let mut edge = here - behind;
-        let mut bend = Bend::Straight;
-        let mut repeats: usize = 0;
-        for point in points {
-            let next = *point - here;
-            let turned = bend_of(edge, next);
-            if turned == Bend::Straight && are_same(here, *point) {
-                repeats += 1;
-                continue;
-            }
-            let Some(both) = bend.joined_with(turned) else {
-                return false;
-            };
-            bend = both;
-            here = *point;
-            edge = next;
-        }
-        bend != Bend::Reversal || points.len() - repeats <= 2
+        is_convex(*self)
     }
 
     fn is_clockwise_ordered(&self) -> bool {
@@ -106,21 +81,7 @@ impl<I: IntNumber> ContourExtension<I> for &[IntPoint<I>] {
         requires point_safe { IsSafe I.width (point_of I.value point) }
         ensures { IsTrue result ↔ Inside (contour_of I.value self.now.now) (point_of I.value point) }
     {
-        let points: &[IntPoint<I>] = *self;
-        let Some(last) = points.last() else {
-            return false;
-        };
-        let mut start = *last;
-        let mut is_inside = false;
-        let mut rest = points;
-        // Blocks of four points, which the compiler can write out one after the other.
-        while rest.len() >= 4 {
-            let (block, later) = rest.split_at(4);
-            is_inside = is_inside_after(is_inside, point, start, block);
-            start = block[3];
-            rest = later;
-        }
-        is_inside_after(is_inside, point, start, rest)
+        contains_point(*self, point)
     }
 
     fn winding_number(&self, point: IntPoint<I>) -> isize
@@ -149,27 +110,84 @@ impl<I: IntNumber> ContourExtension<I> for &[IntPoint<I>] {
     }
 }
 
+/// Whether, without the points that equal the one before them on the cycle, at most two are left, or the way over them nowhere goes back
+/// the way it came and does not bend to the left at one place and to the right at another.
+pub fn is_convex<P: ContourPoint>(points: &[P]) -> bool
+    requires { All (IsSafe P.Coordinate.width) (contour_of P.Coordinate.value (P.points points.now)) }
+    ensures { IsTrue result ↔ Convex (contour_of P.Coordinate.value (P.points points.now)) }
+{
+    let Some(last) = points.last() else {
+        return true;
+    };
+    let mut here = last.to_point();
+    let Some(behind) = last_other(points, here) else {
+        return true;
+    };
+    let mut edge = here - behind;
+    let mut bend = Bend::Straight;
+    let mut repeats: usize = 0;
+    for given in points {
+        let point = given.to_point();
+        let next = point - here;
+        let turned = bend_of(edge, next);
+        if turned == Bend::Straight && are_same(here, point) {
+            repeats += 1;
+            continue;
+        }
+        let Some(both) = bend.joined_with(turned) else {
+            return false;
+        };
+        bend = both;
+        here = point;
+        edge = next;
+    }
+    bend != Bend::Reversal || points.len() - repeats <= 2
+}
+
+/// Whether an odd number of edges pass the height of `point` strictly to the right of it. A contour without points contains none.
+pub fn contains_point<P: ContourPoint>(contour: &[P], point: IntPoint<P::Coordinate>) -> bool
+    requires points_safe { All (IsSafe P.Coordinate.width) (contour_of P.Coordinate.value (P.points contour.now)) }
+    requires point_safe { IsSafe P.Coordinate.width (point_of P.Coordinate.value point) }
+    ensures { IsTrue result ↔ Inside (contour_of P.Coordinate.value (P.points contour.now)) (point_of P.Coordinate.value point) }
+{
+    let Some(last) = contour.last() else {
+        return false;
+    };
+    let mut start = last.to_point();
+    let mut is_inside = false;
+    let mut rest = contour;
+    // Blocks of four points, which the compiler can write out one after the other.
+    while rest.len() >= 4 {
+        let (block, later) = rest.split_at(4);
+        is_inside = is_inside_after(is_inside, point, start, block);
+        start = block[3].to_point();
+        rest = later;
+    }
+    is_inside_after(is_inside, point, start, rest)
+}
+
 /// Whether `point` is inside after the edges from `first` over the points, where `was_inside` tells it of the edges before: each edge that
 /// passes its height strictly to the right of it turns the answer over.
 #[inline(always)]
-fn is_inside_after<I: IntNumber>(
+fn is_inside_after<P: ContourPoint>(
     was_inside: bool,
-    point: IntPoint<I>,
-    first: IntPoint<I>,
-    points: &[IntPoint<I>],
+    point: IntPoint<P::Coordinate>,
+    first: IntPoint<P::Coordinate>,
+    points: &[P],
 ) -> bool
-    requires point_safe { IsSafe I.width (point_of I.value point) }
-    requires first_safe { IsSafe I.width (point_of I.value first) }
-    requires points_safe { All (IsSafe I.width) (contour_of I.value points.now) }
-    ensures { result ≡ inside_after (point_of I.value point) was_inside (point_of I.value first) (contour_of I.value points.now) }
+    requires point_safe { IsSafe P.Coordinate.width (point_of P.Coordinate.value point) }
+    requires first_safe { IsSafe P.Coordinate.width (point_of P.Coordinate.value first) }
+    requires points_safe { All (IsSafe P.Coordinate.width) (contour_of P.Coordinate.value (P.points points.now)) }
+    ensures { result ≡ inside_after (point_of P.Coordinate.value point) was_inside (point_of P.Coordinate.value first) (contour_of P.Coordinate.value (P.points points.now)) }
 {
     let mut is_inside = was_inside;
     let mut start = first;
-    for end in points {
-        if passes_right(point, start, *end) {
+    for given in points {
+        let end = given.to_point();
+        if passes_right(point, start, end) {
             is_inside = !is_inside;
         }
-        start = *end;
+        start = end;
     }
     is_inside
 }

@@ -65,7 +65,7 @@ impl<I: IntNumber> DeSpikeContour<I> for &[IntPoint<I>] {
     ghost contour = { λ points. contour_of I.value points.now };
 
     fn has_no_spikes(&self) -> bool {
-        has_no_reversal(*self)
+        has_no_spikes(*self)
     }
 
     fn despiked_contour(&self, alloc: Global) -> Result<Option<IntContour<I>>, ShapeError> {
@@ -264,14 +264,14 @@ fn walk<P: ContourPoint>(probe: &mut Probe<'_, P::Coordinate, P>, ring: &mut Rin
 }
 
 /// Whether at least three points are left without repeated ones, and the way over them nowhere goes back.
-fn has_no_reversal<I: IntNumber>(points: &[IntPoint<I>]) -> bool
-    requires { All (IsSafe I.width) (contour_of I.value points.now) }
-    ensures { IsTrue result ↔ NoSpikes (contour_of I.value points.now) }
+pub fn has_no_spikes<P: ContourPoint>(points: &[P]) -> bool
+    requires { All (IsSafe P.Coordinate.width) (contour_of P.Coordinate.value (P.points points.now)) }
+    ensures { IsTrue result ↔ NoSpikes (contour_of P.Coordinate.value (P.points points.now)) }
 {
     let Some(last) = points.last() else {
         return false;
     };
-    let mut here = *last;
+    let mut here = last.to_point();
     let Some(behind) = last_other(points, here) else {
         return false;
     };
@@ -293,31 +293,32 @@ fn has_no_reversal<I: IntNumber>(points: &[IntPoint<I>]) -> bool
 /// Walks over a block of points from `start`, to which the edge `first` leads, and passes over repeated points: its last edge and its
 /// last point, or `None` where the way goes back.
 #[inline(always)]
-fn walk_onward<I: IntNumber>(
-    first: IntPoint<I>,
-    start: IntPoint<I>,
-    block: &[IntPoint<I>],
-) -> Option<(IntPoint<I>, IntPoint<I>)>
-    requires start_safe { IsSafe I.width (point_of I.value start) }
-    requires block_safe { All (IsSafe I.width) (contour_of I.value block.now) }
-    ensures back { IsNone result ↔ GoesBack (point_of I.value first) (point_of I.value start) (contour_of I.value block.now) }
-    ensures edge { IfSome result (λ r. point_of I.value r.0 ≡ last_change (point_of I.value first) (point_of I.value start) (contour_of I.value block.now)) }
-    ensures end { IfSome result (λ r. point_of I.value r.1 ≡ last_of (point_of I.value start) (contour_of I.value block.now)) }
-    ensures end_safe { IfSome result (λ r. IsSafe I.width (point_of I.value r.1)) }
+fn walk_onward<P: ContourPoint>(
+    first: IntPoint<P::Coordinate>,
+    start: IntPoint<P::Coordinate>,
+    block: &[P],
+) -> Option<(IntPoint<P::Coordinate>, IntPoint<P::Coordinate>)>
+    requires start_safe { IsSafe P.Coordinate.width (point_of P.Coordinate.value start) }
+    requires block_safe { All (IsSafe P.Coordinate.width) (contour_of P.Coordinate.value (P.points block.now)) }
+    ensures back { IsNone result ↔ GoesBack (point_of P.Coordinate.value first) (point_of P.Coordinate.value start) (contour_of P.Coordinate.value (P.points block.now)) }
+    ensures edge { IfSome result (λ r. point_of P.Coordinate.value r.0 ≡ last_change (point_of P.Coordinate.value first) (point_of P.Coordinate.value start) (contour_of P.Coordinate.value (P.points block.now))) }
+    ensures end { IfSome result (λ r. point_of P.Coordinate.value r.1 ≡ last_of (point_of P.Coordinate.value start) (contour_of P.Coordinate.value (P.points block.now))) }
+    ensures end_safe { IfSome result (λ r. IsSafe P.Coordinate.width (point_of P.Coordinate.value r.1)) }
 {
     let mut edge = first;
     let mut here = start;
-    for point in block {
-        if !are_same(here, *point) {
-            let next = *point - here;
+    for given in block {
+        let point = given.to_point();
+        if !are_same(here, point) {
+            let next = point - here;
             if edge.is_parallel_to(next) {
-                if edge.dot_product(next) < I::Wide::ZERO {
+                if edge.dot_product(next) < <P::Coordinate as IntNumber>::Wide::ZERO {
                     return None;
                 }
             }
             edge = next;
         }
-        here = *point;
+        here = point;
     }
     Some((edge, here))
 }

@@ -6,7 +6,7 @@ ghost use Rattle.i_shape_core.specs.IntPoint.{point_of};
 ghost use Rattle.i_shape_core.specs.Convex.{is_same};
 
 use crate::number::IntNumber;
-use crate::point::IntPoint;
+use crate::point::{ContourPoint, IntPoint};
 
 /// Whether the points are equal.
 pub fn are_same<I: IntNumber>(a: IntPoint<I>, b: IntPoint<I>) -> bool
@@ -16,12 +16,25 @@ pub fn are_same<I: IntNumber>(a: IntPoint<I>, b: IntPoint<I>) -> bool
 }
 
 /// The last of the points that isn't `point`.
-pub fn last_other<I: IntNumber>(points: &[IntPoint<I>], point: IntPoint<I>) -> Option<IntPoint<I>>
-    ensures { result ≡ find (λ other. not (is_same (point_of I.value point) (point_of I.value other))) (reverse points.now) }
+pub fn last_other<P: ContourPoint>(
+    points: &[P],
+    point: IntPoint<P::Coordinate>,
+) -> Option<IntPoint<P::Coordinate>>
+    ensures { result ≡ find (λ other. not (is_same (point_of P.Coordinate.value point) (point_of P.Coordinate.value other))) (reverse (P.points points.now)) }
+{
+    match last_given(points, point) {
+        Some(other) => Some(other.to_point()),
+        None => None,
+    }
+}
+
+/// The same, as it was given.
+fn last_given<P: ContourPoint>(points: &[P], point: IntPoint<P::Coordinate>) -> Option<P>
+    ensures { result ≡ find (λ other. not (is_same (point_of P.Coordinate.value point) (point_of P.Coordinate.value (P.point other)))) (reverse points.now) }
 {
     points
         .iter()
         .rev()
         .copied()
-        .find(|other| !are_same(point, *other))
+        .find(|other| !are_same(point, other.to_point()))
 }

@@ -13,7 +13,7 @@ ghost use Rattle.i_shape_core.specs.Canonical.{CanonicalAnswer, UnorientedAnswer
 
 use crate::error::ShapeError;
 use crate::number::IntNumber;
-use crate::point::{IntContour, IntPoint};
+use crate::point::{ContourPoint, IntContour, IntPoint};
 use crate::simplifier::ContourSimplifier;
 use std::alloc::Global;
 
@@ -73,27 +73,7 @@ impl<I: IntNumber> SimpleContour<I> for &[IntPoint<I>] {
     ghost contour = { λ points. contour_of I.value points.now };
 
     fn is_simple(&self) -> bool {
-        let points: &[IntPoint<I>] = *self;
-        if points.len() < 3 {
-            return false;
-        }
-        let last = points.len() - 1;
-        let mut here = points[last];
-        let mut edge = here - points[last - 1];
-        let mut rest = points;
-        // Blocks of four points, which the compiler can write out one after the other.
-        while rest.len() >= 4 {
-            let (block, later) = rest.split_at(4);
-            let (has_zero_turn, last_edge, end) = walk_block(edge, here, block);
-            if has_zero_turn {
-                return false;
-            }
-            edge = last_edge;
-            here = end;
-            rest = later;
-        }
-        let (has_zero_turn, _last_edge, _end) = walk_block(edge, here, rest);
-        !has_zero_turn
+        is_simple(*self)
     }
 
     fn simplified(&self, alloc: Global) -> Result<Option<IntContour<I>>, ShapeError> {
@@ -109,29 +89,57 @@ impl<I: IntNumber> SimpleContour<I> for &[IntPoint<I>] {
     }
 }
 
+/// Whether there are at least three points and no zero turn, the closing edge included. One pass; it takes no memory.
+pub fn is_simple<P: ContourPoint>(contour: &[P]) -> bool
+    requires { All (IsSafe P.Coordinate.width) (contour_of P.Coordinate.value (P.points contour.now)) }
+    ensures { IsTrue result ↔ IsSimple (contour_of P.Coordinate.value (P.points contour.now)) }
+{
+    if contour.len() < 3 {
+        return false;
+    }
+    let last = contour.len() - 1;
+    let mut here = contour[last].to_point();
+    let mut edge = here - contour[last - 1].to_point();
+    let mut rest = contour;
+    // Blocks of four points, which the compiler can write out one after the other.
+    while rest.len() >= 4 {
+        let (block, later) = rest.split_at(4);
+        let (has_zero_turn, last_edge, end) = walk_block(edge, here, block);
+        if has_zero_turn {
+            return false;
+        }
+        edge = last_edge;
+        here = end;
+        rest = later;
+    }
+    let (has_zero_turn, _last_edge, _end) = walk_block(edge, here, rest);
+    !has_zero_turn
+}
+
 /// Walks over a block of points from `start`, to which the edge `first` leads: whether it passes a zero turn, its last edge, and
 /// its last point. It has no early end, and so no branch between points.
 #[inline(always)]
-fn walk_block<I: IntNumber>(
-    first: IntPoint<I>,
-    start: IntPoint<I>,
-    block: &[IntPoint<I>],
-) -> (bool, IntPoint<I>, IntPoint<I>)
-    requires start_safe { IsSafe I.width (point_of I.value start) }
-    requires block_safe { All (IsSafe I.width) (contour_of I.value block.now) }
-    ensures flat { IsTrue result.0 ↔ Flat (point_of I.value first) (point_of I.value start) (contour_of I.value block.now) }
-    ensures edge { point_of I.value result.1 ≡ last_edge (point_of I.value first) (point_of I.value start) (contour_of I.value block.now) }
-    ensures end { point_of I.value result.2 ≡ last_of (point_of I.value start) (contour_of I.value block.now) }
-    ensures end_safe { IsSafe I.width (point_of I.value result.2) }
+fn walk_block<P: ContourPoint>(
+    first: IntPoint<P::Coordinate>,
+    start: IntPoint<P::Coordinate>,
+    block: &[P],
+) -> (bool, IntPoint<P::Coordinate>, IntPoint<P::Coordinate>)
+    requires start_safe { IsSafe P.Coordinate.width (point_of P.Coordinate.value start) }
+    requires block_safe { All (IsSafe P.Coordinate.width) (contour_of P.Coordinate.value (P.points block.now)) }
+    ensures flat { IsTrue result.0 ↔ Flat (point_of P.Coordinate.value first) (point_of P.Coordinate.value start) (contour_of P.Coordinate.value (P.points block.now)) }
+    ensures edge { point_of P.Coordinate.value result.1 ≡ last_edge (point_of P.Coordinate.value first) (point_of P.Coordinate.value start) (contour_of P.Coordinate.value (P.points block.now)) }
+    ensures end { point_of P.Coordinate.value result.2 ≡ last_of (point_of P.Coordinate.value start) (contour_of P.Coordinate.value (P.points block.now)) }
+    ensures end_safe { IsSafe P.Coordinate.width (point_of P.Coordinate.value result.2) }
 {
     let mut edge = first;
     let mut here = start;
     let mut has_zero_turn = false;
-    for point in block {
-        let next = *point - here;
+    for given in block {
+        let point = given.to_point();
+        let next = point - here;
         has_zero_turn = has_zero_turn | edge.is_parallel_to(next);
         edge = next;
-        here = *point;
+        here = point;
     }
     (has_zero_turn, edge, here)
 }

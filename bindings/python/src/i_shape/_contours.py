@@ -213,7 +213,7 @@ def is_simple(points: npt.NDArray[Int]) -> bool:
 
     Raises
     ------
-    UnsafePointError, TypeError, ValueError, MemoryError
+    UnsafePointError, TypeError, ValueError
         As :func:`simplify` does.
 
     Examples
@@ -245,7 +245,7 @@ def has_no_spikes(points: npt.NDArray[Int]) -> bool:
 
     Raises
     ------
-    UnsafePointError, TypeError, ValueError, MemoryError
+    UnsafePointError, TypeError, ValueError
         As :func:`simplify` does.
 
     Examples
@@ -277,7 +277,7 @@ def is_convex(points: npt.NDArray[Int]) -> bool:
 
     Raises
     ------
-    UnsafePointError, TypeError, ValueError, MemoryError
+    UnsafePointError, TypeError, ValueError
         As :func:`simplify` does.
 
     Examples
@@ -348,7 +348,7 @@ def contains(points: npt.NDArray[Int], point: Sequence[int]) -> bool:
         attribute ``point`` is None), or a point of the contour isn't.
     TypeError
         As :func:`simplify` does, and where x or y isn't a whole number.
-    ValueError, MemoryError
+    ValueError
         As :func:`simplify` does.
 
     Examples

@@ -234,38 +234,38 @@ pub extern "C" fn i_shape_canonical_unoriented_shapes_i64(
 
 /// Whether there are at least three points, and none of them is a zero turn. Answers 1 or 0, or a code below 0.
 #[unsafe(no_mangle)]
-pub extern "C" fn i_shape_is_simple_i64(alloc: Global, points: &[PointI64]) -> i32
+pub extern "C" fn i_shape_is_simple_i64(points: &[PointI64]) -> i32
     ensures answer { TestAnswer (IsSimple (map point_i64 points.now)) result }
     ensures unsafe_points { result ≡ unsafe_code ↔ (AreSafe w64 point_i64 points.now → ⊥) }
 {
-    test_contour(alloc, points, Simple {})
+    test_contour(points, Simple {})
 }
 
 /// Whether at least three points are left without repeated ones, and the way over them nowhere goes back. Answers 1 or 0, or a code below 0.
 #[unsafe(no_mangle)]
-pub extern "C" fn i_shape_has_no_spikes_i64(alloc: Global, points: &[PointI64]) -> i32
+pub extern "C" fn i_shape_has_no_spikes_i64(points: &[PointI64]) -> i32
     ensures answer { TestAnswer (NoSpikes (map point_i64 points.now)) result }
     ensures unsafe_points { result ≡ unsafe_code ↔ (AreSafe w64 point_i64 points.now → ⊥) }
 {
-    test_contour(alloc, points, Spikeless {})
+    test_contour(points, Spikeless {})
 }
 
 /// Whether at most two points are left without repeated ones, or the way over them nowhere goes back or bends to both sides. Answers 1 or 0, or a code below 0.
 #[unsafe(no_mangle)]
-pub extern "C" fn i_shape_is_convex_i64(alloc: Global, points: &[PointI64]) -> i32
+pub extern "C" fn i_shape_is_convex_i64(points: &[PointI64]) -> i32
     ensures answer { TestAnswer (Convex (map point_i64 points.now)) result }
     ensures unsafe_points { result ≡ unsafe_code ↔ (AreSafe w64 point_i64 points.now → ⊥) }
 {
-    test_contour(alloc, points, Bulging {})
+    test_contour(points, Bulging {})
 }
 
 /// Whether the point (x, y) is inside. Answers 1 or 0, or a code below 0.
 #[unsafe(no_mangle)]
-pub extern "C" fn i_shape_contains_i64(alloc: Global, points: &[PointI64], x: i64, y: i64) -> i32
+pub extern "C" fn i_shape_contains_i64(points: &[PointI64], x: i64, y: i64) -> i32
     ensures answer { TestAnswer (Inside (map point_i64 points.now) (record { x = x; y = y })) result }
     ensures unsafe_points { result ≡ unsafe_code ↔ ((AreSafe w64 point_i64 points.now × IsSafe w64 (record { x = x; y = y })) → ⊥) }
 {
-    contains(alloc, points, PointI64 { x, y })
+    contains(points, PointI64 { x, y })
 }
 
 /// How often the contour winds about the point (x, y), to the left. Answers that number, or a code below the range of these numbers.

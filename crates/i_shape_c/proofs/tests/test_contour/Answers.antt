@@ -4,24 +4,21 @@ use Rattle.i_shape_c.proofs.tests.test_contour.Goals as goal
 
 pub test-requires-clause-points_safe : goal.test-requires-clause-points_safe
 test-requires-clause-points_safe g c =
-    safe_contour g.P.Coordinate.IntNumber.width g.P.Coordinate.IntNumber.value g.P.ContourPoint.point c.args.points.now c.copy_in.new.copy.items c.in-Ok.ensures (c.if-not-are_safe.ensures.0 refl)
+    safe_contour g.P.Coordinate.IntNumber.width g.P.Coordinate.IntNumber.value g.P.ContourPoint.point c.args.points.now (g.P.ContourPoint.points c.args.points.now) (g.P.ContourPoint.each c.args.points.now) (c.if-not-are_safe.ensures.0 refl)
 
 pub returns-then-test-clause-answer : goal.returns-then-test-clause-answer
 returns-then-test-clause-answer g c =
-    let same = copied g.P.Coordinate.IntNumber.width g.P.Coordinate.IntNumber.value g.P.ContourPoint.point c.args.points.now c.copy_in.new.copy.items c.in-Ok.ensures in
+    let same = copied g.P.Coordinate.IntNumber.width g.P.Coordinate.IntNumber.value g.P.ContourPoint.point c.args.points.now (g.P.ContourPoint.points c.args.points.now) (g.P.ContourPoint.each c.args.points.now) in
     subst (g.T.ContourTest.holds c.args.test) same (c.if-test.ensures.0 refl)
 
 pub returns-then-test-clause-unsafe_points : goal.returns-then-test-clause-unsafe_points
 returns-then-test-clause-unsafe_points g c = (λ is. search rules, λ not_safe. absurd (not_safe (c.if-not-are_safe.ensures.0 refl)))
 
-pub returns-clause-answer : goal.returns-clause-answer
-returns-clause-answer g c = λ holds.
-    let same = copied g.P.Coordinate.IntNumber.width g.P.Coordinate.IntNumber.value g.P.ContourPoint.point c.args.points.now c.copy_in.new.copy.items c.in-Ok.ensures in
+pub returns-else-test-clause-answer : goal.returns-else-test-clause-answer
+returns-else-test-clause-answer g c = λ holds.
+    let same = copied g.P.Coordinate.IntNumber.width g.P.Coordinate.IntNumber.value g.P.ContourPoint.point c.args.points.now (g.P.ContourPoint.points c.args.points.now) (g.P.ContourPoint.each c.args.points.now) in
     let told : IsTrue false = c.if-test.ensures.1 (subst (g.T.ContourTest.holds c.args.test) (sym same) holds) in
     cc
 
-pub returns-clause-unsafe_points : goal.returns-clause-unsafe_points
-returns-clause-unsafe_points g c = (λ is. search rules, λ not_safe. absurd (not_safe (c.if-not-are_safe.ensures.0 refl)))
-
-pub returns-in_default-clause-unsafe_points : goal.returns-in_default-clause-unsafe_points
-returns-in_default-clause-unsafe_points g c = (λ is. search rules, λ not_safe. absurd (not_safe (c.if-not-are_safe.ensures.0 refl)))
+pub returns-else-test-clause-unsafe_points : goal.returns-else-test-clause-unsafe_points
+returns-else-test-clause-unsafe_points g c = (λ is. search rules, λ not_safe. absurd (not_safe (c.if-not-are_safe.ensures.0 refl)))

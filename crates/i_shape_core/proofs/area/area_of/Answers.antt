@@ -1,26 +1,42 @@
-use Rattle.std.proofs.Common.{◌≡◌, ◌<◌, ◌-◌, ◌∙◌, ap, get_or, length, arith, rules}
+use Rattle.std.proofs.Common.{◌≡◌, ◌<◌, ◌+◌, ◌-◌, ◌∙◌, ap, get_or, length, arith, rules}
 use Rattle.std.proofs.lemmas.Grind.{common_steps}
+use Rattle.i_shape_core.proofs.PointLists.{points-length, points-item}
 use Rattle.i_shape_core.proofs.AreaByPlaces.{summed-empty, summed-next, summed-closed}
 use Rattle.i_shape_core.proofs.SummedArea.{wrapped-zero}
 use Rattle.i_shape_core.proofs.area.area_of.Goals as goal
 
 pub returns-then-is_empty : goal.returns-then-is_empty
 returns-then-is_empty g c =
+    let count = points-length g.P.ContourPoint.point g.P.ContourPoint.points g.P.ContourPoint.each c.args.points.now in
     let none : length c.args.points.now ≡ 0 = grind (arith, common_steps) in
-    summed-empty g.I.IntNumber.value g.I.Wide.WideIntNumber.width c.args.points.now _ none (search rules)
+    summed-empty g.P.Coordinate.IntNumber.value g.P.Coordinate.Wide.WideIntNumber.width (g.P.ContourPoint.points c.args.points.now) _ (count ∙ none) (search rules)
 
 pub loop-place-init : goal.loop-place-init
-loop-place-init g c = wrapped-zero g.I.Wide.WideIntNumber.width _ (search rules)
+loop-place-init g c = wrapped-zero g.P.Coordinate.Wide.WideIntNumber.width _ (search rules)
 
 pub loop-place-preserved : goal.loop-place-preserved
 loop-place-preserved g c =
-    summed-next g.I.IntNumber.value g.I.Wide.WideIntNumber.width c.args.points.now c.loop-place.place _ _ _ _ _ (omega (arith, c.loop-place-test.true))
-    c.index-points-place.is c.index-points-place-in-loop-place.is c.loop-place.invariant c.cross_product.ensures c.wrapping_add-sum.ensures
+    let point = g.P.ContourPoint.point in
+    let points = g.P.ContourPoint.points in
+    let each = g.P.ContourPoint.each in
+    let whole = c.args.points.now in
+    let count = points-length point points each whole in
+    let start = points-item point points each whole _ c.index-points-place.result c.to_point-start.result c.to_point-start.ensures (omega (arith, c.loop-place-test.true)) c.index-points-place.is in
+    let end = points-item point points each whole _ c.index-points-place-in-loop-place.result c.to_point-end.result c.to_point-end.ensures (omega (arith, c.loop-place-test.true)) c.index-points-place-in-loop-place.is in
+    summed-next g.P.Coordinate.IntNumber.value g.P.Coordinate.Wide.WideIntNumber.width (points whole) c.loop-place.place _ _ _ _ _ (omega (arith, count, c.loop-place-test.true))
+    start end c.loop-place.invariant c.cross_product.ensures c.wrapping_add-sum.ensures
 
 pub returns : goal.returns
 returns g c =
-    let more : 0 < length c.args.points.now = grind (arith, common_steps) in
-    let at : length c.args.points.now - 1 ≡ c.loop-place.place = omega (arith, more, c.loop-place.auto.place-end, c.loop-place-test.false) in
-    summed-closed g.I.IntNumber.value g.I.Wide.WideIntNumber.width c.args.points.now c.loop-place.place c.index-points-last.result _ _ _ _ (omega (arith, more, at))
-    (c.index-points-last.is ∙ ap (λ k. get_or c.args.points.now k c.index-points-last.result) at)
-    c.index-points-0.is c.loop-place.invariant c.cross_product-2.ensures c.wrapping_add.ensures
+    let point = g.P.ContourPoint.point in
+    let points = g.P.ContourPoint.points in
+    let each = g.P.ContourPoint.each in
+    let whole = c.args.points.now in
+    let count = points-length point points each whole in
+    let more : 0 < length whole = grind (arith, common_steps) in
+    let at : length whole - 1 ≡ c.loop-place.place = omega (arith, more, c.loop-place.auto.place-end, c.loop-place-test.false) in
+    let last = points-item point points each whole _ c.index-points-last.result c.to_point-end-2.result c.to_point-end-2.ensures (omega (arith, more)) c.index-points-last.is in
+    let first = points-item point points each whole 0 c.index-points-0.result c.to_point.result c.to_point.ensures more c.index-points-0.is in
+    summed-closed g.P.Coordinate.IntNumber.value g.P.Coordinate.Wide.WideIntNumber.width (points whole) c.loop-place.place c.to_point-end-2.result _ _ _ _ (omega (arith, count, more, at))
+    (last ∙ ap (λ k. get_or (points whole) k c.to_point-end-2.result) at)
+    first c.loop-place.invariant c.cross_product-2.ensures c.wrapping_add.ensures

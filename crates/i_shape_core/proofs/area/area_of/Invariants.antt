@@ -5,4 +5,4 @@ use Rattle.i_shape_core.proofs.AreaByPlaces.{area_up_to}
 use Rattle.i_shape_core.proofs.area.area_of.Given as goal
 
 abbrev pub invariant-loop-place : goal.invariant-loop-place
-invariant-loop-place g l = g.I.Wide.WideIntNumber.value l.sum ≡ int_wrap g.I.Wide.WideIntNumber.width (area_up_to (contour_of g.I.IntNumber.value l.points) l.place)
+invariant-loop-place g l = g.P.Coordinate.Wide.WideIntNumber.value l.sum ≡ int_wrap g.P.Coordinate.Wide.WideIntNumber.width (area_up_to (contour_of g.P.Coordinate.IntNumber.value (g.P.ContourPoint.points l.points)) l.place)

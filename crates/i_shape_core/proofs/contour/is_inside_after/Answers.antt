@@ -1,25 +1,47 @@
-use Rattle.std.proofs.Common.{◌∙◌, ap, sym, not, cond, Bool}
+use Rattle.std.proofs.Common.{◌≡◌, ◌<◌, ◌∙◌, ap, sym, not, cond, Bool, length, get_or, arith}
 use Rattle.i_shape_core.specs.IntPoint.{point_of}
+use Rattle.i_shape_core.specs.Edges.{is_right}
 use Rattle.i_shape_core.proofs.Contours.{read-safe, rest-none}
+use Rattle.i_shape_core.proofs.PointLists.{points-length, points-item}
+use Rattle.i_shape_core.proofs.Turns.{edge}
 use Rattle.i_shape_core.proofs.Walked.{walk_step}
 use Rattle.i_shape_core.proofs.contour.is_inside_after.Goals as goal
 use Rattle.i_shape_core.proofs.contour.is_inside_after.Goals.{then-passes_right, else-passes_right}
 
 pub passes_right-requires-clause-end_safe : goal.passes_right-requires-clause-end_safe
-passes_right-requires-clause-end_safe g c = read-safe g.I.IntNumber.width g.I.IntNumber.value c.args.points.now _ _ c.requires.points_safe c.loop-end-test.true c.end-item.is
+passes_right-requires-clause-end_safe g c =
+    let points = g.P.ContourPoint.points in
+    let whole = c.args.points.now in
+    let count = points-length g.P.ContourPoint.point points g.P.ContourPoint.each whole in
+    let read = points-item g.P.ContourPoint.point points g.P.ContourPoint.each whole c.loop-given.given-index c.given-item.result c.to_point-end.result c.to_point-end.ensures c.loop-given-test.true c.given-item.is in
+    read-safe g.P.Coordinate.IntNumber.width g.P.Coordinate.IntNumber.value (points whole) _ c.to_point-end.result c.requires.points_safe (omega (arith, count, c.loop-given-test.true)) read
 
-pub loop-end-preserved : goal.loop-end-preserved
-loop-end-preserved g c = record {
-  start_safe = read-safe g.I.IntNumber.width g.I.IntNumber.value c.args.points.now _ _ c.requires.points_safe c.loop-end-test.true c.end-item.is;
-  told = walk_step g.I.IntNumber.value (point_of g.I.IntNumber.value c.args.point) c.args.points.now c.loop-end.end-index c.loop-end.start c.end-item.result c.loop-end.is_inside c.if-passes_right.is_inside _
-      c.loop-end-test.true c.end-item.is c.loop-end.invariant.told
-      (elim c.if-passes_right.branch [
-        | then-passes_right w ↦ w.is_inside-is ∙ ap (λ (t : Bool). cond t (not c.loop-end.is_inside) c.loop-end.is_inside) (sym w.if-passes_right.true ∙ c.passes_right.ensures)
-        | else-passes_right w ↦ w.is_inside-is ∙ ap (λ (t : Bool). cond t (not c.loop-end.is_inside) c.loop-end.is_inside) (sym w.if-passes_right.false ∙ c.passes_right.ensures)
-      ]);
-}
+pub loop-given-preserved : goal.loop-given-preserved
+loop-given-preserved g c =
+    let value = g.P.Coordinate.IntNumber.value in
+    let points = g.P.ContourPoint.points in
+    let whole = c.args.points.now in
+    let end = c.to_point-end.result in
+    let count = points-length g.P.ContourPoint.point points g.P.ContourPoint.each whole in
+    let within : c.loop-given.given-index < length (points whole) = omega (arith, count, c.loop-given-test.true) in
+    let read = points-item g.P.ContourPoint.point points g.P.ContourPoint.each whole c.loop-given.given-index c.given-item.result end c.to_point-end.ensures c.loop-given-test.true c.given-item.is in
+    let start : c.if-passes_right.start ≡ end = elim c.if-passes_right.branch [
+      | then-passes_right w ↦ w.start-is
+      | else-passes_right w ↦ w.start-is
+    ] in
+    let turned : c.if-passes_right.is_inside ≡ cond (is_right (point_of value c.args.point) (edge (point_of value c.loop-given.start) (point_of value end))) (not c.loop-given.is_inside) c.loop-given.is_inside =
+    elim c.if-passes_right.branch [
+      | then-passes_right w ↦ w.is_inside-is ∙ ap (λ (t : Bool). cond t (not c.loop-given.is_inside) c.loop-given.is_inside) (sym w.if-passes_right.true ∙ c.passes_right.ensures)
+      | else-passes_right w ↦ w.is_inside-is ∙ ap (λ (t : Bool). cond t (not c.loop-given.is_inside) c.loop-given.is_inside) (sym w.if-passes_right.false ∙ c.passes_right.ensures)
+    ] in
+    rw start (record {
+      start_safe = read-safe g.P.Coordinate.IntNumber.width value (points whole) _ end c.requires.points_safe within read;
+      told = walk_step value (point_of value c.args.point) (points whole) c.loop-given.given-index c.loop-given.start end c.loop-given.is_inside c.if-passes_right.is_inside _ within read c.loop-given.invariant.told turned;
+    })
 
 pub returns : goal.returns
 returns g c =
-    let none = rest-none g.I.IntNumber.value c.args.points.now c.loop-end.end-index c.loop-end-test.false in
-    rw none at c.loop-end.invariant.told
+    let points = g.P.ContourPoint.points in
+    let count = points-length g.P.ContourPoint.point points g.P.ContourPoint.each c.args.points.now in
+    let none = rest-none g.P.Coordinate.IntNumber.value (points c.args.points.now) c.loop-given.given-index (omega (arith, count, c.loop-given-test.false)) in
+    rw none at c.loop-given.invariant.told

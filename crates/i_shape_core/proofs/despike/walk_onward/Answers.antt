@@ -1,7 +1,8 @@
-use Rattle.std.proofs.Common.{◌≡◌, ◌∙◌, pos, refl, sym, ap}
+use Rattle.std.proofs.Common.{◌≡◌, ◌<◌, ◌∙◌, pos, length, refl, sym, ap, arith}
 use Rattle.i_shape_core.specs.Point.{Point, vector, cross_of, dot_of}
 use Rattle.i_shape_core.specs.IntPoint.{point_of, contour_of}
 use Rattle.i_shape_core.proofs.Contours.{read-safe, rest-read, rest-none, refuted}
+use Rattle.i_shape_core.proofs.PointLists.{points-length, points-item}
 use Rattle.i_shape_core.proofs.Coordinates.{safe_points-apart, safe_difference-above, below-told}
 use Rattle.i_shape_core.proofs.Spikes.{onward_start, onward_skips, onward_on, onward_stops}
 use Rattle.i_shape_core.proofs.despike.walk_onward.Goals as goal
@@ -9,67 +10,94 @@ use Rattle.i_shape_core.proofs.despike.walk_onward.Goals.{then-not-are_same+then
 
 pub sub-next-requires : goal.sub-next-requires
 sub-next-requires g c =
-    let next = read-safe g.I.IntNumber.width g.I.IntNumber.value c.args.block.now _ _ c.requires.block_safe c.loop-point-test.true c.point-item.is in
-    safe_points-apart g.I.IntNumber.width g.met.I.IntNumber.some_bits g.met.I.IntNumber.bits_split _ _ next c.loop-point.invariant.here_safe
+    let points = g.P.ContourPoint.points in
+    let count = points-length g.P.ContourPoint.point points g.P.ContourPoint.each c.args.block.now in
+    let within : c.loop-given.given-index < length (points c.args.block.now) = omega (arith, count, c.loop-given-test.true) in
+    let read = points-item g.P.ContourPoint.point points g.P.ContourPoint.each c.args.block.now _ c.given-item.result c.to_point-point.result c.to_point-point.ensures c.loop-given-test.true c.given-item.is in
+    let next = read-safe g.P.Coordinate.IntNumber.width g.P.Coordinate.IntNumber.value (points c.args.block.now) _ c.to_point-point.result c.requires.block_safe within read in
+    safe_points-apart g.P.Coordinate.IntNumber.width g.met.P.Coordinate.IntNumber.some_bits g.met.P.Coordinate.IntNumber.bits_split _ _ next c.loop-given.invariant.here_safe
 
-pub loop-point-init : goal.loop-point-init
-loop-point-init g c = record {
+pub loop-given-init : goal.loop-given-init
+loop-given-init g c = record {
   here_safe = c.requires.start_safe;
-  onward = onward_start (contour_of g.I.IntNumber.value c.args.block.now) (point_of g.I.IntNumber.value c.args.first) (point_of g.I.IntNumber.value c.args.start);
+  onward = onward_start (contour_of g.P.Coordinate.IntNumber.value (g.P.ContourPoint.points c.args.block.now)) (point_of g.P.Coordinate.IntNumber.value c.args.first) (point_of g.P.Coordinate.IntNumber.value c.args.start);
 }
 
 pub dot_product-requires : goal.dot_product-requires
 dot_product-requires g c =
-    let next = read-safe g.I.IntNumber.width g.I.IntNumber.value c.args.block.now _ _ c.requires.block_safe c.loop-point-test.true c.point-item.is in
-    λ least. safe_difference-above g.I.IntNumber.width g.met.I.IntNumber.some_bits g.met.I.IntNumber.bits_split _ _ (g.I.IntNumber.value g.I.IntNumber.MIN) next.0 c.loop-point.invariant.here_safe.0 g.met.I.IntNumber.min_value
-    (sym (ap (λ (p : Point). p.x) c.sub-next.ensures) ∙ ap g.I.IntNumber.value least.2)
+    let points = g.P.ContourPoint.points in
+    let count = points-length g.P.ContourPoint.point points g.P.ContourPoint.each c.args.block.now in
+    let within : c.loop-given.given-index < length (points c.args.block.now) = omega (arith, count, c.loop-given-test.true) in
+    let read = points-item g.P.ContourPoint.point points g.P.ContourPoint.each c.args.block.now _ c.given-item.result c.to_point-point.result c.to_point-point.ensures c.loop-given-test.true c.given-item.is in
+    let next = read-safe g.P.Coordinate.IntNumber.width g.P.Coordinate.IntNumber.value (points c.args.block.now) _ c.to_point-point.result c.requires.block_safe within read in
+    λ least. safe_difference-above g.P.Coordinate.IntNumber.width g.met.P.Coordinate.IntNumber.some_bits g.met.P.Coordinate.IntNumber.bits_split _ _ (g.P.Coordinate.IntNumber.value g.P.Coordinate.IntNumber.MIN) next.0 c.loop-given.invariant.here_safe.0 g.met.P.Coordinate.IntNumber.min_value
+    (sym (ap (λ (p : Point). p.x) c.sub-next.ensures) ∙ ap g.P.Coordinate.IntNumber.value least.2)
 
 pub returns-then-lt-clause-back : goal.returns-then-lt-clause-back
 returns-then-lt-clause-back g c =
-    let value = g.I.IntNumber.value in
-    let wide = g.met.I.Wide.WideIntNumber in
-    let rest = rest-read value c.args.block.now _ _ c.loop-point-test.true c.point-item.is in
-    let flat = ap (cross_of (point_of value c.loop-point.edge)) (sym c.sub-next.ensures) ∙ c.is_parallel_to.ensures.0 c.if-is_parallel_to.true in
-    let told = below-told g.I.Wide.WideIntNumber.value c.dot_product.result c.ZERO.result c.lt.result _ _ c.lt.ensures (wide.partial_order _ _) (ap g.I.Wide.WideIntNumber.value c.ZERO.ensures ∙ wide.zero_value)
-    (c.dot_product.ensures ∙ ap (dot_of (point_of value c.loop-point.edge)) c.sub-next.ensures) in
-    let back = onward_stops _ _ _ _ _ _ _ (sym c.are_same.ensures ∙ c.if-not-are_same.true) flat (told.0 c.if-lt.true) (rw rest at c.loop-point.invariant.onward) in
+    let value = g.P.Coordinate.IntNumber.value in
+    let wide = g.met.P.Coordinate.Wide.WideIntNumber in
+    let points = g.P.ContourPoint.points in
+    let count = points-length g.P.ContourPoint.point points g.P.ContourPoint.each c.args.block.now in
+    let within : c.loop-given.given-index < length (points c.args.block.now) = omega (arith, count, c.loop-given-test.true) in
+    let read = points-item g.P.ContourPoint.point points g.P.ContourPoint.each c.args.block.now _ c.given-item.result c.to_point-point.result c.to_point-point.ensures c.loop-given-test.true c.given-item.is in
+    let rest = rest-read value (points c.args.block.now) _ c.to_point-point.result within read in
+    let flat = ap (cross_of (point_of value c.loop-given.edge)) (sym c.sub-next.ensures) ∙ c.is_parallel_to.ensures.0 c.if-is_parallel_to.true in
+    let told = below-told g.P.Coordinate.Wide.WideIntNumber.value c.dot_product.result c.ZERO.result c.lt.result _ _ c.lt.ensures (wide.partial_order _ _) (ap g.P.Coordinate.Wide.WideIntNumber.value c.ZERO.ensures ∙ wide.zero_value)
+    (c.dot_product.ensures ∙ ap (dot_of (point_of value c.loop-given.edge)) c.sub-next.ensures) in
+    let back = onward_stops _ _ _ _ _ _ _ (sym c.are_same.ensures ∙ c.if-not-are_same.true) flat (told.0 c.if-lt.true) (rw rest at c.loop-given.invariant.onward) in
     (λ t. back, λ b. refl)
 
-pub loop-point-preserved : goal.loop-point-preserved
-loop-point-preserved g c =
-    let value = g.I.IntNumber.value in
-    let wide = g.met.I.Wide.WideIntNumber in
-    let rest = rest-read value c.args.block.now _ _ c.loop-point-test.true c.point-item.is in
-    let onward = rw rest at c.loop-point.invariant.onward in
-    record {
-      here_safe = read-safe g.I.IntNumber.width value c.args.block.now _ _ c.requires.block_safe c.loop-point-test.true c.point-item.is;
+pub loop-given-preserved : goal.loop-given-preserved
+loop-given-preserved g c =
+    let value = g.P.Coordinate.IntNumber.value in
+    let wide = g.met.P.Coordinate.Wide.WideIntNumber in
+    let points = g.P.ContourPoint.points in
+    let count = points-length g.P.ContourPoint.point points g.P.ContourPoint.each c.args.block.now in
+    let within : c.loop-given.given-index < length (points c.args.block.now) = omega (arith, count, c.loop-given-test.true) in
+    let read = points-item g.P.ContourPoint.point points g.P.ContourPoint.each c.args.block.now _ c.given-item.result c.to_point-point.result c.to_point-point.ensures c.loop-given-test.true c.given-item.is in
+    let rest = rest-read value (points c.args.block.now) _ c.to_point-point.result within read in
+    let onward = rw rest at c.loop-given.invariant.onward in
+    let here : c.if-not-are_same.here ≡ c.to_point-point.result = elim c.if-not-are_same.branch [
+      | then-not-are_same+then-is_parallel_to+else-lt w ↦ w.here-is
+      | then-not-are_same+else-is_parallel_to w ↦ w.here-is
+      | else-not-are_same w ↦ w.here-is
+    ] in
+    rw here (record {
+      here_safe = read-safe g.P.Coordinate.IntNumber.width value (points c.args.block.now) _ c.to_point-point.result c.requires.block_safe within read;
       onward = elim c.if-not-are_same.branch [
         | then-not-are_same+then-is_parallel_to+else-lt w ↦
-            let told = below-told g.I.Wide.WideIntNumber.value w.dot_product.result w.ZERO.result w.lt.result _ _ w.lt.ensures (wide.partial_order _ _) (ap g.I.Wide.WideIntNumber.value w.ZERO.ensures ∙ wide.zero_value)
-            (w.dot_product.ensures ∙ ap (dot_of (point_of value c.loop-point.edge)) w.sub-next.ensures) in
+            let told = below-told g.P.Coordinate.Wide.WideIntNumber.value w.dot_product.result w.ZERO.result w.lt.result _ _ w.lt.ensures (wide.partial_order _ _) (ap g.P.Coordinate.Wide.WideIntNumber.value w.ZERO.ensures ∙ wide.zero_value)
+            (w.dot_product.ensures ∙ ap (dot_of (point_of value c.loop-given.edge)) w.sub-next.ensures) in
             rw (w.edge-is, w.sub-next.ensures) (onward_on _ _ _ _ _ _ _ (sym c.are_same.ensures ∙ w.if-not-are_same.true) (λ z back. refuted w.lt.result told (λ h. h, λ h. h) w.if-lt.false back) onward)
         | then-not-are_same+else-is_parallel_to w ↦
-            let turns : cross_of (point_of value c.loop-point.edge) (vector (point_of value c.loop-point.here) (point_of value c.point-item.result)) ≡ pos 0 → ⊥ =
-            λ z. (let t = w.is_parallel_to.ensures.1 (ap (cross_of (point_of value c.loop-point.edge)) w.sub-next.ensures ∙ z) in let f = w.if-is_parallel_to.false in absurd (cc)) in
+            let turns : cross_of (point_of value c.loop-given.edge) (vector (point_of value c.loop-given.here) (point_of value c.to_point-point.result)) ≡ pos 0 → ⊥ =
+            λ z. (let t = w.is_parallel_to.ensures.1 (ap (cross_of (point_of value c.loop-given.edge)) w.sub-next.ensures ∙ z) in let f = w.if-is_parallel_to.false in absurd (cc)) in
             rw (w.edge-is, w.sub-next.ensures) (onward_on _ _ _ _ _ _ _ (sym c.are_same.ensures ∙ w.if-not-are_same.true) (λ z back. turns z) onward)
         | else-not-are_same w ↦ rw w.edge-is (onward_skips _ _ _ _ _ _ _ (sym c.are_same.ensures ∙ w.if-not-are_same.false) onward)
       ];
-    }
+    })
 
 pub returns-clause-back : goal.returns-clause-back
 returns-clause-back g c =
-    let none = rest-none g.I.IntNumber.value c.args.block.now c.loop-point.point-index c.loop-point-test.false in
-    let onward = rw none at c.loop-point.invariant.onward in
+    let points = g.P.ContourPoint.points in
+    let count = points-length g.P.ContourPoint.point points g.P.ContourPoint.each c.args.block.now in
+    let none = rest-none g.P.Coordinate.IntNumber.value (points c.args.block.now) c.loop-given.given-index (omega (arith, count, c.loop-given-test.false)) in
+    let onward = rw none at c.loop-given.invariant.onward in
     (λ t. absurd (cc), λ b. absurd (onward.told.1 b))
 
 pub returns-clause-edge : goal.returns-clause-edge
 returns-clause-edge g c =
-    let none = rest-none g.I.IntNumber.value c.args.block.now c.loop-point.point-index c.loop-point-test.false in
-    let onward = rw none at c.loop-point.invariant.onward in
+    let points = g.P.ContourPoint.points in
+    let count = points-length g.P.ContourPoint.point points g.P.ContourPoint.each c.args.block.now in
+    let none = rest-none g.P.Coordinate.IntNumber.value (points c.args.block.now) c.loop-given.given-index (omega (arith, count, c.loop-given-test.false)) in
+    let onward = rw none at c.loop-given.invariant.onward in
     onward.edge
 
 pub returns-clause-end : goal.returns-clause-end
 returns-clause-end g c =
-    let none = rest-none g.I.IntNumber.value c.args.block.now c.loop-point.point-index c.loop-point-test.false in
-    let onward = rw none at c.loop-point.invariant.onward in
+    let points = g.P.ContourPoint.points in
+    let count = points-length g.P.ContourPoint.point points g.P.ContourPoint.each c.args.block.now in
+    let none = rest-none g.P.Coordinate.IntNumber.value (points c.args.block.now) c.loop-given.given-index (omega (arith, count, c.loop-given-test.false)) in
+    let onward = rw none at c.loop-given.invariant.onward in
     onward.here

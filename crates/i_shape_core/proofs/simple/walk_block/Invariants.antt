@@ -3,10 +3,10 @@ use Rattle.i_shape_core.specs.IntPoint.{point_of, contour_of, IsSafe}
 use Rattle.i_shape_core.proofs.LastEdge.{IsOver}
 use Rattle.i_shape_core.proofs.simple.walk_block.Given as goal
 
-abbrev pub invariant-loop-point : goal.invariant-loop-point
-invariant-loop-point g l =
-    let value = g.I.IntNumber.value in
+abbrev pub invariant-loop-given : goal.invariant-loop-given
+invariant-loop-given g l =
+    let value = g.P.Coordinate.IntNumber.value in
     record {
-      here_safe : IsSafe g.I.IntNumber.width (point_of value l.here);
-      over : IsOver (contour_of value l.block) (point_of value l.fn.first) (point_of value l.fn.start) l.has_zero_turn (point_of value l.edge) (point_of value l.here) (contour_of value (drop l.point-index l.block));
+      here_safe : IsSafe g.P.Coordinate.IntNumber.width (point_of value l.here);
+      over : IsOver (contour_of value (g.P.ContourPoint.points l.block)) (point_of value l.fn.first) (point_of value l.fn.start) l.has_zero_turn (point_of value l.edge) (point_of value l.here) (contour_of value (drop l.given-index (g.P.ContourPoint.points l.block)));
     }

@@ -1,0 +1,122 @@
+use Rattle.std.proofs.Common.{◌≡◌, ◌≢◌, ◌↔◌, ◌<◌, ◌-◌, ◌∙◌, get_or, length, sym, inl, inr, IsTrue, false, rules, arith}
+use Rattle.std.proofs.lemmas.Grind.{common_steps}
+use Rattle.i_shape_core.specs.declared.bend.Bend.TheVariants.{Straight, Reversal}
+use Rattle.i_shape_core.specs.IntPoint.{point_of}
+use Rattle.i_shape_core.specs.Convex.{is_same}
+use Rattle.i_shape_core.proofs.Contours.{read-safe}
+use Rattle.i_shape_core.proofs.PointLists.{points-length, points-item}
+use Rattle.i_shape_core.proofs.Spikes.{found_safe}
+use Rattle.i_shape_core.proofs.Bends.{bending_begins, bending_repeat, bending_item, bending_over, clash_item, few_tells, convex_without, convex_alike}
+use Rattle.i_shape_core.proofs.contour.is_convex.Goals as goal
+use Rattle.i_shape_core.proofs.contour.is_convex.Goals.{else-eq-via-then-eq+else-are_same, else-eq-via-else-eq}
+
+pub returns-in_default : goal.returns-in_default
+returns-in_default g c =
+    let count = points-length g.P.ContourPoint.point g.P.ContourPoint.points g.P.ContourPoint.each c.args.points.now in
+    convex_without g.P.Coordinate.IntNumber.value (g.P.ContourPoint.points c.args.points.now) (omega (arith, count, c.in_default.ensures.item.3))
+
+pub returns-in_default-last_other : goal.returns-in_default-last_other
+returns-in_default-last_other g c =
+    let count = points-length g.P.ContourPoint.point g.P.ContourPoint.points g.P.ContourPoint.each c.args.points.now in
+    let some : 0 < length (g.P.ContourPoint.points c.args.points.now) = omega (arith, count, c.in-Some.ensures.item.3.0) in
+    let last : c.to_point-here.result ≡ get_or (g.P.ContourPoint.points c.args.points.now) (length (g.P.ContourPoint.points c.args.points.now) - 1) c.to_point-here.result =
+    rw count (points-item g.P.ContourPoint.point g.P.ContourPoint.points g.P.ContourPoint.each c.args.points.now _ c.in-Some.last.now c.to_point-here.result c.to_point-here.ensures (omega (arith, c.in-Some.ensures.item.3.0)) c.in-Some.ensures.item.1) in
+    convex_alike g.P.Coordinate.IntNumber.value (g.P.ContourPoint.points c.args.points.now) c.to_point-here.result some last c.in_default-last_other.ensures
+
+pub sub-edge-requires : goal.sub-edge-requires
+sub-edge-requires g c =
+    let count = points-length g.P.ContourPoint.point g.P.ContourPoint.points g.P.ContourPoint.each c.args.points.now in
+    let some : 0 < length (g.P.ContourPoint.points c.args.points.now) = omega (arith, count, c.in-Some.ensures.item.3.0) in
+    let last : c.to_point-here.result ≡ get_or (g.P.ContourPoint.points c.args.points.now) (length (g.P.ContourPoint.points c.args.points.now) - 1) c.to_point-here.result =
+    rw count (points-item g.P.ContourPoint.point g.P.ContourPoint.points g.P.ContourPoint.each c.args.points.now _ c.in-Some.last.now c.to_point-here.result c.to_point-here.ensures (omega (arith, c.in-Some.ensures.item.3.0)) c.in-Some.ensures.item.1) in
+    let here = read-safe g.P.Coordinate.IntNumber.width g.P.Coordinate.IntNumber.value (g.P.ContourPoint.points c.args.points.now) _ _ c.requires (omega (arith, some)) last in
+    let behind = found_safe g.P.Coordinate.IntNumber.width g.P.Coordinate.IntNumber.value (g.P.ContourPoint.points c.args.points.now) c.to_point-here.result c.in-Some-last_other.behind c.requires c.in-Some-last_other.ensures in
+    search rules
+
+pub loop-given-init : goal.loop-given-init
+loop-given-init g c =
+    let count = points-length g.P.ContourPoint.point g.P.ContourPoint.points g.P.ContourPoint.each c.args.points.now in
+    let some : 0 < length (g.P.ContourPoint.points c.args.points.now) = omega (arith, count, c.in-Some.ensures.item.3.0) in
+    let last : c.to_point-here.result ≡ get_or (g.P.ContourPoint.points c.args.points.now) (length (g.P.ContourPoint.points c.args.points.now) - 1) c.to_point-here.result =
+    rw count (points-item g.P.ContourPoint.point g.P.ContourPoint.points g.P.ContourPoint.each c.args.points.now _ c.in-Some.last.now c.to_point-here.result c.to_point-here.ensures (omega (arith, c.in-Some.ensures.item.3.0)) c.in-Some.ensures.item.1) in
+    record {
+  here_safe = read-safe g.P.Coordinate.IntNumber.width g.P.Coordinate.IntNumber.value (g.P.ContourPoint.points c.args.points.now) _ _ c.requires (omega (arith, some)) last;
+  bending = bending_begins g.P.Coordinate.IntNumber.value (g.P.ContourPoint.points c.args.points.now) c.to_point-here.result c.in-Some-last_other.behind _ some last c.in-Some-last_other.ensures c.sub-edge.ensures;
+}
+
+pub sub-next-requires : goal.sub-next-requires
+sub-next-requires g c =
+    let count = points-length g.P.ContourPoint.point g.P.ContourPoint.points g.P.ContourPoint.each c.args.points.now in
+    let within : c.loop-given.given-index < length (g.P.ContourPoint.points c.args.points.now) = omega (arith, count, c.loop-given-test.true) in
+    let read = points-item g.P.ContourPoint.point g.P.ContourPoint.points g.P.ContourPoint.each c.args.points.now _ c.given-item.result c.to_point-point.result c.to_point-point.ensures c.loop-given-test.true c.given-item.is in
+    let next = read-safe g.P.Coordinate.IntNumber.width g.P.Coordinate.IntNumber.value (g.P.ContourPoint.points c.args.points.now) _ c.to_point-point.result c.requires within read in
+    search rules
+
+pub bend_of-turned-requires : goal.bend_of-turned-requires
+bend_of-turned-requires g c =
+    let count = points-length g.P.ContourPoint.point g.P.ContourPoint.points g.P.ContourPoint.each c.args.points.now in
+    let within : c.loop-given.given-index < length (g.P.ContourPoint.points c.args.points.now) = omega (arith, count, c.loop-given-test.true) in
+    let read = points-item g.P.ContourPoint.point g.P.ContourPoint.points g.P.ContourPoint.each c.args.points.now _ c.given-item.result c.to_point-point.result c.to_point-point.ensures c.loop-given-test.true c.given-item.is in
+    let next = read-safe g.P.Coordinate.IntNumber.width g.P.Coordinate.IntNumber.value (g.P.ContourPoint.points c.args.points.now) _ c.to_point-point.result c.requires within read in
+    grind (arith, common_steps, g.met.P.Coordinate.IntNumber)
+
+pub loop-given-preserved-then-are_same : goal.loop-given-preserved-then-are_same
+loop-given-preserved-then-are_same g c =
+    let count = points-length g.P.ContourPoint.point g.P.ContourPoint.points g.P.ContourPoint.each c.args.points.now in
+    let within : c.loop-given.given-index < length (g.P.ContourPoint.points c.args.points.now) = omega (arith, count, c.loop-given-test.true) in
+    let read = points-item g.P.ContourPoint.point g.P.ContourPoint.points g.P.ContourPoint.each c.args.points.now _ c.given-item.result c.to_point-point.result c.to_point-point.ensures c.loop-given-test.true c.given-item.is in
+    record {
+  here_safe = c.loop-given.invariant.here_safe;
+  bending = bending_repeat g.P.Coordinate.IntNumber.value (g.P.ContourPoint.points c.args.points.now) c.loop-given.bend c.loop-given.repeats c.loop-given.given-index (point_of g.P.Coordinate.IntNumber.value c.loop-given.edge) c.loop-given.here c.to_point-point.result
+      within read (sym c.are_same.ensures ∙ c.if-are_same.true) c.loop-given.invariant.bending;
+}
+
+pub returns-in_default-joined_with : goal.returns-in_default-joined_with
+returns-in_default-joined_with g c =
+    let count = points-length g.P.ContourPoint.point g.P.ContourPoint.points g.P.ContourPoint.each c.args.points.now in
+    let within : c.loop-given.given-index < length (g.P.ContourPoint.points c.args.points.now) = omega (arith, count, c.loop-given-test.true) in
+    let read = points-item g.P.ContourPoint.point g.P.ContourPoint.points g.P.ContourPoint.each c.args.points.now _ c.given-item.result c.to_point-point.result c.to_point-point.ensures c.loop-given-test.true c.given-item.is in
+    let told : IsTrue c.eq.result ↔ (c.bend_of-turned.result ≡ Straight) = search rules in
+    let moved : c.bend_of-turned.result ≡ Straight → is_same (point_of g.P.Coordinate.IntNumber.value c.loop-given.here) (point_of g.P.Coordinate.IntNumber.value c.to_point-point.result) ≡ false = elim c.else-eq.branch [
+      | else-eq-via-then-eq+else-are_same w ↦ λ s. sym w.are_same.ensures ∙ w.if-are_same.false
+      | else-eq-via-else-eq w ↦ λ s. let t = told.1 s in let f = w.if-eq.false in absurd (cc)
+    ] in
+    clash_item g.P.Coordinate.IntNumber.value (g.P.ContourPoint.points c.args.points.now) c.loop-given.bend c.bend_of-turned.result c.loop-given.repeats c.loop-given.given-index
+    (point_of g.P.Coordinate.IntNumber.value c.loop-given.edge) (point_of g.P.Coordinate.IntNumber.value c.sub-next.result) c.loop-given.here c.to_point-point.result
+    within read moved c.bend_of-turned.ensures c.sub-next.ensures (sym c.in_default-joined_with.ensures) c.loop-given.invariant.bending
+
+pub loop-given-preserved : goal.loop-given-preserved
+loop-given-preserved g c =
+    let count = points-length g.P.ContourPoint.point g.P.ContourPoint.points g.P.ContourPoint.each c.args.points.now in
+    let within : c.loop-given.given-index < length (g.P.ContourPoint.points c.args.points.now) = omega (arith, count, c.loop-given-test.true) in
+    let read = points-item g.P.ContourPoint.point g.P.ContourPoint.points g.P.ContourPoint.each c.args.points.now _ c.given-item.result c.to_point-point.result c.to_point-point.ensures c.loop-given-test.true c.given-item.is in
+    let told : IsTrue c.eq.result ↔ (c.bend_of-turned.result ≡ Straight) = search rules in
+    let moved : c.bend_of-turned.result ≡ Straight → is_same (point_of g.P.Coordinate.IntNumber.value c.loop-given.here) (point_of g.P.Coordinate.IntNumber.value c.to_point-point.result) ≡ false = elim c.else-eq.branch [
+      | else-eq-via-then-eq+else-are_same w ↦ λ s. sym w.are_same.ensures ∙ w.if-are_same.false
+      | else-eq-via-else-eq w ↦ λ s. let t = told.1 s in let f = w.if-eq.false in absurd (cc)
+    ] in
+    record {
+      here_safe = read-safe g.P.Coordinate.IntNumber.width g.P.Coordinate.IntNumber.value (g.P.ContourPoint.points c.args.points.now) _ c.to_point-point.result c.requires within read;
+      bending = bending_item g.P.Coordinate.IntNumber.value (g.P.ContourPoint.points c.args.points.now) c.loop-given.bend c.bend_of-turned.result c.in-Some-joined_with.both c.loop-given.repeats c.loop-given.given-index
+          (point_of g.P.Coordinate.IntNumber.value c.loop-given.edge) (point_of g.P.Coordinate.IntNumber.value c.sub-next.result) c.loop-given.here c.to_point-point.result
+          within read moved c.bend_of-turned.ensures c.sub-next.ensures (sym c.in-Some-joined_with.ensures) c.loop-given.invariant.bending;
+    }
+
+pub returns-then-ne : goal.returns-then-ne
+returns-then-ne g c =
+    let count = points-length g.P.ContourPoint.point g.P.ContourPoint.points g.P.ContourPoint.each c.args.points.now in
+    let over = bending_over g.P.Coordinate.IntNumber.value (g.P.ContourPoint.points c.args.points.now) c.loop-given.bend c.loop-given.repeats c.loop-given.given-index (point_of g.P.Coordinate.IntNumber.value c.loop-given.edge) (point_of g.P.Coordinate.IntNumber.value c.loop-given.here)
+    (omega (arith, count, c.loop-given-test.false, c.loop-given.auto.given-index-end)) c.loop-given.invariant.bending in
+    let told : IsTrue c.ne.result ↔ (c.loop-given.bend ≢ Reversal) = search rules in
+    (λ t. over.1.0 (inr (told.0 t)), λ k. c.if-ne.true)
+
+pub returns-else-ne : goal.returns-else-ne
+returns-else-ne g c =
+    let count = points-length g.P.ContourPoint.point g.P.ContourPoint.points g.P.ContourPoint.each c.args.points.now in
+    let over = bending_over g.P.Coordinate.IntNumber.value (g.P.ContourPoint.points c.args.points.now) c.loop-given.bend c.loop-given.repeats c.loop-given.given-index (point_of g.P.Coordinate.IntNumber.value c.loop-given.edge) (point_of g.P.Coordinate.IntNumber.value c.loop-given.here)
+    (omega (arith, count, c.loop-given-test.false, c.loop-given.auto.given-index-end)) c.loop-given.invariant.bending in
+    let few = rw count at over in
+    let told : IsTrue c.ne.result ↔ (c.loop-given.bend ≢ Reversal) = search rules in (
+      λ t. few.1.0 (inl ((few_tells _).0 t)),
+      λ k. elim (few.1.1 k) [ inl least ↦ (few_tells _).1 least | inr n ↦ let t = told.1 n in let f = c.if-ne.false in absurd (cc) ],
+    )
