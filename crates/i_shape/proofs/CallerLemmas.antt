@@ -339,15 +339,15 @@ slot_stays c (p ∷ e) (q ∷ d) simple despiked = go despiked.ended.reached
 
 module _ {P : Type 0} {width : Width} {read : List P → List Point} {given old new : List P} {n : ℕ} where
   -- what a cleaner writes has the double area of what it was given, and the same points inside, also where it writes nothing
-  pub written_kept : {Answer : List Point → Option (List Point) → Type 0} → IsWritten Answer width read given old new n → IsKept (read given) (read (take n new))
+  pub written_kept : {Answer : List Point → Option (List Point) → Type 0} → IsWritten Answer KeptAnswer width read given old new n → IsKept (read given) (read (take n new))
   written_kept written = slot_keeps (read given) (read (take n new)) written.cleaned.kept
 
   -- what is written without zero turns is simple exactly where something is left
-  pub written_simple : IsWritten SimpleAnswer width read given old new n → IsSimple (read (take n new)) ↔ (EachEndCollapses (read given) → ⊥)
+  pub written_simple : IsWritten SimpleAnswer KeptAnswer width read given old new n → IsSimple (read (take n new)) ↔ (EachEndCollapses (read given) → ⊥)
   written_simple written = slot_simple (read given) (read (take n new)) written.cleaned.answer
 
   -- where zero turns were removed, what is written where spikes are removed from the rest is the contour without zero turns too
-  pub cleaned_twice : {before after : List P} {m : ℕ} → IsWritten SimpleAnswer width read given old new n → IsWritten SpikelessAnswer width read (take n new) before after m → SimpleAnswer (read given) (slot (read (take m after)))
+  pub cleaned_twice : {before after : List P} {m : ℕ} → IsWritten SimpleAnswer KeptAnswer width read given old new n → IsWritten SpikelessAnswer KeptAnswer width read (take n new) before after m → SimpleAnswer (read given) (slot (read (take m after)))
   cleaned_twice {before} {after} {m} simple despiked =
       let same = slot_stays (read given) (read (take n new)) (read (take m after)) simple.cleaned.answer despiked.cleaned.answer in
       rw same simple.cleaned.answer

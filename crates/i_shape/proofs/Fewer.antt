@@ -1,11 +1,8 @@
 -- Cleaning leaves no more shapes, contours and points than there were.
-use Rattle.std.proofs.Common.{◌≡◌, ℕ, ◌≤◌, List, [], ◌∷◌, length, length-append, refl, ap, arith, Option, Some, None, inl, inr}
+use Rattle.std.proofs.Common.{◌≡◌, ℕ, ◌≤◌, List, [], ◌∷◌, length, length-append, refl, ap, arith, Option, Some, None}
 use Rattle.std.specs.List.{AllZip, filter_map, sum_by}
-use Rattle.std.proofs.lemmas.Bool.{cases_lt}
 use Rattle.std.proofs.lemmas.List.Sums.{sum_by-cons, sum_by-append}
 use Rattle.i_shape_core.specs.Point.{Point}
-use Rattle.i_shape_core.specs.Cleaners.{DespikeAnswer}
-use Rattle.i_shape_core.proofs.Ends.{reach_shrinks}
 use Rattle.i_shape_source.specs.Paths.{joined}
 use Rattle.i_shape.specs.ShapeAnswers.{Survivors, ShapeClean, ListClean}
 
@@ -61,10 +58,3 @@ list_fewer Answer fewer shapes kept clean = fewer_by_sums shapes kept
     (survivors_fewer (ShapeClean Answer) (λ s. 1) (λ s. 1) (λ s k a. omega arith) shapes kept clean)
     (survivors_fewer (ShapeClean Answer) (λ s. sum_by (λ c. 1) s) (λ s. sum_by (λ c. 1) s) (shape_fewer Answer (λ c. 1) (λ c e a. omega arith)) shapes kept clean)
     (survivors_fewer (ShapeClean Answer) (λ s. sum_by length s) (λ s. sum_by length s) (shape_fewer Answer length fewer) shapes kept clean)
-
--- a contour without its spikes has no more points
-pub despike_fewer : (c e : List Point) → DespikeAnswer c (Some e) → length e ≤ length c
-despike_fewer c e answer = elim (cases_lt (length c) (length e)) [
-  | inl more ↦ absurd (let fewer : length e ≤ length c = reach_shrinks (answer.cleaned (λ clean. let same : e ≡ c = (let h = answer.clean clean in cc) in omega (arith, more, ap length same))).ended.reached in omega (arith, more, fewer))
-  | inr fewer ↦ fewer
-]

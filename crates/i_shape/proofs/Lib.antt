@@ -8,6 +8,7 @@ pub mod ShapeRanges
 pub mod ShapesHeld
 pub mod CompactLaws
 pub mod ShapesCleaned
+pub mod WrittenBehind
 pub mod WrappedSums
 pub mod LeftInPlace
 pub mod SpikesLeft

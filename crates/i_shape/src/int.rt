@@ -12,6 +12,14 @@ pub mod winding;
 
 pub use i_shape_core::point::{ContourPoint, IntPoint};
 
+/// The cleaners of one contour, and what shapes and lists take of their answers.
+pub mod cleaner {
+    pub use crate::int::cleaning::{CleanerLaws, InPlaceCleaner};
+    pub use i_shape_core::cleaner::{
+        Canonicalizer, ContourCleaner, SpikeRemover, UnorientedCanonicalizer,
+    };
+}
+
 /// The safe-range test of a resource.
 pub mod safe_range {
     pub use i_shape_source::int::safe_range::IntSafeRange;

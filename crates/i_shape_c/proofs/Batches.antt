@@ -64,7 +64,7 @@ safe_part {P} width point points offsets a b order less within safe =
     rw (inner_part points (offset offsets 0) (offset offsets a) (offset offsets b) (offset offsets (length offsets - 1)) low mid high)
     (All-take Q _ _ (All-drop Q _ _ safe))
 
-module _ {P : Type 0} (Answer : List Point → Option (List Point) → Type 0) (width : Width) (point : P → Point) where
+module _ {P : Type 0} (Answer Kept : List Point → Option (List Point) → Type 0) (width : Width) (point : P → Point) where
   -- the contours before a place are done
   pub record Done (points : List P) (offsets : List ℕ) (out_points : List P) (out_offsets : List ℕ) (place written : ℕ) : Type 0 where
     pub some : 0 < place
@@ -72,7 +72,7 @@ module _ {P : Type 0} (Answer : List Point → Option (List Point) → Type 0) (
     pub order : InOrder out_offsets place
     pub last : offset out_offsets (place - 1) ≡ written
     pub fewer : written ≤ offset offsets (place - 1)
-    pub cleaned : (k : ℕ) → k + 1 < place → IsCleaned Answer width (map point (ring points offsets k)) (map point (ring out_points out_offsets k))
+    pub cleaned : (k : ℕ) → k + 1 < place → IsCleaned Answer Kept width (map point (ring points offsets k)) (map point (ring out_points out_offsets k))
 
   pub nothing_done : (points : List P) (offsets : List ℕ) (out_points : List P) (out_offsets : List ℕ)
       → offset out_offsets 0 ≡ 0 → Done points offsets out_points out_offsets 1 0
@@ -88,7 +88,7 @@ module _ {P : Type 0} (Answer : List Point → Option (List Point) → Type 0) (
   module _ (points : List P) (offsets : List ℕ) (old new : List P) (parts : List ℕ) (place written end : ℕ)
       (done : Done points offsets old parts place written) (room : place < length parts) (above : written ≤ end) (under : end ≤ offset offsets place)
       (same : take written new ≡ take written old)
-      (answer : IsCleaned Answer width (map point (slice_range points (offset offsets (place - 1)) (offset offsets place))) (map point (slice_range new written end))) where
+      (answer : IsCleaned Answer Kept width (map point (slice_range points (offset offsets (place - 1)) (offset offsets place))) (map point (slice_range new written end))) where
     abbrev grown : List ℕ
     grown = set parts place end
 
@@ -107,7 +107,7 @@ module _ {P : Type 0} (Answer : List Point → Option (List Point) → Type 0) (
     order_at k (inr less) = rw (kept_at k (omega (arith, less)), kept_at (k + 1) less) (done.order k less)
     order_at k (inl is) = omega (arith, (at_place k is).0, (at_place k is).1, above)
 
-    cleaned_at : (k : ℕ) → (k + 1 ≡ place) ⊎ (k + 1 < place) → IsCleaned Answer width (map point (ring points offsets k)) (map point (ring new grown k))
+    cleaned_at : (k : ℕ) → (k + 1 ≡ place) ⊎ (k + 1 < place) → IsCleaned Answer Kept width (map point (ring points offsets k)) (map point (ring new grown k))
     cleaned_at k (inr less) =
         let low = kept_at k (omega (arith, less)) in
         let high = kept_at (k + 1) less in
@@ -117,8 +117,8 @@ module _ {P : Type 0} (Answer : List Point → Option (List Point) → Type 0) (
     cleaned_at k (inl is) =
         let here : place - 1 ≡ k = omega (arith, is) in
         let part : List P = slice_range new written end in
-        let low = subst (λ m. IsCleaned Answer width (map point (slice_range points (offset offsets m) (offset offsets place))) (map point part)) here answer in
-        let both = subst (λ m. IsCleaned Answer width (map point (slice_range points (offset offsets k) (offset offsets m))) (map point part)) (sym is) low in
+        let low = subst (λ m. IsCleaned Answer Kept width (map point (slice_range points (offset offsets m) (offset offsets place))) (map point part)) here answer in
+        let both = subst (λ m. IsCleaned Answer Kept width (map point (slice_range points (offset offsets k) (offset offsets m))) (map point part)) (sym is) low in
         rw ((at_place k is).0, (at_place k is).1) both
 
     split : (k : ℕ) → k + 1 < place + 1 → (k + 1 ≡ place) ⊎ (k + 1 < place)
@@ -138,7 +138,7 @@ module _ {P : Type 0} (Answer : List Point → Option (List Point) → Type 0) (
   pub all_done : (points : List P) (offsets : List ℕ) (old_points new_points : List P) (old_offsets new_offsets : List ℕ) (place written : ℕ)
       → length offsets ≤ place → place ≤ length offsets → offset offsets (length offsets - 1) ≤ length points → Done points offsets new_points new_offsets place written
       → drop written new_points ≡ drop written old_points → drop place new_offsets ≡ drop place old_offsets
-      → IsCleanedBatch Answer width point points offsets old_points new_points old_offsets new_offsets written
+      → IsCleanedBatch Answer Kept width point points offsets old_points new_points old_offsets new_offsets written
   all_done points offsets old_points new_points old_offsets new_offsets place written least most within done rest offsets_rest =
       let same : place ≡ length offsets = omega (arith, least, most) in
       let whole : Done points offsets new_points new_offsets (length offsets) written = subst (λ n. Done points offsets new_points new_offsets n written) same done in

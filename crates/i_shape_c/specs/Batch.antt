@@ -35,13 +35,13 @@ NoneTakesMemory Clean point points offsets = (k : ℕ) → k + 1 < length offset
 
 -- each contour that the new offsets part is what the cleaner makes of the given one at the same place, empty where that collapses; there
 -- are n points in all, and what stands behind them and behind the offsets is as it was
-pub record IsCleanedBatch {P : Type 0} (Answer : List Point → Option (List Point) → Type 0) (width : Width) (point : P → Point) (points : List P) (offsets : List ℕ)
+pub record IsCleanedBatch {P : Type 0} (Answer Kept : List Point → Option (List Point) → Type 0) (width : Width) (point : P → Point) (points : List P) (offsets : List ℕ)
     (old_points new_points : List P) (old_offsets new_offsets : List ℕ) (n : ℕ) : Type 0 where
   pub first : offset new_offsets 0 ≡ 0
   pub order : InOrder new_offsets (length offsets)
   pub last : offset new_offsets (length offsets - 1) ≡ n
   pub fewer : n ≤ length points
-  pub cleaned : (k : ℕ) → k + 1 < length offsets → IsCleaned Answer width (map point (ring points offsets k)) (map point (ring new_points new_offsets k))
+  pub cleaned : (k : ℕ) → k + 1 < length offsets → IsCleaned Answer Kept width (map point (ring points offsets k)) (map point (ring new_points new_offsets k))
   pub rest : drop n new_points ≡ drop n old_points
   pub offsets_rest : drop (length offsets) new_offsets ≡ drop (length offsets) old_offsets
 
@@ -56,11 +56,11 @@ pub record IsWithin {P : Type 0} (p m : ℕ) (old_points new_points : List P) (o
   pub offsets : drop m new_offsets ≡ drop m old_offsets
 
 -- the number of points that are written, or one of three codes: nothing is written at the first two, and nothing behind the room that is asked for at the third
-abbrev pub BatchAnswer : {P : Type 0} → (List Point → Option (List Point) → Type 0) → Width → (P → Point) → List P → List ℕ → List P → List P → List ℕ → List ℕ → ℤ → Type 0
-BatchAnswer Answer width point points offsets old_points new_points old_offsets new_offsets (pos n) =
-    IsCleanedBatch Answer width point points offsets old_points new_points old_offsets new_offsets n
-BatchAnswer Answer width point points offsets old_points new_points old_offsets new_offsets (negsuc zero) = IsUntouched old_points new_points old_offsets new_offsets
-BatchAnswer Answer width point points offsets old_points new_points old_offsets new_offsets (negsuc (suc zero)) = IsUntouched old_points new_points old_offsets new_offsets
-BatchAnswer Answer width point points offsets old_points new_points old_offsets new_offsets (negsuc (suc (suc zero))) =
+abbrev pub BatchAnswer : {P : Type 0} → (List Point → Option (List Point) → Type 0) → (List Point → Option (List Point) → Type 0) → Width → (P → Point) → List P → List ℕ → List P → List P → List ℕ → List ℕ → ℤ → Type 0
+BatchAnswer Answer Kept width point points offsets old_points new_points old_offsets new_offsets (pos n) =
+    IsCleanedBatch Answer Kept width point points offsets old_points new_points old_offsets new_offsets n
+BatchAnswer Answer Kept width point points offsets old_points new_points old_offsets new_offsets (negsuc zero) = IsUntouched old_points new_points old_offsets new_offsets
+BatchAnswer Answer Kept width point points offsets old_points new_points old_offsets new_offsets (negsuc (suc zero)) = IsUntouched old_points new_points old_offsets new_offsets
+BatchAnswer Answer Kept width point points offsets old_points new_points old_offsets new_offsets (negsuc (suc (suc zero))) =
     IsWithin (length points) (length offsets) old_points new_points old_offsets new_offsets
-BatchAnswer Answer width point points offsets old_points new_points old_offsets new_offsets (negsuc (suc (suc (suc n)))) = ⊥
+BatchAnswer Answer Kept width point points offsets old_points new_points old_offsets new_offsets (negsuc (suc (suc (suc n)))) = ⊥

@@ -4,7 +4,6 @@ use Rattle.i_shape.specs.Point.{Point}
 use Rattle.std.specs.Int.{Width}
 use Rattle.std.specs.List.{All}
 use Rattle.i_shape.specs.IntPoint.{IsSafe}
-use Rattle.i_shape.specs.Cleaners.{IsDespiked}
 use Rattle.i_shape.specs.Written.{IsWritten}
 
 -- the code of points that aren't safe
@@ -19,10 +18,6 @@ unfit_code = negsuc 1
 abbrev pub no_memory_code : ℤ
 no_memory_code = negsuc 2
 
--- despiking leaves the contour as it is
-abbrev pub IsDespikedAlready : List Point → Type 0
-IsDespikedAlready c = IsDespiked c c
-
 -- the points are fewer than three, or a clean contour
 abbrev pub TakesNoMemory : {P : Type 0} → (List Point → Type 0) → (P → Point) → List P → Type 0
 TakesNoMemory Clean point points = (length points < 3) ⊎ Clean (map point points)
@@ -32,6 +27,6 @@ abbrev pub AreSafe : {P : Type 0} → Width → (P → Point) → List P → Typ
 AreSafe width point points = All (λ p. IsSafe width (point p)) points
 
 -- the number of points that are written, or one of three codes, and nothing is
-abbrev pub CleanAnswer : {P : Type 0} → (List Point → Option (List Point) → Type 0) → Width → (P → Point) → List P → List P → List P → ℤ → Type 0
-CleanAnswer Answer width point given old new (pos n) = IsWritten Answer width (map point) given old new n
-CleanAnswer Answer width point given old new (negsuc n) = (n < 3) × (new ≡ old)
+abbrev pub CleanAnswer : {P : Type 0} → (List Point → Option (List Point) → Type 0) → (List Point → Option (List Point) → Type 0) → Width → (P → Point) → List P → List P → List P → ℤ → Type 0
+CleanAnswer Answer Kept width point given old new (pos n) = IsWritten Answer Kept width (map point) given old new n
+CleanAnswer Answer Kept width point given old new (negsuc n) = (n < 3) × (new ≡ old)

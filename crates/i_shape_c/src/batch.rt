@@ -5,17 +5,17 @@ ghost use Rattle.i_shape.specs.IntPoint.{point_of};
 ghost use Rattle.i_shape_c.specs.Cleaned.{unsafe_code, unfit_code, no_memory_code};
 ghost use Rattle.i_shape_c.specs.Batch.{offset, InOrder, CanClean, AreSafeContours, NoneTakesMemory, IsCleanedBatch, IsWithin, BatchAnswer};
 
-use crate::cleaner::Cleaner;
 use crate::codes::{NO_MEMORY, UNFIT, UNSAFE};
 use crate::contour::clean_into;
 use crate::lists::are_safe;
 use crate::point::CPoint;
 use i_shape::ShapeError;
+use i_shape::int::cleaner::ContourCleaner;
 use std::alloc::Global;
 
 /// Writes what is left of each contour to the front of `out_points`, and to `out_offsets` where it starts and ends. Answers how many
 /// points these are, or a code below 0.
-pub fn clean_contours<P: CPoint, C: Cleaner>(
+pub fn clean_contours<P: CPoint, C: ContourCleaner>(
     alloc: Global,
     points: &[P],
     offsets: &[usize],
@@ -23,10 +23,10 @@ pub fn clean_contours<P: CPoint, C: Cleaner>(
     out_offsets: &mut [usize],
 ) -> isize
     requires { length out_points.old < 2 ^ 63 }
-    ensures answer { BatchAnswer C.gives P.Coordinate.width (λ p. point_of P.Coordinate.value (P.point p)) points.now offsets.now out_points.old out_points.new out_offsets.old out_offsets.new result }
+    ensures answer { BatchAnswer C.answers C.keeps P.Coordinate.width (λ p. point_of P.Coordinate.value (P.point p)) points.now offsets.now out_points.old out_points.new out_offsets.old out_offsets.new result }
     ensures unfit { result ≡ unfit_code ↔ (CanClean (length points.now) offsets.now (length out_points.old) (length out_offsets.old) → ⊥) }
     ensures unsafe_points { result ≡ unsafe_code ↔ (CanClean (length points.now) offsets.now (length out_points.old) (length out_offsets.old) × (AreSafeContours P.Coordinate.width (λ p. point_of P.Coordinate.value (P.point p)) points.now offsets.now → ⊥)) }
-    ensures memory { result ≡ no_memory_code → NoneTakesMemory C.is_clean (λ p. point_of P.Coordinate.value (P.point p)) points.now offsets.now → ⊥ }
+    ensures memory { result ≡ no_memory_code → NoneTakesMemory C.clean (λ p. point_of P.Coordinate.value (P.point p)) points.now offsets.now → ⊥ }
 {
     if !can_clean(points.len(), offsets, out_points.len(), out_offsets.len()) {
         return UNFIT;
@@ -56,7 +56,7 @@ pub fn can_clean(points: usize, offsets: &[usize], out_points: usize, out_offset
 }
 
 /// Cleans one contour after another. One cleaner serves them all.
-fn clean_all<P: CPoint, C: Cleaner>(
+fn clean_all<P: CPoint, C: ContourCleaner>(
     alloc: Global,
     points: &[P],
     offsets: &[usize],
@@ -65,9 +65,9 @@ fn clean_all<P: CPoint, C: Cleaner>(
 ) -> Result<usize, ShapeError>
     requires can { CanClean (length points.now) offsets.now (length out_points.old) (length out_offsets.old) }
     requires points_safe { AreSafeContours P.Coordinate.width (λ p. point_of P.Coordinate.value (P.point p)) points.now offsets.now }
-    ensures ok { IfOk result (λ n. IsCleanedBatch C.gives P.Coordinate.width (λ p. point_of P.Coordinate.value (P.point p)) points.now offsets.now out_points.old out_points.new out_offsets.old out_offsets.new n) }
+    ensures ok { IfOk result (λ n. IsCleanedBatch C.answers C.keeps P.Coordinate.width (λ p. point_of P.Coordinate.value (P.point p)) points.now offsets.now out_points.old out_points.new out_offsets.old out_offsets.new n) }
     ensures err { OnErr result (IsWithin (length points.now) (length offsets.now) out_points.old out_points.new out_offsets.old out_offsets.new) }
-    ensures memory { OnErr result (NoneTakesMemory C.is_clean (λ p. point_of P.Coordinate.value (P.point p)) points.now offsets.now → ⊥) }
+    ensures memory { OnErr result (NoneTakesMemory C.clean (λ p. point_of P.Coordinate.value (P.point p)) points.now offsets.now → ⊥) }
 {
     let mut cleaner = C::with_room(alloc, longest(offsets));
     let mut written: usize = 0;

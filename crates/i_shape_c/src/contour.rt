@@ -5,20 +5,24 @@ ghost use Rattle.i_shape.specs.IntPoint.{point_of};
 ghost use Rattle.i_shape.specs.Written.{IsCleaned};
 ghost use Rattle.i_shape_c.specs.Cleaned.{AreSafe, CleanAnswer, TakesNoMemory, unsafe_code, unfit_code, no_memory_code};
 
-use crate::cleaner::Cleaner;
 use crate::codes::{NO_MEMORY, UNFIT, UNSAFE};
 use crate::lists::are_safe;
 use crate::point::CPoint;
 use i_shape::ShapeError;
+use i_shape::int::cleaner::ContourCleaner;
 use std::alloc::Global;
 
 /// Writes what is left of the points to the front of `out`, and answers how many these are, or a code below 0.
-pub fn clean_contour<P: CPoint, C: Cleaner>(alloc: Global, points: &[P], out: &mut [P]) -> isize
+pub fn clean_contour<P: CPoint, C: ContourCleaner>(
+    alloc: Global,
+    points: &[P],
+    out: &mut [P],
+) -> isize
     requires { length out.old < 2 ^ 63 }
-    ensures answer { CleanAnswer C.gives P.Coordinate.width (λ p. point_of P.Coordinate.value (P.point p)) points.now out.old out.new result }
+    ensures answer { CleanAnswer C.answers C.keeps P.Coordinate.width (λ p. point_of P.Coordinate.value (P.point p)) points.now out.old out.new result }
     ensures unfit { result ≡ unfit_code ↔ (length out.old < length points.now) }
     ensures unsafe_points { result ≡ unsafe_code ↔ ((length points.now ≤ length out.old) × (AreSafe P.Coordinate.width (λ p. point_of P.Coordinate.value (P.point p)) points.now → ⊥)) }
-    ensures memory { result ≡ no_memory_code → TakesNoMemory C.is_clean (λ p. point_of P.Coordinate.value (P.point p)) points.now → ⊥ }
+    ensures memory { result ≡ no_memory_code → TakesNoMemory C.clean (λ p. point_of P.Coordinate.value (P.point p)) points.now → ⊥ }
 {
     if out.len() < points.len() {
         return UNFIT;
@@ -34,7 +38,7 @@ pub fn clean_contour<P: CPoint, C: Cleaner>(alloc: Global, points: &[P], out: &m
 }
 
 /// Writes what is left of the points from place `at` on, and answers where it ends.
-pub fn clean_into<P: CPoint, C: Cleaner>(
+pub fn clean_into<P: CPoint, C: ContourCleaner>(
     cleaner: &mut C,
     given: &[P],
     out: &mut [P],
@@ -43,13 +47,13 @@ pub fn clean_into<P: CPoint, C: Cleaner>(
     requires points_safe { AreSafe P.Coordinate.width (λ p. point_of P.Coordinate.value (P.point p)) given.now }
     requires room { at + length given.now ≤ length out.old }
     ensures end { IfOk result (λ end. (at ≤ end) × (end ≤ at + length given.now)) }
-    ensures cleaned { IfOk result (λ end. IsCleaned C.gives P.Coordinate.width (map (λ p. point_of P.Coordinate.value (P.point p)) given.now) (map (λ p. point_of P.Coordinate.value (P.point p)) (slice_range out.new at end))) }
+    ensures cleaned { IfOk result (λ end. IsCleaned C.answers C.keeps P.Coordinate.width (map (λ p. point_of P.Coordinate.value (P.point p)) given.now) (map (λ p. point_of P.Coordinate.value (P.point p)) (slice_range out.new at end))) }
     ensures before { take at out.new ≡ take at out.old }
     ensures after { IfOk result (λ end. drop end out.new ≡ drop end out.old) }
     ensures len { length out.new ≡ length out.old }
     ensures err { OnErr result (out.new ≡ out.old) }
-    ensures memory { OnErr result (TakesNoMemory C.is_clean (λ p. point_of P.Coordinate.value (P.point p)) given.now → ⊥) }
+    ensures memory { OnErr result (TakesNoMemory C.clean (λ p. point_of P.Coordinate.value (P.point p)) given.now → ⊥) }
 {
-    let count = cleaner.clean(given, &mut out[at..])?;
+    let count = cleaner.clean_into(given, &mut out[at..])?;
     Ok(at + count)
 }

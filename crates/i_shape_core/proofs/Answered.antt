@@ -1,15 +1,18 @@
 -- What an answer of a cleaner keeps of its contour, whatever gave it.
-use Rattle.std.proofs.Common.{◌≡◌, ℕ, zero, suc, ◌<◌, ◌≤◌, ◌⊎◌, List, [], length, Option, Some, None, Bool, true, false, inl, inr, refl, sym, ◌∙◌, subst, arith, eq-or-lt_of_le, le_of_suc-le-suc}
+use Rattle.std.proofs.Common.{◌≡◌, ℕ, zero, suc, ◌<◌, ◌≤◌, ◌⊎◌, List, [], length, Option, Some, None, Bool, true, false, inl, inr, refl, sym, ◌∙◌, not, is_some, ◌↔◌, IsTrue, subst, arith, eq-or-lt_of_le, le_of_suc-le-suc}
 use Rattle.std.specs.List.{All}
 use native.Mathlib.Decide.{dec_le, dec_lt}
-use Rattle.i_shape_core.specs.Point.{Point}
+use Rattle.i_shape_core.specs.Point.{Point, IsBack}
 use Rattle.i_shape_core.specs.Contour.{point_at, place_before, place_after}
 use Rattle.i_shape_core.specs.Convex.{dedup, turn_at, is_reversal, IsReversal, NoSpikes}
-use Rattle.i_shape_core.specs.Cleaners.{SimpleAnswer, SpikelessAnswer, DespikeAnswer, EachEndCollapses, KeptAnswer, IsKept, IsFlat}
-use Rattle.i_shape_core.proofs.Ends.{has_end, all_left, reach_by_weaker}
+use Rattle.i_shape_core.specs.Cleaners.{SimpleAnswer, SpikelessAnswer, DespikeAnswer, IsDespikedAlready, EachEndCollapses, KeptAnswer, IsKept, IsFlat}
+use Rattle.i_shape_core.specs.Walks.{FirstAnswer}
+use Rattle.i_shape_core.proofs.Ends.{has_end, all_left, reach_by_weaker, reach_shrinks}
+use Rattle.i_shape_core.proofs.FirstPlaces.{none_found}
+use Rattle.i_shape_core.proofs.Repeats.{dedup_leads}
 use Rattle.i_shape_core.proofs.CycleLaws.{zero_turn_decided}
 use Rattle.i_shape_core.proofs.Survive.{straightens}
-use Rattle.i_shape_core.proofs.Cleaned.{kept, flat, no_area}
+use Rattle.i_shape_core.proofs.Cleaned.{kept, flat, no_area, spikeless_answer}
 use Rattle.i_shape_core.proofs.Windings.{winding_none}
 use Rattle.i_shape_core.proofs.RationalWindings.{between_none}
 use Rattle.i_shape_core.proofs.Inside.{inside_laws}
@@ -92,3 +95,18 @@ despike_left Q c e a h = go (spikes_decided c)
     go : Dec (NoSpikes c) → All Q e
     go (yes s) = let same : e ≡ c = cc (a.clean s) in rw same h
     go (no n) = all_left Q (a.cleaned n).ended.reached h
+
+-- a contour without spikes has three points or more
+pub spikeless_long : (c : List Point) → NoSpikes c → 3 ≤ length c
+spikeless_long c s = omega (arith, s.enough, reach_shrinks (dedup_leads c s.enough))
+
+-- a contour that has no spikes is what the removal of spikes answers
+pub spikeless_stays : (c : List Point) → NoSpikes c → DespikeAnswer c (Some c)
+spikeless_stays c s = record { clean = λ _. refl; cleaned = λ spiked. absurd (spiked s) }
+
+-- the search for a place at which the way goes back tells whether despiking leaves the contour as it is
+pub despiked_told : (c : List Point) (found : Option ℕ) (visits : ℕ) (none : Bool) → 3 ≤ length c → FirstAnswer IsBack c found visits → is_some found ≡ not none → IsTrue none ↔ IsDespikedAlready c
+despiked_told c None visits true long answer told = (λ t. spikeless_answer c (Some c) visits (none_found c visits long answer.0 answer.1), λ d. refl)
+despiked_told c None visits false long answer told = absurd (cc)
+despiked_told c (Some k) visits true long answer told = absurd (cc)
+despiked_told c (Some k) visits false long answer told = (λ t. absurd (cc), λ d. absurd (d.ended.none_left k answer.0.here))

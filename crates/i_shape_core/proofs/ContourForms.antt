@@ -7,7 +7,7 @@ use native.Mathlib.Decide.{dec_le}
 use Rattle.i_shape_core.specs.Point.{Point, IsZeroTurn}
 use Rattle.i_shape_core.specs.Contour.{End, stay}
 use Rattle.i_shape_core.specs.Cleaners.{EachEndCollapses, IsKept, KeptAnswer}
-use Rattle.i_shape_core.specs.Canonical.{IsAtMost, IsLeast, IsCanonical, CanonicalAnswer, Joined, started_at, IsUnoriented, UnorientedAnswer, IsKeptBackwards, IsKeptEitherWay, KeptEitherWay, JoinedEitherWay, UnorientedJoined}
+use Rattle.i_shape_core.specs.Canonical.{IsAtMost, IsLeast, IsCanonical, CanonicalAnswer, Joined, started_at, IsUnoriented, IsLesserWay, UnorientedAnswer, IsKeptBackwards, IsKeptEitherWay, KeptEitherWay, JoinedEitherWay, UnorientedJoined}
 use Rattle.i_shape_core.proofs.Order.{at_most_refl, at_most_total, at_most_antisym}
 use Rattle.i_shape_core.proofs.Ends.{has_end, no_step, all_left}
 use Rattle.i_shape_core.proofs.CycleLaws.{zero_turn_decided, every_order}
@@ -85,6 +85,10 @@ unoriented_lesser c f b l a turned one left right = record {
   one = one;
   first = (left, right);
 }
+
+-- the lesser of the two ways of a canonical form is the unoriented form
+pub unoriented_lesser_way : (c f l : List Point) → IsCanonical c f → IsLesserWay f l → IsUnoriented c l
+unoriented_lesser_way c f l a way = unoriented_lesser c f way.backwards l a way.is_backwards way.one way.first.0 way.first.1
 
 -- a contour that doesn't collapse has a form
 pub has_canonical : (c : List Point) → EachEndCollapses c ⊎ ((l : List Point) × CanonicalAnswer c (Some l))

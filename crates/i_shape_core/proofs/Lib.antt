@@ -82,4 +82,7 @@ pub mod StartSteps
 pub mod CanonicalForm
 pub mod BothDirections
 pub mod ContourForms
+pub mod BothWays
+-- cleaners
+pub mod CleanerLaws
 pub mod ContourOrder

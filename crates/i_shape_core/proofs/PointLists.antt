@@ -62,3 +62,7 @@ module _ {A B : Type 0} (point : A → B) (points : List A → List B) (each : (
   -- the last point that passes a test
   pub points-found : (q : B → Bool) (list : List A) → find q (reverse (points list)) ≡ option_map point (find (λ a. q (point a)) (reverse list))
   points-found q list = ap (λ l. find q (reverse l)) (each list) ∙ ap (find q) (sym (map-reversed point list)) ∙ find-map point q (reverse list)
+
+  -- the same list, read backwards
+  pub points-reversed : (list back : List A) → back ≡ reverse list → points back ≡ reverse (points list)
+  points-reversed list back e = ap points e ∙ each (reverse list) ∙ map-reversed point list ∙ ap reverse (sym (each list))

@@ -12,7 +12,7 @@ use Rattle.std.proofs.lemmas.List.{with_items_is}
 use Rattle.i_shape_core.specs.Point.{Point}
 use Rattle.i_shape_core.specs.Contour.{point_at}
 use Rattle.i_shape_core.specs.Walks.{point_round, Agree, Precedes, IsOrder}
-use Rattle.i_shape_core.specs.Canonical.{IsBefore, IsLeast, started_at}
+use Rattle.i_shape_core.specs.Canonical.{IsBefore, IsLeast, IsLesserWay, started_at}
 use Rattle.i_shape_core.specs.IntPoint.{point_of, contour_of}
 use Rattle.i_shape_core.specs.declared.point.IntPoint.{IntPoint}
 use Rattle.i_shape_core.proofs.Contours.{read-point}
@@ -95,14 +95,24 @@ precedes-on c i j m a b k ours theirs wa wb wm before run h = record {
   before = subst₂ IsBefore (run-point c i m a k ours wa) (run-point c j m b k theirs wb) h;
 }
 
+-- turning the program's list starts the contour at another place
+pub contour-turned : {I : Type 0} (value : I → ℤ) (xs zs : List (IntPoint I)) (k : ℕ) → zs ≡ drop k xs ++ take k xs → contour_of value zs ≡ started_at (contour_of value xs) k
+contour-turned value xs zs k e = ap (contour_of value) e ∙ map-turned (point_of value) k xs
+
 -- turning the program's list turns the contour
 pub contour-started : {I : Type 0} (value : I → ℤ) (xs zs : List (IntPoint I)) (k : ℕ) → zs ≡ drop k xs ++ take k xs
     → IsLeast (contour_of value xs) (started_at (contour_of value xs) k) → IsLeast (contour_of value xs) (contour_of value zs)
 contour-started {I} value xs zs k e least =
-    subst (IsLeast (contour_of value xs)) (sym (ap (contour_of value) e ∙ map-turned (point_of value) k xs)) least
+    subst (IsLeast (contour_of value xs)) (sym (contour-turned value xs zs k e)) least
 
 -- a contour whose slice is turned to its least rotation is turned to it
 pub least-written : {I : Type 0} (value : I → ℤ) (v : Vec (IntPoint I)) (read ws : List (IntPoint I)) → read ≡ v.items → length ws ≡ length read
     → IsLeast (contour_of value read) (contour_of value ws) → IsLeast (contour_of value v.items) (contour_of value (with_items v ws).items)
 least-written value v read ws same long least =
     rw (with_items_is v ws (long ∙ ap length same ∙ sym v.ok.0)) (rw same at least)
+
+-- and so is one whose slice is turned to the lesser of its two ways
+pub lesser-written : {I : Type 0} (value : I → ℤ) (v : Vec (IntPoint I)) (read ws : List (IntPoint I)) → read ≡ v.items → length ws ≡ length read
+    → IsLesserWay (contour_of value read) (contour_of value ws) → IsLesserWay (contour_of value v.items) (contour_of value (with_items v ws).items)
+lesser-written value v read ws same long lesser =
+    rw (with_items_is v ws (long ∙ ap length same ∙ sym v.ok.0)) (rw same at lesser)

@@ -66,6 +66,13 @@ pub record IsUnoriented (c l : List Point) : Type 0 where
   pub one : (l ≡ forwards) ⊎ (l ≡ backwards)
   pub first : IsAtMost l forwards × IsAtMost l backwards
 
+-- l is c, or the least rotation of c read backwards: the one that comes first
+pub record IsLesserWay (c l : List Point) : Type 0 where
+  pub backwards : List Point
+  pub is_backwards : IsLeast (reverse c) backwards
+  pub one : (l ≡ c) ⊎ (l ≡ backwards)
+  pub first : IsAtMost l c × IsAtMost l backwards
+
 -- what `canonical_unoriented` answers: the lesser of the two forms, or nothing where each end collapses
 abbrev pub UnorientedAnswer : List Point → Option (List Point) → Type 0
 UnorientedAnswer c None = EachEndCollapses c

@@ -58,6 +58,10 @@ pub record IsDespiked (c d : List Point) : Type 0 where
   pub stands : (e : List Point) → End IsZeroTurn c e → 3 ≤ length e
   pub ends : (e f : List Point) → End IsZeroTurn c e → End IsZeroTurn d f → Rotation e f
 
+-- despiking leaves the contour as it is
+abbrev pub IsDespikedAlready : List Point → Type 0
+IsDespikedAlready c = IsDespiked c c
+
 -- what `despiked_contour` answers: a contour without spikes and repeated points, or nothing where each end collapses
 abbrev pub SpikelessAnswer : List Point → Option (List Point) → Type 0
 SpikelessAnswer c None = EachEndCollapses c

@@ -49,7 +49,7 @@ impl ContourSimplifier {
     ) -> Result<usize, ShapeError>
         requires points_safe { All (IsSafe P.Coordinate.width) (contour_of P.Coordinate.value (P.points contour.now)) }
         requires room { length contour.now ≤ length out.old }
-        ensures written { IfOk result (λ n. IsWritten CanonicalAnswer P.Coordinate.width (λ list. contour_of P.Coordinate.value (P.points list)) contour.now out.old out.new n) }
+        ensures written { IfOk result (λ n. IsWritten CanonicalAnswer KeptAnswer P.Coordinate.width (λ list. contour_of P.Coordinate.value (P.points list)) contour.now out.old out.new n) }
         ensures len { length out.new ≡ length out.old }
         ensures err { OnErr result (out.new ≡ out.old) }
         ensures short { length contour.now < 3 → result ≡ Ok 0 }
@@ -222,7 +222,7 @@ fn compare_runs<P: ContourPoint>(
 }
 
 /// The place `steps` after `start` on a cycle of `count` places.
-fn place_at_step(count: usize, start: usize, steps: usize) -> usize
+pub(crate) fn place_at_step(count: usize, start: usize, steps: usize) -> usize
     requires start_within { start < count }
     requires steps_within { steps < count }
     ensures within { result < count }

@@ -1,6 +1,6 @@
 //! Contours without spikes: the test, and the cleaned copy.
 
-ghost use Rattle.std.specs.Prelude.{◌≡◌, ◌↔◌, ◌+◌, ◌-◌, ◌*◌, ◌^◌, ◌<◌, ◌≤◌, List, length, map, false, IsTrue, IsNone, IfOk, OnErr, IsOkUnless};
+ghost use Rattle.std.specs.Prelude.{◌≡◌, ◌↔◌, ◌+◌, ◌-◌, ◌*◌, ◌^◌, ◌<◌, ◌≤◌, List, Some, length, map, option_map, false, IsTrue, IsNone, IfOk, OnErr, IsOkUnless};
 ghost use Rattle.std.specs.Option.{IfSome};
 ghost use Rattle.std.specs.List.{All};
 ghost use Rattle.i_shape_core.specs.IntPoint.{contour_of, point_of, IsSafe, answered};
@@ -8,7 +8,7 @@ ghost use Rattle.i_shape_core.specs.Point.{Point, IsBack};
 ghost use Rattle.i_shape_core.specs.Contour.{Sublist};
 ghost use Rattle.i_shape_core.specs.Blocks.{GoesBack, last_change};
 ghost use Rattle.i_shape_core.specs.Convex.{NoSpikes, last_of};
-ghost use Rattle.i_shape_core.specs.Cleaners.{IsDespiked, SpikelessAnswer, KeptAnswer, VisitsAnswer};
+ghost use Rattle.i_shape_core.specs.Cleaners.{IsDespikedAlready, SpikelessAnswer, KeptAnswer, VisitsAnswer};
 ghost use Rattle.i_shape_core.specs.Written.{IsWritten};
 ghost use Rattle.i_shape_core.specs.Contour.{point_at};
 ghost use Rattle.i_shape_core.specs.Walks.{WalkAnswer, Finds, Falls, FirstAnswer, IsRingState, PassesAtPlace, in_order};
@@ -69,16 +69,11 @@ impl<I: IntNumber> DeSpikeContour<I> for &[IntPoint<I>] {
     }
 
     fn despiked_contour(&self, alloc: Global) -> Result<Option<IntContour<I>>, ShapeError> {
-        let (kept, _visits) = self.despiked_counted(alloc)?;
-        Ok(kept)
+        ContourDeSpiker::new(alloc).despike_contour(*self)
     }
 
     fn despiked_counted(&self, alloc: Global) -> Result<(Option<IntContour<I>>, u128), ShapeError> {
-        let points: &[IntPoint<I>] = *self;
-        if points.len() < 3 {
-            return Ok((None, 0));
-        }
-        despiked(alloc, Probe::new(points))
+        ContourDeSpiker::new(alloc).despike_counted(*self)
     }
 }
 
@@ -121,10 +116,53 @@ impl ContourDeSpiker {
         }
     }
 
-    /// The contour without spikes, as `despiked_contour` gives it, for points of any type, written to the front of `out`:
-    /// answers how many points are left, 0 where the contour collapses. What stands behind them stays as it was, and so does
-    /// all of `out` where there is an error. Memory is taken for the places of a contour that has a spike or a repeated point
-    /// alone, and is kept. The only error is `OutOfMemory`.
+    /// Where it takes its memory from.
+    pub(crate) fn allocator(&self) -> Global {
+        *self.places.allocator()
+    }
+
+    /// The contour without spikes, as `DeSpikeContour::despiked_contour` gives it. The answer doesn't depend on earlier use,
+    /// nor on an earlier refusal. The only error is `OutOfMemory`.
+    pub fn despike_contour<I: IntNumber>(
+        &mut self,
+        contour: &[IntPoint<I>],
+    ) -> Result<Option<IntContour<I>>, ShapeError>
+        requires { All (IsSafe I.width) (contour_of I.value contour.now) }
+        ensures answer { IfOk result (λ r. SpikelessAnswer (contour_of I.value contour.now) (answered (contour_of I.value) r)) }
+        ensures in_order { IfOk result (λ r. IfSome r (λ kept. Sublist (contour_of I.value contour.now) (contour_of I.value kept.items))) }
+        ensures kept { IfOk result (λ r. KeptAnswer (contour_of I.value contour.now) (answered (contour_of I.value) r)) }
+        ensures safe { IfOk result (λ r. IfSome r (λ kept. All (IsSafe I.width) (contour_of I.value kept.items))) }
+        ensures short { length contour.now < 3 → result ≡ Ok None }
+        ensures memory { IsOkUnless result ShapeError.OutOfMemory }
+    {
+        let (kept, _visits) = self.despike_counted(contour)?;
+        Ok(kept)
+    }
+
+    /// The same, with the number of vertices visited: at most three for each vertex of the contour, at least one for each,
+    /// but for two where the contour collapses, and none where it has fewer than three.
+    pub fn despike_counted<I: IntNumber>(
+        &mut self,
+        contour: &[IntPoint<I>],
+    ) -> Result<(Option<IntContour<I>>, u128), ShapeError>
+        requires { All (IsSafe I.width) (contour_of I.value contour.now) }
+        ensures answer { IfOk result (λ r. SpikelessAnswer (contour_of I.value contour.now) (answered (contour_of I.value) r.0)) }
+        ensures in_order { IfOk result (λ r. IfSome r.0 (λ kept. Sublist (contour_of I.value contour.now) (contour_of I.value kept.items))) }
+        ensures kept { IfOk result (λ r. KeptAnswer (contour_of I.value contour.now) (answered (contour_of I.value) r.0)) }
+        ensures safe { IfOk result (λ r. IfSome r.0 (λ kept. All (IsSafe I.width) (contour_of I.value kept.items))) }
+        ensures visits { IfOk result (λ r. VisitsAnswer (contour_of I.value contour.now) (answered (contour_of I.value) r.0) r.1) }
+        ensures short { length contour.now < 3 → result ≡ Ok (None, 0) }
+        ensures memory { IsOkUnless result ShapeError.OutOfMemory }
+    {
+        if contour.len() < 3 {
+            return Ok((None, 0));
+        }
+        self.despiked(Probe::new(contour))
+    }
+
+    /// The same, for points of any type, written to the front of `out`: answers how many points are left, 0 where the contour
+    /// collapses. What stands behind them stays as it was, and so does all of `out` where there is an error. Memory is taken
+    /// for the places of a contour that has a spike or a repeated point alone, and is kept. The only error is `OutOfMemory`.
     pub fn despike_into<P: ContourPoint>(
         &mut self,
         contour: &[P],
@@ -132,11 +170,11 @@ impl ContourDeSpiker {
     ) -> Result<usize, ShapeError>
         requires points_safe { All (IsSafe P.Coordinate.width) (contour_of P.Coordinate.value (P.points contour.now)) }
         requires room { length contour.now ≤ length out.old }
-        ensures written { IfOk result (λ n. IsWritten SpikelessAnswer P.Coordinate.width (λ list. contour_of P.Coordinate.value (P.points list)) contour.now out.old out.new n) }
+        ensures written { IfOk result (λ n. IsWritten SpikelessAnswer KeptAnswer P.Coordinate.width (λ list. contour_of P.Coordinate.value (P.points list)) contour.now out.old out.new n) }
         ensures len { length out.new ≡ length out.old }
         ensures err { OnErr result (out.new ≡ out.old) }
         ensures short { length contour.now < 3 → result ≡ Ok 0 }
-        ensures unclean { let c = contour_of P.Coordinate.value (P.points contour.now) in OnErr result (IsDespiked c c → ⊥) }
+        ensures unclean { OnErr result (IsDespikedAlready (contour_of P.Coordinate.value (P.points contour.now)) → ⊥) }
         ensures memory { IsOkUnless result ShapeError.OutOfMemory }
     {
         if contour.len() < 3 {
@@ -146,9 +184,47 @@ impl ContourDeSpiker {
         let Some(place) = first_back(&mut probe) else {
             return Ok(probe.write_whole(out));
         };
+        let (probe, left) = self.walk_round(probe, place)?;
+        let Some(places) = left else {
+            return Ok(0);
+        };
+        Ok(probe.write(out, places))
+    }
+
+    /// What is left of a contour, and how many vertices were visited.
+    fn despiked<P: ContourPoint>(
+        &mut self,
+        mut probe: Probe<'_, P::Coordinate, P>,
+    ) -> Result<(Option<Vec<P>>, u128), ShapeError>
+        requires enough { 3 ≤ length probe.contour }
+        requires fresh { probe.visits ≡ 0 }
+        ensures answer { IfOk result (λ r. WalkAnswer IsBack (contour_of P.Coordinate.value probe.entry.contour) (answered (λ list. contour_of P.Coordinate.value (P.points list)) r.0) r.1) }
+        ensures memory { IsOkUnless result ShapeError.OutOfMemory }
+    {
+        let alloc = *self.places.allocator();
+        let Some(place) = first_back(&mut probe) else {
+            return probe.keep_whole(alloc);
+        };
+        let (probe, left) = self.walk_round(probe, place)?;
+        probe.keep_left(alloc, left)
+    }
+
+    /// Walks on from the first place at which the contour goes back. Gives the places that are left, `None` where these are
+    /// fewer than three.
+    fn walk_round<'a, P: ContourPoint>(
+        &mut self,
+        mut probe: Probe<'a, P::Coordinate, P>,
+        place: usize,
+    ) -> Result<(Probe<'a, P::Coordinate, P>, Option<&[usize]>), ShapeError>
+        requires first { FirstAnswer IsBack (contour_of P.Coordinate.value probe.contour) (Some place) probe.visits }
+        ensures contour { IfOk result (λ r. r.0.contour ≡ probe.entry.contour) }
+        ensures answer { let c = contour_of P.Coordinate.value probe.entry.contour in IfOk result (λ r. WalkAnswer IsBack c (option_map (λ places. map (point_at c) places.now) r.1) r.0.visits) }
+        ensures below { IfOk result (λ r. IfSome r.1 (λ places. All (λ k. k < length probe.entry.contour) places.now)) }
+        ensures memory { IsOkUnless result ShapeError.OutOfMemory }
+    {
         let count = probe.len();
         if count == 3 {
-            return Ok(0);
+            return Ok((probe, None));
         }
         self.places.clear();
         self.places.reserve(count.max(self.room))?;
@@ -159,9 +235,9 @@ impl ContourDeSpiker {
         let stands = walk(&mut probe, &mut ring);
         self.places = ring.into_order();
         if !stands {
-            return Ok(0);
+            return Ok((probe, None));
         }
-        Ok(probe.write(out, self.places.as_slice()))
+        Ok((probe, Some(self.places.as_slice())))
     }
 }
 
@@ -204,32 +280,6 @@ fn first_back<P: ContourPoint>(probe: &mut Probe<'_, P::Coordinate, P>) -> Optio
     None
 }
 
-/// Gives all points where none turns back. From the first that does, it walks round a ring of all places.
-fn despiked<P: ContourPoint>(
-    alloc: Global,
-    mut probe: Probe<'_, P::Coordinate, P>,
-) -> Result<(Option<Vec<P>>, u128), ShapeError>
-    requires enough { 3 ≤ length probe.contour }
-    requires fresh { probe.visits ≡ 0 }
-    ensures answer { IfOk result (λ r. WalkAnswer IsBack (contour_of P.Coordinate.value probe.entry.contour) (answered (λ list. contour_of P.Coordinate.value (P.points list)) r.0) r.1) }
-    ensures memory { IsOkUnless result ShapeError.OutOfMemory }
-{
-    let Some(place) = first_back(&mut probe) else {
-        return probe.keep_whole(alloc);
-    };
-    if probe.len() == 3 {
-        return Ok((None, probe.visits()));
-    }
-    let memory = Vec::with_capacity(alloc, probe.len())?;
-    let mut ring = Ring::standing(memory, probe.len(), place);
-    ring.remove();
-    if !walk(&mut probe, &mut ring) {
-        return Ok((None, probe.visits()));
-    }
-    let (kept, visits) = probe.keep(alloc, ring.into_order().as_slice())?;
-    Ok((Some(kept), visits))
-}
-
 /// Whether the contour turns back or stands still at the ring's place. Counts one visit.
 fn is_back_at<P: ContourPoint>(probe: &mut Probe<'_, P::Coordinate, P>, ring: &Ring) -> bool
     requires enough { 1 < length ring.now.places }
@@ -261,6 +311,18 @@ fn walk<P: ContourPoint>(probe: &mut Probe<'_, P::Coordinate, P>, ring: &mut Rin
         }
     }
     true
+}
+
+/// Whether there are at least three points, and the way over them nowhere goes back or stands still: the removal of spikes leaves such a
+/// contour as it is.
+pub fn is_despiked<P: ContourPoint>(points: &[P]) -> bool
+    requires { All (IsSafe P.Coordinate.width) (contour_of P.Coordinate.value (P.points points.now)) }
+    ensures { IsTrue result ↔ IsDespikedAlready (contour_of P.Coordinate.value (P.points points.now)) }
+{
+    if points.len() < 3 {
+        return false;
+    }
+    first_back(&mut Probe::new(points)).is_none()
 }
 
 /// Whether at least three points are left without repeated ones, and the way over them nowhere goes back.

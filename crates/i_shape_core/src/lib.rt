@@ -5,6 +5,7 @@
 pub mod area;
 mod bend;
 pub mod canonical;
+pub mod cleaner;
 mod comparer;
 pub mod contour;
 pub mod despike;

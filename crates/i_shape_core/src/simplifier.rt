@@ -95,7 +95,7 @@ impl ContourSimplifier {
     ) -> Result<usize, ShapeError>
         requires points_safe { All (IsSafe P.Coordinate.width) (contour_of P.Coordinate.value (P.points contour.now)) }
         requires room { length contour.now ≤ length out.old }
-        ensures written { IfOk result (λ n. IsWritten SimpleAnswer P.Coordinate.width (λ list. contour_of P.Coordinate.value (P.points list)) contour.now out.old out.new n) }
+        ensures written { IfOk result (λ n. IsWritten SimpleAnswer KeptAnswer P.Coordinate.width (λ list. contour_of P.Coordinate.value (P.points list)) contour.now out.old out.new n) }
         ensures len { length out.new ≡ length out.old }
         ensures err { OnErr result (out.new ≡ out.old) }
         ensures short { length contour.now < 3 → result ≡ Ok 0 }

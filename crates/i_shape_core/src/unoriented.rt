@@ -1,17 +1,19 @@
 //! The form of a contour whichever way round it is wound: the lesser of its canonical form and that of the contour read backwards.
 
-ghost use Rattle.std.specs.Prelude.{◌≡◌, ◌⊎◌, ◌<◌, length, reverse, IfOk, IsOkUnless};
+ghost use Rattle.std.specs.Prelude.{◌≡◌, ◌<◌, ◌≤◌, false, length, reverse, IsTrue, IfOk, OnErr, IsOkUnless};
 ghost use Rattle.std.specs.Option.{IfSome};
 ghost use Rattle.std.specs.List.{All};
 ghost use Rattle.i_shape_core.specs.IntPoint.{contour_of, IsSafe, answered};
-ghost use Rattle.i_shape_core.specs.Canonical.{IsAtMost, IsLeast, UnorientedAnswer, KeptEitherWay};
+ghost use Rattle.i_shape_core.specs.Contour.{IsSimple};
+ghost use Rattle.i_shape_core.specs.Canonical.{IsAtMost, IsLesserWay, UnorientedAnswer, KeptEitherWay, started_at};
+ghost use Rattle.i_shape_core.specs.Written.{IsWritten};
 
-use crate::canonical::turn_to_least;
+use crate::canonical::{least_start, place_at_step};
+use crate::comparer::Comparer;
 use crate::error::ShapeError;
 use crate::number::IntNumber;
-use crate::point::{IntContour, IntPoint};
+use crate::point::{ContourPoint, IntContour, IntPoint};
 use crate::simplifier::ContourSimplifier;
-use std::alloc::Global;
 use std::cmp::Ordering;
 
 impl ContourSimplifier {
@@ -28,37 +30,67 @@ impl ContourSimplifier {
         ensures short { length contour.now < 3 → result ≡ Ok None }
         ensures memory { IsOkUnless result ShapeError.OutOfMemory }
     {
-        let Some(forwards) = self.canonical(contour)? else {
+        let Some(mut kept) = self.canonical(contour)? else {
             return Ok(None);
         };
-        let backwards = turned_back(*forwards.allocator(), forwards.as_slice())?;
-        Ok(Some(lesser(forwards, backwards)))
+        turn_to_lesser(kept.as_mut_slice());
+        Ok(Some(kept))
+    }
+
+    /// The same, for points of any type, written to the front of `out`: answers how many points are left, 0 where the contour
+    /// collapses. What stands behind them stays as it was, and so does all of `out` where there is an error. Memory is taken
+    /// for the places of a contour that is not clean alone, and is kept. The only error is `OutOfMemory`.
+    pub fn canonical_unoriented_into<P: ContourPoint>(
+        &mut self,
+        contour: &[P],
+        out: &mut [P],
+    ) -> Result<usize, ShapeError>
+        requires points_safe { All (IsSafe P.Coordinate.width) (contour_of P.Coordinate.value (P.points contour.now)) }
+        requires room { length contour.now ≤ length out.old }
+        ensures written { IfOk result (λ n. IsWritten UnorientedAnswer KeptEitherWay P.Coordinate.width (λ list. contour_of P.Coordinate.value (P.points list)) contour.now out.old out.new n) }
+        ensures len { length out.new ≡ length out.old }
+        ensures err { OnErr result (out.new ≡ out.old) }
+        ensures short { length contour.now < 3 → result ≡ Ok 0 }
+        ensures unclean { OnErr result (IsSimple (contour_of P.Coordinate.value (P.points contour.now)) → ⊥) }
+        ensures memory { IsOkUnless result ShapeError.OutOfMemory }
+    {
+        let count = self.canonical_into(contour, out)?;
+        if count > 0 {
+            turn_to_lesser(&mut out[..count]);
+        }
+        Ok(count)
     }
 }
 
-/// The least rotation of a contour read backwards.
-fn turned_back<I: IntNumber>(
-    alloc: Global,
-    contour: &[IntPoint<I>],
-) -> Result<IntContour<I>, ShapeError>
-    requires { 0 < length contour.now }
-    ensures ok { IfOk result (λ back. IsLeast (reverse (contour_of I.value contour.now)) (contour_of I.value back.items)) }
-    ensures memory { IsOkUnless result ShapeError.OutOfMemory }
+/// Turns a contour in place to the least rotation of the contour read backwards, where that comes first.
+fn turn_to_lesser<P: ContourPoint>(contour: &mut [P])
+    requires { 0 < length contour.old }
+    ensures lesser { IsLesserWay (contour_of P.Coordinate.value (P.points contour.old)) (contour_of P.Coordinate.value (P.points contour.new)) }
+    ensures len { length contour.new ≡ length contour.old }
 {
-    let mut back = Vec::from_slice(alloc, contour)?;
-    back.reverse();
-    turn_to_least(back.as_mut_slice());
-    Ok(back)
+    contour.reverse();
+    let start = least_start(contour);
+    if comes_before_reversed(contour, start) {
+        contour.rotate_left(start);
+    } else {
+        contour.reverse();
+    }
 }
 
-/// The one of two contours that comes first.
-fn lesser<I: IntNumber>(left: IntContour<I>, right: IntContour<I>) -> IntContour<I>
-    ensures one { (contour_of I.value result.items ≡ contour_of I.value left.items) ⊎ (contour_of I.value result.items ≡ contour_of I.value right.items) }
-    ensures left { IsAtMost (contour_of I.value result.items) (contour_of I.value left.items) }
-    ensures right { IsAtMost (contour_of I.value result.items) (contour_of I.value right.items) }
+/// Whether the rotation of a contour that starts at `start` comes before the contour read backwards.
+fn comes_before_reversed<P: ContourPoint>(contour: &[P], start: usize) -> bool
+    requires { start < length contour.now }
+    ensures before { let c = contour_of P.Coordinate.value (P.points contour.now) in IsTrue result → IsAtMost (started_at c start) (reverse c) }
+    ensures not_before { let c = contour_of P.Coordinate.value (P.points contour.now) in result ≡ false → IsAtMost (reverse c) (started_at c start) }
 {
-    match right.cmp(&left) {
-        Ordering::Less => right,
-        Ordering::Equal | Ordering::Greater => left,
+    let mut comparer = Comparer::new(contour);
+    let count = comparer.len();
+    for step in 0..count {
+        match comparer.compare(place_at_step(count, start, step), count - 1 - step) {
+            Ordering::Less => return true,
+            Ordering::Equal => {}
+            Ordering::Greater => return false,
+        }
     }
+    false
 }

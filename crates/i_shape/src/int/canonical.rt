@@ -11,7 +11,8 @@ ghost use Rattle.i_shape.specs.CanonicalShapes.{ShapeForm, ListForm, FormsKept, 
 mod forms;
 pub mod laws;
 
-use crate::int::canonical::forms::{Oriented, Unoriented, list_form, shape_form};
+use crate::int::canonical::forms::{list_form, shape_form};
+use crate::int::cleaning::{Canonicalizer, ContourCleaner, UnorientedCanonicalizer};
 use crate::int::shape::{IntContour, IntShape, IntShapes};
 use i_shape_core::error::ShapeError;
 use i_shape_core::number::IntNumber;
@@ -76,11 +77,15 @@ impl<I: IntNumber> CanonicalShape<I> for &[IntContour<I>] {
     ghost shape = { λ contours. shape_of I.value contours.now };
 
     fn canonical(&self, alloc: Global) -> Result<Option<IntShape<I>>, ShapeError> {
-        shape_form(&mut Oriented::new(alloc), alloc, *self)
+        shape_form(&mut Canonicalizer::with_room(alloc, 0), alloc, *self)
     }
 
     fn canonical_unoriented(&self, alloc: Global) -> Result<Option<IntShape<I>>, ShapeError> {
-        shape_form(&mut Unoriented::new(alloc), alloc, *self)
+        shape_form(
+            &mut UnorientedCanonicalizer::with_room(alloc, 0),
+            alloc,
+            *self,
+        )
     }
 }
 
@@ -88,10 +93,14 @@ impl<I: IntNumber> CanonicalShapes<I> for &[IntShape<I>] {
     ghost shapes = { λ list. shapes_of I.value list.now };
 
     fn canonical(&self, alloc: Global) -> Result<IntShapes<I>, ShapeError> {
-        list_form(&mut Oriented::new(alloc), alloc, *self)
+        list_form(&mut Canonicalizer::with_room(alloc, 0), alloc, *self)
     }
 
     fn canonical_unoriented(&self, alloc: Global) -> Result<IntShapes<I>, ShapeError> {
-        list_form(&mut Unoriented::new(alloc), alloc, *self)
+        list_form(
+            &mut UnorientedCanonicalizer::with_room(alloc, 0),
+            alloc,
+            *self,
+        )
     }
 }

@@ -1,11 +1,15 @@
 //! Shapes and shape lists, cleaned by any cleaner of contours.
 
-ghost use Rattle.std.specs.Prelude.{◌≡◌, ◌↔◌, ◌++◌, List, Option, Some, IsTrue, IfOk, IfSome, OnOk, IsOkUnless};
+ghost use Rattle.std.specs.Prelude.{◌≡◌, ◌↔◌, ◌≤◌, ◌++◌, List, length, Option, Some, IsTrue, IfOk, IfSome, OnOk, IsOkUnless};
+ghost use Rattle.std.specs.Int.{Width};
 ghost use Rattle.std.specs.List.{All};
 ghost use Rattle.std.specs.Option.{option_to_list};
 ghost use Rattle.i_shape_core.specs.Point.{Point};
 ghost use Rattle.i_shape_core.specs.IntPoint.{contour_of, IsSafe, answered};
 ghost use Rattle.i_shape_core.specs.Cleaners.{KeptAnswer};
+ghost use Rattle.i_shape_core.proofs.Cleaned.{simple_stays};
+ghost use Rattle.i_shape_core.proofs.Answered.{simple_kept, despike_kept, spikeless_stays};
+ghost use Rattle.i_shape_core.proofs.CleanerLaws.{simple_safe, simple_fewer, simple_points, simple_left_points, despike_safe, despike_fewer, spikeless_points, despike_left_points, canonical_safe, canonical_fewer, unoriented_safe, unoriented_fewer};
 ghost use Rattle.i_shape.specs.ShapeAnswers.{HasPoints, Survivors, ShapeClean, ListClean, EachContour, EachShape, AreKept, ListKept};
 ghost use Rattle.i_shape.specs.ShapeLists.{shape_of, shapes_of, IsSafeShape, IsSafeList};
 ghost use Rattle.i_shape.specs.InPlace.{CleansShape, CleansList};
@@ -17,54 +21,89 @@ use crate::int::cleaning::changes::{
     take_out_of_list,
 };
 use crate::int::shape::{IntContour, IntShape, IntShapes};
+pub use i_shape_core::cleaner::{
+    Canonicalizer, ContourCleaner, SpikeRemover, UnorientedCanonicalizer,
+};
 use i_shape_core::error::ShapeError;
 use i_shape_core::number::IntNumber;
 use i_shape_core::point::IntPoint;
+use i_shape_core::simplifier::ContourSimplifier;
 use std::alloc::Global;
 
-/// A cleaner of contours of safe points. One value cleans any number of them, and may keep its memory from one to the next.
-pub trait ContourCleaner<I: IntNumber>: Drop {
-    /// What a contour that needs no cleaning is.
-    ghost clean: { List Point → Type 0 };
+/// What shapes and lists take of the answers of a cleaner.
+pub trait CleanerLaws: ContourCleaner {
+    /// An answer has safe points where the contour has.
+    ghost stays_safe: { (width : Width) (c e : List Point) → Self.answers c (Some e) → All (IsSafe width) c → All (IsSafe width) e };
 
-    /// What a contour becomes: none where it collapses.
-    ghost answers: { List Point → Option (List Point) → Type 0 };
+    /// An answer has no more points than the contour.
+    ghost fewer: { (c e : List Point) → Self.answers c (Some e) → length e ≤ length c };
+}
 
-    /// A cleaner that takes its memory from `alloc`.
-    fn start(alloc: Global) -> Self;
-
-    /// Whether the contour needs no cleaning. It takes no memory.
-    fn is_clean(contour: &[IntPoint<I>]) -> bool
-        requires { All (IsSafe I.width) (contour_of I.value contour.now) }
-        ensures clean { IsTrue result ↔ clean (contour_of I.value contour.now) }
-        ensures points { IsTrue result → HasPoints (contour_of I.value contour.now) };
-
-    /// The cleaned contour, of one that needs cleaning. The only error is `OutOfMemory`.
-    fn cleaned(&mut self, contour: &[IntPoint<I>]) -> Result<Option<IntContour<I>>, ShapeError>
-        requires safe { All (IsSafe I.width) (contour_of I.value contour.now) }
-        requires unclean { clean (contour_of I.value contour.now) → ⊥ }
-        ensures answer { IfOk result (λ r. answers (contour_of I.value contour.now) (answered (contour_of I.value) r)) }
-        ensures points { IfOk result (λ r. IfSome r (λ kept. HasPoints (contour_of I.value kept.items))) }
-        ensures memory { IsOkUnless result ShapeError.OutOfMemory };
-
-    /// The cleaned contour, of any: a copy of one that needs no cleaning. The only error is `OutOfMemory`.
-    fn cleaned_copy(&mut self, contour: &[IntPoint<I>]) -> Result<Option<IntContour<I>>, ShapeError>
-        requires { All (IsSafe I.width) (contour_of I.value contour.now) }
-        ensures answer { IfOk result (λ r. answers (contour_of I.value contour.now) (answered (contour_of I.value) r)) }
-        ensures memory { IsOkUnless result ShapeError.OutOfMemory };
-
-    /// A contour that needs no cleaning is its own answer.
-    ghost stays: { (c : List Point) → clean c → answers c (Some c) };
+/// A cleaner that leaves clean contours as they are.
+pub trait InPlaceCleaner: CleanerLaws {
+    /// A clean contour is its own answer.
+    ghost stays: { (c : List Point) → Self.clean c → Self.answers c (Some c) };
 
     /// An answer keeps the double area and the points inside.
-    ghost keeps: { (c : List Point) (r : Option (List Point)) → answers c r → KeptAnswer c r };
+    ghost kept: { (c : List Point) (r : Option (List Point)) → Self.answers c r → KeptAnswer c r };
 
-    /// An answer has safe points where the contour has.
-    ghost stays_safe: { (c e : List Point) → answers c (Some e) → All (IsSafe I.width) c → All (IsSafe I.width) e };
+    /// A clean contour has points.
+    ghost clean_points: { (c : List Point) → Self.clean c → HasPoints c };
+
+    /// The answer to a contour that isn't clean has points.
+    ghost left_points: { (c e : List Point) → (Self.clean c → ⊥) → Self.answers c (Some e) → HasPoints e };
+}
+
+/// Zero turns are removed.
+impl CleanerLaws for ContourSimplifier {
+    ghost stays_safe = { simple_safe };
+
+    ghost fewer = { simple_fewer };
+}
+
+impl InPlaceCleaner for ContourSimplifier {
+    ghost stays = { simple_stays };
+
+    ghost kept = { simple_kept };
+
+    ghost clean_points = { simple_points };
+
+    ghost left_points = { simple_left_points };
+}
+
+/// Spikes are removed, and a contour that has none stays as it is.
+impl CleanerLaws for SpikeRemover {
+    ghost stays_safe = { despike_safe };
+
+    ghost fewer = { despike_fewer };
+}
+
+impl InPlaceCleaner for SpikeRemover {
+    ghost stays = { spikeless_stays };
+
+    ghost kept = { despike_kept };
+
+    ghost clean_points = { spikeless_points };
+
+    ghost left_points = { despike_left_points };
+}
+
+/// The canonical form.
+impl CleanerLaws for Canonicalizer {
+    ghost stays_safe = { canonical_safe };
+
+    ghost fewer = { canonical_fewer };
+}
+
+/// The canonical form whichever way round the contour is wound.
+impl CleanerLaws for UnorientedCanonicalizer {
+    ghost stays_safe = { unoriented_safe };
+
+    ghost fewer = { unoriented_fewer };
 }
 
 /// Whether no contour of the shape needs cleaning.
-pub fn is_clean_shape<I: IntNumber, C: ContourCleaner<I>>(shape: &[IntContour<I>]) -> bool
+pub fn is_clean_shape<I: IntNumber, C: ContourCleaner>(shape: &[IntContour<I>]) -> bool
     requires { IsSafeShape I.width (shape_of I.value shape.now) }
     ensures { IsTrue result ↔ EachContour C.clean (shape_of I.value shape.now) }
 {
@@ -77,7 +116,7 @@ pub fn is_clean_shape<I: IntNumber, C: ContourCleaner<I>>(shape: &[IntContour<I>
 }
 
 /// Whether no contour of any shape needs cleaning.
-pub fn is_clean_list<I: IntNumber, C: ContourCleaner<I>>(shapes: &[IntShape<I>]) -> bool
+pub fn is_clean_list<I: IntNumber, C: ContourCleaner>(shapes: &[IntShape<I>]) -> bool
     requires { IsSafeList I.width (shapes_of I.value shapes.now) }
     ensures { IsTrue result ↔ EachShape C.clean (shapes_of I.value shapes.now) }
 {
@@ -90,7 +129,7 @@ pub fn is_clean_list<I: IntNumber, C: ContourCleaner<I>>(shapes: &[IntShape<I>])
 }
 
 /// Appends the cleaned contour, and nothing where it collapses.
-fn append_hole<I: IntNumber, C: ContourCleaner<I>>(
+pub fn append_contour<I: IntNumber, C: ContourCleaner>(
     cleaner: &mut C,
     kept: &mut IntShape<I>,
     contour: &[IntPoint<I>],
@@ -99,9 +138,9 @@ fn append_hole<I: IntNumber, C: ContourCleaner<I>>(
     ensures ok { OnOk result ((answer : Option (List Point)) × C.answers (contour_of I.value contour.now) answer × (shape_of I.value kept.new.items ≡ shape_of I.value kept.old.items ++ option_to_list answer)) }
     ensures memory { IsOkUnless result ShapeError.OutOfMemory }
 {
-    match cleaner.cleaned_copy(contour)? {
-        Some(hole) => {
-            kept.push(hole)?;
+    match cleaner.cleaned(contour)? {
+        Some(contour) => {
+            kept.push(contour)?;
             Ok(())
         }
         None => Ok(()),
@@ -109,7 +148,7 @@ fn append_hole<I: IntNumber, C: ContourCleaner<I>>(
 }
 
 /// Appends the cleaned contours, without those that collapse.
-fn append_holes<I: IntNumber, C: ContourCleaner<I>>(
+fn append_holes<I: IntNumber, C: ContourCleaner>(
     cleaner: &mut C,
     kept: &mut IntShape<I>,
     contours: &[IntContour<I>],
@@ -119,13 +158,13 @@ fn append_holes<I: IntNumber, C: ContourCleaner<I>>(
     ensures memory { IsOkUnless result ShapeError.OutOfMemory }
 {
     for contour in contours {
-        append_hole(cleaner, kept, contour.as_slice())?;
+        append_contour(cleaner, kept, contour.as_slice())?;
     }
     Ok(())
 }
 
 /// The cleaned shape, and none where its outer contour collapses.
-pub fn clean_shape<I: IntNumber, C: ContourCleaner<I>>(
+pub fn clean_shape<I: IntNumber, C: InPlaceCleaner>(
     cleaner: &mut C,
     alloc: Global,
     shape: &[IntContour<I>],
@@ -139,7 +178,7 @@ pub fn clean_shape<I: IntNumber, C: ContourCleaner<I>>(
     let Some((outer, holes)) = shape.split_first() else {
         return Ok(Some(Vec::new(alloc)));
     };
-    let Some(contour) = cleaner.cleaned_copy(outer.as_slice())? else {
+    let Some(contour) = cleaner.cleaned(outer.as_slice())? else {
         return Ok(None);
     };
     let mut kept = Vec::with_capacity(alloc, shape.len())?;
@@ -149,7 +188,7 @@ pub fn clean_shape<I: IntNumber, C: ContourCleaner<I>>(
 }
 
 /// Appends the cleaned shape, and nothing where it is left out.
-fn append_shape<I: IntNumber, C: ContourCleaner<I>>(
+fn append_shape<I: IntNumber, C: InPlaceCleaner>(
     cleaner: &mut C,
     kept: &mut IntShapes<I>,
     shape: &[IntContour<I>],
@@ -169,7 +208,7 @@ fn append_shape<I: IntNumber, C: ContourCleaner<I>>(
 }
 
 /// The cleaned shapes of a list, without those that are left out.
-pub fn clean_list<I: IntNumber, C: ContourCleaner<I>>(
+pub fn clean_list<I: IntNumber, C: InPlaceCleaner>(
     cleaner: &mut C,
     alloc: Global,
     shapes: &[IntShape<I>],
@@ -189,7 +228,7 @@ pub fn clean_list<I: IntNumber, C: ContourCleaner<I>>(
 
 /// Puts the cleaned shape in the place of the shape, or empties it where its outer contour collapses. Answers whether a contour
 /// needed cleaning; otherwise, and after a refusal, the shape is as it was.
-pub fn clean_shape_in_place<I: IntNumber, C: ContourCleaner<I>>(
+pub fn clean_shape_in_place<I: IntNumber, C: InPlaceCleaner>(
     shape: &mut IntShape<I>,
 ) -> Result<bool, ShapeError>
     requires { IsSafeShape I.width (shape_of I.value shape.old.items) }
@@ -211,7 +250,7 @@ pub fn clean_shape_in_place<I: IntNumber, C: ContourCleaner<I>>(
 
 /// Puts the cleaned list in the place of the list. Answers whether a contour needed cleaning; otherwise, and after a refusal,
 /// the list is as it was.
-pub fn clean_list_in_place<I: IntNumber, C: ContourCleaner<I>>(
+pub fn clean_list_in_place<I: IntNumber, C: InPlaceCleaner>(
     shapes: &mut IntShapes<I>,
 ) -> Result<bool, ShapeError>
     requires { IsSafeList I.width (shapes_of I.value shapes.old.items) }

@@ -12,7 +12,6 @@ use crate::int::shape::IntContour;
 pub use i_shape_core::despike::{ContourDeSpiker, DeSpikeContour};
 use i_shape_core::error::ShapeError;
 use i_shape_core::number::IntNumber;
-pub(crate) use shape::SpikeRemover;
 pub use shape::{DeSpikeShape, DeSpikeShapes};
 
 /// The removal of spikes in place.

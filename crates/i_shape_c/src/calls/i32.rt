@@ -2,8 +2,8 @@
 
 ghost use Rattle.std.specs.Prelude.{◌≡◌, ◌↔◌, ◌<◌, ◌≤◌, length, map, IsTrue};
 ghost use Rattle.std.specs.Int.{int_wrap, w32, w64};
-ghost use Rattle.i_shape.specs.Cleaners.{SimpleAnswer, SpikelessAnswer, DespikeAnswer};
-ghost use Rattle.i_shape.specs.Canonical.{CanonicalAnswer, UnorientedAnswer};
+ghost use Rattle.i_shape.specs.Cleaners.{SimpleAnswer, SpikelessAnswer, DespikeAnswer, KeptAnswer, IsDespikedAlready};
+ghost use Rattle.i_shape.specs.Canonical.{CanonicalAnswer, UnorientedAnswer, KeptEitherWay};
 ghost use Rattle.i_shape.specs.CanonicalShapes.{ListForm};
 ghost use Rattle.i_shape.specs.ShapeAnswers.{ListClean};
 ghost use Rattle.i_shape.specs.Contour.{IsSimple};
@@ -11,7 +11,7 @@ ghost use Rattle.i_shape.specs.Convex.{Convex, NoSpikes};
 ghost use Rattle.i_shape.specs.Edges.{Inside, shoelace};
 ghost use Rattle.i_shape.specs.IntPoint.{IsSafe};
 ghost use Rattle.i_shape_c.specs.Points.{point_i32};
-ghost use Rattle.i_shape_c.specs.Cleaned.{AreSafe, CleanAnswer, IsDespikedAlready, TakesNoMemory, unsafe_code, unfit_code, no_memory_code};
+ghost use Rattle.i_shape_c.specs.Cleaned.{AreSafe, CleanAnswer, TakesNoMemory, unsafe_code, unfit_code, no_memory_code};
 ghost use Rattle.i_shape_c.specs.Batch.{AreSafeContours, BatchAnswer, CanClean, NoneTakesMemory};
 ghost use Rattle.i_shape_c.specs.Polygons.{CanCleanShapes, ShapesAnswer};
 ghost use Rattle.i_shape_c.specs.Tests.{IsTold, TestAnswer};
@@ -20,12 +20,14 @@ ghost use Rattle.i_shape_c.specs.Windings.{no_winding, CanWind, WindingsAnswer};
 
 use crate::area::area_two;
 use crate::batch::clean_contours;
-use crate::cleaner::{Canonicalizer, DeSpiker, Simplifier, UnorientedCanonicalizer};
 use crate::contour::clean_contour;
 use crate::point::PointI32;
 use crate::polygons::clean_shapes;
 use crate::tests::{Bulging, Simple, Spikeless, contains, is_safe, test_contour};
 use crate::winding::{winding, windings};
+use i_shape::int::cleaner::{Canonicalizer, SpikeRemover, UnorientedCanonicalizer};
+use i_shape::int::despike::ContourDeSpiker;
+use i_shape::int::simple::ContourSimplifier;
 use std::alloc::Global;
 
 /// The contour without zero turns. Answers how many points are
@@ -36,12 +38,12 @@ pub extern "C" fn i_shape_simplify_i32(
     points: &[PointI32],
     out: &mut [PointI32],
 ) -> isize
-    ensures answer { CleanAnswer SimpleAnswer w32 point_i32 points.now out.old out.new result }
+    ensures answer { CleanAnswer SimpleAnswer KeptAnswer w32 point_i32 points.now out.old out.new result }
     ensures unfit { result ≡ unfit_code ↔ (length out.old < length points.now) }
     ensures unsafe_points { result ≡ unsafe_code ↔ ((length points.now ≤ length out.old) × (AreSafe w32 point_i32 points.now → ⊥)) }
     ensures memory { result ≡ no_memory_code → TakesNoMemory IsSimple point_i32 points.now → ⊥ }
 {
-    clean_contour::<PointI32, Simplifier>(alloc, points, out)
+    clean_contour::<PointI32, ContourSimplifier>(alloc, points, out)
 }
 
 /// The contour without the points at which the way turns back or stands still. Answers how many points are
@@ -52,12 +54,12 @@ pub extern "C" fn i_shape_despike_i32(
     points: &[PointI32],
     out: &mut [PointI32],
 ) -> isize
-    ensures answer { CleanAnswer SpikelessAnswer w32 point_i32 points.now out.old out.new result }
+    ensures answer { CleanAnswer SpikelessAnswer KeptAnswer w32 point_i32 points.now out.old out.new result }
     ensures unfit { result ≡ unfit_code ↔ (length out.old < length points.now) }
     ensures unsafe_points { result ≡ unsafe_code ↔ ((length points.now ≤ length out.old) × (AreSafe w32 point_i32 points.now → ⊥)) }
     ensures memory { result ≡ no_memory_code → TakesNoMemory IsDespikedAlready point_i32 points.now → ⊥ }
 {
-    clean_contour::<PointI32, DeSpiker>(alloc, points, out)
+    clean_contour::<PointI32, ContourDeSpiker>(alloc, points, out)
 }
 
 /// The contour without zero turns, from the start at which it is least. Answers how many points are
@@ -68,12 +70,28 @@ pub extern "C" fn i_shape_canonical_i32(
     points: &[PointI32],
     out: &mut [PointI32],
 ) -> isize
-    ensures answer { CleanAnswer CanonicalAnswer w32 point_i32 points.now out.old out.new result }
+    ensures answer { CleanAnswer CanonicalAnswer KeptAnswer w32 point_i32 points.now out.old out.new result }
     ensures unfit { result ≡ unfit_code ↔ (length out.old < length points.now) }
     ensures unsafe_points { result ≡ unsafe_code ↔ ((length points.now ≤ length out.old) × (AreSafe w32 point_i32 points.now → ⊥)) }
     ensures memory { result ≡ no_memory_code → TakesNoMemory IsSimple point_i32 points.now → ⊥ }
 {
     clean_contour::<PointI32, Canonicalizer>(alloc, points, out)
+}
+
+/// The canonical form whichever way round the contour is wound: that of the contour, or that of the contour read backwards,
+/// whichever is less. Answers how many points are written to the front of `out`, 0 where the contour collapses.
+#[unsafe(no_mangle)]
+pub extern "C" fn i_shape_canonical_unoriented_i32(
+    alloc: Global,
+    points: &[PointI32],
+    out: &mut [PointI32],
+) -> isize
+    ensures answer { CleanAnswer UnorientedAnswer KeptEitherWay w32 point_i32 points.now out.old out.new result }
+    ensures unfit { result ≡ unfit_code ↔ (length out.old < length points.now) }
+    ensures unsafe_points { result ≡ unsafe_code ↔ ((length points.now ≤ length out.old) × (AreSafe w32 point_i32 points.now → ⊥)) }
+    ensures memory { result ≡ no_memory_code → TakesNoMemory IsSimple point_i32 points.now → ⊥ }
+{
+    clean_contour::<PointI32, UnorientedCanonicalizer>(alloc, points, out)
 }
 
 /// Each contour as `i_shape_simplify_i32` leaves it, one that collapses empty. Answers how many points are written.
@@ -85,12 +103,12 @@ pub extern "C" fn i_shape_simplify_contours_i32(
     out_points: &mut [PointI32],
     out_offsets: &mut [usize],
 ) -> isize
-    ensures answer { BatchAnswer SimpleAnswer w32 point_i32 points.now offsets.now out_points.old out_points.new out_offsets.old out_offsets.new result }
+    ensures answer { BatchAnswer SimpleAnswer KeptAnswer w32 point_i32 points.now offsets.now out_points.old out_points.new out_offsets.old out_offsets.new result }
     ensures unfit { result ≡ unfit_code ↔ (CanClean (length points.now) offsets.now (length out_points.old) (length out_offsets.old) → ⊥) }
     ensures unsafe_points { result ≡ unsafe_code ↔ (CanClean (length points.now) offsets.now (length out_points.old) (length out_offsets.old) × (AreSafeContours w32 point_i32 points.now offsets.now → ⊥)) }
     ensures memory { result ≡ no_memory_code → NoneTakesMemory IsSimple point_i32 points.now offsets.now → ⊥ }
 {
-    clean_contours::<PointI32, Simplifier>(alloc, points, offsets, out_points, out_offsets)
+    clean_contours::<PointI32, ContourSimplifier>(alloc, points, offsets, out_points, out_offsets)
 }
 
 /// Each contour as `i_shape_despike_i32` leaves it, one that collapses empty. Answers how many points are written.
@@ -102,12 +120,12 @@ pub extern "C" fn i_shape_despike_contours_i32(
     out_points: &mut [PointI32],
     out_offsets: &mut [usize],
 ) -> isize
-    ensures answer { BatchAnswer SpikelessAnswer w32 point_i32 points.now offsets.now out_points.old out_points.new out_offsets.old out_offsets.new result }
+    ensures answer { BatchAnswer SpikelessAnswer KeptAnswer w32 point_i32 points.now offsets.now out_points.old out_points.new out_offsets.old out_offsets.new result }
     ensures unfit { result ≡ unfit_code ↔ (CanClean (length points.now) offsets.now (length out_points.old) (length out_offsets.old) → ⊥) }
     ensures unsafe_points { result ≡ unsafe_code ↔ (CanClean (length points.now) offsets.now (length out_points.old) (length out_offsets.old) × (AreSafeContours w32 point_i32 points.now offsets.now → ⊥)) }
     ensures memory { result ≡ no_memory_code → NoneTakesMemory IsDespikedAlready point_i32 points.now offsets.now → ⊥ }
 {
-    clean_contours::<PointI32, DeSpiker>(alloc, points, offsets, out_points, out_offsets)
+    clean_contours::<PointI32, ContourDeSpiker>(alloc, points, offsets, out_points, out_offsets)
 }
 
 /// Each contour as `i_shape_canonical_i32` leaves it, one that collapses empty. Answers how many points are written.
@@ -119,12 +137,35 @@ pub extern "C" fn i_shape_canonical_contours_i32(
     out_points: &mut [PointI32],
     out_offsets: &mut [usize],
 ) -> isize
-    ensures answer { BatchAnswer CanonicalAnswer w32 point_i32 points.now offsets.now out_points.old out_points.new out_offsets.old out_offsets.new result }
+    ensures answer { BatchAnswer CanonicalAnswer KeptAnswer w32 point_i32 points.now offsets.now out_points.old out_points.new out_offsets.old out_offsets.new result }
     ensures unfit { result ≡ unfit_code ↔ (CanClean (length points.now) offsets.now (length out_points.old) (length out_offsets.old) → ⊥) }
     ensures unsafe_points { result ≡ unsafe_code ↔ (CanClean (length points.now) offsets.now (length out_points.old) (length out_offsets.old) × (AreSafeContours w32 point_i32 points.now offsets.now → ⊥)) }
     ensures memory { result ≡ no_memory_code → NoneTakesMemory IsSimple point_i32 points.now offsets.now → ⊥ }
 {
     clean_contours::<PointI32, Canonicalizer>(alloc, points, offsets, out_points, out_offsets)
+}
+
+/// Each contour as `i_shape_canonical_unoriented_i32` leaves it, one that collapses empty. Answers how many points are written.
+#[unsafe(no_mangle)]
+pub extern "C" fn i_shape_canonical_unoriented_contours_i32(
+    alloc: Global,
+    points: &[PointI32],
+    offsets: &[usize],
+    out_points: &mut [PointI32],
+    out_offsets: &mut [usize],
+) -> isize
+    ensures answer { BatchAnswer UnorientedAnswer KeptEitherWay w32 point_i32 points.now offsets.now out_points.old out_points.new out_offsets.old out_offsets.new result }
+    ensures unfit { result ≡ unfit_code ↔ (CanClean (length points.now) offsets.now (length out_points.old) (length out_offsets.old) → ⊥) }
+    ensures unsafe_points { result ≡ unsafe_code ↔ (CanClean (length points.now) offsets.now (length out_points.old) (length out_offsets.old) × (AreSafeContours w32 point_i32 points.now offsets.now → ⊥)) }
+    ensures memory { result ≡ no_memory_code → NoneTakesMemory IsSimple point_i32 points.now offsets.now → ⊥ }
+{
+    clean_contours::<PointI32, UnorientedCanonicalizer>(
+        alloc,
+        points,
+        offsets,
+        out_points,
+        out_offsets,
+    )
 }
 
 /// The polygons without zero turns, without the holes that collapse and the polygons whose outer contour does. Answers how many polygons are left.
@@ -142,7 +183,7 @@ pub extern "C" fn i_shape_simplify_shapes_i32(
     ensures unfit { result ≡ unfit_code ↔ (CanCleanShapes (length points.now) contours.now shapes.now (length out_points.old) (length out_contours.old) (length out_shapes.old) → ⊥) }
     ensures unsafe_points { result ≡ unsafe_code ↔ (CanCleanShapes (length points.now) contours.now shapes.now (length out_points.old) (length out_contours.old) (length out_shapes.old) × (AreSafeContours w32 point_i32 points.now contours.now → ⊥)) }
 {
-    clean_shapes::<PointI32, Simplifier>(
+    clean_shapes::<PointI32, ContourSimplifier>(
         alloc,
         points,
         contours,
@@ -168,7 +209,7 @@ pub extern "C" fn i_shape_despike_shapes_i32(
     ensures unfit { result ≡ unfit_code ↔ (CanCleanShapes (length points.now) contours.now shapes.now (length out_points.old) (length out_contours.old) (length out_shapes.old) → ⊥) }
     ensures unsafe_points { result ≡ unsafe_code ↔ (CanCleanShapes (length points.now) contours.now shapes.now (length out_points.old) (length out_contours.old) (length out_shapes.old) × (AreSafeContours w32 point_i32 points.now contours.now → ⊥)) }
 {
-    clean_shapes::<PointI32, DeSpiker>(
+    clean_shapes::<PointI32, SpikeRemover>(
         alloc,
         points,
         contours,

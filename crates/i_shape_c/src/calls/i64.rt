@@ -2,8 +2,8 @@
 
 ghost use Rattle.std.specs.Prelude.{◌≡◌, ◌↔◌, ◌<◌, ◌≤◌, length, map, IsTrue};
 ghost use Rattle.std.specs.Int.{int_wrap, w64, w128};
-ghost use Rattle.i_shape.specs.Cleaners.{SimpleAnswer, SpikelessAnswer, DespikeAnswer};
-ghost use Rattle.i_shape.specs.Canonical.{CanonicalAnswer, UnorientedAnswer};
+ghost use Rattle.i_shape.specs.Cleaners.{SimpleAnswer, SpikelessAnswer, DespikeAnswer, KeptAnswer, IsDespikedAlready};
+ghost use Rattle.i_shape.specs.Canonical.{CanonicalAnswer, UnorientedAnswer, KeptEitherWay};
 ghost use Rattle.i_shape.specs.CanonicalShapes.{ListForm};
 ghost use Rattle.i_shape.specs.ShapeAnswers.{ListClean};
 ghost use Rattle.i_shape.specs.Contour.{IsSimple};
@@ -11,7 +11,7 @@ ghost use Rattle.i_shape.specs.Convex.{Convex, NoSpikes};
 ghost use Rattle.i_shape.specs.Edges.{Inside, shoelace};
 ghost use Rattle.i_shape.specs.IntPoint.{IsSafe};
 ghost use Rattle.i_shape_c.specs.Points.{point_i64};
-ghost use Rattle.i_shape_c.specs.Cleaned.{AreSafe, CleanAnswer, IsDespikedAlready, TakesNoMemory, unsafe_code, unfit_code, no_memory_code};
+ghost use Rattle.i_shape_c.specs.Cleaned.{AreSafe, CleanAnswer, TakesNoMemory, unsafe_code, unfit_code, no_memory_code};
 ghost use Rattle.i_shape_c.specs.Batch.{AreSafeContours, BatchAnswer, CanClean, NoneTakesMemory};
 ghost use Rattle.i_shape_c.specs.Polygons.{CanCleanShapes, ShapesAnswer};
 ghost use Rattle.i_shape_c.specs.Tests.{IsTold, TestAnswer};
@@ -21,12 +21,14 @@ ghost use Rattle.i_shape_c.specs.Windings.{no_winding, CanWind, WindingsAnswer};
 
 use crate::area::{Halves, area_two};
 use crate::batch::clean_contours;
-use crate::cleaner::{Canonicalizer, DeSpiker, Simplifier, UnorientedCanonicalizer};
 use crate::contour::clean_contour;
 use crate::point::PointI64;
 use crate::polygons::clean_shapes;
 use crate::tests::{Bulging, Simple, Spikeless, contains, is_safe, test_contour};
 use crate::winding::{winding, windings};
+use i_shape::int::cleaner::{Canonicalizer, SpikeRemover, UnorientedCanonicalizer};
+use i_shape::int::despike::ContourDeSpiker;
+use i_shape::int::simple::ContourSimplifier;
 use std::alloc::Global;
 
 /// The contour without zero turns. Answers how many points are
@@ -37,12 +39,12 @@ pub extern "C" fn i_shape_simplify_i64(
     points: &[PointI64],
     out: &mut [PointI64],
 ) -> isize
-    ensures answer { CleanAnswer SimpleAnswer w64 point_i64 points.now out.old out.new result }
+    ensures answer { CleanAnswer SimpleAnswer KeptAnswer w64 point_i64 points.now out.old out.new result }
     ensures unfit { result ≡ unfit_code ↔ (length out.old < length points.now) }
     ensures unsafe_points { result ≡ unsafe_code ↔ ((length points.now ≤ length out.old) × (AreSafe w64 point_i64 points.now → ⊥)) }
     ensures memory { result ≡ no_memory_code → TakesNoMemory IsSimple point_i64 points.now → ⊥ }
 {
-    clean_contour::<PointI64, Simplifier>(alloc, points, out)
+    clean_contour::<PointI64, ContourSimplifier>(alloc, points, out)
 }
 
 /// The contour without the points at which the way turns back or stands still. Answers how many points are
@@ -53,12 +55,12 @@ pub extern "C" fn i_shape_despike_i64(
     points: &[PointI64],
     out: &mut [PointI64],
 ) -> isize
-    ensures answer { CleanAnswer SpikelessAnswer w64 point_i64 points.now out.old out.new result }
+    ensures answer { CleanAnswer SpikelessAnswer KeptAnswer w64 point_i64 points.now out.old out.new result }
     ensures unfit { result ≡ unfit_code ↔ (length out.old < length points.now) }
     ensures unsafe_points { result ≡ unsafe_code ↔ ((length points.now ≤ length out.old) × (AreSafe w64 point_i64 points.now → ⊥)) }
     ensures memory { result ≡ no_memory_code → TakesNoMemory IsDespikedAlready point_i64 points.now → ⊥ }
 {
-    clean_contour::<PointI64, DeSpiker>(alloc, points, out)
+    clean_contour::<PointI64, ContourDeSpiker>(alloc, points, out)
 }
 
 /// The contour without zero turns, from the start at which it is least. Answers how many points are
@@ -69,12 +71,28 @@ pub extern "C" fn i_shape_canonical_i64(
     points: &[PointI64],
     out: &mut [PointI64],
 ) -> isize
-    ensures answer { CleanAnswer CanonicalAnswer w64 point_i64 points.now out.old out.new result }
+    ensures answer { CleanAnswer CanonicalAnswer KeptAnswer w64 point_i64 points.now out.old out.new result }
     ensures unfit { result ≡ unfit_code ↔ (length out.old < length points.now) }
     ensures unsafe_points { result ≡ unsafe_code ↔ ((length points.now ≤ length out.old) × (AreSafe w64 point_i64 points.now → ⊥)) }
     ensures memory { result ≡ no_memory_code → TakesNoMemory IsSimple point_i64 points.now → ⊥ }
 {
     clean_contour::<PointI64, Canonicalizer>(alloc, points, out)
+}
+
+/// The canonical form whichever way round the contour is wound: that of the contour, or that of the contour read backwards,
+/// whichever is less. Answers how many points are written to the front of `out`, 0 where the contour collapses.
+#[unsafe(no_mangle)]
+pub extern "C" fn i_shape_canonical_unoriented_i64(
+    alloc: Global,
+    points: &[PointI64],
+    out: &mut [PointI64],
+) -> isize
+    ensures answer { CleanAnswer UnorientedAnswer KeptEitherWay w64 point_i64 points.now out.old out.new result }
+    ensures unfit { result ≡ unfit_code ↔ (length out.old < length points.now) }
+    ensures unsafe_points { result ≡ unsafe_code ↔ ((length points.now ≤ length out.old) × (AreSafe w64 point_i64 points.now → ⊥)) }
+    ensures memory { result ≡ no_memory_code → TakesNoMemory IsSimple point_i64 points.now → ⊥ }
+{
+    clean_contour::<PointI64, UnorientedCanonicalizer>(alloc, points, out)
 }
 
 /// Each contour as `i_shape_simplify_i64` leaves it, one that collapses empty. Answers how many points are written.
@@ -86,12 +104,12 @@ pub extern "C" fn i_shape_simplify_contours_i64(
     out_points: &mut [PointI64],
     out_offsets: &mut [usize],
 ) -> isize
-    ensures answer { BatchAnswer SimpleAnswer w64 point_i64 points.now offsets.now out_points.old out_points.new out_offsets.old out_offsets.new result }
+    ensures answer { BatchAnswer SimpleAnswer KeptAnswer w64 point_i64 points.now offsets.now out_points.old out_points.new out_offsets.old out_offsets.new result }
     ensures unfit { result ≡ unfit_code ↔ (CanClean (length points.now) offsets.now (length out_points.old) (length out_offsets.old) → ⊥) }
     ensures unsafe_points { result ≡ unsafe_code ↔ (CanClean (length points.now) offsets.now (length out_points.old) (length out_offsets.old) × (AreSafeContours w64 point_i64 points.now offsets.now → ⊥)) }
     ensures memory { result ≡ no_memory_code → NoneTakesMemory IsSimple point_i64 points.now offsets.now → ⊥ }
 {
-    clean_contours::<PointI64, Simplifier>(alloc, points, offsets, out_points, out_offsets)
+    clean_contours::<PointI64, ContourSimplifier>(alloc, points, offsets, out_points, out_offsets)
 }
 
 /// Each contour as `i_shape_despike_i64` leaves it, one that collapses empty. Answers how many points are written.
@@ -103,12 +121,12 @@ pub extern "C" fn i_shape_despike_contours_i64(
     out_points: &mut [PointI64],
     out_offsets: &mut [usize],
 ) -> isize
-    ensures answer { BatchAnswer SpikelessAnswer w64 point_i64 points.now offsets.now out_points.old out_points.new out_offsets.old out_offsets.new result }
+    ensures answer { BatchAnswer SpikelessAnswer KeptAnswer w64 point_i64 points.now offsets.now out_points.old out_points.new out_offsets.old out_offsets.new result }
     ensures unfit { result ≡ unfit_code ↔ (CanClean (length points.now) offsets.now (length out_points.old) (length out_offsets.old) → ⊥) }
     ensures unsafe_points { result ≡ unsafe_code ↔ (CanClean (length points.now) offsets.now (length out_points.old) (length out_offsets.old) × (AreSafeContours w64 point_i64 points.now offsets.now → ⊥)) }
     ensures memory { result ≡ no_memory_code → NoneTakesMemory IsDespikedAlready point_i64 points.now offsets.now → ⊥ }
 {
-    clean_contours::<PointI64, DeSpiker>(alloc, points, offsets, out_points, out_offsets)
+    clean_contours::<PointI64, ContourDeSpiker>(alloc, points, offsets, out_points, out_offsets)
 }
 
 /// Each contour as `i_shape_canonical_i64` leaves it, one that collapses empty. Answers how many points are written.
@@ -120,12 +138,35 @@ pub extern "C" fn i_shape_canonical_contours_i64(
     out_points: &mut [PointI64],
     out_offsets: &mut [usize],
 ) -> isize
-    ensures answer { BatchAnswer CanonicalAnswer w64 point_i64 points.now offsets.now out_points.old out_points.new out_offsets.old out_offsets.new result }
+    ensures answer { BatchAnswer CanonicalAnswer KeptAnswer w64 point_i64 points.now offsets.now out_points.old out_points.new out_offsets.old out_offsets.new result }
     ensures unfit { result ≡ unfit_code ↔ (CanClean (length points.now) offsets.now (length out_points.old) (length out_offsets.old) → ⊥) }
     ensures unsafe_points { result ≡ unsafe_code ↔ (CanClean (length points.now) offsets.now (length out_points.old) (length out_offsets.old) × (AreSafeContours w64 point_i64 points.now offsets.now → ⊥)) }
     ensures memory { result ≡ no_memory_code → NoneTakesMemory IsSimple point_i64 points.now offsets.now → ⊥ }
 {
     clean_contours::<PointI64, Canonicalizer>(alloc, points, offsets, out_points, out_offsets)
+}
+
+/// Each contour as `i_shape_canonical_unoriented_i64` leaves it, one that collapses empty. Answers how many points are written.
+#[unsafe(no_mangle)]
+pub extern "C" fn i_shape_canonical_unoriented_contours_i64(
+    alloc: Global,
+    points: &[PointI64],
+    offsets: &[usize],
+    out_points: &mut [PointI64],
+    out_offsets: &mut [usize],
+) -> isize
+    ensures answer { BatchAnswer UnorientedAnswer KeptEitherWay w64 point_i64 points.now offsets.now out_points.old out_points.new out_offsets.old out_offsets.new result }
+    ensures unfit { result ≡ unfit_code ↔ (CanClean (length points.now) offsets.now (length out_points.old) (length out_offsets.old) → ⊥) }
+    ensures unsafe_points { result ≡ unsafe_code ↔ (CanClean (length points.now) offsets.now (length out_points.old) (length out_offsets.old) × (AreSafeContours w64 point_i64 points.now offsets.now → ⊥)) }
+    ensures memory { result ≡ no_memory_code → NoneTakesMemory IsSimple point_i64 points.now offsets.now → ⊥ }
+{
+    clean_contours::<PointI64, UnorientedCanonicalizer>(
+        alloc,
+        points,
+        offsets,
+        out_points,
+        out_offsets,
+    )
 }
 
 /// The polygons without zero turns, without the holes that collapse and the polygons whose outer contour does. Answers how many polygons are left.
@@ -143,7 +184,7 @@ pub extern "C" fn i_shape_simplify_shapes_i64(
     ensures unfit { result ≡ unfit_code ↔ (CanCleanShapes (length points.now) contours.now shapes.now (length out_points.old) (length out_contours.old) (length out_shapes.old) → ⊥) }
     ensures unsafe_points { result ≡ unsafe_code ↔ (CanCleanShapes (length points.now) contours.now shapes.now (length out_points.old) (length out_contours.old) (length out_shapes.old) × (AreSafeContours w64 point_i64 points.now contours.now → ⊥)) }
 {
-    clean_shapes::<PointI64, Simplifier>(
+    clean_shapes::<PointI64, ContourSimplifier>(
         alloc,
         points,
         contours,
@@ -169,7 +210,7 @@ pub extern "C" fn i_shape_despike_shapes_i64(
     ensures unfit { result ≡ unfit_code ↔ (CanCleanShapes (length points.now) contours.now shapes.now (length out_points.old) (length out_contours.old) (length out_shapes.old) → ⊥) }
     ensures unsafe_points { result ≡ unsafe_code ↔ (CanCleanShapes (length points.now) contours.now shapes.now (length out_points.old) (length out_contours.old) (length out_shapes.old) × (AreSafeContours w64 point_i64 points.now contours.now → ⊥)) }
 {
-    clean_shapes::<PointI64, DeSpiker>(
+    clean_shapes::<PointI64, SpikeRemover>(
         alloc,
         points,
         contours,

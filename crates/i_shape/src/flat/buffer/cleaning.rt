@@ -17,8 +17,7 @@ use crate::ShapeError;
 use crate::flat::buffer::FlatContoursBuffer;
 use crate::flat::buffer::cleaning::parts::{append_parts, are_clean, checked_total};
 use crate::int::IntPoint;
-use crate::int::cleaning::ContourCleaner;
-use crate::int::despike::SpikeRemover;
+use crate::int::cleaning::{ContourCleaner, InPlaceCleaner, SpikeRemover};
 use crate::int::simple::ContourSimplifier;
 use i_shape_core::number::IntNumber;
 use std::alloc::Global;
@@ -70,7 +69,7 @@ impl<T: IntNumber> FlatContoursBuffer<T> {
 }
 
 /// Cleans each contour of a buffer.
-fn clean_contours<T: IntNumber, C: ContourCleaner<T>>(
+fn clean_contours<T: IntNumber, C: InPlaceCleaner>(
     buffer: &mut FlatContoursBuffer<T>,
 ) -> Result<bool, ShapeError>
     requires readable { All (InOrder (length buffer.old.points.items)) buffer.old.ranges.items }
@@ -96,7 +95,7 @@ fn clean_contours<T: IntNumber, C: ContourCleaner<T>>(
 }
 
 /// A buffer of the cleaned contours. `TooManyPoints` where the ranges name more than `usize::MAX` points together.
-fn cleaned_parts<T: IntNumber, C: ContourCleaner<T>>(
+fn cleaned_parts<T: IntNumber, C: ContourCleaner>(
     alloc: Global,
     points: &[IntPoint<T>],
     ranges: &[Range<usize>],
@@ -111,7 +110,7 @@ fn cleaned_parts<T: IntNumber, C: ContourCleaner<T>>(
     let mut kept = FlatContoursBuffer::new(alloc);
     kept.clear_and_reserve(count, ranges.len())?;
     append_parts(
-        &mut C::start(alloc),
+        &mut C::with_room(alloc, 0),
         &mut kept.points,
         &mut kept.ranges,
         points,

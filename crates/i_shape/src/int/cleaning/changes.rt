@@ -8,7 +8,7 @@ ghost use Rattle.i_shape.specs.ShapeAnswers.{EachContour, EachShape};
 ghost use Rattle.i_shape.specs.ShapeLists.{shape_of, shapes_of, IsSafeShape, IsSafeList};
 ghost use Rattle.i_shape.specs.Changes.{Edit, edits_of, IsLeft, put_contour, put_in_list, FitsShape, FitsList, all_put, AllFit, ComesFor, CleansAside, CleansListAside, stands, standing, standing_shapes};
 
-use crate::int::cleaning::ContourCleaner;
+use crate::int::cleaning::InPlaceCleaner;
 use crate::int::shape::{IntContour, IntShape, IntShapes};
 use i_shape_core::error::ShapeError;
 use i_shape_core::number::IntNumber;
@@ -24,7 +24,7 @@ pub struct Change<I> {
 }
 
 /// What comes in the place of a contour that needs cleaning.
-fn replacement<I: IntNumber, C: ContourCleaner<I>>(
+fn replacement<I: IntNumber, C: InPlaceCleaner>(
     cleaner: &mut C,
     alloc: Global,
     contour: &[IntPoint<I>],
@@ -34,14 +34,14 @@ fn replacement<I: IntNumber, C: ContourCleaner<I>>(
     ensures answer { IfOk result (λ r. ComesFor C.answers (contour_of I.value contour.now) (contour_of I.value r.items)) }
     ensures memory { IsOkUnless result ShapeError.OutOfMemory }
 {
-    match cleaner.cleaned(contour)? {
+    match cleaner.cleaned_untested(contour)? {
         Some(cleaned) => Ok(cleaned),
         None => Ok(Vec::new(alloc)),
     }
 }
 
 /// Appends what comes in the place of each contour that needs cleaning, in order. It is refused only where there is one.
-fn append_changes<I: IntNumber, C: ContourCleaner<I>>(
+fn append_changes<I: IntNumber, C: InPlaceCleaner>(
     cleaner: &mut C,
     changes: &mut Vec<Change<I>>,
     number: usize,
@@ -69,7 +69,7 @@ fn append_changes<I: IntNumber, C: ContourCleaner<I>>(
 }
 
 /// What comes in the place of each contour of a shape that needs cleaning.
-pub fn shape_changes<I: IntNumber, C: ContourCleaner<I>>(
+pub fn shape_changes<I: IntNumber, C: InPlaceCleaner>(
     alloc: Global,
     shape: &[IntContour<I>],
 ) -> Result<Vec<Change<I>>, ShapeError>
@@ -79,12 +79,12 @@ pub fn shape_changes<I: IntNumber, C: ContourCleaner<I>>(
     ensures memory { IsOkUnless result ShapeError.OutOfMemory }
 {
     let mut changes = Vec::new(alloc);
-    append_changes(&mut C::start(alloc), &mut changes, 0, shape)?;
+    append_changes(&mut C::with_room(alloc, 0), &mut changes, 0, shape)?;
     Ok(changes)
 }
 
 /// What comes in the place of each contour of a list that needs cleaning.
-pub fn list_changes<I: IntNumber, C: ContourCleaner<I>>(
+pub fn list_changes<I: IntNumber, C: InPlaceCleaner>(
     alloc: Global,
     shapes: &[IntShape<I>],
 ) -> Result<Vec<Change<I>>, ShapeError>
@@ -93,7 +93,7 @@ pub fn list_changes<I: IntNumber, C: ContourCleaner<I>>(
     ensures unclean { OnErr result (EachShape C.clean (shapes_of I.value shapes.now) → ⊥) }
     ensures memory { IsOkUnless result ShapeError.OutOfMemory }
 {
-    let mut cleaner = C::start(alloc);
+    let mut cleaner = C::with_room(alloc, 0);
     let mut changes = Vec::new(alloc);
     for (number, shape) in shapes.iter().enumerate() {
         append_changes(&mut cleaner, &mut changes, number, shape.as_slice())?;

@@ -5,21 +5,18 @@ ghost use Rattle.i_shape_core.specs.Point.{Point};
 ghost use Rattle.i_shape_core.specs.IntPoint.{contour_of, IsSafe, answered};
 ghost use Rattle.i_shape_core.specs.Convex.{NoSpikes};
 ghost use Rattle.i_shape_core.specs.Cleaners.{DespikeAnswer};
-ghost use Rattle.i_shape_core.proofs.Answered.{despike_kept, despike_left};
 ghost use Rattle.i_shape.specs.ShapeLists.{shape_of, shapes_of, IsSafeShape, IsSafeList};
 ghost use Rattle.i_shape.specs.ShapeAnswers.{ShapeClean, ListClean, EachContour, EachShape, AreKept, ListKept};
 ghost use Rattle.i_shape.specs.InPlace.{CleansShape, CleansList};
 
 use crate::int::cleaning::{
-    ContourCleaner, clean_list, clean_list_in_place, clean_shape, clean_shape_in_place,
-    is_clean_list, is_clean_shape,
+    ContourCleaner, SpikeRemover, clean_list, clean_list_in_place, clean_shape,
+    clean_shape_in_place, is_clean_list, is_clean_shape,
 };
 use crate::int::despike::DeSpike;
 use crate::int::shape::{IntContour, IntShape, IntShapes};
-use i_shape_core::despike::DeSpikeContour;
 use i_shape_core::error::ShapeError;
 use i_shape_core::number::IntNumber;
-use i_shape_core::point::IntPoint;
 use std::alloc::Global;
 
 /// The test of a shape of safe points for spikes, and its copy without them.
@@ -64,46 +61,6 @@ pub trait DeSpikeShapes<I: IntNumber> {
         ensures memory { IsOkUnless result ShapeError.OutOfMemory };
 }
 
-/// The cleaner that removes spikes.
-#[derive(Drop)]
-pub struct SpikeRemover {
-    alloc: Global,
-}
-
-impl<I: IntNumber> ContourCleaner<I> for SpikeRemover {
-    ghost clean = { NoSpikes };
-
-    ghost answers = { DespikeAnswer };
-
-    fn start(alloc: Global) -> SpikeRemover {
-        SpikeRemover { alloc }
-    }
-
-    fn is_clean(contour: &[IntPoint<I>]) -> bool {
-        contour.has_no_spikes()
-    }
-
-    fn cleaned(&mut self, contour: &[IntPoint<I>]) -> Result<Option<IntContour<I>>, ShapeError> {
-        contour.despiked_contour(self.alloc)
-    }
-
-    fn cleaned_copy(
-        &mut self,
-        contour: &[IntPoint<I>],
-    ) -> Result<Option<IntContour<I>>, ShapeError> {
-        if contour.has_no_spikes() {
-            return Ok(Some(Vec::from_slice(self.alloc, contour)?));
-        }
-        self.cleaned(contour)
-    }
-
-    ghost stays = { λ c clean. record { clean = λ _. refl; cleaned = λ unclean. absurd (unclean clean) } };
-
-    ghost keeps = { despike_kept };
-
-    ghost stays_safe = { despike_left (IsSafe I.width) };
-}
-
 impl<I: IntNumber> DeSpikeShape<I> for IntShape<I> {
     ghost shape = { λ contours. shape_of I.value contours.items };
 
@@ -112,7 +69,11 @@ impl<I: IntNumber> DeSpikeShape<I> for IntShape<I> {
     }
 
     fn despiked_shape(&self, alloc: Global) -> Result<Option<IntShape<I>>, ShapeError> {
-        clean_shape(&mut SpikeRemover { alloc }, alloc, self.as_slice())
+        clean_shape(
+            &mut SpikeRemover::with_room(alloc, 0),
+            alloc,
+            self.as_slice(),
+        )
     }
 }
 
@@ -124,7 +85,11 @@ impl<I: IntNumber> DeSpikeShapes<I> for IntShapes<I> {
     }
 
     fn despiked_shapes(&self, alloc: Global) -> Result<IntShapes<I>, ShapeError> {
-        clean_list(&mut SpikeRemover { alloc }, alloc, self.as_slice())
+        clean_list(
+            &mut SpikeRemover::with_room(alloc, 0),
+            alloc,
+            self.as_slice(),
+        )
     }
 }
 

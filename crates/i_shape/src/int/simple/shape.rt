@@ -6,22 +6,18 @@ ghost use Rattle.i_shape_core.specs.Point.{Point};
 ghost use Rattle.i_shape_core.specs.IntPoint.{contour_of, IsSafe, answered};
 ghost use Rattle.i_shape_core.specs.Contour.{IsSimple};
 ghost use Rattle.i_shape_core.specs.Cleaners.{SimpleAnswer};
-ghost use Rattle.i_shape_core.proofs.Cleaned.{simple_stays};
-ghost use Rattle.i_shape_core.proofs.Answered.{simple_kept, simple_left};
 ghost use Rattle.i_shape.specs.ShapeLists.{shape_of, shapes_of, IsSafeShape, IsSafeList};
 ghost use Rattle.i_shape.specs.ShapeAnswers.{ShapeClean, ListClean, EachContour, EachShape, AreKept, ListKept};
 ghost use Rattle.i_shape.specs.InPlace.{CleansShape, CleansList};
 
 use crate::int::cleaning::{
-    ContourCleaner, clean_list, clean_list_in_place, clean_shape, clean_shape_in_place,
-    is_clean_list, is_clean_shape,
+    clean_list, clean_list_in_place, clean_shape, clean_shape_in_place, is_clean_list,
+    is_clean_shape,
 };
 use crate::int::shape::{IntContour, IntShape, IntShapes};
 use crate::int::simple::Simplify;
 use i_shape_core::error::ShapeError;
 use i_shape_core::number::IntNumber;
-use i_shape_core::point::IntPoint;
-use i_shape_core::simple::SimpleContour;
 use i_shape_core::simplifier::ContourSimplifier;
 use std::alloc::Global;
 
@@ -63,37 +59,6 @@ pub trait SimpleShapes<I: IntNumber> {
         ensures kept { IfOk result (λ r. ListKept SimpleAnswer (shapes self.now) (shapes_of I.value r.items)) }
         ensures safe { IfOk result (λ r. IsSafeList I.width (shapes_of I.value r.items)) }
         ensures memory { IsOkUnless result ShapeError.OutOfMemory };
-}
-
-impl<I: IntNumber> ContourCleaner<I> for ContourSimplifier {
-    ghost clean = { IsSimple };
-
-    ghost answers = { SimpleAnswer };
-
-    fn start(alloc: Global) -> ContourSimplifier {
-        ContourSimplifier::new(alloc)
-    }
-
-    fn is_clean(contour: &[IntPoint<I>]) -> bool {
-        contour.is_simple()
-    }
-
-    fn cleaned(&mut self, contour: &[IntPoint<I>]) -> Result<Option<IntContour<I>>, ShapeError> {
-        self.simplify_contour(contour)
-    }
-
-    fn cleaned_copy(
-        &mut self,
-        contour: &[IntPoint<I>],
-    ) -> Result<Option<IntContour<I>>, ShapeError> {
-        self.simplify_contour(contour)
-    }
-
-    ghost stays = { simple_stays };
-
-    ghost keeps = { simple_kept };
-
-    ghost stays_safe = { simple_left (IsSafe I.width) };
 }
 
 impl<I: IntNumber> SimpleShape<I> for &[IntContour<I>] {

@@ -35,7 +35,7 @@ loop-place-preserved g c =
       offsets = length-set c.loop-place.out_offsets c.loop-place.place end ∙ c.loop-place.invariant.offsets;
       points_rest = clean.after ∙ further c.loop-place.out_points c.args.out_points.now c.loop-place.written end clean.end.0 c.loop-place.invariant.points_rest;
       offsets_rest = back_more c.loop-place.out_offsets c.args.out_offsets.now c.loop-place.place _ end (omega arith) c.loop-place.invariant.offsets_rest;
-      done = done_more g.C.Cleaner.gives g.P.Coordinate.IntNumber.width at c.args.points.now c.args.offsets.now c.loop-place.out_points c.clean_into.new.out c.loop-place.out_offsets
+      done = done_more g.C.ContourCleaner.answers g.C.ContourCleaner.keeps g.P.Coordinate.IntNumber.width at c.args.points.now c.args.offsets.now c.loop-place.out_points c.clean_into.new.out c.loop-place.out_offsets
           c.loop-place.place c.loop-place.written end done room clean.end.0 under clean.before (rw (c.part-ring.ensures.part) at clean.cleaned);
     }
 
@@ -51,7 +51,7 @@ returns-in_err-written-clause-err g c =
 pub returns-clause-ok : goal.returns-clause-ok
 returns-clause-ok g c =
     let at = λ (p : g.row.P.Denot). point_of g.P.Coordinate.IntNumber.value (g.P.ContourPoint.point p) in
-    all_done g.C.Cleaner.gives g.P.Coordinate.IntNumber.width at c.args.points.now c.args.offsets.now c.args.out_points.now c.loop-place.out_points c.args.out_offsets.now c.loop-place.out_offsets
+    all_done g.C.ContourCleaner.answers g.C.ContourCleaner.keeps g.P.Coordinate.IntNumber.width at c.args.points.now c.args.offsets.now c.args.out_points.now c.loop-place.out_points c.args.out_offsets.now c.loop-place.out_offsets
     c.loop-place.place c.loop-place.written c.loop-place-test.false (c.loop-place.auto.place-end (omega (arith, c.requires.can.some))) c.requires.can.last c.loop-place.invariant.done
     c.loop-place.invariant.points_rest c.loop-place.invariant.offsets_rest
 

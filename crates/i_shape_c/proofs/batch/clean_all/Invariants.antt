@@ -9,5 +9,5 @@ invariant-loop-place g l = record {
   offsets : length l.out_offsets ≡ length l.fn.out_offsets;
   points_rest : drop l.written l.out_points ≡ drop l.written l.fn.out_points;
   offsets_rest : drop l.place l.out_offsets ≡ drop l.place l.fn.out_offsets;
-  done : Done g.C.Cleaner.gives g.P.Coordinate.IntNumber.width (λ p. point_of g.P.Coordinate.IntNumber.value (g.P.ContourPoint.point p)) l.points l.offsets l.out_points l.out_offsets l.place l.written;
+  done : Done g.C.ContourCleaner.answers g.C.ContourCleaner.keeps g.P.Coordinate.IntNumber.width (λ p. point_of g.P.Coordinate.IntNumber.value (g.P.ContourPoint.point p)) l.points l.offsets l.out_points l.out_offsets l.place l.written;
 }

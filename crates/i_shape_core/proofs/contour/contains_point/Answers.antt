@@ -1,4 +1,4 @@
-use Rattle.std.proofs.Common.{◌∙◌, ◌≡◌, ◌-◌, ◌<◌, ◌≤◌, get_or, length, ap, sym, subst, arith, refl}
+use Rattle.std.proofs.Common.{◌∙◌, ◌≡◌, ◌-◌, ◌<◌, get_or, length, arith, refl}
 use Rattle.i_shape_core.specs.IntPoint.{point_of}
 use Rattle.i_shape_core.proofs.Contours.{read-safe}
 use Rattle.i_shape_core.proofs.PointLists.{points-length, points-item, points-take, points-drop, points-append}

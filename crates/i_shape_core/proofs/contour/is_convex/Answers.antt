@@ -40,9 +40,9 @@ loop-given-init g c =
     let last : c.to_point-here.result ≡ get_or (g.P.ContourPoint.points c.args.points.now) (length (g.P.ContourPoint.points c.args.points.now) - 1) c.to_point-here.result =
     rw count (points-item g.P.ContourPoint.point g.P.ContourPoint.points g.P.ContourPoint.each c.args.points.now _ c.in-Some.last.now c.to_point-here.result c.to_point-here.ensures (omega (arith, c.in-Some.ensures.item.3.0)) c.in-Some.ensures.item.1) in
     record {
-  here_safe = read-safe g.P.Coordinate.IntNumber.width g.P.Coordinate.IntNumber.value (g.P.ContourPoint.points c.args.points.now) _ _ c.requires (omega (arith, some)) last;
-  bending = bending_begins g.P.Coordinate.IntNumber.value (g.P.ContourPoint.points c.args.points.now) c.to_point-here.result c.in-Some-last_other.behind _ some last c.in-Some-last_other.ensures c.sub-edge.ensures;
-}
+      here_safe = read-safe g.P.Coordinate.IntNumber.width g.P.Coordinate.IntNumber.value (g.P.ContourPoint.points c.args.points.now) _ _ c.requires (omega (arith, some)) last;
+      bending = bending_begins g.P.Coordinate.IntNumber.value (g.P.ContourPoint.points c.args.points.now) c.to_point-here.result c.in-Some-last_other.behind _ some last c.in-Some-last_other.ensures c.sub-edge.ensures;
+    }
 
 pub sub-next-requires : goal.sub-next-requires
 sub-next-requires g c =
@@ -66,10 +66,10 @@ loop-given-preserved-then-are_same g c =
     let within : c.loop-given.given-index < length (g.P.ContourPoint.points c.args.points.now) = omega (arith, count, c.loop-given-test.true) in
     let read = points-item g.P.ContourPoint.point g.P.ContourPoint.points g.P.ContourPoint.each c.args.points.now _ c.given-item.result c.to_point-point.result c.to_point-point.ensures c.loop-given-test.true c.given-item.is in
     record {
-  here_safe = c.loop-given.invariant.here_safe;
-  bending = bending_repeat g.P.Coordinate.IntNumber.value (g.P.ContourPoint.points c.args.points.now) c.loop-given.bend c.loop-given.repeats c.loop-given.given-index (point_of g.P.Coordinate.IntNumber.value c.loop-given.edge) c.loop-given.here c.to_point-point.result
-      within read (sym c.are_same.ensures ∙ c.if-are_same.true) c.loop-given.invariant.bending;
-}
+      here_safe = c.loop-given.invariant.here_safe;
+      bending = bending_repeat g.P.Coordinate.IntNumber.value (g.P.ContourPoint.points c.args.points.now) c.loop-given.bend c.loop-given.repeats c.loop-given.given-index (point_of g.P.Coordinate.IntNumber.value c.loop-given.edge) c.loop-given.here c.to_point-point.result
+          within read (sym c.are_same.ensures ∙ c.if-are_same.true) c.loop-given.invariant.bending;
+    }
 
 pub returns-in_default-joined_with : goal.returns-in_default-joined_with
 returns-in_default-joined_with g c =

@@ -71,8 +71,7 @@ walk_onward-requires-clause-block_safe g c =
 
 pub returns-in_default-walk_onward : goal.returns-in_default-walk_onward
 returns-in_default-walk_onward g c =
-    let both = points-append g.P.ContourPoint.point g.P.ContourPoint.points g.P.ContourPoint.each _ _ _ c.split_at.ensures.by_index.0 in
-    (
+    let both = points-append g.P.ContourPoint.point g.P.ContourPoint.points g.P.ContourPoint.each _ _ _ c.split_at.ensures.by_index.0 in (
       λ t. absurd (cc),
       λ s. absurd (block_goes_back g.P.Coordinate.IntNumber.value _ _ _ _ _ _ both (c.in_default-walk_onward.ensures.back.0 refl) c.loop-rest.invariant.walking s),
     )

@@ -1,4 +1,4 @@
-use Rattle.std.proofs.Common.{◌≡◌, ◌∙◌, not, sym, ap, option_map, Some}
+use Rattle.std.proofs.Common.{◌∙◌, not, sym, ap, option_map, Some}
 use Rattle.i_shape_core.specs.IntPoint.{point_of}
 use Rattle.i_shape_core.specs.Convex.{is_same}
 use Rattle.i_shape_core.proofs.PointLists.{points-found}

@@ -1,4 +1,4 @@
-use Rattle.std.proofs.Common.{◌≡◌, ◌-◌, ◌<◌, ◌≤◌, length, get_or, rules, arith}
+use Rattle.std.proofs.Common.{◌≡◌, ◌-◌, length, get_or, rules, arith}
 use Rattle.i_shape_core.proofs.Contours.{read-safe, length-contour}
 use Rattle.i_shape_core.proofs.PointLists.{points-length, points-item, points-take, points-drop, points-append}
 use Rattle.i_shape_core.proofs.LastEdge.{start-read, first-safe, later-safe, block-on, block-stops, none_told}
@@ -57,8 +57,7 @@ walk_block-has_zero_turn-requires-clause-block_safe g c =
 
 pub returns-then-has_zero_turn : goal.returns-then-has_zero_turn
 returns-then-has_zero_turn g c =
-    let both = points-append g.P.ContourPoint.point g.P.ContourPoint.points g.P.ContourPoint.each _ _ _ c.split_at.ensures.by_index.0 in
-    (
+    let both = points-append g.P.ContourPoint.point g.P.ContourPoint.points g.P.ContourPoint.each _ _ _ c.split_at.ensures.by_index.0 in (
       λ t. absurd (cc),
       λ s. absurd (block-stops g.P.Coordinate.IntNumber.value _ _ _ _ _ _ both (c.walk_block-has_zero_turn.ensures.flat.0 c.if-has_zero_turn.true) c.loop-rest.invariant.walking s),
     )

@@ -9,8 +9,8 @@ use Rattle.i_shape_core.proofs.Survivors.{survivors-none}
 use Rattle.i_shape.proofs.Surviving.{mapped-read, survivors-more}
 use Rattle.i_shape.proofs.int.cleaning.append_holes.Goals as goal
 
-pub append_hole-requires : goal.append_hole-requires
-append_hole-requires g c =
+pub append_contour-requires : goal.append_contour-requires
+append_contour-requires g c =
     let Safe : List (IntPoint g.row.I.Denot) → Type 0 = λ w. All (IsSafe g.I.IntNumber.width) (contour_of g.I.IntNumber.value w) in
     subst Safe (sym c.as_slice.ensures.value) (mapped-read (λ v. contour_of g.I.IntNumber.value v.items) (All (IsSafe g.I.IntNumber.width)) c.args.contours.now c.loop-contour.contour-index c.contour-item.result c.loop-contour-test.true c.contour-item.is c.requires)
 
@@ -21,7 +21,7 @@ pub loop-contour-preserved : goal.loop-contour-preserved
 loop-contour-preserved g c =
     let value = g.I.IntNumber.value in
     let inv = c.loop-contour.invariant in
-    let step = c.in_ok-append_hole.ensures.ok in
+    let step = c.in_ok-append_contour.ensures.ok in
     let Answered : List (IntPoint g.row.I.Denot) → Type 0 = λ w. g.C.ContourCleaner.answers (contour_of value w) step.0 in (
       inv.0 ++ option_to_list step.0,
       survivors-more (λ v. contour_of value v.items) g.C.ContourCleaner.answers c.args.contours.now c.loop-contour.contour-index c.contour-item.result inv.0 step.0 c.loop-contour-test.true c.contour-item.is inv.1 (subst Answered c.as_slice.ensures.value step.1),

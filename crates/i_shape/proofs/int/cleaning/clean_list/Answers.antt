@@ -30,9 +30,9 @@ returns-clause-answer g c =
 pub returns-clause-kept : goal.returns-clause-kept
 returns-clause-kept g c =
     let whole = take_all c.loop-shape.shape-index c.args.shapes.now c.loop-shape-test.false in
-    list_keeps g.C.ContourCleaner.answers g.met.C.ContourCleaner.keeps _ _ (rw whole at c.loop-shape.invariant)
+    list_keeps g.C.ContourCleaner.answers g.met.C.InPlaceCleaner.kept _ _ (rw whole at c.loop-shape.invariant)
 
 pub returns-clause-safe : goal.returns-clause-safe
 returns-clause-safe g c =
     let whole = take_all c.loop-shape.shape-index c.args.shapes.now c.loop-shape-test.false in
-    list_safe g.C.ContourCleaner.answers g.I.IntNumber.width g.met.C.ContourCleaner.stays_safe _ _ (rw whole at c.loop-shape.invariant) c.requires
+    list_safe g.C.ContourCleaner.answers g.I.IntNumber.width (g.met.C.CleanerLaws.stays_safe g.I.IntNumber.width) _ _ (rw whole at c.loop-shape.invariant) c.requires

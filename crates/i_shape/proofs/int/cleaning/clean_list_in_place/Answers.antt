@@ -25,7 +25,7 @@ returns-then-is_empty-clause-gives g c =
     let cleaner = g.C.ContourCleaner in
     let changes = c.in_ok-changes.changes in
     let Passes : List (Vec (Vec (IntPoint g.row.I.Denot))) → Type 0 = λ w. EachShape cleaner.clean (shapes_of g.I.IntNumber.value w) in
-    list_stays_in_place cleaner.clean cleaner.answers g.met.C.ContourCleaner.stays g.met.C.ContourCleaner.keeps (shapes_of g.I.IntNumber.value c.args.shapes.now.items)
+    list_stays_in_place cleaner.clean cleaner.answers g.met.C.InPlaceCleaner.stays g.met.C.InPlaceCleaner.kept (shapes_of g.I.IntNumber.value c.args.shapes.now.items)
     (subst Passes c.as_slice.ensures.value (c.in_ok-changes.ensures.ok.clean.0 (some_told g.I.IntNumber.value changes.items changes.len changes.ok.0 (sym c.is_empty.ensures ∙ c.if-is_empty.true))))
 
 pub put_in_list-requires : goal.put_in_list-requires
@@ -45,7 +45,7 @@ returns-then-not-all_left-clause-gives g c =
     let Aside : List (Vec (Vec (IntPoint g.row.I.Denot))) → Type 0 = λ w. CleansListAside cleaner.clean cleaner.answers (shapes_of value w) edits in
     let aside = subst Aside c.as_slice.ensures.value c.in_ok-changes.ensures.ok in
     let fails : EachShape cleaner.clean shapes → ⊥ = λ all. false≢true (sym c.if-is_empty.false ∙ c.is_empty.ensures ∙ none_told value changes.items changes.len changes.ok.0 (aside.clean.1 all)) in
-    list_cleaned_in_place cleaner.clean cleaner.answers g.met.C.ContourCleaner.keeps shapes _ fails (taken_clean cleaner.clean cleaner.answers shapes _ edits aside (c.take_out_of_list.ensures ∙ ap standing_shapes c.put_in_list.ensures))
+    list_cleaned_in_place cleaner.clean cleaner.answers g.met.C.InPlaceCleaner.kept shapes _ fails (taken_clean cleaner.clean cleaner.answers shapes _ edits aside (c.take_out_of_list.ensures ∙ ap standing_shapes c.put_in_list.ensures))
 
 pub returns-then-not-all_left-clause-safe : goal.returns-then-not-all_left-clause-safe
 returns-then-not-all_left-clause-safe g c =
@@ -55,7 +55,7 @@ returns-then-not-all_left-clause-safe g c =
     let shapes : List (List (List Point)) = shapes_of value c.args.shapes.now.items in
     let Aside : List (Vec (Vec (IntPoint g.row.I.Denot))) → Type 0 = λ w. CleansListAside cleaner.clean cleaner.answers (shapes_of value w) edits in
     let aside = subst Aside c.as_slice.ensures.value c.in_ok-changes.ensures.ok in
-    list_safe cleaner.answers g.I.IntNumber.width g.met.C.ContourCleaner.stays_safe shapes _ (taken_clean cleaner.clean cleaner.answers shapes _ edits aside (c.take_out_of_list.ensures ∙ ap standing_shapes c.put_in_list.ensures)) c.requires
+    list_safe cleaner.answers g.I.IntNumber.width (g.met.C.CleanerLaws.stays_safe g.I.IntNumber.width) shapes _ (taken_clean cleaner.clean cleaner.answers shapes _ edits aside (c.take_out_of_list.ensures ∙ ap standing_shapes c.put_in_list.ensures)) c.requires
 
 pub returns-else-not-all_left-clause-gives : goal.returns-else-not-all_left-clause-gives
 returns-else-not-all_left-clause-gives g c =
@@ -69,7 +69,7 @@ returns-else-not-all_left-clause-gives g c =
     let aside = subst Aside c.as_slice.ensures.value c.in_ok-changes.ensures.ok in
     let fails : EachShape cleaner.clean shapes → ⊥ = λ all. false≢true (sym c.if-is_empty.false ∙ c.is_empty.ensures ∙ none_told value changes.items changes.len changes.ok.0 (aside.clean.1 all)) in
     let left = subst Left c.as_slice-2.ensures.value (c.are_left-all_left.ensures.0 c.if-not-all_left.false) in
-    list_cleaned_in_place cleaner.clean cleaner.answers g.met.C.ContourCleaner.keeps shapes _ fails (whole_clean cleaner.clean cleaner.answers shapes _ edits aside left c.put_in_list.ensures)
+    list_cleaned_in_place cleaner.clean cleaner.answers g.met.C.InPlaceCleaner.kept shapes _ fails (whole_clean cleaner.clean cleaner.answers shapes _ edits aside left c.put_in_list.ensures)
 
 pub returns-else-not-all_left-clause-safe : goal.returns-else-not-all_left-clause-safe
 returns-else-not-all_left-clause-safe g c =
@@ -81,7 +81,7 @@ returns-else-not-all_left-clause-safe g c =
     let Left : List (Change g.row.I.Denot) → Type 0 = λ w. All IsLeft (edits_of value w) in
     let aside = subst Aside c.as_slice.ensures.value c.in_ok-changes.ensures.ok in
     let left = subst Left c.as_slice-2.ensures.value (c.are_left-all_left.ensures.0 c.if-not-all_left.false) in
-    list_safe cleaner.answers g.I.IntNumber.width g.met.C.ContourCleaner.stays_safe shapes _ (whole_clean cleaner.clean cleaner.answers shapes _ edits aside left c.put_in_list.ensures) c.requires
+    list_safe cleaner.answers g.I.IntNumber.width (g.met.C.CleanerLaws.stays_safe g.I.IntNumber.width) shapes _ (whole_clean cleaner.clean cleaner.answers shapes _ edits aside left c.put_in_list.ensures) c.requires
 
 pub returns-in_err-changes-clause-gives : goal.returns-in_err-changes-clause-gives
 returns-in_err-changes-clause-gives g c =
@@ -91,4 +91,4 @@ returns-in_err-changes-clause-gives g c =
     let old = shapes_of value c.args.shapes.now.items in
     let Gives : Result Bool ShapeError → Type 0 = λ r. CleansList cleaner.clean cleaner.answers old old r in
     let is : c.from_residual.result ≡ Err c.in_err-changes.field-0.0 = search rules in
-    subst Gives (sym is) (list_refused_in_place cleaner.clean cleaner.answers g.met.C.ContourCleaner.keeps (shapes_of value c.args.shapes.now.items) _ (λ all. c.in_err-changes.ensures.unclean (subst Passes (sym c.as_slice.ensures.value) all)) c.in_err-changes.ensures.memory)
+    subst Gives (sym is) (list_refused_in_place cleaner.clean cleaner.answers g.met.C.InPlaceCleaner.kept (shapes_of value c.args.shapes.now.items) _ (λ all. c.in_err-changes.ensures.unclean (subst Passes (sym c.as_slice.ensures.value) all)) c.in_err-changes.ensures.memory)

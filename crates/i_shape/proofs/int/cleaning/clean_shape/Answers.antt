@@ -10,8 +10,8 @@ use Rattle.i_shape.specs.ShapeAnswers.{ShapeClean}
 use Rattle.i_shape.proofs.Keeping.{shape_keeps, shape_safe}
 use Rattle.i_shape.proofs.int.cleaning.clean_shape.Goals as goal
 
-pub cleaned_copy-requires : goal.cleaned_copy-requires
-cleaned_copy-requires g c =
+pub cleaned-requires : goal.cleaned-requires
+cleaned-requires g c =
     let value = g.I.IntNumber.value in
     let Safe : List (Vec (IntPoint g.row.I.Denot)) → Type 0 = λ w. IsSafeShape g.I.IntNumber.width (shape_of value w) in
     let SafeContour : List (IntPoint g.row.I.Denot) → Type 0 = λ w. All (IsSafe g.I.IntNumber.width) (contour_of value w) in
@@ -31,10 +31,10 @@ pub returns-clause-kept : goal.returns-clause-kept
 returns-clause-kept g c =
     let value = g.I.IntNumber.value in
     let answer : ShapeClean g.C.ContourCleaner.answers (shape_of value c.args.shape.now) (Some (shape_of value c.append_holes.new.kept.items)) = search rules in
-    shape_keeps g.C.ContourCleaner.answers g.met.C.ContourCleaner.keeps _ _ answer
+    shape_keeps g.C.ContourCleaner.answers g.met.C.InPlaceCleaner.kept _ _ answer
 
 pub returns-clause-safe : goal.returns-clause-safe
 returns-clause-safe g c =
     let value = g.I.IntNumber.value in
     let answer : ShapeClean g.C.ContourCleaner.answers (shape_of value c.args.shape.now) (Some (shape_of value c.append_holes.new.kept.items)) = search rules in
-    shape_safe g.C.ContourCleaner.answers g.I.IntNumber.width g.met.C.ContourCleaner.stays_safe _ _ answer c.requires
+    shape_safe g.C.ContourCleaner.answers g.I.IntNumber.width (g.met.C.CleanerLaws.stays_safe g.I.IntNumber.width) _ _ answer c.requires

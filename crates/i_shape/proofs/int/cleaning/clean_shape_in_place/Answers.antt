@@ -24,7 +24,7 @@ returns-then-is_empty-clause-gives g c =
     let cleaner = g.C.ContourCleaner in
     let changes = c.in_ok-changes.changes in
     let Passes : List (Vec (IntPoint g.row.I.Denot)) → Type 0 = λ w. EachContour cleaner.clean (shape_of g.I.IntNumber.value w) in
-    shape_stays_in_place cleaner.clean cleaner.answers g.met.C.ContourCleaner.stays (shape_of g.I.IntNumber.value c.args.shape.now.items)
+    shape_stays_in_place cleaner.clean cleaner.answers g.met.C.InPlaceCleaner.stays (shape_of g.I.IntNumber.value c.args.shape.now.items)
     (subst Passes c.as_slice.ensures.value (c.in_ok-changes.ensures.ok.clean.0 (some_told g.I.IntNumber.value changes.items changes.len changes.ok.0 (sym c.is_empty.ensures ∙ c.if-is_empty.true))))
 
 pub put_in_shape-requires : goal.put_in_shape-requires
@@ -44,7 +44,7 @@ returns-then-not-all_left-clause-gives g c =
     let Aside : List (Vec (IntPoint g.row.I.Denot)) → Type 0 = λ w. CleansAside cleaner.clean cleaner.answers 0 (shape_of value w) edits in
     let aside = subst Aside c.as_slice.ensures.value c.in_ok-changes.ensures.ok in
     let fails : EachContour cleaner.clean shape → ⊥ = λ all. false≢true (sym c.if-is_empty.false ∙ c.is_empty.ensures ∙ none_told value changes.items changes.len changes.ok.0 (aside.clean.1 all)) in
-    shape_cleaned_in_place cleaner.clean cleaner.answers g.met.C.ContourCleaner.keeps shape _ fails (taken_leaves cleaner.clean cleaner.answers 0 shape _ edits aside (c.take_out_collapsed.ensures ∙ ap standing c.put_in_shape.ensures))
+    shape_cleaned_in_place cleaner.clean cleaner.answers g.met.C.InPlaceCleaner.kept shape _ fails (taken_leaves cleaner.clean cleaner.answers 0 shape _ edits aside (c.take_out_collapsed.ensures ∙ ap standing c.put_in_shape.ensures))
 
 pub returns-then-not-all_left-clause-safe : goal.returns-then-not-all_left-clause-safe
 returns-then-not-all_left-clause-safe g c =
@@ -54,7 +54,7 @@ returns-then-not-all_left-clause-safe g c =
     let shape : List (List Point) = shape_of value c.args.shape.now.items in
     let Aside : List (Vec (IntPoint g.row.I.Denot)) → Type 0 = λ w. CleansAside cleaner.clean cleaner.answers 0 (shape_of value w) edits in
     let aside = subst Aside c.as_slice.ensures.value c.in_ok-changes.ensures.ok in
-    leaves_safe cleaner.answers g.I.IntNumber.width g.met.C.ContourCleaner.stays_safe shape _ (taken_leaves cleaner.clean cleaner.answers 0 shape _ edits aside (c.take_out_collapsed.ensures ∙ ap standing c.put_in_shape.ensures)) c.requires
+    leaves_safe cleaner.answers g.I.IntNumber.width (g.met.C.CleanerLaws.stays_safe g.I.IntNumber.width) shape _ (taken_leaves cleaner.clean cleaner.answers 0 shape _ edits aside (c.take_out_collapsed.ensures ∙ ap standing c.put_in_shape.ensures)) c.requires
 
 pub returns-else-not-all_left-clause-gives : goal.returns-else-not-all_left-clause-gives
 returns-else-not-all_left-clause-gives g c =
@@ -68,7 +68,7 @@ returns-else-not-all_left-clause-gives g c =
     let aside = subst Aside c.as_slice.ensures.value c.in_ok-changes.ensures.ok in
     let fails : EachContour cleaner.clean shape → ⊥ = λ all. false≢true (sym c.if-is_empty.false ∙ c.is_empty.ensures ∙ none_told value changes.items changes.len changes.ok.0 (aside.clean.1 all)) in
     let left = subst Left c.as_slice-2.ensures.value (c.are_left-all_left.ensures.0 c.if-not-all_left.false) in
-    shape_cleaned_in_place cleaner.clean cleaner.answers g.met.C.ContourCleaner.keeps shape _ fails (whole_leaves cleaner.clean cleaner.answers 0 shape _ edits aside left c.put_in_shape.ensures)
+    shape_cleaned_in_place cleaner.clean cleaner.answers g.met.C.InPlaceCleaner.kept shape _ fails (whole_leaves cleaner.clean cleaner.answers 0 shape _ edits aside left c.put_in_shape.ensures)
 
 pub returns-else-not-all_left-clause-safe : goal.returns-else-not-all_left-clause-safe
 returns-else-not-all_left-clause-safe g c =
@@ -80,7 +80,7 @@ returns-else-not-all_left-clause-safe g c =
     let Left : List (Change g.row.I.Denot) → Type 0 = λ w. All IsLeft (edits_of value w) in
     let aside = subst Aside c.as_slice.ensures.value c.in_ok-changes.ensures.ok in
     let left = subst Left c.as_slice-2.ensures.value (c.are_left-all_left.ensures.0 c.if-not-all_left.false) in
-    leaves_safe cleaner.answers g.I.IntNumber.width g.met.C.ContourCleaner.stays_safe shape _ (whole_leaves cleaner.clean cleaner.answers 0 shape _ edits aside left c.put_in_shape.ensures) c.requires
+    leaves_safe cleaner.answers g.I.IntNumber.width (g.met.C.CleanerLaws.stays_safe g.I.IntNumber.width) shape _ (whole_leaves cleaner.clean cleaner.answers 0 shape _ edits aside left c.put_in_shape.ensures) c.requires
 
 pub returns-in_err-changes-clause-gives : goal.returns-in_err-changes-clause-gives
 returns-in_err-changes-clause-gives g c =
@@ -90,4 +90,4 @@ returns-in_err-changes-clause-gives g c =
     let old = shape_of value c.args.shape.now.items in
     let Gives : Result Bool ShapeError → Type 0 = λ r. CleansShape cleaner.clean cleaner.answers old old r in
     let is : c.from_residual.result ≡ Err c.in_err-changes.field-0.0 = search rules in
-    subst Gives (sym is) (shape_refused_in_place cleaner.clean cleaner.answers g.met.C.ContourCleaner.keeps (shape_of value c.args.shape.now.items) _ (λ all. c.in_err-changes.ensures.unclean (subst Passes (sym c.as_slice.ensures.value) all)) c.in_err-changes.ensures.memory)
+    subst Gives (sym is) (shape_refused_in_place cleaner.clean cleaner.answers g.met.C.InPlaceCleaner.kept (shape_of value c.args.shape.now.items) _ (λ all. c.in_err-changes.ensures.unclean (subst Passes (sym c.as_slice.ensures.value) all)) c.in_err-changes.ensures.memory)

@@ -18,7 +18,7 @@ returns-then-not-is_clean g c =
     let clean = g.C.ContourCleaner.clean in
     let Clean : List (IntPoint g.row.I.Denot) → Type 0 = λ w. clean (contour_of value w) in (
       λ f. absurd (cc),
-      λ all. absurd (false≢true (sym c.if-not-is_clean.true ∙ c.is_clean.ensures.clean.1 (subst Clean (sym c.as_slice.ensures.value) (mapped-read (λ v. contour_of value v.items) clean c.args.shape.now c.loop-contour.contour-index c.contour-item.result c.loop-contour-test.true c.contour-item.is all)))),
+      λ all. absurd (false≢true (sym c.if-not-is_clean.true ∙ c.is_clean.ensures.1 (subst Clean (sym c.as_slice.ensures.value) (mapped-read (λ v. contour_of value v.items) clean c.args.shape.now c.loop-contour.contour-index c.contour-item.result c.loop-contour-test.true c.contour-item.is all)))),
     )
 
 pub loop-contour-preserved : goal.loop-contour-preserved
@@ -26,7 +26,7 @@ loop-contour-preserved g c =
     let value = g.I.IntNumber.value in
     let clean = g.C.ContourCleaner.clean in
     let Clean : List (IntPoint g.row.I.Denot) → Type 0 = λ w. clean (contour_of value w) in
-    mapped-more (λ v. contour_of value v.items) clean c.args.shape.now c.loop-contour.contour-index c.contour-item.result c.loop-contour-test.true c.contour-item.is c.loop-contour.invariant (subst Clean c.as_slice.ensures.value (c.is_clean.ensures.clean.0 c.if-not-is_clean.false))
+    mapped-more (λ v. contour_of value v.items) clean c.args.shape.now c.loop-contour.contour-index c.contour-item.result c.loop-contour-test.true c.contour-item.is c.loop-contour.invariant (subst Clean c.as_slice.ensures.value (c.is_clean.ensures.0 c.if-not-is_clean.false))
 
 pub returns : goal.returns
 returns g c =

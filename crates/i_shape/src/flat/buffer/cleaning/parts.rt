@@ -25,7 +25,7 @@ pub fn part<'a, T: IntNumber>(points: &'a [IntPoint<T>], range: &Range<usize>) -
 }
 
 /// Whether no contour that the ranges name has to be cleaned.
-pub fn are_clean<T: IntNumber, C: ContourCleaner<T>>(
+pub fn are_clean<T: IntNumber, C: ContourCleaner>(
     points: &[IntPoint<T>],
     ranges: &[Range<usize>],
 ) -> bool
@@ -52,23 +52,8 @@ pub fn checked_total(ranges: &[Range<usize>]) -> Option<usize>
     Some(total)
 }
 
-/// Appends a contour and its range.
-fn push_contour<T: IntNumber>(
-    points: &mut Vec<IntPoint<T>>,
-    ranges: &mut Vec<Range<usize>>,
-    contour: &[IntPoint<T>],
-) -> Result<(), ShapeError>
-    ensures ok { OnOk result (Grows points.old.items points.new.items ranges.old.items ranges.new.items (contour.now ∷ [])) }
-    ensures memory { IsOkUnless result ShapeError.OutOfMemory }
-{
-    let start = points.len();
-    points.extend_from_slice(contour)?;
-    ranges.push(start..points.len())?;
-    Ok(())
-}
-
 /// Appends the cleaned contour, and nothing where it collapses. Answers whether anything is left of it.
-pub fn append_cleaned<T: IntNumber, C: ContourCleaner<T>>(
+pub fn append_cleaned<T: IntNumber, C: ContourCleaner>(
     cleaner: &mut C,
     points: &mut Vec<IntPoint<T>>,
     ranges: &mut Vec<Range<usize>>,
@@ -78,21 +63,20 @@ pub fn append_cleaned<T: IntNumber, C: ContourCleaner<T>>(
     ensures ok { IfOk result (λ left. (answer : Option (List (IntPoint T))) × C.answers (contour_of T.value contour.now) (option_map (contour_of T.value) answer) × Grows points.old.items points.new.items ranges.old.items ranges.new.items (option_to_list answer) × (left ≡ is_some answer)) }
     ensures memory { IsOkUnless result ShapeError.OutOfMemory }
 {
-    if C::is_clean(contour) {
-        push_contour(points, ranges, contour)?;
-        return Ok(true);
+    let start = points.len();
+    points.extend_from_slice(contour)?;
+    let count = cleaner.clean_into(contour, &mut points.as_mut_slice()[start..])?;
+    let end = start + count;
+    points.truncate(end);
+    if count == 0 {
+        return Ok(false);
     }
-    match cleaner.cleaned(contour)? {
-        Some(kept) => {
-            push_contour(points, ranges, kept.as_slice())?;
-            Ok(true)
-        }
-        None => Ok(false),
-    }
+    ranges.push(start..end)?;
+    Ok(true)
 }
 
 /// Appends the cleaned contours that ranges name, without those that collapse.
-pub fn append_parts<T: IntNumber, C: ContourCleaner<T>>(
+pub fn append_parts<T: IntNumber, C: ContourCleaner>(
     cleaner: &mut C,
     points: &mut Vec<IntPoint<T>>,
     ranges: &mut Vec<Range<usize>>,

@@ -19,8 +19,7 @@ use crate::flat::buffer::cleaning::parts::{
 };
 use crate::flat::lists::Counts;
 use crate::int::IntPoint;
-use crate::int::cleaning::ContourCleaner;
-use crate::int::despike::SpikeRemover;
+use crate::int::cleaning::{ContourCleaner, InPlaceCleaner, SpikeRemover};
 use crate::int::simple::ContourSimplifier;
 use i_shape_core::number::IntNumber;
 use std::alloc::Global;
@@ -75,7 +74,7 @@ impl<T: IntNumber> FlatShapesBuffer<T> {
 }
 
 /// Cleans each shape of a buffer.
-fn clean_shapes<T: IntNumber, C: ContourCleaner<T>>(
+fn clean_shapes<T: IntNumber, C: InPlaceCleaner>(
     buffer: &mut FlatShapesBuffer<T>,
 ) -> Result<bool, ShapeError>
     requires readable { CanReadShapes buffer.old }
@@ -123,7 +122,7 @@ fn named_ranges<'a>(contour_ranges: &'a [Range<usize>], range: &Range<usize>) ->
 }
 
 /// Whether no contour of any shape has to be cleaned.
-fn are_clean_shapes<T: IntNumber, C: ContourCleaner<T>>(
+fn are_clean_shapes<T: IntNumber, C: ContourCleaner>(
     points: &[IntPoint<T>],
     contour_ranges: &[Range<usize>],
     shape_ranges: &[Range<usize>],
@@ -156,7 +155,7 @@ fn checked_named(contour_ranges: &[Range<usize>], shape_ranges: &[Range<usize>])
 }
 
 /// Appends the cleaned shape that contour ranges name, and nothing where its first contour collapses.
-fn append_shape<T: IntNumber, C: ContourCleaner<T>>(
+fn append_shape<T: IntNumber, C: ContourCleaner>(
     cleaner: &mut C,
     kept: &mut FlatShapesBuffer<T>,
     source: &[IntPoint<T>],
@@ -194,7 +193,7 @@ fn append_shape<T: IntNumber, C: ContourCleaner<T>>(
 }
 
 /// A buffer of the cleaned shapes. `TooManyPoints` where they have more than `usize::MAX` points or contours together.
-fn cleaned_shapes<T: IntNumber, C: ContourCleaner<T>>(
+fn cleaned_shapes<T: IntNumber, C: ContourCleaner>(
     alloc: Global,
     points: &[IntPoint<T>],
     contour_ranges: &[Range<usize>],
@@ -215,7 +214,7 @@ fn cleaned_shapes<T: IntNumber, C: ContourCleaner<T>>(
         counts.contours,
         shape_ranges.len(),
     )?;
-    let mut cleaner = C::start(alloc);
+    let mut cleaner = C::with_room(alloc, 0);
     for range in shape_ranges {
         append_shape(
             &mut cleaner,

@@ -10,7 +10,7 @@ use Rattle.i_shape.proofs.flat.buffer.cleaning.clean_contours.Goals as goal
 
 pub returns-then-are_clean-clause-cleaned : goal.returns-then-are_clean-clause-cleaned
 returns-then-are_clean-clause-cleaned g c =
-    survivors_stay g.C.ContourCleaner.clean g.C.ContourCleaner.answers g.met.C.ContourCleaner.stays (contours_in g.T.IntNumber.value c.args.buffer.now) (rw (c.as_slice.ensures.value, c.as_slice-2.ensures.value) at (c.are_clean.ensures.0 c.if-are_clean.true))
+    survivors_stay g.C.ContourCleaner.clean g.C.ContourCleaner.answers g.met.C.InPlaceCleaner.stays (contours_in g.T.IntNumber.value c.args.buffer.now) (rw (c.as_slice.ensures.value, c.as_slice-2.ensures.value) at (c.are_clean.ensures.0 c.if-are_clean.true))
 
 pub returns-then-are_clean-clause-too_many : goal.returns-then-are_clean-clause-too_many
 returns-then-are_clean-clause-too_many g c =
@@ -38,9 +38,9 @@ returns-clause-unchanged g c = search rules
 pub returns-clause-kept : goal.returns-clause-kept
 returns-clause-kept g c =
     let compact : Survivors g.C.ContourCleaner.answers (contours_in g.T.IntNumber.value c.args.buffer.now) (contours_in g.T.IntNumber.value c.in_ok-buffer.field-0) = search rules in
-    survivors_keep g.C.ContourCleaner.answers g.met.C.ContourCleaner.keeps _ _ compact
+    survivors_keep g.C.ContourCleaner.answers g.met.C.InPlaceCleaner.kept _ _ compact
 
 pub returns-clause-safe : goal.returns-clause-safe
 returns-clause-safe g c =
     let compact : Survivors g.C.ContourCleaner.answers (contours_in g.T.IntNumber.value c.args.buffer.now) (contours_in g.T.IntNumber.value c.in_ok-buffer.field-0) = search rules in
-    survivors_safe g.C.ContourCleaner.answers g.T.IntNumber.width g.met.C.ContourCleaner.stays_safe _ _ compact c.requires.safe
+    survivors_safe g.C.ContourCleaner.answers g.T.IntNumber.width (g.met.C.CleanerLaws.stays_safe g.T.IntNumber.width) _ _ compact c.requires.safe

@@ -24,8 +24,8 @@ pub loop-shape-preserved : goal.loop-shape-preserved
 loop-shape-preserved g c =
     let value = g.I.IntNumber.value in
     let step = c.in_ok-append_shape.ensures.ok in
-    let Clean : List (Vec (IntPoint g.row.I.Denot)) → Type 0 = λ w. ShapeForm g.F.ContourForm.forms (shape_of value w) step.0 in
-    rw step.2 (survivors-more (λ s. shape_of value s.items) (ShapeForm g.F.ContourForm.forms) c.args.shapes.now c.loop-shape.shape-index c.shape-item.result (shapes_of value c.loop-shape.forms.items) step.0 c.loop-shape-test.true c.shape-item.is c.loop-shape.invariant (subst Clean c.as_slice.ensures.value step.1))
+    let Clean : List (Vec (IntPoint g.row.I.Denot)) → Type 0 = λ w. ShapeForm g.C.ContourCleaner.answers (shape_of value w) step.0 in
+    rw step.2 (survivors-more (λ s. shape_of value s.items) (ShapeForm g.C.ContourCleaner.answers) c.args.shapes.now c.loop-shape.shape-index c.shape-item.result (shapes_of value c.loop-shape.forms.items) step.0 c.loop-shape-test.true c.shape-item.is c.loop-shape.invariant (subst Clean c.as_slice.ensures.value step.1))
 
 sorted_answer : goal.returns-clause-answer
 sorted_answer g c =
@@ -48,4 +48,4 @@ returns-clause-answer = sorted_answer
 pub returns-clause-safe : goal.returns-clause-safe
 returns-clause-safe g c =
     let value = g.I.IntNumber.value in
-    forms_safe g.F.ContourForm.forms g.I.IntNumber.width g.met.F.ContourForm.stays_safe (shapes_of value c.args.shapes.now) (shapes_of value c.sort_unstable.new.self.items) (sorted_answer g c) c.requires
+    forms_safe g.C.ContourCleaner.answers g.I.IntNumber.width (g.met.C.CleanerLaws.stays_safe g.I.IntNumber.width) (shapes_of value c.args.shapes.now) (shapes_of value c.sort_unstable.new.self.items) (sorted_answer g c) c.requires

@@ -9,8 +9,8 @@ use Rattle.i_shape.specs.CanonicalShapes.{ShapeForm}
 use Rattle.i_shape.proofs.ShapeForms.{form_safe}
 use Rattle.i_shape.proofs.int.canonical.forms.shape_form.Goals as goal
 
-pub form-requires : goal.form-requires
-form-requires g c =
+pub cleaned-requires : goal.cleaned-requires
+cleaned-requires g c =
     let value = g.I.IntNumber.value in
     let Safe : List (Vec (IntPoint g.row.I.Denot)) → Type 0 = λ w. IsSafeShape g.I.IntNumber.width (shape_of value w) in
     let SafeContour : List (IntPoint g.row.I.Denot) → Type 0 = λ w. All (IsSafe g.I.IntNumber.width) (contour_of value w) in
@@ -26,8 +26,8 @@ sorted_forms-requires g c =
 pub returns-clause-safe : goal.returns-clause-safe
 returns-clause-safe g c =
     let value = g.I.IntNumber.value in
-    let answer : ShapeForm g.F.ContourForm.forms (shape_of value c.args.shape.now) (Some (shape_of value c.insert.new.self.items)) = search rules in
-    form_safe g.F.ContourForm.forms g.I.IntNumber.width g.met.F.ContourForm.stays_safe _ _ answer c.requires
+    let answer : ShapeForm g.C.ContourCleaner.answers (shape_of value c.args.shape.now) (Some (shape_of value c.insert.new.self.items)) = search rules in
+    form_safe g.C.ContourCleaner.answers g.I.IntNumber.width (g.met.C.CleanerLaws.stays_safe g.I.IntNumber.width) _ _ answer c.requires
 
 pub returns-in_default-2-clause-answer : goal.returns-in_default-2-clause-answer
 returns-in_default-2-clause-answer g c = search rules

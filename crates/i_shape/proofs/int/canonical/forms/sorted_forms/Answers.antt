@@ -23,8 +23,8 @@ pub loop-contour-preserved : goal.loop-contour-preserved
 loop-contour-preserved g c =
     let value = g.I.IntNumber.value in
     let step = c.in_ok-append_contour.ensures.ok in
-    let Clean : List (IntPoint g.row.I.Denot) → Type 0 = λ w. g.F.ContourForm.forms (contour_of value w) step.0 in
-    rw step.2 (survivors-more (λ v. contour_of value v.items) g.F.ContourForm.forms c.args.contours.now c.loop-contour.contour-index c.contour-item.result (shape_of value c.loop-contour.sorted.items) step.0 c.loop-contour-test.true c.contour-item.is c.loop-contour.invariant (subst Clean c.as_slice.ensures.value step.1))
+    let Clean : List (IntPoint g.row.I.Denot) → Type 0 = λ w. g.C.ContourCleaner.answers (contour_of value w) step.0 in
+    rw step.2 (survivors-more (λ v. contour_of value v.items) g.C.ContourCleaner.answers c.args.contours.now c.loop-contour.contour-index c.contour-item.result (shape_of value c.loop-contour.sorted.items) step.0 c.loop-contour-test.true c.contour-item.is c.loop-contour.invariant (subst Clean c.as_slice.ensures.value step.1))
 
 pub returns-clause-answer : goal.returns-clause-answer
 returns-clause-answer g c =

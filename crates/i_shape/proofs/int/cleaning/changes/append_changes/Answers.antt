@@ -26,7 +26,7 @@ replacement-requires-clause-safe g c =
     subst Safe (sym c.as_slice-points.ensures.value) (mapped-read (λ v. contour_of g.I.IntNumber.value v.items) (All (IsSafe g.I.IntNumber.width)) c.args.shape.now c.loop-place.place c.index-shape-place.result c.loop-place-test.true c.index-shape-place.is c.requires)
 
 pub replacement-requires-clause-unclean : goal.replacement-requires-clause-unclean
-replacement-requires-clause-unclean g c = λ pass. false≢true (sym c.if-is_clean.false ∙ c.is_clean.ensures.clean.1 pass)
+replacement-requires-clause-unclean g c = λ pass. false≢true (sym c.if-is_clean.false ∙ c.is_clean.ensures.1 pass)
 
 pub loop-place-preserved-then-is_clean : goal.loop-place-preserved-then-is_clean
 loop-place-preserved-then-is_clean g c =
@@ -36,13 +36,12 @@ loop-place-preserved-then-is_clean g c =
     let inv = c.loop-place.invariant in
     let here : List Point = contour_of value c.index-shape-place.result.items in
     let Clean : List (IntPoint g.row.I.Denot) → Type 0 = λ w. clean (contour_of value w) in
-    let Points : List (IntPoint g.row.I.Denot) → Type 0 = λ w. HasPoints (contour_of value w) in
     let Aside : List (List Point) → Type 0 = λ s. CleansAside clean answers c.args.number s inv.0 in
-    let pass : clean here = subst Clean c.as_slice-points.ensures.value (c.is_clean.ensures.clean.0 c.if-is_clean.true) in
-    let points : HasPoints here = subst Points c.as_slice-points.ensures.value (c.is_clean.ensures.points c.if-is_clean.true) in (
+    let pass : clean here = subst Clean c.as_slice-points.ensures.value (c.is_clean.ensures.0 c.if-is_clean.true) in
+    let points : HasPoints here = g.met.C.InPlaceCleaner.clean_points here pass in (
       inv.0,
       read_more (λ v. contour_of value v.items) Aside c.args.shape.now c.loop-place.place c.index-shape-place.result c.loop-place-test.true c.index-shape-place.is
-          (aside_clean clean answers c.args.number _ here inv.0 inv.1 pass (g.met.C.ContourCleaner.stays here pass) points),
+          (aside_clean clean answers c.args.number _ here inv.0 inv.1 pass (g.met.C.InPlaceCleaner.stays here pass) points),
       inv.2,
     )
 
@@ -58,7 +57,7 @@ loop-place-preserved g c =
     let Clean : List (IntPoint g.row.I.Denot) → Type 0 = λ w. clean (contour_of value w) in
     let Comes : List (IntPoint g.row.I.Denot) → Type 0 = λ w. ComesFor answers (contour_of value w) there in
     let Aside : List (List Point) → Type 0 = λ s. CleansAside clean answers c.args.number s (inv.0 ++ edit ∷ []) in
-    let fails : clean here → ⊥ = λ pass. false≢true (sym c.if-is_clean.false ∙ c.is_clean.ensures.clean.1 (subst Clean (sym c.as_slice-points.ensures.value) pass)) in
+    let fails : clean here → ⊥ = λ pass. false≢true (sym c.if-is_clean.false ∙ c.is_clean.ensures.1 (subst Clean (sym c.as_slice-points.ensures.value) pass)) in
     let comes : ComesFor answers here there = subst Comes c.as_slice-points.ensures.value c.in_ok-cleaned.ensures.answer in (
       inv.0 ++ edit ∷ [],
       read_more (λ v. contour_of value v.items) Aside c.args.shape.now c.loop-place.place c.index-shape-place.result c.loop-place-test.true c.index-shape-place.is
@@ -78,7 +77,7 @@ returns-in_err-cleaned-clause-unclean g c =
     let value = g.I.IntNumber.value in
     let clean = g.C.ContourCleaner.clean in
     let Clean : List (IntPoint g.row.I.Denot) → Type 0 = λ w. clean (contour_of value w) in
-    on_err (EachContour clean (shape_of value c.args.shape.now) → ⊥) c.from_residual.result (λ all. false≢true (sym c.if-is_clean.false ∙ c.is_clean.ensures.clean.1 (subst Clean (sym c.as_slice-points.ensures.value)
+    on_err (EachContour clean (shape_of value c.args.shape.now) → ⊥) c.from_residual.result (λ all. false≢true (sym c.if-is_clean.false ∙ c.is_clean.ensures.1 (subst Clean (sym c.as_slice-points.ensures.value)
     (mapped-read (λ v. contour_of value v.items) clean c.args.shape.now c.loop-place.place c.index-shape-place.result c.loop-place-test.true c.index-shape-place.is all))))
 
 pub returns-in_err-push-clause-unclean : goal.returns-in_err-push-clause-unclean
@@ -86,5 +85,5 @@ returns-in_err-push-clause-unclean g c =
     let value = g.I.IntNumber.value in
     let clean = g.C.ContourCleaner.clean in
     let Clean : List (IntPoint g.row.I.Denot) → Type 0 = λ w. clean (contour_of value w) in
-    on_err (EachContour clean (shape_of value c.args.shape.now) → ⊥) c.from_residual-in_err-push.result (λ all. false≢true (sym c.if-is_clean.false ∙ c.is_clean.ensures.clean.1 (subst Clean (sym c.as_slice-points.ensures.value)
+    on_err (EachContour clean (shape_of value c.args.shape.now) → ⊥) c.from_residual-in_err-push.result (λ all. false≢true (sym c.if-is_clean.false ∙ c.is_clean.ensures.1 (subst Clean (sym c.as_slice-points.ensures.value)
     (mapped-read (λ v. contour_of value v.items) clean c.args.shape.now c.loop-place.place c.index-shape-place.result c.loop-place-test.true c.index-shape-place.is all))))

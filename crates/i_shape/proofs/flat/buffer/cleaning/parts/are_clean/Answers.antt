@@ -11,13 +11,13 @@ is_clean-requires g c =
 pub returns-then-not-is_clean : goal.returns-then-not-is_clean
 returns-then-not-is_clean g c =
     let here = contour-read g.T.IntNumber.value c.args.points.now c.args.ranges.now c.loop-range.range-index (record { start = 0; end = 0 }) c.loop-range-test.true g.C.ContourCleaner.clean in
-    (λ f. absurd (cc), λ all. let told = c.is_clean.ensures.clean.1 (rw c.part.ensures (here all)) in search rules)
+    (λ f. absurd (cc), λ all. let told = c.is_clean.ensures.1 (rw c.part.ensures (here all)) in search rules)
 
 pub loop-range-preserved : goal.loop-range-preserved
 loop-range-preserved g c =
     let told : IsTrue c.is_clean.result = search rules in
     contours-more g.T.IntNumber.value c.args.points.now c.args.ranges.now c.loop-range.range-index (record { start = 0; end = 0 }) c.loop-range-test.true g.C.ContourCleaner.clean c.loop-range.invariant
-    (rw c.part.ensures at (c.is_clean.ensures.clean.0 told))
+    (rw c.part.ensures at (c.is_clean.ensures.0 told))
 
 pub returns : goal.returns
 returns g c =

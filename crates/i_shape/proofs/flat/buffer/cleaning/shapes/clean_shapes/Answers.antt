@@ -9,14 +9,14 @@ use Rattle.i_shape.proofs.flat.buffer.cleaning.shapes.clean_shapes.Goals as goal
 
 stays : goal.returns-then-are_clean_shapes-clause-cleaned
 stays g c =
-    survivors_stay (EachContour g.C.ContourCleaner.clean) (ShapeClean g.C.ContourCleaner.answers) (shape_stays g.C.ContourCleaner.clean g.C.ContourCleaner.answers g.met.C.ContourCleaner.stays)
+    survivors_stay (EachContour g.C.ContourCleaner.clean) (ShapeClean g.C.ContourCleaner.answers) (shape_stays g.C.ContourCleaner.clean g.C.ContourCleaner.answers g.met.C.InPlaceCleaner.stays)
     (named_shapes g.T.IntNumber.value c.args.buffer.now) (rw (c.as_slice.ensures.value, c.as_slice-2.ensures.value, c.as_slice-3.ensures.value) at (c.are_clean_shapes.ensures.0 c.if-are_clean_shapes.true))
 
 pub returns-then-are_clean_shapes-clause-cleaned : goal.returns-then-are_clean_shapes-clause-cleaned
 returns-then-are_clean_shapes-clause-cleaned = stays
 
 pub returns-then-are_clean_shapes-clause-kept : goal.returns-then-are_clean_shapes-clause-kept
-returns-then-are_clean_shapes-clause-kept g c = list_keeps g.C.ContourCleaner.answers g.met.C.ContourCleaner.keeps _ _ (stays g c)
+returns-then-are_clean_shapes-clause-kept g c = list_keeps g.C.ContourCleaner.answers g.met.C.InPlaceCleaner.kept _ _ (stays g c)
 
 pub returns-then-are_clean_shapes-clause-too_many : goal.returns-then-are_clean_shapes-clause-too_many
 returns-then-are_clean_shapes-clause-too_many g c =
@@ -47,9 +47,9 @@ returns-clause-clean g c =
 pub returns-clause-kept : goal.returns-clause-kept
 returns-clause-kept g c =
     let clean = rw (c.as_slice-4.ensures.value, c.as_slice-5.ensures.value, c.as_slice-6.ensures.value) at c.in_ok-buffer.ensures.cleaned in
-    list_keeps g.C.ContourCleaner.answers g.met.C.ContourCleaner.keeps _ _ clean
+    list_keeps g.C.ContourCleaner.answers g.met.C.InPlaceCleaner.kept _ _ clean
 
 pub returns-clause-safe : goal.returns-clause-safe
 returns-clause-safe g c =
     let clean = rw (c.as_slice-4.ensures.value, c.as_slice-5.ensures.value, c.as_slice-6.ensures.value) at c.in_ok-buffer.ensures.cleaned in
-    list_safe g.C.ContourCleaner.answers g.T.IntNumber.width g.met.C.ContourCleaner.stays_safe _ _ clean c.requires.safe
+    list_safe g.C.ContourCleaner.answers g.T.IntNumber.width (g.met.C.CleanerLaws.stays_safe g.T.IntNumber.width) _ _ clean c.requires.safe

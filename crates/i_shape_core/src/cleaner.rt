@@ -1,0 +1,307 @@
+//! The cleaners of one contour: one trait, and its five kinds.
+
+ghost use Rattle.std.specs.Prelude.{◌≡◌, ◌↔◌, ◌<◌, ◌≤◌, List, length, Option, IsTrue, IfOk, OnErr, IsOkUnless};
+ghost use Rattle.std.specs.Option.{IfSome};
+ghost use Rattle.std.specs.List.{All};
+ghost use Rattle.i_shape_core.specs.Point.{Point};
+ghost use Rattle.i_shape_core.specs.IntPoint.{contour_of, IsSafe, answered};
+ghost use Rattle.i_shape_core.specs.Contour.{IsSimple};
+ghost use Rattle.i_shape_core.specs.Convex.{NoSpikes};
+ghost use Rattle.i_shape_core.specs.Cleaners.{IsDespikedAlready, SimpleAnswer, SpikelessAnswer, DespikeAnswer, KeptAnswer};
+ghost use Rattle.i_shape_core.specs.Canonical.{CanonicalAnswer, UnorientedAnswer, KeptEitherWay};
+ghost use Rattle.i_shape_core.specs.Written.{IsWritten};
+
+use crate::despike::{ContourDeSpiker, has_no_spikes, is_despiked};
+use crate::error::ShapeError;
+use crate::number::IntNumber;
+use crate::point::{ContourPoint, IntContour, IntPoint};
+use crate::probe::Probe;
+use crate::simple::is_simple;
+use crate::simplifier::ContourSimplifier;
+use std::alloc::Global;
+
+/// Cleans contours of safe points. One value cleans any number of them, and keeps its memory from one to the next; no answer depends on
+/// earlier use, nor on an earlier refusal.
+pub trait ContourCleaner: Drop {
+    /// What a contour that is clean is.
+    ghost clean: { List Point → Type 0 };
+
+    /// What a contour becomes: none where it collapses.
+    ghost answers: { List Point → Option (List Point) → Type 0 };
+
+    /// What the answer keeps of the contour.
+    ghost keeps: { List Point → Option (List Point) → Type 0 };
+
+    /// A cleaner that takes its memory from `alloc`, once where no contour has more than `room` points. It takes none before
+    /// a contour needs it.
+    fn with_room(alloc: Global, room: usize) -> Self;
+
+    /// Whether the contour is clean. It takes no memory.
+    fn is_clean<P: ContourPoint>(contour: &[P]) -> bool
+        requires { All (IsSafe P.Coordinate.width) (contour_of P.Coordinate.value (P.points contour.now)) }
+        ensures { IsTrue result ↔ clean (contour_of P.Coordinate.value (P.points contour.now)) };
+
+    /// The cleaned contour. The only error is `OutOfMemory`.
+    fn cleaned<I: IntNumber>(
+        &mut self,
+        contour: &[IntPoint<I>],
+    ) -> Result<Option<IntContour<I>>, ShapeError>
+        requires { All (IsSafe I.width) (contour_of I.value contour.now) }
+        ensures answer { IfOk result (λ r. answers (contour_of I.value contour.now) (answered (contour_of I.value) r)) }
+        ensures kept { IfOk result (λ r. keeps (contour_of I.value contour.now) (answered (contour_of I.value) r)) }
+        ensures safe { IfOk result (λ r. IfSome r (λ kept. All (IsSafe I.width) (contour_of I.value kept.items))) }
+        ensures short { length contour.now < 3 → result ≡ Ok None }
+        ensures memory { IsOkUnless result ShapeError.OutOfMemory };
+
+    /// The same, of a contour that isn't clean, without testing it again.
+    fn cleaned_untested<I: IntNumber>(
+        &mut self,
+        contour: &[IntPoint<I>],
+    ) -> Result<Option<IntContour<I>>, ShapeError>
+        requires points_safe { All (IsSafe I.width) (contour_of I.value contour.now) }
+        requires unclean { clean (contour_of I.value contour.now) → ⊥ }
+        ensures answer { IfOk result (λ r. answers (contour_of I.value contour.now) (answered (contour_of I.value) r)) }
+        ensures kept { IfOk result (λ r. keeps (contour_of I.value contour.now) (answered (contour_of I.value) r)) }
+        ensures safe { IfOk result (λ r. IfSome r (λ kept. All (IsSafe I.width) (contour_of I.value kept.items))) }
+        ensures short { length contour.now < 3 → result ≡ Ok None }
+        ensures memory { IsOkUnless result ShapeError.OutOfMemory };
+
+    /// The cleaned contour, written to the front of `out`: answers how many points are left, 0 where the contour collapses. What
+    /// stands behind them stays as it was, and so does all of `out` where there is an error. Memory is taken for the places of a
+    /// contour that isn't clean alone, and is kept. The only error is `OutOfMemory`.
+    fn clean_into<P: ContourPoint>(
+        &mut self,
+        contour: &[P],
+        out: &mut [P],
+    ) -> Result<usize, ShapeError>
+        requires points_safe { All (IsSafe P.Coordinate.width) (contour_of P.Coordinate.value (P.points contour.now)) }
+        requires room { length contour.now ≤ length out.old }
+        ensures written { IfOk result (λ n. IsWritten answers keeps P.Coordinate.width (λ list. contour_of P.Coordinate.value (P.points list)) contour.now out.old out.new n) }
+        ensures len { length out.new ≡ length out.old }
+        ensures err { OnErr result (out.new ≡ out.old) }
+        ensures short { length contour.now < 3 → result ≡ Ok 0 }
+        ensures unclean { OnErr result (clean (contour_of P.Coordinate.value (P.points contour.now)) → ⊥) }
+        ensures memory { IsOkUnless result ShapeError.OutOfMemory };
+}
+
+/// Zero turns are removed.
+impl ContourCleaner for ContourSimplifier {
+    ghost clean = { IsSimple };
+
+    ghost answers = { SimpleAnswer };
+
+    ghost keeps = { KeptAnswer };
+
+    fn with_room(alloc: Global, room: usize) -> ContourSimplifier {
+        ContourSimplifier::with_room(alloc, room)
+    }
+
+    fn is_clean<P: ContourPoint>(contour: &[P]) -> bool {
+        is_simple(contour)
+    }
+
+    fn cleaned<I: IntNumber>(
+        &mut self,
+        contour: &[IntPoint<I>],
+    ) -> Result<Option<IntContour<I>>, ShapeError> {
+        self.simplify_contour(contour)
+    }
+
+    fn cleaned_untested<I: IntNumber>(
+        &mut self,
+        contour: &[IntPoint<I>],
+    ) -> Result<Option<IntContour<I>>, ShapeError> {
+        self.simplify_contour(contour)
+    }
+
+    fn clean_into<P: ContourPoint>(
+        &mut self,
+        contour: &[P],
+        out: &mut [P],
+    ) -> Result<usize, ShapeError> {
+        self.simplify_into(contour, out)
+    }
+}
+
+/// The points at which the way turns back or stands still are removed.
+impl ContourCleaner for ContourDeSpiker {
+    ghost clean = { IsDespikedAlready };
+
+    ghost answers = { SpikelessAnswer };
+
+    ghost keeps = { KeptAnswer };
+
+    fn with_room(alloc: Global, room: usize) -> ContourDeSpiker {
+        ContourDeSpiker::with_room(alloc, room)
+    }
+
+    fn is_clean<P: ContourPoint>(contour: &[P]) -> bool {
+        is_despiked(contour)
+    }
+
+    fn cleaned<I: IntNumber>(
+        &mut self,
+        contour: &[IntPoint<I>],
+    ) -> Result<Option<IntContour<I>>, ShapeError> {
+        self.despike_contour(contour)
+    }
+
+    fn cleaned_untested<I: IntNumber>(
+        &mut self,
+        contour: &[IntPoint<I>],
+    ) -> Result<Option<IntContour<I>>, ShapeError> {
+        self.despike_contour(contour)
+    }
+
+    fn clean_into<P: ContourPoint>(
+        &mut self,
+        contour: &[P],
+        out: &mut [P],
+    ) -> Result<usize, ShapeError> {
+        self.despike_into(contour, out)
+    }
+}
+
+/// Removes spikes, and leaves a contour that has none as it is, with its repeated points.
+#[derive(Drop)]
+pub struct SpikeRemover {
+    de_spiker: ContourDeSpiker,
+}
+
+impl ContourCleaner for SpikeRemover {
+    ghost clean = { NoSpikes };
+
+    ghost answers = { DespikeAnswer };
+
+    ghost keeps = { KeptAnswer };
+
+    fn with_room(alloc: Global, room: usize) -> SpikeRemover {
+        SpikeRemover {
+            de_spiker: ContourDeSpiker::with_room(alloc, room),
+        }
+    }
+
+    fn is_clean<P: ContourPoint>(contour: &[P]) -> bool {
+        has_no_spikes(contour)
+    }
+
+    fn cleaned<I: IntNumber>(
+        &mut self,
+        contour: &[IntPoint<I>],
+    ) -> Result<Option<IntContour<I>>, ShapeError> {
+        if has_no_spikes(contour) {
+            return Ok(Some(Vec::from_slice(self.de_spiker.allocator(), contour)?));
+        }
+        self.de_spiker.despike_contour(contour)
+    }
+
+    fn cleaned_untested<I: IntNumber>(
+        &mut self,
+        contour: &[IntPoint<I>],
+    ) -> Result<Option<IntContour<I>>, ShapeError> {
+        self.de_spiker.despike_contour(contour)
+    }
+
+    fn clean_into<P: ContourPoint>(
+        &mut self,
+        contour: &[P],
+        out: &mut [P],
+    ) -> Result<usize, ShapeError> {
+        if has_no_spikes(contour) {
+            return Ok(Probe::new(contour).write_whole(out));
+        }
+        self.de_spiker.despike_into(contour, out)
+    }
+}
+
+/// Gives the canonical form.
+#[derive(Drop)]
+pub struct Canonicalizer {
+    simplifier: ContourSimplifier,
+}
+
+impl ContourCleaner for Canonicalizer {
+    ghost clean = { IsSimple };
+
+    ghost answers = { CanonicalAnswer };
+
+    ghost keeps = { KeptAnswer };
+
+    fn with_room(alloc: Global, room: usize) -> Canonicalizer {
+        Canonicalizer {
+            simplifier: ContourSimplifier::with_room(alloc, room),
+        }
+    }
+
+    fn is_clean<P: ContourPoint>(contour: &[P]) -> bool {
+        is_simple(contour)
+    }
+
+    fn cleaned<I: IntNumber>(
+        &mut self,
+        contour: &[IntPoint<I>],
+    ) -> Result<Option<IntContour<I>>, ShapeError> {
+        self.simplifier.canonical(contour)
+    }
+
+    fn cleaned_untested<I: IntNumber>(
+        &mut self,
+        contour: &[IntPoint<I>],
+    ) -> Result<Option<IntContour<I>>, ShapeError> {
+        self.simplifier.canonical(contour)
+    }
+
+    fn clean_into<P: ContourPoint>(
+        &mut self,
+        contour: &[P],
+        out: &mut [P],
+    ) -> Result<usize, ShapeError> {
+        self.simplifier.canonical_into(contour, out)
+    }
+}
+
+/// Gives the canonical form whichever way round the contour is wound.
+#[derive(Drop)]
+pub struct UnorientedCanonicalizer {
+    simplifier: ContourSimplifier,
+}
+
+impl ContourCleaner for UnorientedCanonicalizer {
+    ghost clean = { IsSimple };
+
+    ghost answers = { UnorientedAnswer };
+
+    ghost keeps = { KeptEitherWay };
+
+    fn with_room(alloc: Global, room: usize) -> UnorientedCanonicalizer {
+        UnorientedCanonicalizer {
+            simplifier: ContourSimplifier::with_room(alloc, room),
+        }
+    }
+
+    fn is_clean<P: ContourPoint>(contour: &[P]) -> bool {
+        is_simple(contour)
+    }
+
+    fn cleaned<I: IntNumber>(
+        &mut self,
+        contour: &[IntPoint<I>],
+    ) -> Result<Option<IntContour<I>>, ShapeError> {
+        self.simplifier.canonical_unoriented(contour)
+    }
+
+    fn cleaned_untested<I: IntNumber>(
+        &mut self,
+        contour: &[IntPoint<I>],
+    ) -> Result<Option<IntContour<I>>, ShapeError> {
+        self.simplifier.canonical_unoriented(contour)
+    }
+
+    fn clean_into<P: ContourPoint>(
+        &mut self,
+        contour: &[P],
+        out: &mut [P],
+    ) -> Result<usize, ShapeError> {
+        self.simplifier.canonical_unoriented_into(contour, out)
+    }
+}
