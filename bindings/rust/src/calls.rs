@@ -1,7 +1,11 @@
-//! The calls of the archive, by the type of the coordinates.
+//! The calls of the C library at each width, and over them functions that pass the pointers and counts of slices. Each of these
+//! answers what `include/i_shape.h` says, with its codes as errors.
 
+use crate::Error;
 use crate::int::IntPoint;
-use std::alloc::{Layout, handle_alloc_error};
+use std::fmt;
+use std::mem::MaybeUninit;
+use std::ops::Div;
 
 pub(crate) type CleanOne<I> =
     unsafe extern "C" fn(*const IntPoint<I>, usize, *mut IntPoint<I>, usize) -> isize;
@@ -17,37 +21,127 @@ pub(crate) type CleanMany<I> = unsafe extern "C" fn(
     usize,
 ) -> isize;
 
+pub(crate) type CleanShapes<I> = unsafe extern "C" fn(
+    *const IntPoint<I>,
+    usize,
+    *const usize,
+    usize,
+    *const usize,
+    usize,
+    *mut IntPoint<I>,
+    usize,
+    *mut usize,
+    usize,
+    *mut usize,
+    usize,
+) -> isize;
+
 pub(crate) type Test<I> = unsafe extern "C" fn(*const IntPoint<I>, usize) -> i32;
 
-/// A cleaner: its call for one contour, and that for many.
-pub struct Cleaner<I> {
-    one: CleanOne<I>,
-    many: CleanMany<I>,
-}
+pub(crate) type Windings<I> = unsafe extern "C" fn(
+    *const IntPoint<I>,
+    usize,
+    *const usize,
+    usize,
+    *const IntPoint<I>,
+    usize,
+    *mut isize,
+    usize,
+) -> i32;
 
 /// The calls at one width.
-pub trait Calls: Copy + 'static {
-    const SIMPLIFY: Cleaner<Self>;
-    const DESPIKE: Cleaner<Self>;
-    const CANONICAL: Cleaner<Self>;
+pub trait Calls: Copy + Ord + fmt::Debug + 'static {
+    /// The type of a double area.
+    type Wide: WideIntNumber;
+    /// How a double area is written by the library.
+    type Area: Default + Into<Self::Wide>;
+
+    const SIMPLIFY: CleanOne<Self>;
+    const DESPIKE: CleanOne<Self>;
+    const CANONICAL: CleanOne<Self>;
+    const SIMPLIFY_CONTOURS: CleanMany<Self>;
+    const DESPIKE_CONTOURS: CleanMany<Self>;
+    const CANONICAL_CONTOURS: CleanMany<Self>;
+    const SIMPLIFY_SHAPES: CleanShapes<Self>;
+    const DESPIKE_SHAPES: CleanShapes<Self>;
+    const CANONICAL_SHAPES: CleanShapes<Self>;
+    const CANONICAL_UNORIENTED_SHAPES: CleanShapes<Self>;
     const IS_SIMPLE: Test<Self>;
     const HAS_NO_SPIKES: Test<Self>;
     const IS_CONVEX: Test<Self>;
     const IS_SAFE: Test<Self>;
     const CONTAINS: unsafe extern "C" fn(*const IntPoint<Self>, usize, Self, Self) -> i32;
+    const WINDING: unsafe extern "C" fn(*const IntPoint<Self>, usize, Self, Self) -> isize;
+    const WINDINGS: Windings<Self>;
+    const AREA_TWO: unsafe extern "C" fn(*const IntPoint<Self>, usize, *mut Self::Area) -> bool;
 }
 
-macro_rules! calls {
-    ($number:ty, $([$cleaner:ident, $one:ident, $many:ident]),*; $([$test:ident, $call:ident]),*; $contains:ident) => {
+/// The type of a double area: `i32`, `i64` or `i128`.
+pub trait WideIntNumber:
+    Copy + Ord + fmt::Debug + fmt::Display + Div<Output = Self> + 'static
+{
+    /// The number 0.
+    const ZERO: Self;
+    /// The number 2.
+    const TWO: Self;
+
+    /// The sum, reduced to the type where it doesn't fit.
+    fn wrapping_add(self, other: Self) -> Self;
+}
+
+macro_rules! wide_numbers {
+    ($($number:ty),*) => {
+        $(
+            impl WideIntNumber for $number {
+                const ZERO: Self = 0;
+                const TWO: Self = 2;
+
+                fn wrapping_add(self, other: Self) -> Self {
+                    self.wrapping_add(other)
+                }
+            }
+        )*
+    };
+}
+
+wide_numbers!(i32, i64, i128);
+
+/// The two halves of the 128 bits of a number.
+#[repr(C)]
+#[derive(Clone, Copy, Default)]
+pub struct Halves {
+    low: u64,
+    high: u64,
+}
+
+impl From<Halves> for i128 {
+    fn from(halves: Halves) -> i128 {
+        (u128::from(halves.high) << 64 | u128::from(halves.low)) as i128
+    }
+}
+
+macro_rules! cleaners_of_one {
+    ($number:ty, $width:literal, $($function:ident $name:literal),*) => {
         unsafe extern "C" {
             $(
-                fn $one(
+                #[link_name = concat!("i_shape_", $name, $width)]
+                fn $function(
                     points: *const IntPoint<$number>,
                     count: usize,
                     out: *mut IntPoint<$number>,
                     room: usize,
                 ) -> isize;
-                fn $many(
+            )*
+        }
+    };
+}
+
+macro_rules! cleaners_of_many {
+    ($number:ty, $width:literal, $($function:ident $name:literal),*) => {
+        unsafe extern "C" {
+            $(
+                #[link_name = concat!("i_shape_", $name, $width)]
+                fn $function(
                     points: *const IntPoint<$number>,
                     count: usize,
                     offsets: *const usize,
@@ -58,155 +152,273 @@ macro_rules! calls {
                     offset_room: usize,
                 ) -> isize;
             )*
-            $(fn $call(points: *const IntPoint<$number>, count: usize) -> i32;)*
-            fn $contains(
-                points: *const IntPoint<$number>,
-                count: usize,
-                x: $number,
-                y: $number,
-            ) -> i32;
-        }
-
-        impl Calls for $number {
-            $(
-                const $cleaner: Cleaner<$number> = Cleaner {
-                    one: $one,
-                    many: $many,
-                };
-            )*
-            $(const $test: Test<$number> = $call;)*
-            const CONTAINS: unsafe extern "C" fn(
-                *const IntPoint<$number>,
-                usize,
-                $number,
-                $number,
-            ) -> i32 = $contains;
         }
     };
 }
 
-calls!(
-    i16,
-    [SIMPLIFY, i_shape_simplify_i16, i_shape_simplify_contours_i16],
-    [DESPIKE, i_shape_despike_i16, i_shape_despike_contours_i16],
-    [CANONICAL, i_shape_canonical_i16, i_shape_canonical_contours_i16];
-    [IS_SIMPLE, i_shape_is_simple_i16],
-    [HAS_NO_SPIKES, i_shape_has_no_spikes_i16],
-    [IS_CONVEX, i_shape_is_convex_i16],
-    [IS_SAFE, i_shape_is_safe_i16];
-    i_shape_contains_i16
-);
-calls!(
-    i32,
-    [SIMPLIFY, i_shape_simplify_i32, i_shape_simplify_contours_i32],
-    [DESPIKE, i_shape_despike_i32, i_shape_despike_contours_i32],
-    [CANONICAL, i_shape_canonical_i32, i_shape_canonical_contours_i32];
-    [IS_SIMPLE, i_shape_is_simple_i32],
-    [HAS_NO_SPIKES, i_shape_has_no_spikes_i32],
-    [IS_CONVEX, i_shape_is_convex_i32],
-    [IS_SAFE, i_shape_is_safe_i32];
-    i_shape_contains_i32
-);
-calls!(
-    i64,
-    [SIMPLIFY, i_shape_simplify_i64, i_shape_simplify_contours_i64],
-    [DESPIKE, i_shape_despike_i64, i_shape_despike_contours_i64],
-    [CANONICAL, i_shape_canonical_i64, i_shape_canonical_contours_i64];
-    [IS_SIMPLE, i_shape_is_simple_i64],
-    [HAS_NO_SPIKES, i_shape_has_no_spikes_i64],
-    [IS_CONVEX, i_shape_is_convex_i64],
-    [IS_SAFE, i_shape_is_safe_i64];
-    i_shape_contains_i64
-);
+macro_rules! cleaners_of_shapes {
+    ($number:ty, $width:literal, $($function:ident $name:literal),*) => {
+        unsafe extern "C" {
+            $(
+                #[link_name = concat!("i_shape_", $name, $width)]
+                fn $function(
+                    points: *const IntPoint<$number>,
+                    count: usize,
+                    contours: *const usize,
+                    contour_offsets: usize,
+                    shapes: *const usize,
+                    shape_offsets: usize,
+                    out_points: *mut IntPoint<$number>,
+                    room: usize,
+                    out_contours: *mut usize,
+                    contour_room: usize,
+                    out_shapes: *mut usize,
+                    shape_room: usize,
+                ) -> isize;
+            )*
+        }
+    };
+}
 
-/// Reads an answer: what isn't below 0 as a number.
-fn number(answer: isize) -> usize {
-    match usize::try_from(answer) {
-        Ok(number) => number,
-        Err(_) if answer == -1 => panic!("a point isn't in safe range"),
-        Err(_) if answer == -3 => handle_alloc_error(Layout::new::<usize>()),
-        Err(_) => unreachable!("the arrays fit"),
-    }
+macro_rules! tests {
+    ($number:ty, $width:literal, $($function:ident $name:literal),*) => {
+        unsafe extern "C" {
+            $(
+                #[link_name = concat!("i_shape_", $name, $width)]
+                fn $function(points: *const IntPoint<$number>, count: usize) -> i32;
+            )*
+        }
+    };
+}
+
+macro_rules! calls {
+    ($number:ty, $width:literal, $wide:ty, $area:ty) => {
+        const _: () = {
+            cleaners_of_one!(
+                $number, $width, simplify "simplify_i", despike "despike_i", canonical "canonical_i"
+            );
+            cleaners_of_many!(
+                $number, $width, simplify_contours "simplify_contours_i", despike_contours "despike_contours_i",
+                canonical_contours "canonical_contours_i"
+            );
+            cleaners_of_shapes!(
+                $number, $width, simplify_shapes "simplify_shapes_i", despike_shapes "despike_shapes_i",
+                canonical_shapes "canonical_shapes_i", canonical_unoriented_shapes "canonical_unoriented_shapes_i"
+            );
+            tests!(
+                $number, $width, is_simple "is_simple_i", has_no_spikes "has_no_spikes_i", is_convex "is_convex_i",
+                is_safe "is_safe_i"
+            );
+            unsafe extern "C" {
+                #[link_name = concat!("i_shape_contains_i", $width)]
+                fn contains(points: *const IntPoint<$number>, count: usize, x: $number, y: $number) -> i32;
+                #[link_name = concat!("i_shape_winding_i", $width)]
+                fn winding(points: *const IntPoint<$number>, count: usize, x: $number, y: $number) -> isize;
+                #[link_name = concat!("i_shape_windings_i", $width)]
+                fn windings(
+                    points: *const IntPoint<$number>,
+                    count: usize,
+                    offsets: *const usize,
+                    offset_count: usize,
+                    about: *const IntPoint<$number>,
+                    about_count: usize,
+                    out: *mut isize,
+                    room: usize,
+                ) -> i32;
+                #[link_name = concat!("i_shape_area_two_i", $width)]
+                fn area_two(points: *const IntPoint<$number>, count: usize, area: *mut $area) -> bool;
+            }
+
+            impl Calls for $number {
+                type Wide = $wide;
+                type Area = $area;
+
+                const SIMPLIFY: CleanOne<Self> = simplify;
+                const DESPIKE: CleanOne<Self> = despike;
+                const CANONICAL: CleanOne<Self> = canonical;
+                const SIMPLIFY_CONTOURS: CleanMany<Self> = simplify_contours;
+                const DESPIKE_CONTOURS: CleanMany<Self> = despike_contours;
+                const CANONICAL_CONTOURS: CleanMany<Self> = canonical_contours;
+                const SIMPLIFY_SHAPES: CleanShapes<Self> = simplify_shapes;
+                const DESPIKE_SHAPES: CleanShapes<Self> = despike_shapes;
+                const CANONICAL_SHAPES: CleanShapes<Self> = canonical_shapes;
+                const CANONICAL_UNORIENTED_SHAPES: CleanShapes<Self> = canonical_unoriented_shapes;
+                const IS_SIMPLE: Test<Self> = is_simple;
+                const HAS_NO_SPIKES: Test<Self> = has_no_spikes;
+                const IS_CONVEX: Test<Self> = is_convex;
+                const IS_SAFE: Test<Self> = is_safe;
+                const CONTAINS: unsafe extern "C" fn(*const IntPoint<Self>, usize, Self, Self) -> i32 =
+                    contains;
+                const WINDING: unsafe extern "C" fn(*const IntPoint<Self>, usize, Self, Self) -> isize =
+                    winding;
+                const WINDINGS: Windings<Self> = windings;
+                const AREA_TWO: unsafe extern "C" fn(*const IntPoint<Self>, usize, *mut $area) -> bool =
+                    area_two;
+            }
+        };
+    };
+}
+
+calls!(i16, "16", i32, i32);
+calls!(i32, "32", i64, i64);
+calls!(i64, "64", i128, Halves);
+
+unsafe extern "C" {
+    safe fn i_shape_version() -> u32;
+}
+
+/// The version of the C library that is linked: its major, minor and patch number.
+pub fn library_version() -> (u32, u32, u32) {
+    let version = i_shape_version();
+    (version >> 16, version >> 8 & 0xff, version & 0xff)
+}
+
+/// Reads an answer: a number, or a code below 0.
+fn number(answer: isize) -> Result<usize, Error> {
+    usize::try_from(answer).map_err(|_| match answer {
+        -1 => Error::UnsafePoint,
+        -2 => Error::Unfit,
+        -3 => Error::NoMemory,
+        _ => unreachable!("the library answers no other code"),
+    })
+}
+
+/// Reads the answer of a test.
+fn told(answer: i32) -> Result<bool, Error> {
+    number(answer as isize).map(|one| one == 1)
+}
+
+/// Items that a call may overwrite. It writes whole items alone, so none becomes one that isn't initialized.
+pub(crate) fn overwritten<T>(items: &mut [T]) -> &mut [MaybeUninit<T>] {
+    let count = items.len();
+    // SAFETY: the layout is the same, and private functions alone see the slice, which write no item that isn't initialized.
+    unsafe { std::slice::from_raw_parts_mut(items.as_mut_ptr().cast(), count) }
+}
+
+/// Cleans a contour to the front of `out`, and answers how many points it has written there.
+pub(crate) fn clean_one<I: Calls>(
+    call: CleanOne<I>,
+    points: &[IntPoint<I>],
+    out: &mut [MaybeUninit<IntPoint<I>>],
+) -> Result<usize, Error> {
+    // SAFETY: each pointer and count is of one slice, and `out` overlaps no other slice, being borrowed alone.
+    number(unsafe {
+        call(
+            points.as_ptr(),
+            points.len(),
+            out.as_mut_ptr().cast(),
+            out.len(),
+        )
+    })
+}
+
+/// Cleans contours to the front of `out_points` and `out_offsets`, and answers how many points it has written there.
+pub(crate) fn clean_many<I: Calls>(
+    call: CleanMany<I>,
+    points: &[IntPoint<I>],
+    offsets: &[usize],
+    out_points: &mut [MaybeUninit<IntPoint<I>>],
+    out_offsets: &mut [MaybeUninit<usize>],
+) -> Result<usize, Error> {
+    // SAFETY: as in `clean_one`.
+    number(unsafe {
+        call(
+            points.as_ptr(),
+            points.len(),
+            offsets.as_ptr(),
+            offsets.len(),
+            out_points.as_mut_ptr().cast(),
+            out_points.len(),
+            out_offsets.as_mut_ptr().cast(),
+            out_offsets.len(),
+        )
+    })
+}
+
+/// Cleans polygons to the front of the three slices, and answers how many polygons it has written there.
+pub(crate) fn clean_shapes<I: Calls>(
+    call: CleanShapes<I>,
+    points: &[IntPoint<I>],
+    contours: &[usize],
+    shapes: &[usize],
+    out_points: &mut [MaybeUninit<IntPoint<I>>],
+    out_contours: &mut [MaybeUninit<usize>],
+    out_shapes: &mut [MaybeUninit<usize>],
+) -> Result<usize, Error> {
+    // SAFETY: as in `clean_one`.
+    number(unsafe {
+        call(
+            points.as_ptr(),
+            points.len(),
+            contours.as_ptr(),
+            contours.len(),
+            shapes.as_ptr(),
+            shapes.len(),
+            out_points.as_mut_ptr().cast(),
+            out_points.len(),
+            out_contours.as_mut_ptr().cast(),
+            out_contours.len(),
+            out_shapes.as_mut_ptr().cast(),
+            out_shapes.len(),
+        )
+    })
 }
 
 /// The answer of a test of the points.
-pub(crate) fn holds<I>(test: Test<I>, points: &[IntPoint<I>]) -> bool {
-    // SAFETY: the pointer and the count are those of a slice.
-    number(unsafe { test(points.as_ptr(), points.len()) } as isize) == 1
+pub(crate) fn holds<I: Calls>(test: Test<I>, points: &[IntPoint<I>]) -> Result<bool, Error> {
+    // SAFETY: the pointer and the count are those of one slice.
+    told(unsafe { test(points.as_ptr(), points.len()) })
 }
 
 /// Whether the contour contains the point.
-pub(crate) fn contains<I: Calls>(points: &[IntPoint<I>], point: IntPoint<I>) -> bool {
-    // SAFETY: the pointer and the count are those of a slice.
-    number(unsafe { (I::CONTAINS)(points.as_ptr(), points.len(), point.x, point.y) } as isize) == 1
+pub(crate) fn contains<I: Calls>(
+    points: &[IntPoint<I>],
+    about: IntPoint<I>,
+) -> Result<bool, Error> {
+    // SAFETY: the pointer and the count are those of one slice.
+    told(unsafe { (I::CONTAINS)(points.as_ptr(), points.len(), about.x, about.y) })
 }
 
-impl<I: Calls> Cleaner<I> {
-    /// What is left of the contour.
-    pub(crate) fn clean(&self, points: &[IntPoint<I>]) -> Option<Vec<IntPoint<I>>> {
-        let mut out = Vec::with_capacity(points.len());
-        // SAFETY: both pointers are of so many points, and `out` is a new block. The call reads nothing of it.
-        let count = number(unsafe {
-            (self.one)(
-                points.as_ptr(),
-                points.len(),
-                out.as_mut_ptr(),
-                points.len(),
-            )
-        });
-        // SAFETY: the call has written so many points.
-        unsafe { out.set_len(count) };
-        (count > 0).then_some(out)
+/// How often the contour winds about the point.
+pub(crate) fn winding<I: Calls>(
+    points: &[IntPoint<I>],
+    about: IntPoint<I>,
+) -> Result<isize, Error> {
+    // SAFETY: the pointer and the count are those of one slice.
+    let winding = unsafe { (I::WINDING)(points.as_ptr(), points.len(), about.x, about.y) };
+    if winding == isize::MIN {
+        return Err(Error::UnsafePoint);
     }
+    Ok(winding)
+}
 
-    /// What is left of each contour, in order, `None` where it collapses.
-    pub(crate) fn clean_all<'a>(
-        &self,
-        contours: impl Iterator<Item = &'a Vec<IntPoint<I>>>,
-    ) -> Vec<Option<Vec<IntPoint<I>>>> {
-        let mut points = Vec::new();
-        let mut offsets = vec![0];
-        for contour in contours {
-            points.extend_from_slice(contour);
-            offsets.push(points.len());
-        }
-        let mut out = Vec::with_capacity(points.len());
-        let mut ends = vec![0; offsets.len()];
-        // SAFETY: the pointers are of so many points and offsets, and `out` and `ends` are blocks of their own.
-        let count = number(unsafe {
-            (self.many)(
-                points.as_ptr(),
-                points.len(),
-                offsets.as_ptr(),
-                offsets.len(),
-                out.as_mut_ptr(),
-                points.len(),
-                ends.as_mut_ptr(),
-                ends.len(),
-            )
-        });
-        // SAFETY: the call has written so many points.
-        unsafe { out.set_len(count) };
-        ends.windows(2)
-            .map(|end| (end[0] < end[1]).then(|| out[end[0]..end[1]].to_vec()))
-            .collect()
-    }
+/// Writes how often the contours together wind about each point to the front of `out`.
+pub(crate) fn windings<I: Calls>(
+    points: &[IntPoint<I>],
+    offsets: &[usize],
+    about: &[IntPoint<I>],
+    out: &mut [MaybeUninit<isize>],
+) -> Result<(), Error> {
+    // SAFETY: as in `clean_one`.
+    let answer = unsafe {
+        (I::WINDINGS)(
+            points.as_ptr(),
+            points.len(),
+            offsets.as_ptr(),
+            offsets.len(),
+            about.as_ptr(),
+            about.len(),
+            out.as_mut_ptr().cast(),
+            out.len(),
+        )
+    };
+    number(answer as isize).map(|_| ())
+}
 
-    /// What is left of each shape, in order: none of one whose first contour collapses.
-    pub(crate) fn clean_shapes<S: AsRef<[Vec<IntPoint<I>>]>>(
-        &self,
-        shapes: &[S],
-    ) -> Vec<Option<Vec<Vec<IntPoint<I>>>>> {
-        let mut cleaned = self
-            .clean_all(shapes.iter().flat_map(|shape| shape.as_ref()))
-            .into_iter();
-        shapes
-            .iter()
-            .map(|shape| {
-                let contours: Vec<_> = cleaned.by_ref().take(shape.as_ref().len()).collect();
-                let is_left = contours.first().is_none_or(Option::is_some);
-                is_left.then(|| contours.into_iter().flatten().collect())
-            })
-            .collect()
-    }
+/// Twice the signed area, `None` where there is no point.
+pub(crate) fn area_two<I: Calls>(points: &[IntPoint<I>]) -> Option<I::Wide> {
+    let mut area = I::Area::default();
+    // SAFETY: the pointer and the count are those of one slice, and `area` is a place of its own.
+    let is_some = unsafe { (I::AREA_TWO)(points.as_ptr(), points.len(), &mut area) };
+    is_some.then(|| area.into())
 }

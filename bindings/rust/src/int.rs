@@ -1,36 +1,38 @@
 //! Contours, shapes and shape lists of whole-number points.
 
-pub mod contour;
+pub mod area;
+pub mod canonical;
+mod cleaned;
+pub mod count;
 pub mod despike;
+pub mod path;
+mod point;
+pub mod safe_range;
 pub mod shape;
 pub mod simple;
 
+pub use point::{AsIntPoints, ContourPoint, IntPoint, from_int_points};
+
 use crate::calls::Calls;
 
-/// A point, laid out as the C library has it.
-#[repr(C)]
-#[derive(Clone, Copy, PartialEq, Eq, PartialOrd, Ord, Hash, Debug)]
-pub struct IntPoint<I> {
-    pub x: I,
-    pub y: I,
-}
-
-impl<I: IntNumber> IntPoint<I> {
-    pub fn new(x: I, y: I) -> Self {
-        IntPoint { x, y }
-    }
-
-    /// Whether both coordinates lie strictly between -2^(BITS-2) and 2^(BITS-2).
-    pub fn is_in_safe_range(&self) -> bool {
-        crate::calls::holds(I::IS_SAFE, std::slice::from_ref(self))
-    }
-}
+pub use crate::calls::WideIntNumber;
 
 /// A coordinate: `i16`, `i32` or `i64`.
-pub trait IntNumber: Calls {}
+///
+/// Its associated type `Wide` is that of double areas: `i32`, `i64` or `i128`.
+pub trait IntNumber: Calls {
+    /// The coordinate 0.
+    const ZERO: Self;
+}
 
-impl IntNumber for i16 {}
+impl IntNumber for i16 {
+    const ZERO: i16 = 0;
+}
 
-impl IntNumber for i32 {}
+impl IntNumber for i32 {
+    const ZERO: i32 = 0;
+}
 
-impl IntNumber for i64 {}
+impl IntNumber for i64 {
+    const ZERO: i64 = 0;
+}

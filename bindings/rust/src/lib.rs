@@ -1,8 +1,16 @@
-//! The names of the crate `i_shape` over the C library of Raspochre.
-//!
-//! Each call of the archive is proved: it answers what `include/i_shape.h` says of it. This wrapper is not: that it hands over the
-//! right pointers and counts, and reads the answer as it is, is read from its text and tested. As in the Rust crate no call answers an
-//! error: a point that isn't safe panics, and refused memory ends the program as Rust's own does.
+#![doc = include_str!("../README.md")]
+#![warn(missing_docs)]
 
+pub mod base;
 mod calls;
+mod error;
+mod fill_rule;
+pub mod flat;
 pub mod int;
+mod macros;
+mod memory;
+pub mod source;
+
+pub use calls::library_version;
+pub use error::Error;
+pub use fill_rule::FillRule;

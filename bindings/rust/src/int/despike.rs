@@ -1,38 +1,205 @@
-//! The removal of spikes.
+//! The removal of spikes: of points at which a contour turns back or stands still. Points at which it goes straight on stay.
 
-use super::IntNumber;
-use super::shape::IntContour;
-use crate::calls::holds;
+use super::cleaned::cleaned;
+use super::shape::{IntContour, IntShape, IntShapes};
+use super::simple::each;
+use super::{IntNumber, IntPoint};
+use crate::Error;
+use crate::calls::{clean_one, holds, overwritten};
+use crate::error::answered;
+use crate::flat::OwnedShapes;
 
+/// The test and the removal of spikes.
+///
+/// Each call refuses with [`Error::UnsafePoint`] where a point isn't safe. Those that answer a contour, and those that clean a contour
+/// which isn't clean, refuse with [`Error::NoMemory`] where memory is refused.
 pub trait DeSpikeContour<I: IntNumber> {
-    /// Whether at least three points are left without repeated ones, and the way over them nowhere goes back.
-    fn has_no_spikes(&self) -> bool;
+    /// Whether, without the points that equal the one before them on the cycle, at least three are left, and the way over them
+    /// nowhere goes back.
+    fn try_has_no_spikes(&self) -> Result<bool, Error>;
 
-    /// The contour without the points at which the way turns back or stands still, `None` where it collapses.
-    fn despiked_contour(&self) -> Option<IntContour<I>>;
+    /// Whether the contour has no spikes, as [`try_has_no_spikes`](DeSpikeContour::try_has_no_spikes) says.
+    ///
+    /// # Panics
+    ///
+    /// Where that refuses, with the error's text.
+    #[track_caller]
+    fn has_no_spikes(&self) -> bool {
+        answered(self.try_has_no_spikes())
+    }
+
+    /// The contour without the points at which it turns back or stands still, `None` where it collapses.
+    fn try_despiked_contour(&self) -> Result<Option<IntContour<I>>, Error>;
+
+    /// The contour without the points at which it turns back or stands still, `None` where it collapses.
+    ///
+    /// # Panics
+    ///
+    /// Where [`try_despiked_contour`](DeSpikeContour::try_despiked_contour) refuses, with the error's text.
+    #[track_caller]
+    fn despiked_contour(&self) -> Option<IntContour<I>> {
+        answered(self.try_despiked_contour())
+    }
+
+    /// Writes what [`try_despiked_contour`](DeSpikeContour::try_despiked_contour) answers to the front of `out`, and answers how
+    /// many points these are, 0 where the contour collapses. [`Error::Unfit`] where `out` is shorter than the contour. Of a contour
+    /// with nothing to remove or with fewer than three points it takes no memory.
+    fn try_despike_into(&self, out: &mut [IntPoint<I>]) -> Result<usize, Error>;
+
+    /// Writes the contour without spikes to the front of `out`, and answers how many points these are.
+    ///
+    /// # Panics
+    ///
+    /// Where [`try_despike_into`](DeSpikeContour::try_despike_into) refuses, with the error's text.
+    #[track_caller]
+    fn despike_into(&self, out: &mut [IntPoint<I>]) -> usize {
+        answered(self.try_despike_into(out))
+    }
 }
 
-impl<I: IntNumber> DeSpikeContour<I> for IntContour<I> {
-    fn has_no_spikes(&self) -> bool {
+impl<I: IntNumber> DeSpikeContour<I> for [IntPoint<I>] {
+    fn try_has_no_spikes(&self) -> Result<bool, Error> {
         holds(I::HAS_NO_SPIKES, self)
     }
 
-    fn despiked_contour(&self) -> Option<IntContour<I>> {
-        I::DESPIKE.clean(self)
+    fn try_despiked_contour(&self) -> Result<Option<IntContour<I>>, Error> {
+        cleaned(I::DESPIKE, self)
+    }
+
+    fn try_despike_into(&self, out: &mut [IntPoint<I>]) -> Result<usize, Error> {
+        clean_one(I::DESPIKE, self, overwritten(out))
     }
 }
 
+/// The test and the removal of spikes, of a shape. Calls refuse as those of [`DeSpikeContour`] do.
+pub trait DeSpikeShape<I: IntNumber> {
+    /// Whether no contour has spikes.
+    fn try_has_no_spikes(&self) -> Result<bool, Error>;
+
+    /// Whether no contour has spikes.
+    ///
+    /// # Panics
+    ///
+    /// Where [`try_has_no_spikes`](DeSpikeShape::try_has_no_spikes) refuses, with the error's text.
+    #[track_caller]
+    fn has_no_spikes(&self) -> bool {
+        answered(self.try_has_no_spikes())
+    }
+
+    /// The shape with each contour that has spikes despiked, and without the holes that collapse; `None` where its outer contour
+    /// does. A contour without spikes stays as it is, and so does an empty shape.
+    fn try_despiked_shape(&self) -> Result<Option<IntShape<I>>, Error>;
+
+    /// The shape without spikes, as [`try_despiked_shape`](DeSpikeShape::try_despiked_shape) says.
+    ///
+    /// # Panics
+    ///
+    /// Where that refuses, with the error's text.
+    #[track_caller]
+    fn despiked_shape(&self) -> Option<IntShape<I>> {
+        answered(self.try_despiked_shape())
+    }
+}
+
+impl<I: IntNumber> DeSpikeShape<I> for [IntContour<I>] {
+    fn try_has_no_spikes(&self) -> Result<bool, Error> {
+        each(self, |contour| contour.try_has_no_spikes())
+    }
+
+    fn try_despiked_shape(&self) -> Result<Option<IntShape<I>>, Error> {
+        let left = OwnedShapes::try_from_shapes(&[self])?
+            .as_shapes()
+            .try_despiked()?;
+        Ok(left.try_to_shapes()?.pop())
+    }
+}
+
+/// The test and the removal of spikes, of a list of shapes. Calls refuse as those of [`DeSpikeContour`] do.
+pub trait DeSpikeShapes<I: IntNumber> {
+    /// Whether no contour of a shape has spikes.
+    fn try_has_no_spikes(&self) -> Result<bool, Error>;
+
+    /// Whether no contour of a shape has spikes.
+    ///
+    /// # Panics
+    ///
+    /// Where [`try_has_no_spikes`](DeSpikeShapes::try_has_no_spikes) refuses, with the error's text.
+    #[track_caller]
+    fn has_no_spikes(&self) -> bool {
+        answered(self.try_has_no_spikes())
+    }
+
+    /// The shapes that are left, in order, each as [`DeSpikeShape::try_despiked_shape`] answers it.
+    fn try_despiked_shapes(&self) -> Result<IntShapes<I>, Error>;
+
+    /// The shapes that are left, in order, each as [`DeSpikeShape::despiked_shape`] answers it.
+    ///
+    /// # Panics
+    ///
+    /// Where [`try_despiked_shapes`](DeSpikeShapes::try_despiked_shapes) refuses, with the error's text.
+    #[track_caller]
+    fn despiked_shapes(&self) -> IntShapes<I> {
+        answered(self.try_despiked_shapes())
+    }
+}
+
+impl<I: IntNumber> DeSpikeShapes<I> for [IntShape<I>] {
+    fn try_has_no_spikes(&self) -> Result<bool, Error> {
+        each(self, |shape| shape.try_has_no_spikes())
+    }
+
+    fn try_despiked_shapes(&self) -> Result<IntShapes<I>, Error> {
+        OwnedShapes::try_from_shapes(self)?
+            .as_shapes()
+            .try_despiked()?
+            .try_to_shapes()
+    }
+}
+
+/// The removal of spikes in place, of a contour, a shape or a list of shapes.
 pub trait DeSpike {
-    /// Removes spikes in place. False where there are none.
-    fn remove_spikes(&mut self) -> bool;
+    /// Removes spikes. A contour that collapses, and a shape whose outer contour does, is empty then; holes that collapse, and such
+    /// shapes of a list, are taken out. False where no contour has spikes: then nothing changes. It refuses as [`DeSpikeContour`]
+    /// says, and changes nothing then.
+    fn try_remove_spikes(&mut self) -> Result<bool, Error>;
+
+    /// Removes spikes, as [`try_remove_spikes`](DeSpike::try_remove_spikes) says.
+    ///
+    /// # Panics
+    ///
+    /// Where that refuses, with the error's text.
+    #[track_caller]
+    fn remove_spikes(&mut self) -> bool {
+        answered(self.try_remove_spikes())
+    }
 }
 
 impl<I: IntNumber> DeSpike for IntContour<I> {
-    fn remove_spikes(&mut self) -> bool {
-        let is_dirty = !self.has_no_spikes();
-        if is_dirty {
-            *self = self.despiked_contour().unwrap_or_default();
+    fn try_remove_spikes(&mut self) -> Result<bool, Error> {
+        if self.try_has_no_spikes()? {
+            return Ok(false);
         }
-        is_dirty
+        *self = self.try_despiked_contour()?.unwrap_or_default();
+        Ok(true)
+    }
+}
+
+impl<I: IntNumber> DeSpike for IntShape<I> {
+    fn try_remove_spikes(&mut self) -> Result<bool, Error> {
+        if self.try_has_no_spikes()? {
+            return Ok(false);
+        }
+        *self = self.try_despiked_shape()?.unwrap_or_default();
+        Ok(true)
+    }
+}
+
+impl<I: IntNumber> DeSpike for IntShapes<I> {
+    fn try_remove_spikes(&mut self) -> Result<bool, Error> {
+        if self.try_has_no_spikes()? {
+            return Ok(false);
+        }
+        *self = self.try_despiked_shapes()?;
+        Ok(true)
     }
 }

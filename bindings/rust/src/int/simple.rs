@@ -1,85 +1,279 @@
-//! The removal of zero turns.
+//! The removal of zero turns: of points at which a contour goes straight on, turns back or stands still. Nothing here looks at
+//! self-intersections, or at where holes lie.
 
+use super::cleaned::cleaned;
 use super::shape::{IntContour, IntShape, IntShapes};
 use super::{IntNumber, IntPoint};
-use crate::calls::holds;
+use crate::Error;
+use crate::calls::{clean_one, holds, overwritten};
+use crate::error::answered;
+use crate::flat::OwnedShapes;
 
+/// The test and the removal of zero turns, and the canonical form.
+///
+/// Each call refuses with [`Error::UnsafePoint`] where a point isn't safe. Those that answer a contour, and those that clean a contour
+/// which isn't clean, refuse with [`Error::NoMemory`] where memory is refused.
 pub trait SimpleContour<I: IntNumber> {
     /// Whether there are at least three points, and none of them is a zero turn.
-    fn is_simple(&self) -> bool;
+    fn try_is_simple(&self) -> Result<bool, Error>;
+
+    /// Whether there are at least three points, and none of them is a zero turn.
+    ///
+    /// # Panics
+    ///
+    /// Where [`try_is_simple`](SimpleContour::try_is_simple) refuses, with the error's text.
+    #[track_caller]
+    fn is_simple(&self) -> bool {
+        answered(self.try_is_simple())
+    }
+
+    /// The contour without zero turns: the one end of removing them in any order. `None` where it collapses.
+    fn try_simplified(&self) -> Result<Option<IntContour<I>>, Error>;
 
     /// The contour without zero turns, `None` where it collapses.
-    fn simplified(&self) -> Option<IntContour<I>>;
+    ///
+    /// # Panics
+    ///
+    /// Where [`try_simplified`](SimpleContour::try_simplified) refuses, with the error's text.
+    #[track_caller]
+    fn simplified(&self) -> Option<IntContour<I>> {
+        answered(self.try_simplified())
+    }
 
-    /// The contour without zero turns, from the start at which it is least.
-    fn canonical(&self) -> Option<IntContour<I>>;
+    /// The contour without zero turns, from the start at which it is least, by x and then y, point by point. `None` where it
+    /// collapses. Two contours have the same one exactly where rotations and zero turns lead from one to the other.
+    fn try_canonical(&self) -> Result<Option<IntContour<I>>, Error>;
+
+    /// The canonical form, as [`try_canonical`](SimpleContour::try_canonical) says.
+    ///
+    /// # Panics
+    ///
+    /// Where that refuses, with the error's text.
+    #[track_caller]
+    fn canonical(&self) -> Option<IntContour<I>> {
+        answered(self.try_canonical())
+    }
+
+    /// Writes what [`try_simplified`](SimpleContour::try_simplified) answers to the front of `out`, and answers how many points
+    /// these are, 0 where the contour collapses. [`Error::Unfit`] where `out` is shorter than the contour. Of a contour that is clean
+    /// or has fewer than three points it takes no memory.
+    fn try_simplify_into(&self, out: &mut [IntPoint<I>]) -> Result<usize, Error>;
+
+    /// Writes the contour without zero turns to the front of `out`, and answers how many points these are.
+    ///
+    /// # Panics
+    ///
+    /// Where [`try_simplify_into`](SimpleContour::try_simplify_into) refuses, with the error's text.
+    #[track_caller]
+    fn simplify_into(&self, out: &mut [IntPoint<I>]) -> usize {
+        answered(self.try_simplify_into(out))
+    }
+
+    /// The same as [`try_simplify_into`](SimpleContour::try_simplify_into) for [`try_canonical`](SimpleContour::try_canonical).
+    fn try_canonical_into(&self, out: &mut [IntPoint<I>]) -> Result<usize, Error>;
+
+    /// Writes the canonical form to the front of `out`, and answers how many points these are.
+    ///
+    /// # Panics
+    ///
+    /// Where [`try_canonical_into`](SimpleContour::try_canonical_into) refuses, with the error's text.
+    #[track_caller]
+    fn canonical_into(&self, out: &mut [IntPoint<I>]) -> usize {
+        answered(self.try_canonical_into(out))
+    }
 }
 
 impl<I: IntNumber> SimpleContour<I> for [IntPoint<I>] {
-    fn is_simple(&self) -> bool {
+    fn try_is_simple(&self) -> Result<bool, Error> {
         holds(I::IS_SIMPLE, self)
     }
 
-    fn simplified(&self) -> Option<IntContour<I>> {
-        I::SIMPLIFY.clean(self)
+    fn try_simplified(&self) -> Result<Option<IntContour<I>>, Error> {
+        cleaned(I::SIMPLIFY, self)
     }
 
-    fn canonical(&self) -> Option<IntContour<I>> {
-        I::CANONICAL.clean(self)
+    fn try_canonical(&self) -> Result<Option<IntContour<I>>, Error> {
+        cleaned(I::CANONICAL, self)
+    }
+
+    fn try_simplify_into(&self, out: &mut [IntPoint<I>]) -> Result<usize, Error> {
+        clean_one(I::SIMPLIFY, self, overwritten(out))
+    }
+
+    fn try_canonical_into(&self, out: &mut [IntPoint<I>]) -> Result<usize, Error> {
+        clean_one(I::CANONICAL, self, overwritten(out))
     }
 }
 
+/// The test and the removal of zero turns, of a shape. Calls refuse as those of [`SimpleContour`] do.
 pub trait SimpleShape<I: IntNumber> {
-    /// The shape without zero turns and without the holes that collapse, `None` where its first contour does.
-    fn simplified(&self) -> Option<IntShape<I>>;
+    /// Whether each contour is simple.
+    fn try_is_simple(&self) -> Result<bool, Error>;
+
+    /// Whether each contour is simple.
+    ///
+    /// # Panics
+    ///
+    /// Where [`try_is_simple`](SimpleShape::try_is_simple) refuses, with the error's text.
+    #[track_caller]
+    fn is_simple(&self) -> bool {
+        answered(self.try_is_simple())
+    }
+
+    /// The shape without zero turns and without the holes that collapse, `None` where its outer contour does. An empty shape stays
+    /// an empty shape.
+    fn try_simplified(&self) -> Result<Option<IntShape<I>>, Error>;
+
+    /// The shape without zero turns, as [`try_simplified`](SimpleShape::try_simplified) says.
+    ///
+    /// # Panics
+    ///
+    /// Where that refuses, with the error's text.
+    #[track_caller]
+    fn simplified(&self) -> Option<IntShape<I>> {
+        answered(self.try_simplified())
+    }
 }
 
 impl<I: IntNumber> SimpleShape<I> for [IntContour<I>] {
-    fn simplified(&self) -> Option<IntShape<I>> {
-        let mut left = I::SIMPLIFY.clean_shapes(&[self]);
-        left.pop().flatten()
+    fn try_is_simple(&self) -> Result<bool, Error> {
+        each(self, |contour| contour.try_is_simple())
+    }
+
+    fn try_simplified(&self) -> Result<Option<IntShape<I>>, Error> {
+        let left = OwnedShapes::try_from_shapes(&[self])?
+            .as_shapes()
+            .try_simplified()?;
+        Ok(left.try_to_shapes()?.pop())
     }
 }
 
+/// The test and the removal of zero turns, of a list of shapes. Calls refuse as those of [`SimpleContour`] do.
 pub trait SimpleShapes<I: IntNumber> {
-    /// The shapes that are left, in order.
-    fn simplified(&self) -> IntShapes<I>;
+    /// Whether each contour of each shape is simple.
+    fn try_is_simple(&self) -> Result<bool, Error>;
+
+    /// Whether each contour of each shape is simple.
+    ///
+    /// # Panics
+    ///
+    /// Where [`try_is_simple`](SimpleShapes::try_is_simple) refuses, with the error's text.
+    #[track_caller]
+    fn is_simple(&self) -> bool {
+        answered(self.try_is_simple())
+    }
+
+    /// The shapes that are left, in order, each as [`SimpleShape::try_simplified`] answers it.
+    fn try_simplified(&self) -> Result<IntShapes<I>, Error>;
+
+    /// The shapes that are left, in order, each as [`SimpleShape::simplified`] answers it.
+    ///
+    /// # Panics
+    ///
+    /// Where [`try_simplified`](SimpleShapes::try_simplified) refuses, with the error's text.
+    #[track_caller]
+    fn simplified(&self) -> IntShapes<I> {
+        answered(self.try_simplified())
+    }
 }
 
 impl<I: IntNumber> SimpleShapes<I> for [IntShape<I>] {
-    fn simplified(&self) -> IntShapes<I> {
-        I::SIMPLIFY
-            .clean_shapes(self)
-            .into_iter()
-            .flatten()
-            .collect()
+    fn try_is_simple(&self) -> Result<bool, Error> {
+        each(self, |shape| shape.try_is_simple())
+    }
+
+    fn try_simplified(&self) -> Result<IntShapes<I>, Error> {
+        OwnedShapes::try_from_shapes(self)?
+            .as_shapes()
+            .try_simplified()?
+            .try_to_shapes()
     }
 }
 
+/// The removal of zero turns in place, of a contour, a shape or a list of shapes.
 pub trait Simplify {
-    /// Removes zero turns in place. False where there are none.
-    fn simplify_contour(&mut self) -> bool;
+    /// Removes zero turns. A contour that collapses, and a shape whose outer contour does, is empty then; holes that collapse, and
+    /// such shapes of a list, are taken out. False where each contour is simple: then nothing changes. It refuses as
+    /// [`SimpleContour`] says, and changes nothing then.
+    fn try_simplify_contour(&mut self) -> Result<bool, Error>;
+
+    /// Removes zero turns, as [`try_simplify_contour`](Simplify::try_simplify_contour) says.
+    ///
+    /// # Panics
+    ///
+    /// Where that refuses, with the error's text.
+    #[track_caller]
+    fn simplify_contour(&mut self) -> bool {
+        answered(self.try_simplify_contour())
+    }
 }
 
 impl<I: IntNumber> Simplify for IntContour<I> {
-    fn simplify_contour(&mut self) -> bool {
-        let is_dirty = !self.is_simple();
-        if is_dirty {
-            *self = self.simplified().unwrap_or_default();
+    fn try_simplify_contour(&mut self) -> Result<bool, Error> {
+        if self.try_is_simple()? {
+            return Ok(false);
         }
-        is_dirty
+        *self = self.try_simplified()?.unwrap_or_default();
+        Ok(true)
     }
 }
 
-/// Removes zero turns from one contour after another.
-#[derive(Default)]
+impl<I: IntNumber> Simplify for IntShape<I> {
+    fn try_simplify_contour(&mut self) -> Result<bool, Error> {
+        if self.try_is_simple()? {
+            return Ok(false);
+        }
+        *self = self.try_simplified()?.unwrap_or_default();
+        Ok(true)
+    }
+}
+
+impl<I: IntNumber> Simplify for IntShapes<I> {
+    fn try_simplify_contour(&mut self) -> Result<bool, Error> {
+        if self.try_is_simple()? {
+            return Ok(false);
+        }
+        *self = self.try_simplified()?;
+        Ok(true)
+    }
+}
+
+/// Removes zero turns from one contour after another. It keeps nothing: no call of the C library keeps memory for the next.
+#[derive(Clone, Copy, Debug, Default)]
 pub struct ContourSimplifier {}
 
 impl ContourSimplifier {
+    /// The same as [`SimpleContour::try_simplified`].
+    pub fn try_simplify_contour<I: IntNumber>(
+        &mut self,
+        contour: &[IntPoint<I>],
+    ) -> Result<Option<IntContour<I>>, Error> {
+        contour.try_simplified()
+    }
+
+    /// The same as [`SimpleContour::simplified`].
+    ///
+    /// # Panics
+    ///
+    /// Where [`try_simplify_contour`](ContourSimplifier::try_simplify_contour) refuses, with the error's text.
+    #[track_caller]
     pub fn simplify_contour<I: IntNumber>(
         &mut self,
         contour: &[IntPoint<I>],
     ) -> Option<IntContour<I>> {
-        contour.simplified()
+        answered(self.try_simplify_contour(contour))
     }
+}
+
+/// Whether each item passes a test; the first refusal or `false` ends it.
+pub(super) fn each<T>(
+    items: &[T],
+    test: impl Fn(&T) -> Result<bool, Error>,
+) -> Result<bool, Error> {
+    for item in items {
+        if !test(item)? {
+            return Ok(false);
+        }
+    }
+    Ok(true)
 }

@@ -1,0 +1,92 @@
+//! Offsets: one before each part of a list, and one behind the last.
+
+use crate::Error;
+use crate::error::answered;
+use crate::memory::with_room;
+use std::borrow::Cow;
+use std::ops::Range;
+
+/// Whether the offsets part the first `count` items or fewer: there is one, none is below the one before it, and the last is at most
+/// `count`. The first may be above 0.
+pub fn are_fit(offsets: &[usize], count: usize) -> bool {
+    offsets.is_sorted() && offsets.last().is_some_and(|&last| last <= count)
+}
+
+/// The offsets of parts with these lengths, from 0 on. [`Error::Unfit`] where the lengths add up to more than a `usize` holds,
+/// [`Error::NoMemory`] where memory is refused.
+///
+/// ```
+/// assert_eq!(i_shape::flat::offsets::try_from_lengths([3, 0, 4]), Ok(vec![0, 3, 3, 7]));
+/// ```
+pub fn try_from_lengths(lengths: impl IntoIterator<Item = usize>) -> Result<Vec<usize>, Error> {
+    let lengths = lengths.into_iter();
+    let mut offsets = with_room(lengths.size_hint().0.saturating_add(1))?;
+    let mut end: usize = 0;
+    offsets.push(end);
+    for length in lengths {
+        end = end.checked_add(length).ok_or(Error::Unfit)?;
+        offsets.try_reserve(1).map_err(|_| Error::NoMemory)?;
+        offsets.push(end);
+    }
+    Ok(offsets)
+}
+
+/// The offsets of parts with these lengths, from 0 on.
+///
+/// # Panics
+///
+/// Where [`try_from_lengths`] refuses, with the error's text.
+#[track_caller]
+pub fn from_lengths(lengths: impl IntoIterator<Item = usize>) -> Vec<usize> {
+    answered(try_from_lengths(lengths))
+}
+
+/// The offsets of the parts that the ranges name, as a [`buffer`](super::buffer) has them. [`Error::Unfit`] where a range ends before
+/// its start or starts elsewhere than where the one before it ends, [`Error::NoMemory`] where memory is refused. Of no range the
+/// offsets are `[0]`.
+///
+/// ```
+/// use i_shape::{Error, flat::offsets::try_from_ranges};
+///
+/// assert_eq!(try_from_ranges(&[2..5, 5..5]), Ok(vec![2, 5, 5]));
+/// assert_eq!(try_from_ranges(&[2..5, 6..7]), Err(Error::Unfit));
+/// ```
+pub fn try_from_ranges(ranges: &[Range<usize>]) -> Result<Vec<usize>, Error> {
+    let mut end = ranges.first().map_or(0, |range| range.start);
+    let mut offsets = with_room(ranges.len().saturating_add(1))?;
+    offsets.push(end);
+    for range in ranges {
+        if range.start != end || range.end < end {
+            return Err(Error::Unfit);
+        }
+        end = range.end;
+        offsets.push(end);
+    }
+    Ok(offsets)
+}
+
+/// The offsets of the parts that the ranges name.
+///
+/// # Panics
+///
+/// Where [`try_from_ranges`] refuses, with the error's text.
+#[track_caller]
+pub fn from_ranges(ranges: &[Range<usize>]) -> Vec<usize> {
+    answered(try_from_ranges(ranges))
+}
+
+/// The range of each part.
+pub(super) fn ranges(offsets: &[usize]) -> impl ExactSizeIterator<Item = Range<usize>> {
+    offsets.windows(2).map(|ends| ends[0]..ends[1])
+}
+
+/// The same offsets from 0 on, for a list that begins at the first of them.
+pub(super) fn try_rebased(offsets: &[usize]) -> Result<Cow<'_, [usize]>, Error> {
+    let first = offsets[0];
+    if first == 0 {
+        return Ok(Cow::Borrowed(offsets));
+    }
+    let mut rebased = with_room(offsets.len())?;
+    rebased.extend(offsets.iter().map(|offset| offset - first));
+    Ok(Cow::Owned(rebased))
+}

@@ -1,0 +1,319 @@
+//! Polygons end to end in one list of points.
+
+use super::contours::Contours;
+use super::offsets::{are_fit, ranges, try_from_lengths, try_rebased};
+use crate::Error;
+use crate::calls::{CleanShapes, clean_shapes, holds, overwritten};
+use crate::error::answered;
+use crate::int::shape::{IntContour, IntShapes};
+use crate::int::{IntNumber, IntPoint};
+use crate::memory::{copied, made_of_each, with_room};
+
+/// Polygons that lie end to end in borrowed points: polygon j has the contours from `shapes[j]` to `shapes[j + 1]`, its outer contour
+/// first, and contour k is `points[contours[k]..contours[k + 1]]`.
+#[derive(Debug, PartialEq, Eq)]
+pub struct Shapes<'a, I> {
+    points: &'a [IntPoint<I>],
+    contours: &'a [usize],
+    shapes: &'a [usize],
+}
+
+impl<I> Clone for Shapes<'_, I> {
+    fn clone(&self) -> Self {
+        *self
+    }
+}
+
+impl<I> Copy for Shapes<'_, I> {}
+
+/// The methods of a cleaner: its name and those of its methods, and what it leaves of the polygons.
+macro_rules! cleaners {
+    ($($call:ident: $try_cleaned:ident, $cleaned:ident, $try_into:ident, $into:ident, $answer:literal;)*) => {
+        $(
+            #[doc = concat!("The polygons ", $answer, ".")]
+            /// Holes that collapse are left out, and so are polygons whose outer contour collapses. An empty polygon stays.
+            ///
+            /// [`Error::UnsafePoint`] where a point of a polygon isn't safe, [`Error::NoMemory`] where memory is refused.
+            pub fn $try_cleaned(self) -> Result<OwnedShapes<I>, Error> {
+                self.try_cleaned(I::$call)
+            }
+
+            #[doc = concat!("The polygons ", $answer, ".")]
+            /// Holes that collapse are left out, and so are polygons whose outer contour collapses. An empty polygon stays.
+            ///
+            /// # Panics
+            ///
+            #[doc = concat!("Where [`", stringify!($try_cleaned), "`](Shapes::", stringify!($try_cleaned), ") refuses, with the error's text.")]
+            #[track_caller]
+            pub fn $cleaned(self) -> OwnedShapes<I> {
+                answered(self.$try_cleaned())
+            }
+
+            #[doc = concat!("Writes the polygons ", $answer, " to the fronts of the three slices, with offsets from 0 on.")]
+            /// It answers how many polygons these are, n: they end at `out_shapes[n]`, and their contours at
+            /// `out_contours[out_shapes[n]]`.
+            ///
+            /// [`Error::Unfit`] where `out_points` is shorter than [`points`](Shapes::points), `out_contours` than
+            /// [`contours`](Shapes::contours) or `out_shapes` than [`shapes`](Shapes::shapes); [`Error::UnsafePoint`] where a point
+            /// of a contour isn't safe, also of one before the first polygon; [`Error::NoMemory`] where memory is refused.
+            pub fn $try_into(
+                self,
+                out_points: &mut [IntPoint<I>],
+                out_contours: &mut [usize],
+                out_shapes: &mut [usize],
+            ) -> Result<usize, Error> {
+                clean_shapes(
+                    I::$call,
+                    self.points,
+                    self.contours,
+                    self.shapes,
+                    overwritten(out_points),
+                    overwritten(out_contours),
+                    overwritten(out_shapes),
+                )
+            }
+
+            #[doc = concat!("Writes the polygons ", $answer, " to the fronts of the three slices.")]
+            ///
+            /// # Panics
+            ///
+            #[doc = concat!("Where [`", stringify!($try_into), "`](Shapes::", stringify!($try_into), ") refuses, with the error's text.")]
+            #[track_caller]
+            pub fn $into(
+                self,
+                out_points: &mut [IntPoint<I>],
+                out_contours: &mut [usize],
+                out_shapes: &mut [usize],
+            ) -> usize {
+                answered(self.$try_into(out_points, out_contours, out_shapes))
+            }
+        )*
+    };
+}
+
+impl<'a, I: IntNumber> Shapes<'a, I> {
+    /// The polygons that the offsets `shapes` part the contours into, which the offsets `contours` part the points into. What lies
+    /// outside the offsets isn't read. [`Error::Unfit`] where offsets of either level aren't [fit](super::offsets::are_fit).
+    pub fn try_new(
+        points: &'a [IntPoint<I>],
+        contours: &'a [usize],
+        shapes: &'a [usize],
+    ) -> Result<Self, Error> {
+        if !are_fit(contours, points.len()) || !are_fit(shapes, contours.len() - 1) {
+            return Err(Error::Unfit);
+        }
+        let contours = &contours[..=shapes[shapes.len() - 1]];
+        Ok(Shapes {
+            points: &points[..contours[contours.len() - 1]],
+            contours,
+            shapes,
+        })
+    }
+
+    /// The polygons that the offsets part the points into.
+    ///
+    /// # Panics
+    ///
+    /// Where [`try_new`](Shapes::try_new) refuses, with the error's text.
+    #[track_caller]
+    pub fn new(points: &'a [IntPoint<I>], contours: &'a [usize], shapes: &'a [usize]) -> Self {
+        answered(Shapes::try_new(points, contours, shapes))
+    }
+
+    /// The points up to the end of the last polygon.
+    pub fn points(self) -> &'a [IntPoint<I>] {
+        self.points
+    }
+
+    /// The offsets of the contours up to the end of the last polygon.
+    pub fn contours(self) -> &'a [usize] {
+        self.contours
+    }
+
+    /// The offsets of the polygons: one more than there are polygons.
+    pub fn shapes(self) -> &'a [usize] {
+        self.shapes
+    }
+
+    /// How many polygons there are.
+    pub fn len(self) -> usize {
+        self.shapes.len() - 1
+    }
+
+    /// Whether there is no polygon.
+    pub fn is_empty(self) -> bool {
+        self.len() == 0
+    }
+
+    /// The contours of the polygon at a place, `None` where there is none.
+    pub fn get(self, place: usize) -> Option<Contours<'a, I>> {
+        let ends = self.shapes.get(place..)?.get(..2)?;
+        Some(self.contours_of(ends))
+    }
+
+    /// The contours of each polygon, in order.
+    pub fn iter(self) -> impl ExactSizeIterator<Item = Contours<'a, I>> {
+        self.shapes
+            .windows(2)
+            .map(move |ends| self.contours_of(ends))
+    }
+
+    /// The polygons in parts of `length`, the last of them of what is left. Nothing is copied.
+    ///
+    /// # Panics
+    ///
+    /// Where `length` is 0.
+    pub fn chunks(self, length: usize) -> impl Iterator<Item = Shapes<'a, I>> {
+        let count = self.len();
+        (0..count).step_by(length).map(move |first| {
+            let shapes = &self.shapes[first..=count.min(first.saturating_add(length))];
+            let contours = &self.contours[..=shapes[shapes.len() - 1]];
+            Shapes {
+                points: &self.points[..contours[contours.len() - 1]],
+                contours,
+                shapes,
+            }
+        })
+    }
+
+    /// Whether each point of a polygon is safe.
+    pub fn is_in_safe_range(self) -> bool {
+        let first = self.contours[self.shapes[0]];
+        holds(I::IS_SAFE, &self.points[first..]) == Ok(true)
+    }
+
+    cleaners! {
+        SIMPLIFY_SHAPES: try_simplified, simplified, try_simplify_into, simplify_into, "without zero turns";
+        DESPIKE_SHAPES: try_despiked, despiked, try_despike_into, despike_into,
+            "without the points at which a contour turns back or stands still";
+        CANONICAL_SHAPES: try_canonical, canonical, try_canonical_into, canonical_into,
+            "with each contour in its canonical form, the holes of each polygon sorted, and then the polygons";
+        CANONICAL_UNORIENTED_SHAPES: try_canonical_unoriented, canonical_unoriented,
+            try_canonical_unoriented_into, canonical_unoriented_into,
+            "with each contour in the lesser of its canonical form and that of the contour read backwards, the holes of each polygon sorted, and then the polygons";
+    }
+
+    /// The contours between two offsets of polygons.
+    fn contours_of(self, ends: &[usize]) -> Contours<'a, I> {
+        let offsets = &self.contours[ends[0]..=ends[1]];
+        answered(Contours::try_new(self.points, offsets))
+    }
+
+    /// What a call leaves of the polygons. It is given the points and contours from the first polygon on.
+    fn try_cleaned(self, call: CleanShapes<I>) -> Result<OwnedShapes<I>, Error> {
+        let contours = &self.contours[self.shapes[0]..];
+        let points = &self.points[contours[0]..];
+        let contours = try_rebased(contours)?;
+        let shapes = try_rebased(self.shapes)?;
+        let mut left = OwnedShapes {
+            points: with_room(points.len())?,
+            contours: with_room(contours.len())?,
+            shapes: with_room(shapes.len())?,
+        };
+        let count = clean_shapes(
+            call,
+            points,
+            &contours,
+            &shapes,
+            left.points.spare_capacity_mut(),
+            left.contours.spare_capacity_mut(),
+            left.shapes.spare_capacity_mut(),
+        )?;
+        // SAFETY: the call has written an offset behind each polygon and each contour, and one before them, and the points.
+        unsafe {
+            left.shapes.set_len(count + 1);
+            left.contours.set_len(left.shapes[count] + 1);
+            left.points.set_len(left.contours[left.shapes[count]]);
+        }
+        Ok(left)
+    }
+}
+
+/// Polygons that lie end to end in points of their own, with offsets from 0 on.
+#[derive(Clone, Debug, PartialEq, Eq)]
+pub struct OwnedShapes<I> {
+    points: Vec<IntPoint<I>>,
+    contours: Vec<usize>,
+    shapes: Vec<usize>,
+}
+
+impl<I: IntNumber> OwnedShapes<I> {
+    /// A copy of the polygons, end to end. [`Error::NoMemory`] where memory is refused.
+    pub fn try_from_shapes<S: AsRef<[IntContour<I>]>>(shapes: &[S]) -> Result<Self, Error> {
+        let ends = try_from_lengths(shapes.iter().map(|shape| shape.as_ref().len()))?;
+        let mut contours = with_room(ends[shapes.len()].saturating_add(1))?;
+        let mut end = 0;
+        contours.push(end);
+        for contour in shapes.iter().flat_map(AsRef::as_ref) {
+            end += contour.len();
+            contours.push(end);
+        }
+        let mut points = with_room(end)?;
+        for contour in shapes.iter().flat_map(AsRef::as_ref) {
+            points.extend_from_slice(contour);
+        }
+        Ok(OwnedShapes {
+            points,
+            contours,
+            shapes: ends,
+        })
+    }
+
+    /// A copy of the polygons, end to end.
+    ///
+    /// # Panics
+    ///
+    /// Where [`try_from_shapes`](OwnedShapes::try_from_shapes) refuses, with the error's text.
+    #[track_caller]
+    pub fn from_shapes<S: AsRef<[IntContour<I>]>>(shapes: &[S]) -> Self {
+        answered(OwnedShapes::try_from_shapes(shapes))
+    }
+
+    /// The same polygons, borrowed.
+    pub fn as_shapes(&self) -> Shapes<'_, I> {
+        Shapes {
+            points: &self.points,
+            contours: &self.contours,
+            shapes: &self.shapes,
+        }
+    }
+
+    /// The points of all contours.
+    pub fn points(&self) -> &[IntPoint<I>] {
+        &self.points
+    }
+
+    /// The offsets of the contours: one more than there are contours.
+    pub fn contours(&self) -> &[usize] {
+        &self.contours
+    }
+
+    /// The offsets of the polygons: one more than there are polygons.
+    pub fn shapes(&self) -> &[usize] {
+        &self.shapes
+    }
+
+    /// The points, the offsets of the contours, and those of the polygons.
+    pub fn into_parts(self) -> (Vec<IntPoint<I>>, Vec<usize>, Vec<usize>) {
+        (self.points, self.contours, self.shapes)
+    }
+
+    /// A copy of the polygons, each contour in a vector of its own. [`Error::NoMemory`] where memory is refused.
+    pub fn try_to_shapes(&self) -> Result<IntShapes<I>, Error> {
+        made_of_each(ranges(&self.shapes), |shape| {
+            made_of_each(ranges(&self.contours[shape.start..=shape.end]), |contour| {
+                copied(&self.points[contour])
+            })
+        })
+    }
+
+    /// A copy of the polygons, each contour in a vector of its own.
+    ///
+    /// # Panics
+    ///
+    /// Where [`try_to_shapes`](OwnedShapes::try_to_shapes) refuses, with the error's text.
+    #[track_caller]
+    pub fn to_shapes(&self) -> IntShapes<I> {
+        answered(self.try_to_shapes())
+    }
+}

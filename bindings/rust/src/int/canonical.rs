@@ -1,0 +1,102 @@
+//! Canonical forms of shapes and of lists of shapes. The form of one contour is in [`SimpleContour`](super::simple::SimpleContour).
+//!
+//! Two shapes, or lists of shapes, have the same form exactly where these moves lead from one to the other: a contour is rotated to
+//! another start, loses a zero turn or gains one; the holes, and the shapes of a list, are reordered; a hole that collapses, or a
+//! shape of a list whose outer contour collapses, is dropped or added. For the unoriented form a contour may be reversed too.
+
+use super::IntNumber;
+use super::shape::{IntContour, IntShape, IntShapes};
+use crate::Error;
+use crate::error::answered;
+use crate::flat::OwnedShapes;
+
+/// The canonical forms of a shape.
+///
+/// Each call refuses with [`Error::UnsafePoint`] where a point isn't safe, and with [`Error::NoMemory`] where memory is refused.
+pub trait CanonicalShape<I: IntNumber> {
+    /// The forms of the outer contour and then of the holes, these sorted; `None` where the outer contour collapses.
+    fn try_canonical(&self) -> Result<Option<IntShape<I>>, Error>;
+
+    /// The canonical form, `None` where the outer contour collapses.
+    ///
+    /// # Panics
+    ///
+    /// Where [`try_canonical`](CanonicalShape::try_canonical) refuses, with the error's text.
+    #[track_caller]
+    fn canonical(&self) -> Option<IntShape<I>> {
+        answered(self.try_canonical())
+    }
+
+    /// The same by the lesser of the forms of each contour and of the contour read backwards.
+    fn try_canonical_unoriented(&self) -> Result<Option<IntShape<I>>, Error>;
+
+    /// The canonical form where contours may be read backwards too, `None` where the outer contour collapses.
+    ///
+    /// # Panics
+    ///
+    /// Where [`try_canonical_unoriented`](CanonicalShape::try_canonical_unoriented) refuses, with the error's text.
+    #[track_caller]
+    fn canonical_unoriented(&self) -> Option<IntShape<I>> {
+        answered(self.try_canonical_unoriented())
+    }
+}
+
+impl<I: IntNumber> CanonicalShape<I> for [IntContour<I>] {
+    fn try_canonical(&self) -> Result<Option<IntShape<I>>, Error> {
+        let form = OwnedShapes::try_from_shapes(&[self])?
+            .as_shapes()
+            .try_canonical()?;
+        Ok(form.try_to_shapes()?.pop())
+    }
+
+    fn try_canonical_unoriented(&self) -> Result<Option<IntShape<I>>, Error> {
+        let shape = OwnedShapes::try_from_shapes(&[self])?;
+        let form = shape.as_shapes().try_canonical_unoriented()?;
+        Ok(form.try_to_shapes()?.pop())
+    }
+}
+
+/// The canonical forms of a list of shapes. Calls refuse as those of [`CanonicalShape`] do.
+pub trait CanonicalShapes<I: IntNumber> {
+    /// The forms of the shapes that have one, sorted.
+    fn try_canonical(&self) -> Result<IntShapes<I>, Error>;
+
+    /// The forms of the shapes that have one, sorted.
+    ///
+    /// # Panics
+    ///
+    /// Where [`try_canonical`](CanonicalShapes::try_canonical) refuses, with the error's text.
+    #[track_caller]
+    fn canonical(&self) -> IntShapes<I> {
+        answered(self.try_canonical())
+    }
+
+    /// The same by the lesser of the forms of each contour and of the contour read backwards.
+    fn try_canonical_unoriented(&self) -> Result<IntShapes<I>, Error>;
+
+    /// The same where contours may be read backwards too.
+    ///
+    /// # Panics
+    ///
+    /// Where [`try_canonical_unoriented`](CanonicalShapes::try_canonical_unoriented) refuses, with the error's text.
+    #[track_caller]
+    fn canonical_unoriented(&self) -> IntShapes<I> {
+        answered(self.try_canonical_unoriented())
+    }
+}
+
+impl<I: IntNumber> CanonicalShapes<I> for [IntShape<I>] {
+    fn try_canonical(&self) -> Result<IntShapes<I>, Error> {
+        OwnedShapes::try_from_shapes(self)?
+            .as_shapes()
+            .try_canonical()?
+            .try_to_shapes()
+    }
+
+    fn try_canonical_unoriented(&self) -> Result<IntShapes<I>, Error> {
+        OwnedShapes::try_from_shapes(self)?
+            .as_shapes()
+            .try_canonical_unoriented()?
+            .try_to_shapes()
+    }
+}

@@ -1,0 +1,177 @@
+//! Points: the crate's own, and those of a caller.
+
+use super::IntNumber;
+use super::shape::IntContour;
+use crate::calls::holds;
+use std::mem::ManuallyDrop;
+
+/// A point, laid out as the C library has it. Points are ordered by x and then by y.
+#[repr(C)]
+#[derive(Clone, Copy, PartialEq, Eq, PartialOrd, Ord, Hash, Debug)]
+pub struct IntPoint<I> {
+    /// To the right.
+    pub x: I,
+    /// Upwards.
+    pub y: I,
+}
+
+impl<I> IntPoint<I> {
+    /// The point with these coordinates.
+    pub const fn new(x: I, y: I) -> Self {
+        IntPoint { x, y }
+    }
+}
+
+impl<I: IntNumber> IntPoint<I> {
+    /// The point whose coordinates are 0.
+    pub const ZERO: Self = IntPoint::new(I::ZERO, I::ZERO);
+
+    /// Whether both coordinates lie strictly between -2^(W-2) and 2^(W-2), where W is their number of bits.
+    pub fn is_in_safe_range(&self) -> bool {
+        holds(I::IS_SAFE, std::slice::from_ref(self)) == Ok(true)
+    }
+}
+
+/// A point type of a caller's own, whose slices are read and written as slices of [`IntPoint`], without a copy.
+///
+/// [`contour_point!`](crate::contour_point) implements it for a struct after it has checked the layout, so that a caller writes no
+/// `unsafe`. It is implemented for arrays of two coordinates.
+///
+/// # Safety
+///
+/// The type has the size, the alignment and the fields of `IntPoint<Self::Coordinate>`: x first, then y, and nothing beside them.
+/// Whatever the two numbers are, they are a value of the type.
+pub unsafe trait ContourPoint: Copy {
+    /// The type of the coordinates.
+    type Coordinate: IntNumber;
+}
+
+// SAFETY: it is the type itself.
+unsafe impl<I: IntNumber> ContourPoint for IntPoint<I> {
+    type Coordinate = I;
+}
+
+// SAFETY: an array has its items one after the other, as `IntPoint` has its fields by `repr(C)`.
+unsafe impl<I: IntNumber> ContourPoint for [I; 2] {
+    type Coordinate = I;
+}
+
+/// Implements [`ContourPoint`](crate::int::ContourPoint) for a struct with two coordinates, which are named as x and y in turn.
+///
+/// ```
+/// use i_shape::int::{AsIntPoints, from_int_points, simple::SimpleContour};
+///
+/// #[repr(C)]
+/// #[derive(Clone, Copy, Debug, PartialEq)]
+/// struct Corner {
+///     east: i32,
+///     north: i32,
+/// }
+///
+/// i_shape::contour_point!(Corner { east, north }: i32);
+///
+/// let parcel = [[0, 0], [2, 0], [4, 0], [4, 4]].map(|[east, north]| Corner { east, north });
+/// let left = parcel.as_int_points().simplified().expect("it has an area");
+/// let corners: Vec<Corner> = from_int_points(left);
+/// assert_eq!(corners, [parcel[0], parcel[2], parcel[3]]);
+/// ```
+///
+/// The compiler refuses a struct with another layout. `repr(C)` is how a struct promises its layout; without it the compiler may
+/// refuse the struct one day. A third field is refused:
+///
+/// ```compile_fail
+/// #[repr(C)]
+/// #[derive(Clone, Copy)]
+/// struct Labelled { x: i32, y: i32, label: i32 }
+/// i_shape::contour_point!(Labelled { x, y }: i32);
+/// ```
+///
+/// So are coordinates in another order, of another width, and references:
+///
+/// ```compile_fail
+/// #[repr(C)]
+/// #[derive(Clone, Copy)]
+/// struct Swapped { y: i32, x: i32 }
+/// i_shape::contour_point!(Swapped { x, y }: i32);
+/// ```
+///
+/// ```compile_fail
+/// #[repr(C)]
+/// #[derive(Clone, Copy)]
+/// struct Unsigned { x: u32, y: u32 }
+/// i_shape::contour_point!(Unsigned { x, y }: i32);
+/// ```
+///
+/// ```compile_fail
+/// #[repr(C)]
+/// #[derive(Clone, Copy)]
+/// struct Lent { x: &'static i64, y: &'static i64 }
+/// i_shape::contour_point!(Lent { x, y }: i64);
+/// ```
+///
+/// The macro expands to an `unsafe impl`. A crate that forbids `unsafe_code` can have its points as `[i32; 2]`.
+#[macro_export]
+macro_rules! contour_point {
+    ($point:ty { $x:tt, $y:tt }: $number:ty) => {
+        const _: () = {
+            use ::core::mem::{align_of, offset_of, size_of};
+            const SIZE: usize = size_of::<$number>();
+            assert!(
+                size_of::<$point>() == 2 * SIZE,
+                "it has two coordinates and nothing beside them"
+            );
+            assert!(
+                align_of::<$point>() == align_of::<$number>(),
+                "it is aligned as a coordinate"
+            );
+            assert!(
+                offset_of!($point, $x) == 0 && offset_of!($point, $y) == SIZE,
+                "x lies before y"
+            );
+            // by value: what is no number of this type is refused
+            const fn _coordinates(point: $point) -> [$number; 2] {
+                [point.$x, point.$y]
+            }
+        };
+        // SAFETY: size, alignment, places and types of the fields are those of `IntPoint`, and of two numbers each is a value.
+        #[allow(unsafe_code)]
+        unsafe impl $crate::int::ContourPoint for $point {
+            type Coordinate = $number;
+        }
+    };
+}
+
+/// Slices of points of a caller's own, as slices of [`IntPoint`].
+pub trait AsIntPoints {
+    /// The type of the coordinates.
+    type Coordinate: IntNumber;
+
+    /// The same points, where they lie.
+    fn as_int_points(&self) -> &[IntPoint<Self::Coordinate>];
+
+    /// The same points, to be written where they lie.
+    fn as_int_points_mut(&mut self) -> &mut [IntPoint<Self::Coordinate>];
+}
+
+impl<P: ContourPoint> AsIntPoints for [P] {
+    type Coordinate = P::Coordinate;
+
+    fn as_int_points(&self) -> &[IntPoint<P::Coordinate>] {
+        // SAFETY: by `ContourPoint` the layout is the same.
+        unsafe { std::slice::from_raw_parts(self.as_ptr().cast(), self.len()) }
+    }
+
+    fn as_int_points_mut(&mut self) -> &mut [IntPoint<P::Coordinate>] {
+        // SAFETY: by `ContourPoint` the layout is the same, and what is written is a value of P.
+        unsafe { std::slice::from_raw_parts_mut(self.as_mut_ptr().cast(), self.len()) }
+    }
+}
+
+/// The points of an answer as points of a caller's own. Nothing is copied.
+pub fn from_int_points<P: ContourPoint>(contour: IntContour<P::Coordinate>) -> Vec<P> {
+    let mut contour = ManuallyDrop::new(contour);
+    let (start, count, room) = (contour.as_mut_ptr(), contour.len(), contour.capacity());
+    // SAFETY: the block is that of a vector which isn't dropped; by `ContourPoint` size and alignment are the same, and each point is
+    // a value of P.
+    unsafe { Vec::from_raw_parts(start.cast(), count, room) }
+}

@@ -1,0 +1,31 @@
+//! Growths of memory that answer an error where they are refused.
+
+use crate::Error;
+
+/// An empty vector with room for so many items.
+pub(crate) fn with_room<T>(count: usize) -> Result<Vec<T>, Error> {
+    let mut items = Vec::new();
+    items
+        .try_reserve_exact(count)
+        .map_err(|_| Error::NoMemory)?;
+    Ok(items)
+}
+
+/// The items of a slice in a vector of its length.
+pub(crate) fn copied<T: Copy>(items: &[T]) -> Result<Vec<T>, Error> {
+    let mut copy = with_room(items.len())?;
+    copy.extend_from_slice(items);
+    Ok(copy)
+}
+
+/// What is made of each item, in order.
+pub(crate) fn made_of_each<T, U>(
+    items: impl ExactSizeIterator<Item = T>,
+    make: impl Fn(T) -> Result<U, Error>,
+) -> Result<Vec<U>, Error> {
+    let mut made = with_room(items.len())?;
+    for item in items {
+        made.push(make(item)?);
+    }
+    Ok(made)
+}

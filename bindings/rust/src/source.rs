@@ -1,0 +1,7 @@
+//! What lends paths.
+
+pub mod int {
+    //! What lends paths of whole-number points.
+
+    pub mod resource;
+}

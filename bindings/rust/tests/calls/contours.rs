@@ -1,0 +1,233 @@
+//! Calls on one contour.
+
+use crate::shared::{
+    FLAT, HOLE, Number, SPIKED, SQUARE, STAR, STRAIGHT, TURNED, Written, at_each_width, contour,
+    point, walk_round,
+};
+use i_shape::FillRule;
+use i_shape::int::area::Area;
+use i_shape::int::despike::{DeSpike, DeSpikeContour};
+use i_shape::int::path::ContourExtension;
+use i_shape::int::safe_range::IntSafeRange;
+use i_shape::int::simple::{ContourSimplifier, SimpleContour, Simplify};
+use i_shape::int::{IntNumber, IntPoint};
+
+at_each_width!(
+    cleaned,
+    written_into_a_slice,
+    cleaned_in_place,
+    tested,
+    measured,
+    wound_about,
+    long_contour
+);
+
+/// A contour, and what is left of it without zero turns, without spikes, and in canonical form; nothing where it collapses.
+const CLEANED: [(&Written, &Written, &Written, &Written); 6] = [
+    (&SQUARE, &SQUARE, &SQUARE, &SQUARE),
+    (&STRAIGHT, &TURNED, &STRAIGHT, &SQUARE),
+    (&SPIKED, &SQUARE, &SQUARE, &SQUARE),
+    (&FLAT, &[], &[], &[]),
+    (&[[1, 1], [2, 2]], &[], &[], &[]),
+    (&[], &[], &[], &[]),
+];
+
+fn cleaned<I: Number>() {
+    for (given, simplified, despiked, canonical) in CLEANED {
+        let left = |points: &Written| (!points.is_empty()).then(|| contour::<I>(points));
+        let given = contour::<I>(given);
+        assert_eq!(given.simplified(), left(simplified));
+        assert_eq!(given.try_simplified(), Ok(left(simplified)));
+        assert_eq!(given.despiked_contour(), left(despiked));
+        assert_eq!(given.try_despiked_contour(), Ok(left(despiked)));
+        assert_eq!(given.canonical(), left(canonical));
+        assert_eq!(given.try_canonical(), Ok(left(canonical)));
+        let mut simplifier = ContourSimplifier::default();
+        assert_eq!(simplifier.simplify_contour(&given), left(simplified));
+        assert_eq!(
+            simplifier.try_simplify_contour(&given),
+            Ok(left(simplified))
+        );
+    }
+}
+
+fn written_into_a_slice<I: Number>() {
+    let behind = point::<I>([7, 7]);
+    let is_written = |out: &[IntPoint<I>], count: usize, wanted: &Written| {
+        out[..count] == contour(wanted) && out[count..].iter().all(|&point| point == behind)
+    };
+    for (given, simplified, despiked, canonical) in CLEANED {
+        let given = contour::<I>(given);
+        let mut out = [behind; 8];
+        let count = given.simplify_into(&mut out);
+        assert!(is_written(&out, count, simplified));
+        let mut out = [behind; 8];
+        let count = given.despike_into(&mut out);
+        assert!(is_written(&out, count, despiked));
+        let mut out = [behind; 8];
+        let count = given.canonical_into(&mut out);
+        assert!(is_written(&out, count, canonical));
+    }
+}
+
+fn cleaned_in_place<I: Number>() {
+    for (given, simplified, despiked, _) in CLEANED {
+        let mut left = contour::<I>(given);
+        assert_eq!(left.simplify_contour(), given != SQUARE);
+        assert_eq!(left, contour(simplified));
+        assert_eq!(left.try_simplify_contour(), Ok(left.is_empty()));
+
+        let mut left = contour::<I>(given);
+        assert_eq!(left.remove_spikes(), given != SQUARE && given != STRAIGHT);
+        assert_eq!(left, contour(despiked));
+        assert_eq!(left.try_remove_spikes(), Ok(left.is_empty()));
+    }
+}
+
+/// A contour, and whether it is simple, has no spikes, and is convex.
+const TESTED: [(&Written, [bool; 3]); 8] = [
+    (&SQUARE, [true, true, true]),
+    (&STRAIGHT, [false, true, true]),
+    (&SPIKED, [false, false, false]),
+    (&FLAT, [false, false, false]),
+    (&STAR, [true, true, true]),
+    (&[[0, 0], [4, 0], [1, 1], [0, 4]], [true, true, false]),
+    (&[[3, 3]], [false, false, true]),
+    (&[], [false, false, true]),
+];
+
+fn tested<I: Number>() {
+    for (given, [is_simple, has_no_spikes, is_convex]) in TESTED {
+        let given = contour::<I>(given);
+        assert_eq!(given.is_simple(), is_simple);
+        assert_eq!(given.try_is_simple(), Ok(is_simple));
+        assert_eq!(given.has_no_spikes(), has_no_spikes);
+        assert_eq!(given.try_has_no_spikes(), Ok(has_no_spikes));
+        assert_eq!(given.is_convex(), is_convex);
+        assert_eq!(given.try_is_convex(), Ok(is_convex));
+    }
+}
+
+#[test]
+fn safe_range_ends_before_a_quarter_of_the_type() {
+    fn at<I: IntNumber>(inside: [I; 2], outside: [I; 2]) {
+        let zero = I::ZERO;
+        for number in inside {
+            assert!(IntPoint::new(number, zero).is_in_safe_range());
+            assert!([IntPoint::ZERO, IntPoint::new(zero, number)].is_in_safe_range());
+        }
+        for number in outside {
+            assert!(!IntPoint::new(zero, number).is_in_safe_range());
+            assert!(![IntPoint::ZERO, IntPoint::new(number, zero)].is_in_safe_range());
+        }
+    }
+    at::<i16>([1 - (1 << 14), (1 << 14) - 1], [-(1 << 14), 1 << 14]);
+    at::<i32>([1 - (1 << 30), (1 << 30) - 1], [-(1 << 30), 1 << 30]);
+    at::<i64>([1 - (1 << 62), (1 << 62) - 1], [-(1 << 62), 1 << 62]);
+    assert!(Vec::<IntPoint<i32>>::new().is_in_safe_range());
+}
+
+fn measured<I: Number>() {
+    let is_area = |points: &Written, doubled: i8, whole: i8| {
+        let given = contour::<I>(points);
+        let number = |number: i8| format!("{number}");
+        format!("{}", given.area_two()) == number(doubled)
+            && given.try_area_two() == Ok(given.area_two())
+            && format!("{}", given.area()) == number(whole)
+            && given.try_area() == Ok(given.area())
+            && given.is_clockwise_ordered() == (doubled <= 0)
+            && given.try_is_clockwise_ordered() == Ok(doubled <= 0)
+    };
+    assert!(is_area(&SQUARE, 32, 16));
+    assert!(is_area(&SPIKED, 32, 16));
+    assert!(is_area(&HOLE, -1, 0));
+    assert!(is_area(&[[0, 0], [1, 0], [1, 1]], 1, 0));
+    assert!(is_area(&FLAT, 0, 0));
+}
+
+#[test]
+fn areas_of_great_contours() {
+    let square =
+        |side: i64| [[0, 0], [side, 0], [side, side], [0, side]].map(|[x, y]| IntPoint::new(x, y));
+    assert_eq!(square(1 << 61).area_two(), 1_i128 << 123);
+    assert_eq!(square(-(1 << 61)).area(), 1_i128 << 122);
+    let mut backwards = square(1 << 61);
+    backwards.reverse();
+    assert_eq!(backwards.area_two(), -(1_i128 << 123));
+}
+
+#[test]
+fn areas_that_do_not_fit_are_reduced() {
+    let (low, high) = (i16::MIN, i16::MAX);
+    let all =
+        [[low, low], [high, low], [high, high], [low, high]].map(|[x, y]| IntPoint::new(x, y));
+    // twice the square of 65,535, less twice 2^32
+    assert_eq!(all.area_two(), -262_142);
+}
+
+fn wound_about<I: Number>() {
+    let star = contour::<I>(&STAR);
+    let backwards: Vec<_> = star.iter().rev().copied().collect();
+    let about = [[0, 0], [0, 8], [0, -7], [9, 9]].map(point::<I>);
+    let numbers = [2, 1, 0, 0];
+    let opposite = numbers.map(|number: isize| -number);
+    assert_eq!(star.winding_numbers(&about), numbers);
+    assert_eq!(star.try_winding_numbers(&about), Ok(numbers.to_vec()));
+    assert_eq!(backwards.winding_numbers(&about), opposite);
+    for (point, number) in about.into_iter().zip(numbers) {
+        assert_eq!(star.winding_number(point), number);
+        assert_eq!(star.try_winding_number(point), Ok(number));
+        assert_eq!(star.contains_point(point), number == 1);
+        assert_eq!(star.try_contains_point(point), Ok(number == 1));
+    }
+    let filled = [
+        (
+            FillRule::EvenOdd,
+            [false, true, false, false],
+            [false, true, false, false],
+        ),
+        (
+            FillRule::NonZero,
+            [true, true, false, false],
+            [true, true, false, false],
+        ),
+        (FillRule::Positive, [true, true, false, false], [false; 4]),
+        (FillRule::Negative, [false; 4], [true, true, false, false]),
+    ];
+    for (rule, forwards, reversed) in filled {
+        assert_eq!(star.contains_points(&about, rule), forwards);
+        assert_eq!(
+            star.try_contains_points(&about, rule),
+            Ok(forwards.to_vec())
+        );
+        assert_eq!(backwards.contains_points(&about, rule), reversed);
+        for (point, is_filled) in about.into_iter().zip(forwards) {
+            assert_eq!(star.contains_by(point, rule), is_filled);
+            assert_eq!(star.try_contains_by(point, rule), Ok(is_filled));
+        }
+    }
+    assert_eq!(star.winding_numbers(&[]), []);
+    assert_eq!(contour::<I>(&[]).winding_numbers(&about), [0; 4]);
+}
+
+fn long_contour<I: Number + TryFrom<i32>>() {
+    let side = 8_000;
+    let walk = walk_round::<I>(side);
+    let corners: Vec<_> = walk.iter().step_by(side as usize).copied().collect();
+    assert_eq!(walk.simplified().as_ref(), Some(&corners));
+    assert_eq!(walk.canonical().as_ref(), Some(&corners));
+    assert_eq!(walk.despiked_contour().as_ref(), Some(&walk));
+    assert!(walk.has_no_spikes() && walk.is_convex() && !walk.is_simple());
+    assert_eq!(format!("{}", walk.area()), format!("{}", side * side));
+    assert!(walk.contains_point(point([1, 1])) && !walk.contains_point(point([-1, 1])));
+    assert_eq!(walk.winding_numbers(&[point([1, 1]); 100]), [1; 100]);
+}
+
+#[test]
+fn version_of_the_library_is_that_of_the_crate() {
+    let (major, minor, patch) = i_shape::library_version();
+    assert_eq!(
+        format!("{major}.{minor}.{patch}"),
+        env!("CARGO_PKG_VERSION")
+    );
+}

@@ -1,0 +1,395 @@
+//! Each error of each call, by the form that answers it and by the one that panics with its text.
+
+use crate::shared::{Number, SQUARE, STRAIGHT, at_each_width, contour, point};
+use i_shape::flat::{Contours, OwnedShapes, Shapes};
+use i_shape::int::IntPoint;
+use i_shape::int::area::Area;
+use i_shape::int::canonical::{CanonicalShape, CanonicalShapes};
+use i_shape::int::despike::{DeSpike, DeSpikeContour, DeSpikeShape, DeSpikeShapes};
+use i_shape::int::path::ContourExtension;
+use i_shape::int::shape::{IntContour, IntShape};
+use i_shape::int::simple::{ContourSimplifier, SimpleContour, SimpleShape, SimpleShapes, Simplify};
+use i_shape::{Error, FillRule};
+use std::panic::{AssertUnwindSafe, catch_unwind};
+
+at_each_width!(
+    contours_with_an_unsafe_point,
+    shapes_with_an_unsafe_point,
+    batches_with_an_unsafe_point,
+    points_asked_about,
+    slices_that_are_too_short,
+    offsets_that_are_unfit,
+    contours_without_a_point,
+    nothing_is_written
+);
+
+/// A form that tries has answered the error, and the other form panics with its text.
+fn refuses<T, U>(error: Error, answer: Result<T, Error>, panics: impl FnOnce() -> U) {
+    assert_eq!(answer.err(), Some(error));
+    let panic = catch_unwind(AssertUnwindSafe(panics))
+        .err()
+        .expect("it panics");
+    assert_eq!(panic.downcast_ref::<String>(), Some(&error.to_string()));
+}
+
+/// The same of a method: `refuses!(error, receiver, the form that tries, the form that panics, arguments)`.
+macro_rules! refuses {
+    ($error:expr, $receiver:expr, $tried:ident, $panics:ident $(, $argument:expr)*) => {
+        let answer = $receiver.$tried($($argument),*).map(|_| ());
+        refuses($error, answer, || $receiver.$panics($($argument),*))
+    };
+}
+
+fn spoilt<I: Number>() -> IntContour<I> {
+    let mut contour = contour(&STRAIGHT);
+    contour[3].y = I::ABOVE;
+    contour
+}
+
+fn contours_with_an_unsafe_point<I: Number>() {
+    let error = Error::UnsafePoint;
+    let (given, inside) = (spoilt::<I>(), point::<I>([1, 1]));
+    let mut out = given.clone();
+    refuses!(error, given, try_is_simple, is_simple);
+    refuses!(error, given, try_simplified, simplified);
+    refuses!(error, given, try_canonical, canonical);
+    refuses!(error, given, try_simplify_into, simplify_into, &mut out);
+    refuses!(error, given, try_canonical_into, canonical_into, &mut out);
+    refuses!(error, given, try_has_no_spikes, has_no_spikes);
+    refuses!(error, given, try_despiked_contour, despiked_contour);
+    refuses!(error, given, try_despike_into, despike_into, &mut out);
+    refuses!(error, given, try_is_convex, is_convex);
+    refuses!(error, given, try_contains_point, contains_point, inside);
+    refuses!(error, given, try_winding_number, winding_number, inside);
+    refuses!(
+        error,
+        given,
+        try_contains_by,
+        contains_by,
+        inside,
+        FillRule::NonZero
+    );
+    refuses!(
+        error,
+        given,
+        try_winding_numbers,
+        winding_numbers,
+        &[inside]
+    );
+    refuses!(
+        error,
+        given,
+        try_contains_points,
+        contains_points,
+        &[inside],
+        FillRule::NonZero
+    );
+    let mut simplifier = ContourSimplifier::default();
+    refuses!(
+        error,
+        simplifier,
+        try_simplify_contour,
+        simplify_contour,
+        &given
+    );
+    let mut left = given.clone();
+    refuses!(error, left, try_simplify_contour, simplify_contour);
+    refuses!(error, left, try_remove_spikes, remove_spikes);
+    assert_eq!(left, given);
+    assert!(given.try_area_two().is_ok());
+}
+
+fn shapes_with_an_unsafe_point<I: Number>() {
+    let error = Error::UnsafePoint;
+    let shape: IntShape<I> = vec![contour(&SQUARE), spoilt()];
+    refuses!(error, shape, try_is_simple, is_simple);
+    refuses!(error, shape, try_simplified, simplified);
+    refuses!(error, shape, try_has_no_spikes, has_no_spikes);
+    refuses!(error, shape, try_despiked_shape, despiked_shape);
+    refuses!(error, shape, try_canonical, canonical);
+    refuses!(error, shape, try_canonical_unoriented, canonical_unoriented);
+    let mut left = shape.clone();
+    refuses!(error, left, try_simplify_contour, simplify_contour);
+    refuses!(error, left, try_remove_spikes, remove_spikes);
+    assert_eq!(left, shape);
+
+    let list = vec![vec![contour(&SQUARE)], shape];
+    refuses!(error, list, try_is_simple, is_simple);
+    refuses!(error, list, try_simplified, simplified);
+    refuses!(error, list, try_has_no_spikes, has_no_spikes);
+    refuses!(error, list, try_despiked_shapes, despiked_shapes);
+    refuses!(error, list, try_canonical, canonical);
+    refuses!(error, list, try_canonical_unoriented, canonical_unoriented);
+    let mut left = list.clone();
+    refuses!(error, left, try_simplify_contour, simplify_contour);
+    refuses!(error, left, try_remove_spikes, remove_spikes);
+    assert_eq!(left, list);
+}
+
+fn batches_with_an_unsafe_point<I: Number>() {
+    let error = Error::UnsafePoint;
+    let points = spoilt::<I>();
+    let mut out = (points.clone(), [0; 2], [0; 2]);
+    let contours = Contours::new(&points, &[0, 5]);
+    refuses!(error, contours, try_simplified, simplified);
+    refuses!(error, contours, try_despiked, despiked);
+    refuses!(error, contours, try_canonical, canonical);
+    refuses!(
+        error,
+        contours,
+        try_simplify_into,
+        simplify_into,
+        &mut out.0,
+        &mut out.1
+    );
+    refuses!(
+        error,
+        contours,
+        try_despike_into,
+        despike_into,
+        &mut out.0,
+        &mut out.1
+    );
+    refuses!(
+        error,
+        contours,
+        try_canonical_into,
+        canonical_into,
+        &mut out.0,
+        &mut out.1
+    );
+    let about = [point([1, 1])];
+    refuses!(
+        error,
+        contours,
+        try_winding_numbers,
+        winding_numbers,
+        &about
+    );
+    refuses!(
+        error,
+        contours,
+        try_winding_numbers_into,
+        winding_numbers_into,
+        &about,
+        &mut [0]
+    );
+    refuses!(
+        error,
+        contours,
+        try_contains_points,
+        contains_points,
+        &about,
+        FillRule::EvenOdd
+    );
+
+    let shapes = Shapes::new(&points, &[0, 5], &[0, 1]);
+    refuses!(error, shapes, try_simplified, simplified);
+    refuses!(error, shapes, try_despiked, despiked);
+    refuses!(error, shapes, try_canonical, canonical);
+    refuses!(
+        error,
+        shapes,
+        try_canonical_unoriented,
+        canonical_unoriented
+    );
+    let (points, contours, ends) = (&mut out.0, &mut out.1, &mut out.2);
+    refuses!(
+        error,
+        shapes,
+        try_simplify_into,
+        simplify_into,
+        points,
+        contours,
+        ends
+    );
+    refuses!(
+        error,
+        shapes,
+        try_despike_into,
+        despike_into,
+        points,
+        contours,
+        ends
+    );
+    refuses!(
+        error,
+        shapes,
+        try_canonical_into,
+        canonical_into,
+        points,
+        contours,
+        ends
+    );
+    refuses!(
+        error,
+        shapes,
+        try_canonical_unoriented_into,
+        canonical_unoriented_into,
+        points,
+        contours,
+        ends
+    );
+}
+
+fn points_asked_about<I: Number>() {
+    let error = Error::UnsafePoint;
+    let given = contour::<I>(&SQUARE);
+    let outside = IntPoint::new(I::ABOVE, I::ZERO);
+    refuses!(error, given, try_contains_point, contains_point, outside);
+    refuses!(error, given, try_winding_number, winding_number, outside);
+    refuses!(
+        error,
+        given,
+        try_winding_numbers,
+        winding_numbers,
+        &[outside]
+    );
+}
+
+fn slices_that_are_too_short<I: Number>() {
+    let error = Error::Unfit;
+    let given = contour::<I>(&STRAIGHT);
+    let mut short = contour::<I>(&SQUARE);
+    refuses!(error, given, try_simplify_into, simplify_into, &mut short);
+    refuses!(error, given, try_despike_into, despike_into, &mut short);
+    refuses!(error, given, try_canonical_into, canonical_into, &mut short);
+    let mut out = given.clone();
+    let contours = Contours::new(&given, &[0, 5]);
+    refuses!(
+        error,
+        contours,
+        try_simplify_into,
+        simplify_into,
+        &mut short,
+        &mut [0; 2]
+    );
+    refuses!(
+        error,
+        contours,
+        try_despike_into,
+        despike_into,
+        &mut out,
+        &mut [0; 1]
+    );
+    let about = [point([1, 1]); 2];
+    refuses!(
+        error,
+        contours,
+        try_winding_numbers_into,
+        winding_numbers_into,
+        &about,
+        &mut [0]
+    );
+    let shapes = Shapes::new(&given, &[0, 5], &[0, 1]);
+    refuses!(
+        error,
+        shapes,
+        try_simplify_into,
+        simplify_into,
+        &mut short,
+        &mut [0; 2],
+        &mut [0; 2]
+    );
+    refuses!(
+        error,
+        shapes,
+        try_despike_into,
+        despike_into,
+        &mut out,
+        &mut [0; 1],
+        &mut [0; 2]
+    );
+    refuses!(
+        error,
+        shapes,
+        try_canonical_into,
+        canonical_into,
+        &mut out,
+        &mut [0; 2],
+        &mut [0; 1]
+    );
+}
+
+fn offsets_that_are_unfit<I: Number>() {
+    let points = contour::<I>(&SQUARE);
+    let unfit: [&[usize]; 4] = [&[], &[0, 5], &[3, 1, 4], &[5]];
+    for offsets in unfit {
+        let answer = Contours::try_new(&points, offsets);
+        refuses(Error::Unfit, answer, || Contours::new(&points, offsets));
+        let answer = Shapes::try_new(&points, offsets, &[0]);
+        refuses(Error::Unfit, answer, || Shapes::new(&points, offsets, &[0]));
+    }
+    let unfit: [&[usize]; 4] = [&[], &[0, 3], &[2, 1], &[3]];
+    for shapes in unfit {
+        let answer = Shapes::try_new(&points, &[0, 2, 4], shapes);
+        refuses(Error::Unfit, answer, || {
+            Shapes::new(&points, &[0, 2, 4], shapes)
+        });
+    }
+    use i_shape::flat::offsets::{from_lengths, from_ranges, try_from_lengths, try_from_ranges};
+    let lengths = [usize::MAX, 2];
+    refuses(Error::Unfit, try_from_lengths(lengths), || {
+        from_lengths(lengths)
+    });
+    let apart = [0..2, 3..4];
+    refuses(Error::Unfit, try_from_ranges(&apart), || {
+        from_ranges(&apart)
+    });
+}
+
+fn contours_without_a_point<I: Number>() {
+    let error = Error::NoPoint;
+    let none = contour::<I>(&[]);
+    refuses!(error, none, try_area_two, area_two);
+    refuses!(error, none, try_area, area);
+    refuses!(error, none, try_is_clockwise_ordered, is_clockwise_ordered);
+    let shape = vec![contour::<I>(&SQUARE), none];
+    refuses!(error, shape, try_area_two, area_two);
+    refuses!(error, shape, try_area, area);
+    let list = [shape];
+    refuses!(error, list, try_area_two, area_two);
+    refuses!(error, list, try_area, area);
+}
+
+fn nothing_is_written<I: Number>() {
+    let points = spoilt::<I>();
+    let mark = point([9, 9]);
+    let mut out = [mark; 5];
+    assert!(points.try_simplify_into(&mut out).is_err());
+    let (mut offsets, mut ends) = ([99; 2], [99; 2]);
+    let contours = Contours::new(&points, &[0, 5]);
+    assert!(contours.try_simplify_into(&mut out, &mut offsets).is_err());
+    let shapes = Shapes::new(&points, &[0, 5], &[0, 1]);
+    assert!(
+        shapes
+            .try_simplify_into(&mut out, &mut offsets, &mut ends)
+            .is_err()
+    );
+    let mut numbers = [99];
+    assert!(
+        contours
+            .try_winding_numbers_into(&[mark], &mut numbers)
+            .is_err()
+    );
+    assert_eq!(
+        (out, offsets, ends, numbers),
+        ([mark; 5], [99; 2], [99; 2], [99])
+    );
+}
+
+#[test]
+fn errors_have_texts() {
+    let errors = [
+        Error::UnsafePoint,
+        Error::Unfit,
+        Error::NoMemory,
+        Error::NoPoint,
+    ];
+    let texts: Vec<_> = errors.iter().map(Error::to_string).collect();
+    assert!(texts.iter().all(|text| !text.is_empty()));
+    assert!((1..4).all(|k| !texts[..k].contains(&texts[k])));
+    let error: Box<dyn std::error::Error + Send + Sync> = Error::NoMemory.into();
+    assert_eq!(error.to_string(), "memory was refused");
+    assert!(OwnedShapes::<i32>::try_from_shapes(&[] as &[IntShape<i32>]).is_ok());
+}

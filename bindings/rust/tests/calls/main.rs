@@ -1,0 +1,9 @@
+//! The calls by their definitions: happy paths at each width, small and large, and each error.
+
+mod contours;
+mod errors;
+mod flat;
+mod original_examples;
+mod own_points;
+mod shapes;
+mod shared;

@@ -1,0 +1,81 @@
+//! Worked contours, at any width.
+
+use i_shape::int::shape::{IntContour, IntShape, IntShapes};
+use i_shape::int::{IntNumber, IntPoint};
+use std::fmt::Debug;
+
+/// A coordinate that small numbers can be turned into.
+pub trait Number: IntNumber + From<i8> + Debug {
+    /// The least coordinate above the safe range.
+    const ABOVE: Self;
+}
+
+impl Number for i16 {
+    const ABOVE: i16 = 1 << 14;
+}
+
+impl Number for i32 {
+    const ABOVE: i32 = 1 << 30;
+}
+
+impl Number for i64 {
+    const ABOVE: i64 = 1 << 62;
+}
+
+/// A contour that is written out.
+pub type Written = [[i8; 2]];
+
+pub const SQUARE: [[i8; 2]; 4] = [[0, 0], [4, 0], [4, 4], [0, 4]];
+/// A square from another start, with a point on an edge.
+pub const STRAIGHT: [[i8; 2]; 5] = [[4, 4], [0, 4], [0, 0], [2, 0], [4, 0]];
+/// What is left of it.
+pub const TURNED: [[i8; 2]; 4] = [[4, 4], [0, 4], [0, 0], [4, 0]];
+pub const FLAT: [[i8; 2]; 3] = [[0, 0], [0, 8], [0, 1]];
+pub const SPIKED: [[i8; 2]; 6] = [[0, 0], [4, 0], [4, 4], [4, 8], [4, 4], [0, 4]];
+pub const HOLE: [[i8; 2]; 3] = [[1, 1], [1, 2], [2, 1]];
+/// It winds twice about its middle.
+pub const STAR: [[i8; 2]; 5] = [[0, 9], [-6, -8], [9, 3], [-9, 3], [6, -8]];
+
+pub fn point<I: Number>([x, y]: [i8; 2]) -> IntPoint<I> {
+    IntPoint::new(I::from(x), I::from(y))
+}
+
+pub fn contour<I: Number>(points: &Written) -> IntContour<I> {
+    points.iter().copied().map(point).collect()
+}
+
+pub fn shape<I: Number>(contours: &[&Written]) -> IntShape<I> {
+    contours.iter().map(|points| contour(points)).collect()
+}
+
+pub fn shapes<I: Number>(shapes: &[&[&Written]]) -> IntShapes<I> {
+    shapes.iter().map(|contours| shape(contours)).collect()
+}
+
+/// The way round a square of that side, with a point at each whole number.
+pub fn walk_round<I: Number + TryFrom<i32>>(side: i32) -> IntContour<I> {
+    let number = |whole: i32| I::try_from(whole).ok().expect("the side fits");
+    let at = |x, y| IntPoint::new(number(x), number(y));
+    let right = (0..side).map(|k| at(k, 0));
+    let up = (0..side).map(|k| at(side, k));
+    let left = (0..side).map(|k| at(side - k, side));
+    let down = (0..side).map(|k| at(0, side - k));
+    right.chain(up).chain(left).chain(down).collect()
+}
+
+/// A test at each width.
+macro_rules! at_each_width {
+    ($($test:ident),* $(,)?) => {
+        mod at_16_bits {
+            $(#[test] fn $test() { super::$test::<i16>(); })*
+        }
+        mod at_32_bits {
+            $(#[test] fn $test() { super::$test::<i32>(); })*
+        }
+        mod at_64_bits {
+            $(#[test] fn $test() { super::$test::<i64>(); })*
+        }
+    };
+}
+
+pub(crate) use at_each_width;
