@@ -16,6 +16,7 @@ use i_shape::int::simple::{SimpleContour, SimpleShape, SimpleShapes, Simplify};
 use shared::{FLAT, HOLE, Number, SPIKED, SQUARE, STRAIGHT, at_each_width, contour, point, shapes};
 use std::alloc::{GlobalAlloc, Layout, System};
 use std::cell::Cell;
+use std::panic::{AssertUnwindSafe, catch_unwind};
 use std::ptr;
 
 at_each_width!(contours, shapes_and_lists, batches);
@@ -189,6 +190,25 @@ fn in_place_changes_nothing() {
     let answer = left.try_remove_spikes();
     GRANTED.set(usize::MAX);
     assert_eq!((answer, &left), (Err(Error::NoMemory), &given[1][0]));
+}
+
+#[test]
+fn other_forms_panic_with_the_text() {
+    let given = contour::<i32>(&STRAIGHT);
+    let panics = |call: &dyn Fn()| {
+        GRANTED.set(0);
+        let panic = catch_unwind(AssertUnwindSafe(call));
+        GRANTED.set(usize::MAX);
+        panic.is_err_and(|panic| {
+            panic.downcast_ref::<String>() == Some(&Error::NoMemory.to_string())
+        })
+    };
+    assert!(panics(&|| drop(given.simplified())));
+    assert!(panics(&|| drop(given.winding_numbers(&given))));
+    assert!(panics(&|| drop(Contours::new(&given, &[0, 5]).canonical())));
+    assert!(panics(&|| drop(
+        Shapes::new(&given, &[0, 5], &[0, 1]).despiked()
+    )));
 }
 
 fn batches<I: Number>() {

@@ -118,15 +118,15 @@ macro_rules! contour_point {
             const SIZE: usize = size_of::<$number>();
             assert!(
                 size_of::<$point>() == 2 * SIZE,
-                "it has two coordinates and nothing beside them"
+                "its size isn't that of two coordinates"
             );
             assert!(
                 align_of::<$point>() == align_of::<$number>(),
-                "it is aligned as a coordinate"
+                "its alignment isn't that of a coordinate"
             );
             assert!(
                 offset_of!($point, $x) == 0 && offset_of!($point, $y) == SIZE,
-                "x lies before y"
+                "the two fields don't lie one after the other, x first"
             );
             // by value: what is no number of this type is refused
             const fn _coordinates(point: $point) -> [$number; 2] {

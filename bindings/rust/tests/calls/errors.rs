@@ -254,24 +254,8 @@ fn slices_that_are_too_short<I: Number>() {
     refuses!(error, given, try_simplify_into, simplify_into, &mut short);
     refuses!(error, given, try_despike_into, despike_into, &mut short);
     refuses!(error, given, try_canonical_into, canonical_into, &mut short);
-    let mut out = given.clone();
+
     let contours = Contours::new(&given, &[0, 5]);
-    refuses!(
-        error,
-        contours,
-        try_simplify_into,
-        simplify_into,
-        &mut short,
-        &mut [0; 2]
-    );
-    refuses!(
-        error,
-        contours,
-        try_despike_into,
-        despike_into,
-        &mut out,
-        &mut [0; 1]
-    );
     let about = [point([1, 1]); 2];
     refuses!(
         error,
@@ -281,34 +265,76 @@ fn slices_that_are_too_short<I: Number>() {
         &about,
         &mut [0]
     );
+    // the points of the answer are one too few, and then its offsets
+    for (points, offsets) in [(4, 2), (5, 1)] {
+        let (points, offsets) = (&mut given.clone()[..points], &mut [0; 2][..offsets]);
+        refuses!(
+            error,
+            contours,
+            try_simplify_into,
+            simplify_into,
+            points,
+            offsets
+        );
+        refuses!(
+            error,
+            contours,
+            try_despike_into,
+            despike_into,
+            points,
+            offsets
+        );
+        refuses!(
+            error,
+            contours,
+            try_canonical_into,
+            canonical_into,
+            points,
+            offsets
+        );
+    }
+
     let shapes = Shapes::new(&given, &[0, 5], &[0, 1]);
-    refuses!(
-        error,
-        shapes,
-        try_simplify_into,
-        simplify_into,
-        &mut short,
-        &mut [0; 2],
-        &mut [0; 2]
-    );
-    refuses!(
-        error,
-        shapes,
-        try_despike_into,
-        despike_into,
-        &mut out,
-        &mut [0; 1],
-        &mut [0; 2]
-    );
-    refuses!(
-        error,
-        shapes,
-        try_canonical_into,
-        canonical_into,
-        &mut out,
-        &mut [0; 2],
-        &mut [0; 1]
-    );
+    for (points, contours, ends) in [(4, 2, 2), (5, 1, 2), (5, 2, 1)] {
+        let points = &mut given.clone()[..points];
+        let (contours, ends) = (&mut [0; 2][..contours], &mut [0; 2][..ends]);
+        refuses!(
+            error,
+            shapes,
+            try_simplify_into,
+            simplify_into,
+            points,
+            contours,
+            ends
+        );
+        refuses!(
+            error,
+            shapes,
+            try_despike_into,
+            despike_into,
+            points,
+            contours,
+            ends
+        );
+        refuses!(
+            error,
+            shapes,
+            try_canonical_into,
+            canonical_into,
+            points,
+            contours,
+            ends
+        );
+        refuses!(
+            error,
+            shapes,
+            try_canonical_unoriented_into,
+            canonical_unoriented_into,
+            points,
+            contours,
+            ends
+        );
+    }
 }
 
 fn offsets_that_are_unfit<I: Number>() {
