@@ -1,7 +1,7 @@
 #!/usr/bin/env bash
 # Builds the C library and runs its sample and its tests: as C11 and as C++17, each warning an error; with an allocator of the tests' own, which refuses
 # each growth in turn; against the shared library; and under the address sanitizer and valgrind, where these are at hand. The names of the
-# archive are those of the header. The examples print what docs/C.md says, and the crate for Rust passes its tests, where there is a cargo for it. With the
+# archive are those of the header. The examples print what docs/C.md says, and the crate for Rust passes its tests and lints, where there is a cargo for it. With the
 # word --if-built it builds nothing that would be proved: where that isn't built, its runs are skipped. The last line is 'c library: N passed, M failed', and
 # ', K skipped' behind it where K is above 0.
 set -u
@@ -71,27 +71,51 @@ test_example() {
     count $? 'examples/clean.c'
 }
 
-# The crate for Rust passes its tests, and its example prints what the page says. Its edition asks for cargo 1.85.
-test_rust() {
-    local cargo=(cargo --offline --locked)
-    local its=(--quiet --manifest-path bindings/rust/Cargo.toml --target-dir "$work/target")
-    if ! [[ $(cargo --version 2> /dev/null) =~ ^cargo\ 1\.([0-9]+) ]] || [ "${BASH_REMATCH[1]}" -lt 85 ]; then
-        echo 'the crate for Rust is not tested: there is no cargo from 1.85 on'
-        skipped=$((skipped + $(grep -c '^#\[test\]' bindings/rust/tests/worked.rs) + 1))
+# How many tests the crate for Rust has by its sources: those that stand alone, three of each name that is tested at each width, and those of its example, rustdoc,
+# clippy and rustfmt.
+count_rust_tests() {
+    local sources=(bindings/rust/tests/*.rs bindings/rust/tests/*/*.rs) alone at_widths
+    alone=$(cat "${sources[@]}" | grep -c '^#\[test\]')
+    at_widths=$(sed -n '/^at_each_width!(/{:more;/);/!{N;b more};p}' "${sources[@]}" | grep -oE '[a-z_]+' | grep -vc '^at_each_width$')
+    echo $((alone + 3 * at_widths + 4))
+}
+
+# Runs cargo's command $1 on the crate for Rust, by the words from $2 on, if there is that command.
+lint_rust() {
+    if ! cargo "$1" --help > /dev/null 2>&1; then
+        echo "the crate for Rust is not checked by cargo $1, which isn't there"
+        skipped=$((skipped + 1))
         return
     fi
-    "${cargo[@]}" test "${its[@]}" > "$work/cargo" 2>&1
+    cargo "$1" --manifest-path bindings/rust/Cargo.toml "${@:2}" > "$work/cargo" 2>&1
+    local status=$?
+    [ "$status" = 0 ] || cat "$work/cargo"
+    count "$status" "cargo $1 of the crate for Rust"
+}
+
+# The crate for Rust passes its tests, its example prints what the page says, and there is no warning of rustdoc, clippy or rustfmt. Its edition asks for cargo 1.85.
+test_rust() {
+    local its=(--offline --locked --quiet --target-dir "$work/target" --manifest-path bindings/rust/Cargo.toml)
+    if ! [[ $(cargo --version 2> /dev/null) =~ ^cargo\ 1\.([0-9]+) ]] || [ "${BASH_REMATCH[1]}" -lt 85 ]; then
+        echo 'the crate for Rust is not tested: there is no cargo from 1.85 on'
+        skipped=$((skipped + $(count_rust_tests)))
+        return
+    fi
+    cargo test "${its[@]}" > "$work/cargo" 2>&1
     local status=$?
     [ "$status" = 0 ] || cat "$work/cargo"
     awk '/^test result:/ { passed += $4; failed += $6 } END { print passed + 0 " passed, " failed + 0 " failed" }' "$work/cargo" > "$work/log"
     add "$status" 'the crate for Rust'
-    "${cargo[@]}" run "${its[@]}" --example clean > "$work/shown" && fenced 'console library' | diff - "$work/shown"
+    cargo run "${its[@]}" --example clean > "$work/shown" && fenced 'console library' | diff - "$work/shown"
     count $? 'examples/clean.rs'
+    RUSTDOCFLAGS='-D warnings' lint_rust doc --no-deps --offline --locked --quiet --target-dir "$work/target"
+    lint_rust clippy --all-targets --offline --locked --quiet --target-dir "$work/target" -- -D warnings
+    lint_rust fmt --check
 }
 
 if [ "${1-}" = --if-built ] && ! bash bindings/c/build.sh --is-built; then
     echo 'the C library and the crate for Rust are not tested: `make c` builds them'
-    echo "c library: 0 passed, 0 failed, $((8 + $(grep -c '^#\[test\]' bindings/rust/tests/worked.rs))) skipped"
+    echo "c library: 0 passed, 0 failed, $((7 + $(count_rust_tests))) skipped"
     exit 0
 fi
 work=$(mktemp -d) || exit 1
