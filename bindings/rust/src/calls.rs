@@ -2,10 +2,9 @@
 //! answers what `include/i_shape.h` says, with its codes as errors.
 
 use crate::Error;
-use crate::int::IntPoint;
+use crate::int::{IntNumber, IntPoint};
 use std::fmt;
 use std::mem::MaybeUninit;
-use std::ops::Div;
 
 pub(crate) type CleanOne<I> =
     unsafe extern "C" fn(*const IntPoint<I>, usize, *mut IntPoint<I>, usize) -> isize;
@@ -51,10 +50,8 @@ pub(crate) type Windings<I> = unsafe extern "C" fn(
 
 /// The calls at one width.
 pub trait Calls: Copy + Ord + fmt::Debug + 'static {
-    /// The type of a double area.
-    type Wide: WideIntNumber;
-    /// How a double area is written by the library.
-    type Area: Default + Into<Self::Wide>;
+    /// How the library writes a double area.
+    type Area: Default;
 
     const SIMPLIFY: CleanOne<Self>;
     const DESPIKE: CleanOne<Self>;
@@ -75,36 +72,6 @@ pub trait Calls: Copy + Ord + fmt::Debug + 'static {
     const WINDINGS: Windings<Self>;
     const AREA_TWO: unsafe extern "C" fn(*const IntPoint<Self>, usize, *mut Self::Area) -> bool;
 }
-
-/// The type of a double area: `i32`, `i64` or `i128`.
-pub trait WideIntNumber:
-    Copy + Ord + fmt::Debug + fmt::Display + Div<Output = Self> + 'static
-{
-    /// The number 0.
-    const ZERO: Self;
-    /// The number 2.
-    const TWO: Self;
-
-    /// The sum, reduced to the type where it doesn't fit.
-    fn wrapping_add(self, other: Self) -> Self;
-}
-
-macro_rules! wide_numbers {
-    ($($number:ty),*) => {
-        $(
-            impl WideIntNumber for $number {
-                const ZERO: Self = 0;
-                const TWO: Self = 2;
-
-                fn wrapping_add(self, other: Self) -> Self {
-                    self.wrapping_add(other)
-                }
-            }
-        )*
-    };
-}
-
-wide_numbers!(i32, i64, i128);
 
 /// The two halves of the 128 bits of a number.
 #[repr(C)]
@@ -192,7 +159,7 @@ macro_rules! tests {
 }
 
 macro_rules! calls {
-    ($number:ty, $width:literal, $wide:ty, $area:ty) => {
+    ($number:ty, $width:literal, $area:ty) => {
         const _: () = {
             cleaners_of_one!(
                 $number, $width, simplify "simplify_i", despike "despike_i", canonical "canonical_i"
@@ -230,7 +197,6 @@ macro_rules! calls {
             }
 
             impl Calls for $number {
-                type Wide = $wide;
                 type Area = $area;
 
                 const SIMPLIFY: CleanOne<Self> = simplify;
@@ -259,9 +225,9 @@ macro_rules! calls {
     };
 }
 
-calls!(i16, "16", i32, i32);
-calls!(i32, "32", i64, i64);
-calls!(i64, "64", i128, Halves);
+calls!(i16, "16", i32);
+calls!(i32, "32", i64);
+calls!(i64, "64", Halves);
 
 unsafe extern "C" {
     safe fn i_shape_version() -> u32;
@@ -416,7 +382,7 @@ pub(crate) fn windings<I: Calls>(
 }
 
 /// Twice the signed area, `None` where there is no point.
-pub(crate) fn area_two<I: Calls>(points: &[IntPoint<I>]) -> Option<I::Wide> {
+pub(crate) fn area_two<I: IntNumber>(points: &[IntPoint<I>]) -> Option<I::Wide> {
     let mut area = I::Area::default();
     // SAFETY: the pointer and the count are those of one slice, and `area` is a place of its own.
     let is_some = unsafe { (I::AREA_TWO)(points.as_ptr(), points.len(), &mut area) };

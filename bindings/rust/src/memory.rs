@@ -11,6 +11,11 @@ pub(crate) fn with_room<T>(count: usize) -> Result<Vec<T>, Error> {
     Ok(items)
 }
 
+/// Makes room for so many more items, and perhaps for further ones.
+pub(crate) fn try_reserve<T>(items: &mut Vec<T>, count: usize) -> Result<(), Error> {
+    items.try_reserve(count).map_err(|_| Error::NoMemory)
+}
+
 /// The items of a slice in a vector of its length.
 pub(crate) fn copied<T: Copy>(items: &[T]) -> Result<Vec<T>, Error> {
     let mut copy = with_room(items.len())?;

@@ -13,6 +13,7 @@ use i_shape::int::canonical::{CanonicalShape, CanonicalShapes};
 use i_shape::int::despike::{DeSpike, DeSpikeContour, DeSpikeShape, DeSpikeShapes};
 use i_shape::int::path::ContourExtension;
 use i_shape::int::simple::{SimpleContour, SimpleShape, SimpleShapes, Simplify};
+use i_shape::int::winding::ShapeExtension;
 use shared::{FLAT, HOLE, Number, SPIKED, SQUARE, STRAIGHT, at_each_width, contour, point, shapes};
 use std::alloc::{GlobalAlloc, Layout, System};
 use std::cell::Cell;
@@ -173,6 +174,9 @@ fn shapes_and_lists<I: Number>() {
     assert!(growths(|| given[1].try_despiked_shape()) > 0);
     assert!(growths(|| given[0].try_canonical()) > 0);
     assert!(growths(|| given[0].try_canonical_unoriented()) > 0);
+    let about = [point([1, 1])];
+    assert_eq!(growths(|| given[0].try_winding_numbers(&about)), 3);
+    assert_eq!(growths(|| given[0].try_winding_number(about[0])), 0);
     assert_eq!(growths(|| given.try_is_simple()), 0);
     assert_eq!(growths(|| given.try_has_no_spikes()), 0);
 }
@@ -246,4 +250,11 @@ fn batches<I: Number>() {
         answer
     };
     assert_eq!(growths(extended), 3);
+    let extended = || {
+        let mut joined = OwnedShapes::try_from_shapes(&[] as &[&[_]])?;
+        let answer = joined.try_extend(polygons);
+        assert!(answer.is_ok() || joined.as_shapes().is_empty());
+        answer
+    };
+    assert_eq!(growths(extended), 5);
 }

@@ -1,10 +1,10 @@
 //! Contours end to end in one list of points.
 
-use super::offsets::{are_fit, ranges, try_from_lengths, try_rebased};
+use super::offsets::{append, are_fit, ranges, try_from_lengths, try_rebased};
 use crate::calls::{CleanMany, clean_many, holds, overwritten, windings};
 use crate::error::answered;
 use crate::int::{IntNumber, IntPoint};
-use crate::memory::{made_of_each, with_room};
+use crate::memory::{made_of_each, try_reserve, with_room};
 use crate::{Error, FillRule};
 
 /// Contours that lie end to end in borrowed points: contour k is `points[offsets[k]..offsets[k + 1]]`.
@@ -287,18 +287,11 @@ impl<I: IntNumber> OwnedContours<I> {
 
     /// Appends contours. [`Error::NoMemory`] where memory is refused; then nothing is appended.
     pub fn try_extend(&mut self, contours: Contours<'_, I>) -> Result<(), Error> {
-        let (first, end) = (contours.offsets[0], self.points.len());
-        let points = &contours.points[first..];
-        self.points
-            .try_reserve(points.len())
-            .map_err(|_| Error::NoMemory)?;
-        self.offsets
-            .try_reserve(contours.len())
-            .map_err(|_| Error::NoMemory)?;
+        let points = &contours.points[contours.offsets[0]..];
+        try_reserve(&mut self.points, points.len())?;
+        try_reserve(&mut self.offsets, contours.len())?;
+        append(&mut self.offsets, contours.offsets);
         self.points.extend_from_slice(points);
-        let behind = contours.offsets[1..].iter();
-        self.offsets
-            .extend(behind.map(|offset| end + (offset - first)));
         Ok(())
     }
 

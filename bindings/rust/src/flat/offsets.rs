@@ -2,7 +2,7 @@
 
 use crate::Error;
 use crate::error::answered;
-use crate::memory::with_room;
+use crate::memory::{try_reserve, with_room};
 use std::borrow::Cow;
 use std::ops::Range;
 
@@ -25,7 +25,7 @@ pub fn try_from_lengths(lengths: impl IntoIterator<Item = usize>) -> Result<Vec<
     offsets.push(end);
     for length in lengths {
         end = end.checked_add(length).ok_or(Error::Unfit)?;
-        offsets.try_reserve(1).map_err(|_| Error::NoMemory)?;
+        try_reserve(&mut offsets, 1)?;
         offsets.push(end);
     }
     Ok(offsets)
@@ -89,4 +89,10 @@ pub(super) fn try_rebased(offsets: &[usize]) -> Result<Cow<'_, [usize]>, Error> 
     let mut rebased = with_room(offsets.len())?;
     rebased.extend(offsets.iter().map(|offset| offset - first));
     Ok(Cow::Owned(rebased))
+}
+
+/// Appends the ends of the parts that `more` parts, behind the last end of `offsets`. There is room.
+pub(super) fn append(offsets: &mut Vec<usize>, more: &[usize]) {
+    let (end, first) = (offsets[offsets.len() - 1], more[0]);
+    offsets.extend(more[1..].iter().map(|offset| end + (offset - first)));
 }

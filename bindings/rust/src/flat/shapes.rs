@@ -1,13 +1,13 @@
 //! Polygons end to end in one list of points.
 
 use super::contours::Contours;
-use super::offsets::{are_fit, ranges, try_from_lengths, try_rebased};
+use super::offsets::{append, are_fit, ranges, try_from_lengths, try_rebased};
 use crate::Error;
 use crate::calls::{CleanShapes, clean_shapes, holds, overwritten};
 use crate::error::answered;
 use crate::int::shape::{IntContour, IntShapes};
 use crate::int::{IntNumber, IntPoint};
-use crate::memory::{copied, made_of_each, with_room};
+use crate::memory::{copied, made_of_each, try_reserve, with_room};
 
 /// Polygons that lie end to end in borrowed points: polygon j has the contours from `shapes[j]` to `shapes[j + 1]`, its outer contour
 /// first, and contour k is `points[contours[k]..contours[k + 1]]`.
@@ -158,7 +158,8 @@ impl<'a, I: IntNumber> Shapes<'a, I> {
             .map(move |ends| self.contours_of(ends))
     }
 
-    /// The polygons in parts of `length`, the last of them of what is left. Nothing is copied.
+    /// The polygons in parts of `length`, the last of them of what is left. Nothing is copied. Canonical forms of the parts, joined, are
+    /// no canonical form of the list: that is sorted.
     ///
     /// # Panics
     ///
@@ -237,7 +238,22 @@ pub struct OwnedShapes<I> {
     shapes: Vec<usize>,
 }
 
+impl<I: IntNumber> Default for OwnedShapes<I> {
+    fn default() -> Self {
+        OwnedShapes::new()
+    }
+}
+
 impl<I: IntNumber> OwnedShapes<I> {
+    /// No polygon.
+    pub fn new() -> Self {
+        OwnedShapes {
+            points: Vec::new(),
+            contours: vec![0],
+            shapes: vec![0],
+        }
+    }
+
     /// A copy of the polygons, end to end. [`Error::NoMemory`] where memory is refused.
     pub fn try_from_shapes<S: AsRef<[IntContour<I>]>>(shapes: &[S]) -> Result<Self, Error> {
         let ends = try_from_lengths(shapes.iter().map(|shape| shape.as_ref().len()))?;
@@ -267,6 +283,29 @@ impl<I: IntNumber> OwnedShapes<I> {
     #[track_caller]
     pub fn from_shapes<S: AsRef<[IntContour<I>]>>(shapes: &[S]) -> Self {
         answered(OwnedShapes::try_from_shapes(shapes))
+    }
+
+    /// Appends polygons. [`Error::NoMemory`] where memory is refused; then nothing is appended.
+    pub fn try_extend(&mut self, polygons: Shapes<'_, I>) -> Result<(), Error> {
+        let contours = &polygons.contours[polygons.shapes[0]..];
+        let points = &polygons.points[contours[0]..];
+        try_reserve(&mut self.points, points.len())?;
+        try_reserve(&mut self.contours, contours.len() - 1)?;
+        try_reserve(&mut self.shapes, polygons.len())?;
+        append(&mut self.contours, contours);
+        append(&mut self.shapes, polygons.shapes);
+        self.points.extend_from_slice(points);
+        Ok(())
+    }
+
+    /// Appends polygons.
+    ///
+    /// # Panics
+    ///
+    /// Where [`try_extend`](OwnedShapes::try_extend) refuses, with the error's text.
+    #[track_caller]
+    pub fn extend(&mut self, polygons: Shapes<'_, I>) {
+        answered(self.try_extend(polygons));
     }
 
     /// The same polygons, borrowed.

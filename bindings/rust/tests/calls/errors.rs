@@ -9,6 +9,7 @@ use i_shape::int::despike::{DeSpike, DeSpikeContour, DeSpikeShape, DeSpikeShapes
 use i_shape::int::path::ContourExtension;
 use i_shape::int::shape::{IntContour, IntShape};
 use i_shape::int::simple::{ContourSimplifier, SimpleContour, SimpleShape, SimpleShapes, Simplify};
+use i_shape::int::winding::ShapeExtension;
 use i_shape::{Error, FillRule};
 use std::panic::{AssertUnwindSafe, catch_unwind};
 
@@ -108,6 +109,31 @@ fn shapes_with_an_unsafe_point<I: Number>() {
     refuses!(error, shape, try_despiked_shape, despiked_shape);
     refuses!(error, shape, try_canonical, canonical);
     refuses!(error, shape, try_canonical_unoriented, canonical_unoriented);
+    let inside = point([1, 1]);
+    refuses!(error, shape, try_winding_number, winding_number, inside);
+    refuses!(
+        error,
+        shape,
+        try_contains_by,
+        contains_by,
+        inside,
+        FillRule::EvenOdd
+    );
+    refuses!(
+        error,
+        shape,
+        try_winding_numbers,
+        winding_numbers,
+        &[inside]
+    );
+    refuses!(
+        error,
+        shape,
+        try_contains_points,
+        contains_points,
+        &[inside],
+        FillRule::EvenOdd
+    );
     let mut left = shape.clone();
     refuses!(error, left, try_simplify_contour, simplify_contour);
     refuses!(error, left, try_remove_spikes, remove_spikes);

@@ -273,12 +273,16 @@ fn parts_of_polygons<I: Number>() {
     ]);
     let flat = OwnedShapes::from_shapes(&given);
     for length in 1..7 {
-        let parts = flat.as_shapes().chunks(length);
-        let left: Vec<_> = parts
-            .flat_map(|part| part.simplified().to_shapes())
-            .collect();
-        assert_eq!(left, flat.as_shapes().simplified().to_shapes());
+        let mut joined = OwnedShapes::new();
+        let mut left = OwnedShapes::new();
+        for part in flat.as_shapes().chunks(length) {
+            joined.extend(part);
+            left.extend(part.simplified().as_shapes());
+        }
+        assert_eq!(joined, flat);
+        assert_eq!(left, flat.as_shapes().simplified());
     }
+    assert_eq!(OwnedShapes::<I>::default().as_shapes().chunks(2).count(), 0);
     let counts: Vec<_> = flat
         .as_shapes()
         .iter()

@@ -1,8 +1,10 @@
 //! Calls on shapes and lists of shapes.
 
 use crate::shared::{
-    FLAT, HOLE, Number, SPIKED, SQUARE, STRAIGHT, TURNED, Written, at_each_width, shape, shapes,
+    FLAT, HOLE, Number, SPIKED, SQUARE, STAR, STRAIGHT, TURNED, Written, at_each_width, point,
+    shape, shapes,
 };
+use i_shape::FillRule;
 use i_shape::int::area::Area;
 use i_shape::int::canonical::{CanonicalShape, CanonicalShapes};
 use i_shape::int::count::PointsCount;
@@ -10,6 +12,7 @@ use i_shape::int::despike::{DeSpike, DeSpikeShape, DeSpikeShapes};
 use i_shape::int::safe_range::IntSafeRange;
 use i_shape::int::shape::IntShapes;
 use i_shape::int::simple::{SimpleShape, SimpleShapes, Simplify};
+use i_shape::int::winding::ShapeExtension;
 
 at_each_width!(
     cleaned,
@@ -17,7 +20,8 @@ at_each_width!(
     cleaned_in_place,
     tested,
     canonical_forms,
-    measured
+    measured,
+    wound_about
 );
 
 const GIVEN: [&[&Written]; 4] = [
@@ -134,6 +138,28 @@ fn measured<I: Number>() {
     assert_eq!(given.try_area(), Ok(given.area()));
     assert_eq!(given[0].points_count(), 7);
     assert_eq!(given.points_count(), 13);
+}
+
+fn wound_about<I: Number>() {
+    // a square and a star that winds twice about its middle
+    let given = shape::<I>(&[&SQUARE, &STAR]);
+    let about = [[2, 2], [-1, 0], [0, 8], [5, 9]].map(point::<I>);
+    let numbers = [3, 2, 1, 0];
+    let odd = [true, false, true, false];
+    assert_eq!(given.winding_numbers(&about), numbers);
+    assert_eq!(given.try_winding_numbers(&about), Ok(numbers.to_vec()));
+    assert_eq!(given.contains_points(&about, FillRule::EvenOdd), odd);
+    assert_eq!(
+        given.try_contains_points(&about, FillRule::EvenOdd),
+        Ok(odd.to_vec())
+    );
+    for ((point, number), is_odd) in about.into_iter().zip(numbers).zip(odd) {
+        assert_eq!(given.winding_number(point), number);
+        assert_eq!(given.try_winding_number(point), Ok(number));
+        assert_eq!(given.contains_by(point, FillRule::EvenOdd), is_odd);
+        assert_eq!(given.try_contains_by(point, FillRule::EvenOdd), Ok(is_odd));
+    }
+    assert_eq!(shape::<I>(&[]).winding_number(about[0]), 0);
 }
 
 #[test]

@@ -1,0 +1,96 @@
+//! How often the contours of a shape wind about points together, and which points a fill rule fills by that.
+
+use super::shape::IntContour;
+use super::{IntNumber, IntPoint};
+use crate::error::answered;
+use crate::flat::OwnedContours;
+use crate::int::path::ContourExtension;
+use crate::{Error, FillRule};
+
+/// How often the contours of a shape wind about points together, and which points a fill rule fills by that.
+///
+/// Each call refuses with [`Error::UnsafePoint`] where a point of the shape or one that is asked about isn't safe. Those about many
+/// points copy the contours, and refuse with [`Error::NoMemory`] where memory is refused.
+pub trait ShapeExtension<I: IntNumber> {
+    /// The sum of the contours' winding numbers about `point`.
+    fn try_winding_number(&self, point: IntPoint<I>) -> Result<isize, Error>;
+
+    /// The sum of the contours' winding numbers about `point`.
+    ///
+    /// # Panics
+    ///
+    /// Where [`try_winding_number`](ShapeExtension::try_winding_number) refuses, with the error's text.
+    #[track_caller]
+    fn winding_number(&self, point: IntPoint<I>) -> isize {
+        answered(self.try_winding_number(point))
+    }
+
+    /// Whether a fill rule fills `point`.
+    fn try_contains_by(&self, point: IntPoint<I>, rule: FillRule) -> Result<bool, Error> {
+        Ok(rule.fills(self.try_winding_number(point)?))
+    }
+
+    /// Whether a fill rule fills `point`.
+    ///
+    /// # Panics
+    ///
+    /// Where [`try_contains_by`](ShapeExtension::try_contains_by) refuses, with the error's text.
+    #[track_caller]
+    fn contains_by(&self, point: IntPoint<I>, rule: FillRule) -> bool {
+        answered(self.try_contains_by(point, rule))
+    }
+
+    /// The sum of the contours' winding numbers about each of the points.
+    fn try_winding_numbers(&self, points: &[IntPoint<I>]) -> Result<Vec<isize>, Error>;
+
+    /// The sum of the contours' winding numbers about each of the points.
+    ///
+    /// # Panics
+    ///
+    /// Where [`try_winding_numbers`](ShapeExtension::try_winding_numbers) refuses, with the error's text.
+    #[track_caller]
+    fn winding_numbers(&self, points: &[IntPoint<I>]) -> Vec<isize> {
+        answered(self.try_winding_numbers(points))
+    }
+
+    /// Which of the points a fill rule fills.
+    fn try_contains_points(
+        &self,
+        points: &[IntPoint<I>],
+        rule: FillRule,
+    ) -> Result<Vec<bool>, Error>;
+
+    /// Which of the points a fill rule fills.
+    ///
+    /// # Panics
+    ///
+    /// Where [`try_contains_points`](ShapeExtension::try_contains_points) refuses, with the error's text.
+    #[track_caller]
+    fn contains_points(&self, points: &[IntPoint<I>], rule: FillRule) -> Vec<bool> {
+        answered(self.try_contains_points(points, rule))
+    }
+}
+
+impl<I: IntNumber> ShapeExtension<I> for [IntContour<I>] {
+    fn try_winding_number(&self, point: IntPoint<I>) -> Result<isize, Error> {
+        self.iter()
+            .map(|contour| contour.try_winding_number(point))
+            .sum()
+    }
+
+    fn try_winding_numbers(&self, points: &[IntPoint<I>]) -> Result<Vec<isize>, Error> {
+        OwnedContours::try_from_contours(self)?
+            .as_contours()
+            .try_winding_numbers(points)
+    }
+
+    fn try_contains_points(
+        &self,
+        points: &[IntPoint<I>],
+        rule: FillRule,
+    ) -> Result<Vec<bool>, Error> {
+        OwnedContours::try_from_contours(self)?
+            .as_contours()
+            .try_contains_points(points, rule)
+    }
+}
