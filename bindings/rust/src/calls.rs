@@ -1,5 +1,5 @@
-//! The calls of the C library at each width, and over them functions that pass the pointers and counts of slices. Each of these
-//! answers what `include/i_shape.h` says, with its codes as errors.
+//! The calls of the C library at each width, and over them functions that pass the pointers and
+//! counts of slices. Each of these answers what `include/i_shape.h` says, with its codes as errors.
 
 use crate::Error;
 use crate::int::{IntNumber, IntPoint};
@@ -37,6 +37,12 @@ pub(crate) type CleanShapes<I> = unsafe extern "C" fn(
 
 pub(crate) type Test<I> = unsafe extern "C" fn(*const IntPoint<I>, usize) -> i32;
 
+pub(crate) type Contains<I> = unsafe extern "C" fn(*const IntPoint<I>, usize, I, I) -> i32;
+
+pub(crate) type Winding<I> = unsafe extern "C" fn(*const IntPoint<I>, usize, I, I) -> isize;
+
+pub(crate) type AreaTwo<I, A> = unsafe extern "C" fn(*const IntPoint<I>, usize, *mut A) -> bool;
+
 pub(crate) type Windings<I> = unsafe extern "C" fn(
     *const IntPoint<I>,
     usize,
@@ -67,10 +73,10 @@ pub trait Calls: Copy + Ord + fmt::Debug + 'static {
     const HAS_NO_SPIKES: Test<Self>;
     const IS_CONVEX: Test<Self>;
     const IS_SAFE: Test<Self>;
-    const CONTAINS: unsafe extern "C" fn(*const IntPoint<Self>, usize, Self, Self) -> i32;
-    const WINDING: unsafe extern "C" fn(*const IntPoint<Self>, usize, Self, Self) -> isize;
+    const CONTAINS: Contains<Self>;
+    const WINDING: Winding<Self>;
     const WINDINGS: Windings<Self>;
-    const AREA_TWO: unsafe extern "C" fn(*const IntPoint<Self>, usize, *mut Self::Area) -> bool;
+    const AREA_TWO: AreaTwo<Self, Self::Area>;
 }
 
 /// The two halves of the 128 bits of a number.
@@ -165,22 +171,33 @@ macro_rules! calls {
                 $number, $width, simplify "simplify_i", despike "despike_i", canonical "canonical_i"
             );
             cleaners_of_many!(
-                $number, $width, simplify_contours "simplify_contours_i", despike_contours "despike_contours_i",
-                canonical_contours "canonical_contours_i"
+                $number, $width, simplify_contours "simplify_contours_i",
+                despike_contours "despike_contours_i", canonical_contours "canonical_contours_i"
             );
             cleaners_of_shapes!(
-                $number, $width, simplify_shapes "simplify_shapes_i", despike_shapes "despike_shapes_i",
-                canonical_shapes "canonical_shapes_i", canonical_unoriented_shapes "canonical_unoriented_shapes_i"
+                $number, $width, simplify_shapes "simplify_shapes_i",
+                despike_shapes "despike_shapes_i", canonical_shapes "canonical_shapes_i",
+                canonical_unoriented_shapes "canonical_unoriented_shapes_i"
             );
             tests!(
-                $number, $width, is_simple "is_simple_i", has_no_spikes "has_no_spikes_i", is_convex "is_convex_i",
-                is_safe "is_safe_i"
+                $number, $width, is_simple "is_simple_i", has_no_spikes "has_no_spikes_i",
+                is_convex "is_convex_i", is_safe "is_safe_i"
             );
             unsafe extern "C" {
                 #[link_name = concat!("i_shape_contains_i", $width)]
-                fn contains(points: *const IntPoint<$number>, count: usize, x: $number, y: $number) -> i32;
+                fn contains(
+                    points: *const IntPoint<$number>,
+                    count: usize,
+                    x: $number,
+                    y: $number,
+                ) -> i32;
                 #[link_name = concat!("i_shape_winding_i", $width)]
-                fn winding(points: *const IntPoint<$number>, count: usize, x: $number, y: $number) -> isize;
+                fn winding(
+                    points: *const IntPoint<$number>,
+                    count: usize,
+                    x: $number,
+                    y: $number,
+                ) -> isize;
                 #[link_name = concat!("i_shape_windings_i", $width)]
                 fn windings(
                     points: *const IntPoint<$number>,
@@ -193,7 +210,11 @@ macro_rules! calls {
                     room: usize,
                 ) -> i32;
                 #[link_name = concat!("i_shape_area_two_i", $width)]
-                fn area_two(points: *const IntPoint<$number>, count: usize, area: *mut $area) -> bool;
+                fn area_two(
+                    points: *const IntPoint<$number>,
+                    count: usize,
+                    area: *mut $area,
+                ) -> bool;
             }
 
             impl Calls for $number {
@@ -213,13 +234,10 @@ macro_rules! calls {
                 const HAS_NO_SPIKES: Test<Self> = has_no_spikes;
                 const IS_CONVEX: Test<Self> = is_convex;
                 const IS_SAFE: Test<Self> = is_safe;
-                const CONTAINS: unsafe extern "C" fn(*const IntPoint<Self>, usize, Self, Self) -> i32 =
-                    contains;
-                const WINDING: unsafe extern "C" fn(*const IntPoint<Self>, usize, Self, Self) -> isize =
-                    winding;
+                const CONTAINS: Contains<Self> = contains;
+                const WINDING: Winding<Self> = winding;
                 const WINDINGS: Windings<Self> = windings;
-                const AREA_TWO: unsafe extern "C" fn(*const IntPoint<Self>, usize, *mut $area) -> bool =
-                    area_two;
+                const AREA_TWO: AreaTwo<Self, Self::Area> = area_two;
             }
         };
     };
@@ -254,10 +272,12 @@ fn told(answer: i32) -> Result<bool, Error> {
     number(answer as isize).map(|one| one == 1)
 }
 
-/// Items that a call may overwrite. It writes whole items alone, so none becomes one that isn't initialized.
+/// Items that a call may overwrite. It writes whole items alone, so none becomes one that isn't
+/// initialized.
 pub(crate) fn overwritten<T>(items: &mut [T]) -> &mut [MaybeUninit<T>] {
     let count = items.len();
-    // SAFETY: the layout is the same, and private functions alone see the slice, which write no item that isn't initialized.
+    // SAFETY: the layout is the same, and private functions alone see the slice, which write no
+    // item that isn't initialized.
     unsafe { std::slice::from_raw_parts_mut(items.as_mut_ptr().cast(), count) }
 }
 
@@ -267,7 +287,8 @@ pub(crate) fn clean_one<I: Calls>(
     points: &[IntPoint<I>],
     out: &mut [MaybeUninit<IntPoint<I>>],
 ) -> Result<usize, Error> {
-    // SAFETY: each pointer and count is of one slice, and `out` overlaps no other slice, being borrowed alone.
+    // SAFETY: each pointer and count is of one slice, and `out` overlaps no other slice, being
+    // borrowed alone.
     number(unsafe {
         call(
             points.as_ptr(),
@@ -278,7 +299,8 @@ pub(crate) fn clean_one<I: Calls>(
     })
 }
 
-/// Cleans contours to the front of `out_points` and `out_offsets`, and answers how many points it has written there.
+/// Cleans contours to the front of `out_points` and `out_offsets`, and answers how many points it
+/// has written there.
 pub(crate) fn clean_many<I: Calls>(
     call: CleanMany<I>,
     points: &[IntPoint<I>],
@@ -301,7 +323,8 @@ pub(crate) fn clean_many<I: Calls>(
     })
 }
 
-/// Cleans polygons to the front of the three slices, and answers how many polygons it has written there.
+/// Cleans polygons to the front of the three slices, and answers how many polygons it has written
+/// there.
 pub(crate) fn clean_shapes<I: Calls>(
     call: CleanShapes<I>,
     points: &[IntPoint<I>],

@@ -2,13 +2,16 @@
 
 use std::fmt;
 
-/// Why a call refuses. What a call was lent to write is as it was after each of them, but where the call says otherwise.
+/// Why a call refuses. What a call was lent to write is as it was after each of them, but where the
+/// call says otherwise.
 #[derive(Clone, Copy, Debug, PartialEq, Eq, Hash)]
 pub enum Error {
-    /// A point that the call reads has a coordinate outside the safe range, which lies strictly between -2^(W-2) and 2^(W-2)
-    /// at W bits. [`IntPoint::is_in_safe_range`](crate::int::IntPoint::is_in_safe_range) says which point.
+    /// A point that the call reads has a coordinate outside the safe range, which lies strictly
+    /// between -2^(W-2) and 2^(W-2) at W bits.
+    /// [`IntPoint::is_in_safe_range`](crate::int::IntPoint::is_in_safe_range) says which point.
     UnsafePoint,
-    /// Offsets don't part what they are offsets of, or a slice that the call writes is too short. It is tested first.
+    /// Offsets don't part what they are offsets of, or a slice that the call writes is too short.
+    /// It is tested first.
     Unfit,
     /// Memory was refused.
     NoMemory,

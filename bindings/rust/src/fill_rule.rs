@@ -1,6 +1,7 @@
 //! The fill rules of overlays.
 
-/// Which points the contours of a shape fill, by how often they wind about a point together, to the left.
+/// Which points the contours of a shape fill, by how often they wind about a point together, to the
+/// left.
 #[derive(Clone, Copy, Debug, PartialEq, Eq, Hash)]
 pub enum FillRule {
     /// Those about which they wind an odd number of times.

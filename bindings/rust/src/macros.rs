@@ -4,7 +4,9 @@
 #[macro_export]
 macro_rules! int_path {
     ($([$x:expr, $y:expr]),* $(,)?) => {
-        <$crate::int::shape::IntContour<_> as ::core::convert::From<_>>::from([$($crate::int::IntPoint::new($x, $y)),*])
+        <$crate::int::shape::IntContour<_> as ::core::convert::From<_>>::from([
+            $($crate::int::IntPoint::new($x, $y)),*
+        ])
     };
 }
 
@@ -12,7 +14,9 @@ macro_rules! int_path {
 #[macro_export]
 macro_rules! int_shape {
     ($([$([$x:expr, $y:expr]),* $(,)?]),* $(,)?) => {
-        <$crate::int::shape::IntShape<_> as ::core::convert::From<_>>::from([$($crate::int_path![$([$x, $y]),*]),*])
+        <$crate::int::shape::IntShape<_> as ::core::convert::From<_>>::from([
+            $($crate::int_path![$([$x, $y]),*]),*
+        ])
     };
 }
 
@@ -20,7 +24,9 @@ macro_rules! int_shape {
 #[macro_export]
 macro_rules! int_shapes {
     ($([$([$([$x:expr, $y:expr]),* $(,)?]),* $(,)?]),* $(,)?) => {
-        <$crate::int::shape::IntShapes<_> as ::core::convert::From<_>>::from([$($crate::int_shape![$([$([$x, $y]),*]),*]),*])
+        <$crate::int::shape::IntShapes<_> as ::core::convert::From<_>>::from([
+            $($crate::int_shape![$([$([$x, $y]),*]),*]),*
+        ])
     };
 }
 
@@ -28,7 +34,9 @@ macro_rules! int_shapes {
 #[macro_export]
 macro_rules! path {
     ($($point:expr),* $(,)?) => {
-        <$crate::base::data::Path<_> as ::core::convert::From<_>>::from([$($point),*])
+        <$crate::base::data::Path<_> as ::core::convert::From<_>>::from([
+            $($point),*
+        ])
     };
 }
 
@@ -36,6 +44,8 @@ macro_rules! path {
 #[macro_export]
 macro_rules! paths {
     ($([$($point:expr),* $(,)?]),* $(,)?) => {
-        <$crate::base::data::Paths<_> as ::core::convert::From<_>>::from([$($crate::path![$($point),*]),*])
+        <$crate::base::data::Paths<_> as ::core::convert::From<_>>::from([
+            $($crate::path![$($point),*]),*
+        ])
     };
 }

@@ -1,5 +1,5 @@
-//! Each growth of memory that a call asks for, of this crate's vectors and inside the C library, is refused in turn: the call answers
-//! `Error::NoMemory`. Where none is refused it succeeds.
+//! Each growth of memory that a call asks for, of this crate's vectors and inside the C library, is
+//! refused in turn: the call answers `Error::NoMemory`. Where none is refused it succeeds.
 
 #[allow(dead_code)]
 #[path = "calls/shared.rs"]
@@ -64,7 +64,8 @@ unsafe impl GlobalAlloc for Refusing {
 #[global_allocator]
 static ALLOCATOR: Refusing = Refusing;
 
-/// What the C library is answered by an allocator of the host's own, which stands in place of the archive's.
+/// What the C library is answered by an allocator of the host's own, which stands in place of the
+/// archive's.
 #[repr(C)]
 struct Tried {
     ok: usize,

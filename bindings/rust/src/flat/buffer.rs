@@ -1,6 +1,6 @@
-//! Buffers that grow: points end to end, and ranges that name contours and shapes. They are lists of std and nothing else; what is
-//! cleaned is [`Contours`](super::Contours) of the same points, by the offsets that
-//! [`from_ranges`](super::offsets::from_ranges) makes.
+//! Buffers that grow: points end to end, and ranges that name contours and shapes. They are lists
+//! of std and nothing else; what is cleaned is [`Contours`](super::Contours) of the same points, by
+//! the offsets that [`from_ranges`](super::offsets::from_ranges) makes.
 
 use super::offsets::ranges;
 use super::{OwnedContours, OwnedShapes};

@@ -7,11 +7,12 @@ use crate::int::{IntNumber, IntPoint};
 use crate::memory::{made_of_each, try_reserve, with_room};
 use crate::{Error, FillRule};
 
-/// Contours that lie end to end in borrowed points: contour k is `points[offsets[k]..offsets[k + 1]]`.
+/// Contours that lie end to end in borrowed points: contour k is `points[offsets[k]..offsets[k +
+/// 1]]`.
 #[derive(Debug, PartialEq, Eq)]
 pub struct Contours<'a, I> {
-    points: &'a [IntPoint<I>],
-    offsets: &'a [usize],
+    pub(super) points: &'a [IntPoint<I>],
+    pub(super) offsets: &'a [usize],
 }
 
 impl<I> Clone for Contours<'_, I> {
@@ -24,40 +25,60 @@ impl<I> Copy for Contours<'_, I> {}
 
 /// The methods of a cleaner: its name and those of its methods, and what it leaves of a contour.
 macro_rules! cleaners {
-    ($($call:ident: $try_cleaned:ident, $cleaned:ident, $try_into:ident, $into:ident, $answer:literal;)*) => {
+    ($(
+        $call:ident: $try_cleaned:ident, $cleaned:ident, $try_into:ident, $into:ident,
+        $answer:literal;
+    )*) => {
         $(
-            #[doc = concat!("Each contour ", $answer, ". A contour that collapses is empty, at its place.")]
+            #[doc = concat!("Each contour ", $answer, ".")]
+            /// A contour that collapses is empty, at its place.
             ///
-            /// [`Error::UnsafePoint`] where a point of a contour isn't safe, [`Error::NoMemory`] where memory is refused.
+            /// [`Error::UnsafePoint`] where a point of a contour isn't safe, [`Error::NoMemory`]
+            /// where memory is refused.
             pub fn $try_cleaned(self) -> Result<OwnedContours<I>, Error> {
                 self.try_cleaned(I::$call)
             }
 
-            #[doc = concat!("Each contour ", $answer, ". A contour that collapses is empty, at its place.")]
+            #[doc = concat!("Each contour ", $answer, ".")]
+            /// A contour that collapses is empty, at its place.
             ///
             /// # Panics
             ///
-            #[doc = concat!("Where [`", stringify!($try_cleaned), "`](Contours::", stringify!($try_cleaned), ") refuses, with the error's text.")]
+            #[doc = concat!("Where [`Self::", stringify!($try_cleaned), "`] refuses, with the error's text.")]
             #[track_caller]
             pub fn $cleaned(self) -> OwnedContours<I> {
                 answered(self.$try_cleaned())
             }
 
-            #[doc = concat!("Writes each contour ", $answer, " to the front of `out_points`, end to end, and the offsets from 0 on to the front of `out_offsets`. ")]
-            /// It answers how many points these are. Where each contour is clean or has fewer than three points, it takes no memory.
+            #[doc = concat!("Writes each contour ", $answer, ",")]
+            /// to the front of `out_points`, end to end, and the offsets from 0 on to the front of `out_offsets`.
+            /// It answers how many points these are. Where each contour is clean or has fewer than
+            /// three points, it takes no memory.
             ///
-            /// [`Error::Unfit`] where `out_points` is shorter than [`points`](Contours::points) or `out_offsets` than
-            /// [`offsets`](Contours::offsets); [`Error::UnsafePoint`] where a point of a contour isn't safe; [`Error::NoMemory`]
-            /// where memory is refused: then so much of the front of both may be written.
-            pub fn $try_into(self, out_points: &mut [IntPoint<I>], out_offsets: &mut [usize]) -> Result<usize, Error> {
-                clean_many(I::$call, self.points, self.offsets, overwritten(out_points), overwritten(out_offsets))
+            /// [`Error::Unfit`] where `out_points` is shorter than [`points`](Contours::points) or
+            /// `out_offsets` than [`offsets`](Contours::offsets); [`Error::UnsafePoint`] where a
+            /// point of a contour isn't safe; [`Error::NoMemory`] where memory is refused: then so
+            /// much of the front of both may be written.
+            pub fn $try_into(
+                self,
+                out_points: &mut [IntPoint<I>],
+                out_offsets: &mut [usize],
+            ) -> Result<usize, Error> {
+                clean_many(
+                    I::$call,
+                    self.points,
+                    self.offsets,
+                    overwritten(out_points),
+                    overwritten(out_offsets),
+                )
             }
 
-            #[doc = concat!("Writes each contour ", $answer, " to the front of `out_points`, and the offsets to that of `out_offsets`.")]
+            #[doc = concat!("Writes each contour ", $answer, ",")]
+            /// to the front of `out_points`, and the offsets to that of `out_offsets`.
             ///
             /// # Panics
             ///
-            #[doc = concat!("Where [`", stringify!($try_into), "`](Contours::", stringify!($try_into), ") refuses, with the error's text.")]
+            #[doc = concat!("Where [`Self::", stringify!($try_into), "`] refuses, with the error's text.")]
             #[track_caller]
             pub fn $into(self, out_points: &mut [IntPoint<I>], out_offsets: &mut [usize]) -> usize {
                 answered(self.$try_into(out_points, out_offsets))
@@ -67,8 +88,8 @@ macro_rules! cleaners {
 }
 
 impl<'a, I: IntNumber> Contours<'a, I> {
-    /// The contours that the offsets part the points into. Points outside the offsets aren't read. [`Error::Unfit`] where the offsets
-    /// aren't [fit](super::offsets::are_fit) for the points.
+    /// The contours that the offsets part the points into. Points outside the offsets aren't read.
+    /// [`Error::Unfit`] where the offsets aren't [fit](super::offsets::are_fit) for the points.
     pub fn try_new(points: &'a [IntPoint<I>], offsets: &'a [usize]) -> Result<Self, Error> {
         match offsets.last() {
             Some(&last) if are_fit(offsets, points.len()) => Ok(Contours {
@@ -142,17 +163,20 @@ impl<'a, I: IntNumber> Contours<'a, I> {
     }
 
     cleaners! {
-        SIMPLIFY_CONTOURS: try_simplified, simplified, try_simplify_into, simplify_into, "without zero turns";
+        SIMPLIFY_CONTOURS: try_simplified, simplified, try_simplify_into, simplify_into,
+            "without zero turns";
         DESPIKE_CONTOURS: try_despiked, despiked, try_despike_into, despike_into,
             "without the points at which it turns back or stands still";
         CANONICAL_CONTOURS: try_canonical, canonical, try_canonical_into, canonical_into,
-            "without zero turns, from the start at which it is least by x and then y, point by point";
+            "without zero turns, from the start at which it is least, by x and then y";
     }
 
-    /// How often the contours together wind about each of the points: what a fill rule asks of the contours of a shape.
+    /// How often the contours together wind about each of the points: what a fill rule asks of the
+    /// contours of a shape.
     ///
-    /// [`Error::UnsafePoint`] where a point of a contour or one of `about` isn't safe, [`Error::NoMemory`] where there is none for the
-    /// answer. It passes over the contours once for each point.
+    /// [`Error::UnsafePoint`] where a point of a contour or one of `about` isn't safe,
+    /// [`Error::NoMemory`] where there is none for the answer. It passes over the contours once for
+    /// each point.
     pub fn try_winding_numbers(self, about: &[IntPoint<I>]) -> Result<Vec<isize>, Error> {
         let mut numbers = with_room(about.len())?;
         windings(
@@ -176,10 +200,11 @@ impl<'a, I: IntNumber> Contours<'a, I> {
         answered(self.try_winding_numbers(about))
     }
 
-    /// Writes how often the contours together wind about each of the points to the front of `out`. It takes no memory.
+    /// Writes how often the contours together wind about each of the points to the front of `out`.
+    /// It takes no memory.
     ///
-    /// [`Error::Unfit`] where `out` is shorter than `about`, [`Error::UnsafePoint`] where a point of a contour or one of `about` isn't
-    /// safe.
+    /// [`Error::Unfit`] where `out` is shorter than `about`, [`Error::UnsafePoint`] where a point
+    /// of a contour or one of `about` isn't safe.
     pub fn try_winding_numbers_into(
         self,
         about: &[IntPoint<I>],
@@ -192,13 +217,15 @@ impl<'a, I: IntNumber> Contours<'a, I> {
     ///
     /// # Panics
     ///
-    /// Where [`try_winding_numbers_into`](Contours::try_winding_numbers_into) refuses, with the error's text.
+    /// Where [`try_winding_numbers_into`](Contours::try_winding_numbers_into) refuses, with the
+    /// error's text.
     #[track_caller]
     pub fn winding_numbers_into(self, about: &[IntPoint<I>], out: &mut [isize]) {
         answered(self.try_winding_numbers_into(about, out));
     }
 
-    /// Which of the points a fill rule fills. It refuses as [`try_winding_numbers`](Contours::try_winding_numbers) does.
+    /// Which of the points a fill rule fills. It refuses as
+    /// [`try_winding_numbers`](Contours::try_winding_numbers) does.
     pub fn try_contains_points(
         self,
         about: &[IntPoint<I>],
@@ -279,7 +306,8 @@ impl<I: IntNumber> OwnedContours<I> {
     ///
     /// # Panics
     ///
-    /// Where [`try_from_contours`](OwnedContours::try_from_contours) refuses, with the error's text.
+    /// Where [`try_from_contours`](OwnedContours::try_from_contours) refuses, with the error's
+    /// text.
     #[track_caller]
     pub fn from_contours<C: AsRef<[IntPoint<I>]>>(contours: &[C]) -> Self {
         answered(OwnedContours::try_from_contours(contours))

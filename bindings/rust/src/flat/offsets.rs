@@ -6,14 +6,14 @@ use crate::memory::{try_reserve, with_room};
 use std::borrow::Cow;
 use std::ops::Range;
 
-/// Whether the offsets part the first `count` items or fewer: there is one, none is below the one before it, and the last is at most
-/// `count`. The first may be above 0.
+/// Whether the offsets part the first `count` items or fewer: there is one, none is below the one
+/// before it, and the last is at most `count`. The first may be above 0.
 pub fn are_fit(offsets: &[usize], count: usize) -> bool {
     offsets.is_sorted() && offsets.last().is_some_and(|&last| last <= count)
 }
 
-/// The offsets of parts with these lengths, from 0 on. [`Error::Unfit`] where the lengths add up to more than a `usize` holds,
-/// [`Error::NoMemory`] where memory is refused.
+/// The offsets of parts with these lengths, from 0 on. [`Error::Unfit`] where the lengths add up to
+/// more than a `usize` holds, [`Error::NoMemory`] where memory is refused.
 ///
 /// ```
 /// assert_eq!(i_shape::flat::offsets::try_from_lengths([3, 0, 4]), Ok(vec![0, 3, 3, 7]));
@@ -41,9 +41,9 @@ pub fn from_lengths(lengths: impl IntoIterator<Item = usize>) -> Vec<usize> {
     answered(try_from_lengths(lengths))
 }
 
-/// The offsets of the parts that the ranges name, as a [`buffer`](super::buffer) has them. [`Error::Unfit`] where a range ends before
-/// its start or starts elsewhere than where the one before it ends, [`Error::NoMemory`] where memory is refused. Of no range the
-/// offsets are `[0]`.
+/// The offsets of the parts that the ranges name, as a [`buffer`](super::buffer) has them.
+/// [`Error::Unfit`] where a range ends before its start or starts elsewhere than where the one
+/// before it ends, [`Error::NoMemory`] where memory is refused. Of no range the offsets are `[0]`.
 ///
 /// ```
 /// use i_shape::{Error, flat::offsets::try_from_ranges};
@@ -91,7 +91,8 @@ pub(super) fn try_rebased(offsets: &[usize]) -> Result<Cow<'_, [usize]>, Error> 
     Ok(Cow::Owned(rebased))
 }
 
-/// Appends the ends of the parts that `more` parts, behind the last end of `offsets`. There is room.
+/// Appends the ends of the parts that `more` parts, behind the last end of `offsets`. There is
+/// room.
 pub(super) fn append(offsets: &mut Vec<usize>, more: &[usize]) {
     let (end, first) = (offsets[offsets.len() - 1], more[0]);
     offsets.extend(more[1..].iter().map(|offset| end + (offset - first)));

@@ -9,8 +9,9 @@ use crate::int::shape::{IntContour, IntShapes};
 use crate::int::{IntNumber, IntPoint};
 use crate::memory::{copied, made_of_each, try_reserve, with_room};
 
-/// Polygons that lie end to end in borrowed points: polygon j has the contours from `shapes[j]` to `shapes[j + 1]`, its outer contour
-/// first, and contour k is `points[contours[k]..contours[k + 1]]`.
+/// Polygons that lie end to end in borrowed points: polygon j has the contours from `shapes[j]` to
+/// `shapes[j + 1]`, its outer contour first, and contour k is `points[contours[k]..contours[k +
+/// 1]]`.
 #[derive(Debug, PartialEq, Eq)]
 pub struct Shapes<'a, I> {
     points: &'a [IntPoint<I>],
@@ -28,34 +29,43 @@ impl<I> Copy for Shapes<'_, I> {}
 
 /// The methods of a cleaner: its name and those of its methods, and what it leaves of the polygons.
 macro_rules! cleaners {
-    ($($call:ident: $try_cleaned:ident, $cleaned:ident, $try_into:ident, $into:ident, $answer:literal;)*) => {
+    ($(
+        $call:ident: $try_cleaned:ident, $cleaned:ident, $try_into:ident, $into:ident,
+        $answer:literal;
+    )*) => {
         $(
             #[doc = concat!("The polygons ", $answer, ".")]
-            /// Holes that collapse are left out, and so are polygons whose outer contour collapses. An empty polygon stays.
+            /// Holes that collapse are left out, and so are polygons whose outer contour collapses.
+            /// An empty polygon stays.
             ///
-            /// [`Error::UnsafePoint`] where a point of a polygon isn't safe, [`Error::NoMemory`] where memory is refused.
+            /// [`Error::UnsafePoint`] where a point of a polygon isn't safe, [`Error::NoMemory`]
+            /// where memory is refused.
             pub fn $try_cleaned(self) -> Result<OwnedShapes<I>, Error> {
                 self.try_cleaned(I::$call)
             }
 
             #[doc = concat!("The polygons ", $answer, ".")]
-            /// Holes that collapse are left out, and so are polygons whose outer contour collapses. An empty polygon stays.
+            /// Holes that collapse are left out, and so are polygons whose outer contour collapses.
+            /// An empty polygon stays.
             ///
             /// # Panics
             ///
-            #[doc = concat!("Where [`", stringify!($try_cleaned), "`](Shapes::", stringify!($try_cleaned), ") refuses, with the error's text.")]
+            #[doc = concat!("Where [`Self::", stringify!($try_cleaned), "`] refuses, with the error's text.")]
             #[track_caller]
             pub fn $cleaned(self) -> OwnedShapes<I> {
                 answered(self.$try_cleaned())
             }
 
-            #[doc = concat!("Writes the polygons ", $answer, " to the fronts of the three slices, with offsets from 0 on.")]
-            /// It answers how many polygons these are, n: they end at `out_shapes[n]`, and their contours at
-            /// `out_contours[out_shapes[n]]`.
+            #[doc = concat!("Writes the polygons ", $answer, ",")]
+            /// to the fronts of the three slices, with offsets from 0 on.
+            /// It answers how many polygons these are, n: they end at `out_shapes[n]`, and their
+            /// contours at `out_contours[out_shapes[n]]`.
             ///
-            /// [`Error::Unfit`] where `out_points` is shorter than [`points`](Shapes::points), `out_contours` than
-            /// [`contours`](Shapes::contours) or `out_shapes` than [`shapes`](Shapes::shapes); [`Error::UnsafePoint`] where a point
-            /// of a contour isn't safe, also of one before the first polygon; [`Error::NoMemory`] where memory is refused.
+            /// [`Error::Unfit`] where `out_points` is shorter than [`points`](Shapes::points),
+            /// `out_contours` than [`contours`](Shapes::contours) or `out_shapes` than
+            /// [`shapes`](Shapes::shapes); [`Error::UnsafePoint`] where a point of a contour isn't
+            /// safe, also of one before the first polygon; [`Error::NoMemory`] where memory is
+            /// refused.
             pub fn $try_into(
                 self,
                 out_points: &mut [IntPoint<I>],
@@ -73,11 +83,12 @@ macro_rules! cleaners {
                 )
             }
 
-            #[doc = concat!("Writes the polygons ", $answer, " to the fronts of the three slices.")]
+            #[doc = concat!("Writes the polygons ", $answer, ",")]
+            /// to the fronts of the three slices.
             ///
             /// # Panics
             ///
-            #[doc = concat!("Where [`", stringify!($try_into), "`](Shapes::", stringify!($try_into), ") refuses, with the error's text.")]
+            #[doc = concat!("Where [`Self::", stringify!($try_into), "`] refuses, with the error's text.")]
             #[track_caller]
             pub fn $into(
                 self,
@@ -92,8 +103,9 @@ macro_rules! cleaners {
 }
 
 impl<'a, I: IntNumber> Shapes<'a, I> {
-    /// The polygons that the offsets `shapes` part the contours into, which the offsets `contours` part the points into. What lies
-    /// outside the offsets isn't read. [`Error::Unfit`] where offsets of either level aren't [fit](super::offsets::are_fit).
+    /// The polygons that the offsets `shapes` part the contours into, which the offsets `contours`
+    /// part the points into. What lies outside the offsets isn't read. [`Error::Unfit`] where
+    /// offsets of either level aren't [fit](super::offsets::are_fit).
     pub fn try_new(
         points: &'a [IntPoint<I>],
         contours: &'a [usize],
@@ -158,8 +170,8 @@ impl<'a, I: IntNumber> Shapes<'a, I> {
             .map(move |ends| self.contours_of(ends))
     }
 
-    /// The polygons in parts of `length`, the last of them of what is left. Nothing is copied. Canonical forms of the parts, joined, are
-    /// no canonical form of the list: that is sorted.
+    /// The polygons in parts of `length`, the last of them of what is left. Nothing is copied.
+    /// Canonical forms of the parts, joined, are no canonical form of the list: that is sorted.
     ///
     /// # Panics
     ///
@@ -184,23 +196,28 @@ impl<'a, I: IntNumber> Shapes<'a, I> {
     }
 
     cleaners! {
-        SIMPLIFY_SHAPES: try_simplified, simplified, try_simplify_into, simplify_into, "without zero turns";
+        SIMPLIFY_SHAPES: try_simplified, simplified, try_simplify_into, simplify_into,
+            "without zero turns";
         DESPIKE_SHAPES: try_despiked, despiked, try_despike_into, despike_into,
             "without the points at which a contour turns back or stands still";
         CANONICAL_SHAPES: try_canonical, canonical, try_canonical_into, canonical_into,
-            "with each contour in its canonical form, the holes of each polygon sorted, and then the polygons";
+            "in canonical form: that of each contour, the holes of each polygon sorted, and then the polygons";
         CANONICAL_UNORIENTED_SHAPES: try_canonical_unoriented, canonical_unoriented,
             try_canonical_unoriented_into, canonical_unoriented_into,
-            "with each contour in the lesser of its canonical form and that of the contour read backwards, the holes of each polygon sorted, and then the polygons";
+            "in canonical form, for contours that may be read backwards: by the lesser of the forms of both ways";
     }
 
     /// The contours between two offsets of polygons.
     fn contours_of(self, ends: &[usize]) -> Contours<'a, I> {
         let offsets = &self.contours[ends[0]..=ends[1]];
-        answered(Contours::try_new(self.points, offsets))
+        Contours {
+            points: &self.points[..offsets[offsets.len() - 1]],
+            offsets,
+        }
     }
 
-    /// What a call leaves of the polygons. It is given the points and contours from the first polygon on.
+    /// What a call leaves of the polygons. It is given the points and contours from the first
+    /// polygon on.
     fn try_cleaned(self, call: CleanShapes<I>) -> Result<OwnedShapes<I>, Error> {
         let contours = &self.contours[self.shapes[0]..];
         let points = &self.points[contours[0]..];
@@ -220,7 +237,8 @@ impl<'a, I: IntNumber> Shapes<'a, I> {
             left.contours.spare_capacity_mut(),
             left.shapes.spare_capacity_mut(),
         )?;
-        // SAFETY: the call has written an offset behind each polygon and each contour, and one before them, and the points.
+        // SAFETY: the call has written an offset behind each polygon and each contour, and one
+        // before them, and the points.
         unsafe {
             left.shapes.set_len(count + 1);
             left.contours.set_len(left.shapes[count] + 1);
@@ -337,7 +355,8 @@ impl<I: IntNumber> OwnedShapes<I> {
         (self.points, self.contours, self.shapes)
     }
 
-    /// A copy of the polygons, each contour in a vector of its own. [`Error::NoMemory`] where memory is refused.
+    /// A copy of the polygons, each contour in a vector of its own. [`Error::NoMemory`] where
+    /// memory is refused.
     pub fn try_to_shapes(&self) -> Result<IntShapes<I>, Error> {
         made_of_each(ranges(&self.shapes), |shape| {
             made_of_each(ranges(&self.contours[shape.start..=shape.end]), |contour| {

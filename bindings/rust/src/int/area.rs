@@ -6,7 +6,8 @@ use crate::Error;
 use crate::calls;
 use crate::error::answered;
 
-/// Signed areas: positive where a contour turns to the left. No safe range is asked; what doesn't fit the wide type is reduced to it.
+/// Signed areas: positive where a contour turns to the left. No safe range is asked; what doesn't
+/// fit the wide type is reduced to it.
 ///
 /// The area of a shape or of a list is the sum over its contours, so holes count as they turn.
 pub trait Area<I: IntNumber> {

@@ -1,8 +1,10 @@
-//! Canonical forms of shapes and of lists of shapes. The form of one contour is in [`SimpleContour`](super::simple::SimpleContour).
+//! Canonical forms of shapes and of lists of shapes. The form of one contour is in
+//! [`SimpleContour`](super::simple::SimpleContour).
 //!
-//! Two shapes, or lists of shapes, have the same form exactly where these moves lead from one to the other: a contour is rotated to
-//! another start, loses a zero turn or gains one; the holes, and the shapes of a list, are reordered; a hole that collapses, or a
-//! shape of a list whose outer contour collapses, is dropped or added. For the unoriented form a contour may be reversed too.
+//! Two shapes, or lists of shapes, have the same form exactly where these moves lead from one to
+//! the other: a contour is rotated to another start, loses a zero turn or gains one; the holes, and
+//! the shapes of a list, are reordered; a hole that collapses, or a shape of a list whose outer
+//! contour collapses, is dropped or added. For the unoriented form a contour may be reversed too.
 
 use super::IntNumber;
 use super::shape::{IntContour, IntShape, IntShapes};
@@ -12,9 +14,11 @@ use crate::flat::OwnedShapes;
 
 /// The canonical forms of a shape.
 ///
-/// Each call refuses with [`Error::UnsafePoint`] where a point isn't safe, and with [`Error::NoMemory`] where memory is refused.
+/// Each call refuses with [`Error::UnsafePoint`] where a point isn't safe, and with
+/// [`Error::NoMemory`] where memory is refused.
 pub trait CanonicalShape<I: IntNumber> {
-    /// The forms of the outer contour and then of the holes, these sorted; `None` where the outer contour collapses.
+    /// The forms of the outer contour and then of the holes, these sorted; `None` where the outer
+    /// contour collapses.
     fn try_canonical(&self) -> Result<Option<IntShape<I>>, Error>;
 
     /// The canonical form, `None` where the outer contour collapses.
@@ -30,11 +34,13 @@ pub trait CanonicalShape<I: IntNumber> {
     /// The same by the lesser of the forms of each contour and of the contour read backwards.
     fn try_canonical_unoriented(&self) -> Result<Option<IntShape<I>>, Error>;
 
-    /// The canonical form where contours may be read backwards too, `None` where the outer contour collapses.
+    /// The canonical form where contours may be read backwards too, `None` where the outer contour
+    /// collapses.
     ///
     /// # Panics
     ///
-    /// Where [`try_canonical_unoriented`](CanonicalShape::try_canonical_unoriented) refuses, with the error's text.
+    /// Where [`try_canonical_unoriented`](CanonicalShape::try_canonical_unoriented) refuses, with
+    /// the error's text.
     #[track_caller]
     fn canonical_unoriented(&self) -> Option<IntShape<I>> {
         answered(self.try_canonical_unoriented())
@@ -78,7 +84,8 @@ pub trait CanonicalShapes<I: IntNumber> {
     ///
     /// # Panics
     ///
-    /// Where [`try_canonical_unoriented`](CanonicalShapes::try_canonical_unoriented) refuses, with the error's text.
+    /// Where [`try_canonical_unoriented`](CanonicalShapes::try_canonical_unoriented) refuses, with
+    /// the error's text.
     #[track_caller]
     fn canonical_unoriented(&self) -> IntShapes<I> {
         answered(self.try_canonical_unoriented())

@@ -1,4 +1,5 @@
-//! The removal of spikes: of points at which a contour turns back or stands still. Points at which it goes straight on stay.
+//! The removal of spikes: of points at which a contour turns back or stands still. Points at which
+//! it goes straight on stay.
 
 use super::cleaned::cleaned;
 use super::shape::{IntContour, IntShape, IntShapes};
@@ -11,14 +12,16 @@ use crate::flat::OwnedShapes;
 
 /// The test and the removal of spikes.
 ///
-/// Each call refuses with [`Error::UnsafePoint`] where a point isn't safe. Those that answer a contour, and those that clean a contour
-/// which isn't clean, refuse with [`Error::NoMemory`] where memory is refused.
+/// Each call refuses with [`Error::UnsafePoint`] where a point isn't safe. Those that answer a
+/// contour, and those that clean a contour which isn't clean, refuse with [`Error::NoMemory`] where
+/// memory is refused.
 pub trait DeSpikeContour<I: IntNumber> {
-    /// Whether, without the points that equal the one before them on the cycle, at least three are left, and the way over them
-    /// nowhere goes back.
+    /// Whether, without the points that equal the one before them on the cycle, at least three are
+    /// left, and the way over them nowhere goes back.
     fn try_has_no_spikes(&self) -> Result<bool, Error>;
 
-    /// Whether the contour has no spikes, as [`try_has_no_spikes`](DeSpikeContour::try_has_no_spikes) says.
+    /// Whether the contour has no spikes, as
+    /// [`try_has_no_spikes`](DeSpikeContour::try_has_no_spikes) says.
     ///
     /// # Panics
     ///
@@ -28,25 +31,30 @@ pub trait DeSpikeContour<I: IntNumber> {
         answered(self.try_has_no_spikes())
     }
 
-    /// The contour without the points at which it turns back or stands still, `None` where it collapses.
+    /// The contour without the points at which it turns back or stands still, `None` where it
+    /// collapses.
     fn try_despiked_contour(&self) -> Result<Option<IntContour<I>>, Error>;
 
-    /// The contour without the points at which it turns back or stands still, `None` where it collapses.
+    /// The contour without the points at which it turns back or stands still, `None` where it
+    /// collapses.
     ///
     /// # Panics
     ///
-    /// Where [`try_despiked_contour`](DeSpikeContour::try_despiked_contour) refuses, with the error's text.
+    /// Where [`try_despiked_contour`](DeSpikeContour::try_despiked_contour) refuses, with the
+    /// error's text.
     #[track_caller]
     fn despiked_contour(&self) -> Option<IntContour<I>> {
         answered(self.try_despiked_contour())
     }
 
-    /// Writes what [`try_despiked_contour`](DeSpikeContour::try_despiked_contour) answers to the front of `out`, and answers how
-    /// many points these are, 0 where the contour collapses. [`Error::Unfit`] where `out` is shorter than the contour. Of a contour
-    /// with nothing to remove or with fewer than three points it takes no memory.
+    /// Writes what [`try_despiked_contour`](DeSpikeContour::try_despiked_contour) answers to the
+    /// front of `out`, and answers how many points these are, 0 where the contour collapses.
+    /// [`Error::Unfit`] where `out` is shorter than the contour. Of a contour with nothing to
+    /// remove or with fewer than three points it takes no memory.
     fn try_despike_into(&self, out: &mut [IntPoint<I>]) -> Result<usize, Error>;
 
-    /// Writes the contour without spikes to the front of `out`, and answers how many points these are.
+    /// Writes the contour without spikes to the front of `out`, and answers how many points these
+    /// are.
     ///
     /// # Panics
     ///
@@ -86,8 +94,9 @@ pub trait DeSpikeShape<I: IntNumber> {
         answered(self.try_has_no_spikes())
     }
 
-    /// The shape with each contour that has spikes despiked, and without the holes that collapse; `None` where its outer contour
-    /// does. A contour without spikes stays as it is, and so does an empty shape.
+    /// The shape with each contour that has spikes despiked, and without the holes that collapse;
+    /// `None` where its outer contour does. A contour without spikes stays as it is, and so does an
+    /// empty shape.
     fn try_despiked_shape(&self) -> Result<Option<IntShape<I>>, Error>;
 
     /// The shape without spikes, as [`try_despiked_shape`](DeSpikeShape::try_despiked_shape) says.
@@ -114,7 +123,8 @@ impl<I: IntNumber> DeSpikeShape<I> for [IntContour<I>] {
     }
 }
 
-/// The test and the removal of spikes, of a list of shapes. Calls refuse as those of [`DeSpikeContour`] do.
+/// The test and the removal of spikes, of a list of shapes. Calls refuse as those of
+/// [`DeSpikeContour`] do.
 pub trait DeSpikeShapes<I: IntNumber> {
     /// Whether no contour of a shape has spikes.
     fn try_has_no_spikes(&self) -> Result<bool, Error>;
@@ -123,7 +133,8 @@ pub trait DeSpikeShapes<I: IntNumber> {
     ///
     /// # Panics
     ///
-    /// Where [`try_has_no_spikes`](DeSpikeShapes::try_has_no_spikes) refuses, with the error's text.
+    /// Where [`try_has_no_spikes`](DeSpikeShapes::try_has_no_spikes) refuses, with the error's
+    /// text.
     #[track_caller]
     fn has_no_spikes(&self) -> bool {
         answered(self.try_has_no_spikes())
@@ -136,7 +147,8 @@ pub trait DeSpikeShapes<I: IntNumber> {
     ///
     /// # Panics
     ///
-    /// Where [`try_despiked_shapes`](DeSpikeShapes::try_despiked_shapes) refuses, with the error's text.
+    /// Where [`try_despiked_shapes`](DeSpikeShapes::try_despiked_shapes) refuses, with the error's
+    /// text.
     #[track_caller]
     fn despiked_shapes(&self) -> IntShapes<I> {
         answered(self.try_despiked_shapes())
@@ -158,9 +170,10 @@ impl<I: IntNumber> DeSpikeShapes<I> for [IntShape<I>] {
 
 /// The removal of spikes in place, of a contour, a shape or a list of shapes.
 pub trait DeSpike {
-    /// Removes spikes. A contour that collapses, and a shape whose outer contour does, is empty then; holes that collapse, and such
-    /// shapes of a list, are taken out. False where no contour has spikes: then nothing changes. It refuses as [`DeSpikeContour`]
-    /// says, and changes nothing then.
+    /// Removes spikes. A contour that collapses, and a shape whose outer contour does, is empty
+    /// then; holes that collapse, and such shapes of a list, are taken out. False where no contour
+    /// has spikes: then nothing changes. It refuses as [`DeSpikeContour`] says, and changes nothing
+    /// then.
     fn try_remove_spikes(&mut self) -> Result<bool, Error>;
 
     /// Removes spikes, as [`try_remove_spikes`](DeSpike::try_remove_spikes) says.

@@ -16,8 +16,9 @@ pub type IntPaths<I> = Vec<IntPath<I>>;
 ///
 /// Those about many points take memory for their answers alone; the others take none.
 pub trait ContourExtension<I: IntNumber> {
-    /// Whether, without the points that equal the one before them on the cycle, at most two are left, or the way over them nowhere
-    /// goes back and doesn't bend to both sides. [`Error::UnsafePoint`] where a point isn't safe.
+    /// Whether, without the points that equal the one before them on the cycle, at most two are
+    /// left, or the way over them nowhere goes back and doesn't bend to both sides.
+    /// [`Error::UnsafePoint`] where a point isn't safe.
     fn try_is_convex(&self) -> Result<bool, Error>;
 
     /// Whether the contour is convex, as [`try_is_convex`](ContourExtension::try_is_convex) says.
@@ -30,24 +31,27 @@ pub trait ContourExtension<I: IntNumber> {
         answered(self.try_is_convex())
     }
 
-    /// Whether twice the area is at most 0. [`Error::NoPoint`] where there is no point; no safe range is asked.
+    /// Whether twice the area is at most 0. [`Error::NoPoint`] where there is no point; no safe
+    /// range is asked.
     fn try_is_clockwise_ordered(&self) -> Result<bool, Error>;
 
     /// Whether twice the area is at most 0.
     ///
     /// # Panics
     ///
-    /// Where [`try_is_clockwise_ordered`](ContourExtension::try_is_clockwise_ordered) refuses, with the error's text.
+    /// Where [`try_is_clockwise_ordered`](ContourExtension::try_is_clockwise_ordered) refuses, with
+    /// the error's text.
     #[track_caller]
     fn is_clockwise_ordered(&self) -> bool {
         answered(self.try_is_clockwise_ordered())
     }
 
-    /// Whether an odd number of edges pass the height of `point` strictly to the right of it. [`Error::UnsafePoint`] where that point
-    /// or one of the contour isn't safe.
+    /// Whether an odd number of edges pass the height of `point` strictly to the right of it.
+    /// [`Error::UnsafePoint`] where that point or one of the contour isn't safe.
     fn try_contains_point(&self, point: IntPoint<I>) -> Result<bool, Error>;
 
-    /// Whether the contour contains the point, as [`try_contains_point`](ContourExtension::try_contains_point) says.
+    /// Whether the contour contains the point, as
+    /// [`try_contains_point`](ContourExtension::try_contains_point) says.
     ///
     /// # Panics
     ///
@@ -57,11 +61,13 @@ pub trait ContourExtension<I: IntNumber> {
         answered(self.try_contains_point(point))
     }
 
-    /// How often the contour winds about `point`, to the left: how many edges pass its height upwards and strictly to the right of
-    /// it, less those that do so downwards. [`Error::UnsafePoint`] where that point or one of the contour isn't safe.
+    /// How often the contour winds about `point`, to the left: how many edges pass its height
+    /// upwards and strictly to the right of it, less those that do so downwards.
+    /// [`Error::UnsafePoint`] where that point or one of the contour isn't safe.
     fn try_winding_number(&self, point: IntPoint<I>) -> Result<isize, Error>;
 
-    /// How often the contour winds about `point`, as [`try_winding_number`](ContourExtension::try_winding_number) says.
+    /// How often the contour winds about `point`, as
+    /// [`try_winding_number`](ContourExtension::try_winding_number) says.
     ///
     /// # Panics
     ///
@@ -71,7 +77,8 @@ pub trait ContourExtension<I: IntNumber> {
         answered(self.try_winding_number(point))
     }
 
-    /// Whether a fill rule fills `point`. It refuses as [`try_winding_number`](ContourExtension::try_winding_number) does.
+    /// Whether a fill rule fills `point`. It refuses as
+    /// [`try_winding_number`](ContourExtension::try_winding_number) does.
     fn try_contains_by(&self, point: IntPoint<I>, rule: FillRule) -> Result<bool, Error> {
         Ok(rule.fills(self.try_winding_number(point)?))
     }
@@ -86,21 +93,24 @@ pub trait ContourExtension<I: IntNumber> {
         answered(self.try_contains_by(point, rule))
     }
 
-    /// How often the contour winds about each of the points. [`Error::UnsafePoint`] where one of them or of the contour isn't safe,
-    /// [`Error::NoMemory`] where there is none for the answer. It passes over the contour once for each point.
+    /// How often the contour winds about each of the points. [`Error::UnsafePoint`] where one of
+    /// them or of the contour isn't safe, [`Error::NoMemory`] where there is none for the answer.
+    /// It passes over the contour once for each point.
     fn try_winding_numbers(&self, points: &[IntPoint<I>]) -> Result<Vec<isize>, Error>;
 
     /// How often the contour winds about each of the points.
     ///
     /// # Panics
     ///
-    /// Where [`try_winding_numbers`](ContourExtension::try_winding_numbers) refuses, with the error's text.
+    /// Where [`try_winding_numbers`](ContourExtension::try_winding_numbers) refuses, with the
+    /// error's text.
     #[track_caller]
     fn winding_numbers(&self, points: &[IntPoint<I>]) -> Vec<isize> {
         answered(self.try_winding_numbers(points))
     }
 
-    /// Which of the points a fill rule fills. It refuses as [`try_winding_numbers`](ContourExtension::try_winding_numbers) does.
+    /// Which of the points a fill rule fills. It refuses as
+    /// [`try_winding_numbers`](ContourExtension::try_winding_numbers) does.
     fn try_contains_points(
         &self,
         points: &[IntPoint<I>],
@@ -111,7 +121,8 @@ pub trait ContourExtension<I: IntNumber> {
     ///
     /// # Panics
     ///
-    /// Where [`try_contains_points`](ContourExtension::try_contains_points) refuses, with the error's text.
+    /// Where [`try_contains_points`](ContourExtension::try_contains_points) refuses, with the
+    /// error's text.
     #[track_caller]
     fn contains_points(&self, points: &[IntPoint<I>], rule: FillRule) -> Vec<bool> {
         answered(self.try_contains_points(points, rule))

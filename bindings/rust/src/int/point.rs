@@ -26,21 +26,23 @@ impl<I: IntNumber> IntPoint<I> {
     /// The point whose coordinates are 0.
     pub const ZERO: Self = IntPoint::new(I::ZERO, I::ZERO);
 
-    /// Whether both coordinates lie strictly between -2^(W-2) and 2^(W-2), where W is their number of bits.
+    /// Whether both coordinates lie strictly between -2^(W-2) and 2^(W-2), where W is their number
+    /// of bits.
     pub fn is_in_safe_range(&self) -> bool {
         holds(I::IS_SAFE, std::slice::from_ref(self)) == Ok(true)
     }
 }
 
-/// A point type of a caller's own, whose slices are read and written as slices of [`IntPoint`], without a copy.
+/// A point type of a caller's own, whose slices are read and written as slices of [`IntPoint`],
+/// without a copy.
 ///
-/// [`contour_point!`](crate::contour_point) implements it for a struct after it has checked the layout, so that a caller writes no
-/// `unsafe`. It is implemented for arrays of two coordinates.
+/// [`contour_point!`](crate::contour_point) implements it for a struct after it has checked the
+/// layout, so that a caller writes no `unsafe`. It is implemented for arrays of two coordinates.
 ///
 /// # Safety
 ///
-/// The type has the size, the alignment and the fields of `IntPoint<Self::Coordinate>`: x first, then y, and nothing beside them.
-/// Whatever the two numbers are, they are a value of the type.
+/// The type has the size, the alignment and the fields of `IntPoint<Self::Coordinate>`: x first,
+/// then y, and nothing beside them. Whatever the two numbers are, they are a value of the type.
 pub unsafe trait ContourPoint: Copy {
     /// The type of the coordinates.
     type Coordinate: IntNumber;
@@ -56,7 +58,8 @@ unsafe impl<I: IntNumber> ContourPoint for [I; 2] {
     type Coordinate = I;
 }
 
-/// Implements [`ContourPoint`](crate::int::ContourPoint) for a struct with two coordinates, which are named as x and y in turn.
+/// Implements [`ContourPoint`](crate::int::ContourPoint) for a struct with two coordinates, which
+/// are named as x and y in turn.
 ///
 /// ```
 /// use i_shape::int::{AsIntPoints, from_int_points, simple::SimpleContour};
@@ -76,8 +79,8 @@ unsafe impl<I: IntNumber> ContourPoint for [I; 2] {
 /// assert_eq!(corners, [parcel[0], parcel[2], parcel[3]]);
 /// ```
 ///
-/// The compiler refuses a struct with another layout. `repr(C)` is how a struct promises its layout; without it the compiler may
-/// refuse the struct one day. A third field is refused:
+/// The compiler refuses a struct with another layout. `repr(C)` is how a struct promises its
+/// layout; without it the compiler may refuse the struct one day. A third field is refused:
 ///
 /// ```compile_fail
 /// #[repr(C)]
@@ -109,7 +112,8 @@ unsafe impl<I: IntNumber> ContourPoint for [I; 2] {
 /// i_shape::contour_point!(Lent { x, y }: i64);
 /// ```
 ///
-/// The macro expands to an `unsafe impl`. A crate that forbids `unsafe_code` can have its points as `[i32; 2]`.
+/// The macro expands to an `unsafe impl`. A crate that forbids `unsafe_code` can have its points as
+/// `[i32; 2]`.
 #[macro_export]
 macro_rules! contour_point {
     ($point:ty { $x:tt, $y:tt }: $number:ty) => {
@@ -133,7 +137,8 @@ macro_rules! contour_point {
                 [point.$x, point.$y]
             }
         };
-        // SAFETY: size, alignment, places and types of the fields are those of `IntPoint`, and of two numbers each is a value.
+        // SAFETY: size, alignment, places and types of the fields are those of `IntPoint`, and of
+        // two numbers each is a value.
         #[allow(unsafe_code)]
         unsafe impl $crate::int::ContourPoint for $point {
             type Coordinate = $number;
@@ -171,7 +176,7 @@ impl<P: ContourPoint> AsIntPoints for [P] {
 pub fn from_int_points<P: ContourPoint>(contour: IntContour<P::Coordinate>) -> Vec<P> {
     let mut contour = ManuallyDrop::new(contour);
     let (start, count, room) = (contour.as_mut_ptr(), contour.len(), contour.capacity());
-    // SAFETY: the block is that of a vector which isn't dropped; by `ContourPoint` size and alignment are the same, and each point is
-    // a value of P.
+    // SAFETY: the block is that of a vector which isn't dropped; by `ContourPoint` size and
+    // alignment are the same, and each point is a value of P.
     unsafe { Vec::from_raw_parts(start.cast(), count, room) }
 }

@@ -6,7 +6,8 @@ use crate::source::int::resource::IntShapeResource;
 
 /// The test that calls make of their points.
 pub trait IntSafeRange<I: IntNumber> {
-    /// Whether both coordinates of each point lie strictly between -2^(W-2) and 2^(W-2), where W is their number of bits.
+    /// Whether both coordinates of each point lie strictly between -2^(W-2) and 2^(W-2), where W is
+    /// their number of bits.
     fn is_in_safe_range(&self) -> bool;
 }
 

@@ -1,5 +1,5 @@
-//! The removal of zero turns: of points at which a contour goes straight on, turns back or stands still. Nothing here looks at
-//! self-intersections, or at where holes lie.
+//! The removal of zero turns: of points at which a contour goes straight on, turns back or stands
+//! still. Nothing here looks at self-intersections, or at where holes lie.
 
 use super::cleaned::cleaned;
 use super::shape::{IntContour, IntShape, IntShapes};
@@ -11,8 +11,9 @@ use crate::flat::OwnedShapes;
 
 /// The test and the removal of zero turns, and the canonical form.
 ///
-/// Each call refuses with [`Error::UnsafePoint`] where a point isn't safe. Those that answer a contour, and those that clean a contour
-/// which isn't clean, refuse with [`Error::NoMemory`] where memory is refused.
+/// Each call refuses with [`Error::UnsafePoint`] where a point isn't safe. Those that answer a
+/// contour, and those that clean a contour which isn't clean, refuse with [`Error::NoMemory`] where
+/// memory is refused.
 pub trait SimpleContour<I: IntNumber> {
     /// Whether there are at least three points, and none of them is a zero turn.
     fn try_is_simple(&self) -> Result<bool, Error>;
@@ -27,7 +28,8 @@ pub trait SimpleContour<I: IntNumber> {
         answered(self.try_is_simple())
     }
 
-    /// The contour without zero turns: the one end of removing them in any order. `None` where it collapses.
+    /// The contour without zero turns: the one end of removing them in any order. `None` where it
+    /// collapses.
     fn try_simplified(&self) -> Result<Option<IntContour<I>>, Error>;
 
     /// The contour without zero turns, `None` where it collapses.
@@ -40,8 +42,9 @@ pub trait SimpleContour<I: IntNumber> {
         answered(self.try_simplified())
     }
 
-    /// The contour without zero turns, from the start at which it is least, by x and then y, point by point. `None` where it
-    /// collapses. Two contours have the same one exactly where rotations and zero turns lead from one to the other.
+    /// The contour without zero turns, from the start at which it is least, by x and then y, point
+    /// by point. `None` where it collapses. Two contours have the same one exactly where rotations
+    /// and zero turns lead from one to the other.
     fn try_canonical(&self) -> Result<Option<IntContour<I>>, Error>;
 
     /// The canonical form, as [`try_canonical`](SimpleContour::try_canonical) says.
@@ -54,29 +57,34 @@ pub trait SimpleContour<I: IntNumber> {
         answered(self.try_canonical())
     }
 
-    /// Writes what [`try_simplified`](SimpleContour::try_simplified) answers to the front of `out`, and answers how many points
-    /// these are, 0 where the contour collapses. [`Error::Unfit`] where `out` is shorter than the contour. Of a contour that is clean
-    /// or has fewer than three points it takes no memory.
+    /// Writes what [`try_simplified`](SimpleContour::try_simplified) answers to the front of `out`,
+    /// and answers how many points these are, 0 where the contour collapses. [`Error::Unfit`] where
+    /// `out` is shorter than the contour. Of a contour that is clean or has fewer than three points
+    /// it takes no memory.
     fn try_simplify_into(&self, out: &mut [IntPoint<I>]) -> Result<usize, Error>;
 
-    /// Writes the contour without zero turns to the front of `out`, and answers how many points these are.
+    /// Writes the contour without zero turns to the front of `out`, and answers how many points
+    /// these are.
     ///
     /// # Panics
     ///
-    /// Where [`try_simplify_into`](SimpleContour::try_simplify_into) refuses, with the error's text.
+    /// Where [`try_simplify_into`](SimpleContour::try_simplify_into) refuses, with the error's
+    /// text.
     #[track_caller]
     fn simplify_into(&self, out: &mut [IntPoint<I>]) -> usize {
         answered(self.try_simplify_into(out))
     }
 
-    /// The same as [`try_simplify_into`](SimpleContour::try_simplify_into) for [`try_canonical`](SimpleContour::try_canonical).
+    /// The same as [`try_simplify_into`](SimpleContour::try_simplify_into) for
+    /// [`try_canonical`](SimpleContour::try_canonical).
     fn try_canonical_into(&self, out: &mut [IntPoint<I>]) -> Result<usize, Error>;
 
     /// Writes the canonical form to the front of `out`, and answers how many points these are.
     ///
     /// # Panics
     ///
-    /// Where [`try_canonical_into`](SimpleContour::try_canonical_into) refuses, with the error's text.
+    /// Where [`try_canonical_into`](SimpleContour::try_canonical_into) refuses, with the error's
+    /// text.
     #[track_caller]
     fn canonical_into(&self, out: &mut [IntPoint<I>]) -> usize {
         answered(self.try_canonical_into(out))
@@ -105,7 +113,8 @@ impl<I: IntNumber> SimpleContour<I> for [IntPoint<I>] {
     }
 }
 
-/// The test and the removal of zero turns, of a shape. Calls refuse as those of [`SimpleContour`] do.
+/// The test and the removal of zero turns, of a shape. Calls refuse as those of [`SimpleContour`]
+/// do.
 pub trait SimpleShape<I: IntNumber> {
     /// Whether each contour is simple.
     fn try_is_simple(&self) -> Result<bool, Error>;
@@ -120,8 +129,8 @@ pub trait SimpleShape<I: IntNumber> {
         answered(self.try_is_simple())
     }
 
-    /// The shape without zero turns and without the holes that collapse, `None` where its outer contour does. An empty shape stays
-    /// an empty shape.
+    /// The shape without zero turns and without the holes that collapse, `None` where its outer
+    /// contour does. An empty shape stays an empty shape.
     fn try_simplified(&self) -> Result<Option<IntShape<I>>, Error>;
 
     /// The shape without zero turns, as [`try_simplified`](SimpleShape::try_simplified) says.
@@ -148,7 +157,8 @@ impl<I: IntNumber> SimpleShape<I> for [IntContour<I>] {
     }
 }
 
-/// The test and the removal of zero turns, of a list of shapes. Calls refuse as those of [`SimpleContour`] do.
+/// The test and the removal of zero turns, of a list of shapes. Calls refuse as those of
+/// [`SimpleContour`] do.
 pub trait SimpleShapes<I: IntNumber> {
     /// Whether each contour of each shape is simple.
     fn try_is_simple(&self) -> Result<bool, Error>;
@@ -192,9 +202,10 @@ impl<I: IntNumber> SimpleShapes<I> for [IntShape<I>] {
 
 /// The removal of zero turns in place, of a contour, a shape or a list of shapes.
 pub trait Simplify {
-    /// Removes zero turns. A contour that collapses, and a shape whose outer contour does, is empty then; holes that collapse, and
-    /// such shapes of a list, are taken out. False where each contour is simple: then nothing changes. It refuses as
-    /// [`SimpleContour`] says, and changes nothing then.
+    /// Removes zero turns. A contour that collapses, and a shape whose outer contour does, is empty
+    /// then; holes that collapse, and such shapes of a list, are taken out. False where each
+    /// contour is simple: then nothing changes. It refuses as [`SimpleContour`] says, and changes
+    /// nothing then.
     fn try_simplify_contour(&mut self) -> Result<bool, Error>;
 
     /// Removes zero turns, as [`try_simplify_contour`](Simplify::try_simplify_contour) says.
@@ -238,7 +249,8 @@ impl<I: IntNumber> Simplify for IntShapes<I> {
     }
 }
 
-/// Removes zero turns from one contour after another. It keeps nothing: no call of the C library keeps memory for the next.
+/// Removes zero turns from one contour after another. It keeps nothing: no call of the C library
+/// keeps memory for the next.
 #[derive(Clone, Copy, Debug, Default)]
 pub struct ContourSimplifier {}
 
@@ -255,7 +267,8 @@ impl ContourSimplifier {
     ///
     /// # Panics
     ///
-    /// Where [`try_simplify_contour`](ContourSimplifier::try_simplify_contour) refuses, with the error's text.
+    /// Where [`try_simplify_contour`](ContourSimplifier::try_simplify_contour) refuses, with the
+    /// error's text.
     #[track_caller]
     pub fn simplify_contour<I: IntNumber>(
         &mut self,

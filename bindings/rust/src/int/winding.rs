@@ -1,4 +1,5 @@
-//! How often the contours of a shape wind about points together, and which points a fill rule fills by that.
+//! How often the contours of a shape wind about points together, and which points a fill rule fills
+//! by that.
 
 use super::shape::IntContour;
 use super::{IntNumber, IntPoint};
@@ -7,10 +8,12 @@ use crate::flat::OwnedContours;
 use crate::int::path::ContourExtension;
 use crate::{Error, FillRule};
 
-/// How often the contours of a shape wind about points together, and which points a fill rule fills by that.
+/// How often the contours of a shape wind about points together, and which points a fill rule fills
+/// by that.
 ///
-/// Each call refuses with [`Error::UnsafePoint`] where a point of the shape or one that is asked about isn't safe. Those about many
-/// points copy the contours, and refuse with [`Error::NoMemory`] where memory is refused.
+/// Each call refuses with [`Error::UnsafePoint`] where a point of the shape or one that is asked
+/// about isn't safe. Those about many points copy the contours, and refuse with [`Error::NoMemory`]
+/// where memory is refused.
 pub trait ShapeExtension<I: IntNumber> {
     /// The sum of the contours' winding numbers about `point`.
     fn try_winding_number(&self, point: IntPoint<I>) -> Result<isize, Error>;
@@ -19,7 +22,8 @@ pub trait ShapeExtension<I: IntNumber> {
     ///
     /// # Panics
     ///
-    /// Where [`try_winding_number`](ShapeExtension::try_winding_number) refuses, with the error's text.
+    /// Where [`try_winding_number`](ShapeExtension::try_winding_number) refuses, with the error's
+    /// text.
     #[track_caller]
     fn winding_number(&self, point: IntPoint<I>) -> isize {
         answered(self.try_winding_number(point))
@@ -47,7 +51,8 @@ pub trait ShapeExtension<I: IntNumber> {
     ///
     /// # Panics
     ///
-    /// Where [`try_winding_numbers`](ShapeExtension::try_winding_numbers) refuses, with the error's text.
+    /// Where [`try_winding_numbers`](ShapeExtension::try_winding_numbers) refuses, with the error's
+    /// text.
     #[track_caller]
     fn winding_numbers(&self, points: &[IntPoint<I>]) -> Vec<isize> {
         answered(self.try_winding_numbers(points))
@@ -64,7 +69,8 @@ pub trait ShapeExtension<I: IntNumber> {
     ///
     /// # Panics
     ///
-    /// Where [`try_contains_points`](ShapeExtension::try_contains_points) refuses, with the error's text.
+    /// Where [`try_contains_points`](ShapeExtension::try_contains_points) refuses, with the error's
+    /// text.
     #[track_caller]
     fn contains_points(&self, points: &[IntPoint<I>], rule: FillRule) -> Vec<bool> {
         answered(self.try_contains_points(points, rule))

@@ -22,7 +22,8 @@ at_each_width!(
     long_contour
 );
 
-/// A contour, and what is left of it without zero turns, without spikes, and in canonical form; nothing where it collapses.
+/// A contour, and what is left of it without zero turns, without spikes, and in canonical form;
+/// nothing where it collapses.
 const CLEANED: [(&Written, &Written, &Written, &Written); 6] = [
     (&SQUARE, &SQUARE, &SQUARE, &SQUARE),
     (&STRAIGHT, &TURNED, &STRAIGHT, &SQUARE),

@@ -33,7 +33,8 @@ fn refuses<T, U>(error: Error, answer: Result<T, Error>, panics: impl FnOnce() -
     assert_eq!(panic.downcast_ref::<String>(), Some(&error.to_string()));
 }
 
-/// The same of a method: `refuses!(error, receiver, the form that tries, the form that panics, arguments)`.
+/// The same of a method: `refuses!(error, receiver, the form that tries, the form that panics,
+/// arguments)`.
 macro_rules! refuses {
     ($error:expr, $receiver:expr, $tried:ident, $panics:ident $(, $argument:expr)*) => {
         let answer = $receiver.$tried($($argument),*).map(|_| ());

@@ -1,4 +1,5 @@
-//! What the README of the crate `i_shape` shows of whole numbers, over this crate: the same names, by the same paths.
+//! What the README of the crate `i_shape` shows of whole numbers, over this crate: the same names,
+//! by the same paths.
 
 use i_shape::flat::buffer::FlatContoursBuffer;
 use i_shape::int::{IntPoint, area::Area, path::ContourExtension};

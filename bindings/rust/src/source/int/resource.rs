@@ -7,8 +7,8 @@ use std::iter;
 use std::ops::Range;
 use std::slice;
 
-/// Lends its paths, in order and as often as it is asked, without a copy. Empty paths are lent too. Of shapes the contours are lent,
-/// one shape after the other.
+/// Lends its paths, in order and as often as it is asked, without a copy. Empty paths are lent too.
+/// Of shapes the contours are lent, one shape after the other.
 pub trait IntShapeResource<I: IntNumber> {
     /// What goes over the paths.
     type ResourceIter<'a>: Iterator<Item = &'a [IntPoint<I>]>
