@@ -12,6 +12,19 @@ use crate::memory::{copied, made_of_each, try_reserve, with_room};
 /// Polygons that lie end to end in borrowed points: polygon j has the contours from `shapes[j]` to
 /// `shapes[j + 1]`, its outer contour first, and contour k is `points[contours[k]..contours[k +
 /// 1]]`.
+///
+/// ```
+/// use i_shape::flat::Shapes;
+/// use i_shape::int::AsIntPoints;
+///
+/// // a square, and in it a hole without an area
+/// let points = [[0_i32, 0], [9, 0], [9, 9], [0, 9], [2, 2], [2, 3], [2, 4]];
+/// let polygons = Shapes::new(points.as_int_points(), &[0, 4, 7], &[0, 2]);
+/// let left = polygons.simplified();
+/// assert_eq!(left.points(), points[..4].as_int_points());
+/// assert_eq!(left.contours(), [0, 4]);
+/// assert_eq!(left.shapes(), [0, 1]);
+/// ```
 #[derive(Debug, PartialEq, Eq)]
 pub struct Shapes<'a, I> {
     points: &'a [IntPoint<I>],

@@ -10,6 +10,18 @@ use crate::error::answered;
 /// fit the wide type is reduced to it.
 ///
 /// The area of a shape or of a list is the sum over its contours, so holes count as they turn.
+///
+/// ```
+/// use i_shape::{int::area::Area, int_path, int_shape};
+///
+/// let mut triangle = int_path![[0_i32, 0], [3, 0], [3, 3]];
+/// assert_eq!((triangle.area_two(), triangle.area()), (9_i64, 4));
+/// triangle.reverse();
+/// assert_eq!(triangle.area_two(), -9);
+///
+/// let with_hole = int_shape![[[0_i32, 0], [9, 0], [9, 9], [0, 9]], [[1, 1], [1, 3], [3, 1]]];
+/// assert_eq!(with_hole.area_two(), 162 - 4);
+/// ```
 pub trait Area<I: IntNumber> {
     /// Twice the area, or [`Error::NoPoint`] where a contour has no point.
     fn try_area_two(&self) -> Result<I::Wide, Error>;

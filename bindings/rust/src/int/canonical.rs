@@ -1,10 +1,21 @@
 //! Canonical forms of shapes and of lists of shapes. The form of one contour is in
 //! [`SimpleContour`](super::simple::SimpleContour).
 //!
-//! Two shapes, or lists of shapes, have the same form exactly where these moves lead from one to
-//! the other: a contour is rotated to another start, loses a zero turn or gains one; the holes, and
+//! Two shapes that have a form, or lists of shapes, have the same one exactly where these moves lead
+//! from one to the other: a contour is rotated to another start, loses a zero turn or gains one; the holes, and
 //! the shapes of a list, are reordered; a hole that collapses, or a shape of a list whose outer
 //! contour collapses, is dropped or added. For the unoriented form a contour may be reversed too.
+//!
+//! ```
+//! use i_shape::int::canonical::CanonicalShape;
+//! use i_shape::int_shape;
+//!
+//! let parcel = int_shape![[[0_i32, 0], [9, 0], [9, 9], [0, 9]], [[1, 1], [1, 3], [3, 1]]];
+//! // another start, a vertex on an edge, and the hole read backwards
+//! let again = int_shape![[[9_i32, 9], [0, 9], [0, 0], [5, 0], [9, 0]], [[3, 1], [1, 3], [1, 1]]];
+//! assert_ne!(parcel.canonical(), again.canonical());
+//! assert_eq!(parcel.canonical_unoriented(), again.canonical_unoriented());
+//! ```
 
 use super::IntNumber;
 use super::shape::{IntContour, IntShape, IntShapes};

@@ -15,6 +15,17 @@ pub type IntPaths<I> = Vec<IntPath<I>>;
 /// Tests of a contour as a whole, and how often it winds about points.
 ///
 /// Those about many points take memory for their answers alone; the others take none.
+///
+/// ```
+/// use i_shape::{FillRule, int::IntPoint, int::path::ContourExtension, int_path};
+///
+/// // it winds twice about its middle
+/// let star = int_path![[0_i32, 9], [-6, -8], [9, 3], [-9, 3], [6, -8]];
+/// let about = [IntPoint::new(0, 0), IntPoint::new(0, 8), IntPoint::new(9, 9)];
+/// assert_eq!(star.winding_numbers(&about), [2, 1, 0]);
+/// assert_eq!(star.contains_points(&about, FillRule::NonZero), [true, true, false]);
+/// assert_eq!(star.contains_points(&about, FillRule::EvenOdd), [false, true, false]);
+/// ```
 pub trait ContourExtension<I: IntNumber> {
     /// Whether, without the points that equal the one before them on the cycle, at most two are
     /// left, or the way over them nowhere goes back and doesn't bend to both sides.

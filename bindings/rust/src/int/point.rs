@@ -3,7 +3,7 @@
 use super::IntNumber;
 use super::shape::IntContour;
 use crate::calls::holds;
-use std::mem::ManuallyDrop;
+use std::mem::{ManuallyDrop, offset_of};
 
 /// A point, laid out as the C library has it. Points are ordered by x and then by y.
 #[repr(C)]
@@ -57,6 +57,18 @@ unsafe impl<I: IntNumber> ContourPoint for IntPoint<I> {
 unsafe impl<I: IntNumber> ContourPoint for [I; 2] {
     type Coordinate = I;
 }
+
+/// Whether points and arrays at a width have the layout of the C library's points.
+const fn is_laid_out<I>() -> bool {
+    let size = size_of::<I>();
+    size_of::<IntPoint<I>>() == 2 * size
+        && size_of::<[I; 2]>() == 2 * size
+        && align_of::<IntPoint<I>>() == align_of::<[I; 2]>()
+        && offset_of!(IntPoint<I>, x) == 0
+        && offset_of!(IntPoint<I>, y) == size
+}
+
+const _: () = assert!(is_laid_out::<i16>() && is_laid_out::<i32>() && is_laid_out::<i64>());
 
 /// Implements [`ContourPoint`](crate::int::ContourPoint) for a struct with two coordinates, which
 /// are named as x and y in turn.

@@ -43,8 +43,8 @@ pub trait SimpleContour<I: IntNumber> {
     }
 
     /// The contour without zero turns, from the start at which it is least, by x and then y, point
-    /// by point. `None` where it collapses. Two contours have the same one exactly where rotations
-    /// and zero turns lead from one to the other.
+    /// by point. `None` where it collapses. Two contours that have a form have the same one exactly
+    /// where rotations, and zero turns lost or gained, lead from one to the other.
     fn try_canonical(&self) -> Result<Option<IntContour<I>>, Error>;
 
     /// The canonical form, as [`try_canonical`](SimpleContour::try_canonical) says.
