@@ -89,10 +89,8 @@ impl<I: IntNumber> FlatContoursBuffer<I> {
 
     /// Holds nothing, with room for so many points and contours.
     pub fn clear_and_reserve(&mut self, points: usize, contours: usize) {
-        self.points.clear();
-        self.points.reserve(points);
-        self.ranges.clear();
-        self.ranges.reserve(contours);
+        empty_with_room(&mut self.points, points);
+        empty_with_room(&mut self.ranges, contours);
     }
 
     /// Appends a contour.
@@ -166,9 +164,7 @@ impl<I: IntNumber> FlatShapesBuffer<I> {
     /// Holds a shape of the contour, and nothing else.
     pub fn set_with_contour(&mut self, contour: &[IntPoint<I>]) {
         self.clear_and_reserve(contour.len(), 1, 1);
-        self.contour_ranges
-            .push(appended(&mut self.points, contour));
-        self.shape_ranges.push(0..1);
+        self.append(&[contour]);
     }
 
     /// Holds the shape, and nothing else.
@@ -188,22 +184,14 @@ impl<I: IntNumber> FlatShapesBuffer<I> {
 
     /// Holds nothing, with room for so many points, contours and shapes.
     pub fn clear_and_reserve(&mut self, points: usize, contours: usize, shapes: usize) {
-        self.points.clear();
-        self.points.reserve(points);
-        self.contour_ranges.clear();
-        self.contour_ranges.reserve(contours);
-        self.shape_ranges.clear();
-        self.shape_ranges.reserve(shapes);
+        empty_with_room(&mut self.points, points);
+        empty_with_room(&mut self.contour_ranges, contours);
+        empty_with_room(&mut self.shape_ranges, shapes);
     }
 
     /// Appends a shape.
     pub fn add_shape(&mut self, shape: &[IntContour<I>]) {
-        let first = self.contour_ranges.len();
-        for contour in shape {
-            self.contour_ranges
-                .push(appended(&mut self.points, contour));
-        }
-        self.shape_ranges.push(first..self.contour_ranges.len());
+        self.append(shape);
     }
 
     /// A copy of each shape.
@@ -223,6 +211,15 @@ impl<I: IntNumber> FlatShapesBuffer<I> {
             })
             .collect()
     }
+
+    fn append<C: AsRef<[IntPoint<I>]>>(&mut self, shape: &[C]) {
+        let first = self.contour_ranges.len();
+        for contour in shape {
+            let range = appended(&mut self.points, contour.as_ref());
+            self.contour_ranges.push(range);
+        }
+        self.shape_ranges.push(first..self.contour_ranges.len());
+    }
 }
 
 impl<I: IntNumber> From<OwnedShapes<I>> for FlatShapesBuffer<I> {
@@ -241,4 +238,10 @@ fn appended<I: Copy>(points: &mut Vec<IntPoint<I>>, contour: &[IntPoint<I>]) -> 
     let start = points.len();
     points.extend_from_slice(contour);
     start..points.len()
+}
+
+/// Takes all items out, and makes room for so many.
+fn empty_with_room<T>(items: &mut Vec<T>, count: usize) {
+    items.clear();
+    items.reserve(count);
 }

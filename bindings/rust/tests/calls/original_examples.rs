@@ -1,9 +1,8 @@
 //! What the README of the crate `i_shape` shows of whole numbers, over this crate: the same names,
 //! by the same paths.
 
-use i_shape::flat::buffer::FlatContoursBuffer;
 use i_shape::int::{IntPoint, area::Area, path::ContourExtension};
-use i_shape::source::int::resource::IntShapeResource;
+use i_shape::{flat::buffer::FlatContoursBuffer, source::int::resource::IntShapeResource};
 use i_shape::{int_path, int_shape, int_shapes, path, paths};
 
 #[test]

@@ -70,7 +70,8 @@ impl<'a, I> Iterator for BufferPaths<'a, I> {
     type Item = &'a [IntPoint<I>];
 
     fn next(&mut self) -> Option<Self::Item> {
-        self.ranges.next().map(|range| &self.points[range.clone()])
+        let range = self.ranges.next()?;
+        Some(&self.points[range.clone()])
     }
 
     fn size_hint(&self) -> (usize, Option<usize>) {
