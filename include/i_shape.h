@@ -44,80 +44,121 @@ typedef struct { int64_t x, y; } i_shape_point_i64;
 /* The two halves of the 128 bits of a whole number. */
 typedef struct { uint64_t low, high; } i_shape_halves;
 
-#define I_SHAPE_CLEAN_ONE(NAME, W) \
-    ptrdiff_t i_shape_##NAME##_i##W(const i_shape_point_i##W *points, size_t count, i_shape_point_i##W *out, size_t room);
+/* The calls at 32 bits. Those at 16 and at 64 bits stand below. */
 
-#define I_SHAPE_CLEAN_MANY(NAME, W) \
-    ptrdiff_t i_shape_##NAME##_contours_i##W(const i_shape_point_i##W *points, size_t count, \
-                                             const size_t *offsets, size_t offset_count, \
-                                             i_shape_point_i##W *out_points, size_t room, \
-                                             size_t *out_offsets, size_t offset_room);
+/* One contour. These answer how many points are written to the front of out: at least 3, at most count, and 0 where the
+ * contour collapses. I_SHAPE_UNFIT: room is below count. Behind these points, and after a code, out is as it was. Below
+ * three points, and for a contour that is clean, no memory is taken. */
 
-#define I_SHAPE_CLEAN_SHAPES(NAME, W) \
-    ptrdiff_t i_shape_##NAME##_shapes_i##W(const i_shape_point_i##W *points, size_t count, \
-                                           const size_t *contours, size_t contour_offsets, \
-                                           const size_t *shapes, size_t shape_offsets, \
-                                           i_shape_point_i##W *out_points, size_t room, \
-                                           size_t *out_contours, size_t contour_room, \
-                                           size_t *out_shapes, size_t shape_room);
+/* Without zero turns: the one end of removing them in any order. */
+ptrdiff_t i_shape_simplify_i32(const i_shape_point_i32 *points, size_t count, i_shape_point_i32 *out, size_t room);
+/* Without the points at which the way turns back or stands still. */
+ptrdiff_t i_shape_despike_i32(const i_shape_point_i32 *points, size_t count, i_shape_point_i32 *out, size_t room);
+/* Simplified, from the start at which it is least by x and then y, point by point. */
+ptrdiff_t i_shape_canonical_i32(const i_shape_point_i32 *points, size_t count, i_shape_point_i32 *out, size_t room);
 
-#define I_SHAPE_TEST(NAME, W) int32_t i_shape_##NAME##_i##W(const i_shape_point_i##W *points, size_t count);
+/* Many contours, end to end in one array: contour k is points[offsets[k]] .. points[offsets[k + 1]], so that m contours
+ * have offset_count = m + 1. The answer lies in the same way in out_points and out_offsets, from 0 on, a contour that
+ * collapses empty at its place. These answer how many points are written. I_SHAPE_UNFIT: offset_count is 0, an offset
+ * is below the one before it or above count, room is below count, or offset_room below offset_count. Behind these
+ * points and offsets nothing is written, nor after I_SHAPE_UNSAFE and I_SHAPE_UNFIT; after I_SHAPE_NO_MEMORY the first
+ * count points and offset_count offsets may be. Where each contour is clean or has fewer than three points, no memory
+ * is taken. */
 
-#define I_SHAPE_CALLS(W, AREA) \
-    /* One contour. They answer how many points are written to the front of out: at least 3, at most count, and 0 where the contour \
-       collapses. I_SHAPE_UNFIT: room is below count. Behind these points, and after a code, out is as it was. Below three points, and for a contour that is \
-       clean, no memory is taken. */ \
-    I_SHAPE_CLEAN_ONE(simplify, W)  /* without zero turns: the one end of removing them in any order */ \
-    I_SHAPE_CLEAN_ONE(despike, W)   /* without the points at which the way turns back or stands still */ \
-    I_SHAPE_CLEAN_ONE(canonical, W) /* simplified, from the start at which it is least by x and then y, point by point */ \
-    /* Many contours, end to end in one array: contour k is points[offsets[k]] .. points[offsets[k + 1]], so that m contours have \
-       offset_count = m + 1. The answer lies in the same way in out_points and out_offsets, from 0 on, a contour that collapses empty at \
-       its place. They answer how many points are written. I_SHAPE_UNFIT: offset_count is 0, an offset is below the one before it or \
-       above count, room is below count, or offset_room below offset_count. Behind these points and offsets nothing is written, nor \
-       after I_SHAPE_UNSAFE and I_SHAPE_UNFIT; after I_SHAPE_NO_MEMORY the first count points and offset_count offsets may be. Where each contour \
-       is clean or has fewer than three points, no memory is taken. */ \
-    I_SHAPE_CLEAN_MANY(simplify, W) \
-    I_SHAPE_CLEAN_MANY(despike, W) \
-    I_SHAPE_CLEAN_MANY(canonical, W) \
-    /* Polygons: contours[] parts the points into contours, as above, and shapes[] parts these into polygons, the outer contour of each \
-       first. The answer lies in the same way in out_points, out_contours and out_shapes, from 0 on, without the contours that collapse and \
-       the polygons whose outer contour does. They answer how many polygons these are, n: they end at out_shapes[n], and their \
-       contours at out_contours[out_shapes[n]]. I_SHAPE_UNFIT as above, and where the same is wrong of shapes[] over the contours. \
-       I_SHAPE_UNSAFE: contours that no polygon has are tested too. Behind the answer nothing is written, nor after a code. */ \
-    I_SHAPE_CLEAN_SHAPES(simplify, W) \
-    I_SHAPE_CLEAN_SHAPES(despike, W)   /* a contour that has no spikes stays as it is */ \
-    I_SHAPE_CLEAN_SHAPES(canonical, W) /* the holes of each polygon sorted, and then the polygons: equal arrays are the same polygons */ \
-    I_SHAPE_CLEAN_SHAPES(canonical_unoriented, W) /* the same where a contour may be read backwards too: the lesser of the forms of both ways */ \
-    /* Tests. They answer 1 or 0, or I_SHAPE_UNSAFE, and take no memory. */ \
-    I_SHAPE_TEST(is_simple, W)      /* at least three points, and no zero turn */ \
-    I_SHAPE_TEST(has_no_spikes, W)  /* at least three points without those equal to the one before, and the way over them nowhere goes back */ \
-    I_SHAPE_TEST(is_convex, W)      /* at most two points without those equal to the one before, or the way over them nowhere goes back or bends to both sides */ \
-    /* Whether an odd number of edges pass the height of (x, y) strictly to the right of it. I_SHAPE_UNSAFE: that point isn't safe either. */ \
-    int32_t i_shape_contains_i##W(const i_shape_point_i##W *points, size_t count, int##W##_t x, int##W##_t y); \
-    /* Winding numbers. How often the contour winds about (x, y), to the left: how many edges pass its height upwards and strictly to the right of it, less \
-       those that do so downwards; or I_SHAPE_NO_WINDING, if that point or one of the contour isn't safe. It takes no memory. */ \
-    ptrdiff_t i_shape_winding_i##W(const i_shape_point_i##W *points, size_t count, int##W##_t x, int##W##_t y); \
-    /* How often all contours, parted as above, wind about each of about_count points together, into out: what a fill rule asks of a \
-       polygon's rings. It answers 0. I_SHAPE_UNFIT: the offsets are wrong as above, or room is below about_count. I_SHAPE_UNSAFE: a point of a \
-       contour or of about isn't safe. After a code, and behind about_count, out is as it was. It takes no memory, and one pass over the \
-       contours for each point. */ \
-    int32_t i_shape_windings_i##W(const i_shape_point_i##W *points, size_t count, const size_t *offsets, size_t offset_count, \
-                                  const i_shape_point_i##W *about, size_t about_count, ptrdiff_t *out, size_t room); \
-    /* Whether each point is safe: 1 or 0. It takes no memory. */ \
-    I_SHAPE_TEST(is_safe, W) \
-    /* Twice the area, above 0 where the contour turns left; false, and *area as it was, where there is no point. No safe range is \
-       asked: a sum that doesn't fit wraps. It takes no memory. */ \
-    bool i_shape_area_two_i##W(const i_shape_point_i##W *points, size_t count, AREA *area);
+/* Each contour as i_shape_simplify_i32 leaves it. */
+ptrdiff_t i_shape_simplify_contours_i32(const i_shape_point_i32 *points, size_t count, const size_t *offsets, size_t offset_count, i_shape_point_i32 *out_points, size_t room, size_t *out_offsets, size_t offset_room);
+/* Each contour as i_shape_despike_i32 leaves it. */
+ptrdiff_t i_shape_despike_contours_i32(const i_shape_point_i32 *points, size_t count, const size_t *offsets, size_t offset_count, i_shape_point_i32 *out_points, size_t room, size_t *out_offsets, size_t offset_room);
+/* Each contour as i_shape_canonical_i32 leaves it. */
+ptrdiff_t i_shape_canonical_contours_i32(const i_shape_point_i32 *points, size_t count, const size_t *offsets, size_t offset_count, i_shape_point_i32 *out_points, size_t room, size_t *out_offsets, size_t offset_room);
 
-I_SHAPE_CALLS(16, int32_t)
-I_SHAPE_CALLS(32, int64_t)
-I_SHAPE_CALLS(64, i_shape_halves)
+/* Polygons: contours[] parts the points into contours, as above, and shapes[] parts these into polygons, the outer
+ * contour of each first. The answer lies in the same way in out_points, out_contours and out_shapes, from 0 on, without
+ * the contours that collapse and the polygons whose outer contour does. These answer how many polygons are left, n:
+ * they end at out_shapes[n], and their contours at out_contours[out_shapes[n]]. I_SHAPE_UNFIT as above, and where the
+ * same is wrong of shapes[] over the contours. I_SHAPE_UNSAFE: contours that no polygon has are tested too. Behind the
+ * answer nothing is written, nor after a code. */
 
-#undef I_SHAPE_CALLS
-#undef I_SHAPE_TEST
-#undef I_SHAPE_CLEAN_SHAPES
-#undef I_SHAPE_CLEAN_MANY
-#undef I_SHAPE_CLEAN_ONE
+/* Without zero turns. */
+ptrdiff_t i_shape_simplify_shapes_i32(const i_shape_point_i32 *points, size_t count, const size_t *contours, size_t contour_offsets, const size_t *shapes, size_t shape_offsets, i_shape_point_i32 *out_points, size_t room, size_t *out_contours, size_t contour_room, size_t *out_shapes, size_t shape_room);
+/* Without spikes. A contour that has none stays as it is. */
+ptrdiff_t i_shape_despike_shapes_i32(const i_shape_point_i32 *points, size_t count, const size_t *contours, size_t contour_offsets, const size_t *shapes, size_t shape_offsets, i_shape_point_i32 *out_points, size_t room, size_t *out_contours, size_t contour_room, size_t *out_shapes, size_t shape_room);
+/* The holes of each polygon sorted, and then the polygons: equal arrays are the same polygons. */
+ptrdiff_t i_shape_canonical_shapes_i32(const i_shape_point_i32 *points, size_t count, const size_t *contours, size_t contour_offsets, const size_t *shapes, size_t shape_offsets, i_shape_point_i32 *out_points, size_t room, size_t *out_contours, size_t contour_room, size_t *out_shapes, size_t shape_room);
+/* The same where a contour may be read backwards too: the lesser of the forms of both ways. */
+ptrdiff_t i_shape_canonical_unoriented_shapes_i32(const i_shape_point_i32 *points, size_t count, const size_t *contours, size_t contour_offsets, const size_t *shapes, size_t shape_offsets, i_shape_point_i32 *out_points, size_t room, size_t *out_contours, size_t contour_room, size_t *out_shapes, size_t shape_room);
+
+/* Tests of a contour. These answer 1 or 0, or I_SHAPE_UNSAFE, and take no memory. */
+
+/* At least three points, and no zero turn. */
+int32_t i_shape_is_simple_i32(const i_shape_point_i32 *points, size_t count);
+/* At least three points without those equal to the one before, and the way over them nowhere goes back. */
+int32_t i_shape_has_no_spikes_i32(const i_shape_point_i32 *points, size_t count);
+/* At most two points without those equal to the one before, or the way over them nowhere goes back or bends to both
+ * sides. */
+int32_t i_shape_is_convex_i32(const i_shape_point_i32 *points, size_t count);
+/* An odd number of edges pass the height of (x, y) strictly to the right of it. I_SHAPE_UNSAFE: that point isn't safe
+ * either. */
+int32_t i_shape_contains_i32(const i_shape_point_i32 *points, size_t count, int32_t x, int32_t y);
+/* Each point is safe. It never answers I_SHAPE_UNSAFE. */
+int32_t i_shape_is_safe_i32(const i_shape_point_i32 *points, size_t count);
+
+/* Winding numbers. These take no memory. */
+
+/* How often the contour winds about (x, y), to the left: how many edges pass its height upwards and strictly to the
+ * right of it, less those that do so downwards; or I_SHAPE_NO_WINDING, if that point or one of the contour isn't
+ * safe. */
+ptrdiff_t i_shape_winding_i32(const i_shape_point_i32 *points, size_t count, int32_t x, int32_t y);
+/* How often all contours, parted as above, wind about each of about_count points together, into out: what a fill rule
+ * asks of a polygon's rings. It answers 0. I_SHAPE_UNFIT: the offsets are wrong as above, or room is below about_count.
+ * I_SHAPE_UNSAFE: a point of a contour or of about isn't safe. After a code, and behind about_count, out is as it was.
+ * It makes one pass over the contours for each point. */
+int32_t i_shape_windings_i32(const i_shape_point_i32 *points, size_t count, const size_t *offsets, size_t offset_count, const i_shape_point_i32 *about, size_t about_count, ptrdiff_t *out, size_t room);
+
+/* Twice the area, above 0 where the contour turns left; false, and *area as it was, where there is no point. No safe
+ * range is asked: a sum that doesn't fit wraps. It takes no memory. At 16 bits the area has 32, at 64 bits it is the
+ * halves of 128. */
+bool i_shape_area_two_i32(const i_shape_point_i32 *points, size_t count, int64_t *area);
+
+/* The calls at 16 bits: scripts/widths.sh makes them of those at 32 bits. */
+ptrdiff_t i_shape_simplify_i16(const i_shape_point_i16 *points, size_t count, i_shape_point_i16 *out, size_t room);
+ptrdiff_t i_shape_despike_i16(const i_shape_point_i16 *points, size_t count, i_shape_point_i16 *out, size_t room);
+ptrdiff_t i_shape_canonical_i16(const i_shape_point_i16 *points, size_t count, i_shape_point_i16 *out, size_t room);
+ptrdiff_t i_shape_simplify_contours_i16(const i_shape_point_i16 *points, size_t count, const size_t *offsets, size_t offset_count, i_shape_point_i16 *out_points, size_t room, size_t *out_offsets, size_t offset_room);
+ptrdiff_t i_shape_despike_contours_i16(const i_shape_point_i16 *points, size_t count, const size_t *offsets, size_t offset_count, i_shape_point_i16 *out_points, size_t room, size_t *out_offsets, size_t offset_room);
+ptrdiff_t i_shape_canonical_contours_i16(const i_shape_point_i16 *points, size_t count, const size_t *offsets, size_t offset_count, i_shape_point_i16 *out_points, size_t room, size_t *out_offsets, size_t offset_room);
+ptrdiff_t i_shape_simplify_shapes_i16(const i_shape_point_i16 *points, size_t count, const size_t *contours, size_t contour_offsets, const size_t *shapes, size_t shape_offsets, i_shape_point_i16 *out_points, size_t room, size_t *out_contours, size_t contour_room, size_t *out_shapes, size_t shape_room);
+ptrdiff_t i_shape_despike_shapes_i16(const i_shape_point_i16 *points, size_t count, const size_t *contours, size_t contour_offsets, const size_t *shapes, size_t shape_offsets, i_shape_point_i16 *out_points, size_t room, size_t *out_contours, size_t contour_room, size_t *out_shapes, size_t shape_room);
+ptrdiff_t i_shape_canonical_shapes_i16(const i_shape_point_i16 *points, size_t count, const size_t *contours, size_t contour_offsets, const size_t *shapes, size_t shape_offsets, i_shape_point_i16 *out_points, size_t room, size_t *out_contours, size_t contour_room, size_t *out_shapes, size_t shape_room);
+ptrdiff_t i_shape_canonical_unoriented_shapes_i16(const i_shape_point_i16 *points, size_t count, const size_t *contours, size_t contour_offsets, const size_t *shapes, size_t shape_offsets, i_shape_point_i16 *out_points, size_t room, size_t *out_contours, size_t contour_room, size_t *out_shapes, size_t shape_room);
+int32_t i_shape_is_simple_i16(const i_shape_point_i16 *points, size_t count);
+int32_t i_shape_has_no_spikes_i16(const i_shape_point_i16 *points, size_t count);
+int32_t i_shape_is_convex_i16(const i_shape_point_i16 *points, size_t count);
+int32_t i_shape_contains_i16(const i_shape_point_i16 *points, size_t count, int16_t x, int16_t y);
+int32_t i_shape_is_safe_i16(const i_shape_point_i16 *points, size_t count);
+ptrdiff_t i_shape_winding_i16(const i_shape_point_i16 *points, size_t count, int16_t x, int16_t y);
+int32_t i_shape_windings_i16(const i_shape_point_i16 *points, size_t count, const size_t *offsets, size_t offset_count, const i_shape_point_i16 *about, size_t about_count, ptrdiff_t *out, size_t room);
+bool i_shape_area_two_i16(const i_shape_point_i16 *points, size_t count, int32_t *area);
+
+/* The calls at 64 bits: scripts/widths.sh makes them of those at 32 bits. */
+ptrdiff_t i_shape_simplify_i64(const i_shape_point_i64 *points, size_t count, i_shape_point_i64 *out, size_t room);
+ptrdiff_t i_shape_despike_i64(const i_shape_point_i64 *points, size_t count, i_shape_point_i64 *out, size_t room);
+ptrdiff_t i_shape_canonical_i64(const i_shape_point_i64 *points, size_t count, i_shape_point_i64 *out, size_t room);
+ptrdiff_t i_shape_simplify_contours_i64(const i_shape_point_i64 *points, size_t count, const size_t *offsets, size_t offset_count, i_shape_point_i64 *out_points, size_t room, size_t *out_offsets, size_t offset_room);
+ptrdiff_t i_shape_despike_contours_i64(const i_shape_point_i64 *points, size_t count, const size_t *offsets, size_t offset_count, i_shape_point_i64 *out_points, size_t room, size_t *out_offsets, size_t offset_room);
+ptrdiff_t i_shape_canonical_contours_i64(const i_shape_point_i64 *points, size_t count, const size_t *offsets, size_t offset_count, i_shape_point_i64 *out_points, size_t room, size_t *out_offsets, size_t offset_room);
+ptrdiff_t i_shape_simplify_shapes_i64(const i_shape_point_i64 *points, size_t count, const size_t *contours, size_t contour_offsets, const size_t *shapes, size_t shape_offsets, i_shape_point_i64 *out_points, size_t room, size_t *out_contours, size_t contour_room, size_t *out_shapes, size_t shape_room);
+ptrdiff_t i_shape_despike_shapes_i64(const i_shape_point_i64 *points, size_t count, const size_t *contours, size_t contour_offsets, const size_t *shapes, size_t shape_offsets, i_shape_point_i64 *out_points, size_t room, size_t *out_contours, size_t contour_room, size_t *out_shapes, size_t shape_room);
+ptrdiff_t i_shape_canonical_shapes_i64(const i_shape_point_i64 *points, size_t count, const size_t *contours, size_t contour_offsets, const size_t *shapes, size_t shape_offsets, i_shape_point_i64 *out_points, size_t room, size_t *out_contours, size_t contour_room, size_t *out_shapes, size_t shape_room);
+ptrdiff_t i_shape_canonical_unoriented_shapes_i64(const i_shape_point_i64 *points, size_t count, const size_t *contours, size_t contour_offsets, const size_t *shapes, size_t shape_offsets, i_shape_point_i64 *out_points, size_t room, size_t *out_contours, size_t contour_room, size_t *out_shapes, size_t shape_room);
+int32_t i_shape_is_simple_i64(const i_shape_point_i64 *points, size_t count);
+int32_t i_shape_has_no_spikes_i64(const i_shape_point_i64 *points, size_t count);
+int32_t i_shape_is_convex_i64(const i_shape_point_i64 *points, size_t count);
+int32_t i_shape_contains_i64(const i_shape_point_i64 *points, size_t count, int64_t x, int64_t y);
+int32_t i_shape_is_safe_i64(const i_shape_point_i64 *points, size_t count);
+ptrdiff_t i_shape_winding_i64(const i_shape_point_i64 *points, size_t count, int64_t x, int64_t y);
+int32_t i_shape_windings_i64(const i_shape_point_i64 *points, size_t count, const size_t *offsets, size_t offset_count, const i_shape_point_i64 *about, size_t about_count, ptrdiff_t *out, size_t room);
+bool i_shape_area_two_i64(const i_shape_point_i64 *points, size_t count, i_shape_halves *area);
 
 #ifdef __cplusplus
 }

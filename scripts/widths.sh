@@ -1,10 +1,11 @@
 #!/usr/bin/env bash
-# Makes the calls of C at 16 and at 64 bits, and their proofs, from those at 32 bits: i16.rt, i64.rt and i32.rt in crates/i_shape_c/src/calls, and the
-# folders of these names in proofs/calls. With the word --check it tells where what is there is something else, and the last line is
-# 'widths: N passed, M failed'.
+# Makes the calls of C at 16 and at 64 bits, their proofs and their declarations, from those at 32 bits: i16.rt, i64.rt and i32.rt in
+# crates/i_shape_c/src/calls, the folders of these names in proofs/calls, and the sections of include/i_shape.h. With the word --check it tells where what
+# is there is something else, and the last line is 'widths: N passed, M failed'.
 set -euo pipefail
 cd "$(dirname "$0")/.." || exit 1
 crate=crates/i_shape_c
+header=include/i_shape.h
 
 # Code at 32 bits, at $1 bits, whose products have $2 bits. The codes that the tests answer stay.
 at_width() {
@@ -33,10 +34,27 @@ make_width() {
     done
 }
 
+# The declarations of the header at 32 bits, at $1 bits, whose areas are of the type $2. The codes that the tests answer stay.
+declarations_at() {
+    grep -E '^[a-z].* i_shape_[a-z_]+_i32\(.*;$' "$header" |
+        sed -E -e 's/^int32_t/CODE/; s/int64_t \*area/AREA *area/' -e "s/_i32\b/_i$1/g; s/\bint32_t/int$1_t/g" -e "s/CODE/int32_t/; s/AREA/$2/"
+}
+
+# Prints the header, its sections at 16 and at 64 bits made from that at 32 bits. A section ends at a blank line.
+made_header() {
+    awk -v at16="$(declarations_at 16 int32_t)" -v at64="$(declarations_at 64 i_shape_halves)" '
+        /^$/ { is_made = 0 }
+        !is_made
+        /^\/\* The calls at 16 bits:/ { print at16; is_made = 1 }
+        /^\/\* The calls at 64 bits:/ { print at64; is_made = 1 }' "$header"
+}
+
 if [ "${1-}" != --check ]; then
     rm -rf "$crate"/proofs/calls/i{16,64}
     make_width 16 32 "$crate"
     make_width 64 128 "$crate"
+    made=$(made_header)
+    printf '%s\n' "$made" > "$header"
     exit
 fi
 . .ci/count.sh
@@ -49,5 +67,8 @@ for part in src/calls proofs/calls; do
     diff -r -x i32 -x i32.rt "$crate/$part" "$work/$part" || same=1
     count $same "$crate/$part: another width than scripts/widths.sh makes of i32"
 done
+same=0
+diff "$header" <(made_header) || same=1
+count $same "$header: another width than scripts/widths.sh makes of 32 bits"
 echo "widths: $passed passed, $failed failed"
 [ "$failed" -eq 0 ]
