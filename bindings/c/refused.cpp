@@ -1,0 +1,29 @@
+/* Points that i_shape.hpp refuses to compile, one for each number of REFUSED, and behind the number what the compiler says. */
+#include "i_shape.hpp"
+
+#if REFUSED == 1 /* a coordinate is a signed whole number */
+struct Point { std::uint32_t x, y; };
+#elif REFUSED == 2 /* a coordinate is a signed whole number */
+struct Point { float x, y; };
+#elif REFUSED == 3 /* a point is its two coordinates and nothing else */
+struct Point { std::int32_t x, y, z; };
+#elif REFUSED == 4 /* x lies at the front of a point, and y behind it */
+struct Point { std::int32_t y, x; };
+#elif REFUSED == 5 /* a point is aligned as its coordinates are */
+struct __attribute__((packed)) Point { std::int32_t x, y; };
+#elif REFUSED == 6 /* a point has standard layout */
+struct Across { std::int32_t x; };
+struct Point : Across { std::int32_t y; };
+template <>
+struct i_shape::PointTraits<Point> {
+    using Coordinate = std::int32_t;
+    static constexpr std::size_t x_offset = 0, y_offset = 4;
+};
+#elif REFUSED == 7 /* PointTraits<Point */
+struct Point { std::int16_t x; std::int32_t y; };
+#endif
+
+std::vector<Point> left(const std::vector<Point> &points);
+std::vector<Point> left(const std::vector<Point> &points) {
+    return i_shape::simplify(points);
+}

@@ -1,0 +1,383 @@
+/* Tests of i_shape.hpp at each width, over points of several types: worked contours by each call, each code, small and large. The points of
+ * Clipper and Boost are taken where their headers are, and are counted as skipped else. */
+#include "i_shape.hpp"
+
+#include <array>
+#include <cstdio>
+#include <cstdlib>
+#include <functional>
+#include <string>
+
+#if __has_include(<polyclipping/clipper.hpp>)
+#define HAS_CLIPPER
+#include <polyclipping/clipper.hpp>
+#endif
+#if __has_include(<boost/polygon/point_data.hpp>) && __has_include(<boost/geometry/geometries/point_xy.hpp>)
+#define HAS_BOOST
+#include <boost/geometry/geometries/point_xy.hpp>
+#include <boost/polygon/point_data.hpp>
+#endif
+
+#include "rows.h"
+
+/* The archive takes these in place of its own. */
+struct tried {
+    std::uintptr_t ok;
+    void *at;
+};
+
+static bool is_refused;
+static char nothing;
+
+extern "C" {
+tried rattle_alloc(std::size_t size, std::size_t align);
+tried rattle_realloc(void *at, std::size_t kept, std::size_t size, std::size_t align);
+void rattle_dealloc(void *at);
+
+tried rattle_alloc(std::size_t size, std::size_t align) {
+    void *at = is_refused ? nullptr : std::malloc(size != 0 ? size : align);
+    return {at != nullptr, at != nullptr ? at : &nothing};
+}
+
+tried rattle_realloc(void *before, std::size_t, std::size_t size, std::size_t align) {
+    void *at = is_refused ? nullptr : std::realloc(before, size != 0 ? size : align);
+    return {at != nullptr, at != nullptr ? at : &nothing};
+}
+
+void rattle_dealloc(void *at) {
+    std::free(at);
+}
+}
+
+template <class Coordinate>
+struct Lower {
+    Coordinate x, y;
+};
+
+template <class Coordinate>
+struct Upper {
+    Coordinate X, Y;
+};
+
+/* A point as a library with private members has it. */
+template <class Coordinate>
+class Private {
+public:
+    Private() = default;
+    Private(Coordinate x, Coordinate y) : across_(x), up_(y) {}
+    Coordinate x() const { return across_; }
+    Coordinate y() const { return up_; }
+
+private:
+    Coordinate across_, up_;
+};
+
+namespace i_shape {
+
+template <class Coordinate_>
+struct PointTraits<Private<Coordinate_>> {
+    using Coordinate = Coordinate_;
+    static constexpr std::size_t x_offset = 0;
+    static constexpr std::size_t y_offset = sizeof(Coordinate);
+};
+
+#ifdef HAS_BOOST
+template <class Coordinate_>
+struct PointTraits<boost::polygon::point_data<Coordinate_>> {
+    using Coordinate = Coordinate_;
+    static constexpr std::size_t x_offset = 0;
+    static constexpr std::size_t y_offset = sizeof(Coordinate);
+};
+
+template <class Coordinate_>
+struct PointTraits<boost::geometry::model::d2::point_xy<Coordinate_>> {
+    using Coordinate = Coordinate_;
+    static constexpr std::size_t x_offset = 0;
+    static constexpr std::size_t y_offset = sizeof(Coordinate);
+};
+#endif
+
+} // namespace i_shape
+
+namespace {
+
+int passed, failed;
+
+class Checks {
+protected:
+    explicit Checks(const char *kind) : kind_(kind) {}
+
+    void check(bool holds, const char *call, const char *what) const {
+        (holds ? passed : failed)++;
+        if (!holds) std::printf("C++, %s, %s: %s\n", kind_, call, what);
+    }
+
+    void throws(i_shape::Code code, const char *call, const char *what, const std::function<void()> &called) const {
+        try {
+            called();
+            check(false, call, what);
+        } catch (const i_shape::Error &error) {
+            check(error.code() == code && std::string(error.what()).rfind("i_shape: ", 0) == 0, call, what);
+        }
+    }
+
+private:
+    const char *kind_;
+};
+
+/* The tests over one type of point. */
+template <class Point>
+class Tests : Checks {
+public:
+    explicit Tests(const char *kind) : Checks(kind) {}
+
+    void run_all() const {
+        run_some();
+        test_kinds_of_arrays();
+        test_shapes();
+        test_area();
+        test_codes();
+        test_large();
+    }
+
+    /* Those that read, write and copy a point in each way. */
+    void run_some() const {
+        test_rows();
+        test_contours();
+        test_tests();
+        test_windings();
+    }
+
+private:
+    using Coordinate = typename i_shape::PointTraits<Point>::Coordinate;
+    using Contour = std::vector<Point>;
+    static constexpr auto least_unsafe = static_cast<Coordinate>(Coordinate{1} << (8 * sizeof(Coordinate) - 2));
+
+    static Point point(long long x, long long y) {
+        return Point{static_cast<Coordinate>(x), static_cast<Coordinate>(y)};
+    }
+
+    static Contour contour(const int (*points)[2], std::size_t count) {
+        Contour made;
+        for (std::size_t k = 0; k < count; k++) made.push_back(point(points[k][0], points[k][1]));
+        return made;
+    }
+
+    /* The coordinates at the places that the traits tell. */
+    static std::array<Coordinate, 2> coordinates(const Point &of) {
+        std::array<Coordinate, 2> both;
+        const char *bytes = reinterpret_cast<const char *>(&of);
+        std::memcpy(&both[0], bytes + i_shape::PointTraits<Point>::x_offset, sizeof both[0]);
+        std::memcpy(&both[1], bytes + i_shape::PointTraits<Point>::y_offset, sizeof both[1]);
+        return both;
+    }
+
+    static bool are_equal(const Contour &one, const Contour &other) {
+        if (one.size() != other.size()) return false;
+        for (std::size_t k = 0; k < one.size(); k++)
+            if (coordinates(one[k]) != coordinates(other[k])) return false;
+        return true;
+    }
+
+    static Contour square() { return {point(0, 0), point(4, 0), point(4, 4), point(0, 4)}; }
+
+    /* A square whose lower edge has count points too many. */
+    static Contour straight(int count) {
+        Contour made;
+        for (int k = 0; k <= count; k++) made.push_back(point(k, 0));
+        made.insert(made.end(), {point(count + 1, 0), point(count + 1, 4), point(0, 4)});
+        return made;
+    }
+
+    void test_rows() const {
+        for (const row &row : rows) {
+            const Contour given = contour(row.points, row.count);
+            const Contour answers[CLEANERS] = {i_shape::simplify(given), i_shape::despike(given), i_shape::canonical(given)};
+            Contour into[CLEANERS] = {given, given, given};
+            const std::size_t counts[CLEANERS] = {i_shape::simplify_into(given, into[0]), i_shape::despike_into(given, into[1]),
+                                                  i_shape::canonical_into(given, into[2])};
+            for (int k = 0; k < CLEANERS; k++) {
+                const Contour left = contour(row.left[k].points, row.left[k].count);
+                check(are_equal(answers[k], left), cleaner_names[k], row.name);
+                into[k].resize(counts[k]);
+                check(are_equal(into[k], left), cleaner_names[k], row.name);
+            }
+            check(i_shape::is_simple(given) == (row.is_simple != 0), "is_simple", row.name);
+            check(i_shape::has_no_spikes(given) == (row.has_no_spikes != 0), "has_no_spikes", row.name);
+            check(i_shape::is_convex(given) == (row.is_convex != 0), "is_convex", row.name);
+            check(i_shape::is_safe(given), "is_safe", row.name);
+        }
+    }
+
+    void test_kinds_of_arrays() const {
+        const Point plain[] = {point(0, 0), point(2, 0), point(4, 0), point(0, 4)};
+        const std::array<Point, 4> array = {plain[0], plain[1], plain[2], plain[3]};
+        const Contour left = {plain[0], plain[2], plain[3]};
+        check(are_equal(i_shape::simplify(plain), left), "simplify", "an array of C");
+        check(are_equal(i_shape::simplify(array), left), "simplify", "a std::array");
+        check(are_equal(i_shape::simplify(i_shape::Span<const Point>(plain, 4)), left), "simplify", "a pointer and a count");
+        check(i_shape::simplify(i_shape::Span<const Point>(nullptr, 0)).empty(), "simplify", "no pointer, of no point");
+        check(i_shape::simplify(Contour()).empty(), "simplify", "no point");
+        check(i_shape::simplify_into(Contour(), i_shape::Span<Point>(nullptr, 0)) == 0, "simplify_into", "no point");
+    }
+
+    void test_contours() const {
+        std::vector<Contour> given, left[CLEANERS];
+        for (const row &row : rows) {
+            given.push_back(contour(row.points, row.count));
+            for (int k = 0; k < CLEANERS; k++) left[k].push_back(contour(row.left[k].points, row.left[k].count));
+        }
+        const i_shape::Contours<Point> all = i_shape::flat(given);
+        const i_shape::Contours<Point> answers[CLEANERS] = {i_shape::simplify_contours(all.points, all.offsets),
+                                                            i_shape::despike_contours(all.points, all.offsets),
+                                                            i_shape::canonical_contours(all.points, all.offsets)};
+        for (int k = 0; k < CLEANERS; k++) {
+            const std::vector<Contour> contours = i_shape::nested(answers[k]);
+            check(contours.size() == left[k].size() && answers[k].points.size() == answers[k].offsets.back(), cleaner_names[k], "many contours");
+            for (std::size_t r = 0; r < left[k].size() && r < contours.size(); r++)
+                check(are_equal(contours[r], left[k][r]), cleaner_names[k], "one of many contours");
+        }
+        const i_shape::Contours<Point> none = i_shape::flat(std::vector<Contour>());
+        check(i_shape::nested(i_shape::simplify_contours(none.points, none.offsets)).empty(), "simplify_contours", "no contour");
+    }
+
+    /* A square with three holes, of which one collapses; a polygon that collapses, with a hole; an empty one; and a triangle. */
+    void test_shapes() const {
+        const Contour outer = {point(10, 0), point(10, 10), point(0, 10), point(0, 0), point(5, 0)};
+        const Contour inner = {point(8, 6), point(6, 6), point(6, 8), point(7, 7)}, other = {point(2, 4), point(4, 2), point(2, 2)};
+        const Contour line = {point(1, 1), point(2, 2), point(3, 3)}, triangle = {point(0, -4), point(4, 0), point(-4, 0)};
+        const i_shape::Shapes<Point> all = i_shape::flat(std::vector<std::vector<Contour>>{{outer, inner, line, other}, {line, other}, {}, {triangle}});
+        const i_shape::Shapes<Point> answers[POLYGON_CLEANERS] = {i_shape::simplify_shapes(all.points, all.contours, all.shapes),
+                                                                  i_shape::despike_shapes(all.points, all.contours, all.shapes),
+                                                                  i_shape::canonical_shapes(all.points, all.contours, all.shapes),
+                                                                  i_shape::canonical_unoriented_shapes(all.points, all.contours, all.shapes)};
+        for (int k = 0; k < POLYGON_CLEANERS; k++) {
+            const polygons &left = polygons_left[k];
+            check(are_equal(answers[k].points, contour(left.points, left.contours[4])), polygon_cleaner_names[k], "points of polygons");
+            check(answers[k].contours == std::vector<std::size_t>(left.contours, left.contours + 5), polygon_cleaner_names[k], "contours of polygons");
+            check(answers[k].shapes == std::vector<std::size_t>(left.shapes, left.shapes + 4), polygon_cleaner_names[k], "polygons");
+        }
+        const auto shapes = i_shape::nested(answers[0]);
+        check(shapes.size() == 3 && shapes[0].size() == 3 && shapes[1].empty() && shapes[2].size() == 1 && are_equal(shapes[2][0], triangle),
+              "nested", "polygons");
+        const auto none = i_shape::flat(std::vector<std::vector<Contour>>());
+        check(i_shape::nested(i_shape::simplify_shapes(none.points, none.contours, none.shapes)).empty(), "simplify_shapes", "no polygon");
+    }
+
+    void test_tests() const {
+        check(i_shape::contains(square(), point(1, 1)), "contains", "a point inside");
+        check(!i_shape::contains(square(), point(5, 1)), "contains", "a point outside");
+        check(!i_shape::contains(Contour(), point(5, 1)), "contains", "no contour");
+        check(!i_shape::is_safe(Contour{point(0, least_unsafe)}), "is_safe", "a point that isn't safe");
+    }
+
+    /* A square that turns left, and in it one that turns right. */
+    void test_windings() const {
+        Contour given = square();
+        given.insert(given.end(), {point(1, 1), point(1, 3), point(3, 3), point(3, 1)});
+        const Contour about = {point(2, 2), point(0, 2), point(4, 2)};
+        const std::array<std::size_t, 3> offsets = {0, 4, 8};
+        check(i_shape::winding(square(), point(2, 2)) == 1, "winding", "a square that turns left");
+        check(i_shape::winding(Contour(given.begin() + 4, given.end()), point(2, 2)) == -1, "winding", "a square that turns right");
+        check(i_shape::windings(given, offsets, about) == std::vector<std::ptrdiff_t>{0, 1, 0}, "windings", "two contours together");
+        check(i_shape::windings(given, offsets, Contour()).empty(), "windings", "about no point");
+    }
+
+    static bool is_area(std::int32_t area, std::int64_t wanted) { return area == wanted; }
+    static bool is_area(std::int64_t area, std::int64_t wanted) { return area == wanted; }
+    static bool is_area(i_shape_halves area, std::int64_t wanted) {
+        return area.low == static_cast<std::uint64_t>(wanted) && area.high == (wanted < 0 ? UINT64_MAX : 0);
+    }
+
+    void test_area() const {
+        const Contour left = square(), right(left.rbegin(), left.rend());
+        check(!i_shape::area_two(Contour()), "area_two", "no point");
+        check(is_area(i_shape::area_two(left).value(), 32), "area_two", "a square that turns left");
+        check(is_area(i_shape::area_two(right).value(), -32), "area_two", "a square that turns right");
+    }
+
+    void test_codes() const {
+        using i_shape::Code;
+        Contour unsafe = square();
+        unsafe[2] = point(least_unsafe, 0);
+        const Contour given = straight(1);
+        const std::vector<std::size_t> whole = {0, 4}, none, outside = {0, 9}, polygon = {0, 1};
+        throws(Code::unsafe, "simplify", "a point that isn't safe", [&] { i_shape::simplify(unsafe); });
+        throws(Code::unsafe, "despike", "a point that isn't safe", [&] { i_shape::despike(unsafe); });
+        throws(Code::unsafe, "canonical", "a point that isn't safe", [&] { i_shape::canonical(unsafe); });
+        throws(Code::unsafe, "is_simple", "a point that isn't safe", [&] { i_shape::is_simple(unsafe); });
+        throws(Code::unsafe, "has_no_spikes", "a point that isn't safe", [&] { i_shape::has_no_spikes(unsafe); });
+        throws(Code::unsafe, "is_convex", "a point that isn't safe", [&] { i_shape::is_convex(unsafe); });
+        throws(Code::unsafe, "contains", "a vertex that isn't safe", [&] { i_shape::contains(unsafe, point(1, 1)); });
+        throws(Code::unsafe, "contains", "a point that isn't safe", [&] { i_shape::contains(square(), point(least_unsafe, 1)); });
+        throws(Code::unsafe, "winding", "a point that isn't safe", [&] { i_shape::winding(square(), point(least_unsafe, 1)); });
+        throws(Code::unsafe, "windings", "a vertex that isn't safe", [&] { i_shape::windings(unsafe, whole, square()); });
+        throws(Code::unfit, "windings", "no offset", [&] { i_shape::windings(square(), none, square()); });
+        for (const auto call : {&i_shape::simplify_contours<Contour, std::vector<std::size_t>>,
+                                &i_shape::despike_contours<Contour, std::vector<std::size_t>>,
+                                &i_shape::canonical_contours<Contour, std::vector<std::size_t>>}) {
+            throws(Code::unsafe, "contours", "a point that isn't safe", [&] { call(unsafe, whole); });
+            throws(Code::unfit, "contours", "no offset", [&] { call(unsafe, none); });
+            throws(Code::unfit, "contours", "an offset out of the points", [&] { call(unsafe, outside); });
+        }
+        for (const auto call : {&i_shape::simplify_shapes<Contour, std::vector<std::size_t>, std::vector<std::size_t>>,
+                                &i_shape::despike_shapes<Contour, std::vector<std::size_t>, std::vector<std::size_t>>,
+                                &i_shape::canonical_shapes<Contour, std::vector<std::size_t>, std::vector<std::size_t>>,
+                                &i_shape::canonical_unoriented_shapes<Contour, std::vector<std::size_t>, std::vector<std::size_t>>}) {
+            throws(Code::unsafe, "shapes", "a point that isn't safe", [&] { call(unsafe, whole, polygon); });
+            throws(Code::unfit, "shapes", "no offset", [&] { call(unsafe, whole, none); });
+            throws(Code::unfit, "shapes", "a contour out of the points", [&] { call(unsafe, outside, polygon); });
+        }
+        for (const auto call : {&i_shape::simplify_into<Contour>, &i_shape::despike_into<Contour>, &i_shape::canonical_into<Contour>}) {
+            Contour out(given.size(), point(7, 7));
+            const Contour before = out;
+            throws(Code::unfit, "into", "room for all points but one", [&] { call(given, i_shape::Span<Point>(out.data(), out.size() - 1)); });
+            check(are_equal(out, before), "into", "what a code leaves");
+        }
+        is_refused = true;
+        throws(Code::no_memory, "simplify", "refused memory", [&] { i_shape::simplify(given); });
+        is_refused = false;
+        check(are_equal(given, straight(1)), "simplify", "the given contour stays");
+    }
+
+    void test_large() const {
+        constexpr int count = 10000;
+        const Contour given = straight(count), corners = {point(0, 0), point(count + 1, 0), point(count + 1, 4), point(0, 4)};
+        check(are_equal(i_shape::simplify(given), corners), "simplify", "a large contour");
+        check(are_equal(i_shape::canonical(given), corners), "canonical", "a large contour");
+        check(are_equal(i_shape::despike(given), given), "despike", "a large contour");
+        const auto many = i_shape::flat(std::vector<Contour>(100, given));
+        check(i_shape::simplify_contours(many.points, many.offsets).points.size() == 400, "simplify_contours", "large contours");
+        check(i_shape::is_convex(given) && !i_shape::is_simple(given) && i_shape::has_no_spikes(given), "tests", "a large contour");
+        check(i_shape::contains(given, point(count / 2, 1)) && i_shape::winding(given, point(count / 2, 1)) == 1, "contains", "a large contour");
+        check(is_area(i_shape::area_two(given).value(), 8 * (count + 1)), "area_two", "a large contour");
+    }
+};
+
+} // namespace
+
+int main() {
+    int skipped = 0;
+    Tests<Upper<std::int16_t>>("X and Y at 16 bits").run_all();
+    Tests<Lower<std::int32_t>>("x and y at 32 bits").run_all();
+    Tests<Private<std::int64_t>>("private members at 64 bits").run_all();
+    Tests<Lower<long>>("x and y of type long").run_some();
+    Tests<Lower<long long>>("x and y of type long long").run_some();
+    Tests<i_shape_point_i16>("C's point").run_some();
+#ifdef HAS_CLIPPER
+    Tests<ClipperLib::IntPoint>("Clipper's point").run_some();
+#else
+    skipped++;
+    std::puts("Clipper's point is not tested: Debian's libpolyclipping-dev has it");
+#endif
+#ifdef HAS_BOOST
+    Tests<boost::polygon::point_data<int>>("Boost.Polygon's point").run_some();
+    Tests<boost::geometry::model::d2::point_xy<std::int16_t>>("Boost.Geometry's point").run_some();
+#else
+    skipped += 2;
+    std::puts("Boost's points are not tested: Debian's libboost-dev has them");
+#endif
+    if (skipped == 0) std::printf("%d passed, %d failed\n", passed, failed);
+    else std::printf("%d passed, %d failed, %d skipped\n", passed, failed, skipped);
+    return failed != 0;
+}

@@ -1,0 +1,421 @@
+/* The calls of i_shape.h for C++17, over points of any type that is two whole numbers of one width: templates only, over
+ * libi_shape.a or libi_shape.so. Each call is the C call of its name, which i_shape.h describes; docs/CPP.md has samples.
+ *
+ * Points, offsets and numbers are taken from whatever std::data and std::size take: a vector, an array, or a pointer and
+ * a count as i_shape::Span. Answers are vectors. A code of C is an i_shape::Error; where an answer's vector gets no
+ * memory, it throws std::bad_alloc. Whatever is thrown, nothing that was given is changed. */
+#ifndef I_SHAPE_HPP
+#define I_SHAPE_HPP
+
+#include "i_shape.h"
+
+#include <cstddef>
+#include <cstdint>
+#include <cstring>
+#include <exception>
+#include <iterator>
+#include <optional>
+#include <type_traits>
+#include <utility>
+#include <vector>
+
+namespace i_shape {
+
+enum class Code : std::int32_t {
+    unsafe = I_SHAPE_UNSAFE,      /* a point that the call reads isn't safe */
+    unfit = I_SHAPE_UNFIT,        /* the offsets don't part the points, or the array of the answer is too short */
+    no_memory = I_SHAPE_NO_MEMORY /* memory was refused */
+};
+
+class Error : public std::exception {
+public:
+    explicit Error(Code code) noexcept : code_(code) {}
+
+    Code code() const noexcept { return code_; }
+
+    const char *what() const noexcept override {
+        switch (code_) {
+        case Code::unsafe: return "i_shape: a point isn't in the safe range";
+        case Code::unfit: return "i_shape: the offsets don't part the points, or the array of the answer is too short";
+        case Code::no_memory: break;
+        }
+        return "i_shape: memory was refused";
+    }
+
+private:
+    Code code_;
+};
+
+/* A pointer and a count: items that lie somewhere else. */
+template <class Item>
+class Span {
+public:
+    constexpr Span(Item *items, std::size_t count) noexcept : items_(items), count_(count) {}
+
+    template <class Items, class = std::enable_if_t<std::is_convertible_v<decltype(std::data(std::declval<Items &>())), Item *>>>
+    constexpr Span(Items &items) : items_(std::data(items)), count_(std::size(items)) {}
+
+    constexpr Item *data() const noexcept { return items_; }
+    constexpr std::size_t size() const noexcept { return count_; }
+
+private:
+    Item *items_;
+    std::size_t count_;
+};
+
+/* The type of a point's coordinates, and where in the point they lie. It is here for points with public members x and y,
+ * or X and Y; specialise it for a point of yours whose members are private or have other names. */
+template <class Point, class = void>
+struct PointTraits;
+
+template <class Point>
+struct PointTraits<Point, std::enable_if_t<std::is_member_object_pointer_v<decltype(&Point::x)> &&
+                                           std::is_same_v<decltype(&Point::x), decltype(&Point::y)>>> {
+    using Coordinate = decltype(Point::x);
+    static constexpr std::size_t x_offset = offsetof(Point, x);
+    static constexpr std::size_t y_offset = offsetof(Point, y);
+};
+
+template <class Point>
+struct PointTraits<Point, std::enable_if_t<std::is_member_object_pointer_v<decltype(&Point::X)> &&
+                                           std::is_same_v<decltype(&Point::X), decltype(&Point::Y)>>> {
+    using Coordinate = decltype(Point::X);
+    static constexpr std::size_t x_offset = offsetof(Point, X);
+    static constexpr std::size_t y_offset = offsetof(Point, Y);
+};
+
+/* Contours end to end: contour k is points[offsets[k]] .. points[offsets[k + 1]]. */
+template <class Point>
+struct Contours {
+    std::vector<Point> points;
+    std::vector<std::size_t> offsets;
+};
+
+/* Polygons end to end: polygon k has the contours shapes[k] .. shapes[k + 1], its outer contour first. */
+template <class Point>
+struct Shapes {
+    std::vector<Point> points;
+    std::vector<std::size_t> contours;
+    std::vector<std::size_t> shapes;
+};
+
+namespace detail {
+
+/* The calls of C at the width of coordinates of so many bytes. */
+template <std::size_t Bytes>
+struct Calls;
+
+#define I_SHAPE_CALLS(W, AREA) \
+    template <> \
+    struct Calls<W / 8> { \
+        using Point = i_shape_point_i##W; \
+        using Area = AREA; \
+        static constexpr auto simplify = i_shape_simplify_i##W; \
+        static constexpr auto despike = i_shape_despike_i##W; \
+        static constexpr auto canonical = i_shape_canonical_i##W; \
+        static constexpr auto simplify_contours = i_shape_simplify_contours_i##W; \
+        static constexpr auto despike_contours = i_shape_despike_contours_i##W; \
+        static constexpr auto canonical_contours = i_shape_canonical_contours_i##W; \
+        static constexpr auto simplify_shapes = i_shape_simplify_shapes_i##W; \
+        static constexpr auto despike_shapes = i_shape_despike_shapes_i##W; \
+        static constexpr auto canonical_shapes = i_shape_canonical_shapes_i##W; \
+        static constexpr auto canonical_unoriented_shapes = i_shape_canonical_unoriented_shapes_i##W; \
+        static constexpr auto is_simple = i_shape_is_simple_i##W; \
+        static constexpr auto has_no_spikes = i_shape_has_no_spikes_i##W; \
+        static constexpr auto is_convex = i_shape_is_convex_i##W; \
+        static constexpr auto contains = i_shape_contains_i##W; \
+        static constexpr auto is_safe = i_shape_is_safe_i##W; \
+        static constexpr auto winding = i_shape_winding_i##W; \
+        static constexpr auto windings = i_shape_windings_i##W; \
+        static constexpr auto area_two = i_shape_area_two_i##W; \
+    };
+
+I_SHAPE_CALLS(16, std::int32_t)
+I_SHAPE_CALLS(32, std::int64_t)
+I_SHAPE_CALLS(64, i_shape_halves)
+
+#undef I_SHAPE_CALLS
+
+/* The calls for a point, which lies in memory as C's point does. */
+template <class Point>
+struct CallsFor : Calls<sizeof(typename PointTraits<Point>::Coordinate)> {
+    using Coordinate = typename PointTraits<Point>::Coordinate;
+    static_assert(std::is_integral_v<Coordinate> && std::is_signed_v<Coordinate>, "i_shape: a coordinate is a signed whole number");
+    static_assert(std::is_standard_layout_v<Point>, "i_shape: a point has standard layout");
+    static_assert(sizeof(Point) == 2 * sizeof(Coordinate), "i_shape: a point is its two coordinates and nothing else");
+    static_assert(PointTraits<Point>::x_offset == 0 && PointTraits<Point>::y_offset == sizeof(Coordinate),
+                  "i_shape: x lies at the front of a point, and y behind it");
+    static_assert(alignof(Point) >= alignof(typename CallsFor::Point), "i_shape: a point is aligned as its coordinates are");
+};
+
+template <class Points>
+using PointOf = std::remove_cv_t<std::remove_pointer_t<decltype(std::data(std::declval<const Points &>()))>>;
+
+template <class Points>
+using CallsOf = CallsFor<PointOf<Points>>;
+
+/* The items as C's. Of no items it is an address too, since a call of C takes no null pointer. */
+template <class To, class Item>
+To *address(Item *items) noexcept {
+    static std::remove_const_t<To> nothing{};
+    return items != nullptr ? reinterpret_cast<To *>(items) : &nothing;
+}
+
+/* What a call of C is given for an array: where it lies, and its count. */
+template <class Points>
+const typename CallsOf<Points>::Point *read(const Points &points) noexcept {
+    return address<const typename CallsOf<Points>::Point>(std::data(points));
+}
+
+template <class Point>
+typename CallsFor<Point>::Point *write(std::vector<Point> &points) noexcept {
+    return address<typename CallsFor<Point>::Point>(points.data());
+}
+
+template <class Offsets>
+const std::size_t *read_offsets(const Offsets &offsets) noexcept {
+    return address<const std::size_t>(static_cast<const std::size_t *>(std::data(offsets)));
+}
+
+template <class Point>
+typename CallsFor<Point>::Point as_c(const Point &point) noexcept {
+    typename CallsFor<Point>::Point copy;
+    std::memcpy(&copy, &point, sizeof copy);
+    return copy;
+}
+
+inline std::size_t count_of(std::ptrdiff_t answer) {
+    if (answer < 0) throw Error(static_cast<Code>(answer));
+    return static_cast<std::size_t>(answer);
+}
+
+template <class Points, class Call>
+std::size_t clean_into(Call call, const Points &points, Span<PointOf<Points>> out) {
+    using Point = typename CallsOf<Points>::Point;
+    return count_of(call(read(points), std::size(points), address<Point>(out.data()), out.size()));
+}
+
+template <class Points, class Call>
+std::vector<PointOf<Points>> clean(Call call, const Points &points) {
+    std::vector<PointOf<Points>> left(std::size(points));
+    left.resize(clean_into(call, points, left));
+    return left;
+}
+
+template <class Points, class Offsets, class Call>
+Contours<PointOf<Points>> clean_contours(Call call, const Points &points, const Offsets &offsets) {
+    Contours<PointOf<Points>> left;
+    left.points.resize(std::size(points));
+    left.offsets.resize(std::size(offsets));
+    left.points.resize(count_of(call(read(points), std::size(points), read_offsets(offsets), std::size(offsets), write(left.points),
+                                     left.points.size(), address<std::size_t>(left.offsets.data()), left.offsets.size())));
+    return left;
+}
+
+template <class Points, class Offsets, class ShapeOffsets, class Call>
+Shapes<PointOf<Points>> clean_shapes(Call call, const Points &points, const Offsets &contours, const ShapeOffsets &shapes) {
+    Shapes<PointOf<Points>> left;
+    left.points.resize(std::size(points));
+    left.contours.resize(std::size(contours));
+    left.shapes.resize(std::size(shapes));
+    const std::size_t count = count_of(call(read(points), std::size(points), read_offsets(contours), std::size(contours), read_offsets(shapes),
+                                            std::size(shapes), write(left.points), left.points.size(),
+                                            address<std::size_t>(left.contours.data()), left.contours.size(),
+                                            address<std::size_t>(left.shapes.data()), left.shapes.size()));
+    left.shapes.resize(count + 1);
+    left.contours.resize(left.shapes.back() + 1);
+    left.points.resize(left.contours.back());
+    return left;
+}
+
+template <class Points, class Call>
+bool test(Call call, const Points &points) {
+    return count_of(call(read(points), std::size(points))) != 0;
+}
+
+} // namespace detail
+
+/* The type of the points of a vector, an array or a Span. */
+template <class Points>
+using PointOf = detail::PointOf<Points>;
+
+/* Twice an area: std::int32_t of coordinates of 16 bits, std::int64_t of 32, and of 64 the halves of 128 bits. */
+template <class Points>
+using AreaOf = typename detail::CallsOf<Points>::Area;
+
+/* One contour: what is left of it, nothing where it collapses. Those of the name .._into write it to the front of out and
+ * answer how many points that is; they throw Code::unfit where out is shorter than the points, and out is no part of
+ * these. */
+
+template <class Points>
+std::vector<PointOf<Points>> simplify(const Points &points) {
+    return detail::clean(detail::CallsOf<Points>::simplify, points);
+}
+
+template <class Points>
+std::size_t simplify_into(const Points &points, Span<PointOf<Points>> out) {
+    return detail::clean_into(detail::CallsOf<Points>::simplify, points, out);
+}
+
+template <class Points>
+std::vector<PointOf<Points>> despike(const Points &points) {
+    return detail::clean(detail::CallsOf<Points>::despike, points);
+}
+
+template <class Points>
+std::size_t despike_into(const Points &points, Span<PointOf<Points>> out) {
+    return detail::clean_into(detail::CallsOf<Points>::despike, points, out);
+}
+
+template <class Points>
+std::vector<PointOf<Points>> canonical(const Points &points) {
+    return detail::clean(detail::CallsOf<Points>::canonical, points);
+}
+
+template <class Points>
+std::size_t canonical_into(const Points &points, Span<PointOf<Points>> out) {
+    return detail::clean_into(detail::CallsOf<Points>::canonical, points, out);
+}
+
+/* Many contours: what is left of each, empty at its place where it collapses. */
+
+template <class Points, class Offsets>
+Contours<PointOf<Points>> simplify_contours(const Points &points, const Offsets &offsets) {
+    return detail::clean_contours(detail::CallsOf<Points>::simplify_contours, points, offsets);
+}
+
+template <class Points, class Offsets>
+Contours<PointOf<Points>> despike_contours(const Points &points, const Offsets &offsets) {
+    return detail::clean_contours(detail::CallsOf<Points>::despike_contours, points, offsets);
+}
+
+template <class Points, class Offsets>
+Contours<PointOf<Points>> canonical_contours(const Points &points, const Offsets &offsets) {
+    return detail::clean_contours(detail::CallsOf<Points>::canonical_contours, points, offsets);
+}
+
+/* Polygons: what is left of them, without contours that collapse and polygons whose outer contour does. */
+
+template <class Points, class Offsets, class ShapeOffsets>
+Shapes<PointOf<Points>> simplify_shapes(const Points &points, const Offsets &contours, const ShapeOffsets &shapes) {
+    return detail::clean_shapes(detail::CallsOf<Points>::simplify_shapes, points, contours, shapes);
+}
+
+template <class Points, class Offsets, class ShapeOffsets>
+Shapes<PointOf<Points>> despike_shapes(const Points &points, const Offsets &contours, const ShapeOffsets &shapes) {
+    return detail::clean_shapes(detail::CallsOf<Points>::despike_shapes, points, contours, shapes);
+}
+
+template <class Points, class Offsets, class ShapeOffsets>
+Shapes<PointOf<Points>> canonical_shapes(const Points &points, const Offsets &contours, const ShapeOffsets &shapes) {
+    return detail::clean_shapes(detail::CallsOf<Points>::canonical_shapes, points, contours, shapes);
+}
+
+template <class Points, class Offsets, class ShapeOffsets>
+Shapes<PointOf<Points>> canonical_unoriented_shapes(const Points &points, const Offsets &contours, const ShapeOffsets &shapes) {
+    return detail::clean_shapes(detail::CallsOf<Points>::canonical_unoriented_shapes, points, contours, shapes);
+}
+
+/* Tests of a contour. All but is_safe throw Code::unsafe where a point isn't safe. */
+
+template <class Points>
+bool is_simple(const Points &points) {
+    return detail::test(detail::CallsOf<Points>::is_simple, points);
+}
+
+template <class Points>
+bool has_no_spikes(const Points &points) {
+    return detail::test(detail::CallsOf<Points>::has_no_spikes, points);
+}
+
+template <class Points>
+bool is_convex(const Points &points) {
+    return detail::test(detail::CallsOf<Points>::is_convex, points);
+}
+
+template <class Points>
+bool contains(const Points &points, const PointOf<Points> &about) {
+    const auto at = detail::as_c(about);
+    return detail::count_of(detail::CallsOf<Points>::contains(detail::read(points), std::size(points), at.x, at.y)) != 0;
+}
+
+template <class Points>
+bool is_safe(const Points &points) {
+    return detail::test(detail::CallsOf<Points>::is_safe, points);
+}
+
+/* How often a contour winds about a point. It throws Code::unsafe where that point or one of the contour isn't safe. */
+template <class Points>
+std::ptrdiff_t winding(const Points &points, const PointOf<Points> &about) {
+    const auto at = detail::as_c(about);
+    const std::ptrdiff_t number = detail::CallsOf<Points>::winding(detail::read(points), std::size(points), at.x, at.y);
+    if (number == I_SHAPE_NO_WINDING) throw Error(Code::unsafe);
+    return number;
+}
+
+/* How often many contours together wind about each of the points about. */
+template <class Points, class Offsets, class About>
+std::vector<std::ptrdiff_t> windings(const Points &points, const Offsets &offsets, const About &about) {
+    static_assert(std::is_same_v<PointOf<Points>, PointOf<About>>, "i_shape: the points of both are of one type");
+    std::vector<std::ptrdiff_t> numbers(std::size(about));
+    detail::count_of(detail::CallsOf<Points>::windings(detail::read(points), std::size(points), detail::read_offsets(offsets), std::size(offsets),
+                                                       detail::read(about), std::size(about),
+                                                       detail::address<std::ptrdiff_t>(numbers.data()), numbers.size()));
+    return numbers;
+}
+
+/* Twice the area of a contour, above 0 where it turns left; nothing where it has no point. */
+template <class Points>
+std::optional<AreaOf<Points>> area_two(const Points &points) noexcept {
+    AreaOf<Points> area;
+    if (!detail::CallsOf<Points>::area_two(detail::read(points), std::size(points), &area)) return std::nullopt;
+    return area;
+}
+
+/* Contours, each in a vector of its own, end to end, and back. */
+
+template <class Point>
+Contours<Point> flat(const std::vector<std::vector<Point>> &contours) {
+    Contours<Point> all{{}, {0}};
+    for (const auto &contour : contours) {
+        all.points.insert(all.points.end(), contour.begin(), contour.end());
+        all.offsets.push_back(all.points.size());
+    }
+    return all;
+}
+
+template <class Point>
+std::vector<std::vector<Point>> nested(const Contours<Point> &all) {
+    std::vector<std::vector<Point>> contours;
+    for (std::size_t k = 0; k + 1 < all.offsets.size(); k++)
+        contours.emplace_back(all.points.data() + all.offsets[k], all.points.data() + all.offsets[k + 1]);
+    return contours;
+}
+
+/* The same of polygons, each a vector of contours. */
+
+template <class Point>
+Shapes<Point> flat(const std::vector<std::vector<std::vector<Point>>> &shapes) {
+    Shapes<Point> all{{}, {0}, {0}};
+    for (const auto &shape : shapes) {
+        for (const auto &contour : shape) {
+            all.points.insert(all.points.end(), contour.begin(), contour.end());
+            all.contours.push_back(all.points.size());
+        }
+        all.shapes.push_back(all.contours.size() - 1);
+    }
+    return all;
+}
+
+template <class Point>
+std::vector<std::vector<std::vector<Point>>> nested(const Shapes<Point> &all) {
+    const auto contours = nested(Contours<Point>{all.points, all.contours});
+    std::vector<std::vector<std::vector<Point>>> shapes;
+    for (std::size_t k = 0; k + 1 < all.shapes.size(); k++)
+        shapes.emplace_back(contours.data() + all.shapes[k], contours.data() + all.shapes[k + 1]);
+    return shapes;
+}
+
+} // namespace i_shape
+
+#endif
