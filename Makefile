@@ -1,4 +1,6 @@
 PREFIX ?= /usr/local
+# Where build.sh of the C library puts what it builds.
+C_OUT := bindings/c/out$(if $(TARGET)$(CPU),/$(TARGET)$(if $(TARGET),$(if $(CPU),-))$(CPU))
 
 .PHONY: test gate check fmt c wheel pictures install install-program install-c clean
 
@@ -16,9 +18,9 @@ check:
 fmt:
 	@for crate in crates/*/; do (cd $$crate && rt fmt) || exit 1; done
 
-# The C library, in bindings/c/out.
+# The C library, in bindings/c/out; with TARGET=aarch64 or CPU=x86-64 in the folder of that name below it.
 c:
-	@bash bindings/c/build.sh
+	@bash bindings/c/build.sh $(if $(TARGET),--target $(TARGET)) $(if $(CPU),--cpu $(CPU))
 
 # The wheel of the Python package, in bindings/python/out, by Debian's Python or another PYTHON=.., over the C library or that of the folder I_SHAPE_C_DIR.
 wheel: $(if $(I_SHAPE_C_DIR),,c)
@@ -36,12 +38,13 @@ install-program:
 	install -m 755 crates/i_shape_tool_main/out/i_shape_tool_main $(DESTDIR)$(PREFIX)/bin/i_shape_tool
 
 install-c: c
-	install -d $(DESTDIR)$(PREFIX)/include $(DESTDIR)$(PREFIX)/lib/pkgconfig
-	install -m 644 include/i_shape.h $(DESTDIR)$(PREFIX)/include
-	install -m 644 bindings/c/out/libi_shape.a $(DESTDIR)$(PREFIX)/lib
-	install -m 755 bindings/c/out/libi_shape.so $(DESTDIR)$(PREFIX)/lib
-	sed 's|@PREFIX@|$(PREFIX)|' bindings/c/out/i_shape.pc.in > bindings/c/out/i_shape.pc
-	install -m 644 bindings/c/out/i_shape.pc $(DESTDIR)$(PREFIX)/lib/pkgconfig
+	install -d $(DESTDIR)$(PREFIX)/include $(DESTDIR)$(PREFIX)/lib/pkgconfig $(DESTDIR)$(PREFIX)/lib/cmake/i_shape
+	install -m 644 include/i_shape.h include/i_shape.hpp $(DESTDIR)$(PREFIX)/include
+	install -m 644 $(C_OUT)/libi_shape.a $(DESTDIR)$(PREFIX)/lib
+	install -m 755 $(C_OUT)/libi_shape.so $(DESTDIR)$(PREFIX)/lib
+	sed 's|@PREFIX@|$(PREFIX)|' $(C_OUT)/i_shape.pc.in > $(C_OUT)/i_shape.pc
+	install -m 644 $(C_OUT)/i_shape.pc $(DESTDIR)$(PREFIX)/lib/pkgconfig
+	install -m 644 bindings/c/cmake/*.cmake $(C_OUT)/i_shape-config-version.cmake $(DESTDIR)$(PREFIX)/lib/cmake/i_shape
 
 clean:
 	rm -rf crates/*/out bindings/c/out bindings/python/out bindings/rust/target

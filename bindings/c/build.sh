@@ -1,34 +1,97 @@
 #!/usr/bin/env bash
-# Builds the C library into bindings/c/out: libi_shape.a, libi_shape.so and i_shape.pc.in, for pkg-config. It is proved first, where it isn't built yet or
-# its sources are newer, and standard error tells how far that is. Both libraries hold the allocator of the C library; a program that defines
-# rattle_alloc, rattle_realloc and rattle_dealloc itself takes its own with libi_shape.a. With the word --is-built it builds nothing, and its status says
-# whether there is something to build.
+# Builds the C library into bindings/c/out: libi_shape.a, libi_shape.so, and for installing them i_shape.pc.in and i_shape-config-version.cmake. It is proved
+# first, where it isn't built yet or its sources are newer, and standard error tells how far that is. Both libraries hold the allocator of the C library; a
+# program that defines rattle_alloc, rattle_realloc and rattle_dealloc itself takes its own with libi_shape.a.
+#
+# usage: build.sh [--is-built] [--target aarch64] [--cpu NAME]
+#
+# --target builds it for another machine, and --cpu for another processor, as x86-64 for those before x86-64-v2, the default: into a folder of that name
+# below bindings/c/out. With --is-built it builds nothing, and its status says whether there is nothing to build.
 set -eu
 top=$(cd "$(dirname "$0")/../.." && pwd)
-crate=$top/crates/i_shape_c
-proved=$crate/out/libi_shape_c.a
-out=$top/bindings/c/out
+here=$top/bindings/c
+archive=$top/crates/i_shape_c/out/libi_shape_c.a
 version=$(printf '%d.%d.%d' $(sed -n 's/^#define I_SHAPE_VERSION 0x\(..\)\(..\)\(..\)$/0x\1 0x\2 0x\3/p' "$top/include/i_shape.h"))
+only_asks='' target='' cpu=''
+while [ $# -gt 0 ]; do
+    case $1 in
+    --is-built) only_asks=yes ;;
+    --target) target=${2:?a machine} && shift ;;
+    --cpu) cpu=${2:?a processor} && shift ;;
+    *) echo "build.sh: what is $1?" >&2 && exit 2 ;;
+    esac
+    shift
+done
+case $target in
+'' | aarch64) ;;
+*) echo "make c: TARGET is aarch64, or left out for x86-64, and not $target" >&2 && exit 2 ;;
+esac
+kind=$target${target:+${cpu:+-}}$cpu
+out=$here/out${kind:+/$kind}
+# The archive of the default stays where rt writes it. Others are moved away from there.
+proved=${kind:+$out/libi_shape_c.a}
+proved=${proved:-$archive}
 
-is_newer_than() {
-    [ -n "$(find "$top/crates" "$top/crates.txt" "$top/include" "$0" -name out -prune -o -type f ! -path '*/wrong/*' ! -path '*/must-fail/*' \
-        -newer "$1" -print | head -n 1)" ]
+# Whether one of the others is newer than the file $1.
+is_older_than_one_of() {
+    [ -n "$(find "${@:2}" -name out -prune -o -type f ! -path '*/wrong/*' ! -path '*/must-fail/*' -newer "$1" -print | head -n 1)" ]
 }
 
 is_proved() {
-    [ -e "$proved" ] && ! is_newer_than "$proved"
+    [ -e "$proved" ] && ! is_older_than_one_of "$proved" "$top/crates" "$top/crates.txt"
 }
 
 is_built() {
-    is_proved && [ -e "$out/i_shape.pc.in" ] && [ ! "$proved" -nt "$out/i_shape.pc.in" ]
+    is_proved && [ -e "$out/i_shape.pc.in" ] &&
+        ! is_older_than_one_of "$out/i_shape.pc.in" "$proved" "$top/include" "$here/build.sh" "$here/allocator.c" "$here/i_shape.pc.in" "$here/cmake"
 }
 
-if [ "${1-}" = --is-built ]; then
+# Each library after those that it uses. Sources that are changed meanwhile are newer than the archive.
+prove_all() {
+    has_room 4000
+    touch "$out/build.started"
+    for library in i_shape_core i_shape_source i_shape i_shape_c; do
+        prove "$library" lib --jobs "$jobs"
+    done
+    touch -r "$out/build.started" "$archive"
+}
+
+# The same for another machine or processor, over the kept proofs of the default, whose archive is put back into its place afterwards.
+prove_other() {
+    touch "$out/build.started"
+    cp -p "$archive" "$out/default.a"
+    trap 'mv "$out/default.a" "$archive"' EXIT
+    prove i_shape_c lib --jobs "$jobs" ${target:+--target "$target-unknown-linux-gnu"} ${cpu:+--cpu "$cpu"}
+    touch -r "$out/build.started" "$archive"
+    mv "$archive" "$proved"
+    mv "$out/default.a" "$archive"
+    trap - EXIT
+}
+
+# The allocator, in the folder of objects: that of the kit, which has none for aarch64.
+add_allocator() {
+    if [ "$target" = aarch64 ]; then
+        aarch64-linux-gnu-gcc -std=c11 -O2 -fPIC -c "$here/allocator.c" -o allocator.o
+    else
+        "$kit/toolchain/bin/llvm-ar" x "$kit/c/liblibc_c.a"
+    fi
+}
+
+link_shared() {
+    local linker=("$kit/toolchain/bin/clang" -fuse-ld=lld)
+    [ "$target" != aarch64 ] || linker=(aarch64-linux-gnu-gcc)
+    echo '{ global: i_shape_*; local: *; };' > "$out/names"
+    "${linker[@]}" -shared -Wl,-soname,libi_shape.so -Wl,--version-script,"$out/names" -o "$out/libi_shape.so" "$out"/objects/*.o
+}
+
+if [ -n "$only_asks" ]; then
     is_built
     exit
 fi
+# Others are proved over what the default has kept.
+[ -z "$kind" ] || bash "$here/build.sh"
 mkdir -p "$out"
-exec 9> "$out/build.lock"
+exec 9> "$here/out/build.lock"
 flock 9
 if is_built; then
     exit
@@ -38,25 +101,23 @@ if ! command -v rt > /dev/null; then
     echo 'bindings/c/out serves without the kit: set I_SHAPE_C_DIR to a copy of it for `make wheel` and for the crate for Rust.' >&2
     exit 1
 fi
+if [ "$target" = aarch64 ] && ! command -v aarch64-linux-gnu-gcc > /dev/null; then
+    echo "make c: TARGET=aarch64 needs Debian's gcc-aarch64-linux-gnu and libc6-dev-arm64-cross" >&2
+    exit 1
+fi
 kit=$(dirname "$(rt doc)")
 if ! is_proved; then
     name='make c'
     log=$out/build.log
+    jobs=$(($(nproc) > 1 ? 2 : 1))
     . "$top/scripts/prove.sh"
-    has_room 4000
     : > "$log"
-    touch "$out/build.started"
-    # Each library after those that it uses.
-    for library in i_shape_core i_shape_source i_shape i_shape_c; do
-        prove "$library" lib --jobs $(($(nproc) > 1 ? 2 : 1))
-    done
-    # sources that were changed meanwhile are newer than the archive
-    touch -r "$out/build.started" "$proved"
+    if [ -z "$kind" ]; then prove_all; else prove_other; fi
 fi
 mkdir -p "$out/objects"
 rm -f "$out"/objects/* "$out/libi_shape.a"
-(cd "$out/objects" && "$kit/toolchain/bin/llvm-ar" x "$proved" && "$kit/toolchain/bin/llvm-ar" x "$kit/c/liblibc_c.a")
+(cd "$out/objects" && "$kit/toolchain/bin/llvm-ar" x "$proved" && add_allocator)
 "$kit/toolchain/bin/llvm-ar" rcs "$out/libi_shape.a" "$out"/objects/*.o
-echo '{ global: i_shape_*; local: *; };' > "$out/names"
-"$kit/toolchain/bin/clang" -shared -fuse-ld=lld -Wl,-soname,libi_shape.so -Wl,--version-script,"$out/names" -o "$out/libi_shape.so" "$out"/objects/*.o
-sed "s|@VERSION@|$version|" "$top/bindings/c/i_shape.pc.in" > "$out/i_shape.pc.in"
+link_shared
+sed "s|@VERSION@|$version|" "$here/cmake/i_shape-config-version.cmake.in" > "$out/i_shape-config-version.cmake"
+sed "s|@VERSION@|$version|" "$here/i_shape.pc.in" > "$out/i_shape.pc.in"

@@ -1,0 +1,39 @@
+/* The three functions of docs/C.md, "An allocator of the host's own", over malloc: for a processor whose own the Rattle kit doesn't have. No
+ * proof covers them. An align divides 16, to which malloc aligns too. */
+#include <stdalign.h>
+#include <stddef.h>
+#include <stdint.h>
+#include <stdlib.h>
+
+_Static_assert(alignof(max_align_t) >= 16, "malloc aligns to 16");
+
+struct tried {
+    uintptr_t ok;
+    void *at;
+};
+
+struct tried rattle_alloc(size_t size, size_t align);
+struct tried rattle_realloc(void *at, size_t kept, size_t size, size_t align);
+void rattle_dealloc(void *at);
+
+/* Where memory is refused, the address is one that nothing is read from. */
+static struct tried tried(void *at) {
+    static char nothing;
+    struct tried answer = {at != NULL, at ? at : &nothing};
+    return answer;
+}
+
+struct tried rattle_alloc(size_t size, size_t align) {
+    (void)align;
+    return tried(malloc(size ? size : 1));
+}
+
+struct tried rattle_realloc(void *at, size_t kept, size_t size, size_t align) {
+    (void)kept;
+    (void)align;
+    return tried(realloc(at, size ? size : 1));
+}
+
+void rattle_dealloc(void *at) {
+    free(at);
+}
