@@ -1,47 +1,19 @@
 #!/usr/bin/env bash
-# Builds the C library and runs its sample and its tests: as C11 and as C++17, each warning an error; with an allocator of the tests' own, which refuses
-# each growth in turn; against the shared library; and under the address sanitizer and valgrind, where these are at hand. The names of the
-# archive are those of the header. The examples print what docs/C.md says, and the crate for Rust passes its tests and lints, where there is a cargo for it. With the
-# word --if-built it builds nothing that would be proved: where that isn't built, its runs are skipped. The last line is 'c library: N passed, M failed', and
-# ', K skipped' behind it where K is above 0.
+# Builds the C library and runs its tests: as C11 and as C++17, each warning an error; with an allocator of the tests' own, which refuses each growth in
+# turn, and with that for other machines; against the shared library; and under the address sanitizer and valgrind, where these are at hand. The tests of
+# i_shape.hpp run by each C++ compiler that is there, and the points that it refuses don't compile. A project of CMake finds the library, where there is a
+# CMake. The names of the archive are those of the header. The programs print what the pages say, and the crate for Rust passes its tests and lints, where there is
+# a cargo for it. With the word --if-built it builds nothing that would be proved: where that isn't built, its runs are skipped. The last line is
+# 'c library: N passed, M failed', and ', K skipped' behind it where K is above 0.
 set -u
 cd "$(dirname "$0")/.." || exit 1
-. .ci/count.sh || exit 1
-export LC_ALL=C
+. .ci/c_tests.sh || exit 1
 library=bindings/c/out
-warnings=(-Wall -Wextra -Wpedantic -Wconversion -Werror)
-skipped=0
-
-# Adds up what a run of the tests counts. A run that counts nothing, or fails though it counts no failure, is one failure.
-add() {
-    local counts
-    counts=$(sed -nE 's/^([0-9]+) passed, ([0-9]+) failed$/\1 \2/p' "$work/log" | tail -n 1)
-    if [ -z "$counts" ] || { [ "$1" != 0 ] && [ "${counts#* }" = 0 ]; }; then
-        echo "$2: it ended with status $1"
-        tail -n 5 "$work/log"
-        counts="${counts% *} 1"
-    fi
-    grep -v ' passed, ' "$work/log"
-    passed=$((passed + ${counts%% *} + 0))
-    failed=$((failed + ${counts##* }))
-}
-
-# Compiles the tests by the words from $2 on, and runs them by the words of the array runner.
-test_as() {
-    local name=$1
-    shift
-    echo "c library: $name"
-    if "$@" -O1 -g "${warnings[@]}" -Iinclude -pthread -o "$work/tests" > "$work/log" 2>&1; then
-        "${runner[@]}" "$work/tests" > "$work/log" 2>&1
-    fi
-    add $? "$name"
-}
 
 # The names that the archive exports are those that the header declares.
 test_names() {
     if ! command -v rt > /dev/null; then
-        echo 'the names of the archive are not tested: there is no rt of the Rattle kit'
-        skipped=$((skipped + 1))
+        skip 'the names of the archive' 1 'there is no rt of the Rattle kit'
         return
     fi
     "$(dirname "$(rt doc)")/toolchain/bin/llvm-ar" p crates/i_shape_c/out/libi_shape_c.a > "$work/all.o"
@@ -51,24 +23,64 @@ test_names() {
     count $? 'the names'
 }
 
-# The first lines of docs/C.md that are fenced as $1, but for commands.
-fenced() {
-    awk -v fence="\`\`\`$1" 'in_it && /^```$/ { exit } in_it && !/^\$ / { print } $0 == fence { in_it = 1 }' docs/C.md
+# What the page $1 says that the command with $2 in it prints.
+shown() {
+    awk -v name="$2" '/^```$/ || /^\$ / { is_its = 0 } is_its { print } /^\$ / && index($0, name) { is_its = 1 }' "$1"
 }
 
-# The sample is that of the page, and prints the corners of its contour.
-test_sample() {
-    fenced c | diff bindings/c/sample.c - &&
-        "${CC:-cc}" "${warnings[@]}" -Iinclude bindings/c/sample.c "$library/libi_shape.a" -o "$work/sample" &&
-        [ "$("$work/sample")" = "$(printf '0 0\n4 0\n4 4\n0 4')" ]
-    count $? 'the sample'
+# The program $2 prints what the page $1 says. It is compiled by the words from $3 on.
+test_program() {
+    local page=$1 source=$2
+    shift 2
+    "$@" "${warnings[@]}" -Iinclude "$source" "$library/libi_shape.a" -o "$work/program" &&
+        "$work/program" > "$work/printed" && [ -s "$work/printed" ] && shown "$page" "$source" | diff - "$work/printed"
+    count $? "$source"
 }
 
-# The example prints what the page says.
-test_example() {
-    "${CC:-cc}" -std=c11 "${warnings[@]}" -Iinclude examples/clean.c "$library/libi_shape.a" -o "$work/clean" &&
-        "$work/clean" > "$work/shown" && fenced 'console library' | diff - "$work/shown"
-    count $? 'examples/clean.c'
+# Each point of refused.cpp is refused by the words that stand beside it.
+test_refused_points() {
+    local number words
+    while read -r number words; do
+        ! "${CXX:-c++}" -std=c++17 -Iinclude "-DREFUSED=$number" -fsyntax-only bindings/c/refused.cpp 2> "$work/log" && grep -qF "$words" "$work/log"
+        count $? "the point $number of refused.cpp: $words"
+    done < <(sed -nE 's|^#(el)?if REFUSED == ([0-9]+) /\* (.*) \*/$|\2 \3|p' bindings/c/refused.cpp)
+}
+
+# The programs of the page and the tests of i_shape.hpp, by the compiler $1 at the level $2.
+test_cpp() {
+    if ! command -v "$1" > /dev/null; then
+        skip "i_shape.hpp, $1" 3 "there is no $1"
+        return
+    fi
+    test_program docs/CPP.md bindings/c/sample.cpp "$1" -std=c++17
+    test_program docs/CPP.md bindings/c/codes.cpp "$1" -std=c++17
+    test_as "i_shape.hpp, $1" "$1" -std=c++17 "$2" bindings/c/test.cpp "$library/libi_shape.a"
+}
+
+# A project of CMake, configured by the words from $2 on, builds, and each of its programs prints the corners.
+test_project() {
+    local name=$1 program
+    shift
+    cmake -S bindings/c/consumer -B "$work/project" "$@" > "$work/log" 2>&1 && cmake --build "$work/project" >> "$work/log" 2>&1 || cat "$work/log"
+    for program in {i_shape,static,shared}_in_{c,cpp}; do
+        [ "$("$work/project/$program")" = "$corners" ]
+        count $? "CMake, $name: $program"
+    done
+    rm -rf "$work/project"
+}
+
+# The library in a project of CMake, installed and as a folder of a clone; another minor version isn't found.
+test_cmake() {
+    if ! cmake --version > /dev/null 2>&1; then
+        skip 'CMake' 13 'there is no cmake'
+        return
+    fi
+    make -s install-c PREFIX="$work/prefix"
+    test_project 'find_package' "-DCMAKE_PREFIX_PATH=$work/prefix" -DI_SHAPE_VERSION=0.1
+    test_project 'add_subdirectory' "-DI_SHAPE_FOLDER=$PWD/bindings/c" -DBUILD_SHARED_LIBS=ON
+    ! cmake -S bindings/c/consumer -B "$work/project" "-DCMAKE_PREFIX_PATH=$work/prefix" -DI_SHAPE_VERSION=0.2 > "$work/log" 2>&1 &&
+        grep -q 'version: 0.1' "$work/log"
+    count $? 'CMake, find_package: another minor version'
 }
 
 # How many tests the crate for Rust has by its sources: those that stand alone, three of each name that is tested at each width, and those of its example, rustdoc,
@@ -83,8 +95,7 @@ count_rust_tests() {
 # Runs cargo's command $1 on the crate for Rust, by the words from $2 on, if there is that command.
 lint_rust() {
     if ! cargo "$1" --help > /dev/null 2>&1; then
-        echo "the crate for Rust is not checked by cargo $1, which isn't there"
-        skipped=$((skipped + 1))
+        skip "cargo $1 of the crate for Rust" 1 "there is no cargo $1"
         return
     fi
     cargo "$1" --manifest-path bindings/rust/Cargo.toml "${@:2}" > "$work/cargo" 2>&1
@@ -97,8 +108,7 @@ lint_rust() {
 test_rust() {
     local its=(--offline --locked --quiet --target-dir "$work/target" --manifest-path bindings/rust/Cargo.toml)
     if ! [[ $(cargo --version 2> /dev/null) =~ ^cargo\ 1\.([0-9]+) ]] || [ "${BASH_REMATCH[1]}" -lt 85 ]; then
-        echo 'the crate for Rust is not tested: there is no cargo from 1.85 on'
-        skipped=$((skipped + $(count_rust_tests)))
+        skip 'the crate for Rust' "$(count_rust_tests)" 'there is no cargo from 1.85 on'
         return
     fi
     cargo test "${its[@]}" > "$work/cargo" 2>&1
@@ -106,7 +116,7 @@ test_rust() {
     [ "$status" = 0 ] || cat "$work/cargo"
     awk '/^test result:/ { passed += $4; failed += $6 } END { print passed + 0 " passed, " failed + 0 " failed" }' "$work/cargo" > "$work/log"
     add "$status" 'the crate for Rust'
-    cargo run "${its[@]}" --example clean > "$work/shown" && fenced 'console library' | diff - "$work/shown"
+    cargo run "${its[@]}" --example clean > "$work/printed" && shown docs/C.md examples/clean.c | diff - "$work/printed"
     count $? 'examples/clean.rs'
     RUSTDOCFLAGS='-D warnings' lint_rust doc --no-deps --offline --locked --quiet --target-dir "$work/target"
     lint_rust clippy --all-targets --offline --locked --quiet --target-dir "$work/target" -- -D warnings
@@ -115,7 +125,7 @@ test_rust() {
 
 if [ "${1-}" = --if-built ] && ! bash bindings/c/build.sh --is-built; then
     echo 'the C library and the crate for Rust are not tested: `make c` builds them'
-    echo "c library: 0 passed, 0 failed, $((7 + $(count_rust_tests))) skipped"
+    echo "c library: 0 passed, 0 failed, $((35 + $(count_rust_tests))) skipped"
     exit 0
 fi
 work=$(mktemp -d) || exit 1
@@ -127,26 +137,27 @@ if ! bash bindings/c/build.sh > "$work/log" 2>&1; then
 fi
 c=("${CC:-cc}" -std=c11 bindings/c/test.c)
 cpp=("${CXX:-c++}" -std=c++17 -x c++ bindings/c/test.c -x none)
-runner=()
+corners=$'0 0\n4 0\n4 4\n0 4'
 test_names
-test_sample
-test_example
+test_program README.md bindings/c/sample.c "${CC:-cc}" -std=c11
+test_program docs/C.md bindings/c/codes.c "${CC:-cc}" -std=c11
+test_program docs/C.md examples/clean.c "${CC:-cc}" -std=c11
+test_cpp g++ -O2
+test_cpp clang++ -O0
+test_refused_points
+test_cmake
 test_rust
 test_as 'C11' "${c[@]}" "$library/libi_shape.a"
 test_as 'C++17' "${cpp[@]}" "$library/libi_shape.a"
 test_as 'C11, shared' "${c[@]}" "$library/libi_shape.so" "-Wl,-rpath,$PWD/$library"
+test_as 'the allocator for other machines' "${c[@]}" bindings/c/allocator.c "$library/libi_shape.a"
 test_as 'each growth refused' "${c[@]}" -DOWN_ALLOCATOR "$library/libi_shape.a"
 if echo 'int main(void) { return 0; }' | "${CC:-cc}" -x c -fsanitize=address,undefined -o "$work/probe" - 2> /dev/null && "$work/probe"; then
-    test_as 'address sanitizer' "${c[@]}" -fsanitize=address,undefined "$library/libi_shape.a"
+    test_as 'address sanitizer' "${c[@]}" bindings/c/allocator.c -fsanitize=address,undefined "$library/libi_shape.a"
     test_as 'address sanitizer, each growth refused' "${c[@]}" -fsanitize=address,undefined -DOWN_ALLOCATOR "$library/libi_shape.a"
 fi
 if command -v valgrind > /dev/null; then
     runner=(valgrind -q --error-exitcode=9 --leak-check=full)
     test_as 'valgrind' "${c[@]}" -DOWN_ALLOCATOR "$library/libi_shape.a"
 fi
-if [ "$skipped" -eq 0 ]; then
-    echo "c library: $passed passed, $failed failed"
-else
-    echo "c library: $passed passed, $failed failed, $skipped skipped"
-fi
-[ "$failed" -eq 0 ]
+tell_counts 'c library'
