@@ -6,7 +6,7 @@ usage: .ci/pages.py [PAGE..]
 - a block `rust`: each of its items stands in one source of the crates, of the crate for Rust or of the examples, word for word but for clauses, attributes and
   doc lines that the page leaves out; and what the block imports is imported there;
 - a block `text` with clauses: each of its lines stands in a source of the crates;
-- a block `c`: it stands in a file of C;
+- a block `c` or `cpp`: it stands in a file of C or C++;
 - a block `console`: its commands run in order, as in one shell at the top of a clone named raspochre, each printing what stands below it;
 - the links within the repository: the page is there, and the heading;
 - docs/GATE.md has a row for each part of the gate;
@@ -27,7 +27,7 @@ import tempfile
 TOP = os.path.dirname(os.path.dirname(os.path.abspath(__file__)))
 PAGES = ["README.md", "CHANGELOG.md", "docs/*.md", "examples/*/README.md"]
 RUST = ["crates/*/src/**/*.rt", "bindings/rust/**/*.rs", "examples/**/*.rs", "bench/**/*.rs"]
-C = ["bindings/c/*.c", "bindings/c/*.h", "examples/**/*.c", "bench/**/*.c", "include/*.h"]
+C = ["bindings/c/*.c", "bindings/c/*.cpp", "bindings/c/*.h", "examples/**/*.c", "bench/**/*.c", "include/*.h", "include/*.hpp"]
 # Whether what the three libraries have kept of their proofs, or the C library that was built from it, is newer than they are.
 PROVED = """rt version && test -d crates/i_shape/out/rlib && test -z "$(find crates/i_shape_core crates/i_shape_source crates/i_shape \\
     -name out -prune -o \\( -name '*.rt' -o -name '*.antt' \\) \\
@@ -37,6 +37,7 @@ NEEDED = {
     "program": "./i_shape_tool --is-built",
     "library": "bash bindings/c/build.sh --is-built",
     "parallel": "parallel --version",
+    "clipper": "test -e /usr/include/polyclipping/clipper.hpp",
     "pkg-config": "pkg-config --version",
     "python": "/usr/bin/python3 -c 'import numpy.typing, setuptools, wheel, venv, ensurepip'",
     "cargo": "cargo metadata --offline --no-deps --format-version 1 --manifest-path bindings/rust/Cargo.toml",
@@ -119,7 +120,7 @@ def fault_of_c(text):
     """A file has the whole text, or, of declarations, each of its lines, whatever the space between the words."""
     sources = ["".join(read(name).split()) for name in files(C)]
     parts = [text] if "{\n" in text else text.splitlines()
-    return None if any(all("".join(part.split()) in source for part in parts) for source in sources) else "no file of C has this text"
+    return None if any(all("".join(part.split()) in source for part in parts) for source in sources) else "no file of C or C++ has this text"
 
 
 def is_at_hand(needed):
@@ -217,7 +218,7 @@ def fault_of_edits():
     return "; ".join(sorted(missing + strange)) or None
 
 
-FAULTS = {"rust": fault_of_rust, "text": fault_of_clauses, "c": fault_of_c, "console": fault_of_console}
+FAULTS = {"rust": fault_of_rust, "text": fault_of_clauses, "c": fault_of_c, "cpp": fault_of_c, "console": fault_of_console}
 
 
 def tests_of(name):
