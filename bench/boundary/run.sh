@@ -4,7 +4,7 @@
 set -eu
 here=$(cd "$(dirname "$0")" && pwd)
 top=$here/../..
-sh "$top/bindings/c/build.sh"
+bash "$top/bindings/c/build.sh"
 work=$(mktemp -d)
 trap 'rm -rf "$work"' EXIT
 mkdir -p "$work/crates/boundary/src" "$work/crates/boundary/specs"
