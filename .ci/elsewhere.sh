@@ -56,11 +56,15 @@ test_aarch64() {
     test_as 'aarch64, each growth refused' "${c[@]}" -DOWN_ALLOCATOR "$tests" "$library/libi_shape.a"
 }
 
-# On a processor of 2006, which lacks the SSE4.2 of x86-64-v2.
+# On a processor that lacks the SSE4.2 of x86-64-v2, so that the default library is no good there.
 test_old_processor() {
     local library=bindings/c/out/x86-64 c=("${CC:-cc}" -std=c11)
-    has_tools x86-64 4 qemu-x86_64 && has_library x86-64 4 --cpu x86-64 || return
+    has_tools x86-64 5 qemu-x86_64 && has_library x86-64 5 --cpu x86-64 || return
     runner=(qemu-x86_64 -cpu core2duo -E "LD_LIBRARY_PATH=$library")
+    "${c[@]}" -Iinclude -pthread "$tests" bindings/c/out/libi_shape.a -o "$work/tests"
+    { "${runner[@]}" "$work/tests"; } > /dev/null 2>&1
+    [ $? = $((128 + $(kill -l ILL))) ]
+    count $? 'x86-64: the default library dies by SIGILL'
     test_sample 'x86-64' "$library/libi_shape.a" "${c[@]}"
     test_as 'x86-64' "${c[@]}" "$tests" "$library/libi_shape.a"
     test_as 'x86-64, shared' "${c[@]}" "$tests" "$library/libi_shape.so"

@@ -7,7 +7,8 @@
  * What a caller owes, as ever in C: each pointer is aligned and not null, even at a count of 0; behind it lie as many items as its
  * count says; an array that a call writes overlaps none that it is given; there is stack left. No array changes during a call, by
  * another thread or by a process that shares it. A call that takes memory is not made from a signal handler, nor in a child that
- * was forked from a process with threads. The processor has SSE4.2, as x86-64 processors have since 2008.
+ * was forked from a process with threads. The processor is one that the library is built for: on x86-64, where nothing else was asked,
+ * x86-64-v2, which has SSE4.2.
  *
  * A contour is an array of points, read as a cycle: the last point isn't the first one again. A point is safe where both
  * coordinates lie strictly between -2^(W-2) and 2^(W-2), and W is 16, 32 or 64. */
