@@ -46,9 +46,13 @@ test_sample() {
 }
 
 test_aarch64() {
-    local library=bindings/c/out/aarch64 c=(aarch64-linux-gnu-gcc -std=c11)
+    local machine=/usr/aarch64-linux-gnu library=bindings/c/out/aarch64 c=(aarch64-linux-gnu-gcc -std=c11)
+    if [ ! -e "$machine/lib/libc.so.6" ]; then
+        skip aarch64 5 "there is no C library for it in $machine"
+        return
+    fi
     has_tools aarch64 5 aarch64-linux-gnu-gcc qemu-aarch64 && has_library aarch64 5 --target aarch64 || return
-    runner=(qemu-aarch64 -L /usr/aarch64-linux-gnu -E "LD_LIBRARY_PATH=$library")
+    runner=(qemu-aarch64 -L "$machine" -E "LD_LIBRARY_PATH=$library")
     test_sample 'aarch64' "$library/libi_shape.a" "${c[@]}"
     test_as 'aarch64' "${c[@]}" "$tests" "$library/libi_shape.a"
     test_as 'aarch64, shared' "${c[@]}" "$tests" "$library/libi_shape.so"

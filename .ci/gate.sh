@@ -26,6 +26,7 @@ status=$?
 part wrong_bodies
 part ./.ci/long_tests.sh
 part ./.ci/c_library.sh
+part ./.ci/elsewhere.sh
 part ./.ci/python_package.sh
 part ./.ci/refusals.sh
 part ./.ci/scaling.sh

@@ -6,6 +6,7 @@ cd "$(dirname "$0")/.." || exit 1
 
 part ./.ci/tried.sh
 part ./.ci/c_library.sh --if-built
+part ./.ci/elsewhere.sh --if-built
 part ./.ci/python_package.sh
 part ./.ci/scaling.sh
 part ./.ci/pictures.sh
