@@ -1,6 +1,6 @@
 #!/usr/bin/env bash
 # Runs the tests of the C library elsewhere than on the machine that builds it: for aarch64 under qemu, against the archive, the shared library, as a static
-# program, and with each growth refused; for x86-64 before x86-64-v2 under qemu; linked statically with musl; and under the thread sanitizer. What needs
+# program, as C++17, and with each growth refused; for x86-64 before x86-64-v2 under qemu; linked statically with musl; and under the thread sanitizer. What needs
 # a tool that isn't there is skipped. With the word --if-built it builds nothing that would be proved, and skips the runs over that. The last line is
 # 'elsewhere: N passed, M failed', and ', K skipped' behind it where K is above 0.
 set -u
@@ -48,16 +48,18 @@ test_sample() {
 test_aarch64() {
     local machine=/usr/aarch64-linux-gnu library=bindings/c/out/aarch64 c=(aarch64-linux-gnu-gcc -std=c11)
     if [ ! -e "$machine/lib/libc.so.6" ]; then
-        skip aarch64 5 "there is no C library for it in $machine"
+        skip aarch64 6 "there is no C library for it in $machine"
         return
     fi
-    has_tools aarch64 5 aarch64-linux-gnu-gcc qemu-aarch64 && has_library aarch64 5 --target aarch64 || return
+    has_tools aarch64 6 aarch64-linux-gnu-gcc qemu-aarch64 && has_library aarch64 6 --target aarch64 || return
     runner=(qemu-aarch64 -L "$machine" -E "LD_LIBRARY_PATH=$library")
     test_sample 'aarch64' "$library/libi_shape.a" "${c[@]}"
     test_as 'aarch64' "${c[@]}" "$tests" "$library/libi_shape.a"
     test_as 'aarch64, shared' "${c[@]}" "$tests" "$library/libi_shape.so"
     test_as 'aarch64, static' "${c[@]}" -static "$tests" "$library/libi_shape.a"
     test_as 'aarch64, each growth refused' "${c[@]}" -DOWN_ALLOCATOR "$tests" "$library/libi_shape.a"
+    has_tools 'aarch64, C++17' 1 aarch64-linux-gnu-g++ || return
+    test_as 'aarch64, C++17' aarch64-linux-gnu-g++ -std=c++17 -x c++ "$tests" -x none "$library/libi_shape.a"
 }
 
 # On a processor that lacks the SSE4.2 of x86-64-v2, so that the default library is no good there.
