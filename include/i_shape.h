@@ -57,6 +57,8 @@ ptrdiff_t i_shape_simplify_i32(const i_shape_point_i32 *points, size_t count, i_
 ptrdiff_t i_shape_despike_i32(const i_shape_point_i32 *points, size_t count, i_shape_point_i32 *out, size_t room);
 /* Simplified, from the start at which it is least by x and then y, point by point. */
 ptrdiff_t i_shape_canonical_i32(const i_shape_point_i32 *points, size_t count, i_shape_point_i32 *out, size_t room);
+/* The lesser of that form and of the form of the contour read backwards. */
+ptrdiff_t i_shape_canonical_unoriented_i32(const i_shape_point_i32 *points, size_t count, i_shape_point_i32 *out, size_t room);
 
 /* Many contours, end to end in one array: contour k is points[offsets[k]] .. points[offsets[k + 1]], so that m contours
  * have offset_count = m + 1. The answer lies in the same way in out_points and out_offsets, from 0 on, a contour that
@@ -72,6 +74,8 @@ ptrdiff_t i_shape_simplify_contours_i32(const i_shape_point_i32 *points, size_t 
 ptrdiff_t i_shape_despike_contours_i32(const i_shape_point_i32 *points, size_t count, const size_t *offsets, size_t offset_count, i_shape_point_i32 *out_points, size_t room, size_t *out_offsets, size_t offset_room);
 /* Each contour as i_shape_canonical_i32 leaves it. */
 ptrdiff_t i_shape_canonical_contours_i32(const i_shape_point_i32 *points, size_t count, const size_t *offsets, size_t offset_count, i_shape_point_i32 *out_points, size_t room, size_t *out_offsets, size_t offset_room);
+/* Each contour as i_shape_canonical_unoriented_i32 leaves it. */
+ptrdiff_t i_shape_canonical_unoriented_contours_i32(const i_shape_point_i32 *points, size_t count, const size_t *offsets, size_t offset_count, i_shape_point_i32 *out_points, size_t room, size_t *out_offsets, size_t offset_room);
 
 /* Polygons: contours[] parts the points into contours, as above, and shapes[] parts these into polygons, the outer
  * contour of each first. The answer lies in the same way in out_points, out_contours and out_shapes, from 0 on, without
@@ -125,9 +129,11 @@ bool i_shape_area_two_i32(const i_shape_point_i32 *points, size_t count, int64_t
 ptrdiff_t i_shape_simplify_i16(const i_shape_point_i16 *points, size_t count, i_shape_point_i16 *out, size_t room);
 ptrdiff_t i_shape_despike_i16(const i_shape_point_i16 *points, size_t count, i_shape_point_i16 *out, size_t room);
 ptrdiff_t i_shape_canonical_i16(const i_shape_point_i16 *points, size_t count, i_shape_point_i16 *out, size_t room);
+ptrdiff_t i_shape_canonical_unoriented_i16(const i_shape_point_i16 *points, size_t count, i_shape_point_i16 *out, size_t room);
 ptrdiff_t i_shape_simplify_contours_i16(const i_shape_point_i16 *points, size_t count, const size_t *offsets, size_t offset_count, i_shape_point_i16 *out_points, size_t room, size_t *out_offsets, size_t offset_room);
 ptrdiff_t i_shape_despike_contours_i16(const i_shape_point_i16 *points, size_t count, const size_t *offsets, size_t offset_count, i_shape_point_i16 *out_points, size_t room, size_t *out_offsets, size_t offset_room);
 ptrdiff_t i_shape_canonical_contours_i16(const i_shape_point_i16 *points, size_t count, const size_t *offsets, size_t offset_count, i_shape_point_i16 *out_points, size_t room, size_t *out_offsets, size_t offset_room);
+ptrdiff_t i_shape_canonical_unoriented_contours_i16(const i_shape_point_i16 *points, size_t count, const size_t *offsets, size_t offset_count, i_shape_point_i16 *out_points, size_t room, size_t *out_offsets, size_t offset_room);
 ptrdiff_t i_shape_simplify_shapes_i16(const i_shape_point_i16 *points, size_t count, const size_t *contours, size_t contour_offsets, const size_t *shapes, size_t shape_offsets, i_shape_point_i16 *out_points, size_t room, size_t *out_contours, size_t contour_room, size_t *out_shapes, size_t shape_room);
 ptrdiff_t i_shape_despike_shapes_i16(const i_shape_point_i16 *points, size_t count, const size_t *contours, size_t contour_offsets, const size_t *shapes, size_t shape_offsets, i_shape_point_i16 *out_points, size_t room, size_t *out_contours, size_t contour_room, size_t *out_shapes, size_t shape_room);
 ptrdiff_t i_shape_canonical_shapes_i16(const i_shape_point_i16 *points, size_t count, const size_t *contours, size_t contour_offsets, const size_t *shapes, size_t shape_offsets, i_shape_point_i16 *out_points, size_t room, size_t *out_contours, size_t contour_room, size_t *out_shapes, size_t shape_room);
@@ -145,9 +151,11 @@ bool i_shape_area_two_i16(const i_shape_point_i16 *points, size_t count, int32_t
 ptrdiff_t i_shape_simplify_i64(const i_shape_point_i64 *points, size_t count, i_shape_point_i64 *out, size_t room);
 ptrdiff_t i_shape_despike_i64(const i_shape_point_i64 *points, size_t count, i_shape_point_i64 *out, size_t room);
 ptrdiff_t i_shape_canonical_i64(const i_shape_point_i64 *points, size_t count, i_shape_point_i64 *out, size_t room);
+ptrdiff_t i_shape_canonical_unoriented_i64(const i_shape_point_i64 *points, size_t count, i_shape_point_i64 *out, size_t room);
 ptrdiff_t i_shape_simplify_contours_i64(const i_shape_point_i64 *points, size_t count, const size_t *offsets, size_t offset_count, i_shape_point_i64 *out_points, size_t room, size_t *out_offsets, size_t offset_room);
 ptrdiff_t i_shape_despike_contours_i64(const i_shape_point_i64 *points, size_t count, const size_t *offsets, size_t offset_count, i_shape_point_i64 *out_points, size_t room, size_t *out_offsets, size_t offset_room);
 ptrdiff_t i_shape_canonical_contours_i64(const i_shape_point_i64 *points, size_t count, const size_t *offsets, size_t offset_count, i_shape_point_i64 *out_points, size_t room, size_t *out_offsets, size_t offset_room);
+ptrdiff_t i_shape_canonical_unoriented_contours_i64(const i_shape_point_i64 *points, size_t count, const size_t *offsets, size_t offset_count, i_shape_point_i64 *out_points, size_t room, size_t *out_offsets, size_t offset_room);
 ptrdiff_t i_shape_simplify_shapes_i64(const i_shape_point_i64 *points, size_t count, const size_t *contours, size_t contour_offsets, const size_t *shapes, size_t shape_offsets, i_shape_point_i64 *out_points, size_t room, size_t *out_contours, size_t contour_room, size_t *out_shapes, size_t shape_room);
 ptrdiff_t i_shape_despike_shapes_i64(const i_shape_point_i64 *points, size_t count, const size_t *contours, size_t contour_offsets, const size_t *shapes, size_t shape_offsets, i_shape_point_i64 *out_points, size_t room, size_t *out_contours, size_t contour_room, size_t *out_shapes, size_t shape_room);
 ptrdiff_t i_shape_canonical_shapes_i64(const i_shape_point_i64 *points, size_t count, const size_t *contours, size_t contour_offsets, const size_t *shapes, size_t shape_offsets, i_shape_point_i64 *out_points, size_t room, size_t *out_contours, size_t contour_room, size_t *out_shapes, size_t shape_room);

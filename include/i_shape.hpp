@@ -113,9 +113,11 @@ struct Calls;
         static constexpr auto simplify = i_shape_simplify_i##W; \
         static constexpr auto despike = i_shape_despike_i##W; \
         static constexpr auto canonical = i_shape_canonical_i##W; \
+        static constexpr auto canonical_unoriented = i_shape_canonical_unoriented_i##W; \
         static constexpr auto simplify_contours = i_shape_simplify_contours_i##W; \
         static constexpr auto despike_contours = i_shape_despike_contours_i##W; \
         static constexpr auto canonical_contours = i_shape_canonical_contours_i##W; \
+        static constexpr auto canonical_unoriented_contours = i_shape_canonical_unoriented_contours_i##W; \
         static constexpr auto simplify_shapes = i_shape_simplify_shapes_i##W; \
         static constexpr auto despike_shapes = i_shape_despike_shapes_i##W; \
         static constexpr auto canonical_shapes = i_shape_canonical_shapes_i##W; \
@@ -277,6 +279,16 @@ std::size_t canonical_into(const Points &points, Span<PointOf<Points>> out) {
     return detail::clean_into(detail::CallsOf<Points>::canonical, points, out);
 }
 
+template <class Points>
+std::vector<PointOf<Points>> canonical_unoriented(const Points &points) {
+    return detail::clean(detail::CallsOf<Points>::canonical_unoriented, points);
+}
+
+template <class Points>
+std::size_t canonical_unoriented_into(const Points &points, Span<PointOf<Points>> out) {
+    return detail::clean_into(detail::CallsOf<Points>::canonical_unoriented, points, out);
+}
+
 /* Many contours: what is left of each, empty at its place where it collapses. */
 
 template <class Points, class Offsets>
@@ -292,6 +304,11 @@ Contours<PointOf<Points>> despike_contours(const Points &points, const Offsets &
 template <class Points, class Offsets>
 Contours<PointOf<Points>> canonical_contours(const Points &points, const Offsets &offsets) {
     return detail::clean_contours(detail::CallsOf<Points>::canonical_contours, points, offsets);
+}
+
+template <class Points, class Offsets>
+Contours<PointOf<Points>> canonical_unoriented_contours(const Points &points, const Offsets &offsets) {
+    return detail::clean_contours(detail::CallsOf<Points>::canonical_unoriented_contours, points, offsets);
 }
 
 /* Polygons: what is left of them, without contours that collapse and polygons whose outer contour does. */

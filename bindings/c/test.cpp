@@ -192,10 +192,11 @@ private:
     void test_rows() const {
         for (const row &row : rows) {
             const Contour given = contour(row.points, row.count);
-            const Contour answers[CLEANERS] = {i_shape::simplify(given), i_shape::despike(given), i_shape::canonical(given)};
-            Contour into[CLEANERS] = {given, given, given};
+            const Contour answers[CLEANERS] = {i_shape::simplify(given), i_shape::despike(given), i_shape::canonical(given),
+                                               i_shape::canonical_unoriented(given)};
+            Contour into[CLEANERS] = {given, given, given, given};
             const std::size_t counts[CLEANERS] = {i_shape::simplify_into(given, into[0]), i_shape::despike_into(given, into[1]),
-                                                  i_shape::canonical_into(given, into[2])};
+                                                  i_shape::canonical_into(given, into[2]), i_shape::canonical_unoriented_into(given, into[3])};
             for (int k = 0; k < CLEANERS; k++) {
                 const Contour left = contour(row.left[k].points, row.left[k].count);
                 check(are_equal(answers[k], left), cleaner_names[k], row.name);
@@ -230,7 +231,8 @@ private:
         const i_shape::Contours<Point> all = i_shape::flat(given);
         const i_shape::Contours<Point> answers[CLEANERS] = {i_shape::simplify_contours(all.points, all.offsets),
                                                             i_shape::despike_contours(all.points, all.offsets),
-                                                            i_shape::canonical_contours(all.points, all.offsets)};
+                                                            i_shape::canonical_contours(all.points, all.offsets),
+                                                            i_shape::canonical_unoriented_contours(all.points, all.offsets)};
         for (int k = 0; k < CLEANERS; k++) {
             const std::vector<Contour> contours = i_shape::nested(answers[k]);
             check(contours.size() == left[k].size() && answers[k].points.size() == answers[k].offsets.back(), cleaner_names[k], "many contours");
@@ -247,15 +249,15 @@ private:
         const Contour inner = {point(8, 6), point(6, 6), point(6, 8), point(7, 7)}, other = {point(2, 4), point(4, 2), point(2, 2)};
         const Contour line = {point(1, 1), point(2, 2), point(3, 3)}, triangle = {point(0, -4), point(4, 0), point(-4, 0)};
         const i_shape::Shapes<Point> all = i_shape::flat(std::vector<std::vector<Contour>>{{outer, inner, line, other}, {line, other}, {}, {triangle}});
-        const i_shape::Shapes<Point> answers[POLYGON_CLEANERS] = {i_shape::simplify_shapes(all.points, all.contours, all.shapes),
-                                                                  i_shape::despike_shapes(all.points, all.contours, all.shapes),
-                                                                  i_shape::canonical_shapes(all.points, all.contours, all.shapes),
-                                                                  i_shape::canonical_unoriented_shapes(all.points, all.contours, all.shapes)};
-        for (int k = 0; k < POLYGON_CLEANERS; k++) {
+        const i_shape::Shapes<Point> answers[CLEANERS] = {i_shape::simplify_shapes(all.points, all.contours, all.shapes),
+                                                          i_shape::despike_shapes(all.points, all.contours, all.shapes),
+                                                          i_shape::canonical_shapes(all.points, all.contours, all.shapes),
+                                                          i_shape::canonical_unoriented_shapes(all.points, all.contours, all.shapes)};
+        for (int k = 0; k < CLEANERS; k++) {
             const polygons &left = polygons_left[k];
-            check(are_equal(answers[k].points, contour(left.points, left.contours[4])), polygon_cleaner_names[k], "points of polygons");
-            check(answers[k].contours == std::vector<std::size_t>(left.contours, left.contours + 5), polygon_cleaner_names[k], "contours of polygons");
-            check(answers[k].shapes == std::vector<std::size_t>(left.shapes, left.shapes + 4), polygon_cleaner_names[k], "polygons");
+            check(are_equal(answers[k].points, contour(left.points, left.contours[4])), cleaner_names[k], "points of polygons");
+            check(answers[k].contours == std::vector<std::size_t>(left.contours, left.contours + 5), cleaner_names[k], "contours of polygons");
+            check(answers[k].shapes == std::vector<std::size_t>(left.shapes, left.shapes + 4), cleaner_names[k], "polygons");
         }
         const auto shapes = i_shape::nested(answers[0]);
         check(shapes.size() == 3 && shapes[0].size() == 3 && shapes[1].empty() && shapes[2].size() == 1 && are_equal(shapes[2][0], triangle),
@@ -305,6 +307,7 @@ private:
         throws(Code::unsafe, "simplify", "a point that isn't safe", [&] { i_shape::simplify(unsafe); });
         throws(Code::unsafe, "despike", "a point that isn't safe", [&] { i_shape::despike(unsafe); });
         throws(Code::unsafe, "canonical", "a point that isn't safe", [&] { i_shape::canonical(unsafe); });
+        throws(Code::unsafe, "canonical_unoriented", "a point that isn't safe", [&] { i_shape::canonical_unoriented(unsafe); });
         throws(Code::unsafe, "is_simple", "a point that isn't safe", [&] { i_shape::is_simple(unsafe); });
         throws(Code::unsafe, "has_no_spikes", "a point that isn't safe", [&] { i_shape::has_no_spikes(unsafe); });
         throws(Code::unsafe, "is_convex", "a point that isn't safe", [&] { i_shape::is_convex(unsafe); });
@@ -315,7 +318,8 @@ private:
         throws(Code::unfit, "windings", "no offset", [&] { i_shape::windings(square(), none, square()); });
         for (const auto call : {&i_shape::simplify_contours<Contour, std::vector<std::size_t>>,
                                 &i_shape::despike_contours<Contour, std::vector<std::size_t>>,
-                                &i_shape::canonical_contours<Contour, std::vector<std::size_t>>}) {
+                                &i_shape::canonical_contours<Contour, std::vector<std::size_t>>,
+                                &i_shape::canonical_unoriented_contours<Contour, std::vector<std::size_t>>}) {
             throws(Code::unsafe, "contours", "a point that isn't safe", [&] { call(unsafe, whole); });
             throws(Code::unfit, "contours", "no offset", [&] { call(unsafe, none); });
             throws(Code::unfit, "contours", "an offset out of the points", [&] { call(unsafe, outside); });
@@ -328,7 +332,8 @@ private:
             throws(Code::unfit, "shapes", "no offset", [&] { call(unsafe, whole, none); });
             throws(Code::unfit, "shapes", "a contour out of the points", [&] { call(unsafe, outside, polygon); });
         }
-        for (const auto call : {&i_shape::simplify_into<Contour>, &i_shape::despike_into<Contour>, &i_shape::canonical_into<Contour>}) {
+        for (const auto call : {&i_shape::simplify_into<Contour>, &i_shape::despike_into<Contour>, &i_shape::canonical_into<Contour>,
+                                &i_shape::canonical_unoriented_into<Contour>}) {
             Contour out(given.size(), point(7, 7));
             const Contour before = out;
             throws(Code::unfit, "into", "room for all points but one", [&] { call(given, i_shape::Span<Point>(out.data(), out.size() - 1)); });

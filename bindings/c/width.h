@@ -12,8 +12,9 @@ typedef ptrdiff_t (*AT(clean_many))(const POINT *, size_t, const size_t *, size_
 
 typedef ptrdiff_t (*AT(clean_shapes))(const POINT *, size_t, const size_t *, size_t, const size_t *, size_t, POINT *, size_t, size_t *, size_t, size_t *, size_t);
 
-static AT(clean_one) const AT(cleaners)[] = {CALL(simplify), CALL(despike), CALL(canonical)};
-static AT(clean_many) const AT(batches)[] = {CALL(simplify_contours), CALL(despike_contours), CALL(canonical_contours)};
+static AT(clean_one) const AT(cleaners)[] = {CALL(simplify), CALL(despike), CALL(canonical), CALL(canonical_unoriented)};
+static AT(clean_many) const AT(batches)[] = {CALL(simplify_contours), CALL(despike_contours), CALL(canonical_contours),
+                                            CALL(canonical_unoriented_contours)};
 static AT(clean_shapes) const AT(polygons)[] = {CALL(simplify_shapes), CALL(despike_shapes), CALL(canonical_shapes), CALL(canonical_unoriented_shapes)};
 
 static void AT(points_of)(const int (*from)[2], size_t count, POINT *to) {
@@ -114,7 +115,7 @@ static void AT(test_shapes)(void) {
                              {2, 4}, {4, 2}, {2, 2}, {1, 1}, {2, 2}, {3, 3}, {2, 4}, {4, 2}, {2, 2}, {0, -4}, {4, 0}, {-4, 0}};
     const size_t contours[8] = {0, 5, 9, 12, 15, 18, 21, 24}, shapes[5] = {0, 4, 6, 6, 7};
     const size_t none[1] = {0};
-    for (int k = 0; k < POLYGON_CLEANERS; k++) {
+    for (int k = 0; k < CLEANERS; k++) {
         const struct polygons *left = &polygons_left[k];
         const size_t points = left->contours[4];
         POINT out[25];
@@ -122,23 +123,23 @@ static void AT(test_shapes)(void) {
         fill(out, sizeof out);
         fill(out_contours, sizeof out_contours);
         fill(out_shapes, sizeof out_shapes);
-        check(AT(polygons)[k](given, 24, contours, 8, shapes, 5, out, 25, out_contours, 9, out_shapes, 6) == 3, W, polygon_cleaner_names[k], "how many polygons");
-        check(AT(is_answer)(out, left->points, points, 25), W, polygon_cleaner_names[k], "points of polygons");
+        check(AT(polygons)[k](given, 24, contours, 8, shapes, 5, out, 25, out_contours, 9, out_shapes, 6) == 3, W, cleaner_names[k], "how many polygons");
+        check(AT(is_answer)(out, left->points, points, 25), W, cleaner_names[k], "points of polygons");
         check(memcmp(out_contours, left->contours, sizeof left->contours) == 0 && is_filled(out_contours + 5, 4 * sizeof *out_contours),
-              W, polygon_cleaner_names[k], "contours of polygons");
+              W, cleaner_names[k], "contours of polygons");
         check(memcmp(out_shapes, left->shapes, sizeof left->shapes) == 0 && is_filled(out_shapes + 4, 2 * sizeof *out_shapes),
-              W, polygon_cleaner_names[k], "polygons");
+              W, cleaner_names[k], "polygons");
         check(AT(polygons)[k](given, 24, contours, 8, none, 1, out, 24, out_contours, 8, out_shapes, 1) == 0 && out_shapes[0] == 0
-                  && out_contours[0] == 0, W, polygon_cleaner_names[k], "no polygon");
+                  && out_contours[0] == 0, W, cleaner_names[k], "no polygon");
     }
 }
 
 static void AT(test_shapes_codes)(void) {
     const size_t contours[3] = {0, 3, 6}, outside[2] = {0, 7}, shapes[2] = {0, 2}, backwards[3] = {0, 2, 1}, beyond[2] = {0, 3};
-    for (int k = 0; k < POLYGON_CLEANERS; k++) {
+    for (int k = 0; k < CLEANERS; k++) {
         POINT given[6] = {{0, 0}, {2, 0}, {0, 4}, {0, 0}, {4, 0}, {0, 4}}, out[6];
         size_t out_contours[3], out_shapes[3];
-        const char *name = polygon_cleaner_names[k];
+        const char *name = cleaner_names[k];
         fill(out, sizeof out);
         fill(out_contours, sizeof out_contours);
         fill(out_shapes, sizeof out_shapes);
@@ -159,7 +160,7 @@ static void AT(test_shapes_codes)(void) {
         given[5].y = 4;
         /* Two clean contours of a polygon: four lists of the library's points, four of what is left, and three end to end; each contour
            backwards too, where it is read so. */
-        WITH_EACH_GROWTH_REFUSED(CLEAN(contours, 3, shapes, 2, 6, 3, 3), IS_UNTOUCHED, growths == (k < CLEANERS ? 11u : 13u), W, name);
+        WITH_EACH_GROWTH_REFUSED(CLEAN(contours, 3, shapes, 2, 6, 3, 3), IS_UNTOUCHED, growths == 11, W, name);
 #undef IS_UNTOUCHED
 #undef CLEAN
     }

@@ -64,7 +64,10 @@ pub trait ContourCleaner: Drop {
         ensures kept { IfOk result (λ r. keeps (contour_of I.value contour.now) (answered (contour_of I.value) r)) }
         ensures safe { IfOk result (λ r. IfSome r (λ kept. All (IsSafe I.width) (contour_of I.value kept.items))) }
         ensures short { length contour.now < 3 → result ≡ Ok None }
-        ensures memory { IsOkUnless result ShapeError.OutOfMemory };
+        ensures memory { IsOkUnless result ShapeError.OutOfMemory }
+    {
+        self.cleaned(contour)
+    }
 
     /// The cleaned contour, written to the front of `out`: answers how many points are left, 0 where the contour collapses. What
     /// stands behind them stays as it was, and so does all of `out` where there is an error. Memory is taken for the places of a
@@ -107,13 +110,6 @@ impl ContourCleaner for ContourSimplifier {
         self.simplify_contour(contour)
     }
 
-    fn cleaned_untested<I: IntNumber>(
-        &mut self,
-        contour: &[IntPoint<I>],
-    ) -> Result<Option<IntContour<I>>, ShapeError> {
-        self.simplify_contour(contour)
-    }
-
     fn clean_into<P: ContourPoint>(
         &mut self,
         contour: &[P],
@@ -140,13 +136,6 @@ impl ContourCleaner for ContourDeSpiker {
     }
 
     fn cleaned<I: IntNumber>(
-        &mut self,
-        contour: &[IntPoint<I>],
-    ) -> Result<Option<IntContour<I>>, ShapeError> {
-        self.despike_contour(contour)
-    }
-
-    fn cleaned_untested<I: IntNumber>(
         &mut self,
         contour: &[IntPoint<I>],
     ) -> Result<Option<IntContour<I>>, ShapeError> {
@@ -192,7 +181,7 @@ impl ContourCleaner for SpikeRemover {
         if has_no_spikes(contour) {
             return Ok(Some(Vec::from_slice(self.de_spiker.allocator(), contour)?));
         }
-        self.de_spiker.despike_contour(contour)
+        self.cleaned_untested(contour)
     }
 
     fn cleaned_untested<I: IntNumber>(
@@ -244,13 +233,6 @@ impl ContourCleaner for Canonicalizer {
         self.simplifier.canonical(contour)
     }
 
-    fn cleaned_untested<I: IntNumber>(
-        &mut self,
-        contour: &[IntPoint<I>],
-    ) -> Result<Option<IntContour<I>>, ShapeError> {
-        self.simplifier.canonical(contour)
-    }
-
     fn clean_into<P: ContourPoint>(
         &mut self,
         contour: &[P],
@@ -284,13 +266,6 @@ impl ContourCleaner for UnorientedCanonicalizer {
     }
 
     fn cleaned<I: IntNumber>(
-        &mut self,
-        contour: &[IntPoint<I>],
-    ) -> Result<Option<IntContour<I>>, ShapeError> {
-        self.simplifier.canonical_unoriented(contour)
-    }
-
-    fn cleaned_untested<I: IntNumber>(
         &mut self,
         contour: &[IntPoint<I>],
     ) -> Result<Option<IntContour<I>>, ShapeError> {

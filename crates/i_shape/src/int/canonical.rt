@@ -81,11 +81,8 @@ impl<I: IntNumber> CanonicalShape<I> for &[IntContour<I>] {
     }
 
     fn canonical_unoriented(&self, alloc: Global) -> Result<Option<IntShape<I>>, ShapeError> {
-        shape_form(
-            &mut UnorientedCanonicalizer::with_room(alloc, 0),
-            alloc,
-            *self,
-        )
+        let mut unoriented = UnorientedCanonicalizer::with_room(alloc, 0);
+        shape_form(&mut unoriented, alloc, *self)
     }
 }
 
@@ -97,10 +94,7 @@ impl<I: IntNumber> CanonicalShapes<I> for &[IntShape<I>] {
     }
 
     fn canonical_unoriented(&self, alloc: Global) -> Result<IntShapes<I>, ShapeError> {
-        list_form(
-            &mut UnorientedCanonicalizer::with_room(alloc, 0),
-            alloc,
-            *self,
-        )
+        let mut unoriented = UnorientedCanonicalizer::with_room(alloc, 0);
+        list_form(&mut unoriented, alloc, *self)
     }
 }

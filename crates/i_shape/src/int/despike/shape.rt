@@ -69,11 +69,8 @@ impl<I: IntNumber> DeSpikeShape<I> for IntShape<I> {
     }
 
     fn despiked_shape(&self, alloc: Global) -> Result<Option<IntShape<I>>, ShapeError> {
-        clean_shape(
-            &mut SpikeRemover::with_room(alloc, 0),
-            alloc,
-            self.as_slice(),
-        )
+        let mut remover = SpikeRemover::with_room(alloc, 0);
+        clean_shape(&mut remover, alloc, self.as_slice())
     }
 }
 
@@ -85,11 +82,8 @@ impl<I: IntNumber> DeSpikeShapes<I> for IntShapes<I> {
     }
 
     fn despiked_shapes(&self, alloc: Global) -> Result<IntShapes<I>, ShapeError> {
-        clean_list(
-            &mut SpikeRemover::with_room(alloc, 0),
-            alloc,
-            self.as_slice(),
-        )
+        let mut remover = SpikeRemover::with_room(alloc, 0);
+        clean_list(&mut remover, alloc, self.as_slice())
     }
 }
 
