@@ -1,7 +1,7 @@
 #!/usr/bin/env bash
 # Runs the tests of the C library elsewhere than on the machine that builds it: for aarch64 under qemu, against the archive, the shared library, as a static
-# program, as C++17, and with each growth refused; for x86-64 before x86-64-v2 under qemu; linked statically with musl; and under the thread sanitizer. What needs
-# a tool that isn't there is skipped. With the word --if-built it builds nothing that would be proved, and skips the runs over that. The last line is
+# program, as C++17, and with each growth refused; for x86-64 before x86-64-v2 under qemu; linked statically with musl; and under the thread sanitizer. Builds by
+# two compilers, and for two processors, answer random calls the same. What needs a tool that isn't there is skipped. With the word --if-built it builds nothing that would be proved, and skips the runs over that. The last line is
 # 'elsewhere: N passed, M failed', and ', K skipped' behind it where K is above 0.
 set -u
 cd "$(dirname "$0")/.." || exit 1
@@ -98,8 +98,20 @@ test_thread_sanitizer() {
     test_as 'thread sanitizer' "${c[@]}" "$tests" bindings/c/allocator.c "$library/libi_shape.a"
 }
 
+# The same calls by another compiler, and for another processor, answer the same as the default's.
+test_builds() {
+    local program=$work/compare
+    has_library 'two builds' 2 --backend rattle && has_library 'two builds' 2 --cpu x86-64 || return
+    "${CXX:-c++}" -std=c++17 -O1 "${warnings[@]}" -Iinclude bindings/c/compare.cpp -o "$program" -ldl
+    "$program" 20000 bindings/c/out/libi_shape.so bindings/c/out/rattle/libi_shape.so
+    count $? 'the builds by LLVM and by Rattle'
+    "$program" 5000 bindings/c/out/libi_shape.so bindings/c/out/x86-64/libi_shape.so
+    count $? 'the builds for x86-64-v2 and for each x86-64'
+}
+
 test_aarch64
 test_old_processor
 test_musl
 test_thread_sanitizer
+test_builds
 tell_counts elsewhere

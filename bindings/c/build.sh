@@ -3,21 +3,22 @@
 # first, where it isn't built yet or its sources are newer, and standard error tells how far that is. Both libraries hold the allocator of the C library; a
 # program that defines rattle_alloc, rattle_realloc and rattle_dealloc itself takes its own with libi_shape.a.
 #
-# usage: build.sh [--is-built] [--target aarch64] [--cpu NAME]
+# usage: build.sh [--is-built] [--target aarch64] [--cpu NAME] [--backend rattle]
 #
-# --target builds it for another machine, and --cpu for another processor, as x86-64 for those before x86-64-v2, the default: into a folder of that name
-# below bindings/c/out. With --is-built it builds nothing, and its status says whether there is nothing to build.
+# --target builds it for another machine, --cpu for another processor, as x86-64 for those before x86-64-v2, the default, and --backend by Rattle's own
+# compiler in place of LLVM: into a folder of that name below bindings/c/out. With --is-built it builds nothing, and its status says whether there is nothing to build.
 set -eu
 top=$(cd "$(dirname "$0")/../.." && pwd)
 here=$top/bindings/c
 archive=$top/crates/i_shape_c/out/libi_shape_c.a
 version=$(printf '%d.%d.%d' $(sed -n 's/^#define I_SHAPE_VERSION 0x\(..\)\(..\)\(..\)$/0x\1 0x\2 0x\3/p' "$top/include/i_shape.h"))
-only_asks='' target='' cpu=''
+only_asks='' target='' cpu='' backend=''
 while [ $# -gt 0 ]; do
     case $1 in
     --is-built) only_asks=yes ;;
     --target) target=${2:?a machine} && shift ;;
     --cpu) cpu=${2:?a processor} && shift ;;
+    --backend) backend=${2:?a compiler} && shift ;;
     *) echo "build.sh: what is $1?" >&2 && exit 2 ;;
     esac
     shift
@@ -26,7 +27,8 @@ case $target in
 '' | aarch64) ;;
 *) echo "make c: TARGET is aarch64, or left out for x86-64, and not $target" >&2 && exit 2 ;;
 esac
-kind=$target${target:+${cpu:+-}}$cpu
+kind=$target${cpu:+-$cpu}${backend:+-$backend}
+kind=${kind#-}
 out=$here/out${kind:+/$kind}
 # The archive of the default stays where rt writes it. Others are moved away from there.
 proved=${kind:+$out/libi_shape_c.a}
@@ -61,7 +63,7 @@ prove_other() {
     touch "$out/build.started"
     cp -p "$archive" "$out/default.a"
     trap 'mv "$out/default.a" "$archive"' EXIT
-    prove i_shape_c lib --jobs "$jobs" ${target:+--target "$target-unknown-linux-gnu"} ${cpu:+--cpu "$cpu"}
+    prove i_shape_c lib --jobs "$jobs" ${target:+--target "$target-unknown-linux-gnu"} ${cpu:+--cpu "$cpu"} ${backend:+--backend "$backend"}
     touch -r "$out/build.started" "$archive"
     mv "$archive" "$proved"
     mv "$out/default.a" "$archive"
