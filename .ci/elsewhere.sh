@@ -1,8 +1,9 @@
 #!/usr/bin/env bash
 # Runs the tests of the C library elsewhere than on the machine that builds it: for aarch64 under qemu, against the archive, the shared library, as a static
-# program, as C++17, and with each growth refused; for x86-64 before x86-64-v2 under qemu; linked statically with musl; and under the thread sanitizer. Builds by
-# two compilers, and for two processors, answer random calls the same. What needs a tool that isn't there is skipped. With the word --if-built it builds nothing that would be proved, and skips the runs over that. The last line is
-# 'elsewhere: N passed, M failed', and ', K skipped' behind it where K is above 0.
+# program, as C++17, and with each growth refused; for x86-64 before x86-64-v2 under qemu; linked statically with musl; and under the thread sanitizer.
+# Builds by two compilers, and for two processors, answer random calls the same. What needs a tool that isn't there is skipped. With the word --if-built it
+# builds nothing that would be proved, and skips the runs over that. The last line is 'elsewhere: N passed, M failed', and ', K skipped' behind it where K is
+# above 0.
 set -u
 cd "$(dirname "$0")/.." || exit 1
 . .ci/c_tests.sh || exit 1

@@ -161,8 +161,9 @@ private:
 
     Random &random_;
     std::string behind_;
-    std::vector<Both<CleanOne>> cleaners_ = each<CleanOne>({"simplify", "despike", "canonical"}, behind_);
-    std::vector<Both<CleanMany>> batches_ = each<CleanMany>({"simplify_contours", "despike_contours", "canonical_contours"}, behind_);
+    std::vector<Both<CleanOne>> cleaners_ = each<CleanOne>({"simplify", "despike", "canonical", "canonical_unoriented"}, behind_);
+    std::vector<Both<CleanMany>> batches_ =
+        each<CleanMany>({"simplify_contours", "despike_contours", "canonical_contours", "canonical_unoriented_contours"}, behind_);
     std::vector<Both<CleanShapes>> polygons_ =
         each<CleanShapes>({"simplify_shapes", "despike_shapes", "canonical_shapes", "canonical_unoriented_shapes"}, behind_);
     std::vector<Both<Test>> tests_ = each<Test>({"is_simple", "has_no_spikes", "is_convex", "is_safe"}, behind_);

@@ -137,6 +137,7 @@ public:
         test_shapes();
         test_area();
         test_codes();
+        test_codes_of_cleaners();
         test_large();
     }
 
@@ -192,8 +193,7 @@ private:
     void test_rows() const {
         for (const row &row : rows) {
             const Contour given = contour(row.points, row.count);
-            const Contour answers[CLEANERS] = {i_shape::simplify(given), i_shape::despike(given), i_shape::canonical(given),
-                                               i_shape::canonical_unoriented(given)};
+            const Contour answers[CLEANERS] = {i_shape::simplify(given), i_shape::despike(given), i_shape::canonical(given), i_shape::canonical_unoriented(given)};
             Contour into[CLEANERS] = {given, given, given, given};
             const std::size_t counts[CLEANERS] = {i_shape::simplify_into(given, into[0]), i_shape::despike_into(given, into[1]),
                                                   i_shape::canonical_into(given, into[2]), i_shape::canonical_unoriented_into(given, into[3])};
@@ -250,9 +250,9 @@ private:
         const Contour line = {point(1, 1), point(2, 2), point(3, 3)}, triangle = {point(0, -4), point(4, 0), point(-4, 0)};
         const i_shape::Shapes<Point> all = i_shape::flat(std::vector<std::vector<Contour>>{{outer, inner, line, other}, {line, other}, {}, {triangle}});
         const i_shape::Shapes<Point> answers[CLEANERS] = {i_shape::simplify_shapes(all.points, all.contours, all.shapes),
-                                                          i_shape::despike_shapes(all.points, all.contours, all.shapes),
-                                                          i_shape::canonical_shapes(all.points, all.contours, all.shapes),
-                                                          i_shape::canonical_unoriented_shapes(all.points, all.contours, all.shapes)};
+                                                                  i_shape::despike_shapes(all.points, all.contours, all.shapes),
+                                                                  i_shape::canonical_shapes(all.points, all.contours, all.shapes),
+                                                                  i_shape::canonical_unoriented_shapes(all.points, all.contours, all.shapes)};
         for (int k = 0; k < CLEANERS; k++) {
             const polygons &left = polygons_left[k];
             check(are_equal(answers[k].points, contour(left.points, left.contours[4])), cleaner_names[k], "points of polygons");
@@ -302,12 +302,7 @@ private:
         using i_shape::Code;
         Contour unsafe = square();
         unsafe[2] = point(least_unsafe, 0);
-        const Contour given = straight(1);
-        const std::vector<std::size_t> whole = {0, 4}, none, outside = {0, 9}, polygon = {0, 1};
-        throws(Code::unsafe, "simplify", "a point that isn't safe", [&] { i_shape::simplify(unsafe); });
-        throws(Code::unsafe, "despike", "a point that isn't safe", [&] { i_shape::despike(unsafe); });
-        throws(Code::unsafe, "canonical", "a point that isn't safe", [&] { i_shape::canonical(unsafe); });
-        throws(Code::unsafe, "canonical_unoriented", "a point that isn't safe", [&] { i_shape::canonical_unoriented(unsafe); });
+        const std::vector<std::size_t> whole = {0, 4}, none;
         throws(Code::unsafe, "is_simple", "a point that isn't safe", [&] { i_shape::is_simple(unsafe); });
         throws(Code::unsafe, "has_no_spikes", "a point that isn't safe", [&] { i_shape::has_no_spikes(unsafe); });
         throws(Code::unsafe, "is_convex", "a point that isn't safe", [&] { i_shape::is_convex(unsafe); });
@@ -316,33 +311,45 @@ private:
         throws(Code::unsafe, "winding", "a point that isn't safe", [&] { i_shape::winding(square(), point(least_unsafe, 1)); });
         throws(Code::unsafe, "windings", "a vertex that isn't safe", [&] { i_shape::windings(unsafe, whole, square()); });
         throws(Code::unfit, "windings", "no offset", [&] { i_shape::windings(square(), none, square()); });
-        for (const auto call : {&i_shape::simplify_contours<Contour, std::vector<std::size_t>>,
-                                &i_shape::despike_contours<Contour, std::vector<std::size_t>>,
-                                &i_shape::canonical_contours<Contour, std::vector<std::size_t>>,
-                                &i_shape::canonical_unoriented_contours<Contour, std::vector<std::size_t>>}) {
-            throws(Code::unsafe, "contours", "a point that isn't safe", [&] { call(unsafe, whole); });
-            throws(Code::unfit, "contours", "no offset", [&] { call(unsafe, none); });
-            throws(Code::unfit, "contours", "an offset out of the points", [&] { call(unsafe, outside); });
-        }
-        for (const auto call : {&i_shape::simplify_shapes<Contour, std::vector<std::size_t>, std::vector<std::size_t>>,
-                                &i_shape::despike_shapes<Contour, std::vector<std::size_t>, std::vector<std::size_t>>,
-                                &i_shape::canonical_shapes<Contour, std::vector<std::size_t>, std::vector<std::size_t>>,
-                                &i_shape::canonical_unoriented_shapes<Contour, std::vector<std::size_t>, std::vector<std::size_t>>}) {
-            throws(Code::unsafe, "shapes", "a point that isn't safe", [&] { call(unsafe, whole, polygon); });
-            throws(Code::unfit, "shapes", "no offset", [&] { call(unsafe, whole, none); });
-            throws(Code::unfit, "shapes", "a contour out of the points", [&] { call(unsafe, outside, polygon); });
-        }
-        for (const auto call : {&i_shape::simplify_into<Contour>, &i_shape::despike_into<Contour>, &i_shape::canonical_into<Contour>,
-                                &i_shape::canonical_unoriented_into<Contour>}) {
-            Contour out(given.size(), point(7, 7));
-            const Contour before = out;
-            throws(Code::unfit, "into", "room for all points but one", [&] { call(given, i_shape::Span<Point>(out.data(), out.size() - 1)); });
-            check(are_equal(out, before), "into", "what a code leaves");
-        }
+    }
+
+    /* Calls throw the code of each way in which they can fail. Clean one, contours and shapes are those of one cleaner. */
+    template <class Clean, class Into, class CleanContours, class CleanShapes>
+    void test_codes_of(const char *name, Clean clean, Into into, CleanContours clean_contours, CleanShapes clean_shapes) const {
+        using i_shape::Code;
+        const Contour given = {point(0, 0), point(4, 0), point(4, 8), point(4, 4), point(0, 4)};
+        const std::vector<std::size_t> whole = {0, 5}, none, outside = {0, 9}, polygon = {0, 1};
+        Contour unsafe = given, out(given.size(), point(7, 7));
+        unsafe[2] = point(least_unsafe, 0);
+        const Contour before = out;
+        throws(Code::unsafe, name, "a point that isn't safe", [&] { clean(unsafe); });
+        throws(Code::unsafe, name, "a point that isn't safe, into", [&] { into(unsafe, out); });
+        throws(Code::unsafe, name, "a point that isn't safe, of contours", [&] { clean_contours(unsafe, whole); });
+        throws(Code::unsafe, name, "a point that isn't safe, of polygons", [&] { clean_shapes(unsafe, whole, polygon); });
+        throws(Code::unfit, name, "room for all points but one", [&] { into(given, i_shape::Span<Point>(out.data(), out.size() - 1)); });
+        throws(Code::unfit, name, "no offset", [&] { clean_contours(given, none); });
+        throws(Code::unfit, name, "an offset out of the points", [&] { clean_contours(given, outside); });
+        throws(Code::unfit, name, "no offset of polygons", [&] { clean_shapes(given, whole, none); });
+        throws(Code::unfit, name, "a contour out of the points", [&] { clean_shapes(given, outside, polygon); });
         is_refused = true;
-        throws(Code::no_memory, "simplify", "refused memory", [&] { i_shape::simplify(given); });
+        throws(Code::no_memory, name, "refused memory", [&] { clean(given); });
+        throws(Code::no_memory, name, "refused memory, into", [&] { into(given, out); });
+        throws(Code::no_memory, name, "refused memory, of contours", [&] { clean_contours(given, whole); });
+        throws(Code::no_memory, name, "refused memory, of polygons", [&] { clean_shapes(given, whole, polygon); });
         is_refused = false;
-        check(are_equal(given, straight(1)), "simplify", "the given contour stays");
+        check(are_equal(out, before), name, "what a code leaves");
+    }
+
+    void test_codes_of_cleaners() const {
+        using Offsets = std::vector<std::size_t>;
+        test_codes_of("simplify", i_shape::simplify<Contour>, i_shape::simplify_into<Contour>, i_shape::simplify_contours<Contour, Offsets>,
+                      i_shape::simplify_shapes<Contour, Offsets, Offsets>);
+        test_codes_of("despike", i_shape::despike<Contour>, i_shape::despike_into<Contour>, i_shape::despike_contours<Contour, Offsets>,
+                      i_shape::despike_shapes<Contour, Offsets, Offsets>);
+        test_codes_of("canonical", i_shape::canonical<Contour>, i_shape::canonical_into<Contour>, i_shape::canonical_contours<Contour, Offsets>,
+                      i_shape::canonical_shapes<Contour, Offsets, Offsets>);
+        test_codes_of("canonical_unoriented", i_shape::canonical_unoriented<Contour>, i_shape::canonical_unoriented_into<Contour>,
+                      i_shape::canonical_unoriented_contours<Contour, Offsets>, i_shape::canonical_unoriented_shapes<Contour, Offsets, Offsets>);
     }
 
     void test_large() const {
