@@ -1,0 +1,111 @@
+"""Cleans the polygons of a file: ``python -m i_shape simplify IN OUT``.
+
+What is read are files of GeoJSON or WKT; their floats are rounded onto a
+grid, cleaned there, and brought back.
+"""
+
+from __future__ import annotations
+
+import argparse
+import importlib.util
+import sys
+from pathlib import Path
+from typing import Optional, Sequence
+
+from ._command import files, plot, report
+from ._rings import canonical_rings, despike_rings, simplify_rings
+from .io import Grid, features_from_grid, features_to_grid
+from .io._cleaners import clean, in_order
+
+_CLEANERS = {"simplify": simplify_rings, "despike": despike_rings,
+             "canonical": canonical_rings}
+_PICTURES = ("pdf", "png", "svg")
+
+
+def _file(text: str) -> Path:
+    path = Path(text)
+    if files.format_of(path) is None:
+        raise argparse.ArgumentTypeError(
+            f"{text} doesn't end in one of {', '.join(files.FORMATS)}")
+    return path
+
+
+def _picture(text: str) -> Path:
+    path = Path(text)
+    if path.suffix[1:].lower() not in _PICTURES:
+        raise argparse.ArgumentTypeError(
+            f"{text} doesn't end in one of .{', .'.join(_PICTURES)}")
+    if importlib.util.find_spec("matplotlib") is None:
+        raise argparse.ArgumentTypeError("there is no matplotlib")
+    return path
+
+
+def _options(words: Optional[Sequence[str]]) -> argparse.Namespace:
+    parser = argparse.ArgumentParser(
+        prog="python -m i_shape",
+        description="Cleans the polygons of a file on a grid. Properties"
+        " stay, and a feature of which nothing is left is empty. OUT is"
+        " written whole or not at all.")
+    parser.add_argument(
+        "cleaner", choices=list(_CLEANERS),
+        help="what is removed: points on straight edges, repeated points and"
+        " spikes; repeated points and spikes alone; or the first, with each"
+        " feature in its canonical form")
+    parser.add_argument("given", metavar="IN", type=_file,
+                        help="a file .geojson, .json, or .wkt with a geometry"
+                        " a line")
+    parser.add_argument("out", metavar="OUT", type=_file,
+                        help="the file to write; it may be IN")
+    parser.add_argument("--step", type=float, required=True,
+                        help="how far neighbours on the grid are apart")
+    parser.add_argument("--origin", type=float, nargs=2, default=(0.0, 0.0),
+                        metavar=("X", "Y"), help="where (0, 0) of the grid"
+                        " lies; 0 0 unless told")
+    parser.add_argument("--report", action="store_true",
+                        help="print what was removed and what collapsed, and"
+                        " the areas before and after")
+    parser.add_argument("--plot", metavar="FILE", type=_picture,
+                        help="draw the rings before and after, by"
+                        " matplotlib: .svg, .png or .pdf")
+    options = parser.parse_args(words)
+    try:
+        options.grid = Grid(options.step, tuple(options.origin))
+    except ValueError as error:
+        parser.error(str(error))
+    return options
+
+
+def _run(options: argparse.Namespace) -> None:
+    given, document = files.read(options.given)
+    whole = features_to_grid(given, options.grid)
+    left, gone = clean(whole, _CLEANERS[options.cleaner])
+    if options.cleaner == "canonical":
+        left = in_order(left)
+    answer = features_from_grid(left, options.grid)
+    if options.plot:
+        with files.replacing(options.plot) as beside:
+            plot.draw(beside, options.plot.suffix[1:].lower(), given, answer)
+            files.write(options.out, answer, document)
+    else:
+        files.write(options.out, answer, document)
+    if options.report:
+        for line in report.lines(given, whole, left, gone, options.grid):
+            print(line)
+
+
+def main(words: Optional[Sequence[str]] = None) -> int:
+    """Run the command; 0 where all went well, and 1 after an error."""
+    options = _options(words)
+    try:
+        _run(options)
+    except OSError as error:
+        print(f"i_shape: {error}", file=sys.stderr)
+        return 1
+    except ValueError as error:
+        print(f"i_shape: {options.given}: {error}", file=sys.stderr)
+        return 1
+    return 0
+
+
+if __name__ == "__main__":
+    sys.exit(main())

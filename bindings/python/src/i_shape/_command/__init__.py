@@ -1,0 +1,1 @@
+"""What ``python -m i_shape`` is made of."""

@@ -1,0 +1,54 @@
+"""How far a long stage is: a line a second on standard error."""
+
+from __future__ import annotations
+
+import sys
+import time
+from types import TracebackType
+from typing import Any, Iterable, Iterator, Optional, Type, TypeVar
+
+Item = TypeVar("Item")
+
+
+class Lines:
+    """A line a second, beginning after the first one; as tqdm is used."""
+
+    def __init__(self, stage: str, total: Optional[int] = None) -> None:
+        self._stage = stage
+        self._of = "" if total is None else f" of {total}"
+        self._done = 0
+        self._told = time.monotonic()
+
+    def update(self) -> None:
+        self._done += 1
+        now = time.monotonic()
+        if now - self._told >= 1:
+            self._told = now
+            print(f"{self._stage}: {self._done}{self._of}", file=sys.stderr)
+
+    def __enter__(self) -> Lines:
+        return self
+
+    def __exit__(self, kind: Optional[Type[BaseException]],
+                 error: Optional[BaseException],
+                 trace: Optional[TracebackType]) -> None:
+        return None
+
+
+def bar(stage: str, total: Optional[int] = None) -> Any:
+    """What tells of a stage: tqdm's where it is there."""
+    try:
+        from tqdm import tqdm
+    except ImportError:
+        return Lines(stage, total)
+    return tqdm(desc=stage, total=total, delay=1, mininterval=1,
+                file=sys.stderr)
+
+
+def track(items: Iterable[Item], stage: str,
+          total: Optional[int] = None) -> Iterator[Item]:
+    """The items, while the stage is told of."""
+    with bar(stage, total) as shown:
+        for item in items:
+            yield item
+            shown.update()

@@ -1,0 +1,25 @@
+"""Polygons in and out: shapely, GeoJSON, WKT, and floats onto a grid.
+
+Each reader answers :class:`Features`: the package's own polygons, in floats
+and with open rings, and which of them each feature has. A :class:`Grid`
+makes whole numbers of them for the calls of :mod:`i_shape`, and floats of
+the answers. Only the calls for shapely import shapely.
+"""
+
+from ._cleaners import (canonical_features, despike_features,
+                        simplify_features)
+from ._closing import close_rings, narrow_offsets, open_rings
+from ._features import FeatureError, Features, Place, features_of
+from ._geojson import from_geojson, to_geojson
+from ._grid import (Grid, features_from_grid, features_to_grid, from_grid,
+                    to_grid)
+from ._shapely import from_shapely, to_shapely
+from ._wkt import from_wkt, to_wkt
+
+__all__ = [
+    "FeatureError", "Features", "Grid", "Place",
+    "canonical_features", "close_rings", "despike_features",
+    "features_from_grid", "features_of", "features_to_grid", "from_geojson",
+    "from_grid", "from_shapely", "from_wkt", "narrow_offsets", "open_rings",
+    "simplify_features", "to_geojson", "to_grid", "to_shapely", "to_wkt",
+]

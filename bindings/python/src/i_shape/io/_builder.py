@@ -1,0 +1,108 @@
+"""Features that are built up ring by ring."""
+
+from __future__ import annotations
+
+import numbers
+from array import array
+from itertools import chain
+from reprlib import repr as short
+from typing import Any, Iterable, Optional
+
+import numpy as np
+
+from .._polygons import Polygons
+from ._features import FeatureError, Features, as_finite
+
+_PLAIN = {int, float}
+
+
+def is_list(value: Any) -> bool:
+    return isinstance(value, (list, tuple))
+
+
+class Builder:
+    """Features that are built up ring by ring."""
+
+    def __init__(self) -> None:
+        self._numbers = array("d")
+        self._rings = array("q", [0])
+        self._polygons = array("q", [0])
+        self._features = array("q", [0])
+        self._are_multi = array("b")
+
+    def add_ring(self, numbers: Iterable[float]) -> None:
+        """Add a ring by its coordinates, x and y in turn.
+
+        If its first point stands at its end again, that one is left out.
+        """
+        start = 2 * self._rings[-1]
+        self._numbers.extend(numbers)
+        if (len(self._numbers) - start > 2
+                and self._numbers[start:start + 2] == self._numbers[-2:]):
+            del self._numbers[-2:]
+        self._rings.append(len(self._numbers) // 2)
+
+    def add_positions(self, ring: Any) -> None:
+        """Add a ring by a list of positions, which are tested."""
+        try:
+            coordinates = list(chain.from_iterable(ring))
+            if (set(map(len, ring)) <= {2}
+                    and set(map(type, coordinates)) <= _PLAIN):
+                self.add_ring(coordinates)
+                return
+        except (TypeError, OverflowError):
+            pass
+        self._require_positions(ring)
+        self.add_ring(chain.from_iterable(ring))
+
+    def _require_positions(self, ring: Any) -> None:
+        """Raise an error that names the first position that isn't one."""
+        if not is_list(ring):
+            raise self.fault("a list of positions is needed, not"
+                             f" {short(ring)}")
+        for place, position in enumerate(ring):
+            if not is_list(position) or len(position) != 2:
+                count = len(position) if is_list(position) else "no"
+                raise self.fault(f"the position {short(position)} has {count}"
+                                 " coordinates: 2 are needed", place)
+            for number in position:
+                self._require_number(number, place)
+
+    def _require_number(self, number: Any, place: int) -> None:
+        if not isinstance(number, numbers.Real) or isinstance(number, bool):
+            raise self.fault(f"{short(number)} isn't a number", place)
+        try:
+            float(number)
+        except OverflowError:
+            raise self.fault(f"{short(number)} has no room in a float64",
+                             place) from None
+
+    def end_polygon(self) -> None:
+        self._polygons.append(len(self._rings) - 1)
+
+    def end_feature(self, is_multi: bool) -> None:
+        self._features.append(len(self._polygons) - 1)
+        self._are_multi.append(is_multi)
+
+    def fault(self, message: str, point: Optional[int] = None,
+              is_in_ring: bool = True) -> FeatureError:
+        """An error in the ring, or the polygon, that would be the next."""
+        ring = len(self._rings) - 1 - self._polygons[-1]
+        return FeatureError(
+            message, len(self._features) - 1,
+            len(self._polygons) - 1 - self._features[-1],
+            ring if is_in_ring else None, point)
+
+    def feature_fault(self, message: str) -> FeatureError:
+        """An error in the feature that would be the next."""
+        return FeatureError(message, len(self._features) - 1)
+
+    def features(self) -> Features:
+        """The features, whose coordinates are tested to be finite."""
+        polygons = Polygons(
+            np.array(self._numbers, np.float64).reshape(-1, 2),
+            np.array(self._rings, np.int64),
+            np.array(self._polygons, np.int64))
+        return as_finite(Features(polygons,
+                                  np.array(self._features, np.int64),
+                                  np.array(self._are_multi, np.bool_)))

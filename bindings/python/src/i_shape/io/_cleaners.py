@@ -1,0 +1,171 @@
+"""The cleaners over features: each keeps its place."""
+
+from __future__ import annotations
+
+from typing import Callable, NamedTuple
+
+import numpy as np
+
+from .._library import Array
+from .._polygons import Polygons, canonical_polygons
+from .._rings import Rings, canonical_rings, despike_rings, simplify_rings
+from ._features import Features, as_features
+
+Cleaner = Callable[..., Rings]
+
+
+class Cleaned(NamedTuple):
+    """What is left of features, and which of their rings collapsed."""
+
+    features: Features
+    collapsed: Array
+
+
+def _ends(counts: Array) -> Array:
+    return np.concatenate([np.zeros(1, np.int64), np.cumsum(counts)])
+
+
+def _left(features: Features, rings: Rings) -> Features:
+    """The features without the rings that are empty, and their polygons."""
+    parts, offsets = features.polygons.polygon_offsets, features.feature_offsets
+    lengths, ring_counts = np.diff(rings.offsets), np.diff(parts)
+    stay = lengths > 0
+    polygons_stay = np.ones(len(ring_counts), np.bool_)
+    has_rings = ring_counts > 0
+    polygons_stay[has_rings] = stay[parts[:-1][has_rings]]
+    stay &= np.repeat(polygons_stay, ring_counts)
+    left_rings, left_polygons = _ends(stay), _ends(polygons_stay)
+    return features._replace(
+        polygons=Polygons(rings.points[np.repeat(stay, lengths)],
+                          _ends(lengths[stay]),
+                          _ends(np.diff(left_rings[parts])[polygons_stay])),
+        feature_offsets=left_polygons[offsets])
+
+
+def clean(features: Features, cleaner: Cleaner, threads: int = 1) -> Cleaned:
+    """Clean the rings, and leave out what collapses."""
+    features = as_features(features)
+    points, ends, parts = features.polygons
+    rings = cleaner(points, ends, threads)
+    return Cleaned(_left(features, rings), np.diff(rings.offsets) == 0)
+
+
+def in_order(features: Features) -> Features:
+    """Put the rings and polygons of each feature in canonical order.
+
+    Their rings are canonical already, so that only a feature with several
+    polygons or holes has something to order.
+    """
+    (points, ends, parts), offsets, _ = features
+    points, ends, parts = points.copy(), ends.copy(), parts.copy()
+    with_holes = _ends(np.diff(parts) > 2)
+    several = (np.diff(offsets) > 1) | (np.diff(with_holes[offsets]) > 0)
+    for place in np.flatnonzero(several).tolist():
+        first, last = offsets[place], offsets[place + 1]
+        its_ends = ends[parts[first]:parts[last] + 1]
+        form = canonical_polygons(points, its_ends,
+                                  parts[first:last + 1] - parts[first])
+        points[its_ends[0]:its_ends[-1]] = form.points
+        ends[parts[first]:parts[last] + 1] = form.ring_offsets + its_ends[0]
+        parts[first:last + 1] = form.polygon_offsets + parts[first]
+    return features._replace(polygons=Polygons(points, ends, parts))
+
+
+def simplify_features(features: Features, threads: int = 1) -> Features:
+    """Return each feature without the zero turns of its rings.
+
+    A hole that collapses is left out, and so is a polygon whose outer ring
+    does. A feature of which nothing is left is empty and keeps its place.
+
+    Parameters
+    ----------
+    features : Features
+        Of whole numbers, as :func:`features_to_grid` answers them.
+    threads : int
+        As for :func:`i_shape.simplify_rings`.
+
+    Returns
+    -------
+    Features
+        In the same dtype.
+
+    Raises
+    ------
+    UnsafePointError, TypeError, ValueError, MemoryError
+        As :func:`i_shape.simplify_rings` does.
+    OffsetsError, FeatureError
+        As :func:`to_wkt` does.
+
+    Examples
+    --------
+    >>> from i_shape.io import (Grid, features_to_grid, from_wkt,
+    ...                         simplify_features, to_wkt)
+    >>> features = from_wkt(["POLYGON ((0 0, 2 0, 4 0, 4 4, 0 0))",
+    ...                      "POLYGON ((0 0, 4 0, 8 0, 0 0))"])
+    >>> to_wkt(simplify_features(features_to_grid(features, Grid(1))))
+    ['POLYGON ((0 0, 4 0, 4 4, 0 0))', 'POLYGON EMPTY']
+    """
+    return clean(features, simplify_rings, threads).features
+
+
+def despike_features(features: Features, threads: int = 1) -> Features:
+    """Return each feature without the back points of its rings.
+
+    Parameters
+    ----------
+    features : Features
+    threads : int
+        As for :func:`simplify_features`.
+
+    Returns
+    -------
+    Features
+        What collapses is left out as by :func:`simplify_features`.
+
+    Raises
+    ------
+    UnsafePointError, OffsetsError, FeatureError, TypeError, ValueError
+        As :func:`simplify_features` does.
+
+    Examples
+    --------
+    >>> from i_shape.io import (Grid, despike_features, features_to_grid,
+    ...                         from_wkt, to_wkt)
+    >>> spiked = from_wkt(["POLYGON ((0 0, 2 0, 4 0, 4 4, 4 9, 4 4, 0 0))"])
+    >>> to_wkt(despike_features(features_to_grid(spiked, Grid(1))))
+    ['POLYGON ((0 0, 2 0, 4 0, 4 4, 0 0))']
+    """
+    return clean(features, despike_rings, threads).features
+
+
+def canonical_features(features: Features, threads: int = 1) -> Features:
+    """Return the canonical form of each feature.
+
+    It is the form of the list of its polygons, as
+    :func:`i_shape.canonical_polygons` answers it.
+
+    Parameters
+    ----------
+    features : Features
+    threads : int
+        As for :func:`simplify_features`.
+
+    Returns
+    -------
+    Features
+        What collapses is left out as by :func:`simplify_features`.
+
+    Raises
+    ------
+    UnsafePointError, OffsetsError, FeatureError, TypeError, ValueError
+        As :func:`simplify_features` does.
+
+    Examples
+    --------
+    >>> from i_shape.io import (Grid, canonical_features, features_to_grid,
+    ...                         from_wkt, to_wkt)
+    >>> turned = from_wkt(["POLYGON ((4 4, 0 0, 2 0, 4 0, 4 4))"])
+    >>> to_wkt(canonical_features(features_to_grid(turned, Grid(1))))
+    ['POLYGON ((0 0, 4 0, 4 4, 0 0))']
+    """
+    return in_order(clean(features, canonical_rings, threads).features)

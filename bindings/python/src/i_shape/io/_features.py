@@ -1,0 +1,180 @@
+"""Features: polygons, and which of them belong together."""
+
+from __future__ import annotations
+
+from typing import Any, NamedTuple, Optional, Sequence
+
+import numpy as np
+import numpy.typing as npt
+
+from .._library import Array, as_offsets, raise_offsets
+from .._polygons import Polygons
+
+
+class FeatureError(ValueError):
+    """A feature can't be read, rounded or written.
+
+    Nothing has been answered, and nothing is left half written.
+
+    Attributes
+    ----------
+    feature : int
+        Index of the feature among those that were given.
+    polygon : int or None
+        Index of the polygon in the feature.
+    ring : int or None
+        Index of the ring in the polygon; the outer one is 0.
+    point : int or None
+        Index of the point in the ring.
+    """
+
+    def __init__(self, message: str, feature: int,
+                 polygon: Optional[int] = None, ring: Optional[int] = None,
+                 point: Optional[int] = None) -> None:
+        places = {"feature": feature, "polygon": polygon, "ring": ring,
+                  "point": point}
+        named = ", ".join(f"{name} {place}" for name, place in places.items()
+                          if place is not None)
+        super().__init__(f"{named}: {message}")
+        self.feature = feature
+        self.polygon = polygon
+        self.ring = ring
+        self.point = point
+
+
+class Place(NamedTuple):
+    """Where a point stands: each index counts within the part before it."""
+
+    feature: int
+    polygon: int
+    ring: int
+    point: int
+
+
+class Features(NamedTuple):
+    """Polygons end to end, and which of them each feature has.
+
+    Feature k has the polygons ``feature_offsets[k]`` to
+    ``feature_offsets[k + 1]`` of ``polygons``, whose points are float64 or
+    whole numbers, and whose rings are open: the last point isn't the first
+    one again. ``are_multi[k]`` is whether it is a multipolygon; one that
+    isn't has a polygon or, if it is empty, none.
+    """
+
+    polygons: Polygons
+    feature_offsets: npt.NDArray[np.int64]
+    are_multi: npt.NDArray[np.bool_]
+
+    def with_points(self, points: Array) -> Features:
+        """Return the same features with other points in the same places."""
+        return self._replace(polygons=self.polygons._replace(points=points))
+
+    def place(self, row: int) -> Place:
+        """Return where the point in a row of ``polygons.points`` stands."""
+        place = [row]
+        for offsets in (self.polygons.ring_offsets,
+                        self.polygons.polygon_offsets, self.feature_offsets):
+            part = int(np.searchsorted(offsets, place[0], side="right")) - 1
+            place[0] -= int(offsets[part])
+            place.insert(0, part)
+        return Place(*place)
+
+
+def as_finite(features: Features) -> Features:
+    """The features, or an error that names the first infinite point."""
+    points = features.polygons.points
+    finite = np.isfinite(points).all(axis=1)
+    if not finite.all():
+        row = int(finite.argmin())
+        x, y = points[row].tolist()
+        raise FeatureError(f"the point is ({x}, {y}), and not finite",
+                           *features.place(row))
+    return features
+
+
+def as_plane_points(points: Any) -> Array:
+    """The points, of whole numbers or floats, as an array."""
+    if isinstance(points, np.ma.MaskedArray):
+        raise TypeError("points are a masked array: fill it first")
+    found: Array = np.asarray(points)
+    if not found.size and not isinstance(points, np.ndarray):
+        found = np.empty((0, 2))
+    if found.dtype.kind not in "iuf":
+        raise TypeError(f"points have dtype {found.dtype}: whole numbers or"
+                        " floats are needed")
+    if found.ndim != 2 or found.shape[1] != 2:
+        raise ValueError(f"points have shape {found.shape}: (n, 2) is needed")
+    return found
+
+
+def _parting(offsets: Any, limit: int, name: str, of: str) -> Array:
+    """Offsets that part so many items."""
+    found = as_offsets(offsets, name)
+    if (found[0] < 0 or found[-1] > limit
+            or (found[1:] < found[:-1]).any()):
+        raise_offsets(found, limit, name, of)
+    return found
+
+
+def as_rings(points: Any, offsets: Any) -> tuple[Array, Array]:
+    """The points and offsets of rings, from 0 on and nothing besides."""
+    points = as_plane_points(points)
+    offsets = _parting(offsets, len(points), "offsets", "points")
+    start, end = int(offsets[0]), int(offsets[-1])
+    return points[start:end], offsets - start
+
+
+def as_features(features: Any) -> Features:
+    """The features, tested, with offsets from 0 on and nothing besides."""
+    (points, rings, parts), offsets, are_multi = features
+    points = as_plane_points(points)
+    rings = _parting(rings, len(points), "ring_offsets", "points")
+    parts = _parting(parts, len(rings) - 1, "polygon_offsets", "rings")
+    offsets = _parting(offsets, len(parts) - 1, "feature_offsets", "polygons")
+    multi: Array = np.asarray(are_multi)
+    if multi.dtype != np.bool_ or multi.shape != (len(offsets) - 1,):
+        raise ValueError(f"are_multi has dtype {multi.dtype} and shape"
+                         f" {multi.shape}: one bool a feature is needed")
+    many = ~multi & (np.diff(offsets) > 1)
+    if many.any():
+        raise FeatureError("it has several polygons, and isn't said to be a"
+                           " multipolygon", int(many.argmax()))
+    parts = parts[offsets[0]:offsets[-1] + 1]
+    rings = rings[parts[0]:parts[-1] + 1]
+    points = points[rings[0]:rings[-1]]
+    return as_finite(Features(
+        Polygons(points, rings - rings[0], parts - parts[0]),
+        offsets - offsets[0], multi))
+
+
+def features_of(polygons: Sequence[Any]) -> Features:
+    """Return polygons as features, each of one polygon.
+
+    Parameters
+    ----------
+    polygons : Polygons, or a tuple (points, ring_offsets, polygon_offsets)
+        As for :func:`i_shape.simplify_polygons`, and floats too.
+
+    Returns
+    -------
+    Features
+
+    Raises
+    ------
+    OffsetsError
+        The offsets don't part the points, or the rings.
+    FeatureError
+        A coordinate isn't finite.
+    TypeError, ValueError
+        An array has another dtype or shape.
+
+    Examples
+    --------
+    >>> from i_shape.io import features_of, to_wkt
+    >>> points = [(0, 0), (4, 0), (4, 4), (1, 0), (2, 0), (2, 1)]
+    >>> to_wkt(features_of((points, [0, 3, 6], [0, 1, 2])))
+    ['POLYGON ((0 0, 4 0, 4 4, 0 0))', 'POLYGON ((1 0, 2 0, 2 1, 1 0))']
+    """
+    count = len(as_offsets(polygons[2], "polygon_offsets")) - 1
+    return as_features((polygons, np.arange(count + 1),
+                        np.zeros(count, np.bool_)))

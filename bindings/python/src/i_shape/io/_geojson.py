@@ -1,0 +1,241 @@
+"""GeoJSON, as the standard library's json reads and writes it."""
+
+from __future__ import annotations
+
+import json
+from reprlib import repr as short
+from typing import Any, Iterable, Iterator, Mapping, Optional
+
+from ._builder import Builder, is_list
+from ._features import FeatureError, Features, as_features
+
+_ARE_MULTI = {"Polygon": False, "MultiPolygon": True}
+
+
+def geometries_of(document: Any) -> list[Any]:
+    """The geometries of a document, and None where a feature has none."""
+    if not isinstance(document, Mapping):
+        raise FeatureError(
+            f"an object of GeoJSON is needed, not {short(document)}", 0)
+    kind = document.get("type")
+    if kind == "Feature":
+        return [document.get("geometry")]
+    if kind != "FeatureCollection":
+        return [document]
+    features = document.get("features")
+    if not is_list(features):
+        raise FeatureError(f"features are {short(features)}: a list is"
+                           " needed", 0)
+    for place, feature in enumerate(features):
+        if (not isinstance(feature, Mapping)
+                or feature.get("type") != "Feature"):
+            raise FeatureError(f"a Feature is needed, not {short(feature)}",
+                               place)
+    return [feature.get("geometry") for feature in features]
+
+
+def _add_polygon(builder: Builder, rings: Any) -> None:
+    if not is_list(rings):
+        raise builder.fault(f"a list of rings is needed, not {short(rings)}",
+                            is_in_ring=False)
+    for ring in rings:
+        builder.add_positions(ring)
+    builder.end_polygon()
+
+
+def _add_geometry(builder: Builder, geometry: Any) -> None:
+    if geometry is None:
+        builder.end_feature(True)
+        return
+    kind = geometry.get("type") if isinstance(geometry, Mapping) else None
+    if not isinstance(kind, str) or kind not in _ARE_MULTI:
+        raise builder.feature_fault(
+            "a Polygon or a MultiPolygon is needed, not "
+            + (short(kind) if kind else short(geometry)))
+    coordinates = geometry.get("coordinates")
+    if not is_list(coordinates):
+        raise builder.feature_fault(
+            f"coordinates are {short(coordinates)}: a list is needed")
+    if _ARE_MULTI[kind]:
+        for rings in coordinates:
+            _add_polygon(builder, rings)
+    elif coordinates:
+        _add_polygon(builder, coordinates)
+    builder.end_feature(_ARE_MULTI[kind])
+
+
+def read(geometries: Iterable[Any]) -> Features:
+    """The features of geometries, with None for one without any."""
+    builder = Builder()
+    for geometry in geometries:
+        _add_geometry(builder, geometry)
+    return builder.features()
+
+
+def from_geojson(document: Mapping[str, Any]) -> Features:
+    """Return the polygons of a GeoJSON document.
+
+    Parameters
+    ----------
+    document : mapping
+        A FeatureCollection, a Feature, a Polygon or a MultiPolygon, as
+        ``json.load`` answers it, or what has a ``__geo_interface__`` tells
+        by it. Rings should be closed, as the format has it; one that
+        isn't is taken for open. A feature whose geometry is null has no
+        polygons.
+
+    Returns
+    -------
+    Features
+        In float64: a whole number above 2**53 is rounded.
+
+    Raises
+    ------
+    FeatureError
+        A geometry is of another type, or isn't built as GeoJSON says; a
+        position doesn't have just two coordinates; a coordinate isn't a
+        finite number. It names the feature, and the polygon, ring and
+        point where there is one.
+
+    See also
+    --------
+    to_geojson : the way back.
+
+    Examples
+    --------
+    >>> import json
+    >>> from i_shape.io import from_geojson
+    >>> text = '''{"type": "Polygon",
+    ...            "coordinates": [[[0, 0], [4, 0], [4, 4.5], [0, 0]]]}'''
+    >>> features = from_geojson(json.loads(text))
+    >>> features.polygons.points.tolist()
+    [[0.0, 0.0], [4.0, 0.0], [4.0, 4.5]]
+    """
+    return read(geometries_of(document))
+
+
+def geometries(features: Features) -> Iterator[dict[str, Any]]:
+    """The geometry of each feature, its rings closed."""
+    polygons, offsets, are_multi = features
+    points, rings, parts = polygons
+    ends = rings.tolist()
+
+    def ring(place: int) -> list[Any]:
+        open_ring: list[Any] = points[ends[place]:ends[place + 1]].tolist()
+        return open_ring + open_ring[:1]
+
+    parts_ends, feature_ends = parts.tolist(), offsets.tolist()
+    for place, is_multi in enumerate(are_multi.tolist()):
+        found = [[ring(at) for at in range(parts_ends[part],
+                                           parts_ends[part + 1])]
+                 for part in range(feature_ends[place],
+                                   feature_ends[place + 1])]
+        if is_multi:
+            yield {"type": "MultiPolygon", "coordinates": found}
+        else:
+            yield {"type": "Polygon",
+                   "coordinates": found[0] if found else []}
+
+
+def _replaced(geometry: Any, new: dict[str, Any]) -> Any:
+    """A geometry with new coordinates and its other members."""
+    if geometry is None and not new["coordinates"]:
+        return None
+    kept = {} if geometry is None else dict(geometry)
+    kept.pop("bbox", None)
+    return {**kept, **new}
+
+
+def _with_geometry(feature: Mapping[str, Any], new: Any) -> dict[str, Any]:
+    kept = {**feature, "geometry": _replaced(feature.get("geometry"), new)}
+    kept.pop("bbox", None)
+    return kept
+
+
+def _without_document(features: Features) -> dict[str, Any]:
+    feature = {"type": "Feature", "properties": None, "geometry": {}}
+    return {"type": "FeatureCollection",
+            "features": [feature] * len(features.are_multi)}
+
+
+def _new_features(features: Features,
+                  document: Mapping[str, Any]) -> Iterator[dict[str, Any]]:
+    given = geometries_of(document)
+    if len(given) != len(features.are_multi):
+        raise ValueError(f"there are {len(features.are_multi)} features, and"
+                         f" {len(given)} in the document")
+    for feature, new in zip(document["features"], geometries(features)):
+        yield _with_geometry(feature, new)
+
+
+def to_geojson(features: Features,
+               document: Optional[Mapping[str, Any]] = None) -> dict[str, Any]:
+    """Return features as a GeoJSON document.
+
+    Parameters
+    ----------
+    features : Features
+        Of whole numbers or floats. An empty one has no coordinates.
+    document : mapping, optional
+        The one that they were read from. The answer has its properties and
+        other members, without ``bbox``, which may not fit any more.
+        It isn't changed.
+
+    Returns
+    -------
+    dict
+        As ``json.dump`` takes it: a FeatureCollection without properties,
+        or what ``document`` is. Rings are closed, and turn as they did.
+
+    Raises
+    ------
+    FeatureError
+        A feature with several polygons isn't said to be a multipolygon, or
+        a coordinate isn't finite.
+    OffsetsError, TypeError, ValueError
+        The arrays of ``features`` don't fit one another, or there are not
+        as many as in ``document``.
+
+    Examples
+    --------
+    >>> from i_shape.io import features_of, to_geojson
+    >>> left = features_of(([(0, 0), (4, 0), (4, 4)], [0, 3], [0, 1]))
+    >>> to_geojson(left)["features"][0]["geometry"]
+    {'type': 'Polygon', 'coordinates': [[[0, 0], [4, 0], [4, 4], [0, 0]]]}
+    """
+    features = as_features(features)
+    if document is None:
+        document = _without_document(features)
+    if document.get("type") == "FeatureCollection":
+        return {**_head(document),
+                "features": list(_new_features(features, document))}
+    if len(features.are_multi) != 1:
+        raise ValueError(f"there are {len(features.are_multi)} features, and"
+                         " one in the document")
+    new = next(geometries(features))
+    if document.get("type") == "Feature":
+        return _with_geometry(document, new)
+    replaced: dict[str, Any] = _replaced(document, new)
+    return replaced
+
+
+def _head(document: Mapping[str, Any]) -> dict[str, Any]:
+    """The members of a collection beside its features and its box."""
+    return {name: value for name, value in document.items()
+            if name not in ("features", "bbox")}
+
+
+def texts(features: Features,
+          document: Optional[Mapping[str, Any]] = None) -> Iterator[str]:
+    """The text of :func:`to_geojson` in pieces, one for each feature."""
+    if document is None:
+        document = _without_document(features)
+    if document.get("type") != "FeatureCollection":
+        yield json.dumps(to_geojson(features, document)) + "\n"
+        return
+    head = json.dumps(_head(document))[1:-1]
+    lead = f'{{{head}, "features": ['
+    for feature in _new_features(features, document):
+        yield f"{lead}\n{json.dumps(feature)}"
+        lead = ","
+    yield f"{'' if lead == ',' else lead}\n]}}\n"

@@ -1,0 +1,200 @@
+"""Polygons of shapely, 1.8 or 2, which is imported only by a call."""
+
+from __future__ import annotations
+
+from typing import Any, Iterable, Sequence
+
+import numpy as np
+
+from .._library import Array
+from .._polygons import Polygons
+from .._rings import Rings
+from ._builder import Builder
+from ._closing import close_rings, open_rings
+from ._features import FeatureError, Features, as_features, as_finite
+
+_FEWEST = 3  # points that a ring of shapely has, the last one aside
+
+
+def _are_multi(geometries: Sequence[Any]) -> list[bool]:
+    from shapely.geometry import MultiPolygon, Polygon
+    for place, geometry in enumerate(geometries):
+        if not isinstance(geometry, (Polygon, MultiPolygon)):
+            raise FeatureError("a Polygon or a MultiPolygon is needed, not a"
+                               f" {type(geometry).__name__}", place)
+        if not geometry.is_empty and geometry.has_z:
+            raise FeatureError("it has three coordinates a point, and two are"
+                               " needed", place)
+    return [isinstance(geometry, MultiPolygon) for geometry in geometries]
+
+
+def _from_ragged(shapely: Any, geometries: list[Any],
+                 are_multi: list[bool]) -> Features:
+    """The features of shapely 2's ragged arrays; no geometry is empty."""
+    _, points, offsets = shapely.to_ragged_array(geometries)
+    if any(are_multi):
+        rings, parts, features = offsets
+    else:
+        rings, parts = offsets
+        features = np.arange(len(geometries) + 1)
+    opened = open_rings(points, rings)
+    return as_finite(Features(
+        Polygons(*opened, np.asarray(parts, np.int64)),
+        np.asarray(features, np.int64), np.array(are_multi, np.bool_)))
+
+
+def _from_objects(geometries: list[Any], are_multi: list[bool]) -> Features:
+    builder = Builder()
+    for geometry, is_multi in zip(geometries, are_multi):
+        for polygon in geometry.geoms if is_multi else [geometry]:
+            if polygon.is_empty:
+                continue
+            for ring in (polygon.exterior, *polygon.interiors):
+                builder.add_positions(list(ring.coords))
+            builder.end_polygon()
+        builder.end_feature(is_multi)
+    return builder.features()
+
+
+def from_shapely(geometries: Iterable[Any]) -> Features:
+    """Return the polygons of geometries of shapely.
+
+    Parameters
+    ----------
+    geometries : iterable of Polygon or MultiPolygon
+        A list, an array or a GeoSeries. One of shapely 2 is read by
+        ``shapely.to_ragged_array``, and of 1.8 ring by ring.
+
+    Returns
+    -------
+    Features
+        In float64, without the empty polygons of a multipolygon.
+
+    Raises
+    ------
+    ImportError
+        There is no shapely.
+    FeatureError
+        A geometry is another one or none, has three coordinates a point,
+        or a coordinate isn't finite. It names the feature, and the
+        polygon, ring and point where there is one.
+
+    See also
+    --------
+    to_shapely : the way back.
+
+    Examples
+    --------
+    >>> from i_shape.io import (features_from_grid, features_to_grid,
+    ...                         from_shapely, simplify_features, to_shapely)
+    >>> def simplified(parcels, grid):
+    ...     whole = features_to_grid(from_shapely(parcels), grid)
+    ...     left = features_from_grid(simplify_features(whole), grid)
+    ...     return to_shapely(left)
+    """
+    import shapely
+    geometries = list(geometries)
+    are_multi = _are_multi(geometries)
+    has_empty = any(geometry.is_empty for geometry in geometries)
+    if not geometries or has_empty or not hasattr(shapely, "to_ragged_array"):
+        return _from_objects(geometries, are_multi)
+    return _from_ragged(shapely, geometries, are_multi)
+
+
+def _require_long_rings(features: Features) -> None:
+    counts = np.diff(features.polygons.ring_offsets)
+    short = counts < _FEWEST
+    if short.any():
+        ring = int(short.argmax())
+        parts = features.polygons.polygon_offsets
+        polygon = int(np.searchsorted(parts, ring, side="right")) - 1
+        offsets = features.feature_offsets
+        feature = int(np.searchsorted(offsets, polygon, side="right")) - 1
+        raise FeatureError(
+            f"shapely needs at least {_FEWEST} points, and it has"
+            f" {counts[ring]}", feature, polygon - int(offsets[feature]),
+            ring - int(parts[polygon]))
+
+
+def _to_ragged(shapely: Any, features: Features) -> list[Any]:
+    """The geometries by shapely 2's ragged arrays; none is empty."""
+    polygons, offsets, are_multi = features
+    found: list[Any] = list(shapely.from_ragged_array(
+        shapely.GeometryType.MULTIPOLYGON, polygons.points,
+        (polygons.ring_offsets, polygons.polygon_offsets, offsets)))
+    return [geometry if is_multi else geometry.geoms[0]
+            for geometry, is_multi in zip(found, are_multi.tolist())]
+
+
+def _to_objects(features: Features) -> list[Any]:
+    from shapely.geometry import MultiPolygon, Polygon
+    (points, ends, parts), offsets, are_multi = features
+    rings = [points[start:end] for start, end in zip(ends, ends[1:])]
+    polygons = [Polygon(rings[start], rings[start + 1:end])
+                if start < end else Polygon()
+                for start, end in zip(parts.tolist(), parts[1:].tolist())]
+    found = []
+    for place, is_multi in enumerate(are_multi.tolist()):
+        its = polygons[offsets[place]:offsets[place + 1]]
+        if is_multi:
+            its = [polygon for polygon in its if not polygon.is_empty]
+            found.append(MultiPolygon(its))
+        else:
+            found.append(its[0] if its else Polygon())
+    return found
+
+
+def _closed(features: Features) -> Features:
+    polygons = features.polygons
+    closed: Rings = close_rings(polygons.points.astype(np.float64),
+                                polygons.ring_offsets)
+    return features._replace(
+        polygons=Polygons(*closed, polygons.polygon_offsets))
+
+
+def _has_empty(features: Features) -> bool:
+    levels: tuple[Array, ...] = (features.feature_offsets,
+                                 features.polygons.polygon_offsets)
+    return any(not np.diff(offsets).all() for offsets in levels)
+
+
+def to_shapely(features: Features) -> list[Any]:
+    """Return the geometry of each feature, of the shapely that is there.
+
+    Parameters
+    ----------
+    features : Features
+        Of whole numbers or floats. A whole number above 2**53 is rounded.
+
+    Returns
+    -------
+    list of Polygon and MultiPolygon
+        Empty ones for empty features. Rings turn as they did. They are
+        made by ``shapely.from_ragged_array`` where it is there and none is
+        empty.
+
+    Raises
+    ------
+    ImportError
+        There is no shapely.
+    FeatureError
+        A ring has fewer than three points, of which shapely makes no ring:
+        clean it first. Also as :func:`to_wkt` does.
+    OffsetsError, TypeError, ValueError
+        The arrays of ``features`` don't fit one another.
+
+    Examples
+    --------
+    >>> from i_shape.io import features_of, to_shapely
+    >>> def triangle():
+    ...     points = [(0, 0), (4, 0), (4, 4)]
+    ...     return to_shapely(features_of((points, [0, 3], [0, 1])))[0]
+    """
+    import shapely
+    features = as_features(features)
+    _require_long_rings(features)
+    closed = _closed(features)
+    if (not len(features.are_multi) or _has_empty(features)
+            or not hasattr(shapely, "from_ragged_array")):
+        return _to_objects(closed)
+    return _to_ragged(shapely, closed)

@@ -1,0 +1,461 @@
+"""The command: files in, files out, what it tells and what it refuses."""
+
+import contextlib
+import importlib.util
+import io as text_io
+import json
+import os
+import re
+import subprocess
+import sys
+import tempfile
+import time
+import unittest
+from pathlib import Path
+from unittest import mock
+
+import samples
+from i_shape import __main__ as command
+from i_shape import _command
+from i_shape import io
+from i_shape._command import files, progress
+
+HAS_MATPLOTLIB = importlib.util.find_spec("matplotlib") is not None
+WHY_NOT = "plots are not tested: there is no matplotlib"
+if not HAS_MATPLOTLIB:
+    print(WHY_NOT)
+
+SPIKED = [(0.5, 0), (0.7, 0), (0.9, 0), (0.9, 0.4), (0.9, 0.8), (0.9, 0.4),
+          (0.5, 0.4)]
+SQUARE = [(0.5, 0), (0.9, 0), (0.9, 0.4), (0.5, 0.4)]
+FLAT = [(0.6, 0.1), (0.7, 0.1), (0.8, 0.1)]
+HOLE = [(0.6, 0.2), (0.6, 0.3), (0.7, 0.2)]
+
+
+class CommandCase(unittest.TestCase):
+
+    def setUp(self):
+        folder = tempfile.TemporaryDirectory()
+        self.addCleanup(folder.cleanup)
+        self.folder = Path(folder.name)
+        self.given = self.folder / "given.geojson"
+        self.out = self.folder / "out.geojson"
+
+    def write(self, document, name="given.geojson"):
+        path = self.folder / name
+        text = document if isinstance(document, str) else json.dumps(document)
+        path.write_text(text)
+        return path
+
+    def run_command(self, *words, status=0):
+        """What it prints, on standard output and on standard error."""
+        out, error = text_io.StringIO(), text_io.StringIO()
+        with contextlib.redirect_stdout(out), contextlib.redirect_stderr(
+                error):
+            try:
+                answer = command.main([str(word) for word in words])
+            except SystemExit as ended:
+                answer = ended.code
+        self.assertEqual(answer, status, error.getvalue())
+        return out.getvalue(), error.getvalue()
+
+    def geometries(self, path=None):
+        return [feature["geometry"]
+                for feature in json.loads((path or self.out).read_text())[
+                    "features"]]
+
+
+class Cleaned(CommandCase):
+
+    def test_each_cleaner(self):
+        self.write(samples.geojson(samples.polygon(SPIKED, FLAT, HOLE)))
+        left = [SPIKED[0], SPIKED[2], SPIKED[3], SPIKED[6]]
+        for cleaner, rings in (
+                ("simplify", [left, HOLE]),
+                ("despike", [[SPIKED[0], *left[:0], SPIKED[1], *left[1:]],
+                             HOLE]),
+                ("canonical", [left, HOLE])):
+            with self.subTest(cleaner=cleaner):
+                told = self.run_command(cleaner, self.given, self.out,
+                                        "--step", "0.1")
+                self.assertEqual(told, ("", ""))
+                self.assertEqual(self.geometries(),
+                                 [samples.polygon(*rings)])
+
+    def test_canonical_orders_holes_and_polygons(self):
+        small = [(0.1, 0.1), (0.2, 0.1), (0.1, 0.2)]
+        other = [(0.1, 0.0), (0.2, 0.0), (0.1, 0.1)]
+        moved = [[(3, 3), (1, 1), (2, 1)]], [SQUARE[2:] + SQUARE[:2], small,
+                                             other[1:] + other[:1]]
+        self.write(samples.geojson({
+            "type": "MultiPolygon",
+            "coordinates": [samples.polygon(*rings)["coordinates"]
+                            for rings in moved]}))
+        self.run_command("canonical", self.given, self.out, "--step", "0.1")
+        right = [[SQUARE, other, small], [[(1, 1), (2, 1), (3, 3)]]]
+        self.assertEqual(
+            self.geometries()[0]["coordinates"],
+            [samples.polygon(*rings)["coordinates"] for rings in right])
+
+    def test_what_stays_of_a_document(self):
+        document = samples.geojson(samples.polygon(SPIKED), None,
+                                   samples.polygon(FLAT),
+                                   {"type": "MultiPolygon", "coordinates": [
+                                       samples.polygon(FLAT)["coordinates"]]})
+        document["name"] = "R\u00fcgen \ud83d"
+        self.write(document)
+        self.run_command("simplify", self.given, self.out, "--step", "0.1")
+        right = json.loads(json.dumps(document))
+        for feature, geometry in zip(right["features"], (
+                samples.polygon(SQUARE), None,
+                {"type": "Polygon", "coordinates": []},
+                {"type": "MultiPolygon", "coordinates": []})):
+            feature["geometry"] = geometry
+        self.assertEqual(json.loads(self.out.read_text()), right)
+
+    def test_each_kind_of_document(self):
+        polygon, left = samples.polygon(SPIKED), samples.polygon(SQUARE)
+        feature = {"type": "Feature", "id": 7, "geometry": polygon}
+        for document, right in (
+                (polygon, left), (feature, {**feature, "geometry": left}),
+                (samples.geojson(), samples.geojson()),
+                (samples.geojson(*[polygon] * 3), samples.geojson(
+                    *[left] * 3))):
+            self.write("\ufeff" + json.dumps(document))
+            self.run_command("simplify", self.given, self.out, "--step", ".1")
+            self.assertEqual(json.loads(self.out.read_text()), right)
+
+    def test_wkt_and_both_ways(self):
+        given = self.write("POLYGON ((0 0, 2 0, 4 0, 4 4.5, 0 0))\n\n"
+                           "MULTIPOLYGON (((0 0, 1 1, 2 2, 0 0)))\n", "a.wkt")
+        out = self.folder / "b.WKT"
+        self.run_command("simplify", given, out, "--step", "0.5")
+        right = "POLYGON ((0 0, 4 0, 4 4.5, 0 0))\nMULTIPOLYGON EMPTY\n"
+        self.assertEqual(out.read_text(), right)
+        self.run_command("simplify", given, self.out, "--step", "0.5")
+        again = self.folder / "c.wkt"
+        self.run_command("simplify", self.out, again, "--step", "0.5")
+        self.assertEqual(again.read_text(), right)
+
+    def test_out_may_be_in_and_keeps_its_link(self):
+        self.write(samples.geojson(samples.polygon(SPIKED)))
+        link = self.folder / "link.geojson"
+        link.symlink_to(self.given)
+        self.run_command("simplify", link, link, "--step", "0.1")
+        self.assertTrue(link.is_symlink())
+        self.assertEqual(self.geometries(self.given),
+                         [samples.polygon(SQUARE)])
+
+    def test_the_origin_moves_the_grid(self):
+        self.write(samples.geojson(samples.polygon(
+            [(0.25, 0.25), (8.25, 0.25), (8.75, 8.25)])))
+        self.run_command("simplify", self.given, self.out, "--step", "1",
+                         "--origin", "0.25", "-0.75")
+        self.assertEqual(self.geometries(), [samples.polygon(
+            [(0.25, 0.25), (8.25, 0.25), (8.25, 8.25)])])
+
+    def test_as_a_module(self):
+        self.write(samples.geojson(samples.polygon(SPIKED)))
+        for words, status in ((["--step", "0.1"], 0), (["--step", "0"], 2),
+                              (["--step", "1e-300"], 1)):
+            run = subprocess.run(
+                [sys.executable, "-m", "i_shape", "simplify", self.given,
+                 self.out, *words], capture_output=True, text=True,
+                check=False)
+            self.assertEqual(run.returncode, status, run.stderr)
+            self.assertNotIn("Traceback", run.stderr)
+
+
+class Reports(CommandCase):
+
+    def test_what_was_removed_and_what_collapsed(self):
+        self.write(samples.geojson(
+            samples.polygon(SPIKED, FLAT, HOLE), samples.polygon(FLAT),
+            {"type": "MultiPolygon", "coordinates": [
+                samples.polygon(ring)["coordinates"]
+                for ring in (SQUARE, FLAT)]}))
+        told, _ = self.run_command("simplify", self.given, self.out,
+                                   "--step", "0.1", "--report")
+        self.assertEqual(told, """\
+features with polygons: 3 before, 2 after
+polygons: 4 before, 2 after
+rings: 6 before, 3 after
+points: 23 before, 11 after
+area as given: 0.315
+area before: 0.315, 31.5 cells of the grid
+area after: 0.315, 31.5 cells of the grid
+collapsed: feature 0, polygon 0, ring 1
+collapsed: feature 1, polygon 0, ring 0
+collapsed: feature 2, polygon 1, ring 0
+""")
+
+    def test_rounding_changes_the_area(self):
+        self.write(samples.geojson(samples.polygon(
+            [(0, 0), (10.4, 0), (10.4, 10.4), (0, 10.4)])))
+        told, _ = self.run_command("simplify", self.given, self.out,
+                                   "--step", "1", "--report")
+        self.assertIn("area as given: 108.16\n", told)
+        self.assertIn("area before: 100, 100 cells of the grid\n", told)
+        self.assertIn("area after: 100, 100 cells of the grid\n", told)
+
+    def test_great_areas_are_exact(self):
+        far = 2 ** 61
+        self.write(f"POLYGON ((0 0, {far} 0, {far} {far}, 0 {far}))",
+                   "a.wkt")
+        told, _ = self.run_command(
+            "simplify", self.folder / "a.wkt", self.out, "--step", "1",
+            "--report")
+        self.assertEqual(told.count(f", {far * far} cells of the grid\n"), 2)
+
+    def test_nothing(self):
+        self.write(samples.geojson())
+        told, _ = self.run_command("despike", self.given, self.out,
+                                   "--step", "1", "--report")
+        self.assertIn("points: 0 before, 0 after\narea as given: 0\n", told)
+
+    def test_progress_is_a_line_a_second(self):
+        times = iter([0, 0.5, 1.0, 1.5, 2.5, 2.6])
+        error = text_io.StringIO()
+        with mock.patch.dict(sys.modules, {"tqdm": None}), \
+                mock.patch.object(time, "monotonic", lambda: next(times)), \
+                contextlib.redirect_stderr(error):
+            self.assertEqual(list(progress.track("abcde", "read", 5)),
+                             list("abcde"))
+        self.assertEqual(error.getvalue(), "read: 2 of 5\nread: 4 of 5\n")
+
+    def test_progress_is_that_of_tqdm_where_it_is(self):
+        shown = mock.MagicMock()
+        shown.tqdm.return_value.__enter__.return_value = shown.bar
+        with mock.patch.dict(sys.modules, {"tqdm": shown}):
+            self.assertEqual(list(progress.track("abc", "read", 3)),
+                             list("abc"))
+        self.assertEqual(shown.bar.update.call_count, 3)
+        self.assertEqual(shown.tqdm.call_args.kwargs["total"], 3)
+
+    def test_short_files_show_no_progress(self):
+        self.write(samples.geojson(samples.polygon(SPIKED)))
+        for module in ({"tqdm": None}, {}):
+            with mock.patch.dict(sys.modules, module):
+                _, told = self.run_command("simplify", self.given, self.out,
+                                           "--step", "0.1", "--report")
+            self.assertEqual(told, "")
+
+
+class Plots(CommandCase):
+
+    @unittest.skipUnless(HAS_MATPLOTLIB, WHY_NOT)
+    def test_a_plot_of_each_kind(self):
+        self.write(samples.geojson(samples.polygon(SPIKED, FLAT), None))
+        for kind, start in (("svg", b"<?xml"), ("png", b"\x89PNG"),
+                            ("pdf", b"%PDF")):
+            path = self.folder / f"plot.{kind}"
+            self.run_command("simplify", self.given, self.out, "--step",
+                             "0.1", "--plot", path)
+            self.assertTrue(path.read_bytes().startswith(start))
+            self.assertEqual(self.geometries()[0], samples.polygon(SQUARE))
+        self.assertIn("before: 10 points", self.texts("plot.svg"))
+        self.assertIn("after: 4 points", self.texts("plot.svg"))
+
+    def texts(self, name):
+        """The words of a picture, which stand in its comments."""
+        return re.findall("<!-- (.*) -->", (self.folder / name).read_text())
+
+    def test_without_matplotlib_nothing_is_done(self):
+        self.write(samples.geojson(samples.polygon(SPIKED)))
+        with mock.patch.object(importlib.util, "find_spec", lambda _: None):
+            _, told = self.run_command(
+                "simplify", self.given, self.out, "--step", "0.1", "--plot",
+                self.folder / "plot.svg", status=2)
+        self.assertIn("there is no matplotlib", told)
+        self.assertFalse(self.out.exists())
+
+    def test_nothing_is_left_of_a_plot_that_fails(self):
+        self.write(samples.geojson(samples.polygon(SPIKED)))
+        before = sorted(self.folder.iterdir())
+
+        def draw(path, *_):
+            path.write_text("half")
+            raise OSError("no room")
+
+        with mock.patch.object(_command.plot, "draw", draw), \
+                mock.patch.object(importlib.util, "find_spec", str):
+            self.run_command("simplify", self.given, self.out, "--step",
+                             "0.1", "--plot", self.folder / "plot.svg",
+                             status=1)
+        self.assertEqual(sorted(self.folder.iterdir()), before)
+
+
+class Refused(CommandCase):
+
+    def assert_nothing_is_written(self, *words, status=1):
+        """It fails, and each file stays as it was. It answers what is told."""
+        self.out.write_text("as it was")
+        before = {path: path.read_bytes() for path in self.folder.iterdir()}
+        told = self.run_command(*words, status=status)
+        self.assertEqual(told[0], "")
+        self.assertEqual({path: path.read_bytes()
+                          for path in self.folder.iterdir()}, before)
+        return told[1]
+
+    def test_hostile_files(self):
+        square = json.dumps(samples.polygon(samples.SQUARE))
+
+        def second(coordinates, kind="Polygon"):
+            return (f'{{"type": "FeatureCollection", "features": [{{"type":'
+                    f' "Feature", "geometry": {square}}}, {{"type": "Feature",'
+                    f' "geometry": {{"type": "{kind}", "coordinates":'
+                    f' {coordinates}}}}}]}}')
+
+        for text, words in (
+                ("", "line 1 column 1"),
+                ("{", "line 1 column 2"),
+                ("[" * 10 ** 5, "nested too deeply"),
+                ('{"type": "FeatureCollection", "features": [{"a": 1}',
+                 "line 1 column"),
+                ("[]", "feature 0: an object of GeoJSON is needed"),
+                ("null", "feature 0: an object of GeoJSON is needed"),
+                (second("[0, 0]", "Point"), "feature 1: a Polygon or"),
+                (second("[]", "GeometryCollection"), "feature 1: a Polygon"),
+                (second("[[[0, 0], [1, NaN], [1, 1]]]"),
+                 "feature 1, polygon 0, ring 0, point 1: the point is"
+                 " (1.0, nan)"),
+                (second("[[[0, 0]], [[1, 0], [Infinity, 1]]]"),
+                 "feature 1, polygon 0, ring 1, point 1: the point is (inf"),
+                (second("[[[0, 0], [1, 1e999], [1, 1]]]"), "ring 0, point 1"),
+                (second("[[[0, 0, 0], [1, 1, 0], [2, 2, 0]]]"),
+                 "feature 1, polygon 0, ring 0, point 0: the position"
+                 " [0, 0, 0] has 3 coordinates"),
+                (second('[[[0, 0], ["1", 1], [2, 2]]]'), "'1' isn't a number"),
+                (second("[[[0, 0], [1, 1], 2]]"), "the position 2 has no"),
+                (second("[[0, 0], [1, 1]]"), "the position 0 has no"),
+                (second("[[[0, 0], [0, 4e12]]]"),
+                 "feature 1, polygon 0, ring 0, point 1: y is"
+                 " 4000000000000.0, 4e+19 steps of 1e-07 from the origin, and"
+                 " not strictly between -2**62 and 2**62")):
+            with self.subTest(text=text[:100]):
+                self.write(text)
+                told = self.assert_nothing_is_written(
+                    "simplify", self.given, self.out, "--step", "1e-7",
+                    "--report")
+                self.assertIn(words, told)
+                self.assertTrue(told.startswith(f"i_shape: {self.given}: "))
+                self.assertEqual(told.count("\n"), 1)
+
+    def test_hostile_lines(self):
+        for text, words in (
+                ("POLYGON EMPTY\nPOINT (0 0)\n", "feature 1: POLYGON or"),
+                ("POLYGON ((0 0, 1 nan))", "ring 0, point 1: 'nan'"),
+                ("POLYGON ((0 0, 1 1)\n", "feature 0: ')' is needed"),
+                ("POLYGON Z ((0 0 0, 1 1 1))", "feature 0: a POLYGON of two"),
+                ("\0", "feature 0: POLYGON or MULTIPOLYGON")):
+            with self.subTest(text=text):
+                path = self.write(text, "a.wkt")
+                told = self.assert_nothing_is_written(
+                    "despike", path, self.out, "--step", "1")
+                self.assertIn(words, told)
+
+    def test_bytes_that_are_no_text(self):
+        self.given.write_bytes(b'{"type": "\xff"}')
+        told = self.assert_nothing_is_written("simplify", self.given,
+                                              self.out, "--step", "1")
+        self.assertIn("can't decode", told)
+
+    def test_rings_of_few_points_collapse(self):
+        rings = [[], [[0, 0]], [[0, 0], [0, 0]], [[0, 0], [1, 1], [0, 0]]]
+        self.write(samples.geojson(
+            *({"type": "Polygon", "coordinates": [ring]} for ring in rings),
+            {"type": "Polygon", "coordinates": []},
+            {"type": "MultiPolygon", "coordinates": []},
+            {"type": "MultiPolygon", "coordinates": [[]]}))
+        for cleaner in ("simplify", "despike", "canonical"):
+            self.run_command(cleaner, self.given, self.out, "--step", "1")
+            self.assertEqual(
+                [geometry["coordinates"] for geometry in self.geometries()],
+                [[]] * 6 + [[[]]])
+
+    def test_files_that_can_not_be_read_or_written(self):
+        self.write(samples.geojson())
+        folder = self.folder / "folder.geojson"
+        folder.mkdir()
+        self.out.write_text("as it was")
+        for given, out in (
+                (self.folder / "none.geojson", self.out),
+                (folder, self.out), (self.given, folder),
+                (self.given, self.folder / "none" / "out.geojson")):
+            with self.subTest(given=given, out=out):
+                before = sorted(self.folder.rglob("*"))
+                _, told = self.run_command("simplify", given, out, "--step",
+                                           "1", status=1)
+                self.assertIn("[Errno", told)
+                self.assertEqual(sorted(self.folder.rglob("*")), before)
+        self.assertEqual(self.out.read_text(), "as it was")
+
+    def test_nothing_is_half_written_where_writing_stops(self):
+        self.write(samples.geojson(*[samples.polygon(SPIKED)] * 3))
+        texts = files.texts
+
+        def fewer(error):
+            def stops(*words):
+                yield next(iter(texts(*words)))
+                raise error
+            return stops
+
+        for error, kind in ((OSError("no room"), None),
+                            (KeyboardInterrupt(), KeyboardInterrupt),
+                            (MemoryError(), MemoryError)):
+            with mock.patch.object(files, "texts", fewer(error)):
+                with self.subTest(error=error):
+                    if kind is None:
+                        self.assert_nothing_is_written(
+                            "simplify", self.given, self.out, "--step", "1")
+                    else:
+                        with self.assertRaises(kind):
+                            self.assert_nothing_is_written(
+                                "simplify", self.given, self.out, "--step",
+                                "1")
+                    self.assertEqual(self.out.read_text(), "as it was")
+                    self.assertEqual(sorted(os.listdir(self.folder)),
+                                     ["given.geojson", "out.geojson"])
+
+    def test_words_that_are_refused(self):
+        self.write(samples.geojson())
+        for words, told in (
+                (["simplify", self.given, self.out], "--step"),
+                (["clean", self.given, self.out, "--step", "1"], "choose"),
+                (["simplify", self.given, "a.shp", "--step", "1"], "a.shp"),
+                (["simplify", "a", self.out, "--step", "1"], "a doesn't end"),
+                (["simplify", self.given, self.out, "--step", "-1"],
+                 "step is -1.0"),
+                (["simplify", self.given, self.out, "--step", "nan"],
+                 "step is nan"),
+                (["simplify", self.given, self.out, "--step", "1",
+                  "--origin", "0", "inf"], "origin is"),
+                (["simplify", self.given, self.out, "--step", "1", "--plot",
+                  "a.bmp"], "a.bmp doesn't end")):
+            with self.subTest(words=words):
+                self.assertIn(told, self.assert_nothing_is_written(
+                    *words, status=2))
+
+
+class Formats(CommandCase):
+
+    def test_many_features_through_the_files(self):
+        import random
+        given = samples.arrays(samples.random_features(random.Random(1), 500))
+        for name in ("a.geojson", "a.json", "a.wkt"):
+            path = self.folder / name
+            files.write(path, given, None)
+            features, _ = files.read(path)
+            self.assertEqual(samples.lists(features), samples.lists(given))
+            self.assertEqual(path.stat().st_mode & 0o777,
+                             0o666 & ~self.umask())
+            self.assertEqual(io.to_wkt(features), io.to_wkt(given))
+
+    def umask(self):
+        mask = os.umask(0)
+        os.umask(mask)
+        return mask
+
+
+if __name__ == "__main__":
+    unittest.main()
