@@ -8,7 +8,9 @@ from importlib import metadata
 from pathlib import Path
 
 import i_shape
-from i_shape import _contours, _polygons, _rings
+from i_shape import _contours, _polygons, _rings, io
+from i_shape.io import (_cleaners, _closing, _features, _geojson, _grid,
+                        _shapely, _wkt)
 
 TOP = Path(__file__).resolve().parents[3]
 PAGE = TOP / "docs" / "PYTHON.md"
@@ -21,16 +23,23 @@ class Documents(unittest.TestCase):
             faults, count = doctest.testmod(module)
             self.assertEqual(faults, 0)
             self.assertGreater(count, 10)
+        for module in (_cleaners, _closing, _features, _geojson, _grid,
+                       _shapely, _wkt):
+            faults, count = doctest.testmod(module)
+            self.assertEqual(faults, 0)
+            self.assertGreater(count, 1)
 
     def test_each_call_has_an_example_and_its_parts(self):
-        for name in i_shape.__all__:
-            item = getattr(i_shape, name)
-            text = inspect.getdoc(item)
-            self.assertTrue(text, name)
-            if inspect.isfunction(item):
-                for part in ("Parameters", "Returns", "Raises", "Examples"):
-                    self.assertIn(f"\n{part}\n-----", text, name)
-                self.assertIn("return", item.__annotations__, name)
+        for module in (i_shape, io):
+            for name in module.__all__:
+                item = getattr(module, name)
+                text = inspect.getdoc(item)
+                self.assertTrue(text, name)
+                if inspect.isfunction(item):
+                    for part in ("Parameters", "Returns", "Raises",
+                                 "Examples"):
+                        self.assertIn(f"\n{part}\n-----", text, name)
+                    self.assertIn("return", item.__annotations__, name)
 
     def test_the_examples_of_the_page(self):
         # A fence would be read as a line of the output before it.
@@ -43,8 +52,8 @@ class Documents(unittest.TestCase):
 
     def test_the_page_names_each_call(self):
         page = PAGE.read_text()
-        for name in i_shape.__all__:
-            self.assertIn(f"`{name}`", page)
+        for name in (*i_shape.__all__, *io.__all__):
+            self.assertRegex(page, rf"`{name}\b[^`]*`")
 
     def test_the_version_is_that_of_the_header(self):
         header = (TOP / "include" / "i_shape.h").read_text()

@@ -69,7 +69,8 @@ def _options(words: Optional[Sequence[str]]) -> argparse.Namespace:
                         " matplotlib: .svg, .png or .pdf")
     options = parser.parse_args(words)
     try:
-        options.grid = Grid(options.step, tuple(options.origin))
+        x, y = options.origin
+        options.grid = Grid(options.step, (x, y))
     except ValueError as error:
         parser.error(str(error))
     return options

@@ -27,7 +27,7 @@ def _ends(counts: Array) -> Array:
 
 def _left(features: Features, rings: Rings) -> Features:
     """The features without the rings that are empty, and their polygons."""
-    parts, offsets = features.polygons.polygon_offsets, features.feature_offsets
+    parts = features.polygons.polygon_offsets
     lengths, ring_counts = np.diff(rings.offsets), np.diff(parts)
     stay = lengths > 0
     polygons_stay = np.ones(len(ring_counts), np.bool_)
@@ -39,7 +39,7 @@ def _left(features: Features, rings: Rings) -> Features:
         polygons=Polygons(rings.points[np.repeat(stay, lengths)],
                           _ends(lengths[stay]),
                           _ends(np.diff(left_rings[parts])[polygons_stay])),
-        feature_offsets=left_polygons[offsets])
+        feature_offsets=left_polygons[features.feature_offsets])
 
 
 def clean(features: Features, cleaner: Cleaner, threads: int = 1) -> Cleaned:

@@ -22,7 +22,7 @@ def geometries_of(document: Any) -> list[Any]:
         return [document.get("geometry")]
     if kind != "FeatureCollection":
         return [document]
-    features = document.get("features")
+    features: Any = document.get("features")
     if not is_list(features):
         raise FeatureError(f"features are {short(features)}: a list is"
                            " needed", 0)
@@ -153,7 +153,8 @@ def _with_geometry(feature: Mapping[str, Any], new: Any) -> dict[str, Any]:
 
 
 def _without_document(features: Features) -> dict[str, Any]:
-    feature = {"type": "Feature", "properties": None, "geometry": {}}
+    feature: dict[str, Any] = {"type": "Feature", "properties": None,
+                               "geometry": {}}
     return {"type": "FeatureCollection",
             "features": [feature] * len(features.are_multi)}
 
