@@ -21,7 +21,7 @@ from i_shape import io
 from i_shape._command import files, progress
 
 HAS_MATPLOTLIB = importlib.util.find_spec("matplotlib") is not None
-WHY_NOT = "plots are not tested: there is no matplotlib"
+WHY_NOT = "a plot is not tested: there is no matplotlib"
 if not HAS_MATPLOTLIB:
     print(WHY_NOT)
 
@@ -400,22 +400,16 @@ class Refused(CommandCase):
                 raise error
             return stops
 
-        for error, kind in ((OSError("no room"), None),
-                            (KeyboardInterrupt(), KeyboardInterrupt),
-                            (MemoryError(), MemoryError)):
-            with mock.patch.object(files, "texts", fewer(error)):
-                with self.subTest(error=error):
-                    if kind is None:
-                        self.assert_nothing_is_written(
-                            "simplify", self.given, self.out, "--step", "1")
-                    else:
-                        with self.assertRaises(kind):
-                            self.assert_nothing_is_written(
-                                "simplify", self.given, self.out, "--step",
-                                "1")
-                    self.assertEqual(self.out.read_text(), "as it was")
-                    self.assertEqual(sorted(os.listdir(self.folder)),
-                                     ["given.geojson", "out.geojson"])
+        for error, status, words in (
+                (OSError("no room"), 1, "i_shape: no room\n"),
+                (MemoryError(), 1, "there is not enough memory"),
+                (KeyboardInterrupt(), 130, "")):
+            with self.subTest(error=error):
+                with mock.patch.object(files, "texts", fewer(error)):
+                    told = self.assert_nothing_is_written(
+                        "simplify", self.given, self.out, "--step", "1",
+                        status=status)
+                self.assertIn(words, told)
 
     def test_words_that_are_refused(self):
         self.write(samples.geojson())

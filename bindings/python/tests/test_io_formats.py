@@ -1,6 +1,7 @@
 """Features through GeoJSON and WKT, and what is refused of them."""
 
 import json
+import pickle
 import random
 import unittest
 
@@ -314,6 +315,13 @@ class Arrays(FormatCase):
         self.assertEqual(samples.lists(features),
                          [(False, [[samples.SQUARE]])] * 2)
         self.assertEqual(features.polygons.points.dtype, np.int64)
+
+    def test_an_error_can_be_sent_to_another_process(self):
+        with self.assertRaises(io.FeatureError) as told:
+            io.from_wkt(["POLYGON ((0 0, 1 a))"])
+        error = pickle.loads(pickle.dumps(told.exception))
+        self.assertEqual(str(error), str(told.exception))
+        self.assertEqual((error.feature, error.point), (0, 1))
 
     def test_the_place_of_a_row(self):
         given = samples.random_features(random.Random(5), 50)

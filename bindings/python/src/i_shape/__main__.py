@@ -95,17 +95,28 @@ def _run(options: argparse.Namespace) -> None:
 
 
 def main(words: Optional[Sequence[str]] = None) -> int:
-    """Run the command; 0 where all went well, and 1 after an error."""
+    """Run the command, and return its status.
+
+    It is 0 where all went well, 1 after an error, which is told of on
+    standard error, and 130 where it was interrupted.
+    """
     options = _options(words)
     try:
         _run(options)
     except OSError as error:
-        print(f"i_shape: {error}", file=sys.stderr)
-        return 1
+        return _told(str(error))
     except ValueError as error:
-        print(f"i_shape: {options.given}: {error}", file=sys.stderr)
-        return 1
+        return _told(f"{options.given}: {error}")
+    except MemoryError:
+        return _told(f"{options.given}: there is not enough memory")
+    except KeyboardInterrupt:
+        return 130
     return 0
+
+
+def _told(text: str) -> int:
+    print(f"i_shape: {text}", file=sys.stderr)
+    return 1
 
 
 if __name__ == "__main__":

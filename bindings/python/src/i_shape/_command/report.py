@@ -64,12 +64,8 @@ def _area_text(doubled: int, grid: Grid) -> str:
 
 def _collapsed(whole: Features, gone: Array) -> Iterator[str]:
     """The place of each ring that collapsed."""
-    parts, offsets = whole.polygons.polygon_offsets, whole.feature_offsets
     for ring in np.flatnonzero(gone).tolist():
-        polygon = int(np.searchsorted(parts, ring, side="right")) - 1
-        feature = int(np.searchsorted(offsets, polygon, side="right")) - 1
-        yield (f"feature {feature}, polygon {polygon - offsets[feature]},"
-               f" ring {ring - parts[polygon]}")
+        yield "feature {}, polygon {}, ring {}".format(*whole.ring_place(ring))
 
 
 def lines(given: Features, whole: Features, left: Features, gone: Array,

@@ -2,13 +2,13 @@
 
 from __future__ import annotations
 
-from typing import Any, NamedTuple, Optional, Sequence
+from typing import Any, NamedTuple, Optional, Tuple
 
 import numpy as np
 import numpy.typing as npt
 
 from .._library import Array, as_offsets, raise_offsets
-from .._polygons import Polygons
+from .._polygons import Polygons, Triple
 
 
 class FeatureError(ValueError):
@@ -28,14 +28,14 @@ class FeatureError(ValueError):
         Index of the point in the ring.
     """
 
-    def __init__(self, message: str, feature: int,
+    def __init__(self, message: str, feature: Optional[int] = None,
                  polygon: Optional[int] = None, ring: Optional[int] = None,
                  point: Optional[int] = None) -> None:
         places = {"feature": feature, "polygon": polygon, "ring": ring,
                   "point": point}
         named = ", ".join(f"{name} {place}" for name, place in places.items()
                           if place is not None)
-        super().__init__(f"{named}: {message}")
+        super().__init__(f"{named}: {message}" if named else message)
         self.feature = feature
         self.polygon = polygon
         self.ring = ring
@@ -49,6 +49,12 @@ class Place(NamedTuple):
     polygon: int
     ring: int
     point: int
+
+
+def _parted(offsets: Array, item: int) -> Tuple[int, int]:
+    """The part that an item lies in, and its place there."""
+    part = int(np.searchsorted(offsets, item, side="right")) - 1
+    return part, item - int(offsets[part])
 
 
 class Features(NamedTuple):
@@ -71,13 +77,13 @@ class Features(NamedTuple):
 
     def place(self, row: int) -> Place:
         """Return where the point in a row of ``polygons.points`` stands."""
-        place = [row]
-        for offsets in (self.polygons.ring_offsets,
-                        self.polygons.polygon_offsets, self.feature_offsets):
-            part = int(np.searchsorted(offsets, place[0], side="right")) - 1
-            place[0] -= int(offsets[part])
-            place.insert(0, part)
-        return Place(*place)
+        ring, point = _parted(self.polygons.ring_offsets, row)
+        return Place(*self.ring_place(ring), point)
+
+    def ring_place(self, ring: int) -> Tuple[int, int, int]:
+        """Return the feature, the polygon and the ring in it of a ring."""
+        polygon, its_ring = _parted(self.polygons.polygon_offsets, ring)
+        return (*_parted(self.feature_offsets, polygon), its_ring)
 
 
 def as_finite(features: Features) -> Features:
@@ -147,7 +153,7 @@ def as_features(features: Any) -> Features:
         offsets - offsets[0], multi))
 
 
-def features_of(polygons: Sequence[Any]) -> Features:
+def features_of(polygons: Triple) -> Features:
     """Return polygons as features, each of one polygon.
 
     Parameters

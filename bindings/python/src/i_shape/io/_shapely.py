@@ -6,7 +6,6 @@ from typing import Any, Iterable, Sequence
 
 import numpy as np
 
-from .._library import Array
 from .._polygons import Polygons
 from .._rings import Rings
 from ._builder import Builder
@@ -26,6 +25,11 @@ def _are_multi(geometries: Sequence[Any]) -> list[bool]:
             raise FeatureError("it has three coordinates a point, and two are"
                                " needed", place)
     return [isinstance(geometry, MultiPolygon) for geometry in geometries]
+
+
+def _has_empty_part(geometry: Any, is_multi: bool) -> bool:
+    parts = list(geometry.geoms) if is_multi else [geometry]
+    return not parts or any(part.is_empty for part in parts)
 
 
 def _from_ragged(shapely: Any, geometries: list[Any],
@@ -95,8 +99,8 @@ def from_shapely(geometries: Iterable[Any]) -> Features:
     import shapely
     geometries = list(geometries)
     are_multi = _are_multi(geometries)
-    has_empty = any(geometry.is_empty for geometry in geometries)
-    if not geometries or has_empty or not hasattr(shapely, "to_ragged_array"):
+    if (not geometries or not hasattr(shapely, "to_ragged_array")
+            or any(map(_has_empty_part, geometries, are_multi))):
         return _from_objects(geometries, are_multi)
     return _from_ragged(shapely, geometries, are_multi)
 
@@ -106,14 +110,8 @@ def _require_long_rings(features: Features) -> None:
     short = counts < _FEWEST
     if short.any():
         ring = int(short.argmax())
-        parts = features.polygons.polygon_offsets
-        polygon = int(np.searchsorted(parts, ring, side="right")) - 1
-        offsets = features.feature_offsets
-        feature = int(np.searchsorted(offsets, polygon, side="right")) - 1
-        raise FeatureError(
-            f"shapely needs at least {_FEWEST} points, and it has"
-            f" {counts[ring]}", feature, polygon - int(offsets[feature]),
-            ring - int(parts[polygon]))
+        raise FeatureError(f"shapely needs at least {_FEWEST} points, and it"
+                           f" has {counts[ring]}", *features.ring_place(ring))
 
 
 def _to_ragged(shapely: Any, features: Features) -> list[Any]:
@@ -153,9 +151,8 @@ def _closed(features: Features) -> Features:
 
 
 def _has_empty(features: Features) -> bool:
-    levels: tuple[Array, ...] = (features.feature_offsets,
-                                 features.polygons.polygon_offsets)
-    return any(not np.diff(offsets).all() for offsets in levels)
+    levels = features.feature_offsets, features.polygons.polygon_offsets
+    return not all(np.diff(offsets).all() for offsets in levels)
 
 
 def to_shapely(features: Features) -> list[Any]:
