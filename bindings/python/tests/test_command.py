@@ -232,6 +232,22 @@ collapsed: feature 2, polygon 1, ring 0
         self.assertEqual(shown.bar.update.call_count, 3)
         self.assertEqual(shown.tqdm.call_args.kwargs["total"], 3)
 
+    def test_a_feature_written_is_a_step(self):
+        self.write(samples.geojson(*[samples.polygon(SPIKED)] * 3))
+        for out in ("out.geojson", "out.wkt"):
+            shown = mock.MagicMock()
+            shown.tqdm.return_value.__enter__.return_value = shown.bar
+            with mock.patch.dict(sys.modules, {"tqdm": shown}):
+                files.write(self.folder / out, files.read(self.given)[0],
+                            None)
+            steps = [(call.kwargs["desc"], call.kwargs["total"])
+                     for call in shown.tqdm.call_args_list]
+            self.assertEqual(steps, [
+                ("objects read", None), ("features parsed", 3),
+                ("features written", 3)])
+            # ten objects are the collection, and three for each feature
+            self.assertEqual(shown.bar.update.call_count, 10 + 3 + 3)
+
     def test_short_files_show_no_progress(self):
         self.write(samples.geojson(samples.polygon(SPIKED)))
         for module in ({"tqdm": None}, {}):
@@ -395,9 +411,13 @@ class Refused(CommandCase):
         texts = files.texts
 
         def fewer(error):
-            def stops(*words):
-                yield next(iter(texts(*words)))
+            def first(pieces):
+                yield next(pieces)
                 raise error
+
+            def stops(*words):
+                found = texts(*words)
+                return found._replace(features=first(found.features))
             return stops
 
         for error, status, words in (

@@ -11,7 +11,7 @@ import i_shape
 import samples
 from i_shape import io
 
-COUNT = 1000
+COUNT = 1500  # of which a thousand are multipolygons
 
 
 class FormatCase(unittest.TestCase):
@@ -40,15 +40,17 @@ class FormatCase(unittest.TestCase):
 
 class RoundTrips(FormatCase):
 
-    def test_a_thousand_features_through_geojson(self):
+    def test_a_thousand_multipolygons_through_geojson(self):
         features = samples.arrays(
             samples.random_features(random.Random(1), COUNT))
+        self.assertGreater(features.are_multi.sum(), 1000)
         text = json.dumps(io.to_geojson(features))
         self.assert_same(io.from_geojson(json.loads(text)), features)
 
-    def test_a_thousand_features_through_wkt(self):
+    def test_a_thousand_multipolygons_through_wkt(self):
         features = samples.arrays(
             samples.random_features(random.Random(2), COUNT))
+        self.assertGreater(features.are_multi.sum(), 1000)
         self.assert_same(io.from_wkt(io.to_wkt(features)), features)
 
     def test_whole_numbers_are_written_as_such(self):

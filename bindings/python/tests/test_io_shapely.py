@@ -20,7 +20,7 @@ except ImportError as error:
     WHY_NOT = f"shapely is not tested: {error}"
     print(WHY_NOT)
 
-COUNT = 1000
+COUNT = 1500  # of which a thousand are multipolygons
 
 
 def objects(items):
@@ -90,6 +90,7 @@ class Shapely(unittest.TestCase):
     def assert_round_trip(self, given):
         features = samples.arrays(given)
         geometries = io.to_shapely(features)
+        self.assertEqual(len(geometries), len(given))
         self.assertEqual([isinstance(one, geometry.MultiPolygon)
                           for one in geometries],
                          [is_multi for is_multi, _ in given])
@@ -105,17 +106,17 @@ class Shapely(unittest.TestCase):
             self.assertEqual(one, other)
         self.assertEqual(len(found), len(given))
 
-    def test_a_thousand_features(self):
+    def test_a_thousand_multipolygons(self):
         self.assert_round_trip(
             samples.random_features(random.Random(1), COUNT, 3, 1))
 
-    def test_a_thousand_features_and_empty_ones(self):
+    def test_a_thousand_multipolygons_and_empty_ones(self):
         given = samples.random_features(random.Random(2), COUNT, 3)
         self.assert_round_trip([
             (is_multi, [rings for rings in polygons if rings])
             for is_multi, polygons in given])
 
-    def test_a_thousand_features_by_ragged_arrays(self):
+    def test_a_thousand_multipolygons_by_ragged_arrays(self):
         calls, patch = stand_in()
         with patch:
             numbers = random.Random(3)

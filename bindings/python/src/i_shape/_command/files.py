@@ -53,12 +53,13 @@ def read(path: Path) -> Given:
 
 
 def texts(path: Path, features: Features,
-          document: Optional[dict[str, Any]]) -> Iterator[str]:
-    """What a file of features has, piece by piece."""
+          document: Optional[dict[str, Any]]) -> _geojson.Texts:
+    """What a file of features has, in pieces."""
     features = as_features(features)
     if format_of(path) == "GeoJSON":
         return _geojson.texts(features, document)
-    return (f"{text}\n" for text in _wkt.texts(features))
+    lines = (f"{text}\n" for text in _wkt.texts(features))
+    return _geojson.Texts("", lines, "")
 
 
 @contextmanager
@@ -82,9 +83,11 @@ def write(path: Path, features: Features,
           document: Optional[dict[str, Any]]) -> None:
     """Write a file of features, in the place of one that is there."""
     with replacing(path) as beside:
+        pieces = texts(path, features, document)
         with open(beside, "x", encoding="utf-8") as file:
-            file.writelines(track(texts(path, features, document),
-                                  "features written",
+            file.write(pieces.head)
+            file.writelines(track(pieces.features, "features written",
                                   len(features.are_multi)))
+            file.write(pieces.tail)
             file.flush()
             os.fsync(file.fileno())

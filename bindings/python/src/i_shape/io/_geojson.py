@@ -3,8 +3,9 @@
 from __future__ import annotations
 
 import json
+from itertools import chain, repeat
 from reprlib import repr as short
-from typing import Any, Iterable, Iterator, Mapping, Optional
+from typing import Any, Iterable, Iterator, Mapping, NamedTuple, Optional
 
 from ._builder import Builder, is_list
 from ._features import FeatureError, Features, as_features
@@ -226,17 +227,24 @@ def _head(document: Mapping[str, Any]) -> dict[str, Any]:
             if name not in ("features", "bbox")}
 
 
+class Texts(NamedTuple):
+    """A document in pieces: one for each feature, and what is about them."""
+
+    head: str
+    features: Iterator[str]
+    tail: str
+
+
 def texts(features: Features,
-          document: Optional[Mapping[str, Any]] = None) -> Iterator[str]:
-    """The text of :func:`to_geojson` in pieces, one for each feature."""
+          document: Optional[Mapping[str, Any]] = None) -> Texts:
+    """The text of :func:`to_geojson` in pieces."""
     if document is None:
         document = _without_document(features)
     if document.get("type") != "FeatureCollection":
-        yield json.dumps(to_geojson(features, document)) + "\n"
-        return
+        whole = json.dumps(to_geojson(features, document))
+        return Texts("", iter([whole]), "\n")
     head = json.dumps(_head(document))[1:-1]
-    lead = f'{{{head}, "features": ['
-    for feature in _new_features(features, document):
-        yield f"{lead}\n{json.dumps(feature)}"
-        lead = ","
-    yield f"{'' if lead == ',' else lead}\n]}}\n"
+    between = chain([""], repeat(",\n"))
+    pieces = (f"{lead}{json.dumps(feature)}" for lead, feature
+              in zip(between, _new_features(features, document)))
+    return Texts(f'{{{head}, "features": [\n', pieces, "\n]}\n")
