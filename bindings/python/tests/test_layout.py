@@ -1,0 +1,85 @@
+"""The example of a layout beside KLayout's own Polygon.compress(true)."""
+
+import json
+import os
+import shutil
+import subprocess
+import tempfile
+import unittest
+from pathlib import Path
+
+import numpy as np
+
+import i_shape
+
+HERE = Path(__file__).resolve().parent
+EXAMPLE = HERE.parents[2] / "examples" / "layout.py"
+KLAYOUT = shutil.which("klayout")
+WHY_NOT = "a layout is not tested: there is no klayout"
+if not KLAYOUT:
+    print(WHY_NOT)
+
+
+def form(ring):
+    """The ring from one certain start, whichever way it is read."""
+    forms = [i_shape.canonical(np.array(way, np.int64))
+             for way in (ring, ring[::-1])]
+    return min(one.tolist() for one in forms)
+
+
+def is_clean(ring):
+    return i_shape.is_simple(np.array(ring, np.int64))
+
+
+@unittest.skipUnless(KLAYOUT, WHY_NOT)
+class Layout(unittest.TestCase):
+
+    def setUp(self):
+        folder = tempfile.TemporaryDirectory()
+        self.addCleanup(folder.cleanup)
+        self.folder = Path(folder.name)
+
+    def run_klayout(self, script, **words):
+        folders = [str(Path(i_shape.__file__).parents[1]), str(HERE)]
+        run = subprocess.run(
+            [KLAYOUT, "-b", "-r", script,
+             *(word for name, value in words.items()
+               for word in ("-rd", f"{name}={value}"))],
+            env={**os.environ, "PYTHONPATH": os.pathsep.join(folders),
+                 "HOME": str(self.folder), "QT_QPA_PLATFORM": "offscreen"},
+            capture_output=True, text=True, check=False)
+        self.assertEqual(run.returncode, 0, run.stdout + run.stderr)
+        return run.stdout
+
+    def rings(self, **words):
+        path = self.folder / "rings.json"
+        self.run_klayout(HERE / "layouts.py", rings=path, **words)
+        return json.loads(path.read_text())
+
+    def test_each_ring_is_that_of_compress(self):
+        for kind in ("gds", "oas"):
+            given = self.folder / f"given.{kind}"
+            out = self.folder / f"out.{kind}"
+            compressed = self.rings(made=given)
+            told = self.run_klayout(EXAMPLE, given=given, out=out,
+                                    times="yes")
+            for words in ("polygons of .* points: .* are left",
+                          "simplify_rings: .* million points a second",
+                          "Polygon.compress: .* million points a second"):
+                self.assertRegex(told, words)
+            left = self.rings(told=out)
+            self.assertEqual(set(left), set(compressed))
+            for place, rings in compressed.items():
+                kept = [ring for ring in rings if ring]
+                self.assertLess(len(kept), len(rings))
+                self.assertTrue(all(map(is_clean, left[place])))
+                forms = sorted(map(form, left[place]))
+                wanted = sorted(map(form, kept))
+                if kind == "oas":  # KLayout writes one of equal polygons
+                    wanted = [one for place, one in enumerate(wanted)
+                              if one not in wanted[:place]]
+                self.assertEqual(forms, wanted)
+
+
+if __name__ == "__main__":
+    unittest.main()

@@ -1,0 +1,100 @@
+#!/usr/bin/env python3
+"""Cleans the polygons of a layout, of all its cells and layers, in one call.
+
+KLayout (Debian's klayout) reads GDSII or OASIS, runs this with the Python of
+its own, and writes what is left. That Python needs the package i_shape, so
+PYTHONPATH names the folder that holds it:
+
+    klayout -b -r layout.py -rd given=IN -rd out=OUT
+
+Rectangles, which KLayout reads as boxes, are polygons too. Paths and texts
+stay as they are, and a polygon that collapses is taken out. With -rd times=yes it tells how long the call took, and how long
+KLayout's own Polygon.compress(true) does for the same polygons.
+"""
+
+from __future__ import annotations
+
+import time
+from array import array
+from typing import NamedTuple
+
+import numpy as np
+import pya
+
+import i_shape
+
+
+_KINDS = pya.Shapes.SPolygons | pya.Shapes.SBoxes
+
+
+class Polygons(NamedTuple):
+    """The polygons of a layout, end to end, and where each stands."""
+
+    places: list[tuple[pya.Shapes, pya.Shape]]
+    points: np.ndarray
+    offsets: np.ndarray
+
+
+def find(layout: pya.Layout) -> Polygons:
+    """The polygons of all cells and layers."""
+    places, numbers, offsets = [], array("q"), [0]
+    for cell in layout.each_cell():
+        for layer in layout.layer_indexes():
+            shapes = cell.shapes(layer)
+            for shape in shapes.each(_KINDS):
+                places.append((shapes, shape))
+                for point in shape.simple_polygon.each_point():
+                    numbers.extend((point.x, point.y))
+                offsets.append(len(numbers) // 2)
+    return Polygons(places, np.array(numbers, np.int64).reshape(-1, 2),
+                    np.array(offsets))
+
+
+def put_back(polygons: Polygons, left: i_shape.Rings) -> None:
+    """Give each polygon the ring that is left of it."""
+    counts, left_counts = np.diff(polygons.offsets), np.diff(left.offsets)
+    changed = (left_counts == 0) | (left_counts < counts)
+    for place in np.flatnonzero(changed).tolist():
+        shapes, shape = polygons.places[place]
+        ring = left.points[left.offsets[place]:left.offsets[place + 1]]
+        if len(ring):
+            shapes.replace(shape, pya.SimplePolygon(
+                [pya.Point(x, y) for x, y in ring.tolist()], True))
+        else:
+            shapes.erase(shape)
+
+
+def compress_seconds(polygons: Polygons) -> float:
+    """How long KLayout takes for the same polygons."""
+    copies = [shape.polygon for _, shape in polygons.places]
+    started = time.perf_counter()
+    for polygon in copies:
+        polygon.compress(True)
+    return time.perf_counter() - started
+
+
+def clean(given: str, out: str, is_timed: bool) -> None:
+    """Clean the polygons of a file into another one."""
+    layout = pya.Layout(True)  # it can be edited
+    layout.read(given)
+    polygons = find(layout)
+    started = time.perf_counter()
+    left = i_shape.simplify_rings(polygons.points, polygons.offsets)
+    seconds = time.perf_counter() - started
+    print(f"{len(polygons.places)} polygons of {len(polygons.points)} points:"
+          f" {np.count_nonzero(np.diff(left.offsets))} of"
+          f" {len(left.points)} are left")
+    if is_timed:
+        theirs = compress_seconds(polygons)
+        for name, spent in (("simplify_rings", seconds),
+                            ("Polygon.compress", theirs)):
+            print(f"{name}: {spent * 1e3:.1f} ms,"
+                  f" {len(polygons.points) / spent / 1e6:.1f} million points"
+                  " a second")
+    put_back(polygons, left)
+    layout.write(out)
+
+
+if __name__ == "__main__":
+    # KLayout sets the names that -rd tells.
+    clean(globals()["given"], globals()["out"], "times" in globals())
