@@ -8,8 +8,9 @@ PYTHONPATH names the folder that holds it:
     klayout -b -r layout.py -rd given=IN -rd out=OUT
 
 Rectangles, which KLayout reads as boxes, are polygons too. Paths and texts
-stay as they are, and a polygon that collapses is taken out. With -rd times=yes it tells how long the call took, and how long
-KLayout's own Polygon.compress(true) does for the same polygons.
+stay as they are, and a polygon that collapses is taken out. With
+-rd times=yes it tells how long the call took, and how long KLayout's own
+Polygon.compress(true) does for the same polygons.
 """
 
 from __future__ import annotations

@@ -3,7 +3,8 @@
     klayout -b -r layouts.py -rd made=GDS -rd rings=JSON
     klayout -b -r layouts.py -rd told=GDS -rd rings=JSON
 
-The rings of what is made are those that Polygon.compress(true) leaves."""
+The rings of what is made are those that Polygon.compress(true) leaves. Each
+layer of each cell has 150 polygons, or as many as -rd polygons=N tells."""
 
 import json
 import random
@@ -13,7 +14,8 @@ import pya
 
 import plain
 
-CELLS, LAYERS, POLYGONS = 4, 3, 150
+CELLS, LAYERS = 4, 3
+POLYGONS = int(globals().get("polygons", 150))
 
 
 def ring_of(polygon):

@@ -1,0 +1,198 @@
+"""The parts of the examples, over small data made by hand or at random."""
+
+import contextlib
+import importlib
+import io as text_io
+import random
+import sys
+import tempfile
+import unittest
+from pathlib import Path
+from unittest import mock
+
+import numpy as np
+
+import i_shape
+import plain
+import samples
+from i_shape import io
+
+EXAMPLES = Path(__file__).resolve().parents[3] / "examples"
+SQUARE, FAR = samples.SQUARE, [(9, 9), (8, 9), (9, 8)]
+
+
+class ExampleCase(unittest.TestCase):
+    """A test that imports an example, and is skipped where that can't be."""
+
+    name = ""
+
+    @classmethod
+    def setUpClass(cls):
+        sys.path.insert(0, str(EXAMPLES))
+        cls.addClassCleanup(sys.path.remove, str(EXAMPLES))
+        cls.why_not = None
+        try:
+            cls.example = importlib.import_module(cls.name)
+        except ImportError as error:
+            cls.why_not = f"the example {cls.name} is not tested: {error}"
+            print(cls.why_not)
+
+    def setUp(self):
+        if self.why_not:
+            self.skipTest(self.why_not)
+
+    def printed(self, *words):
+        """The lines that the example prints."""
+        out = text_io.StringIO()
+        with mock.patch.object(sys, "argv", [self.name, *words]), \
+                contextlib.redirect_stdout(out):
+            self.example.main()
+        return out.getvalue().splitlines()
+
+
+class Parcels(ExampleCase):
+
+    name = "parcels"
+
+    def test_only_canonical_keys_find_all(self):
+        try:
+            import shapely  # noqa: F401
+        except ImportError as error:
+            self.skipTest(str(error))
+        counts = [line.split(":")[1].split()[0]
+                  for line in self.printed("--side", "6")]
+        self.assertEqual(counts, ["0", "0", "36"])
+
+    def test_what_is_written_anew_is_the_same_ring(self):
+        numbers = random.Random(1)
+        for ring in self.example.cadastre(5, numbers):
+            other = self.example.written_anew(ring, numbers)
+            self.assertEqual(len(other), len(ring) + 1)
+            self.assertEqual(
+                i_shape.canonical(np.array(other)).tolist(),
+                i_shape.canonical(np.array(ring)).tolist())
+
+    def test_other_parcels_are_not_found(self):
+        triangle = SQUARE[:3]
+        hole = [(1, 1), (2, 2), (1, 2)]
+
+        def read(*polygons):
+            return samples.arrays([(False, [its]) for its in polygons])
+
+        keys = self.example.canonical_keys
+        one = read([SQUARE], [triangle], [SQUARE, hole])
+        self.assertEqual(len(set(keys(one))), 3)
+        for other, count in ((read([SQUARE]), 1), (read([FAR]), 0),
+                             (read([SQUARE[::-1]]), 0),
+                             (read([triangle[1:] + triangle[:1]]), 1),
+                             (read([hole], [triangle, hole]), 0)):
+            self.assertEqual(self.example.found(one, other, keys), count)
+
+    def test_a_file_is_read_as_it_was_written(self):
+        rings = self.example.cadastre(3, random.Random(2))
+        with tempfile.TemporaryDirectory() as folder:
+            path = Path(folder, "parcels.wkt")
+            self.example.write(path, rings)
+            whole = io.features_to_grid(self.example.read(path),
+                                        self.example.GRID)
+        self.assertEqual([polygons[0][0] for _, polygons
+                          in samples.lists(whole)], rings)
+
+
+class Tiles(ExampleCase):
+
+    name = "tiles"
+
+    def features(self, *rings):
+        return samples.arrays([(False, [[ring]]) for ring in rings],
+                              np.int32)
+
+    def test_where_land_begins_and_ends_on_a_line(self):
+        for rings, ends in (
+                ([SQUARE], {0, 4}),
+                ([[*SQUARE[:2], (4, 1), (4, 3), *SQUARE[2:]]], {0, 4}),
+                ([[(0, 0), (4, 1), (0, 2)]], set()),
+                ([[(0, 0), (4, 1), (4, 3), (4, 1), (0, 2)]], set()),
+                ([SQUARE, [(4, 6), (5, 6), (4, 9)]], {0, 4, 6, 9}),
+                ([FAR], set()), ([], set())):
+            found = self.example.ends_on(self.features(*rings), 4)
+            self.assertEqual(found, ends)
+            self.assertEqual(self.example.length(found),
+                             sum(sorted(ends)[1::2])
+                             - sum(sorted(ends)[::2]))
+
+    def test_where_tiles_differ(self):
+        east = [(4, 0), (9, 0), (9, 3), (4, 3)]
+        for one, other, length in ((SQUARE, east, 1), (SQUARE, SQUARE, 0),
+                                   (SQUARE, FAR, 4)):
+            differs = self.example.differing(self.features(one),
+                                             self.features(other), 4)
+            self.assertEqual(self.example.length(differs), length)
+
+    def test_cleaning_keeps_what_lies_beside_a_line(self):
+        numbers = random.Random(3)
+        seen = set()
+        for _ in range(300):
+            rings = [plain.random_ring(numbers, np.int32, 9)
+                     for _ in range(numbers.randrange(4))]
+            given = self.features(*rings)
+            left = io.simplify_features(given)
+            for x in (-1, 0, 1):
+                ends = self.example.ends_on(given, x)
+                self.assertEqual(self.example.ends_on(left, x), ends)
+                seen.add(len(ends))
+        self.assertLessEqual({0, 2, 4}, seen)
+
+    def test_a_tile_is_cut_out(self):
+        from shapely import geometry
+        side = self.example.SIDE
+        low, high = self.example.BOTTOM, self.example.TOP
+        shore = geometry.box(-side, low + 10, 2 * side, high - 10)
+        tile = self.example.cut([shore], 1, io.Grid(2.0))
+        half = side // 2
+        self.assertEqual(
+            i_shape.canonical(tile.left.polygons.points).tolist(),
+            i_shape.canonical(np.array(
+                [(half, low // 2 + 5), (half, high // 2 - 5),
+                 (side, high // 2 - 5), (side, low // 2 + 5)],
+                np.int32)).tolist())
+
+
+class Triangles(ExampleCase):
+
+    name = "triangles"
+
+    def test_the_triangles_of_rings(self):
+        flat = [(0, 0), (2, 0), (4, 0)]
+        crossed = [(0, 0), (4, 4), (4, 0), (0, 4)]
+        rings = i_shape.Rings(*plain.flat([SQUARE, flat, [], crossed],
+                                          np.int32))
+        triangles = self.example.triangulate(rings)
+        self.assertEqual(len(triangles.of_ring[0]), 2)
+        areas = [self.example.doubled_areas(its).tolist()
+                 for its in triangles.of_ring]
+        self.assertEqual(areas[0], [16, 16])
+        self.assertEqual(sum(areas[1]) + sum(areas[2]), 0)
+        missed = self.example.missed(rings, triangles)
+        self.assertEqual([plain.tuples(ring) for ring in missed], [crossed])
+        self.assertEqual(self.example.told("a", rings, triangles).split()[:2],
+                         ["a", "11"])
+
+
+class Plots(ExampleCase):
+
+    name = "plots"
+
+    def test_a_plot_is_the_same_bytes(self):
+        from matplotlib.figure import Figure
+        with tempfile.TemporaryDirectory() as folder:
+            paths = [Path(folder, f"{k}.svg") for k in range(2)]
+            for path in paths:
+                figure = Figure()
+                figure.subplots().plot([1, 2], [3, 4], clip_on=True)
+                self.example.save(figure, str(path))
+            self.assertEqual(*(path.read_bytes() for path in paths))
+
+
+if __name__ == "__main__":
+    unittest.main()
