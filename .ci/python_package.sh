@@ -2,8 +2,8 @@
 # Builds the wheel of the Python package, installs it into an empty virtual environment and runs its tests there, the examples of its docstrings
 # and of docs/PYTHON.md among them. It takes the library of `make c`, or of the folder I_SHAPE_C_DIR. The last line is
 # 'python package: N passed, M failed', and ', K skipped' behind it where K is above 0. Where that library isn't built, or where Debian's Python, or the
-# one that $PYTHON names, has no numpy, setuptools, wheel or venv, all tests are skipped, and where it has no distributed, shapely or matplotlib those of Dask,
-# shapely or plots are.
+# one that $PYTHON names, has no numpy, setuptools, wheel or venv, all tests are skipped, and where it has no distributed, shapely, matplotlib or
+# mapbox_earcut, or there is no klayout, those that need it are.
 set -u
 cd "$(dirname "$0")/.." || exit 1
 export LC_ALL=C PYTHONDONTWRITEBYTECODE=1
