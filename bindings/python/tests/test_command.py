@@ -198,6 +198,17 @@ collapsed: feature 2, polygon 1, ring 0
         self.assertIn("area before: 100, 100 cells of the grid\n", told)
         self.assertIn("area after: 100, 100 cells of the grid\n", told)
 
+    def test_holes_may_be_greater_than_the_ring_around_them(self):
+        hole = [(0, 0), (7, 0), (0, 7)]
+        for cells, document in (("-8.5", samples.polygon(samples.SQUARE,
+                                                         hole[::-1])),
+                                ("24.5", samples.polygon(hole[::-1]))):
+            self.write(document)
+            told, _ = self.run_command("simplify", self.given, self.out,
+                                       "--step", "1", "--report")
+            self.assertIn(f"area as given: {cells}\narea before: {cells},"
+                          f" {cells} cells of the grid\n", told)
+
     def test_great_areas_are_exact(self):
         far = 2 ** 61
         self.write(f"POLYGON ((0 0, {far} 0, {far} {far}, 0 {far}))",

@@ -58,8 +58,8 @@ def _total(areas: Sequence[Number], features: Features) -> Number:
 def _area_text(doubled: int, grid: Grid) -> str:
     """An area of the grid, in the file's unit and in cells of the grid."""
     area = doubled / 2 * grid.step * grid.step
-    cells = f"{doubled // 2}{'.5' if doubled % 2 else ''}"
-    return f"{area:.12g}, {cells} cells of the grid"
+    sign, half = "-" if doubled < 0 else "", ".5" if doubled % 2 else ""
+    return f"{area:.12g}, {sign}{abs(doubled) // 2}{half} cells of the grid"
 
 
 def _collapsed(whole: Features, gone: Array) -> Iterator[str]:
