@@ -5,6 +5,7 @@ import importlib.util
 import io as text_io
 import json
 import os
+import random
 import re
 import subprocess
 import sys
@@ -387,6 +388,32 @@ class Refused(CommandCase):
                                               self.out, "--step", "1")
         self.assertIn("can't decode", told)
 
+    def test_random_faults_are_told_of_or_harmless(self):
+        numbers = random.Random(2)
+        statuses = []
+        for _ in range(150):
+            given = samples.arrays(samples.random_features(numbers, 2))
+            name = numbers.choice(["given.geojson", "given.wkt"])
+            path = self.folder / name
+            files.write(path, given, None)
+            text = bytearray(path.read_bytes())
+            for _ in range(numbers.randrange(1, 4)):
+                text[numbers.randrange(len(text))] = numbers.choice(
+                    b'0123456789.,()[]{}:"eE-+ nNMZ\n\xff')
+            path.write_bytes(text)
+            self.out.write_text("as it was")
+            with contextlib.redirect_stderr(text_io.StringIO()) as error:
+                statuses.append(command.main(
+                    ["simplify", str(path), str(self.out), "--step", "1e300"]))
+            if statuses[-1] == 0:
+                files.read(self.out)
+            else:
+                self.assertIn(str(path), error.getvalue())
+                self.assertEqual(self.out.read_text(), "as it was")
+            path.unlink()
+            self.assertEqual(os.listdir(self.folder), ["out.geojson"])
+        self.assertTrue(15 < sum(statuses) < 135)
+
     def test_rings_of_few_points_collapse(self):
         rings = [[], [[0, 0]], [[0, 0], [0, 0]], [[0, 0], [1, 1], [0, 0]]]
         self.write(samples.geojson(
@@ -465,7 +492,6 @@ class Refused(CommandCase):
 class Formats(CommandCase):
 
     def test_many_features_through_the_files(self):
-        import random
         given = samples.arrays(samples.random_features(random.Random(1), 500))
         for name in ("a.geojson", "a.json", "a.wkt"):
             path = self.folder / name
