@@ -1,0 +1,40 @@
+/** What is asked of the arrays that callers give, tested before any of it is copied. */
+import { OffsetsError } from "./errors.js";
+
+/** The types of points, each with its width and the least number above its safe range. */
+const KINDS = {
+    __proto__: null,
+    Int16Array: { Points: Int16Array, bits: 16, limit: 2 ** 14 },
+    Int32Array: { Points: Int32Array, bits: 32, limit: 2 ** 30 },
+    BigInt64Array: { Points: BigInt64Array, bits: 64, limit: 2n ** 62n },
+};
+
+/** Answers the type of an array of points x0, y0, x1, y1, .. */
+export function kindOf(points) {
+    const kind = ArrayBuffer.isView(points) ? KINDS[points[Symbol.toStringTag]] : undefined;
+    if (!kind) throw new TypeError("points are no Int16Array, Int32Array or BigInt64Array");
+    if (points.length % 2 !== 0) throw new RangeError(`points have ${points.length} coordinates: an x without a y`);
+    return kind;
+}
+
+/** Answers whether a coordinate lies in the safe range of a type. */
+export function isInSafeRange(coordinate, { limit }) {
+    return -limit < coordinate && coordinate < limit;
+}
+
+/** Throws where a coordinate that stands by itself is no whole number of a type. */
+export function checkCoordinate(coordinate, { bits }) {
+    if (bits === 64 ? typeof coordinate !== "bigint" : !Number.isInteger(coordinate)) {
+        throw new TypeError(`a coordinate is ${String(coordinate)}, and no ${bits === 64 ? "bigint" : "whole number"}`);
+    }
+}
+
+/** Answers the offsets as numbers that are exact. Whether they are in order is left to the library. */
+export function asOffsets(offsets, name = "offsets") {
+    if (typeof offsets !== "object" || !Number.isInteger(offsets?.length)) throw new TypeError(`${name} are no array`);
+    return Float64Array.from(offsets, (offset) => {
+        if (typeof offset !== "bigint" && !Number.isInteger(offset)) throw new TypeError(`${name} have ${String(offset)}, and no whole number`);
+        if (offset < 0 || offset > Number.MAX_SAFE_INTEGER) throw new OffsetsError(`${name} have ${offset}: there are not so many items`);
+        return Number(offset);
+    });
+}

@@ -1,0 +1,38 @@
+/** What the library's calls throw. */
+
+/** The library answered a code: nothing is answered otherwise. */
+export class IShapeError extends Error {
+    /** @param {number} code */
+    constructor(code, message) {
+        super(message);
+        this.name = new.target.name;
+        this.code = code;
+    }
+}
+
+/** A point that the call reads is not safe. */
+export class UnsafePointError extends IShapeError {
+    /**
+     * @param {number} [point] its place in the points; undefined for a point that the call is asked about
+     * @param {number} [ring] the ring that has it; undefined for a call on one contour, and for a point that the call is asked about
+     */
+    constructor(message, point, ring) {
+        super(-1, message);
+        this.point = point;
+        this.ring = ring;
+    }
+}
+
+/** The offsets do not part the points, or the rings. */
+export class OffsetsError extends IShapeError {
+    constructor(message = "the offsets don't part what they are given for: one is missing, below the one before it, or above the count") {
+        super(-2, message);
+    }
+}
+
+/** Memory was refused. */
+export class OutOfMemoryError extends IShapeError {
+    constructor() {
+        super(-3, "memory was refused");
+    }
+}

@@ -1,0 +1,134 @@
+/** An array of points x0, y0, x1, y1, .. */
+export type Points = Int16Array | Int32Array | BigInt64Array;
+
+/** A coordinate of such points. */
+export type Coordinate<P extends Points> = P extends BigInt64Array ? bigint : number;
+
+/** Whole numbers from 0 on, each at least the one before it. */
+export type Offsets = ArrayLike<number> | ArrayLike<bigint>;
+
+/** Rings end to end: ring k is the points from `offsets[k]` to before `offsets[k + 1]`. */
+export interface Rings<P extends Points> {
+    points: P;
+    offsets: Uint32Array;
+}
+
+/** Polygons: polygon j has the rings from `polygonOffsets[j]` to before `polygonOffsets[j + 1]`, the outer one first. */
+export interface Polygons<P extends Points> {
+    points: P;
+    ringOffsets: Uint32Array;
+    polygonOffsets: Uint32Array;
+}
+
+/** What the calls throw; `code` is that of the C library. */
+export class IShapeError extends Error {
+    readonly code: -1 | -2 | -3;
+}
+
+/** A coordinate isn't strictly between -2^(W-2) and 2^(W-2), at W bits. */
+export class UnsafePointError extends IShapeError {
+    /** The place of the first such point in `points`; undefined for a point that a call is asked about. */
+    readonly point: number | undefined;
+    /** Its ring; undefined for a call on one contour, and for a point that a call is asked about. */
+    readonly ring: number | undefined;
+}
+
+/** There is no offset, one is below 0 or below the one before it, or the last is above the number of points or rings. */
+export class OffsetsError extends IShapeError {}
+
+/** Memory was refused. */
+export class OutOfMemoryError extends IShapeError {}
+
+/** Whether the engine has memory of 64 bits, so that `i_shape64.wasm` can be loaded; each engine can load `i_shape32.wasm`. */
+export function supportsMemory64(): boolean;
+
+/** Instantiates the library from the bytes of one of the two modules, from what `fetch` gives for it, or from a compiled module. */
+export function load(
+    source: BufferSource | WebAssembly.Module | Response | PromiseLike<BufferSource | WebAssembly.Module | Response>,
+): Promise<IShape>;
+
+/**
+ * The calls. A contour is read as a cycle: the last point isn't the first one again. No call changes what it is given,
+ * and each answer is a new array. A call throws a `TypeError` where an array or a number is of another type, and a
+ * `RangeError` where points have an x without a y.
+ */
+export interface IShape {
+    /** `major.minor.patch`. */
+    readonly version: string;
+
+    /** The bytes of the module's memory. It grows with the greatest call, and never shrinks. */
+    readonly memoryBytes: number;
+
+    /** The bytes of it that are in use: 0 between two calls. */
+    readonly heldBytes: number;
+
+    /**
+     * The contour without its zero turns, at which the way goes straight on, turns back or stands still; an empty array where
+     * it collapses.
+     * @throws {UnsafePointError} a point isn't safe
+     * @throws {OutOfMemoryError}
+     */
+    simplify<P extends Points>(contour: P): P;
+
+    /** The contour without the points at which the way turns back or stands still. Else as `simplify`. */
+    despike<P extends Points>(contour: P): P;
+
+    /** The simplified contour from the start that makes it least. Else as `simplify`. */
+    canonical<P extends Points>(contour: P): P;
+
+    /** Whether there are at least three points, and no zero turn: `simplify` has nothing to remove. */
+    isSimple(contour: Points): boolean;
+
+    /** Whether at least three points are left without repeated ones, and the way over them nowhere turns back. */
+    hasNoSpikes(contour: Points): boolean;
+
+    /** Whether at most two points are left without repeated ones, or the way over them nowhere turns back or bends to both sides. */
+    isConvex(contour: Points): boolean;
+
+    /** Whether each point is safe, as all calls but this one and `areaTwo` ask. */
+    isSafe(points: Points): boolean;
+
+    /** Whether an odd number of edges pass the height of (x, y) strictly to the right of it. */
+    contains<P extends Points>(contour: P, x: Coordinate<P>, y: Coordinate<P>): boolean;
+
+    /** How often the contour winds about (x, y), to the left. */
+    windingNumber<P extends Points>(contour: P, x: Coordinate<P>, y: Coordinate<P>): number;
+
+    /** How often all rings together wind about each of the points `about`, of the type of `points`. */
+    windingNumbers<P extends Points>(points: P, offsets: Offsets, about: P): Int32Array;
+
+    /**
+     * Twice the area, above 0 where the contour turns left; undefined where there is no point. Any coordinates are
+     * allowed: a sum that doesn't fit twice the bits of a coordinate wraps.
+     */
+    areaTwo(contour: Points): bigint | undefined;
+
+    /**
+     * Each ring as `simplify` leaves it; one that collapses is empty, and keeps its place. Points outside the offsets aren't read.
+     * @throws {OffsetsError} tested first
+     * @throws {UnsafePointError}
+     * @throws {OutOfMemoryError}
+     */
+    simplifyRings<P extends Points>(points: P, offsets: Offsets): Rings<P>;
+
+    despikeRings<P extends Points>(points: P, offsets: Offsets): Rings<P>;
+
+    canonicalRings<P extends Points>(points: P, offsets: Offsets): Rings<P>;
+
+    /**
+     * The polygons with each ring as `simplify` leaves it, without holes that collapse and without polygons whose outer ring
+     * does. A polygon without rings stays.
+     * @throws {OffsetsError} tested first
+     * @throws {UnsafePointError} of rings that no polygon has, too
+     * @throws {OutOfMemoryError}
+     */
+    simplifyPolygons<P extends Points>(points: P, ringOffsets: Offsets, polygonOffsets: Offsets): Polygons<P>;
+
+    despikePolygons<P extends Points>(points: P, ringOffsets: Offsets, polygonOffsets: Offsets): Polygons<P>;
+
+    /** The canonical form: holes and polygons sorted, so that two lists of the same polygons have equal answers. */
+    canonicalPolygons<P extends Points>(points: P, ringOffsets: Offsets, polygonOffsets: Offsets): Polygons<P>;
+
+    /** The same where a ring may be read backwards too. */
+    canonicalUnorientedPolygons<P extends Points>(points: P, ringOffsets: Offsets, polygonOffsets: Offsets): Polygons<P>;
+}

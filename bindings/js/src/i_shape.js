@@ -1,0 +1,254 @@
+/**
+ * Contours of whole-number points, cleaned and measured by the proved calls of i_shape, compiled to WebAssembly.
+ * i_shape.d.ts says what each call takes, answers and throws.
+ */
+import { asOffsets, checkCoordinate, isInSafeRange, kindOf } from "./arrays.js";
+import { IShapeError, OffsetsError, OutOfMemoryError, UnsafePointError } from "./errors.js";
+import { borrow } from "./memory.js";
+
+export { IShapeError, OffsetsError, OutOfMemoryError, UnsafePointError };
+
+// The codes of include/i_shape.h.
+const UNSAFE = -1;
+const UNFIT = -2;
+const NO_WINDING = -(2n ** 63n);
+
+// An empty module with a memory of 64 bits.
+const MEMORY64 = Uint8Array.of(0, 0x61, 0x73, 0x6d, 1, 0, 0, 0, 5, 3, 1, 4, 0);
+
+export function supportsMemory64() {
+    return WebAssembly.validate(MEMORY64);
+}
+
+export async function load(source) {
+    const given = await source;
+    const isResponse = typeof Response !== "undefined" && given instanceof Response;
+    if (isResponse && !given.ok) throw new Error(`${given.url}: ${given.status} ${given.statusText}`);
+    const module = given instanceof WebAssembly.Module ? given : await WebAssembly.compile(isResponse ? await given.arrayBuffer() : given);
+    const { exports } = await WebAssembly.instantiate(module);
+    if (!exports.i_shape_version) throw new TypeError("the module isn't that of i_shape");
+    return new IShape(exports);
+}
+
+/** How many points an array has, as the library takes it. */
+function countOf(points) {
+    return BigInt(points.length / 2);
+}
+
+/** The place of the first unsafe point among those from `first` to before `end`; undefined where there is none. */
+function firstUnsafe(points, kind, first, end) {
+    for (let k = first; k < end; k++) {
+        if (!isInSafeRange(points[2 * k], kind) || !isInSafeRange(points[2 * k + 1], kind)) return k;
+    }
+    return undefined;
+}
+
+/** The error for a point of a contour, or of a ring, that isn't safe. */
+function unsafePoint(points, kind, offsets) {
+    const place = firstUnsafe(points, kind, offsets?.[0] ?? 0, offsets?.at(-1) ?? points.length / 2);
+    const ring = place === undefined ? undefined : offsets?.findLastIndex((offset) => offset <= place);
+    const where = `${ring === undefined ? "" : `ring ${ring}: `}point ${place}`;
+    return new UnsafePointError(`${where} is (${points[2 * place]}, ${points[2 * place + 1]}), ${outside(kind)}`, place, ring);
+}
+
+function outside({ bits }) {
+    return `and not strictly between -2**${bits - 2} and 2**${bits - 2}, the safe range of ${bits} bits`;
+}
+
+/** Throws where a point that a call is asked about isn't one of the contour's type, or isn't safe. */
+function checkAsked(x, y, kind) {
+    checkCoordinate(x, kind);
+    checkCoordinate(y, kind);
+    if (!isInSafeRange(x, kind) || !isInSafeRange(y, kind)) {
+        throw new UnsafePointError(`the point asked about is (${x}, ${y}), ${outside(kind)}`);
+    }
+}
+
+/** Answers what a call has answered, as a number, or throws what its code means. */
+function answered(answer, points, kind, offsets) {
+    const number = Number(answer);
+    if (number >= 0) return number;
+    if (number === UNSAFE) throw unsafePoint(points, kind, offsets);
+    if (number === UNFIT) throw new OffsetsError();
+    throw new OutOfMemoryError();
+}
+
+class IShape {
+    #exports;
+
+    constructor(exports) {
+        this.#exports = exports;
+    }
+
+    get version() {
+        const number = this.#exports.i_shape_version();
+        return `${number >> 16}.${(number >> 8) & 255}.${number & 255}`;
+    }
+
+    get memoryBytes() {
+        return this.#exports.memory.buffer.byteLength;
+    }
+
+    get heldBytes() {
+        return Number(this.#exports.i_shape_held());
+    }
+
+    simplify(contour) {
+        return this.#clean("simplify", contour);
+    }
+
+    despike(contour) {
+        return this.#clean("despike", contour);
+    }
+
+    canonical(contour) {
+        return this.#clean("canonical", contour);
+    }
+
+    isSimple(contour) {
+        return this.#test("is_simple", contour);
+    }
+
+    hasNoSpikes(contour) {
+        return this.#test("has_no_spikes", contour);
+    }
+
+    isConvex(contour) {
+        return this.#test("is_convex", contour);
+    }
+
+    isSafe(points) {
+        return this.#test("is_safe", points);
+    }
+
+    contains(contour, x, y) {
+        return this.#ask("contains", contour, x, y, (answer, kind) => answered(answer, contour, kind) === 1);
+    }
+
+    windingNumber(contour, x, y) {
+        return this.#ask("winding", contour, x, y, (answer, kind) => {
+            if (answer === NO_WINDING) throw unsafePoint(contour, kind);
+            return Number(answer);
+        });
+    }
+
+    windingNumbers(points, offsets, about) {
+        const kind = kindOf(points);
+        if (kindOf(about) !== kind) throw new TypeError("the points asked about are of another type");
+        const from = asOffsets(offsets);
+        return borrow(this.#exports, (loan) => {
+            const count = about.length / 2;
+            const out = loan.take(8 * count);
+            const answer = this.#call("windings", kind)(
+                loan.copy(points, kind), countOf(points), loan.copyWide(from), BigInt(from.length),
+                loan.copy(about, kind), BigInt(count), out, BigInt(count));
+            const unsafe = Number(answer) === UNSAFE ? firstUnsafe(about, kind, 0, count) : undefined;
+            if (unsafe !== undefined) checkAsked(about[2 * unsafe], about[2 * unsafe + 1], kind);
+            answered(answer, points, kind, from);
+            // A contour of n points winds at most n / 2 times, and the memory has no room for 2^32 points.
+            return loan.readNarrow(Int32Array, out, count);
+        });
+    }
+
+    areaTwo(contour) {
+        const kind = kindOf(contour);
+        return borrow(this.#exports, (loan) => {
+            const area = loan.take(16);
+            const isThere = this.#call("area_two", kind)(loan.copy(contour, kind), countOf(contour), area);
+            if (!isThere) return undefined;
+            if (kind.bits === 16) return BigInt(loan.read(Int32Array, area, 1)[0]);
+            if (kind.bits === 32) return loan.read(BigInt64Array, area, 1)[0];
+            const [low, high] = loan.read(BigUint64Array, area, 2);
+            return BigInt.asIntN(128, (high << 64n) | low);
+        });
+    }
+
+    simplifyRings(points, offsets) {
+        return this.#cleanRings("simplify_contours", points, offsets);
+    }
+
+    despikeRings(points, offsets) {
+        return this.#cleanRings("despike_contours", points, offsets);
+    }
+
+    canonicalRings(points, offsets) {
+        return this.#cleanRings("canonical_contours", points, offsets);
+    }
+
+    simplifyPolygons(points, ringOffsets, polygonOffsets) {
+        return this.#cleanPolygons("simplify_shapes", points, ringOffsets, polygonOffsets);
+    }
+
+    despikePolygons(points, ringOffsets, polygonOffsets) {
+        return this.#cleanPolygons("despike_shapes", points, ringOffsets, polygonOffsets);
+    }
+
+    canonicalPolygons(points, ringOffsets, polygonOffsets) {
+        return this.#cleanPolygons("canonical_shapes", points, ringOffsets, polygonOffsets);
+    }
+
+    canonicalUnorientedPolygons(points, ringOffsets, polygonOffsets) {
+        return this.#cleanPolygons("canonical_unoriented_shapes", points, ringOffsets, polygonOffsets);
+    }
+
+    #call(name, { bits }) {
+        return this.#exports[`i_shape_${name}_i${bits}`];
+    }
+
+    #clean(name, contour) {
+        const kind = kindOf(contour);
+        return borrow(this.#exports, (loan) => {
+            const out = loan.take(contour.byteLength);
+            const count = countOf(contour);
+            const left = answered(this.#call(name, kind)(loan.copy(contour, kind), count, out, count), contour, kind);
+            return loan.read(kind.Points, out, 2 * left);
+        });
+    }
+
+    #test(name, points) {
+        const kind = kindOf(points);
+        return borrow(this.#exports, (loan) =>
+            answered(this.#call(name, kind)(loan.copy(points, kind), countOf(points)), points, kind) === 1);
+    }
+
+    /** Hands what a call answers about a point to `use`. */
+    #ask(name, contour, x, y, use) {
+        const kind = kindOf(contour);
+        checkAsked(x, y, kind);
+        return borrow(this.#exports, (loan) => use(this.#call(name, kind)(loan.copy(contour, kind), countOf(contour), x, y), kind));
+    }
+
+    #cleanRings(name, points, offsets) {
+        const kind = kindOf(points);
+        const from = asOffsets(offsets);
+        return borrow(this.#exports, (loan) => {
+            const out = loan.take(points.byteLength);
+            const outOffsets = loan.take(8 * from.length);
+            const count = countOf(points);
+            const offsetCount = BigInt(from.length);
+            const left = answered(this.#call(name, kind)(
+                loan.copy(points, kind), count, loan.copyWide(from), offsetCount, out, count, outOffsets, offsetCount), points, kind, from);
+            return { points: loan.read(kind.Points, out, 2 * left), offsets: loan.readNarrow(Uint32Array, outOffsets, from.length) };
+        });
+    }
+
+    #cleanPolygons(name, points, ringOffsets, polygonOffsets) {
+        const kind = kindOf(points);
+        const rings = asOffsets(ringOffsets, "ringOffsets");
+        const polygons = asOffsets(polygonOffsets, "polygonOffsets");
+        return borrow(this.#exports, (loan) => {
+            const out = loan.take(points.byteLength);
+            const outRings = loan.take(8 * rings.length);
+            const outPolygons = loan.take(8 * polygons.length);
+            const count = countOf(points);
+            const ringCount = BigInt(rings.length);
+            const polygonCount = BigInt(polygons.length);
+            const left = answered(this.#call(name, kind)(
+                loan.copy(points, kind), count, loan.copyWide(rings), ringCount, loan.copyWide(polygons), polygonCount,
+                out, count, outRings, ringCount, outPolygons, polygonCount), points, kind, rings);
+            const leftPolygons = loan.readNarrow(Uint32Array, outPolygons, left + 1);
+            const leftRings = loan.readNarrow(Uint32Array, outRings, leftPolygons[left] + 1);
+            return { points: loan.read(kind.Points, out, 2 * leftRings.at(-1)), ringOffsets: leftRings, polygonOffsets: leftPolygons };
+        });
+    }
+}

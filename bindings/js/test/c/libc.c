@@ -1,0 +1,88 @@
+/* As much of a C library as bindings/c/test.c needs in a WebAssembly module, over the allocator of the module. What is printed lies at `printed`, and ends
+ * with a 0. */
+#define rattle_alloc unused_alloc
+#define rattle_realloc unused_realloc
+#define rattle_dealloc unused_dealloc
+#include "../../wasm/allocator.c"
+
+typedef __builtin_va_list va_list;
+
+enum { MOST_PRINTED = 65536 };
+
+static char text[MOST_PRINTED];
+static int length;
+
+static void print_character(char character) {
+    if (length + 1 < MOST_PRINTED) text[length++] = character;
+}
+
+static void print_number(int number) {
+    if (number < 0) print_character('-');
+    unsigned rest = number < 0 ? 0u - (unsigned)number : (unsigned)number;
+    unsigned place = 1;
+    while (rest / place >= 10) place *= 10;
+    for (; place > 0; place /= 10) print_character((char)('0' + rest / place % 10));
+}
+
+/* With %s and %d alone. */
+int printf(const char *format, ...) {
+    va_list arguments;
+    __builtin_va_start(arguments, format);
+    for (; *format; format++) {
+        if (*format != '%') {
+            print_character(*format);
+        } else if (*++format == 's') {
+            for (const char *each = __builtin_va_arg(arguments, const char *); *each; each++) print_character(*each);
+        } else if (*format == 'd') {
+            print_number(__builtin_va_arg(arguments, int));
+        } else {
+            __builtin_trap();
+        }
+    }
+    __builtin_va_end(arguments);
+    return 0;
+}
+
+void *malloc(uint64_t size) {
+    return take(size);
+}
+
+void free(void *at) {
+    if (at) give(at);
+}
+
+void *realloc(void *before, uint64_t size) {
+    void *at = take(size);
+    if (!at) return NULL;
+    uint64_t kept = size_of(block_of(before)->order) - sizeof(struct block);
+    __builtin_memcpy(at, before, (uintptr_t)(kept < size ? kept : size));
+    give(before);
+    return at;
+}
+
+void abort(void) {
+    __builtin_trap();
+}
+
+void *memset(void *at, int byte, uint64_t size) {
+    for (volatile unsigned char *to = at; size > 0; size--) *to++ = (unsigned char)byte;
+    return at;
+}
+
+int memcmp(const void *a, const void *b, uint64_t size) {
+    for (const unsigned char *x = a, *y = b; size > 0; size--, x++, y++)
+        if (*x != *y) return *x < *y ? -1 : 1;
+    return 0;
+}
+
+int main(void);
+__asm__(".export_name run, run\n"
+        ".export_name printed, printed");
+
+int run(void) {
+    return main();
+}
+
+const char *printed(void) {
+    return text;
+}

@@ -1,0 +1,142 @@
+import assert from "node:assert/strict";
+import { describe, test } from "node:test";
+import { IShapeError, OffsetsError, OutOfMemoryError, UnsafePointError, load } from "../src/i_shape.js";
+import { bytesOf, describeModules, describeWidths } from "./support/modules.js";
+
+const ONE = ["simplify", "despike", "canonical", "isSimple", "hasNoSpikes", "isConvex"];
+const RINGS = ["simplifyRings", "despikeRings", "canonicalRings"];
+const POLYGONS = ["simplifyPolygons", "despikePolygons", "canonicalPolygons", "canonicalUnorientedPolygons"];
+const SQUARE = [0, 0, 4, 0, 4, 4, 0, 4];
+
+// What parts no 4 points.
+const WRONG_OFFSETS = [
+    { name: "no offset", offsets: [] },
+    { name: "an offset below the one before it", offsets: [0, 4, 3] },
+    { name: "a last offset above the count", offsets: [0, 5] },
+    { name: "an offset below 0", offsets: [-1, 4] },
+    { name: "an offset of 2^32", offsets: [0, 2 ** 32] },
+    { name: "an offset of 2^64", offsets: [0n, 2n ** 64n] },
+];
+
+describeWidths((shapes, { points, number, limit, bits, Points }) => {
+    const square = points(SQUARE);
+    /** Calls on many rings, by the offsets of the points. */
+    const calls = [
+        ...RINGS.map((name) => ({ name, call: (from, offsets) => shapes[name](from, offsets) })),
+        ...POLYGONS.map((name) => ({ name, call: (from, offsets) => shapes[name](from, offsets, [0]) })),
+        { name: "windingNumbers", call: (from, offsets) => shapes.windingNumbers(from, offsets, points([])) },
+    ];
+
+    for (const { name, call } of calls) {
+        for (const row of WRONG_OFFSETS) {
+            test(`${name}: ${row.name}`, () => assert.throws(() => call(square, row.offsets), { name: "OffsetsError", code: -2 }));
+        }
+        test(`${name}: a point of the second ring that isn't safe`, () => {
+            const from = square.slice();
+            from[5] = limit;
+            assert.throws(() => call(from, [0, 1, 1, 4]), { name: "UnsafePointError", code: -1, point: 2, ring: 2 });
+            assert.throws(() => call(from, [0, 1, 4, 3]), OffsetsError, "offsets are tested first");
+            assert.doesNotThrow(() => call(from, [0, 2]), "a point outside the offsets isn't read");
+        });
+    }
+    for (const name of POLYGONS) {
+        for (const row of WRONG_OFFSETS) {
+            test(`${name}: ${row.name} of polygons`, () =>
+                assert.throws(() => shapes[name](square, [0, 1, 2, 3, 4], row.offsets), { name: "OffsetsError", code: -2 }));
+        }
+    }
+
+    for (const name of ONE) {
+        for (const coordinate of [limit, -limit]) {
+            test(`${name}: a coordinate of ${coordinate}`, () => {
+                const from = square.slice();
+                from[3] = coordinate;
+                assert.throws(() => shapes[name](from), { name: "UnsafePointError", code: -1, point: 1, ring: undefined });
+            });
+        }
+    }
+    for (const name of ["contains", "windingNumber"]) {
+        test(`${name}: a point that isn't safe`, () => {
+            const from = square.slice();
+            from[7] = limit;
+            assert.throws(() => shapes[name](from, number(1), number(1)), { name: "UnsafePointError", code: -1, point: 3, ring: undefined });
+            assert.throws(() => shapes[name](square, number(1), -limit), { name: "UnsafePointError", code: -1, point: undefined });
+            assert.throws(() => shapes[name](square, number(2) ** number(70), number(1)), UnsafePointError);
+        });
+        test(`${name}: coordinates of another type`, () => {
+            const other = bits === 64 ? 1 : 1n;
+            assert.throws(() => shapes[name](square, other, number(1)), TypeError);
+            assert.throws(() => shapes[name](square, number(1)), TypeError);
+            assert.throws(() => shapes[name](square, 1.5, 1), TypeError);
+        });
+    }
+    test("windingNumbers: points asked about that aren't safe, or of another type", () => {
+        assert.throws(() => shapes.windingNumbers(square, [0, 4], Points.of(limit, number(0))), { name: "UnsafePointError", code: -1, point: undefined });
+        assert.throws(() => shapes.windingNumbers(square, [0, 4], bits === 16 ? Int32Array.of(0, 0) : Int16Array.of(0, 0)), TypeError);
+    });
+
+    test("each call: an x without a y", () => {
+        const odd = points([0, 0, 4]);
+        for (const name of [...ONE, "isSafe", "areaTwo"]) assert.throws(() => shapes[name](odd), RangeError, name);
+        for (const { name, call } of calls) assert.throws(() => call(odd, [0]), RangeError, name);
+        for (const name of ["contains", "windingNumber"]) assert.throws(() => shapes[name](odd, number(1), number(1)), RangeError, name);
+    });
+
+    test("nothing is held after errors", () => assert.equal(shapes.heldBytes, 0));
+});
+
+describeModules((shapes) => {
+    for (const [name, given] of [
+        ["an array of numbers", SQUARE],
+        ["floats", Float64Array.from(SQUARE)],
+        ["unsigned numbers", Uint32Array.from(SQUARE)],
+        ["unsigned bigints", BigUint64Array.from(SQUARE, BigInt)],
+        ["a buffer", new ArrayBuffer(16)],
+        ["a DataView", new DataView(new ArrayBuffer(16))],
+        ["null", null],
+        ["nothing", undefined],
+    ]) {
+        test(`points that are ${name}`, () => {
+            for (const call of [...ONE, "isSafe", "areaTwo"]) assert.throws(() => shapes[call](given), TypeError, call);
+            for (const call of [...RINGS, ...POLYGONS]) assert.throws(() => shapes[call](given, [0], [0]), TypeError, call);
+        });
+    }
+    for (const [name, offsets] of [
+        ["nothing", undefined],
+        ["null", null],
+        ["a number", 4],
+        ["text", "04"],
+        ["halves", [0, 1.5, 4]],
+        ["texts", ["0", "4"]],
+    ]) {
+        test(`offsets that are ${name}`, () => {
+            for (const call of RINGS) assert.throws(() => shapes[call](Int32Array.from(SQUARE), offsets), TypeError, call);
+            for (const call of POLYGONS) assert.throws(() => shapes[call](Int32Array.from(SQUARE), [0, 4], offsets), TypeError, call);
+        });
+    }
+});
+
+describe("load", () => {
+    test("each kind of source", async () => {
+        const bytes = bytesOf(32);
+        const sources = {
+            "a Buffer": bytes,
+            "an ArrayBuffer": Uint8Array.from(bytes).buffer,
+            "a module": await WebAssembly.compile(bytes),
+            "a response": new Response(bytes),
+            "a promise of one": Promise.resolve(new Response(bytes)),
+        };
+        for (const [name, source] of Object.entries(sources)) assert.equal((await load(source)).version, "0.1.0", name);
+    });
+    test("a response that failed, bytes that are no module, and another module", async () => {
+        await assert.rejects(load(new Response("", { status: 404 })), /404/);
+        await assert.rejects(load(Uint8Array.of(1, 2, 3)), WebAssembly.CompileError);
+        await assert.rejects(load(Uint8Array.of(0, 0x61, 0x73, 0x6d, 1, 0, 0, 0)), TypeError);
+    });
+    test("the errors are errors of the library", () => {
+        for (const error of [new OffsetsError(), new OutOfMemoryError(), new UnsafePointError("")]) {
+            assert.ok(error instanceof IShapeError && error instanceof Error);
+            assert.equal(error.name, error.constructor.name);
+        }
+    });
+});

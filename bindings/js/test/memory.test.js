@@ -1,0 +1,152 @@
+import assert from "node:assert/strict";
+import { test } from "node:test";
+import { OutOfMemoryError, load } from "../src/i_shape.js";
+import { limited } from "./support/limited.js";
+import { WIDTHS, bytesOf, describeModules } from "./support/modules.js";
+
+// A contour from which much is removed, as rings and as polygons of three rings.
+const RING = [0, 0, 2, 0, 4, 0, 4, 4, 4, 9, 4, 4, 0, 4, 0, 4];
+const RINGS = 30;
+const OFFSETS = Array.from({ length: RINGS + 1 }, (_, k) => (k * RING.length) / 2);
+const POLYGONS = Array.from({ length: RINGS / 3 + 1 }, (_, k) => 3 * k);
+
+/** Each call at a width, by its name. */
+function callsOf(shapes, { points, number }) {
+    const contour = points(RING);
+    const rings = points(Array.from({ length: RINGS }, () => RING).flat());
+    const calls = {};
+    for (const name of ["simplify", "despike", "canonical", "isSimple", "hasNoSpikes", "isConvex", "isSafe", "areaTwo"]) {
+        calls[name] = () => shapes[name](contour);
+    }
+    for (const name of ["contains", "windingNumber"]) calls[name] = () => shapes[name](contour, number(1), number(1));
+    calls.windingNumbers = () => shapes.windingNumbers(rings, OFFSETS, contour);
+    for (const name of ["simplifyRings", "despikeRings", "canonicalRings"]) calls[name] = () => shapes[name](rings, OFFSETS);
+    for (const name of ["simplifyPolygons", "despikePolygons", "canonicalPolygons", "canonicalUnorientedPolygons"]) {
+        calls[name] = () => shapes[name](rings, OFFSETS, POLYGONS);
+    }
+    return calls;
+}
+
+/** Calls on a contour, on rings and on polygons with an unsafe point, and with offsets that part nothing. */
+function wrongCallsOf(shapes, { Points, limit, points }) {
+    const wrong = Points.of(limit, limit);
+    return {
+        simplify: () => shapes.simplify(wrong),
+        isSimple: () => shapes.isSimple(wrong),
+        windingNumber: () => shapes.windingNumber(wrong, wrong[0] - wrong[0], wrong[0] - wrong[0]),
+        simplifyRings: () => shapes.simplifyRings(wrong, [0, 1]),
+        canonicalPolygons: () => shapes.canonicalPolygons(wrong, [0, 1], [0, 1]),
+        "simplifyRings, offsets": () => shapes.simplifyRings(points(RING), [0, 99]),
+        "canonicalPolygons, offsets": () => shapes.canonicalPolygons(points(RING), [0, 4], [0, 9]),
+        "windingNumbers, offsets": () => shapes.windingNumbers(points(RING), [], points(RING)),
+    };
+}
+
+describeModules((shapes, bits) => {
+    for (const width of WIDTHS) {
+        for (const [name, call] of Object.entries(callsOf(shapes, width))) {
+            test(`${name} at ${width.bits} bits: the memory is as it was after a thousand calls`, () => {
+                call();
+                const before = shapes.memoryBytes;
+                for (let turn = 0; turn < 1000; turn++) call();
+                assert.equal(shapes.memoryBytes, before);
+                assert.equal(shapes.heldBytes, 0);
+            });
+        }
+        for (const [name, call] of Object.entries(wrongCallsOf(shapes, width))) {
+            test(`${name} at ${width.bits} bits: the memory is as it was after a thousand errors`, () => {
+                assert.throws(call);
+                const before = shapes.memoryBytes;
+                for (let turn = 0; turn < 1000; turn++) assert.throws(call);
+                assert.equal(shapes.memoryBytes, before);
+                assert.equal(shapes.heldBytes, 0);
+            });
+        }
+    }
+
+    test("the memory grows with the greatest call, and later ones use it again", async () => {
+        const fresh = await load(bytesOf(bits));
+        const square = new Int32Array(2_000_000);
+        const before = fresh.memoryBytes;
+        assert.deepEqual(fresh.simplify(square), new Int32Array(0));
+        const grown = fresh.memoryBytes;
+        assert.ok(grown - before >= 2 * square.byteLength);
+        for (let length = 2; length < square.length; length *= 4) fresh.simplify(square.subarray(0, length));
+        assert.equal(fresh.memoryBytes, grown);
+        assert.equal(fresh.heldBytes, 0);
+    });
+
+    // Points that fill the pages which the memory may grow by, in each way: those of the caller are refused, or those of the library.
+    for (const width of WIDTHS) {
+        const count = 16384;
+        const contour = width.points(Array.from({ length: count }, (_, k) => [k >> 2, (k >> 1) % 2]).flat());
+        const offsets = Array.from({ length: 1025 }, (_, k) => 16 * k);
+        for (const [name, call] of Object.entries({
+            simplify: (it) => it.simplify(contour),
+            despike: (it) => it.despike(contour),
+            canonical: (it) => it.canonical(contour),
+            simplifyRings: (it) => it.simplifyRings(contour, [0, count]),
+            despikeRings: (it) => it.despikeRings(contour, [0, count]),
+            canonicalRings: (it) => it.canonicalRings(contour, [0, count]),
+            simplifyPolygons: (it) => it.simplifyPolygons(contour, offsets, [0, 512, 1024]),
+            despikePolygons: (it) => it.despikePolygons(contour, offsets, [0, 512, 1024]),
+            canonicalPolygons: (it) => it.canonicalPolygons(contour, offsets, [0, 512, 1024]),
+            canonicalUnorientedPolygons: (it) => it.canonicalUnorientedPolygons(contour, offsets, [0, 512, 1024]),
+        })) {
+            test(`${name} at ${width.bits} bits: refused memory is told, and nothing is held`, async () => {
+                const wanted = call(shapes);
+                let refusals = 0;
+                for (let pages = 0; pages <= 256; pages = pages < 8 ? pages + 1 : 2 * pages) {
+                    const scarce = await load(limited(bytesOf(bits), pages));
+                    try {
+                        assert.deepEqual(call(scarce), wanted);
+                    } catch (error) {
+                        if (!(error instanceof OutOfMemoryError)) throw error;
+                        assert.equal(error.code, -3);
+                        refusals++;
+                    }
+                    assert.equal(scarce.heldBytes, 0);
+                    assert.equal(scarce.simplify(width.points([0, 0, 4, 0, 4, 4])).length, 6, "and small calls go on");
+                }
+                assert.ok(refusals > 1);
+            });
+        }
+    }
+
+    test("more than there is", () => {
+        const exports = new WebAssembly.Instance(new WebAssembly.Module(bytesOf(bits))).exports;
+        for (const size of [2n ** 41n, 2n ** 63n, 2n ** 64n - 1n]) assert.ok(!exports.i_shape_take(size), `${size}`);
+        assert.equal(exports.i_shape_held(), 0n);
+    });
+
+    test("blocks are apart, aligned to 16, and used again", () => {
+        const exports = new WebAssembly.Instance(new WebAssembly.Module(bytesOf(bits))).exports;
+        const sizes = [0n, 1n, 15n, 16n, 17n, 1000n, 65536n];
+        const taken = [];
+        for (let turn = 0; turn < 100; turn++) {
+            for (const size of sizes) taken.push([Number(exports.i_shape_take(size)), Number(size)]);
+        }
+        taken.sort(([a], [b]) => a - b);
+        taken.forEach(([address, size], k) => {
+            assert.equal(address % 16, 0);
+            assert.ok(k + 1 === taken.length || address + size <= taken[k + 1][0]);
+        });
+        const before = exports.memory.buffer.byteLength;
+        const give = (address) => exports.i_shape_give(bits === 64 ? BigInt(address) : address);
+        for (const [address] of taken) give(address);
+        assert.equal(exports.i_shape_held(), 0n);
+        for (let turn = 0; turn < 100; turn++) for (const size of sizes) assert.ok(exports.i_shape_take(size));
+        assert.equal(exports.memory.buffer.byteLength, before);
+    });
+
+    // What no call of load's object does: a pointer out of memory is a trap, after which the instance answers nothing more.
+    test("after a trap each call traps", () => {
+        const exports = new WebAssembly.Instance(new WebAssembly.Module(bytesOf(bits))).exports;
+        const address = bits === 64 ? 2n ** 33n : 2 ** 31;
+        assert.equal(exports.i_shape_version(), 0x000100);
+        assert.throws(() => exports.i_shape_is_safe_i32(address, 8n), WebAssembly.RuntimeError);
+        assert.throws(() => exports.i_shape_version(), WebAssembly.RuntimeError);
+    });
+
+    test("no function or memory is imported", () => assert.deepEqual(WebAssembly.Module.imports(new WebAssembly.Module(bytesOf(bits))), []));
+});

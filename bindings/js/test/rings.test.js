@@ -1,0 +1,73 @@
+import assert from "node:assert/strict";
+import { test } from "node:test";
+import { describeWidths } from "./support/modules.js";
+
+// Three rings, end to end: one with a straight vertex, one that collapses, and one with a spike.
+const GIVEN = {
+    points: [4, 4, 0, 4, 0, 0, 2, 0, 4, 0, /**/ 1, 1, 2, 2, 3, 3, /**/ 9, 0, 9, 5, 4, 0, 3, 0, 4, 0],
+    offsets: [0, 5, 8, 13],
+};
+
+const LEFT = [
+    { call: "simplifyRings", points: [4, 4, 0, 4, 0, 0, 4, 0, /**/ 9, 0, 9, 5, 4, 0], offsets: [0, 4, 4, 7] },
+    { call: "despikeRings", points: [4, 4, 0, 4, 0, 0, 2, 0, 4, 0, /**/ 9, 0, 9, 5, 4, 0], offsets: [0, 5, 5, 8] },
+    { call: "canonicalRings", points: [0, 0, 4, 0, 4, 4, 0, 4, /**/ 4, 0, 9, 0, 9, 5], offsets: [0, 4, 4, 7] },
+];
+
+// Squares with a straight vertex, and what is left of each.
+const COUNT = 20000;
+const ONE = [0, 0, 2, 0, 4, 0, 4, 4, 0, 4];
+const ONE_LEFT = { simplifyRings: [0, 0, 4, 0, 4, 4, 0, 4], despikeRings: ONE, canonicalRings: [0, 0, 4, 0, 4, 4, 0, 4] };
+
+function repeated(items, count) {
+    return Array.from({ length: count }, () => items).flat();
+}
+
+function evenOffsets(count, length) {
+    return Uint32Array.from({ length: count + 1 }, (_, k) => k * length);
+}
+
+// A square that is wound twice, and one in it that turns right.
+const WOUND = { points: [0, 0, 4, 0, 4, 4, 0, 4, 0, 0, 4, 0, 4, 4, 0, 4, /**/ 1, 1, 1, 3, 3, 3, 3, 1], offsets: [0, 8, 12] };
+const ABOUT = [2, 2, 0, 2, 4, 2];
+
+describeWidths((shapes, { points }) => {
+    for (const { call, points: left, offsets } of LEFT) {
+        const wanted = { points: points(left), offsets: Uint32Array.from(offsets) };
+        for (const [kind, given] of [
+            ["an array", GIVEN.offsets],
+            ["a Uint32Array", Uint32Array.from(GIVEN.offsets)],
+            ["a BigInt64Array", BigInt64Array.from(GIVEN.offsets, BigInt)],
+        ]) {
+            test(`${call}: three rings, offsets in ${kind}`, () => {
+                const from = points(GIVEN.points);
+                assert.deepEqual(shapes[call](from, given), wanted);
+                assert.deepEqual(from, points(GIVEN.points), "what is given stays as it is");
+            });
+        }
+        test(`${call}: the second ring alone`, () =>
+            assert.deepEqual(shapes[call](points(GIVEN.points), [5, 8]), { points: points([]), offsets: Uint32Array.of(0, 0) }));
+        test(`${call}: no ring`, () => assert.deepEqual(shapes[call](points(GIVEN.points), [3]), { points: points([]), offsets: Uint32Array.of(0) }));
+        test(`${call}: ${COUNT} rings`, () =>
+            assert.deepEqual(shapes[call](points(repeated(ONE, COUNT)), evenOffsets(COUNT, 5)), {
+                points: points(repeated(ONE_LEFT[call], COUNT)),
+                offsets: evenOffsets(COUNT, ONE_LEFT[call].length / 2),
+            }));
+    }
+
+    for (const { name, offsets, winding } of [
+        { name: "two rings together", offsets: WOUND.offsets, winding: [1, 2, 0] },
+        { name: "the first ring alone", offsets: [0, 8], winding: [2, 2, 0] },
+        { name: "the second ring alone", offsets: [8, 12], winding: [-1, 0, 0] },
+        { name: "no ring", offsets: [8], winding: [0, 0, 0] },
+    ]) {
+        test(`windingNumbers: ${name}`, () =>
+            assert.deepEqual(shapes.windingNumbers(points(WOUND.points), offsets, points(ABOUT)), Int32Array.from(winding)));
+    }
+    test("windingNumbers: no point", () => assert.deepEqual(shapes.windingNumbers(points(WOUND.points), WOUND.offsets, points([])), new Int32Array(0)));
+    test(`windingNumbers: 1,000 rings about 1,000 points`, () =>
+        assert.deepEqual(
+            shapes.windingNumbers(points(repeated(ONE, 1000)), evenOffsets(1000, 5), points(repeated([1, 1], 1000))),
+            new Int32Array(1000).fill(1000),
+        ));
+});

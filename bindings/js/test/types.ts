@@ -1,0 +1,39 @@
+/** What i_shape.d.ts lets through, and what it refuses; compiled by tsc, and not run. */
+import { IShapeError, OffsetsError, UnsafePointError, load, supportsMemory64, type IShape, type Polygons, type Rings } from "../src/i_shape.js";
+
+async function contours(): Promise<void> {
+    const shapes: IShape = await load(fetch(supportsMemory64() ? "i_shape64.wasm" : "i_shape32.wasm"));
+    const narrow: Int16Array = shapes.simplify(Int16Array.of(0, 0));
+    const wide: BigInt64Array = shapes.canonical(BigInt64Array.of(0n, 0n));
+    const area: bigint | undefined = shapes.areaTwo(narrow);
+    const inside: boolean = shapes.contains(Int32Array.of(0, 0), 1, 1) && shapes.contains(wide, 1n, 1n);
+    const winding: number = shapes.windingNumber(wide, 1n, 1n);
+    console.log(area, inside, winding);
+    // @ts-expect-error: floats
+    shapes.simplify(Float64Array.of(0, 0));
+    // @ts-expect-error: an array of numbers
+    shapes.simplify([0, 0]);
+    // @ts-expect-error: a number beside bigints
+    shapes.contains(wide, 1, 1);
+    // @ts-expect-error: the answer has the width of what is given
+    const other: Int32Array = shapes.simplify(wide);
+    console.log(other);
+}
+
+async function rings(shapes: IShape): Promise<void> {
+    const points = Int32Array.of(0, 0);
+    const left: Rings<Int32Array> = shapes.simplifyRings(points, [0, 1]);
+    const polygons: Polygons<Int32Array> = shapes.canonicalPolygons(left.points, left.offsets, BigInt64Array.of(0n, 1n));
+    const windings: Int32Array = shapes.windingNumbers(points, Uint32Array.of(0, 1), polygons.points);
+    console.log(windings);
+    // @ts-expect-error: points of two widths
+    shapes.windingNumbers(points, [0, 1], Int16Array.of(0, 0));
+}
+
+function errors(error: unknown): number | undefined {
+    if (error instanceof UnsafePointError) return error.point ?? error.ring;
+    if (error instanceof OffsetsError) return error.code;
+    return error instanceof IShapeError ? error.code : undefined;
+}
+
+export { contours, errors, rings };
