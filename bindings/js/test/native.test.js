@@ -34,7 +34,7 @@ function randomContour(random, limit) {
         const isAgain = k > 0 && random(6n) === 0n;
         points.push(isAgain ? points[Number(random(BigInt(k)))] : [coordinate(), coordinate()]);
     }
-    return { asked: [coordinate(), coordinate()], points };
+    return { about: [coordinate(), coordinate()], points };
 }
 
 /** The coastlines of the repository, rounded to a grid, where they are safe then. */
@@ -44,16 +44,24 @@ function coastlines(grid, limit) {
         .map((words) => words.map((word) => BigInt(Math.round(Number(word) / grid))))
         .filter((coordinates) => coordinates.every((each) => each < limit))
         .map((coordinates) => ({
-            asked: [coordinates[0], coordinates[1]],
+            about: [coordinates[0], coordinates[1]],
             points: Array.from({ length: coordinates.length / 2 }, (_, k) => coordinates.slice(2 * k, 2 * k + 2)),
         }));
 }
 
-function contoursAt(bits) {
+/** The contours at a width, and the lines that the native library answers. */
+const asked = new Map();
+
+function askedAt(bits) {
+    if (asked.has(bits)) return asked.get(bits);
     const limit = 2n ** BigInt(bits - 2);
     const random = generator(BigInt(bits));
     const contours = Array.from({ length: COUNT }, () => randomContour(random, limit));
-    return [...contours, ...[1, 16, 64, 128, 512].flatMap((grid) => coastlines(grid, limit))];
+    for (const grid of [1, 16, 64, 128, 512]) contours.push(...coastlines(grid, limit));
+    const input = contours.map(({ about, points }) => [points.length, ...about, ...points.flat()].join(" ")).join("\n");
+    const native = execFileSync(`${PROGRAMS}${bits}`, { input, encoding: "utf8", maxBuffer: 2 ** 30 }).split("\n");
+    asked.set(bits, { contours, native });
+    return asked.get(bits);
 }
 
 /** What a call answers, or the code of its error. */
@@ -76,9 +84,9 @@ function answers(shapes, contours, { bits, Points, number }) {
         lines.push(`area ${area === undefined ? "none" : bits === 64 ? `${half(64n)} ${half(0n)}` : area}`);
     };
     const safe = [];
-    for (const { asked, points } of contours) {
+    for (const { about, points } of contours) {
         const given = Points.from(points.flat(), number);
-        const [x, y] = asked.map(number);
+        const [x, y] = about.map(number);
         for (const name of ["simplify", "despike", "canonical"]) tell(name, answerOf(() => shapes[name](given)));
         tellArea(shapes.areaTwo(given));
         lines.push(["tests", ...["isSafe", "isSimple", "hasNoSpikes", "isConvex"].map((name) => Number(answerOf(() => shapes[name](given))))].join(" "));
@@ -110,9 +118,7 @@ function answers(shapes, contours, { bits, Points, number }) {
 
 describeWidths((shapes, width) => {
     test(`${COUNT} random contours, and coastlines, as the native library answers`, { skip: !PROGRAMS && "there is no program of the native library" }, () => {
-        const contours = contoursAt(width.bits);
-        const input = contours.map(({ asked, points }) => [points.length, ...asked, ...points.flat()].join(" ")).join("\n");
-        const native = execFileSync(`${PROGRAMS}${width.bits}`, { input, encoding: "utf8", maxBuffer: 2 ** 30 }).split("\n");
+        const { contours, native } = askedAt(width.bits);
         const own = [...answers(shapes, contours, width), ""];
         const place = own.findIndex((line, k) => line !== native[k]);
         assert.equal(place < 0 ? undefined : `${place}: ${own[place]}`, place < 0 ? undefined : `${place}: ${native[place]}`);
