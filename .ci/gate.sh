@@ -28,6 +28,7 @@ part ./.ci/long_tests.sh
 part ./.ci/c_library.sh
 part ./.ci/elsewhere.sh
 part ./.ci/python_package.sh
+part ./.ci/javascript.sh
 part ./.ci/refusals.sh
 part ./.ci/scaling.sh
 part ./.ci/pictures.sh

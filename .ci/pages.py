@@ -7,16 +7,18 @@ usage: .ci/pages.py [PAGE..]
   doc lines that the page leaves out; and what the block imports is imported there;
 - a block `text` with clauses: each of its lines stands in a source of the crates;
 - a block `c` or `cpp`: it stands in a file of C or C++;
+- a block `js`: a file of JavaScript is that text;
 - a block `console`: its commands run in order, as in one shell at the top of a clone named raspochre, each printing what stands below it;
 - the links within the repository: the page is there, and the heading;
 - docs/GATE.md has a row for each part of the gate;
 - docs/ARCHITECTURE.md names each file of lemmas, and docs/CONTRACTS.md each edit of must-fail/ and no edit that isn't there;
-- the version: it is that of the header in CHANGELOG.md, in the archive, in the Python package and in the crate for Rust.
+- the version: it is that of the header in CHANGELOG.md, in the archive, in the packages for Python and JavaScript and in the crate for Rust.
 
 The sources are proved, compiled and tested by other parts of the gate. A block `console` names what has to be there, as in `console library python`, and is
 skipped where it isn't. The last line is 'pages: N passed, M failed', and ', K skipped' behind it where K is above 0.
 """
 import glob
+import json
 import os
 import re
 import signal
@@ -28,6 +30,7 @@ TOP = os.path.dirname(os.path.dirname(os.path.abspath(__file__)))
 PAGES = ["README.md", "CHANGELOG.md", "docs/*.md", "examples/*/README.md"]
 RUST = ["crates/*/src/**/*.rt", "bindings/rust/**/*.rs", "examples/**/*.rs", "bench/**/*.rs"]
 C = ["bindings/c/*.c", "bindings/c/*.cpp", "bindings/c/*.h", "examples/**/*.c", "bench/**/*.c", "include/*.h", "include/*.hpp"]
+JAVASCRIPT = ["bindings/js/*.js", "examples/*.mjs"]
 # Whether what the three libraries have kept of their proofs, or the C library that was built from it, is newer than they are.
 PROVED = """rt version && test -d crates/i_shape/out/rlib && test -z "$(find crates/i_shape_core crates/i_shape_source crates/i_shape \\
     -name out -prune -o \\( -name '*.rt' -o -name '*.antt' \\) \\
@@ -36,6 +39,8 @@ NEEDED = {
     "proof": PROVED,
     "program": "./i_shape_tool --is-built",
     "library": "bash bindings/c/build.sh --is-built",
+    "wasm": "bash bindings/js/build.sh --is-built",
+    "node": "node -e 'process.exit(parseInt(process.versions.node) < 20 ? 1 : 0)'",
     "parallel": "parallel --version",
     "clipper": "test -e /usr/include/polyclipping/clipper.hpp",
     "pkg-config": "pkg-config --version",
@@ -43,7 +48,8 @@ NEEDED = {
     "cargo": "cargo metadata --offline --no-deps --format-version 1 --manifest-path bindings/rust/Cargo.toml",
 }
 # What is said where one of these isn't there.
-MISSING = {"proof": "there is no rt, or the libraries aren't proved", "program": "the program isn't built", "library": "the C library isn't built"}
+MISSING = {"proof": "there is no rt, or the libraries aren't proved", "program": "the program isn't built", "library": "the C library isn't built",
+           "wasm": "the WebAssembly modules aren't built"}
 # How many seconds a command of a page may take.
 LONGEST = 600
 LEFT_OUT = re.compile(r"\s*(///|//!|#!?\[|ensures\b|↔|×)|\s*$")
@@ -123,6 +129,10 @@ def fault_of_c(text):
     return None if any(all("".join(part.split()) in source for part in parts) for source in sources) else "no file of C or C++ has this text"
 
 
+def fault_of_javascript(text):
+    return None if any(read(name) == text for name in files(JAVASCRIPT)) else "no file of JavaScript is this text"
+
+
 def is_at_hand(needed):
     """Whether what a block needs is there."""
     return subprocess.run(["sh", "-c", NEEDED[needed]], cwd=TOP, capture_output=True, check=False).returncode == 0
@@ -183,6 +193,7 @@ def fault_of_version():
     told = {
         "the archive": ".".join(re.findall(r"const (?:MAJOR|MINOR|PATCH): u32 = (\d+);", read(f"{TOP}/crates/i_shape_c/src/version.rt"))),
         "the crate for Rust": re.search(r'^version = "(.*)"$', read(f"{TOP}/bindings/rust/Cargo.toml"), re.MULTILINE)[1],
+        "the package for JavaScript": json.loads(read(f"{TOP}/bindings/js/package.json"))["version"],
         "the Python package": f"{package >> 8}.{package & 255}.{patch}",
         "this page": re.search(r"^## (\S+)", read(f"{TOP}/CHANGELOG.md"), re.MULTILINE)[1],
     }
@@ -218,7 +229,14 @@ def fault_of_edits():
     return "; ".join(sorted(missing + strange)) or None
 
 
-FAULTS = {"rust": fault_of_rust, "text": fault_of_clauses, "c": fault_of_c, "cpp": fault_of_c, "console": fault_of_console}
+FAULTS = {
+    "rust": fault_of_rust,
+    "text": fault_of_clauses,
+    "c": fault_of_c,
+    "cpp": fault_of_c,
+    "js": fault_of_javascript,
+    "console": fault_of_console,
+}
 
 
 def tests_of(name):

@@ -29,6 +29,8 @@ ROWS = [
     ("a function of C that is nowhere", "```c\nint nothing(void) {\n```\n", "failed"),
     ("a declaration of C", "```c\nuint32_t i_shape_version(void);\n```\n", "passed"),
     ("a declaration of C that is nowhere", "```c\nuint64_t i_shape_version(void);\n```\n", "failed"),
+    ("a program of JavaScript", "```js\n" + pages.read(f"{pages.TOP}/bindings/js/sample.js") + "```\n", "passed"),
+    ("a program of JavaScript that is nowhere", "```js\nconsole.log(1);\n```\n", "failed"),
     ("a command", "```console\n$ echo one\none\n$ ls README.md\n```\n", "passed"),
     ("a command that prints something else", "```console\n$ echo one\ntwo\n```\n", "failed"),
     ("a command that prints more", "```console\n$ printf 'one\\ntwo\\n'\none\n```\n", "failed"),
@@ -87,6 +89,7 @@ def main():
         ("another version of the crate for Rust", with_text("rust/Cargo.toml", 'version = "', 'version = "9', pages.fault_of_version) is not None),
         ("another version of the changelog", with_text("CHANGELOG.md", "\n## ", "\n## 9", pages.fault_of_version) is not None),
         ("another version of the package", with_text("_library.py", "_VERSION = 0x", "_VERSION = 0x9", pages.fault_of_version) is not None),
+        ("another version of the package for JavaScript", with_text("js/package.json", 'version": "', 'version": "9', pages.fault_of_version) is not None),
         ("another version of the archive", with_text("version.rt", ": u32 = ", ": u32 = 9", pages.fault_of_version) is not None),
         ("a file of lemmas that isn't named", with_text("ARCHITECTURE.md", "`Turns`", "", pages.fault_of_lemmas) is not None),
     ]

@@ -1,0 +1,90 @@
+#!/usr/bin/env bash
+# Builds the WebAssembly modules and runs the tests of the package for JavaScript by Node: beside the native library, and the tests of C in the module of
+# 32 bits, where there is a C compiler. Of the calls that take no memory the object file is that of the kit's own lowering. The types are checked, where there
+# is a tsc. With the word --if-built it builds nothing: where the modules aren't built, or there is no Node from 20 on, all is skipped. The last line is
+# 'javascript: N passed, M failed', and ', K skipped' behind it where K is above 0.
+set -u
+cd "$(dirname "$0")/.." || exit 1
+. .ci/count.sh || exit 1
+package=bindings/js
+skipped=0
+
+skip_all() {
+    echo "the package for JavaScript is not tested: $1"
+    echo "javascript: 0 passed, 0 failed, $(grep -hoE '\btest\(' $package/test/*.test.js | wc -l) skipped"
+    exit 0
+}
+
+# Node counts what it has run.
+test_by_node() {
+    local status counts
+    node "${flags[@]}" --test --test-reporter=tap $package/test/*.test.js > "$work/log" 2>&1
+    status=$?
+    counts=$(sed -nE 's/^# (pass|fail|cancelled|skipped) ([0-9]+)$/\2/p' "$work/log" | tr '\n' ' ')
+    if ! [[ $counts =~ ^([0-9]+)\ ([0-9]+)\ ([0-9]+)\ ([0-9]+)\ $ ]]; then
+        tail -n 20 "$work/log"
+        count 1 "the tests by Node ended with status $status"
+        return
+    fi
+    local failures=$((BASH_REMATCH[2] + BASH_REMATCH[3]))
+    passed=$((passed + BASH_REMATCH[1]))
+    skipped=$((skipped + BASH_REMATCH[4]))
+    failed=$((failed + (failures == 0 && status != 0 ? 1 : failures)))
+    [ "$status" = 0 ] || grep -A 25 '^ *not ok ' "$work/log" | head -n 200
+    sed -nE 's/^ *ok [0-9]+ - (.*) # SKIP (.*)$/skipped: \1: \2/p' "$work/log" | sort | uniq -c | sed -E 's/^ +1 //'
+}
+
+# The programs that answer as the native library does, at each width.
+build_answers() {
+    local bits
+    for bits in 16 32 64; do
+        "${CC:-cc}" -std=c11 -O2 -Wall -Wextra -Werror -DWIDTH=$bits -DWIDTH_TWICE=$((2 * bits)) -Iinclude $package/test/native/answers.c \
+            bindings/c/out/libi_shape.a -o "$work/answers$bits" || return
+    done
+}
+
+test_types() {
+    if ! tsc --version > /dev/null 2>&1; then
+        echo 'the types are not tested: there is no tsc'
+        skipped=$((skipped + 1))
+        return
+    fi
+    tsc --noEmit --strict --target es2022 --lib es2022,dom --module node16 --moduleResolution node16 $package/test/types.ts
+    count $? 'the types'
+}
+
+node -e 'process.exit(parseInt(process.versions.node) < 20 ? 1 : 0)' 2> /dev/null || skip_all 'there is no Node from 20 on'
+if [ "${1-}" = --if-built ]; then
+    bash $package/build.sh --is-built || skip_all '`make wasm` builds the modules'
+fi
+command -v rt > /dev/null || skip_all 'there is no rt of the Rattle kit'
+work=$(mktemp -d) || exit 1
+trap 'rm -rf "$work"' EXIT
+if ! bash $package/build.sh > "$work/log" 2>&1; then
+    cat "$work/log"
+    echo 'javascript: 0 passed, 1 failed'
+    exit 1
+fi
+# Before version 24 Node has memory of 64 bits only if it is asked for.
+flags=()
+node --experimental-wasm-memory64 -e 0 2> /dev/null && flags=(--experimental-wasm-memory64)
+if command -v "${CC:-cc}" > /dev/null; then
+    build_answers && export I_SHAPE_ANSWERS=$work/answers
+    count $? 'the programs of the native library'
+    for bits in 64 32; do
+        sh $package/test/c/build.sh $bits "$work/c_tests$bits.wasm" && export I_SHAPE_C_TESTS=$work/c_tests
+        count $? "the tests of C as a module of $bits bits"
+    done
+fi
+test_by_node
+test_types
+if [ "${1-}" != --if-built ]; then
+    sh $package/wasm/same_object.sh "$PWD"
+    count $? "the object file of the kit's own lowering"
+fi
+if [ "$skipped" -eq 0 ]; then
+    echo "javascript: $passed passed, $failed failed"
+else
+    echo "javascript: $passed passed, $failed failed, $skipped skipped"
+fi
+[ "$failed" -eq 0 ]
