@@ -1,6 +1,6 @@
 /** Debian's Chromium without a window, driven over its DevTools protocol by a pipe, and a file server for what it opens. */
 import { spawn, spawnSync } from "node:child_process";
-import { mkdtempSync, readFileSync, rmSync, writeFileSync } from "node:fs";
+import { existsSync, mkdtempSync, readFileSync, rmSync, writeFileSync } from "node:fs";
 import http from "node:http";
 import os from "node:os";
 import path from "node:path";
@@ -21,12 +21,9 @@ export const hasChromium = spawnSync("chromium", ["--version"]).status === 0;
 export async function serve(folder) {
     const server = http.createServer((request, response) => {
         const name = new URL(request.url, "http://localhost").pathname;
-        try {
-            const file = path.join(folder, name.endsWith("/") ? `${name}index.html` : name);
-            response.writeHead(200, { "content-type": TYPES[path.extname(file)] ?? "application/octet-stream" }).end(readFileSync(file));
-        } catch {
-            response.writeHead(404).end();
-        }
+        const file = path.join(folder, name.endsWith("/") ? `${name}index.html` : name);
+        if (!existsSync(file)) response.writeHead(404).end();
+        else response.writeHead(200, { "content-type": TYPES[path.extname(file)] ?? "application/octet-stream" }).end(readFileSync(file));
     });
     await new Promise((done) => server.listen(0, "127.0.0.1", done));
     return { server, url: `http://127.0.0.1:${server.address().port}/` };
