@@ -1,0 +1,233 @@
+/**
+ * The page in Debian's Chromium, by clicks and keys. Without chromium, or where the modules aren't built, it is skipped. I_SHAPE_SCREENSHOTS names a folder to
+ * leave screenshots in.
+ */
+import assert from "node:assert/strict";
+import { execFileSync } from "node:child_process";
+import { existsSync, mkdtempSync, rmSync } from "node:fs";
+import os from "node:os";
+import path from "node:path";
+import { after, before, describe, test } from "node:test";
+import { fileURLToPath } from "node:url";
+import { Browser, hasChromium, serve } from "../../../bindings/js/test/support/chromium.js";
+
+const HERE = path.dirname(fileURLToPath(import.meta.url));
+const SCREENSHOTS = process.env.I_SHAPE_SCREENSHOTS;
+const isBuilt = existsSync(path.join(HERE, "../../../bindings/js/out/i_shape32.wasm"));
+const SIZES = [
+    { name: "a wide window", width: 1100, height: 800 },
+    { name: "a small window in the dark", width: 390, height: 780, isDark: true },
+];
+
+/** What a test does on the page, and reads off it. */
+class Page {
+    constructor(browser) {
+        this.browser = browser;
+    }
+
+    text(id) {
+        return this.browser.read(`document.getElementById(${JSON.stringify(id)}).textContent`);
+    }
+
+    async texts(wanted) {
+        for (const [id, text] of Object.entries(wanted)) assert.equal(await this.text(id), text, id);
+    }
+
+    marks(name) {
+        return this.browser.read(`document.querySelectorAll("#board > .${name}").length`);
+    }
+
+    /** Where a point of the board lies in the window. */
+    async placeOf([x, y]) {
+        return this.browser.read(`(() => {
+            const board = document.getElementById("board");
+            board.scrollIntoView({ block: "nearest" });
+            const place = new DOMPoint(${x}, ${-y}).matrixTransform(board.getScreenCTM());
+            return [place.x, place.y];
+        })()`);
+    }
+
+    async put(...points) {
+        for (const point of points) await this.browser.click(...(await this.placeOf(point)));
+    }
+
+    async press(...keys) {
+        for (const key of keys) await this.browser.press(key);
+    }
+
+    /** Clicks into a text area, takes out what it holds, and pastes a text. */
+    async paste(id, text) {
+        await this.browser.clickOn(id);
+        await this.browser.read(`document.getElementById(${JSON.stringify(id)}).select()`);
+        await this.browser.insert(text);
+    }
+
+    async fresh() {
+        await this.browser.clickOn("clear");
+    }
+}
+
+describe("the page", { skip: (!hasChromium && "there is no chromium") || (!isBuilt && "`make wasm` builds what it shows") }, () => {
+    const folder = mkdtempSync(path.join(os.tmpdir(), "page-"));
+    let served;
+    before(async () => {
+        execFileSync("sh", [path.join(HERE, "../build.sh"), folder]);
+        served = await serve(folder);
+    });
+    after(() => {
+        served.server.close();
+        rmSync(folder, { recursive: true });
+    });
+
+    for (const { name, ...size } of SIZES) {
+        describe(name, () => {
+            let browser;
+            let page;
+            before(async () => {
+                browser = await Browser.open(size);
+                page = new Page(browser);
+                await browser.goTo(served.url);
+                await browser.until("document.body?.dataset.ready === 'yes'");
+            });
+            after(() => browser.close());
+
+            test("nothing is drawn at first", () =>
+                page.texts({ version: "i_shape 0.1.0, in WebAssembly", given: "0 points in 0 rings", left: "0 points in 0 rings", removed: "0", area: "0", start: "-", problem: "" }));
+
+            test("a square by clicks, with a straight point", async () => {
+                await page.fresh();
+                await page.put([0, 0], [2, 0], [4, 0], [4, 4], [0, 4]);
+                await page.texts({ given: "5 points in 1 ring", left: "4 points in 1 ring", removed: "1: 1 straight", area: "16", convex: "yes", start: "(0, 0)" });
+                assert.equal(await page.marks("straight"), 1);
+                assert.equal(await page.marks("kept"), 4);
+            });
+
+            test("the numbers at the cursor", async () => {
+                for (const [point, winding, filled] of [
+                    [[1, 1], "1", "by even-odd, non-zero, positive"],
+                    [[5, 1], "0", "by no rule"],
+                ]) {
+                    await browser.move(...(await page.placeOf(point)));
+                    await page.texts({ cursor: `(${point.join(", ")})`, winding, filled });
+                }
+            });
+
+            test("the last point is taken away, by button and by key", async () => {
+                await browser.clickOn("undo");
+                await page.texts({ given: "4 points in 1 ring", removed: "1: 1 straight", area: "8" });
+                await browser.read("document.getElementById('board').focus()");
+                await page.press("Backspace");
+                await page.texts({ given: "3 points in 1 ring", left: "none: it collapses", removed: "3: 1 spike, 2 collapsed", area: "0" });
+            });
+
+            test("each reason, by clicks", async () => {
+                await page.fresh();
+                await page.put([-8, -5], [-2, -5], [2, -5], [8, -5], [8, 0], [11, 0], [8, 0], [8, 5], [8, 5], [0, 5], [-4, 1], [-8, 5], [-8, 2]);
+                await page.texts({
+                    given: "13 points in 1 ring",
+                    left: "6 points in 1 ring",
+                    removed: "7: 4 straight, 1 spike, 2 repeated",
+                    area: "144",
+                    convex: "no",
+                    start: "(-8, -5)",
+                });
+            });
+
+            test("a square and a hole, by keys alone", async () => {
+                await page.fresh();
+                await browser.move(...(await page.placeOf([0, 0])));
+                await browser.read("document.getElementById('board').focus()");
+                const go = (key, times) => Array.from({ length: times }, () => key);
+                await page.press("Enter", ...go("ArrowRight", 6), "Enter", ...go("ArrowUp", 6), " ", ...go("ArrowLeft", 6), "Enter");
+                await page.texts({ given: "4 points in 1 ring", area: "36", cursor: "(0, 6)" });
+                await page.press("n", ...go("ArrowDown", 4), ...go("ArrowRight", 2), "Enter", ...go("ArrowUp", 2), "Enter", ...go("ArrowRight", 2), "Enter");
+                await page.texts({ given: "7 points in 2 rings", left: "7 points in 2 rings", removed: "0", area: "34" });
+                await browser.move(...(await page.placeOf([2, 3])));
+                await page.texts({ winding: "0", filled: "by no rule" });
+                await browser.read("document.getElementById('board').focus()");
+                await page.press("Escape");
+                await page.texts({ given: "0 points in 0 rings" });
+            });
+
+            test("a contour that turns right, twice round", async () => {
+                await page.fresh();
+                await page.paste("text", "0 0 0 4 4 4 4 0 0 0 0 4 4 4 4 0");
+                await browser.clickOn("read");
+                await browser.move(...(await page.placeOf([1, 1])));
+                await page.texts({ given: "8 points in 1 ring", removed: "0", area: "-32", winding: "-2", filled: "by non-zero, negative" });
+            });
+
+            for (const [form, text, wanted] of [
+                ["lines", "0 0 2 0 4 0 4 4 0 4\n1 1 1 2 2 1\n", { given: "8 points in 2 rings", left: "7 points in 2 rings", removed: "1: 1 straight", area: "15.5" }],
+                ["WKT", "POLYGON((0 0, 2 0, 4 0, 4 4, 0 4, 0 0))", { given: "5 points in 1 ring", left: "4 points in 1 ring", removed: "1: 1 straight", area: "16" }],
+                [
+                    "GeoJSON",
+                    JSON.stringify({ type: "Feature", properties: {}, geometry: { type: "Polygon", coordinates: [[[0, 0], [2, 0], [4, 0], [4, 4], [0, 4], [0, 0]]] } }),
+                    { given: "5 points in 1 ring", left: "4 points in 1 ring", removed: "1: 1 straight", area: "16" },
+                ],
+                ["lines far from the grid", "1000 1000 2000 1000 3000 1000 3000 3000", { given: "4 points in 1 ring", left: "3 points in 1 ring", area: "2000000" }],
+            ]) {
+                test(`a text is read: ${form}`, async () => {
+                    await page.paste("text", text);
+                    await browser.clickOn("read");
+                    await page.texts({ ...wanted, problem: "" });
+                });
+            }
+
+            test("what is left is written", async () => {
+                await page.paste("text", "0 0 2 0 4 0 4 4 0 4\n1 1 1 2 2 1");
+                await browser.clickOn("read");
+                await browser.clickOn("write");
+                assert.equal(await browser.read("document.getElementById('text').value"), "0 0 4 0 4 4 0 4\n1 1 1 2 2 1");
+            });
+
+            for (const [wrong, text, problem] of [
+                ["no polygon", "LINESTRING (0 0, 1 1)", "WKT: only POLYGON and MULTIPOLYGON are read"],
+                ["a point that isn't safe", "0 0 1073741824 0 0 4", "point 1 is (1073741824, 0), and not strictly between -2**30 and 2**30, the safe range of 32 bits"],
+                ["a coordinate of more than 32 bits", "0 0 5000000000 0 0 4", "5000000000 has more than 32 bits: take a lesser scale"],
+            ]) {
+                test(`a text isn't read: ${wrong}`, async () => {
+                    await page.paste("text", text);
+                    await browser.clickOn("read");
+                    assert.match(await page.text("problem"), new RegExp(`${problem.replace(/[()*]/g, "\\$&")}$`));
+                });
+            }
+
+            for (const [other, text, verdict] of [
+                ["from another start, with a straight point", "4 4 0 4 0 0 2 0 4 0", "the same polygons"],
+                ["the other way round", "0 4 4 4 4 0 0 0", "the same polygons, but for the way round of a ring"],
+                ["another one", "0 0 4 0 4 5", "other polygons"],
+            ]) {
+                test(`two polygons are compared: ${other}`, async () => {
+                    await page.paste("text", "0 0 4 0 4 4 0 4");
+                    await browser.clickOn("read");
+                    await page.paste("other", text);
+                    await browser.clickOn("compare");
+                    await page.texts({ same: verdict, problem: "" });
+                });
+            }
+
+            // The grids of the pictures in docs/pictures: Corsica on that of 800, and Hvar on that of 3000.
+            test("a coastline on coarser grids, by keys", async () => {
+                await page.texts({ "coast-grid": "800", "coast-given": "149 points", "coast-left": "67 points" });
+                assert.match(await page.text("coast-time"), /^[0-9.e-]+ ms$/);
+                await browser.read("document.getElementById('grid').focus()");
+                await page.press("End");
+                await browser.until("document.getElementById('coast-grid').textContent === '3000'");
+                await browser.read("document.getElementById('island').focus()");
+                await page.press("ArrowDown");
+                await browser.until("document.getElementById('coast-given').textContent === '28 points'");
+                await page.texts({ "coast-grid": "3000", "coast-left": "none: it collapses" });
+            });
+
+            test("nothing stands out of the window, and nothing was thrown", async () => {
+                await browser.clickOn("example");
+                await page.texts({ given: "18 points in 2 rings", left: "10 points in 2 rings" });
+                assert.ok(await browser.read("document.documentElement.scrollWidth <= innerWidth"));
+                await browser.read("scrollTo(0, 0)");
+                if (SCREENSHOTS) await browser.screenshot(path.join(SCREENSHOTS, `${name.replaceAll(" ", "_")}.png`));
+                assert.deepEqual(browser.thrown, []);
+            });
+        });
+    }
+});
