@@ -2,7 +2,7 @@ PREFIX ?= /usr/local
 # Where build.sh of the C library puts what it builds.
 C_OUT := bindings/c/out$(if $(TARGET)$(CPU),/$(TARGET)$(if $(TARGET),$(if $(CPU),-))$(CPU))
 
-.PHONY: test gate check fmt c wasm wheel pictures install install-program install-c clean
+.PHONY: test gate check fmt c wasm page wheel pictures install install-program install-c clean
 
 # The tests of behaviour, without a proof, in minutes. What isn't built is skipped.
 test:
@@ -25,6 +25,11 @@ c:
 # The WebAssembly modules of the package for JavaScript, in bindings/js/out.
 wasm:
 	@bash bindings/js/build.sh
+
+# The page to try the calls on, in examples/page/out: any file server shows it.
+page: wasm
+	@sh examples/page/build.sh
+	@echo 'python3 -m http.server --directory examples/page/out shows it at http://localhost:8000/'
 
 # The wheel of the Python package, in bindings/python/out, by Debian's Python or another PYTHON=.., over the C library or that of the folder I_SHAPE_C_DIR.
 wheel: $(if $(I_SHAPE_C_DIR),,c)
@@ -51,4 +56,4 @@ install-c: c
 	install -m 644 bindings/c/cmake/*.cmake $(C_OUT)/i_shape-config-version.cmake $(DESTDIR)$(PREFIX)/lib/cmake/i_shape
 
 clean:
-	rm -rf crates/*/out bindings/c/out bindings/js/out bindings/python/out bindings/rust/target
+	rm -rf crates/*/out bindings/c/out bindings/js/out bindings/python/out bindings/rust/target examples/page/out
