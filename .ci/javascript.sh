@@ -1,24 +1,25 @@
 #!/usr/bin/env bash
-# Builds the WebAssembly modules and runs the tests of the package for JavaScript by Node: beside the native library, and the tests of C in the module of
-# 32 bits, where there is a C compiler. Of the calls that take no memory the object file is that of the kit's own lowering. The types are checked, where there
-# is a tsc. With the word --if-built it builds nothing: where the modules aren't built, or there is no Node from 20 on, all is skipped. The last line is
-# 'javascript: N passed, M failed', and ', K skipped' behind it where K is above 0.
+# Builds the WebAssembly modules and runs the tests of the package for JavaScript and of examples/page by Node: beside the native library and with the tests
+# of C, where there is a C compiler; in a browser, where there is a chromium. The types are checked, where there is a tsc. Of the calls that take no memory
+# the object file is that of the kit's own lowering. With the word --if-built it builds nothing, and leaves the object file out. Where the modules aren't
+# built then, or there is no Node from 20 on, all is skipped. The last line is 'javascript: N passed, M failed', and ', K skipped' behind it where K is above 0.
 set -u
 cd "$(dirname "$0")/.." || exit 1
 . .ci/count.sh || exit 1
 package=bindings/js
+tests=("$package"/test/*.test.js examples/page/test/*.test.js)
 skipped=0
 
 skip_all() {
     echo "the package for JavaScript is not tested: $1"
-    echo "javascript: 0 passed, 0 failed, $(grep -hoE '\btest\(' $package/test/*.test.js | wc -l) skipped"
+    echo "javascript: 0 passed, 0 failed, $(grep -hoE '\btest\(' "${tests[@]}" | wc -l) skipped"
     exit 0
 }
 
 # Node counts what it has run.
 test_by_node() {
     local status counts
-    node "${flags[@]}" --test --test-reporter=tap $package/test/*.test.js > "$work/log" 2>&1
+    node "${flags[@]}" --test --test-reporter=tap "${tests[@]}" > "$work/log" 2>&1
     status=$?
     counts=$(sed -nE 's/^# (pass|fail|cancelled|skipped) ([0-9]+)$/\2/p' "$work/log" | tr '\n' ' ')
     if ! [[ $counts =~ ^([0-9]+)\ ([0-9]+)\ ([0-9]+)\ ([0-9]+)\ $ ]]; then
