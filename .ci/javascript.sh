@@ -44,6 +44,13 @@ build_answers() {
     done
 }
 
+# The steps that retarget stop at what they don't know.
+test_steps() {
+    python3 $package/test/test_retarget.py > "$work/log" || cat "$work/log"
+    passed=$((passed + $(sed -nE 's/^.*: ([0-9]+) passed, .*$/\1/p' "$work/log") + 0))
+    failed=$((failed + $(sed -nE 's/^.*, ([0-9]+) failed$/\1/p' "$work/log") + 0))
+}
+
 test_types() {
     if ! tsc --version > /dev/null 2>&1; then
         echo 'the types are not tested: there is no tsc'
@@ -79,6 +86,7 @@ if command -v "${CC:-cc}" > /dev/null; then
 fi
 test_by_node
 test_types
+test_steps
 if [ "${1-}" != --if-built ]; then
     sh $package/wasm/same_object.sh "$PWD"
     count $? "the object file of the kit's own lowering"

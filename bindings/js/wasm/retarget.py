@@ -19,11 +19,28 @@ TRIPLE = 'target triple = "wasm64-unknown-unknown"'
 
 # What a module may declare: the allocator, and operations of LLVM that mean the same on each processor.
 KNOWN_DECLARATION = re.compile(
-    r"@(rattle_(alloc|realloc|dealloc)"
+    r"declare [^@]*@(rattle_(alloc|realloc|dealloc)"
     r"|llvm\.(memset\.p0\.i64|memmove\.p0\.p0\.i64|memcpy\.p0\.p0\.i64|trap|assume"
-    r"|(ctlz|cttz|ctpop|bswap|bitreverse|fshl|fshr|abs|[us](min|max|(add|sub)\.sat)|[us](add|sub|mul)\.with\.overflow)\.i\d+))\("
+    r"|(ctlz|cttz|ctpop|bswap|bitreverse|fshl|fshr|abs|[us](min|max|(add|sub)\.sat)|[us](add|sub|mul)\.with\.overflow)\.i\d+))\(.*\) #\d+"
 )
-UNKNOWN = re.compile(r"llvm\.x86\.|(?<!inline-)\basm\b|x86_fp80|\bphi\b|inalloca|\bthread_local\b|\bindirectbr\b|\binvoke\b")
+# What may stand outside of functions: comments, bytes that don't change, metadata, and groups of attributes.
+KNOWN_LINE = re.compile(
+    r"""|;.*|source_filename\ =\ "rattle"|target\ (datalayout|triple)\ =\ ".*"
+    |@static\.\d+\ =\ private\ unnamed_addr\ constant\ \[\d+\ x\ i8\]\ (zeroinitializer|c".*"),\ align\ \d+
+    |!llvm\.ident\ =\ !\{!\d+\}|!\d+\ =\ !\{[^@]*\}
+    |attributes\ \#\d+\ =\ \{\ ((alwaysinline|cold|nobuiltin|nocallback|nofree|noinline|noreturn|nosync|nounwind|speculatable|willreturn
+        |memory\((none|(argmem|inaccessiblemem):\ (read|write|readwrite))\))\ )*
+        ("probe-stack"="inline-asm"\ "stack-probe-size"="\d+"\ "target-cpu"="x86-64(-v\d)?"\ )?\}""",
+    re.X,
+)
+LABEL = re.compile(r"[\w.]+:( *;.*)?")
+NAME_OR_NUMBER = re.compile(r'[%@]"[^"]*"|[%@!#][\w.$]+|-?\b\d+\b')
+# The words of functions, but for names and numbers. They mean the same on each processor of 64 bits.
+KNOWN_WORDS = set(
+    """align alloca add and ashr br call define eq exact extractvalue false getelementptr i1 i8 i16 i32 i64 i128 icmp inbounds insertvalue internal label load
+    lshr mul ne noundef nsw null nuw or poison ptr ptrtoaddr range ret sdiv select sext sge sgt shl signext sle slt srem store sub switch to true trunc udiv uge
+    ugt ule ult undef unreachable urem void x xor zeroext zeroinitializer zext""".split()
+)
 FUNCTION_HEAD = re.compile(r'define (?P<internal>internal )?(?P<result>.*?)@(?P<name>"[^"]*"|[\w.$]+)\((?P<parameters>.*)\) #(?P<attributes>\d+) \{')
 BLOCK_END = re.compile(r"\s+(br|ret|switch|unreachable)\b")
 ATTRIBUTE = re.compile(r"\b(noundef|zeroext|signext|nonnull|noalias|range\(.*?\)|dereferenceable\(\d+\)|align \d+)\b ?")
@@ -80,11 +97,19 @@ def stop(why: str) -> NoReturn:
 
 
 def stop_at_the_unknown(text: str) -> None:
-    if found := UNKNOWN.search(text):
-        stop(f"it is not known on wasm64: {found[0]}")
-    for line in re.findall(r"^declare .*", text, re.M):
-        if not KNOWN_DECLARATION.search(line):
+    is_in_body = False
+    for line in text.split("\n"):
+        if line.startswith("define "):
+            is_in_body = True
+        if is_in_body:
+            words = set(re.findall(r"[A-Za-z_][\w.]*", NAME_OR_NUMBER.sub(" ", line)))
+            is_known = words <= KNOWN_WORDS or LABEL.fullmatch(line)
+        else:
+            is_known = KNOWN_LINE.fullmatch(line) or KNOWN_DECLARATION.fullmatch(line)
+        if not is_known:
             stop(f"it is not known to mean the same on wasm64: {line}")
+        if line == "}":
+            is_in_body = False
 
 
 def with_target(text: str) -> str:
@@ -101,8 +126,6 @@ def processor_attributes(text: str) -> dict[str, str]:
     for number, words in re.findall(r"^attributes #(\d+) = \{ (.*) \}$", text, re.M):
         if '"target-cpu"' not in words:
             continue
-        if re.search(r'"target-features"|"tune-cpu"', words):
-            stop(f"attributes of another processor: {words}")
         words = re.sub(r'"target-cpu"="[\w-]+"', '"target-cpu"="lime1"', words)
         groups[number] = words.replace('"probe-stack"', NO_BUILTINS + '"probe-stack"', 1)
     return groups
