@@ -10,23 +10,29 @@ export function element(name, attributes) {
 
 /** The `d` of a path through rings, each closed. */
 export function pathOf(rings) {
-    return rings.filter((ring) => ring.length > 0).map((ring) => `${ring.map(([x, y], k) => `${k ? "L" : "M"}${x} ${-y}`).join("")}Z`).join("");
+    const steps = (ring) => ring.map(([x, y], k) => `${k ? "L" : "M"}${x} ${-y}`).join("");
+    return rings.filter((ring) => ring.length > 0).map((ring) => `${steps(ring)}Z`).join("");
 }
 
 const DRAWN = { minX: -12, minY: -8, maxX: 12, maxY: 8, step: 1 };
 const MOST_LINES = 25;
 
-/** What the board shows: all of the polygons, on a grid with a step of a power of ten; where they are small, the grid that is drawn upon. */
+/** What the board shows: all polygons, on a grid with a step of a power of ten; where they are small, the grid that is drawn upon. */
 export function frameOf(polygons) {
     const points = polygons.flat(2);
     const isSmall = points.every(([x, y]) => Math.abs(x) <= DRAWN.maxX && Math.abs(y) <= DRAWN.maxY);
     if (isSmall) return DRAWN;
-    const [xs, ys] = [0, 1].map((axis) => points.reduce(([least, most], point) => [Math.min(least, point[axis]), Math.max(most, point[axis])], [Infinity, -Infinity]));
-    const size = Math.max(xs[1] - xs[0], ys[1] - ys[0], 1);
+    const [left, right, bottom, top] = [extreme(points, 0, Math.min), extreme(points, 0, Math.max), extreme(points, 1, Math.min), extreme(points, 1, Math.max)];
+    const size = Math.max(right - left, top - bottom, 1);
     const step = 10 ** Math.ceil(Math.log10(size / MOST_LINES));
     const down = (value) => Math.floor(value / step - 1) * step;
     const up = (value) => Math.ceil(value / step + 1) * step;
-    return { minX: down(xs[0]), minY: down(ys[0]), maxX: up(xs[1]), maxY: up(ys[1]), step };
+    return { minX: down(left), minY: down(bottom), maxX: up(right), maxY: up(top), step };
+}
+
+/** The least or the greatest coordinate of points on an axis. */
+function extreme(points, axis, of) {
+    return points.reduce((found, point) => of(found, point[axis]), points[0][axis]);
 }
 
 /** The lines of a frame, and the viewBox that shows it. */

@@ -1,6 +1,6 @@
 /**
- * Polygons read from text: the lines of i_shape_tool, GeoJSON or WKT. A polygon is an array of rings, a ring an array of points [x, y], without the first point again at
- * its end.
+ * Polygons read from text: the lines of i_shape_tool, GeoJSON or WKT. A polygon is an array of rings, a ring an array of points [x, y], without the
+ * first point again at its end.
  */
 
 /** Answers the polygons of a text, whichever form it has. Throws a SyntaxError that says what is wrong. */

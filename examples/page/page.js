@@ -3,7 +3,7 @@ import { drawFrame, element, frameOf, mark, pathOf } from "./board.js";
 import { startCoast } from "./coast.js";
 import { readPolygons, scaled } from "./formats.js";
 import { load, supportsMemory64 } from "./i_shape/src/i_shape.js";
-import { areEqual, checkRange, flat, ringsOf } from "./polygons.js";
+import { areEqual, checkRange, flat, polygonsOf, ringsOf } from "./polygons.js";
 import { reasonsOf } from "./reasons.js";
 
 // A square with straight points, a spike, a point that comes twice and a bend to the right; and a hole.
@@ -60,7 +60,8 @@ function showNumbers(rings, removed, canonical) {
     const gone = Object.entries(removed).filter(([, those]) => those.length > 0);
     const count = gone.reduce((sum, [, those]) => sum + those.length, 0);
     say("given", `${counted(points.length, "point")} in ${counted(rings.filter((ring) => ring.length > 0).length, "ring")}`);
-    say("left", points.length > 0 && leftPoints.length === 0 ? "none: it collapses" : `${counted(leftPoints.length, "point")} in ${counted(left.flat().length, "ring")}`);
+    const isGone = points.length > 0 && leftPoints.length === 0;
+    say("left", isGone ? "none: it collapses" : `${counted(leftPoints.length, "point")} in ${counted(left.flat().length, "ring")}`);
     say("removed", `${count}${count ? ": " : ""}${gone.map(([reason, those]) => `${those.length} ${reason}`).join(", ")}`);
     say("area", areaOf(rings));
     say("convex", rings[0]?.length ? (shapes.isConvex(Int32Array.from(rings[0].flat())) ? "yes" : "no") : "-");
@@ -89,8 +90,7 @@ function show() {
         const cleaned = shapes.simplifyPolygons(points, ringOffsets, polygonOffsets);
         const canonical = shapes.canonicalPolygons(points, ringOffsets, polygonOffsets);
         const removed = removedPoints(rings, ringsOf(simplified.points, simplified.offsets));
-        const leftRings = ringsOf(cleaned.points, cleaned.ringOffsets);
-        left = Array.from({ length: cleaned.polygonOffsets.length - 1 }, (_, k) => leftRings.slice(cleaned.polygonOffsets[k], cleaned.polygonOffsets[k + 1]));
+        left = polygonsOf(cleaned);
         draw(rings, removed, canonical);
         showNumbers(rings, removed, canonical);
         showCursor();

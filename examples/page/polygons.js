@@ -21,6 +21,12 @@ export function ringsOf(points, offsets) {
     return Array.from({ length: offsets.length - 1 }, (_, k) => pointsOf(points.subarray(2 * offsets[k], 2 * offsets[k + 1])));
 }
 
+/** Answers the polygons of an answer. */
+export function polygonsOf({ points, ringOffsets, polygonOffsets }) {
+    const rings = ringsOf(points, ringOffsets);
+    return Array.from({ length: polygonOffsets.length - 1 }, (_, k) => rings.slice(polygonOffsets[k], polygonOffsets[k + 1]));
+}
+
 function pointsOf(coordinates) {
     return Array.from({ length: coordinates.length / 2 }, (_, k) => [coordinates[2 * k], coordinates[2 * k + 1]]);
 }

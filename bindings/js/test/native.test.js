@@ -106,8 +106,8 @@ function answers(shapes, contours, { bits, Points, number }) {
         tell(name, left.points);
         tellOffsets(left.offsets);
     }
-    for (const [name, call] of [["simplify", "simplify"], ["despike", "despike"], ["canonical", "canonical"], ["canonical unoriented", "canonicalUnoriented"]]) {
-        const left = shapes[`${call}Polygons`](all, offsets, polygons);
+    for (const name of ["simplify", "despike", "canonical", "canonicalUnoriented"]) {
+        const left = shapes[`${name}Polygons`](all, offsets, polygons);
         tell(name, left.points);
         tellOffsets(left.ringOffsets);
         tellOffsets(left.polygonOffsets);
@@ -117,7 +117,8 @@ function answers(shapes, contours, { bits, Points, number }) {
 }
 
 describeWidths((shapes, width) => {
-    test(`${COUNT} random contours, and coastlines, as the native library answers`, { skip: !PROGRAMS && "there is no program of the native library" }, () => {
+    const skip = !PROGRAMS && "there is no program of the native library";
+    test(`${COUNT} random contours, and coastlines, as the native library answers`, { skip }, () => {
         const { contours, native } = askedAt(width.bits);
         const own = [...answers(shapes, contours, width), ""];
         const place = own.findIndex((line, k) => line !== native[k]);

@@ -39,4 +39,4 @@ else
     "$toolchain/bin/ld.lld" -flavor wasm -mwasm32 --no-entry --stack-first -z stack-size=1048576 --export=__heap_base --gc-sections \
         --fatal-warnings --threads=1 -o "$work/module.wasm" "$work/helpers.o" --whole-archive "$@"
 fi
-mv "$work/module.wasm" "$module"
+install -m 644 "$work/module.wasm" "$module"

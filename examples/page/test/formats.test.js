@@ -16,10 +16,17 @@ describe("what is read", () => {
         ["a WKT multipolygon", "MULTIPOLYGON(((0 0,4 0,0 4,0 0)),((1 1,1 2,2 1,1 1)))", [[TRIANGLE], [HOLE]]],
         ["an empty WKT polygon", "polygon empty", []],
         ["a GeoJSON polygon", JSON.stringify({ type: "Polygon", coordinates: [[...TRIANGLE, [0, 0]], [...HOLE, [1, 1]]] }), [[TRIANGLE, HOLE]]],
-        ["a GeoJSON multipolygon", JSON.stringify({ type: "MultiPolygon", coordinates: [[[...TRIANGLE, [0, 0]]], [[...HOLE, [1, 1]]]] }), [[TRIANGLE], [HOLE]]],
+        [
+            "a GeoJSON multipolygon",
+            JSON.stringify({ type: "MultiPolygon", coordinates: [[[...TRIANGLE, [0, 0]]], [[...HOLE, [1, 1]]]] }),
+            [[TRIANGLE], [HOLE]],
+        ],
         [
             "GeoJSON features, with heights",
-            JSON.stringify({ type: "FeatureCollection", features: [{ type: "Feature", geometry: { type: "Polygon", coordinates: [[[0, 0, 7], [4, 0, 7], [0, 4, 7], [0, 0, 7]]] } }] }),
+            JSON.stringify({
+                type: "FeatureCollection",
+                features: [{ type: "Feature", geometry: { type: "Polygon", coordinates: [[[0, 0, 7], [4, 0, 7], [0, 4, 7], [0, 0, 7]]] } }],
+            }),
             [[TRIANGLE]],
         ],
     ]) {

@@ -1,6 +1,6 @@
 /**
- * The page in Debian's Chromium, by clicks and keys. Without chromium, or where the modules aren't built, it is skipped. I_SHAPE_SCREENSHOTS names a folder to
- * leave screenshots in.
+ * The page in Debian's Chromium, by clicks and keys. Without chromium, or where the modules aren't built, it is skipped. I_SHAPE_SCREENSHOTS names a
+ * folder to leave screenshots in.
  */
 import assert from "node:assert/strict";
 import { execFileSync } from "node:child_process";
@@ -14,6 +14,8 @@ import { Browser, hasChromium, serve } from "../../../bindings/js/test/support/c
 const HERE = path.dirname(fileURLToPath(import.meta.url));
 const SCREENSHOTS = process.env.I_SHAPE_SCREENSHOTS;
 const isBuilt = existsSync(path.join(HERE, "../../../bindings/js/out/i_shape32.wasm"));
+// The numbers of a square of 4 by 4 with a straight point.
+const SQUARE_NUMBERS = { given: "5 points in 1 ring", left: "4 points in 1 ring", removed: "1: 1 straight", area: "16" };
 const SIZES = [
     { name: "a wide window", width: 1100, height: 800 },
     { name: "a small window in the dark", width: 390, height: 780, isDark: true },
@@ -92,12 +94,20 @@ describe("the page", { skip: (!hasChromium && "there is no chromium") || (!isBui
             after(() => browser.close());
 
             test("nothing is drawn at first", () =>
-                page.texts({ version: "i_shape 0.1.0, in WebAssembly", given: "0 points in 0 rings", left: "0 points in 0 rings", removed: "0", area: "0", start: "-", problem: "" }));
+                page.texts({
+                    version: "i_shape 0.1.0, in WebAssembly",
+                    given: "0 points in 0 rings",
+                    left: "0 points in 0 rings",
+                    removed: "0",
+                    area: "0",
+                    start: "-",
+                    problem: "",
+                }));
 
             test("a square by clicks, with a straight point", async () => {
                 await page.fresh();
                 await page.put([0, 0], [2, 0], [4, 0], [4, 4], [0, 4]);
-                await page.texts({ given: "5 points in 1 ring", left: "4 points in 1 ring", removed: "1: 1 straight", area: "16", convex: "yes", start: "(0, 0)" });
+                await page.texts({ ...SQUARE_NUMBERS, convex: "yes", start: "(0, 0)" });
                 assert.equal(await page.marks("straight"), 1);
                 assert.equal(await page.marks("kept"), 4);
             });
@@ -140,7 +150,8 @@ describe("the page", { skip: (!hasChromium && "there is no chromium") || (!isBui
                 const go = (key, times) => Array.from({ length: times }, () => key);
                 await page.press("Enter", ...go("ArrowRight", 6), "Enter", ...go("ArrowUp", 6), " ", ...go("ArrowLeft", 6), "Enter");
                 await page.texts({ given: "4 points in 1 ring", area: "36", cursor: "(0, 6)" });
-                await page.press("n", ...go("ArrowDown", 4), ...go("ArrowRight", 2), "Enter", ...go("ArrowUp", 2), "Enter", ...go("ArrowRight", 2), "Enter");
+                await page.press("n", ...go("ArrowDown", 4), ...go("ArrowRight", 2), "Enter");
+                await page.press(...go("ArrowUp", 2), "Enter", ...go("ArrowRight", 2), "Enter");
                 await page.texts({ given: "7 points in 2 rings", left: "7 points in 2 rings", removed: "0", area: "34" });
                 await browser.move(...(await page.placeOf([2, 3])));
                 await page.texts({ winding: "0", filled: "by no rule" });
@@ -158,14 +169,10 @@ describe("the page", { skip: (!hasChromium && "there is no chromium") || (!isBui
             });
 
             for (const [form, text, wanted] of [
-                ["lines", "0 0 2 0 4 0 4 4 0 4\n1 1 1 2 2 1\n", { given: "8 points in 2 rings", left: "7 points in 2 rings", removed: "1: 1 straight", area: "15.5" }],
-                ["WKT", "POLYGON((0 0, 2 0, 4 0, 4 4, 0 4, 0 0))", { given: "5 points in 1 ring", left: "4 points in 1 ring", removed: "1: 1 straight", area: "16" }],
-                [
-                    "GeoJSON",
-                    JSON.stringify({ type: "Feature", properties: {}, geometry: { type: "Polygon", coordinates: [[[0, 0], [2, 0], [4, 0], [4, 4], [0, 4], [0, 0]]] } }),
-                    { given: "5 points in 1 ring", left: "4 points in 1 ring", removed: "1: 1 straight", area: "16" },
-                ],
-                ["lines far from the grid", "1000 1000 2000 1000 3000 1000 3000 3000", { given: "4 points in 1 ring", left: "3 points in 1 ring", area: "2000000" }],
+                ["lines", "0 0 2 0 4 0 4 4 0 4\n1 1 1 2 2 1\n", { given: "8 points in 2 rings", left: "7 points in 2 rings", area: "15.5" }],
+                ["WKT", "POLYGON((0 0, 2 0, 4 0, 4 4, 0 4, 0 0))", SQUARE_NUMBERS],
+                ["GeoJSON", JSON.stringify({ type: "Polygon", coordinates: [[[0, 0], [2, 0], [4, 0], [4, 4], [0, 4], [0, 0]]] }), SQUARE_NUMBERS],
+                ["lines far away", "1000 1000 2000 1000 3000 1000 3000 3000", { given: "4 points in 1 ring", left: "3 points in 1 ring", area: "2000000" }],
             ]) {
                 test(`a text is read: ${form}`, async () => {
                     await page.paste("text", text);
@@ -183,7 +190,11 @@ describe("the page", { skip: (!hasChromium && "there is no chromium") || (!isBui
 
             for (const [wrong, text, problem] of [
                 ["no polygon", "LINESTRING (0 0, 1 1)", "WKT: only POLYGON and MULTIPOLYGON are read"],
-                ["a point that isn't safe", "0 0 1073741824 0 0 4", "point 1 is (1073741824, 0), and not strictly between -2**30 and 2**30, the safe range of 32 bits"],
+                [
+                    "a point that isn't safe",
+                    "0 0 1073741824 0 0 4",
+                    "point 1 is (1073741824, 0), and not strictly between -2**30 and 2**30, the safe range of 32 bits",
+                ],
                 ["a coordinate of more than 32 bits", "0 0 5000000000 0 0 4", "5000000000 has more than 32 bits: take a lesser scale"],
             ]) {
                 test(`a text isn't read: ${wrong}`, async () => {

@@ -3,6 +3,8 @@ import { test } from "node:test";
 import { reasonsOf } from "../reasons.js";
 
 const SQUARE = [[0, 0], [4, 0], [4, 4], [0, 4]];
+// The way bends at its second point by 1 in 2^58.
+const GREAT = [[0, 0], [2 ** 29, 2 ** 29 - 1], [2 ** 30 - 1, 2 ** 30 - 3], [0, 3]];
 
 for (const [name, given, left, reasons] of [
     ["nothing to remove", SQUARE, SQUARE, {}],
@@ -13,7 +15,7 @@ for (const [name, given, left, reasons] of [
     ["a contour on a line", [[0, 0], [8, 0], [3, 0]], [], { 0: "spike", 1: "collapsed", 2: "collapsed" }],
     ["one point", [[1, 1]], [], { 0: "collapsed" }],
     ["no point", [], [], {}],
-    ["coordinates whose products need more than 53 bits", [[0, 0], [2 ** 29, 1], [2 ** 30 - 2, 2], [0, 3]], [[0, 0], [2 ** 29, 1], [2 ** 30 - 2, 2], [0, 3]], {}],
+    ["a turn that needs more than 53 bits", GREAT, GREAT, {}],
 ]) {
     test(name, () => assert.deepEqual(Object.fromEntries(reasonsOf(given, left)), reasons));
 }

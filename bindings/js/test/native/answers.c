@@ -111,7 +111,7 @@ int main(void) {
     answer_polygons("simplify", CALL(simplify_shapes));
     answer_polygons("despike", CALL(despike_shapes));
     answer_polygons("canonical", CALL(canonical_shapes));
-    answer_polygons("canonical unoriented", CALL(canonical_unoriented_shapes));
+    answer_polygons("canonicalUnoriented", CALL(canonical_unoriented_shapes));
     answer_windings();
     return 0;
 }

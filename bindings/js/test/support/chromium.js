@@ -59,7 +59,8 @@ export class Browser {
 
     #start() {
         const words = ["--headless=new", "--no-sandbox", "--disable-gpu", "--disable-dev-shm-usage", "--no-first-run", "--remote-debugging-pipe"];
-        this.#process = spawn("chromium", [...words, `--user-data-dir=${this.#home}`, "about:blank"], { stdio: ["ignore", "ignore", "ignore", "pipe", "pipe"] });
+        const stdio = ["ignore", "ignore", "ignore", "pipe", "pipe"];
+        this.#process = spawn("chromium", [...words, `--user-data-dir=${this.#home}`, "about:blank"], { stdio });
         this.#process.stdio[4].on("data", (data) => this.#hear(data));
     }
 
