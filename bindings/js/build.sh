@@ -20,6 +20,10 @@ fi
 if is_built; then
     exit
 fi
+if ! command -v rt > /dev/null; then
+    echo 'make wasm: the modules are built by the Rattle kit, and there is no rt of it on the path. Once they are built, bindings/js serves without it' >&2
+    exit 1
+fi
 bash "$top/bindings/c/build.sh"
 work=$(mktemp -d)
 trap 'rm -rf "$work"' EXIT

@@ -84,19 +84,14 @@ function draw(rings, removed, canonical) {
 function show() {
     const rings = polygons.flat();
     const { points, ringOffsets, polygonOffsets } = flat(polygons);
+    const simplified = shapes.simplifyRings(points, ringOffsets);
+    const canonical = shapes.canonicalPolygons(points, ringOffsets, polygonOffsets);
+    const removed = removedPoints(rings, ringsOf(simplified.points, simplified.offsets));
+    left = polygonsOf(shapes.simplifyPolygons(points, ringOffsets, polygonOffsets));
+    draw(rings, removed, canonical);
+    showNumbers(rings, removed, canonical);
+    showCursor();
     say("problem", "");
-    try {
-        const simplified = shapes.simplifyRings(points, ringOffsets);
-        const cleaned = shapes.simplifyPolygons(points, ringOffsets, polygonOffsets);
-        const canonical = shapes.canonicalPolygons(points, ringOffsets, polygonOffsets);
-        const removed = removedPoints(rings, ringsOf(simplified.points, simplified.offsets));
-        left = polygonsOf(cleaned);
-        draw(rings, removed, canonical);
-        showNumbers(rings, removed, canonical);
-        showCursor();
-    } catch (error) {
-        say("problem", error.message);
-    }
 }
 
 function showCursor() {
@@ -152,11 +147,15 @@ function clear() {
     show();
 }
 
-/** Answers the polygons of a text area, in whole numbers of 32 bits. */
+/** Answers the polygons of a text area, in safe whole numbers of 32 bits. */
 function polygonsIn(id) {
-    const read = scaled(readPolygons(byId(id).value), Number(byId("scale").value));
-    checkRange(read);
-    return read;
+    const scale = Number(byId("scale").value);
+    if (!(scale > 0)) throw new RangeError("the scale is no number above 0");
+    const found = scaled(readPolygons(byId(id).value), scale);
+    checkRange(found);
+    const { points, ringOffsets } = flat(found);
+    shapes.simplifyRings(points, ringOffsets); // it names a point that isn't safe
+    return found;
 }
 
 /** Does what a button says, and tells where it fails. */

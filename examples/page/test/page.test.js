@@ -201,6 +201,10 @@ describe("the page", { skip: (!hasChromium && "there is no chromium") || (!isBui
                     await page.paste("text", text);
                     await browser.clickOn("read");
                     assert.match(await page.text("problem"), new RegExp(`${problem.replace(/[()*]/g, "\\$&")}$`));
+                    await page.texts({ given: "8 points in 2 rings", left: "7 points in 2 rings" });
+                    await page.put([-5, -5]);
+                    await page.texts({ given: "9 points in 2 rings", problem: "" });
+                    await browser.clickOn("undo");
                 });
             }
 

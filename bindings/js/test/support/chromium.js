@@ -62,6 +62,9 @@ export class Browser {
         const stdio = ["ignore", "ignore", "ignore", "pipe", "pipe"];
         this.#process = spawn("chromium", [...words, `--user-data-dir=${this.#home}`, "about:blank"], { stdio });
         this.#process.stdio[4].on("data", (data) => this.#hear(data));
+        this.#process.once("exit", () => {
+            for (const { fail } of this.#waiting.values()) fail(new Error("chromium has ended"));
+        });
     }
 
     #hear(data) {
@@ -69,20 +72,24 @@ export class Browser {
         this.#unread = parts.pop();
         for (const message of parts.map((part) => JSON.parse(part))) {
             if (message.id) {
-                this.#waiting.get(message.id)(message);
-                this.#waiting.delete(message.id);
+                this.#answer(message);
             } else if (message.method === "Runtime.exceptionThrown") {
                 this.thrown.push(message.params.exceptionDetails.exception?.description ?? message.params.exceptionDetails.text);
             }
         }
     }
 
+    #answer({ id, error, result }) {
+        const { method, done, fail } = this.#waiting.get(id);
+        this.#waiting.delete(id);
+        if (error) fail(new Error(`${method}: ${error.message}`));
+        else done(result);
+    }
+
     send(method, params = {}) {
         const id = this.#next++;
         this.#process.stdio[3].write(`${JSON.stringify({ id, method, params, sessionId: this.#session })}\0`);
-        return new Promise((done, fail) => {
-            this.#waiting.set(id, ({ error, result }) => (error ? fail(new Error(`${method}: ${error.message}`)) : done(result)));
-        });
+        return new Promise((done, fail) => this.#waiting.set(id, { method, done, fail }));
     }
 
     async goTo(url) {
