@@ -9,7 +9,7 @@ top=$(cd "$here/../.." && pwd)
 out=$here/out
 
 is_built() {
-    [ -e "$out/i_shape32.wasm" ] && bash "$top/bindings/c/build.sh" --is-built &&
+    [ -e "$out/i_shape64.wasm" ] && [ -e "$out/i_shape32.wasm" ] && bash "$top/bindings/c/build.sh" --is-built &&
         [ -z "$(find "$here/build.sh" "$here/wasm" "$top/crates/i_shape_c/out/libi_shape_c.a" -type f -newer "$out/i_shape32.wasm" -print -quit)" ]
 }
 

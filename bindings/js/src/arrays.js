@@ -29,12 +29,17 @@ export function checkCoordinate(coordinate, { bits }) {
     }
 }
 
+/** Answers an offset as a number that is exact. */
+function asOffset(offset, name) {
+    if (typeof offset !== "bigint" && !Number.isInteger(offset)) throw new TypeError(`${name} have ${String(offset)}, and no whole number`);
+    if (offset < 0 || offset > Number.MAX_SAFE_INTEGER) throw new OffsetsError(`${name} have ${offset}: there are not so many items`);
+    return Number(offset);
+}
+
 /** Answers the offsets as numbers that are exact. Whether they are in order is left to the library. */
 export function asOffsets(offsets, name = "offsets") {
     if (typeof offsets !== "object" || !Number.isInteger(offsets?.length)) throw new TypeError(`${name} are no array`);
-    return Float64Array.from(offsets, (offset) => {
-        if (typeof offset !== "bigint" && !Number.isInteger(offset)) throw new TypeError(`${name} have ${String(offset)}, and no whole number`);
-        if (offset < 0 || offset > Number.MAX_SAFE_INTEGER) throw new OffsetsError(`${name} have ${offset}: there are not so many items`);
-        return Number(offset);
-    });
+    const numbers = new Float64Array(offsets.length);
+    for (let k = 0; k < numbers.length; k++) numbers[k] = asOffset(offsets[k], name);
+    return numbers;
 }

@@ -41,10 +41,10 @@ class Loan {
     copyWide(numbers) {
         const address = this.take(8 * numbers.length);
         const halves = this.#view(Uint32Array, address, 2 * numbers.length);
-        numbers.forEach((number, k) => {
-            halves[2 * k] = number; // modulo 2^32
-            halves[2 * k + 1] = Math.floor(number / 2 ** 32);
-        });
+        for (let k = 0; k < numbers.length; k++) {
+            halves[2 * k] = numbers[k]; // modulo 2^32
+            halves[2 * k + 1] = Math.floor(numbers[k] / 2 ** 32);
+        }
         return address;
     }
 
