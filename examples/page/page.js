@@ -24,7 +24,8 @@ const say = (id, text) => {
 };
 const board = byId("board");
 
-const shapes = await load(fetch(`i_shape/out/i_shape${supportsMemory64() ? 64 : 32}.wasm`));
+const bits = supportsMemory64() ? 64 : 32;
+const shapes = await load(fetch(`i_shape/out/i_shape${bits}.wasm`));
 let polygons = [[[]]];
 let cursor = [0, 0];
 let left = [];
@@ -230,7 +231,7 @@ const actions = {
 };
 for (const [id, action] of Object.entries(actions)) byId(id).addEventListener("click", () => attempt(action));
 
-say("version", `i_shape ${shapes.version}, in WebAssembly`);
+say("version", `i_shape ${shapes.version}, in WebAssembly with ${bits} bits of memory`);
 show();
 await startCoast(shapes, byId);
 document.body.dataset.ready = "yes";

@@ -16,9 +16,10 @@ const SCREENSHOTS = process.env.I_SHAPE_SCREENSHOTS;
 const isBuilt = existsSync(path.join(HERE, "../../../bindings/js/out/i_shape32.wasm"));
 // The numbers of a square of 4 by 4 with a straight point.
 const SQUARE_NUMBERS = { given: "5 points in 1 ring", left: "4 points in 1 ring", removed: "1: 1 straight", area: "16" };
-const SIZES = [
-    { name: "a wide window", width: 1100, height: 800 },
-    { name: "a small window in the dark", width: 390, height: 780, isDark: true },
+const BROWSERS = [
+    { name: "a wide window", bits: 64, width: 1100, height: 800 },
+    { name: "a small window in the dark", bits: 64, width: 390, height: 780, isDark: true },
+    { name: "a browser without 64 bits of memory", bits: 32, width: 1100, height: 800, before: "WebAssembly.validate = () => false" },
 ];
 
 /** What a test does on the page, and reads off it. */
@@ -81,12 +82,12 @@ describe("the page", { skip: (!hasChromium && "there is no chromium") || (!isBui
         rmSync(folder, { recursive: true });
     });
 
-    for (const { name, ...size } of SIZES) {
+    for (const { name, bits, ...kind } of BROWSERS) {
         describe(name, () => {
             let browser;
             let page;
             before(async () => {
-                browser = await Browser.open(size);
+                browser = await Browser.open(kind);
                 page = new Page(browser);
                 await browser.goTo(served.url);
                 await browser.until("document.body?.dataset.ready === 'yes'");
@@ -95,7 +96,7 @@ describe("the page", { skip: (!hasChromium && "there is no chromium") || (!isBui
 
             test("nothing is drawn at first", () =>
                 page.texts({
-                    version: "i_shape 0.1.0, in WebAssembly",
+                    version: `i_shape 0.1.0, in WebAssembly with ${bits} bits of memory`,
                     given: "0 points in 0 rings",
                     left: "0 points in 0 rings",
                     removed: "0",

@@ -44,7 +44,8 @@ export class Browser {
     /** What the page has thrown and not caught. */
     thrown = [];
 
-    static async open({ width = 1100, height = 800, isDark = false } = {}) {
+    /** Opens a window of a size. The text `before` runs in each page before its own scripts. */
+    static async open({ width = 1100, height = 800, isDark = false, before } = {}) {
         const browser = new Browser();
         browser.#start();
         const { targetInfos } = await browser.send("Target.getTargets");
@@ -54,6 +55,7 @@ export class Browser {
         await browser.send("Page.enable");
         await browser.resize(width, height);
         await browser.send("Emulation.setEmulatedMedia", { features: [{ name: "prefers-color-scheme", value: isDark ? "dark" : "light" }] });
+        if (before) await browser.send("Page.addScriptToEvaluateOnNewDocument", { source: before });
         return browser;
     }
 
