@@ -1,7 +1,7 @@
 use crate::given::{FLAT, SPIKED, SQUARE, contour, safe};
 use crate::told::{told, told_unrefused};
 use i_shape::int::IntPoint;
-use i_shape::int::despike::DeSpikeContour;
+use i_shape::int::despike::{ContourDeSpiker, DeSpikeContour};
 use i_shape::int::simple::{ContourSimplifier, SimpleContour};
 use std::test::Fail;
 
@@ -78,6 +78,26 @@ fn despiked_counted(rt: HostRuntime) -> Result<(), Fail> {
     };
     let result = given.despiked_counted(alloc);
     if let Some((kept, _visits)) = told(&rt, "DeSpikeContour::despiked_counted", result)? {
+        assert!(rt; kept.ok_or("it collapsed")?.as_slice() == SQUARE.as_slice());
+    }
+    Ok(())
+}
+
+#[test]
+fn despike_contour(rt: HostRuntime) -> Result<(), Fail> {
+    let points = safe(&rt, SPIKED.as_slice());
+    let result = ContourDeSpiker::new(rt.alloc()).despike_contour(points);
+    if let Some(kept) = told(&rt, "ContourDeSpiker::despike_contour", result)? {
+        assert!(rt; kept.ok_or("it collapsed")?.as_slice() == SQUARE.as_slice());
+    }
+    Ok(())
+}
+
+#[test]
+fn despike_counted(rt: HostRuntime) -> Result<(), Fail> {
+    let points = safe(&rt, SPIKED.as_slice());
+    let result = ContourDeSpiker::new(rt.alloc()).despike_counted(points);
+    if let Some((kept, _visits)) = told(&rt, "ContourDeSpiker::despike_counted", result)? {
         assert!(rt; kept.ok_or("it collapsed")?.as_slice() == SQUARE.as_slice());
     }
     Ok(())

@@ -44,6 +44,19 @@ const SQUARE_AND_MARKS: [IntPoint<i32>; 9] = points![
     [1, 9]
 ];
 
+/// And after its unoriented form is written, which is read backwards.
+const SQUARE_BACK_AND_MARKS: [IntPoint<i32>; 9] = points![
+    [0, 0],
+    [0, 2],
+    [2, 2],
+    [2, 0],
+    [5, 9],
+    [4, 9],
+    [3, 9],
+    [2, 9],
+    [1, 9]
+];
+
 /// A contour with a spike, and a canonical form that starts elsewhere.
 const TURNED: [IntPoint<i32>; 5] = points![[6, 0], [0, 0], [2, 0], [1, 0], [1, 5]];
 
@@ -116,6 +129,20 @@ fn canonical_into(rt: HostRuntime) -> Result<(), Fail> {
     if !told_of_slice(&rt, name, result, 3, &out, &CANONICAL_AND_MARKS)? {
         let again = simplifier.canonical_into(points, out.as_mut_slice())?;
         assert!(rt; again == 3 && out == CANONICAL_AND_MARKS);
+    }
+    Ok(())
+}
+
+#[test]
+fn canonical_unoriented_into(rt: HostRuntime) -> Result<(), Fail> {
+    let points = few(&rt, SPIKED.as_slice());
+    let mut simplifier = ContourSimplifier::new(rt.alloc());
+    let mut out = MARKS;
+    let result = simplifier.canonical_unoriented_into(points, out.as_mut_slice());
+    let name = "ContourSimplifier::canonical_unoriented_into";
+    if !told_of_slice(&rt, name, result, 4, &out, &SQUARE_BACK_AND_MARKS)? {
+        let again = simplifier.canonical_unoriented_into(points, out.as_mut_slice())?;
+        assert!(rt; again == 4 && out == SQUARE_BACK_AND_MARKS);
     }
     Ok(())
 }
@@ -286,6 +313,9 @@ fn nothing_written(rt: HostRuntime) -> Result<(), Fail> {
     told_unrefused(&rt, name, result, 0)?;
     let result = simplifier.canonical_into(two, out.as_mut_slice());
     let name = "ContourSimplifier::canonical_into below three points";
+    told_unrefused(&rt, name, result, 0)?;
+    let result = simplifier.canonical_unoriented_into(two, out.as_mut_slice());
+    let name = "ContourSimplifier::canonical_unoriented_into below three points";
     told_unrefused(&rt, name, result, 0)?;
     let result = despiker.despike_into(two, out.as_mut_slice());
     let name = "ContourDeSpiker::despike_into below three points";

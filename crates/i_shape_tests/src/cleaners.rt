@@ -1,0 +1,218 @@
+//! The cleaners by their one trait: whether a contour is clean, what is left of it as a copy, and what is written of it.
+
+ghost use Rattle.std.specs.Prelude.{◌≡◌, ◌≤◌, length, IfOk};
+ghost use Rattle.std.specs.List.{All};
+ghost use Rattle.i_shape.specs.IntPoint.{contour_of, IsSafe};
+
+use crate::claims::{equal, holds};
+use i_shape::int::cleaner::{Canonicalizer, ContourCleaner, SpikeRemover, UnorientedCanonicalizer};
+use i_shape::int::despike::ContourDeSpiker;
+use i_shape::int::simple::ContourSimplifier;
+use i_shape::int::{ContourPoint, IntPoint};
+use i_shape::{IntNumber, ShapeError};
+use std::alloc::{AllocError, Global};
+use std::process::Abort;
+use std::test::Fail;
+
+/// Whether a cleaner takes a contour as clean, and what it leaves of it: nothing where it collapses.
+#[derive(Clone, Copy)]
+struct Left<'a, I> {
+    is_clean: bool,
+    points: &'a [[I; 2]],
+}
+
+/// What each cleaner does with a contour.
+#[derive(Clone, Copy)]
+struct Row<'a, I> {
+    name: &'a str,
+    given: &'a [[I; 2]],
+    simplified: Left<'a, I>,
+    despiked: Left<'a, I>,
+    without_spikes: Left<'a, I>,
+    canonical: Left<'a, I>,
+    unoriented: Left<'a, I>,
+}
+
+fn points<I: IntNumber>(alloc: Global, list: &[[I; 2]]) -> Result<Vec<IntPoint<I>>, AllocError> {
+    let mut points = Vec::new(alloc);
+    for [x, y] in list {
+        points.push(IntPoint::new(*x, *y))?;
+    }
+    Ok(points)
+}
+
+/// These points. The test stops where one isn't safe.
+fn safe<'a, I: IntNumber>(rt: &impl Abort, points: &'a [IntPoint<I>]) -> &'a [IntPoint<I>]
+    ensures points_safe { All (IsSafe I.width) (contour_of I.value result.now) }
+    ensures same { result.now ≡ points.now }
+{
+    assert!(rt; points.iter().all(|point| point.is_in_safe_range()), "a point isn't in safe range");
+    points
+}
+
+/// What a cleaner writes of a contour to the front of `out`.
+fn written<P: ContourPoint, C: ContourCleaner>(
+    cleaner: &mut C,
+    contour: &[P],
+    out: &mut [P],
+) -> Result<usize, ShapeError>
+    requires points_safe { All (IsSafe P.Coordinate.width) (contour_of P.Coordinate.value (P.points contour.now)) }
+    requires room { length contour.now ≤ length out.old }
+    ensures fewer { IfOk result (λ n. n ≤ length out.new) }
+{
+    cleaner.clean_into(contour, out)
+}
+
+/// The cleaner tells whether the contour is clean, and leaves these points, as a copy and in a slice.
+fn cleans<I: IntNumber, C: ContourCleaner>(
+    rt: &impl Abort,
+    alloc: Global,
+    name: &str,
+    given: &[[I; 2]],
+    left: Left<'_, I>,
+) -> Result<(), Fail> {
+    let given = points(alloc, given)?;
+    let left_points = points(alloc, left.points)?;
+    let contour = safe(rt, given.as_slice());
+    let mut cleaner = C::with_room(alloc, 0);
+    equal(rt, C::is_clean(contour), left.is_clean, name, "is_clean");
+    let is_copied = match cleaner.cleaned(contour)? {
+        Some(copy) => copy == left_points,
+        None => left_points.is_empty(),
+    };
+    holds(rt, is_copied, name, "cleaned");
+    let mut out = Vec::from_slice(alloc, contour)?;
+    assert!(rt; contour.len() <= out.len(), "{name}: no room");
+    let count = written(&mut cleaner, contour, out.as_mut_slice())?;
+    holds(rt, &out.as_slice()[..count] == left_points.as_slice(), name, "clean_into");
+    Ok(())
+}
+
+fn all_clean<I: IntNumber>(rt: &impl Abort, alloc: Global, row: &Row<'_, I>) -> Result<(), Fail> {
+    cleans::<I, ContourSimplifier>(rt, alloc, row.name, row.given, row.simplified)?;
+    cleans::<I, ContourDeSpiker>(rt, alloc, row.name, row.given, row.despiked)?;
+    cleans::<I, SpikeRemover>(rt, alloc, row.name, row.given, row.without_spikes)?;
+    cleans::<I, Canonicalizer>(rt, alloc, row.name, row.given, row.canonical)?;
+    cleans::<I, UnorientedCanonicalizer>(rt, alloc, row.name, row.given, row.unoriented)
+}
+
+macro_rules! clean {
+    ($points:expr) => {
+        Left {
+            is_clean: true,
+            points: $points,
+        }
+    };
+}
+
+macro_rules! unclean {
+    ($points:expr) => {
+        Left {
+            is_clean: false,
+            points: $points,
+        }
+    };
+}
+
+macro_rules! rows {
+    () => {
+        [
+            Row {
+                name: "a square",
+                given: &[[4, 4], [0, 4], [0, 0], [4, 0]],
+                simplified: clean!(&[[4, 4], [0, 4], [0, 0], [4, 0]]),
+                despiked: clean!(&[[4, 4], [0, 4], [0, 0], [4, 0]]),
+                without_spikes: clean!(&[[4, 4], [0, 4], [0, 0], [4, 0]]),
+                canonical: clean!(&[[0, 0], [4, 0], [4, 4], [0, 4]]),
+                unoriented: clean!(&[[0, 0], [0, 4], [4, 4], [4, 0]]),
+            },
+            Row {
+                name: "a straight vertex and a repeated one",
+                given: &[[0, 0], [2, 0], [4, 0], [4, 4], [4, 4]],
+                simplified: unclean!(&[[0, 0], [4, 0], [4, 4]]),
+                despiked: unclean!(&[[0, 0], [2, 0], [4, 0], [4, 4]]),
+                without_spikes: clean!(&[[0, 0], [2, 0], [4, 0], [4, 4], [4, 4]]),
+                canonical: unclean!(&[[0, 0], [4, 0], [4, 4]]),
+                unoriented: unclean!(&[[0, 0], [4, 0], [4, 4]]),
+            },
+            Row {
+                name: "a spike, wound to the right",
+                given: &[[4, 4], [4, 0], [0, 0], [-3, 0], [0, 0], [0, 4]],
+                simplified: unclean!(&[[4, 4], [4, 0], [0, 0], [0, 4]]),
+                despiked: unclean!(&[[4, 4], [4, 0], [0, 0], [0, 4]]),
+                without_spikes: unclean!(&[[4, 4], [4, 0], [0, 0], [0, 4]]),
+                canonical: unclean!(&[[0, 0], [0, 4], [4, 4], [4, 0]]),
+                unoriented: unclean!(&[[0, 0], [0, 4], [4, 4], [4, 0]]),
+            },
+            Row {
+                name: "three points on a line",
+                given: &[[0, 0], [0, 8], [0, 1]],
+                simplified: unclean!(&[]),
+                despiked: unclean!(&[]),
+                without_spikes: unclean!(&[]),
+                canonical: unclean!(&[]),
+                unoriented: unclean!(&[]),
+            },
+            Row {
+                name: "two points",
+                given: &[[0, 0], [4, 4]],
+                simplified: unclean!(&[]),
+                despiked: unclean!(&[]),
+                without_spikes: unclean!(&[]),
+                canonical: unclean!(&[]),
+                unoriented: unclean!(&[]),
+            },
+        ]
+    };
+}
+
+#[test]
+fn at_16_bits(rt: HostRuntime) -> Result<(), Fail> {
+    let rows: [Row<'static, i16>; 5] = rows!();
+    for row in &rows {
+        all_clean(&rt, rt.alloc(), row)?;
+    }
+    Ok(())
+}
+
+#[test]
+fn at_32_bits(rt: HostRuntime) -> Result<(), Fail> {
+    let rows: [Row<'static, i32>; 5] = rows!();
+    for row in &rows {
+        all_clean(&rt, rt.alloc(), row)?;
+    }
+    Ok(())
+}
+
+#[test]
+fn at_64_bits(rt: HostRuntime) -> Result<(), Fail> {
+    let rows: [Row<'static, i64>; 5] = rows!();
+    for row in &rows {
+        all_clean(&rt, rt.alloc(), row)?;
+    }
+    Ok(())
+}
+
+/// Along one height to the right, and back along another, by steps of one.
+#[test]
+fn of_a_long_contour(rt: HostRuntime) -> Result<(), Fail> {
+    let alloc = rt.alloc();
+    let count: i32 = 5000;
+    let mut given = Vec::new(alloc);
+    for x in 0..count {
+        given.push([x, 0])?;
+    }
+    for x in 0..count {
+        given.push([count - 1 - x, 8])?;
+    }
+    let corners: [[i32; 2]; 4] = [[0, 0], [4999, 0], [4999, 8], [0, 8]];
+    let back: [[i32; 2]; 4] = [[0, 0], [0, 8], [4999, 8], [4999, 0]];
+    let name = "a long contour";
+    let given = given.as_slice();
+    cleans::<i32, ContourSimplifier>(&rt, alloc, name, given, unclean!(corners.as_slice()))?;
+    cleans::<i32, ContourDeSpiker>(&rt, alloc, name, given, clean!(given))?;
+    cleans::<i32, SpikeRemover>(&rt, alloc, name, given, clean!(given))?;
+    cleans::<i32, Canonicalizer>(&rt, alloc, name, given, unclean!(corners.as_slice()))?;
+    cleans::<i32, UnorientedCanonicalizer>(&rt, alloc, name, given, unclean!(back.as_slice()))?;
+    Ok(())
+}
