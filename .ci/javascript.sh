@@ -12,7 +12,7 @@ skipped=0
 
 skip_all() {
     echo "the package for JavaScript is not tested: $1"
-    echo "javascript: 0 passed, 0 failed, $(grep -hoE '\btest\(' "${tests[@]}" | wc -l) skipped"
+    echo "javascript: 0 passed, 0 failed, $(grep -hoE '\b(test|check)\(' "${tests[@]}" | wc -l) skipped"
     exit 0
 }
 
@@ -21,18 +21,19 @@ test_by_node() {
     local status counts
     node "${flags[@]}" --test --test-reporter=tap "${tests[@]}" > "$work/log" 2>&1
     status=$?
-    counts=$(sed -nE 's/^# (pass|fail|cancelled|skipped) ([0-9]+)$/\2/p' "$work/log" | tr '\n' ' ')
-    if ! [[ $counts =~ ^([0-9]+)\ ([0-9]+)\ ([0-9]+)\ ([0-9]+)\ $ ]]; then
+    counts=$(sed -nE 's/^# (pass|fail|cancelled) ([0-9]+)$/\2/p' "$work/log" | tr '\n' ' ')
+    if ! [[ $counts =~ ^([0-9]+)\ ([0-9]+)\ ([0-9]+)\ $ ]]; then
         tail -n 20 "$work/log"
         count 1 "the tests by Node ended with status $status"
         return
     fi
     local failures=$((BASH_REMATCH[2] + BASH_REMATCH[3]))
     passed=$((passed + BASH_REMATCH[1]))
-    skipped=$((skipped + BASH_REMATCH[4]))
+    # a group of tests that is skipped counts as one
+    skipped=$((skipped + $(grep -cE '^ *ok .* # SKIP ' "$work/log")))
     failed=$((failed + (failures == 0 && status != 0 ? 1 : failures)))
     [ "$status" = 0 ] || grep -A 25 '^ *not ok ' "$work/log" | head -n 200
-    sed -nE 's/^ *ok [0-9]+ - (.*) # SKIP (.*)$/skipped: \1: \2/p' "$work/log" | sort | uniq -c | sed -E 's/^ +1 //'
+    sed -nE 's/^ *ok [0-9]+ - .* # SKIP (.*)$/skipped: \1/p' "$work/log" | sort | uniq -c
 }
 
 # The programs that answer as the native library does, at each width.
@@ -44,11 +45,15 @@ build_answers() {
     done
 }
 
-# The steps that retarget stop at what they don't know.
+# The steps that retarget the module stop at what they don't know.
 test_steps() {
-    python3 $package/test/test_retarget.py > "$work/log" || cat "$work/log"
-    passed=$((passed + $(sed -nE 's/^.*: ([0-9]+) passed, .*$/\1/p' "$work/log") + 0))
-    failed=$((failed + $(sed -nE 's/^.*, ([0-9]+) failed$/\1/p' "$work/log") + 0))
+    local counts
+    python3 $package/test/test_retarget.py > "$work/log" 2>&1
+    counts=$(sed -nE 's/^tests of retarget.py: ([0-9]+) passed, ([0-9]+) failed$/\1 \2/p' "$work/log")
+    [ "${counts#* }" = 0 ] || cat "$work/log"
+    counts=${counts:-0 1}
+    passed=$((passed + ${counts% *}))
+    failed=$((failed + ${counts#* }))
 }
 
 test_types() {

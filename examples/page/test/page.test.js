@@ -14,6 +14,7 @@ import { Browser, hasChromium, serve } from "../../../bindings/js/test/support/c
 const HERE = path.dirname(fileURLToPath(import.meta.url));
 const SCREENSHOTS = process.env.I_SHAPE_SCREENSHOTS;
 const isBuilt = existsSync(path.join(HERE, "../../../bindings/js/out/i_shape32.wasm"));
+const skip = (!hasChromium && "there is no chromium") || (!isBuilt && "`make wasm` builds what it shows");
 // The numbers of a square of 4 by 4 with a straight point.
 const SQUARE_NUMBERS = { given: "5 points in 1 ring", left: "4 points in 1 ring", removed: "1: 1 straight", area: "16" };
 const BROWSERS = [
@@ -70,14 +71,22 @@ class Page {
     }
 }
 
-describe("the page", { skip: (!hasChromium && "there is no chromium") || (!isBuilt && "`make wasm` builds what it shows") }, () => {
-    const folder = mkdtempSync(path.join(os.tmpdir(), "page-"));
+/** A test that is skipped, and counted so, where the page can't be shown. */
+function check(name, run) {
+    test(name, { skip }, run);
+}
+
+describe("the page", () => {
+    let folder;
     let served;
     before(async () => {
+        if (skip) return;
+        folder = mkdtempSync(path.join(os.tmpdir(), "page-"));
         execFileSync("sh", [path.join(HERE, "../build.sh"), folder]);
         served = await serve(folder);
     });
     after(() => {
+        if (skip) return;
         served.server.close();
         rmSync(folder, { recursive: true });
     });
@@ -87,14 +96,15 @@ describe("the page", { skip: (!hasChromium && "there is no chromium") || (!isBui
             let browser;
             let page;
             before(async () => {
+                if (skip) return;
                 browser = await Browser.open(kind);
                 page = new Page(browser);
                 await browser.goTo(served.url);
                 await browser.until("document.body?.dataset.ready === 'yes'");
             });
-            after(() => browser.close());
+            after(() => browser?.close());
 
-            test("nothing is drawn at first", () =>
+            check("nothing is drawn at first", () =>
                 page.texts({
                     version: `i_shape 0.1.0, in WebAssembly with ${bits} bits of memory`,
                     given: "0 points in 0 rings",
@@ -105,7 +115,7 @@ describe("the page", { skip: (!hasChromium && "there is no chromium") || (!isBui
                     problem: "",
                 }));
 
-            test("a square by clicks, with a straight point", async () => {
+            check("a square by clicks, with a straight point", async () => {
                 await page.fresh();
                 await page.put([0, 0], [2, 0], [4, 0], [4, 4], [0, 4]);
                 await page.texts({ ...SQUARE_NUMBERS, convex: "yes", start: "(0, 0)" });
@@ -113,7 +123,7 @@ describe("the page", { skip: (!hasChromium && "there is no chromium") || (!isBui
                 assert.equal(await page.marks("kept"), 4);
             });
 
-            test("the numbers at the cursor", async () => {
+            check("the numbers at the cursor", async () => {
                 for (const [point, winding, filled] of [
                     [[1, 1], "1", "by even-odd, non-zero, positive"],
                     [[5, 1], "0", "by no rule"],
@@ -123,7 +133,7 @@ describe("the page", { skip: (!hasChromium && "there is no chromium") || (!isBui
                 }
             });
 
-            test("the last point is taken away, by button and by key", async () => {
+            check("the last point is taken away, by button and by key", async () => {
                 await browser.clickOn("undo");
                 await page.texts({ given: "4 points in 1 ring", removed: "1: 1 straight", area: "8" });
                 await browser.read("document.getElementById('board').focus()");
@@ -131,7 +141,7 @@ describe("the page", { skip: (!hasChromium && "there is no chromium") || (!isBui
                 await page.texts({ given: "3 points in 1 ring", left: "none: it collapses", removed: "3: 1 spike, 2 collapsed", area: "0" });
             });
 
-            test("each reason, by clicks", async () => {
+            check("each reason, by clicks", async () => {
                 await page.fresh();
                 await page.put([-8, -5], [-2, -5], [2, -5], [8, -5], [8, 0], [11, 0], [8, 0], [8, 5], [8, 5], [0, 5], [-4, 1], [-8, 5], [-8, 2]);
                 await page.texts({
@@ -144,7 +154,7 @@ describe("the page", { skip: (!hasChromium && "there is no chromium") || (!isBui
                 });
             });
 
-            test("a square and a hole, by keys alone", async () => {
+            check("a square and a hole, by keys alone", async () => {
                 await page.fresh();
                 await browser.move(...(await page.placeOf([0, 0])));
                 await browser.read("document.getElementById('board').focus()");
@@ -161,7 +171,7 @@ describe("the page", { skip: (!hasChromium && "there is no chromium") || (!isBui
                 await page.texts({ given: "0 points in 0 rings" });
             });
 
-            test("a contour that turns right, twice round", async () => {
+            check("a contour that turns right, twice round", async () => {
                 await page.fresh();
                 await page.paste("text", "0 0 0 4 4 4 4 0 0 0 0 4 4 4 4 0");
                 await browser.clickOn("read");
@@ -175,14 +185,14 @@ describe("the page", { skip: (!hasChromium && "there is no chromium") || (!isBui
                 ["GeoJSON", JSON.stringify({ type: "Polygon", coordinates: [[[0, 0], [2, 0], [4, 0], [4, 4], [0, 4], [0, 0]]] }), SQUARE_NUMBERS],
                 ["lines far away", "1000 1000 2000 1000 3000 1000 3000 3000", { given: "4 points in 1 ring", left: "3 points in 1 ring", area: "2000000" }],
             ]) {
-                test(`a text is read: ${form}`, async () => {
+                check(`a text is read: ${form}`, async () => {
                     await page.paste("text", text);
                     await browser.clickOn("read");
                     await page.texts({ ...wanted, problem: "" });
                 });
             }
 
-            test("what is left is written", async () => {
+            check("what is left is written", async () => {
                 await page.paste("text", "0 0 2 0 4 0 4 4 0 4\n1 1 1 2 2 1");
                 await browser.clickOn("read");
                 await browser.clickOn("write");
@@ -198,7 +208,7 @@ describe("the page", { skip: (!hasChromium && "there is no chromium") || (!isBui
                 ],
                 ["a coordinate of more than 32 bits", "0 0 5000000000 0 0 4", "5000000000 has more than 32 bits: take a lesser scale"],
             ]) {
-                test(`a text isn't read: ${wrong}`, async () => {
+                check(`a text isn't read: ${wrong}`, async () => {
                     await page.paste("text", text);
                     await browser.clickOn("read");
                     assert.match(await page.text("problem"), new RegExp(`${problem.replace(/[()*]/g, "\\$&")}$`));
@@ -214,7 +224,7 @@ describe("the page", { skip: (!hasChromium && "there is no chromium") || (!isBui
                 ["the other way round", "0 4 4 4 4 0 0 0", "the same polygons, but for the way round of a ring"],
                 ["another one", "0 0 4 0 4 5", "other polygons"],
             ]) {
-                test(`two polygons are compared: ${other}`, async () => {
+                check(`two polygons are compared: ${other}`, async () => {
                     await page.paste("text", "0 0 4 0 4 4 0 4");
                     await browser.clickOn("read");
                     await page.paste("other", text);
@@ -224,7 +234,7 @@ describe("the page", { skip: (!hasChromium && "there is no chromium") || (!isBui
             }
 
             // The grids of the pictures in docs/pictures: Corsica on that of 800, and Hvar on that of 3000.
-            test("a coastline on coarser grids, by keys", async () => {
+            check("a coastline on coarser grids, by keys", async () => {
                 await page.texts({ "coast-grid": "800", "coast-given": "149 points", "coast-left": "67 points" });
                 assert.match(await page.text("coast-time"), /^[0-9.e-]+ ms$/);
                 await browser.read("document.getElementById('grid').focus()");
@@ -236,7 +246,7 @@ describe("the page", { skip: (!hasChromium && "there is no chromium") || (!isBui
                 await page.texts({ "coast-grid": "3000", "coast-left": "none: it collapses" });
             });
 
-            test("nothing stands out of the window, and nothing was thrown", async () => {
+            check("nothing stands out of the window, and nothing was thrown", async () => {
                 await browser.clickOn("example");
                 await page.texts({ given: "18 points in 2 rings", left: "10 points in 2 rings" });
                 assert.ok(await browser.read("document.documentElement.scrollWidth <= innerWidth"));
