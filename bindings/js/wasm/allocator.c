@@ -1,6 +1,5 @@
-/* The allocator of the WebAssembly module, of 64 and of 32 bits: blocks of 2^k bytes, with a list of free ones for each k, over memory that grows and never
- * shrinks. Where no block is taken, all of it is one free piece again. For one thread. The kit's clang, which
- * compiles it, has no header of C. */
+/* The allocator of the WebAssembly modules: blocks of 2^k bytes, with a list of free ones for each k, over memory that grows and never shrinks. Where no
+ * block is taken, all of it is one free piece again. For one thread. The kit's clang, which compiles it, has no header of C. */
 typedef __UINT64_TYPE__ uint64_t;
 typedef __UINTPTR_TYPE__ uintptr_t;
 #define UINT64_C(number) __UINT64_C(number)
@@ -24,8 +23,8 @@ static const uint64_t end_of_memory = sizeof(void *) == 4 ? 0xffff0000 : UINT64_
 
 extern unsigned char __heap_base;
 static uint64_t free_blocks[GREATEST_ORDER + 1];
-static uint64_t unused;     /* where what was never taken begins; 0 at first */
-static uint64_t held;       /* bytes of the blocks that are taken */
+static uint64_t unused; /* where what was never taken begins; 0 at first */
+static uint64_t held;   /* bytes of the blocks that are taken */
 static unsigned char nothing[16] __attribute__((aligned(16)));
 
 static uint64_t address_of(const void *pointer) {
