@@ -1,14 +1,15 @@
 -- Contours in one array of points, parted by offsets.
-use Rattle.std.proofs.Common.{◌≡◌, ℕ, ◌+◌, ◌-◌, ◌≤◌, ◌<◌, suc, zero, List, map, length, take, drop, set, slice_range, ap, sym, subst, ◌∙◌, arith, Option, ◌⊎◌, inl, inr, eq-or-lt_of_le}
+use Rattle.std.proofs.Common.{◌≡◌, ℕ, ◌+◌, ◌-◌, ◌≤◌, ◌<◌, max, suc, zero, List, map, length, take, drop, set, slice_range, ap, sym, subst, ◌∙◌, arith, Option, ◌⊎◌, inl, inr, eq-or-lt_of_le, subst₂}
 use Rattle.std.specs.Int.{Width}
 use Rattle.std.specs.Prelude.{Result, Ok, Err, OnErr}
 use Rattle.std.proofs.lemmas.List.{take-take, drop-take, drop-drop, get_or-set_same, get_or-set_other}
+use Rattle.std.proofs.lemmas.Bool.{cases_lt}
 use Rattle.std.proofs.lemmas.List.Elements.{All-take, All-drop}
 use Rattle.i_shape.specs.Point.{Point}
 use Rattle.i_shape.specs.IntPoint.{IsSafe}
 use Rattle.i_shape.specs.Written.{IsCleaned}
 use Rattle.i_shape_c.specs.Cleaned.{AreSafe}
-use Rattle.i_shape_c.specs.Batch.{offset, ring, InOrder, AreSafeContours, IsCleanedBatch}
+use Rattle.i_shape_c.specs.Batch.{offset, ring, InOrder, IsLongest, AreSafeContours, IsCleanedBatch}
 
 -- what stands behind a place is the same further on too
 pub further : {X : Type 0} (xs ys : List X) (n m : ℕ) → n ≤ m → drop n xs ≡ drop n ys → drop m xs ≡ drop m ys
@@ -44,6 +45,27 @@ pub ordered : (offsets : List ℕ) (n a b : ℕ) → InOrder offsets n → a ≤
 ordered offsets n a b order some within =
     let same : a + (b - a) ≡ b = omega (arith, some) in
     subst (λ k. offset offsets a ≤ offset offsets k) same (ordered_by offsets n a (b - a) order (omega (arith, within, same)))
+
+-- the longest contour, where one more contour is looked at
+module _ (offsets : List ℕ) (place most more : ℕ) (some : 0 < place) (order : offset offsets (place - 1) ≤ offset offsets (place - 1 + 1)) (is : more ≡ max most (offset offsets place - offset offsets (place - 1))) (before : IsLongest offsets place most) where
+  there : offset offsets (place - 1 + 1) ≡ offset offsets place
+  there = let same : place - 1 + 1 ≡ place = omega (arith, some) in ap (offset offsets) same
+
+  pub longer : IsLongest offsets (place + 1) more
+  longer = record { most = λ k less. all k (eq-or-lt_of_le (let low : k + 1 ≤ place = omega (arith, less) in low)); reached = go (cases_lt most (offset offsets place - offset offsets (place - 1))) before.reached }
+    where
+      all : (k : ℕ) → (k + 1 ≡ place) ⊎ (k + 1 < place) → offset offsets (k + 1) ≤ offset offsets k + more
+      all k (inl last) =
+          let here : k ≡ place - 1 = omega (arith, last) in
+          let step : offset offsets place ≤ offset offsets (place - 1) + more = omega (arith, is) in
+          subst₂ (λ a b. offset offsets a ≤ offset offsets b + more) (sym last) (sym here) step
+      all k (inr less) = omega (arith, before.most k less, is)
+
+      go : (most < offset offsets place - offset offsets (place - 1)) ⊎ (offset offsets place - offset offsets (place - 1) ≤ most) → (most ≡ 0) ⊎ ((k : ℕ) × (k + 1 < place) × (offset offsets (k + 1) ≡ offset offsets k + most))
+          → (more ≡ 0) ⊎ ((k : ℕ) × (k + 1 < place + 1) × (offset offsets (k + 1) ≡ offset offsets k + more))
+      go (inl less) reached = inr (place - 1, omega (arith, some), omega (arith, there, order, is, less))
+      go (inr low) (inl none) = inl (omega (arith, is, low, none))
+      go (inr low) (inr (k, within, long)) = inr (k, omega (arith, within), omega (arith, long, is, low))
 
 -- a part of a part
 inner_part : {X : Type 0} (xs : List X) (a b c d : ℕ) → a ≤ b → b ≤ c → c ≤ d → slice_range xs b c ≡ take (c - b) (drop (b - a) (slice_range xs a d))

@@ -1,5 +1,5 @@
 -- Many contours in one array of points, parted by offsets.
-use Rattle.std.specs.Prelude.{◌≡◌, ℕ, ℤ, ◌+◌, ◌-◌, ◌<◌, ◌≤◌, pos, negsuc, zero, suc, List, map, length, drop, get_or, slice_range, Option}
+use Rattle.std.specs.Prelude.{◌≡◌, ℕ, ℤ, ◌+◌, ◌-◌, ◌<◌, ◌≤◌, ◌⊎◌, pos, negsuc, zero, suc, List, map, length, drop, get_or, slice_range, Option}
 use Rattle.std.specs.Int.{Width}
 use Rattle.i_shape.specs.Point.{Point}
 use Rattle.i_shape.specs.Written.{IsCleaned}
@@ -16,6 +16,11 @@ ring points offsets k = slice_range points (offset offsets k) (offset offsets (k
 -- none of the first n offsets is less than the one before it
 abbrev pub InOrder : List ℕ → ℕ → Type 0
 InOrder offsets n = (k : ℕ) → k + 1 < n → offset offsets k ≤ offset offsets (k + 1)
+
+-- the longest of the contours between the first n offsets has m points, and m is 0 where there is none
+pub record IsLongest (offsets : List ℕ) (n m : ℕ) : Type 0 where
+  pub most : (k : ℕ) → k + 1 < n → offset offsets (k + 1) ≤ offset offsets k + m
+  pub reached : (m ≡ 0) ⊎ ((k : ℕ) × (k + 1 < n) × (offset offsets (k + 1) ≡ offset offsets k + m))
 
 -- the offsets part so many points, and there is room for an answer
 pub record CanClean (points : ℕ) (offsets : List ℕ) (out_points out_offsets : ℕ) : Type 0 where

@@ -3,7 +3,7 @@
 ghost use Rattle.std.specs.Prelude.{◌≡◌, ◌↔◌, ℕ, ◌+◌, ◌^◌, ◌<◌, ◌≤◌, length, slice_range, IsTrue, IfOk, OnErr};
 ghost use Rattle.i_shape.specs.IntPoint.{point_of};
 ghost use Rattle.i_shape_c.specs.Cleaned.{unsafe_code, unfit_code, no_memory_code};
-ghost use Rattle.i_shape_c.specs.Batch.{offset, InOrder, CanClean, AreSafeContours, NoneTakesMemory, IsCleanedBatch, IsWithin, BatchAnswer};
+ghost use Rattle.i_shape_c.specs.Batch.{InOrder, IsLongest, CanClean, AreSafeContours, NoneTakesMemory, IsCleanedBatch, IsWithin, BatchAnswer};
 
 use crate::codes::{NO_MEMORY, UNFIT, UNSAFE};
 use crate::contour::clean_into;
@@ -80,10 +80,11 @@ fn clean_all<P: CPoint, C: ContourCleaner>(
     Ok(written)
 }
 
-/// How many points the longest contour has.
+/// How many points the longest contour has, 0 where there is no contour.
 fn longest(offsets: &[usize]) -> usize
-    requires { InOrder offsets.now (length offsets.now) }
-    ensures { (k : ℕ) → k + 1 < length offsets.now → offset offsets.now (k + 1) ≤ offset offsets.now k + result }
+    requires some { 0 < length offsets.now }
+    requires order { InOrder offsets.now (length offsets.now) }
+    ensures { IsLongest offsets.now (length offsets.now) result }
 {
     let mut most: usize = 0;
     for place in 1..offsets.len() {
