@@ -38,12 +38,12 @@ NAME_OR_NUMBER = re.compile(r'[%@]"[^"]*"|[%@!#][\w.$]+|-?\b\d+\b')
 # The words of functions, but for names and numbers. They mean the same on each processor of 64 bits.
 KNOWN_WORDS = set(
     """align alloca add and ashr br call define eq exact extractvalue false getelementptr i1 i8 i16 i32 i64 i128 icmp inbounds insertvalue internal label load
-    lshr mul ne noundef nsw null nuw or poison ptr ptrtoaddr range ret sdiv select sext sge sgt shl signext sle slt srem store sub switch to true trunc udiv uge
+    lshr mul ne noundef nsw null nuw or poison ptr ptrtoaddr ret sdiv select sext sge sgt shl signext sle slt srem store sub switch to true trunc udiv uge
     ugt ule ult undef unreachable urem void x xor zeroext zeroinitializer zext""".split()
 )
 FUNCTION_HEAD = re.compile(r'define (?P<internal>internal )?(?P<result>.*?)@(?P<name>"[^"]*"|[\w.$]+)\((?P<parameters>.*)\) #(?P<attributes>\d+) \{')
 BLOCK_END = re.compile(r"\s+(br|ret|switch|unreachable)\b")
-ATTRIBUTE = re.compile(r"\b(noundef|zeroext|signext|nonnull|noalias|range\(.*?\)|dereferenceable\(\d+\)|align \d+)\b ?")
+ATTRIBUTE = re.compile(r"\b(noundef|zeroext|signext) ?")
 OUTSIDE_OF_FUNCTIONS = ("declare ", "attributes ", "!")
 
 # The numbers of the groups of attributes that are added: of three functions, and from the last on two for each export.
