@@ -62,9 +62,11 @@ pub trait Calls: Copy + Ord + fmt::Debug + 'static {
     const SIMPLIFY: CleanOne<Self>;
     const DESPIKE: CleanOne<Self>;
     const CANONICAL: CleanOne<Self>;
+    const CANONICAL_UNORIENTED: CleanOne<Self>;
     const SIMPLIFY_CONTOURS: CleanMany<Self>;
     const DESPIKE_CONTOURS: CleanMany<Self>;
     const CANONICAL_CONTOURS: CleanMany<Self>;
+    const CANONICAL_UNORIENTED_CONTOURS: CleanMany<Self>;
     const SIMPLIFY_SHAPES: CleanShapes<Self>;
     const DESPIKE_SHAPES: CleanShapes<Self>;
     const CANONICAL_SHAPES: CleanShapes<Self>;
@@ -168,11 +170,13 @@ macro_rules! calls {
     ($number:ty, $width:literal, $area:ty) => {
         const _: () = {
             cleaners_of_one!(
-                $number, $width, simplify "simplify_i", despike "despike_i", canonical "canonical_i"
+                $number, $width, simplify "simplify_i", despike "despike_i",
+                canonical "canonical_i", canonical_unoriented "canonical_unoriented_i"
             );
             cleaners_of_many!(
                 $number, $width, simplify_contours "simplify_contours_i",
-                despike_contours "despike_contours_i", canonical_contours "canonical_contours_i"
+                despike_contours "despike_contours_i", canonical_contours "canonical_contours_i",
+                canonical_unoriented_contours "canonical_unoriented_contours_i"
             );
             cleaners_of_shapes!(
                 $number, $width, simplify_shapes "simplify_shapes_i",
@@ -223,9 +227,12 @@ macro_rules! calls {
                 const SIMPLIFY: CleanOne<Self> = simplify;
                 const DESPIKE: CleanOne<Self> = despike;
                 const CANONICAL: CleanOne<Self> = canonical;
+                const CANONICAL_UNORIENTED: CleanOne<Self> = canonical_unoriented;
                 const SIMPLIFY_CONTOURS: CleanMany<Self> = simplify_contours;
                 const DESPIKE_CONTOURS: CleanMany<Self> = despike_contours;
                 const CANONICAL_CONTOURS: CleanMany<Self> = canonical_contours;
+                const CANONICAL_UNORIENTED_CONTOURS: CleanMany<Self> =
+                    canonical_unoriented_contours;
                 const SIMPLIFY_SHAPES: CleanShapes<Self> = simplify_shapes;
                 const DESPIKE_SHAPES: CleanShapes<Self> = despike_shapes;
                 const CANONICAL_SHAPES: CleanShapes<Self> = canonical_shapes;

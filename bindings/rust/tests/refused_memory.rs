@@ -150,12 +150,14 @@ fn contours<I: Number>() {
     // the answer and what the cleaner needs
     assert!(growths(|| straight.try_simplified()) > 1);
     assert!(growths(|| straight.try_canonical()) > 1);
+    assert!(growths(|| straight.try_canonical_unoriented()) > 1);
     assert!(growths(|| spiked.try_despiked_contour()) > 1);
     // what the cleaner needs
     assert_eq!(growths_of_written(&clean, <[_]>::try_simplify_into), 0);
     assert_eq!(growths_of_written(&straight, <[_]>::try_despike_into), 0);
     assert!(growths_of_written(&straight, <[_]>::try_simplify_into) > 0);
     assert!(growths_of_written(&straight, <[_]>::try_canonical_into) > 0);
+    assert!(growths_of_written(&straight, <[_]>::try_canonical_unoriented_into) > 0);
     assert!(growths_of_written(&spiked, <[_]>::try_despike_into) > 0);
     // tests take none
     assert_eq!(growths(|| straight.try_is_simple()), 0);
@@ -225,6 +227,7 @@ fn batches<I: Number>() {
     assert!(growths(|| all.try_simplified()) > 2);
     assert!(growths(|| all.try_despiked()) > 2);
     assert!(growths(|| all.try_canonical()) > 2);
+    assert!(growths(|| all.try_canonical_unoriented()) > 2);
     let behind = Contours::new(flat.points(), &flat.offsets()[1..]);
     assert!(growths(|| behind.try_simplified()) > 3);
     let about = [point([1, 1]); 3];

@@ -169,6 +169,9 @@ impl<'a, I: IntNumber> Contours<'a, I> {
             "without the points at which it turns back or stands still";
         CANONICAL_CONTOURS: try_canonical, canonical, try_canonical_into, canonical_into,
             "without zero turns, from the start at which it is least, by x and then y";
+        CANONICAL_UNORIENTED_CONTOURS: try_canonical_unoriented, canonical_unoriented,
+            try_canonical_unoriented_into, canonical_unoriented_into,
+            "in canonical form, for contours that may be read backwards: the lesser of the forms of both ways";
     }
 
     /// How often the contours together wind about each of the points: what a fill rule asks of the

@@ -1,4 +1,4 @@
-//! Canonical forms of shapes and of lists of shapes. The form of one contour is in
+//! Canonical forms of shapes and of lists of shapes. The forms of one contour are in
 //! [`SimpleContour`](super::simple::SimpleContour).
 //!
 //! Two shapes that have a form, or lists of shapes, have the same one exactly where these moves lead

@@ -9,7 +9,7 @@ use crate::calls::{clean_one, holds, overwritten};
 use crate::error::answered;
 use crate::flat::OwnedShapes;
 
-/// The test and the removal of zero turns, and the canonical form.
+/// The test and the removal of zero turns, and the canonical forms.
 ///
 /// Each call refuses with [`Error::UnsafePoint`] where a point isn't safe. Those that answer a
 /// contour, and those that clean a contour which isn't clean, refuse with [`Error::NoMemory`] where
@@ -57,6 +57,22 @@ pub trait SimpleContour<I: IntNumber> {
         answered(self.try_canonical())
     }
 
+    /// The lesser of the canonical forms of the contour and of the contour read backwards. `None`
+    /// where it collapses. Two contours that have a form have the same one exactly where rotations,
+    /// zero turns lost or gained, and reading backwards lead from one to the other.
+    fn try_canonical_unoriented(&self) -> Result<Option<IntContour<I>>, Error>;
+
+    /// The canonical form where the contour may be read backwards too, as
+    /// [`try_canonical_unoriented`](SimpleContour::try_canonical_unoriented) says.
+    ///
+    /// # Panics
+    ///
+    /// Where that refuses, with the error's text.
+    #[track_caller]
+    fn canonical_unoriented(&self) -> Option<IntContour<I>> {
+        answered(self.try_canonical_unoriented())
+    }
+
     /// Writes what [`try_simplified`](SimpleContour::try_simplified) answers to the front of `out`,
     /// and answers how many points these are, 0 where the contour collapses. [`Error::Unfit`] where
     /// `out` is shorter than the contour. Of a contour that is clean or has fewer than three points
@@ -89,6 +105,22 @@ pub trait SimpleContour<I: IntNumber> {
     fn canonical_into(&self, out: &mut [IntPoint<I>]) -> usize {
         answered(self.try_canonical_into(out))
     }
+
+    /// The same as [`try_simplify_into`](SimpleContour::try_simplify_into) for
+    /// [`try_canonical_unoriented`](SimpleContour::try_canonical_unoriented).
+    fn try_canonical_unoriented_into(&self, out: &mut [IntPoint<I>]) -> Result<usize, Error>;
+
+    /// Writes the canonical form, where the contour may be read backwards too, to the front of
+    /// `out`, and answers how many points these are.
+    ///
+    /// # Panics
+    ///
+    /// Where [`try_canonical_unoriented_into`](SimpleContour::try_canonical_unoriented_into)
+    /// refuses, with the error's text.
+    #[track_caller]
+    fn canonical_unoriented_into(&self, out: &mut [IntPoint<I>]) -> usize {
+        answered(self.try_canonical_unoriented_into(out))
+    }
 }
 
 impl<I: IntNumber> SimpleContour<I> for [IntPoint<I>] {
@@ -104,12 +136,20 @@ impl<I: IntNumber> SimpleContour<I> for [IntPoint<I>] {
         cleaned(I::CANONICAL, self)
     }
 
+    fn try_canonical_unoriented(&self) -> Result<Option<IntContour<I>>, Error> {
+        cleaned(I::CANONICAL_UNORIENTED, self)
+    }
+
     fn try_simplify_into(&self, out: &mut [IntPoint<I>]) -> Result<usize, Error> {
         clean_one(I::SIMPLIFY, self, overwritten(out))
     }
 
     fn try_canonical_into(&self, out: &mut [IntPoint<I>]) -> Result<usize, Error> {
         clean_one(I::CANONICAL, self, overwritten(out))
+    }
+
+    fn try_canonical_unoriented_into(&self, out: &mut [IntPoint<I>]) -> Result<usize, Error> {
+        clean_one(I::CANONICAL_UNORIENTED, self, overwritten(out))
     }
 }
 

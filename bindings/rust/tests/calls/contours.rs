@@ -15,6 +15,7 @@ use i_shape::int::{IntNumber, IntPoint};
 at_each_width!(
     cleaned,
     written_into_a_slice,
+    read_either_way,
     cleaned_in_place,
     tested,
     measured,
@@ -68,6 +69,45 @@ fn written_into_a_slice<I: Number>() {
         let mut out = [behind; 8];
         let count = given.canonical_into(&mut out);
         assert!(is_written(&out, count, canonical));
+    }
+}
+
+/// The square read backwards, from its least start.
+const BACKWARDS: [[i8; 2]; 4] = [[0, 0], [0, 4], [4, 4], [4, 0]];
+const DIAMOND: [[i8; 2]; 4] = [[-4, 0], [0, -4], [4, 0], [0, 4]];
+const REPEATED: [[i8; 2]; 5] = [[-4, 0], [0, -4], [4, 0], [4, 0], [0, 4]];
+/// It bends to both sides, and is wound to the right.
+const BENT: [[i8; 2]; 6] = [[4, 4], [4, 0], [2, 0], [2, 2], [0, 2], [0, 4]];
+
+/// A contour, and its canonical form where it may be read backwards too; nothing where it
+/// collapses.
+const READ_EITHER_WAY: [(&Written, &Written); 8] = [
+    (&SQUARE, &BACKWARDS),
+    (&STRAIGHT, &BACKWARDS),
+    (&SPIKED, &BACKWARDS),
+    (&REPEATED, &DIAMOND),
+    (&BENT, &[[0, 2], [0, 4], [4, 4], [4, 0], [2, 0], [2, 2]]),
+    (&FLAT, &[]),
+    (&[[1, 1], [2, 2]], &[]),
+    (&[], &[]),
+];
+
+fn read_either_way<I: Number>() {
+    for (given, form) in READ_EITHER_WAY {
+        let forwards = contour::<I>(given);
+        let backwards: Vec<_> = forwards.iter().rev().copied().collect();
+        let form = contour::<I>(form);
+        let answer = (!form.is_empty()).then(|| form.clone());
+        for given in [forwards, backwards] {
+            assert_eq!(given.canonical_unoriented(), answer);
+            assert_eq!(given.try_canonical_unoriented(), Ok(answer.clone()));
+            let behind = point([7, 7]);
+            let mut out = [behind; 8];
+            let count = given.canonical_unoriented_into(&mut out);
+            assert_eq!(out[..count], form);
+            assert!(out[count..].iter().all(|&point| point == behind));
+            assert_eq!(given.try_canonical_unoriented_into(&mut out), Ok(count));
+        }
     }
 }
 
@@ -217,6 +257,8 @@ fn long_contour<I: Number + TryFrom<i32>>() {
     let corners: Vec<_> = walk.iter().step_by(side as usize).copied().collect();
     assert_eq!(walk.simplified().as_ref(), Some(&corners));
     assert_eq!(walk.canonical().as_ref(), Some(&corners));
+    let backwards = [0, 3, 2, 1].map(|place| corners[place]).to_vec();
+    assert_eq!(walk.canonical_unoriented(), Some(backwards));
     assert_eq!(walk.despiked_contour().as_ref(), Some(&walk));
     assert!(walk.has_no_spikes() && walk.is_convex() && !walk.is_simple());
     assert_eq!(format!("{}", walk.area()), format!("{}", side * side));

@@ -55,8 +55,16 @@ fn contours_with_an_unsafe_point<I: Number>() {
     refuses!(error, given, try_is_simple, is_simple);
     refuses!(error, given, try_simplified, simplified);
     refuses!(error, given, try_canonical, canonical);
+    refuses!(error, given, try_canonical_unoriented, canonical_unoriented);
     refuses!(error, given, try_simplify_into, simplify_into, &mut out);
     refuses!(error, given, try_canonical_into, canonical_into, &mut out);
+    refuses!(
+        error,
+        given,
+        try_canonical_unoriented_into,
+        canonical_unoriented_into,
+        &mut out
+    );
     refuses!(error, given, try_has_no_spikes, has_no_spikes);
     refuses!(error, given, try_despiked_contour, despiked_contour);
     refuses!(error, given, try_despike_into, despike_into, &mut out);
@@ -164,6 +172,12 @@ fn batches_with_an_unsafe_point<I: Number>() {
     refuses!(
         error,
         contours,
+        try_canonical_unoriented,
+        canonical_unoriented
+    );
+    refuses!(
+        error,
+        contours,
         try_simplify_into,
         simplify_into,
         &mut out.0,
@@ -182,6 +196,14 @@ fn batches_with_an_unsafe_point<I: Number>() {
         contours,
         try_canonical_into,
         canonical_into,
+        &mut out.0,
+        &mut out.1
+    );
+    refuses!(
+        error,
+        contours,
+        try_canonical_unoriented_into,
+        canonical_unoriented_into,
         &mut out.0,
         &mut out.1
     );
@@ -281,6 +303,13 @@ fn slices_that_are_too_short<I: Number>() {
     refuses!(error, given, try_simplify_into, simplify_into, &mut short);
     refuses!(error, given, try_despike_into, despike_into, &mut short);
     refuses!(error, given, try_canonical_into, canonical_into, &mut short);
+    refuses!(
+        error,
+        given,
+        try_canonical_unoriented_into,
+        canonical_unoriented_into,
+        &mut short
+    );
 
     let contours = Contours::new(&given, &[0, 5]);
     let about = [point([1, 1]); 2];
@@ -316,6 +345,14 @@ fn slices_that_are_too_short<I: Number>() {
             contours,
             try_canonical_into,
             canonical_into,
+            points,
+            offsets
+        );
+        refuses!(
+            error,
+            contours,
+            try_canonical_unoriented_into,
+            canonical_unoriented_into,
             points,
             offsets
         );

@@ -39,7 +39,7 @@ type CleanMany<I> = fn(Contours<'_, I>) -> OwnedContours<I>;
 type CleanInto<I> = fn(Contours<'_, I>, &mut [IntPoint<I>], &mut [usize]) -> usize;
 
 /// Each cleaner of one contour, of many, and of many into slices.
-fn cleaners<I: Number>() -> [(CleanOne<I>, CleanMany<I>, CleanInto<I>); 3] {
+fn cleaners<I: Number>() -> [(CleanOne<I>, CleanMany<I>, CleanInto<I>); 4] {
     [
         (
             |contour| contour.simplified(),
@@ -55,6 +55,11 @@ fn cleaners<I: Number>() -> [(CleanOne<I>, CleanMany<I>, CleanInto<I>); 3] {
             |contour| contour.canonical(),
             |contours| contours.canonical(),
             |contours, points, offsets| contours.canonical_into(points, offsets),
+        ),
+        (
+            |contour| contour.canonical_unoriented(),
+            |contours| contours.canonical_unoriented(),
+            |contours, points, offsets| contours.canonical_unoriented_into(points, offsets),
         ),
     ]
 }
