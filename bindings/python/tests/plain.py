@@ -65,6 +65,12 @@ def canonical(ring, random):
     return left and min(rotations(left))
 
 
+def canonical_unoriented(ring, random):
+    """The lesser of the forms of the ring and of the ring read backwards."""
+    form = canonical(ring, random)
+    return form and min(form, canonical(ring[::-1], random))
+
+
 def winding(ring, point):
     """How often the ring winds about the point, to the left."""
     turns = 0

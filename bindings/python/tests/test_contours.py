@@ -1,5 +1,6 @@
 """Calls on one contour, beside plain loops."""
 
+import functools
 import pickle
 import random
 import unittest
@@ -10,8 +11,28 @@ import i_shape
 import plain
 
 ROUNDS = 2000
-CLEANERS = (i_shape.simplify, i_shape.despike, i_shape.canonical)
+canonical_unoriented = functools.partial(i_shape.canonical, oriented=False)
+CLEANERS = (i_shape.simplify, i_shape.despike, i_shape.canonical,
+            canonical_unoriented)
 TESTS = (i_shape.is_simple, i_shape.has_no_spikes, i_shape.is_convex)
+
+# A contour, and its form where it may be read backwards too.
+READ_EITHER_WAY = (
+    ("a square", [(4, 4), (0, 4), (0, 0), (4, 0)],
+     [(0, 0), (0, 4), (4, 4), (4, 0)]),
+    ("a straight vertex", [(0, 0), (2, 0), (4, 0), (4, 4), (0, 4)],
+     [(0, 0), (0, 4), (4, 4), (4, 0)]),
+    ("a spike", [(0, 0), (4, 0), (4, 4), (4, 8), (4, 4), (0, 4)],
+     [(0, 0), (0, 4), (4, 4), (4, 0)]),
+    ("a repeated corner", [(-4, 0), (0, -4), (4, 0), (4, 0), (0, 4)],
+     [(-4, 0), (0, -4), (4, 0), (0, 4)]),
+    ("a bend to both sides, wound to the right",
+     [(4, 4), (4, 0), (2, 0), (2, 2), (0, 2), (0, 4)],
+     [(0, 2), (0, 4), (4, 4), (4, 0), (2, 0), (2, 2)]),
+    ("three points on a line", [(0, 0), (0, 8), (0, 1)], None),
+    ("two points", [(0, 0), (4, 4)], None),
+    ("no point", [], None),
+)
 
 
 def rings_of_each_dtype(rounds=ROUNDS):
@@ -57,6 +78,35 @@ class Contours(unittest.TestCase):
         for numbers, dtype, ring, points in rings_of_each_dtype():
             left = plain.tuples(i_shape.canonical(points))
             self.assertEqual(left, plain.canonical(ring, numbers), ring)
+
+    def test_canonical_read_either_way(self):
+        for name, ring, form in READ_EITHER_WAY:
+            for dtype in plain.DTYPES:
+                for given in (ring, ring[::-1]):
+                    with self.subTest(name, dtype=dtype, given=given):
+                        left = canonical_unoriented(plain.array(given, dtype))
+                        self.assertEqual(plain.tuples(left), form)
+
+    def test_canonical_unoriented_answers_the_lesser_of_both_ways(self):
+        for numbers, dtype, ring, points in rings_of_each_dtype():
+            form = plain.tuples(canonical_unoriented(points))
+            self.assertEqual(form, plain.canonical_unoriented(ring, numbers),
+                             ring)
+            turned = np.roll(points[::-1], numbers.randrange(13), axis=0)
+            self.assertEqual(plain.tuples(canonical_unoriented(turned)), form)
+
+    def test_canonical_of_a_long_contour(self):
+        side = 8000
+        up, down = np.arange(side), np.arange(side, 0, -1)
+        low, high = np.zeros(side, int), np.full(side, side)
+        for dtype in plain.DTYPES:
+            walk = np.stack([np.concatenate([up, high, down, low]),
+                             np.concatenate([low, up, high, down])],
+                            axis=1).astype(dtype)
+            for given in (walk, walk[::-1]):
+                self.assertEqual(
+                    canonical_unoriented(given).tolist(),
+                    [[0, 0], [0, side], [side, side], [side, 0]])
 
     def test_canonical_forgets_the_start(self):
         for numbers, dtype, ring, points in rings_of_each_dtype(100):

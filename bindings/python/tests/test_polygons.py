@@ -35,14 +35,9 @@ def cleaned(polygons, clean):
 
 
 def form(polygons, numbers, oriented=True):
-    def of_ring(ring):
-        forms = [plain.canonical(ring, numbers)]
-        if not oriented:
-            forms.append(plain.canonical(ring[::-1], numbers))
-        return forms[0] and min(forms)
-
-    return sorted(polygon[:1] + sorted(polygon[1:])
-                  for polygon in cleaned(polygons, of_ring))
+    of_ring = plain.canonical if oriented else plain.canonical_unoriented
+    return sorted(polygon[:1] + sorted(polygon[1:]) for polygon in cleaned(
+        polygons, lambda ring: of_ring(ring, numbers)))
 
 
 def random_polygons(numbers, dtype):

@@ -1,6 +1,7 @@
 """Calls on many rings, beside plain loops and the calls on one contour."""
 
 import ctypes
+import functools
 import random
 import threading
 import unittest
@@ -14,7 +15,9 @@ from i_shape import _library, _rings
 
 PAIRS = ((i_shape.simplify_rings, i_shape.simplify),
          (i_shape.despike_rings, i_shape.despike),
-         (i_shape.canonical_rings, i_shape.canonical))
+         (i_shape.canonical_rings, i_shape.canonical),
+         (functools.partial(i_shape.canonical_rings, oriented=False),
+          functools.partial(i_shape.canonical, oriented=False)))
 CALLS = [many for many, _ in PAIRS]
 
 
@@ -50,10 +53,13 @@ class Answers(unittest.TestCase):
         for dtype in plain.DTYPES:
             numbers = random.Random(3)
             rings = [plain.random_ring(numbers, dtype) for _ in range(1000)]
-            left = i_shape.canonical_rings(*plain.flat(rings, dtype))
-            self.assertEqual(plain.parted(*left),
-                             [plain.canonical(ring, numbers) or []
-                              for ring in rings])
+            for oriented, form in ((True, plain.canonical),
+                                   (False, plain.canonical_unoriented)):
+                right = [form(ring, numbers) or [] for ring in rings]
+                for threads in (1, 3):
+                    left = i_shape.canonical_rings(
+                        *plain.flat(rings, dtype), threads, oriented)
+                    self.assertEqual(plain.parted(*left), right)
 
     def test_simplify_rings_beside_plain_loops(self):
         for dtype in plain.DTYPES:

@@ -114,7 +114,8 @@ def despike(points: npt.NDArray[Int]) -> Optional[npt.NDArray[Int]]:
     return _clean("despike", points)
 
 
-def canonical(points: npt.NDArray[Int]) -> Optional[npt.NDArray[Int]]:
+def canonical(points: npt.NDArray[Int],
+              oriented: bool = True) -> Optional[npt.NDArray[Int]]:
     """Return the simplified contour from the start that makes it least.
 
     Lists are compared point by point, and points by x and then by y. Two
@@ -125,6 +126,9 @@ def canonical(points: npt.NDArray[Int]) -> Optional[npt.NDArray[Int]]:
     ----------
     points : array of shape (n, 2), int16, int32 or int64
         The contour, as for :func:`simplify`.
+    oriented : bool
+        False lets the contour be read backwards too: its form is then the
+        lesser of those of both ways.
 
     Returns
     -------
@@ -140,10 +144,13 @@ def canonical(points: npt.NDArray[Int]) -> Optional[npt.NDArray[Int]]:
     --------
     >>> import numpy as np
     >>> from i_shape import canonical
-    >>> canonical(np.array([(4, 4), (0, 4), (0, 0), (2, 0), (4, 0)])).tolist()
+    >>> contour = np.array([(4, 4), (0, 4), (0, 0), (2, 0), (4, 0)])
+    >>> canonical(contour).tolist()
     [[0, 0], [4, 0], [4, 4], [0, 4]]
+    >>> canonical(contour, oriented=False).tolist()
+    [[0, 0], [0, 4], [4, 4], [4, 0]]
     """
-    return _clean("canonical", points)
+    return _clean("canonical" if oriented else "canonical_unoriented", points)
 
 
 def area_two(points: npt.NDArray[Int]) -> Optional[int]:

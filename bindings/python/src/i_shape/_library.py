@@ -75,7 +75,7 @@ def _call(name: str, answer: Any, *takes: Any) -> Any:
 
 def _calls(bits: int, number: Any, area: Any) -> Calls:
     array = (ctypes.c_void_p, ctypes.c_size_t)
-    cleaners = ("simplify", "despike", "canonical")
+    cleaners = ("simplify", "despike", "canonical", "canonical_unoriented")
     tests = ("is_simple", "has_no_spikes", "is_convex", "is_safe")
     return Calls(
         one={name: _call(f"i_shape_{name}_i{bits}", ctypes.c_ssize_t,
@@ -85,7 +85,7 @@ def _calls(bits: int, number: Any, area: Any) -> Calls:
               for name in cleaners},
         polygons={name: _call(f"i_shape_{name}_shapes_i{bits}",
                               ctypes.c_ssize_t, *array * 6)
-                  for name in (*cleaners, "canonical_unoriented")},
+                  for name in cleaners},
         test={name: _call(f"i_shape_{name}_i{bits}", ctypes.c_int32, *array)
               for name in tests},
         contains=_call(f"i_shape_contains_i{bits}", ctypes.c_int32, *array,

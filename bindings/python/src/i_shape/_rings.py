@@ -204,7 +204,7 @@ def despike_rings(points: npt.NDArray[Int], offsets: npt.ArrayLike,
 
 
 def canonical_rings(points: npt.NDArray[Int], offsets: npt.ArrayLike,
-                    threads: int = 1) -> Rings:
+                    threads: int = 1, oriented: bool = True) -> Rings:
     """Return the canonical form of each ring, as :func:`canonical` does.
 
     Parameters
@@ -213,6 +213,9 @@ def canonical_rings(points: npt.NDArray[Int], offsets: npt.ArrayLike,
     offsets : array of shape (m + 1,), of whole numbers
     threads : int
         As for :func:`simplify_rings`.
+    oriented : bool
+        False lets each ring be read backwards too, as for
+        :func:`canonical`.
 
     Returns
     -------
@@ -231,5 +234,8 @@ def canonical_rings(points: npt.NDArray[Int], offsets: npt.ArrayLike,
     >>> points = np.array([(4, 4), (0, 4), (0, 0), (2, 0), (4, 0)])
     >>> canonical_rings(points, [0, 5]).points.tolist()
     [[0, 0], [4, 0], [4, 4], [0, 4]]
+    >>> canonical_rings(points, [0, 5], oriented=False).points.tolist()
+    [[0, 0], [0, 4], [4, 4], [4, 0]]
     """
-    return _clean_rings("canonical", points, offsets, threads)
+    cleaner = "canonical" if oriented else "canonical_unoriented"
+    return _clean_rings(cleaner, points, offsets, threads)
