@@ -76,6 +76,9 @@ export interface IShape {
     /** The simplified contour from the start that makes it least. Else as `simplify`. */
     canonical<P extends Points>(contour: P): P;
 
+    /** The lesser of the canonical forms of the contour and of the contour read backwards. Else as `simplify`. */
+    canonicalUnoriented<P extends Points>(contour: P): P;
+
     /** Whether there are at least three points, and no zero turn: `simplify` has nothing to remove. */
     isSimple(contour: Points): boolean;
 
@@ -114,6 +117,8 @@ export interface IShape {
     despikeRings<P extends Points>(points: P, offsets: Offsets): Rings<P>;
 
     canonicalRings<P extends Points>(points: P, offsets: Offsets): Rings<P>;
+
+    canonicalUnorientedRings<P extends Points>(points: P, offsets: Offsets): Rings<P>;
 
     /**
      * The polygons with each ring as `simplify` leaves it, without holes that collapse and without polygons whose outer ring

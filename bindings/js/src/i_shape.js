@@ -105,6 +105,10 @@ class IShape {
         return this.#clean("canonical", contour);
     }
 
+    canonicalUnoriented(contour) {
+        return this.#clean("canonical_unoriented", contour);
+    }
+
     isSimple(contour) {
         return this.#test("is_simple", contour);
     }
@@ -173,6 +177,10 @@ class IShape {
 
     canonicalRings(points, offsets) {
         return this.#cleanRings("canonical_contours", points, offsets);
+    }
+
+    canonicalUnorientedRings(points, offsets) {
+        return this.#cleanRings("canonical_unoriented_contours", points, offsets);
     }
 
     simplifyPolygons(points, ringOffsets, polygonOffsets) {

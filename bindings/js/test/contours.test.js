@@ -10,6 +10,7 @@ const CONTOURS = [
         simplify: [4, 4, 0, 4, 0, 0, 4, 0],
         despike: [4, 4, 0, 4, 0, 0, 4, 0],
         canonical: [0, 0, 4, 0, 4, 4, 0, 4],
+        canonicalUnoriented: [0, 0, 0, 4, 4, 4, 4, 0],
         isSimple: true, hasNoSpikes: true, isConvex: true, areaTwo: 32n,
     },
     {
@@ -18,18 +19,19 @@ const CONTOURS = [
         simplify: [0, 0, 4, 0, 4, 4, 0, 4],
         despike: [0, 0, 2, 0, 4, 0, 4, 4, 0, 4],
         canonical: [0, 0, 4, 0, 4, 4, 0, 4],
+        canonicalUnoriented: [0, 0, 0, 4, 4, 4, 4, 0],
         isSimple: false, hasNoSpikes: true, isConvex: true, areaTwo: 32n,
     },
     {
         name: "three points on a line",
         given: [0, 0, 0, 8, 0, 1],
-        simplify: [], despike: [], canonical: [],
+        simplify: [], despike: [], canonical: [], canonicalUnoriented: [],
         isSimple: false, hasNoSpikes: false, isConvex: false, areaTwo: 0n,
     },
     {
         name: "two points",
         given: [0, 0, 4, 4],
-        simplify: [], despike: [], canonical: [],
+        simplify: [], despike: [], canonical: [], canonicalUnoriented: [],
         isSimple: false, hasNoSpikes: false, isConvex: true, areaTwo: 0n,
     },
     {
@@ -38,6 +40,7 @@ const CONTOURS = [
         simplify: [0, 0, 4, 0, 4, 4, 0, 4],
         despike: [0, 0, 4, 0, 4, 4, 0, 4],
         canonical: [0, 0, 4, 0, 4, 4, 0, 4],
+        canonicalUnoriented: [0, 0, 0, 4, 4, 4, 4, 0],
         isSimple: false, hasNoSpikes: false, isConvex: false, areaTwo: 32n,
     },
     {
@@ -46,6 +49,7 @@ const CONTOURS = [
         simplify: [-4, 0, 0, -4, 4, 0, 0, 4],
         despike: [-4, 0, 0, -4, 4, 0, 0, 4],
         canonical: [-4, 0, 0, -4, 4, 0, 0, 4],
+        canonicalUnoriented: [-4, 0, 0, -4, 4, 0, 0, 4],
         isSimple: false, hasNoSpikes: true, isConvex: true, areaTwo: 64n,
     },
     {
@@ -54,12 +58,13 @@ const CONTOURS = [
         simplify: [4, 4, 4, 0, 2, 0, 2, 2, 0, 2, 0, 4],
         despike: [4, 4, 4, 0, 2, 0, 2, 2, 0, 2, 0, 4],
         canonical: [0, 2, 0, 4, 4, 4, 4, 0, 2, 0, 2, 2],
+        canonicalUnoriented: [0, 2, 0, 4, 4, 4, 4, 0, 2, 0, 2, 2],
         isSimple: true, hasNoSpikes: true, isConvex: false, areaTwo: -24n,
     },
     {
         name: "no point",
         given: [],
-        simplify: [], despike: [], canonical: [],
+        simplify: [], despike: [], canonical: [], canonicalUnoriented: [],
         isSimple: false, hasNoSpikes: false, isConvex: true, areaTwo: undefined,
     },
 ];
@@ -81,6 +86,7 @@ CONTOURS.push({
     name: "a square of 64,000 points",
     given: fullSquare(),
     simplify: SQUARE, despike: fullSquare(), canonical: SQUARE,
+    canonicalUnoriented: [0, 0, 0, SIDE, SIDE, SIDE, SIDE, 0],
     isSimple: false, hasNoSpikes: true, isConvex: true, areaTwo: 2n * BigInt(SIDE) ** 2n,
 });
 
@@ -95,7 +101,7 @@ const ABOUT_TWICE = [
 
 describeWidths((shapes, { points, number, Points, limit }) => {
     for (const row of CONTOURS) {
-        for (const call of ["simplify", "despike", "canonical"]) {
+        for (const call of ["simplify", "despike", "canonical", "canonicalUnoriented"]) {
             test(`${call}: ${row.name}`, () => {
                 const given = points(row.given);
                 assert.deepEqual(shapes[call](given), points(row[call]));

@@ -3,8 +3,8 @@ import { describe, test } from "node:test";
 import { IShapeError, OffsetsError, OutOfMemoryError, UnsafePointError, load } from "../src/i_shape.js";
 import { bytesOf, describeModules, describeWidths } from "./support/modules.js";
 
-const ONE = ["simplify", "despike", "canonical", "isSimple", "hasNoSpikes", "isConvex"];
-const RINGS = ["simplifyRings", "despikeRings", "canonicalRings"];
+const ONE = ["simplify", "despike", "canonical", "canonicalUnoriented", "isSimple", "hasNoSpikes", "isConvex"];
+const RINGS = ["simplifyRings", "despikeRings", "canonicalRings", "canonicalUnorientedRings"];
 const POLYGONS = ["simplifyPolygons", "despikePolygons", "canonicalPolygons", "canonicalUnorientedPolygons"];
 const SQUARE = [0, 0, 4, 0, 4, 4, 0, 4];
 

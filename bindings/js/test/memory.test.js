@@ -15,12 +15,12 @@ function callsOf(shapes, { points, number }) {
     const contour = points(RING);
     const rings = points(Array.from({ length: RINGS }, () => RING).flat());
     const calls = {};
-    for (const name of ["simplify", "despike", "canonical", "isSimple", "hasNoSpikes", "isConvex", "isSafe", "areaTwo"]) {
+    for (const name of ["simplify", "despike", "canonical", "canonicalUnoriented", "isSimple", "hasNoSpikes", "isConvex", "isSafe", "areaTwo"]) {
         calls[name] = () => shapes[name](contour);
     }
     for (const name of ["contains", "windingNumber"]) calls[name] = () => shapes[name](contour, number(1), number(1));
     calls.windingNumbers = () => shapes.windingNumbers(rings, OFFSETS, contour);
-    for (const name of ["simplifyRings", "despikeRings", "canonicalRings"]) calls[name] = () => shapes[name](rings, OFFSETS);
+    for (const name of ["simplifyRings", "despikeRings", "canonicalRings", "canonicalUnorientedRings"]) calls[name] = () => shapes[name](rings, OFFSETS);
     for (const name of ["simplifyPolygons", "despikePolygons", "canonicalPolygons", "canonicalUnorientedPolygons"]) {
         calls[name] = () => shapes[name](rings, OFFSETS, POLYGONS);
     }
@@ -85,9 +85,11 @@ describeModules((shapes, bits) => {
             simplify: (it) => it.simplify(contour),
             despike: (it) => it.despike(contour),
             canonical: (it) => it.canonical(contour),
+            canonicalUnoriented: (it) => it.canonicalUnoriented(contour),
             simplifyRings: (it) => it.simplifyRings(contour, [0, count]),
             despikeRings: (it) => it.despikeRings(contour, [0, count]),
             canonicalRings: (it) => it.canonicalRings(contour, [0, count]),
+            canonicalUnorientedRings: (it) => it.canonicalUnorientedRings(contour, [0, count]),
             simplifyPolygons: (it) => it.simplifyPolygons(contour, offsets, [0, 512, 1024]),
             despikePolygons: (it) => it.despikePolygons(contour, offsets, [0, 512, 1024]),
             canonicalPolygons: (it) => it.canonicalPolygons(contour, offsets, [0, 512, 1024]),

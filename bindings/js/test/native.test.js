@@ -87,7 +87,7 @@ function answers(shapes, contours, { bits, Points, number }) {
     for (const { about, points } of contours) {
         const given = Points.from(points.flat(), number);
         const [x, y] = about.map(number);
-        for (const name of ["simplify", "despike", "canonical"]) tell(name, answerOf(() => shapes[name](given)));
+        for (const name of ["simplify", "despike", "canonical", "canonicalUnoriented"]) tell(name, answerOf(() => shapes[name](given)));
         tellArea(shapes.areaTwo(given));
         lines.push(["tests", ...["isSafe", "isSimple", "hasNoSpikes", "isConvex"].map((name) => Number(answerOf(() => shapes[name](given))))].join(" "));
         const contains = Number(answerOf(() => shapes.contains(given, x, y)));
@@ -101,7 +101,7 @@ function answers(shapes, contours, { bits, Points, number }) {
         offsets.push(offsets.at(-1) + points.length / 2);
         if (offsets.length - 1 - polygons.at(-1) > (polygons.length - 1) % 3) polygons.push(offsets.length - 1);
     }
-    for (const name of ["simplify", "despike", "canonical"]) {
+    for (const name of ["simplify", "despike", "canonical", "canonicalUnoriented"]) {
         const left = shapes[`${name}Rings`](all, offsets);
         tell(name, left.points);
         tellOffsets(left.offsets);

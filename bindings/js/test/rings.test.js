@@ -12,12 +12,18 @@ const LEFT = [
     { call: "simplifyRings", points: [4, 4, 0, 4, 0, 0, 4, 0, /**/ 9, 0, 9, 5, 4, 0], offsets: [0, 4, 4, 7] },
     { call: "despikeRings", points: [4, 4, 0, 4, 0, 0, 2, 0, 4, 0, /**/ 9, 0, 9, 5, 4, 0], offsets: [0, 5, 5, 8] },
     { call: "canonicalRings", points: [0, 0, 4, 0, 4, 4, 0, 4, /**/ 4, 0, 9, 0, 9, 5], offsets: [0, 4, 4, 7] },
+    { call: "canonicalUnorientedRings", points: [0, 0, 0, 4, 4, 4, 4, 0, /**/ 4, 0, 9, 0, 9, 5], offsets: [0, 4, 4, 7] },
 ];
 
 // Squares with a straight vertex, and what is left of each.
 const COUNT = 20000;
 const ONE = [0, 0, 2, 0, 4, 0, 4, 4, 0, 4];
-const ONE_LEFT = { simplifyRings: [0, 0, 4, 0, 4, 4, 0, 4], despikeRings: ONE, canonicalRings: [0, 0, 4, 0, 4, 4, 0, 4] };
+const ONE_LEFT = {
+    simplifyRings: [0, 0, 4, 0, 4, 4, 0, 4],
+    despikeRings: ONE,
+    canonicalRings: [0, 0, 4, 0, 4, 4, 0, 4],
+    canonicalUnorientedRings: [0, 0, 0, 4, 4, 4, 4, 0],
+};
 
 function repeated(items, count) {
     return Array.from({ length: count }, () => items).flat();

@@ -4,7 +4,7 @@ import { IShapeError, OffsetsError, UnsafePointError, load, supportsMemory64, ty
 async function contours(): Promise<void> {
     const shapes: IShape = await load(fetch(supportsMemory64() ? "i_shape64.wasm" : "i_shape32.wasm"));
     const narrow: Int16Array = shapes.simplify(Int16Array.of(0, 0));
-    const wide: BigInt64Array = shapes.canonical(BigInt64Array.of(0n, 0n));
+    const wide: BigInt64Array = shapes.canonicalUnoriented(shapes.canonical(BigInt64Array.of(0n, 0n)));
     const area: bigint | undefined = shapes.areaTwo(narrow);
     const inside: boolean = shapes.contains(Int32Array.of(0, 0), 1, 1) && shapes.contains(wide, 1n, 1n);
     const winding: number = shapes.windingNumber(wide, 1n, 1n);
@@ -22,7 +22,8 @@ async function contours(): Promise<void> {
 
 async function rings(shapes: IShape): Promise<void> {
     const points = Int32Array.of(0, 0);
-    const left: Rings<Int32Array> = shapes.simplifyRings(points, [0, 1]);
+    const simplified: Rings<Int32Array> = shapes.simplifyRings(points, [0, 1]);
+    const left: Rings<Int32Array> = shapes.canonicalUnorientedRings(simplified.points, simplified.offsets);
     const polygons: Polygons<Int32Array> = shapes.canonicalPolygons(left.points, left.offsets, BigInt64Array.of(0n, 1n));
     const windings: Int32Array = shapes.windingNumbers(points, Uint32Array.of(0, 1), polygons.points);
     console.log(windings);

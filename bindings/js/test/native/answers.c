@@ -42,6 +42,7 @@ static void answer_one(const point *given, size_t count, point asked) {
     print_points("simplify", CALL(simplify)(given, count, out, count), out);
     print_points("despike", CALL(despike)(given, count, out, count), out);
     print_points("canonical", CALL(canonical)(given, count, out, count), out);
+    print_points("canonicalUnoriented", CALL(canonical_unoriented)(given, count, out, count), out);
     print_area(given, count);
     printf("tests %d %d %d %d\n", (int)CALL(is_safe)(given, count), (int)CALL(is_simple)(given, count), (int)CALL(has_no_spikes)(given, count),
            (int)CALL(is_convex)(given, count));
@@ -108,6 +109,7 @@ int main(void) {
     answer_rings("simplify", CALL(simplify_contours));
     answer_rings("despike", CALL(despike_contours));
     answer_rings("canonical", CALL(canonical_contours));
+    answer_rings("canonicalUnoriented", CALL(canonical_unoriented_contours));
     answer_polygons("simplify", CALL(simplify_shapes));
     answer_polygons("despike", CALL(despike_shapes));
     answer_polygons("canonical", CALL(canonical_shapes));
