@@ -15,10 +15,11 @@ from typing import Optional, Sequence
 from ._command import files, plot, report
 from ._rings import canonical_rings, despike_rings, simplify_rings
 from .io import Grid, features_from_grid, features_to_grid
-from .io._cleaners import clean, in_order
+from .io._cleaners import Cleaner, clean, in_order
 
-_CLEANERS = {"simplify": simplify_rings, "despike": despike_rings,
-             "canonical": canonical_rings}
+_CLEANERS: dict[str, Cleaner] = {
+    "simplify": simplify_rings, "despike": despike_rings,
+    "canonical": canonical_rings}
 _PICTURES = ("pdf", "png", "svg")
 
 
