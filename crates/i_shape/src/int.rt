@@ -18,6 +18,8 @@ pub mod cleaner {
     pub use i_shape_core::cleaner::{
         Canonicalizer, ContourCleaner, SpikeRemover, UnorientedCanonicalizer,
     };
+    pub use i_shape_core::despike::ContourDeSpiker;
+    pub use i_shape_core::simplifier::ContourSimplifier;
 }
 
 /// The safe-range test of a resource.

@@ -41,7 +41,7 @@ impl ContourSimplifier {
 
     /// The same, for points of any type, written to the front of `out`: answers how many points are left, 0 where the contour
     /// collapses. What stands behind them stays as it was, and so does all of `out` where there is an error. Memory is taken
-    /// for the places of a contour that is not clean alone, and is kept. The only error is `OutOfMemory`.
+    /// only for the places of a contour that isn't clean, and is kept. The only error is `OutOfMemory`.
     pub fn canonical_into<P: ContourPoint>(
         &mut self,
         contour: &[P],

@@ -21,9 +21,9 @@ use crate::simplifier::ContourSimplifier;
 use std::alloc::Global;
 
 /// Cleans contours of safe points. One value cleans any number of them, and keeps its memory from one to the next; no answer depends on
-/// earlier use, nor on an earlier refusal.
+/// earlier use, nor on an earlier refusal (of the removal of spikes this is tested, and no clause says it).
 pub trait ContourCleaner: Drop {
-    /// What a contour that is clean is.
+    /// The contours of which no point is removed: for these `clean_into` takes no memory. A canonical form still turns them.
     ghost clean: { List Point → Type 0 };
 
     /// What a contour becomes: none where it collapses.
@@ -70,8 +70,8 @@ pub trait ContourCleaner: Drop {
     }
 
     /// The cleaned contour, written to the front of `out`: answers how many points are left, 0 where the contour collapses. What
-    /// stands behind them stays as it was, and so does all of `out` where there is an error. Memory is taken for the places of a
-    /// contour that isn't clean alone, and is kept. The only error is `OutOfMemory`.
+    /// stands behind them stays as it was, and so does all of `out` where there is an error. Memory is taken only
+    /// for the places of a contour that isn't clean, and is kept. The only error is `OutOfMemory`.
     fn clean_into<P: ContourPoint>(
         &mut self,
         contour: &[P],
@@ -87,7 +87,7 @@ pub trait ContourCleaner: Drop {
         ensures memory { IsOkUnless result ShapeError.OutOfMemory };
 }
 
-/// Zero turns are removed.
+/// Removes zero turns.
 impl ContourCleaner for ContourSimplifier {
     ghost clean = { IsSimple };
 
@@ -119,7 +119,7 @@ impl ContourCleaner for ContourSimplifier {
     }
 }
 
-/// The points at which the way turns back or stands still are removed.
+/// Removes the points at which the way turns back or stands still.
 impl ContourCleaner for ContourDeSpiker {
     ghost clean = { IsDespikedAlready };
 

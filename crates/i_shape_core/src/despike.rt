@@ -1,4 +1,4 @@
-//! Contours without spikes: the test, and the cleaned copy.
+//! Contours without spikes: the tests, the cleaned copy, and the cleaner.
 
 ghost use Rattle.std.specs.Prelude.{◌≡◌, ◌↔◌, ◌+◌, ◌-◌, ◌*◌, ◌^◌, ◌<◌, ◌≤◌, List, Some, length, map, option_map, false, IsTrue, IsNone, IfOk, OnErr, IsOkUnless};
 ghost use Rattle.std.specs.Option.{IfSome};
@@ -160,9 +160,9 @@ impl ContourDeSpiker {
         self.despiked(Probe::new(contour))
     }
 
-    /// The same, for points of any type, written to the front of `out`: answers how many points are left, 0 where the contour
-    /// collapses. What stands behind them stays as it was, and so does all of `out` where there is an error. Memory is taken
-    /// for the places of a contour that has a spike or a repeated point alone, and is kept. The only error is `OutOfMemory`.
+    /// What `despike_contour` gives, for points of any type, written to the front of `out`: answers how many points are left, 0 where
+    /// the contour collapses. What stands behind them stays as it was, and so does all of `out` where there is an error. Memory is taken
+    /// only for the places of a contour that has a spike or a repeated point, and is kept. The only error is `OutOfMemory`.
     pub fn despike_into<P: ContourPoint>(
         &mut self,
         contour: &[P],

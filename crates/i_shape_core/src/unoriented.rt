@@ -39,7 +39,7 @@ impl ContourSimplifier {
 
     /// The same, for points of any type, written to the front of `out`: answers how many points are left, 0 where the contour
     /// collapses. What stands behind them stays as it was, and so does all of `out` where there is an error. Memory is taken
-    /// for the places of a contour that is not clean alone, and is kept. The only error is `OutOfMemory`.
+    /// only for the places of a contour that isn't clean, and is kept. The only error is `OutOfMemory`.
     pub fn canonical_unoriented_into<P: ContourPoint>(
         &mut self,
         contour: &[P],
@@ -62,7 +62,7 @@ impl ContourSimplifier {
     }
 }
 
-/// Turns a contour in place to the least rotation of the contour read backwards, where that comes first.
+/// Turns a contour in place to the least rotation of the contour read backwards, where that comes first; otherwise it stays.
 fn turn_to_lesser<P: ContourPoint>(contour: &mut [P])
     requires { 0 < length contour.old }
     ensures lesser { IsLesserWay (contour_of P.Coordinate.value (P.points contour.old)) (contour_of P.Coordinate.value (P.points contour.new)) }
@@ -77,7 +77,8 @@ fn turn_to_lesser<P: ContourPoint>(contour: &mut [P])
     }
 }
 
-/// Whether the rotation of a contour that starts at `start` comes before the contour read backwards.
+/// Whether the rotation of a contour that starts at `start` comes before the contour read backwards: either answer where the two are
+/// equal.
 fn comes_before_reversed<P: ContourPoint>(contour: &[P], start: usize) -> bool
     requires { start < length contour.now }
     ensures before { let c = contour_of P.Coordinate.value (P.points contour.now) in IsTrue result → IsAtMost (started_at c start) (reverse c) }

@@ -5,12 +5,14 @@ ghost use Rattle.std.specs.List.{All};
 ghost use Rattle.i_shape.specs.IntPoint.{contour_of, IsSafe};
 
 use crate::claims::{equal, holds};
-use i_shape::int::cleaner::{Canonicalizer, ContourCleaner, SpikeRemover, UnorientedCanonicalizer};
-use i_shape::int::despike::ContourDeSpiker;
-use i_shape::int::simple::ContourSimplifier;
-use i_shape::int::{ContourPoint, IntPoint};
+use crate::cleaned_into::{points, safe};
+use i_shape::int::ContourPoint;
+use i_shape::int::cleaner::{
+    Canonicalizer, ContourCleaner, ContourDeSpiker, ContourSimplifier, SpikeRemover,
+    UnorientedCanonicalizer,
+};
 use i_shape::{IntNumber, ShapeError};
-use std::alloc::{AllocError, Global};
+use std::alloc::Global;
 use std::process::Abort;
 use std::test::Fail;
 
@@ -33,23 +35,6 @@ struct Row<'a, I> {
     unoriented: Left<'a, I>,
 }
 
-fn points<I: IntNumber>(alloc: Global, list: &[[I; 2]]) -> Result<Vec<IntPoint<I>>, AllocError> {
-    let mut points = Vec::new(alloc);
-    for [x, y] in list {
-        points.push(IntPoint::new(*x, *y))?;
-    }
-    Ok(points)
-}
-
-/// These points. The test stops where one isn't safe.
-fn safe<'a, I: IntNumber>(rt: &impl Abort, points: &'a [IntPoint<I>]) -> &'a [IntPoint<I>]
-    ensures points_safe { All (IsSafe I.width) (contour_of I.value result.now) }
-    ensures same { result.now ≡ points.now }
-{
-    assert!(rt; points.iter().all(|point| point.is_in_safe_range()), "a point isn't in safe range");
-    points
-}
-
 /// What a cleaner writes of a contour to the front of `out`.
 fn written<P: ContourPoint, C: ContourCleaner>(
     cleaner: &mut C,
@@ -63,10 +48,11 @@ fn written<P: ContourPoint, C: ContourCleaner>(
     cleaner.clean_into(contour, out)
 }
 
-/// The cleaner tells whether the contour is clean, and leaves these points, as a copy and in a slice.
+/// The cleaner, whatever it has cleaned before, tells whether the contour is clean, and leaves these points, as a copy and in a slice.
 fn cleans<I: IntNumber, C: ContourCleaner>(
     rt: &impl Abort,
     alloc: Global,
+    cleaner: &mut C,
     name: &str,
     given: &[[I; 2]],
     left: Left<'_, I>,
@@ -74,7 +60,6 @@ fn cleans<I: IntNumber, C: ContourCleaner>(
     let given = points(alloc, given)?;
     let left_points = points(alloc, left.points)?;
     let contour = safe(rt, given.as_slice());
-    let mut cleaner = C::with_room(alloc, 0);
     equal(rt, C::is_clean(contour), left.is_clean, name, "is_clean");
     let is_copied = match cleaner.cleaned(contour)? {
         Some(copy) => copy == left_points,
@@ -83,17 +68,65 @@ fn cleans<I: IntNumber, C: ContourCleaner>(
     holds(rt, is_copied, name, "cleaned");
     let mut out = Vec::from_slice(alloc, contour)?;
     assert!(rt; contour.len() <= out.len(), "{name}: no room");
-    let count = written(&mut cleaner, contour, out.as_mut_slice())?;
-    holds(rt, &out.as_slice()[..count] == left_points.as_slice(), name, "clean_into");
+    let count = written(cleaner, contour, out.as_mut_slice())?;
+    holds(
+        rt,
+        &out.as_slice()[..count] == left_points.as_slice(),
+        name,
+        "clean_into",
+    );
     Ok(())
 }
 
-fn all_clean<I: IntNumber>(rt: &impl Abort, alloc: Global, row: &Row<'_, I>) -> Result<(), Fail> {
-    cleans::<I, ContourSimplifier>(rt, alloc, row.name, row.given, row.simplified)?;
-    cleans::<I, ContourDeSpiker>(rt, alloc, row.name, row.given, row.despiked)?;
-    cleans::<I, SpikeRemover>(rt, alloc, row.name, row.given, row.without_spikes)?;
-    cleans::<I, Canonicalizer>(rt, alloc, row.name, row.given, row.canonical)?;
-    cleans::<I, UnorientedCanonicalizer>(rt, alloc, row.name, row.given, row.unoriented)
+/// A cleaner of each kind.
+#[derive(Drop)]
+struct Cleaners {
+    simplifier: ContourSimplifier,
+    despiker: ContourDeSpiker,
+    remover: SpikeRemover,
+    canonicalizer: Canonicalizer,
+    unoriented: UnorientedCanonicalizer,
+}
+
+impl Cleaners {
+    fn new(alloc: Global) -> Cleaners {
+        Cleaners {
+            simplifier: ContourCleaner::with_room(alloc, 0),
+            despiker: ContourCleaner::with_room(alloc, 0),
+            remover: ContourCleaner::with_room(alloc, 0),
+            canonicalizer: ContourCleaner::with_room(alloc, 0),
+            unoriented: ContourCleaner::with_room(alloc, 0),
+        }
+    }
+
+    fn clean<I: IntNumber>(
+        &mut self,
+        rt: &impl Abort,
+        alloc: Global,
+        row: &Row<'_, I>,
+    ) -> Result<(), Fail> {
+        let name = row.name;
+        let given = row.given;
+        cleans(rt, alloc, &mut self.simplifier, name, given, row.simplified)?;
+        cleans(rt, alloc, &mut self.despiker, name, given, row.despiked)?;
+        cleans(
+            rt,
+            alloc,
+            &mut self.remover,
+            name,
+            given,
+            row.without_spikes,
+        )?;
+        cleans(
+            rt,
+            alloc,
+            &mut self.canonicalizer,
+            name,
+            given,
+            row.canonical,
+        )?;
+        cleans(rt, alloc, &mut self.unoriented, name, given, row.unoriented)
+    }
 }
 
 macro_rules! clean {
@@ -168,27 +201,33 @@ macro_rules! rows {
 
 #[test]
 fn at_16_bits(rt: HostRuntime) -> Result<(), Fail> {
+    let alloc = rt.alloc();
+    let mut cleaners = Cleaners::new(alloc);
     let rows: [Row<'static, i16>; 5] = rows!();
     for row in &rows {
-        all_clean(&rt, rt.alloc(), row)?;
+        cleaners.clean(&rt, alloc, row)?;
     }
     Ok(())
 }
 
 #[test]
 fn at_32_bits(rt: HostRuntime) -> Result<(), Fail> {
+    let alloc = rt.alloc();
+    let mut cleaners = Cleaners::new(alloc);
     let rows: [Row<'static, i32>; 5] = rows!();
     for row in &rows {
-        all_clean(&rt, rt.alloc(), row)?;
+        cleaners.clean(&rt, alloc, row)?;
     }
     Ok(())
 }
 
 #[test]
 fn at_64_bits(rt: HostRuntime) -> Result<(), Fail> {
+    let alloc = rt.alloc();
+    let mut cleaners = Cleaners::new(alloc);
     let rows: [Row<'static, i64>; 5] = rows!();
     for row in &rows {
-        all_clean(&rt, rt.alloc(), row)?;
+        cleaners.clean(&rt, alloc, row)?;
     }
     Ok(())
 }
@@ -207,12 +246,15 @@ fn of_a_long_contour(rt: HostRuntime) -> Result<(), Fail> {
     }
     let corners: [[i32; 2]; 4] = [[0, 0], [4999, 0], [4999, 8], [0, 8]];
     let back: [[i32; 2]; 4] = [[0, 0], [0, 8], [4999, 8], [4999, 0]];
-    let name = "a long contour";
     let given = given.as_slice();
-    cleans::<i32, ContourSimplifier>(&rt, alloc, name, given, unclean!(corners.as_slice()))?;
-    cleans::<i32, ContourDeSpiker>(&rt, alloc, name, given, clean!(given))?;
-    cleans::<i32, SpikeRemover>(&rt, alloc, name, given, clean!(given))?;
-    cleans::<i32, Canonicalizer>(&rt, alloc, name, given, unclean!(corners.as_slice()))?;
-    cleans::<i32, UnorientedCanonicalizer>(&rt, alloc, name, given, unclean!(back.as_slice()))?;
-    Ok(())
+    let row = Row {
+        name: "a long contour",
+        given,
+        simplified: unclean!(corners.as_slice()),
+        despiked: clean!(given),
+        without_spikes: clean!(given),
+        canonical: unclean!(corners.as_slice()),
+        unoriented: unclean!(back.as_slice()),
+    };
+    Cleaners::new(alloc).clean(&rt, alloc, &row)
 }

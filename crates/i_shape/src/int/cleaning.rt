@@ -1,6 +1,6 @@
 //! Shapes and shape lists, cleaned by any cleaner of contours.
 
-ghost use Rattle.std.specs.Prelude.{◌≡◌, ◌↔◌, ◌≤◌, ◌++◌, List, length, Option, Some, IsTrue, IfOk, IfSome, OnOk, IsOkUnless};
+ghost use Rattle.std.specs.Prelude.{◌≡◌, ◌↔◌, ◌++◌, List, Option, Some, IsTrue, IfOk, IfSome, OnOk, IsOkUnless};
 ghost use Rattle.std.specs.Int.{Width};
 ghost use Rattle.std.specs.List.{All};
 ghost use Rattle.std.specs.Option.{option_to_list};
@@ -9,7 +9,7 @@ ghost use Rattle.i_shape_core.specs.IntPoint.{contour_of, IsSafe, answered};
 ghost use Rattle.i_shape_core.specs.Cleaners.{KeptAnswer};
 ghost use Rattle.i_shape_core.proofs.Cleaned.{simple_stays};
 ghost use Rattle.i_shape_core.proofs.Answered.{simple_kept, despike_kept, spikeless_stays};
-ghost use Rattle.i_shape_core.proofs.CleanerLaws.{simple_safe, simple_fewer, simple_points, simple_left_points, despike_safe, despike_fewer, spikeless_points, despike_left_points, canonical_safe, canonical_fewer, unoriented_safe, unoriented_fewer};
+ghost use Rattle.i_shape_core.proofs.CleanerLaws.{simple_safe, simple_points, simple_left_points, despike_safe, spikeless_points, despike_left_points, canonical_safe, unoriented_safe};
 ghost use Rattle.i_shape.specs.ShapeAnswers.{HasPoints, Survivors, ShapeClean, ListClean, EachContour, EachShape, AreKept, ListKept};
 ghost use Rattle.i_shape.specs.ShapeLists.{shape_of, shapes_of, IsSafeShape, IsSafeList};
 ghost use Rattle.i_shape.specs.InPlace.{CleansShape, CleansList};
@@ -30,13 +30,10 @@ use i_shape_core::point::IntPoint;
 use i_shape_core::simplifier::ContourSimplifier;
 use std::alloc::Global;
 
-/// What shapes and lists take of the answers of a cleaner.
+/// What shapes and lists take of the answers of a cleaner. `ContourDeSpiker` has none: shapes keep repeated points.
 pub trait CleanerLaws: ContourCleaner {
     /// An answer has safe points where the contour has.
     ghost stays_safe: { (width : Width) (c e : List Point) → Self.answers c (Some e) → All (IsSafe width) c → All (IsSafe width) e };
-
-    /// An answer has no more points than the contour.
-    ghost fewer: { (c e : List Point) → Self.answers c (Some e) → length e ≤ length c };
 }
 
 /// A cleaner that leaves clean contours as they are.
@@ -54,11 +51,8 @@ pub trait InPlaceCleaner: CleanerLaws {
     ghost left_points: { (c e : List Point) → (Self.clean c → ⊥) → Self.answers c (Some e) → HasPoints e };
 }
 
-/// Zero turns are removed.
 impl CleanerLaws for ContourSimplifier {
     ghost stays_safe = { simple_safe };
-
-    ghost fewer = { simple_fewer };
 }
 
 impl InPlaceCleaner for ContourSimplifier {
@@ -71,11 +65,8 @@ impl InPlaceCleaner for ContourSimplifier {
     ghost left_points = { simple_left_points };
 }
 
-/// Spikes are removed, and a contour that has none stays as it is.
 impl CleanerLaws for SpikeRemover {
     ghost stays_safe = { despike_safe };
-
-    ghost fewer = { despike_fewer };
 }
 
 impl InPlaceCleaner for SpikeRemover {
@@ -88,18 +79,12 @@ impl InPlaceCleaner for SpikeRemover {
     ghost left_points = { despike_left_points };
 }
 
-/// The canonical form.
 impl CleanerLaws for Canonicalizer {
     ghost stays_safe = { canonical_safe };
-
-    ghost fewer = { canonical_fewer };
 }
 
-/// The canonical form whichever way round the contour is wound.
 impl CleanerLaws for UnorientedCanonicalizer {
     ghost stays_safe = { unoriented_safe };
-
-    ghost fewer = { unoriented_fewer };
 }
 
 /// Whether no contour of the shape needs cleaning.

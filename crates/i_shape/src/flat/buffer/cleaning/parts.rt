@@ -52,7 +52,8 @@ pub fn checked_total(ranges: &[Range<usize>]) -> Option<usize>
     Some(total)
 }
 
-/// Appends the cleaned contour, and nothing where it collapses. Answers whether anything is left of it.
+/// Appends the cleaned contour, over its copy at the end of `points`, and nothing where it collapses. Answers whether anything is left
+/// of it. After a refusal both lists may have grown: the callers drop them.
 pub fn append_cleaned<T: IntNumber, C: ContourCleaner>(
     cleaner: &mut C,
     points: &mut Vec<IntPoint<T>>,
