@@ -19,7 +19,7 @@ skip_all() {
 # Node counts what it has run.
 test_by_node() {
     local status counts
-    node "${flags[@]}" --test --test-reporter=tap "${tests[@]}" > "$work/log" 2>&1
+    timeout 1200 node "${flags[@]}" --test --test-reporter=tap "${tests[@]}" > "$work/log" 2>&1
     status=$?
     counts=$(sed -nE 's/^# (pass|fail|cancelled) ([0-9]+)$/\2/p' "$work/log" | tr '\n' ' ')
     if ! [[ $counts =~ ^([0-9]+)\ ([0-9]+)\ ([0-9]+)\ $ ]]; then

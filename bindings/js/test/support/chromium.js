@@ -13,9 +13,11 @@ const TYPES = {
     ".txt": "text/plain",
     ".wasm": "application/wasm",
 };
-const PATIENCE = 20_000;
+const WORDS = ["--headless=new", "--no-sandbox", "--disable-gpu", "--disable-dev-shm-usage", "--no-first-run"];
+const PATIENCE = 60_000;
 
-export const hasChromium = spawnSync("chromium", ["--version"]).status === 0;
+/** Whether there is a Chromium that opens a page here. */
+export const hasChromium = spawnSync("chromium", [...WORDS, "--dump-dom", "about:blank"], { timeout: PATIENCE }).status === 0;
 
 /** Serves the files of a folder, and answers the server and the address of the folder. */
 export async function serve(folder) {
@@ -60,9 +62,9 @@ export class Browser {
     }
 
     #start() {
-        const words = ["--headless=new", "--no-sandbox", "--disable-gpu", "--disable-dev-shm-usage", "--no-first-run", "--remote-debugging-pipe"];
+        const words = [...WORDS, "--remote-debugging-pipe", `--user-data-dir=${this.#home}`, "about:blank"];
         const stdio = ["ignore", "ignore", "ignore", "pipe", "pipe"];
-        this.#process = spawn("chromium", [...words, `--user-data-dir=${this.#home}`, "about:blank"], { stdio });
+        this.#process = spawn("chromium", words, { stdio });
         this.#process.stdio[4].on("data", (data) => this.#hear(data));
         this.#process.once("exit", () => {
             for (const { fail } of this.#waiting.values()) fail(new Error("chromium has ended"));
