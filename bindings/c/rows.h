@@ -3,6 +3,11 @@ enum { MOST = 8, CLEANERS = 4 };
 
 static const char *const cleaner_names[CLEANERS] = {"simplify", "despike", "canonical", "canonical_unoriented"};
 
+/* Whether the cleaner gives a canonical form. */
+static inline int is_form(int cleaner) {
+    return cleaner >= 2;
+}
+
 struct left {
     size_t count;
     int points[MOST][2];

@@ -158,9 +158,9 @@ static void AT(test_shapes_codes)(void) {
         check(CLEAN(contours, 3, shapes, 2, 6, 3, 3) == I_SHAPE_UNSAFE, W, name, "polygons with a point that isn't safe");
         check(IS_UNTOUCHED, W, name, "codes leave the arrays of polygons as they were");
         given[5].y = 4;
-        /* Two clean contours of a polygon: four lists of the library's points, four of what is left, and three end to end; each contour
-           backwards too, where it is read so. */
-        WITH_EACH_GROWTH_REFUSED(CLEAN(contours, 3, shapes, 2, 6, 3, 3), IS_UNTOUCHED, growths == 11, W, name);
+        /* Two clean contours of a polygon: three lists with all points, contours and polygons end to end; for a canonical form four
+           lists of the library's points and four of what is left too. */
+        WITH_EACH_GROWTH_REFUSED(CLEAN(contours, 3, shapes, 2, 6, 3, 3), IS_UNTOUCHED, growths == (is_form(k) ? 11 : 3), W, name);
 #undef IS_UNTOUCHED
 #undef CLEAN
     }
@@ -254,6 +254,16 @@ static void AT(test_refusals)(void) {
             WITH_EACH_GROWTH_REFUSED(AT(cleaners)[k](given, count, out, count), 1, growths == 0, W, cleaner_names[k]);
         WITH_EACH_GROWTH_REFUSED(AT(batches)[k](given, 10, few, 4, out, 10, out_offsets, 4), 1, growths == 0, W, cleaner_names[k]);
         WITH_EACH_GROWTH_REFUSED(AT(batches)[k](given, 10, none, 1, out, 10, out_offsets, 1), 1, growths == 0, W, cleaner_names[k]);
+    }
+    /* Polygons with points to be removed: three lists more, and the places of the walk, however many contours there are. */
+    for (int k = 0; k < CLEANERS; k++) {
+        POINT out[10];
+        size_t out_contours[3], out_shapes[3];
+        const size_t one[2] = {0, 1}, both[2] = {0, 2}, apart[3] = {0, 1, 2};
+        if (is_form(k)) continue;
+        WITH_EACH_GROWTH_REFUSED(AT(polygons)[k](given, 10, offsets, 2, one, 2, out, 10, out_contours, 3, out_shapes, 3), 1, growths == 7, W, cleaner_names[k]);
+        WITH_EACH_GROWTH_REFUSED(AT(polygons)[k](given, 10, offsets, 3, both, 2, out, 10, out_contours, 3, out_shapes, 3), 1, growths == 7, W, cleaner_names[k]);
+        WITH_EACH_GROWTH_REFUSED(AT(polygons)[k](given, 10, offsets, 3, apart, 3, out, 10, out_contours, 3, out_shapes, 3), 1, growths == 7, W, cleaner_names[k]);
     }
     WITH_EACH_GROWTH_REFUSED(CALL(is_simple)(given, 10), 1, growths == 0, W, "is_simple");
     WITH_EACH_GROWTH_REFUSED(CALL(has_no_spikes)(given, 10), 1, growths == 0, W, "has_no_spikes");

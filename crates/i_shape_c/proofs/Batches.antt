@@ -1,7 +1,7 @@
 -- Contours in one array of points, parted by offsets.
 use Rattle.std.proofs.Common.{◌≡◌, ℕ, ◌+◌, ◌-◌, ◌≤◌, ◌<◌, max, suc, zero, List, map, length, take, drop, set, slice_range, ap, sym, subst, ◌∙◌, arith, Option, ◌⊎◌, inl, inr, eq-or-lt_of_le, subst₂}
 use Rattle.std.specs.Int.{Width}
-use Rattle.std.specs.Prelude.{Result, Ok, Err, OnErr}
+use Rattle.std.specs.Prelude.{Result, Ok, Err, OnErr, OnOk}
 use Rattle.std.proofs.lemmas.List.{take-take, drop-take, drop-drop, get_or-set_same, get_or-set_other}
 use Rattle.std.proofs.lemmas.Bool.{cases_lt}
 use Rattle.std.proofs.lemmas.List.Elements.{All-take, All-drop}
@@ -21,6 +21,11 @@ further xs ys n m less same =
 pub on_err : {T E Q : Type 0} (r : Result T E) → Q → OnErr r Q
 on_err (Ok t) q = tt
 on_err (Err e) q = q
+
+-- what follows where a call is done
+pub on_ok : {T E P Q : Type 0} (r : Result T E) → (P → Q) → OnOk r P → OnOk r Q
+on_ok (Ok t) follows p = follows p
+on_ok (Err e) follows p = tt
 
 -- a part of what is the same is the same
 same_part_at : {X : Type 0} (xs ys : List X) (n a m : ℕ) → a + m ≤ n → take n xs ≡ take n ys → take m (drop a xs) ≡ take m (drop a ys)

@@ -1,6 +1,6 @@
 -- Polygons in three arrays, as lists.
-use Rattle.std.proofs.Common.{◌≡◌, ℕ, ℤ, zero, suc, ◌+◌, ◌-◌, ◌≤◌, ◌<◌, ◌++◌, List, [], ◌∷◌, map, length, take, drop, set, slice_range, refl, sym, ap, subst, ◌∙◌, arith}
-use Rattle.std.specs.Global.{Vec}
+use Rattle.std.proofs.Common.{◌≡◌, ℕ, ℤ, zero, suc, ◌+◌, ◌-◌, ◌≤◌, ◌<◌, ◌++◌, List, [], ◌∷◌, map, length, take, drop, set, slice_range, append-nil, length-append, refl, sym, ap, ap₂, subst, ◌∙◌, arith}
+use Rattle.std.specs.declared.ops.Range.{Range}
 use Rattle.std.specs.Int.{Width}
 use Rattle.std.specs.List.{All, range_with_len}
 use Rattle.std.proofs.lemmas.List.{length-map, map-append}
@@ -11,12 +11,14 @@ use Rattle.i_shape.specs.Point.{Point}
 use Rattle.i_shape.specs.IntPoint.{point_of, contour_of, IsSafe}
 use Rattle.i_shape.specs.Paths.{joined}
 use Rattle.i_shape.specs.Flat.{end_to_end}
-use Rattle.i_shape.specs.Buffers.{HoldsShapes}
+use Rattle.i_shape.specs.Buffers.{HoldsShapes, shapes_in, named_shapes, contours_of}
 use Rattle.i_shape.specs.declared.flat.buffer.shapes.FlatShapesBuffer.{FlatShapesBuffer}
-use Rattle.i_shape.proofs.EndToEnd.{length-end_to_end}
+use Rattle.i_shape.specs.AppendedAnswers.{Grows}
+use Rattle.i_shape.proofs.EndToEnd.{joined-append, end_to_end-append, length-end_to_end}
+use Rattle.i_shape.proofs.ShapesCleaned.{grows_chain}
 use Rattle.i_shape.proofs.ShapeRanges.{slice_range-map}
 use Rattle.i_shape.specs.IntPoints.{IntPoint}
-use Rattle.i_shape.specs.ShapeLists.{shape_of, shapes_of, IsSafeList}
+use Rattle.i_shape.specs.ShapeLists.{IsSafeList}
 use Rattle.i_shape_c.specs.Batch.{offset, ring, InOrder, AreSafeContours}
 use Rattle.i_shape_c.specs.Polygons.{parts, polygons, offsets_of, AreShapesLeft}
 use Rattle.i_shape_c.proofs.Boundary.{same_points}
@@ -47,31 +49,75 @@ pub polygon_at : {P : Type 0} (points : List P) (contours shapes : List ℕ) (k 
     → ring (parts points contours) shapes k ≡ map (ring points contours) (range_with_len (offset shapes k) (offset shapes (k + 1) - offset shapes k))
 polygon_at points contours shapes k some within = part_of_range (ring points contours) (length contours - 1) (offset shapes k) (offset shapes (k + 1)) some within
 
-module _ {P I : Type 0} (value : I → ℤ) (to : P → IntPoint I) (points : List P) where
-  abbrev at : P → Point
-  at p = point_of value (to p)
+-- what is made of the items of each part is parted alike
+parts-map : {X Y : Type 0} (f : X → Y) (list : List X) (offsets : List ℕ) → parts (map f list) offsets ≡ map (map f) (parts list offsets)
+parts-map f list offsets = go (range_with_len 0 (length offsets - 1))
+  where
+    go : (ks : List ℕ) → map (ring (map f list) offsets) ks ≡ map (map f) (map (ring list offsets) ks)
+    go [] = refl
+    go (k ∷ ks) = ap₂ (λ part rest. part ∷ rest) (slice_range-map f list (offset offsets k) (offset offsets (k + 1))) (go ks)
 
-  -- a contour more
-  pub contour_more : (contours : List ℕ) (from place : ℕ) (seen now : List (Vec (IntPoint I))) (contour : Vec (IntPoint I)) → from ≤ place → contour.items ≡ map to (ring points contours place) → now ≡ seen ++ contour ∷ []
-      → shape_of value seen ≡ map (ring (map at points) contours) (range_with_len from (place - from))
-      → shape_of value now ≡ map (ring (map at points) contours) (range_with_len from (place + 1 - from))
-  contour_more contours from place seen now contour some is more before =
-      let f = ring (map at points) contours in
+pub polygons-map : {X Y : Type 0} (f : X → Y) (points : List X) (contours shapes : List ℕ) → polygons (map f points) contours shapes ≡ map (map (map f)) (polygons points contours shapes)
+polygons-map f points contours shapes = ap (λ rings. parts rings shapes) (parts-map f points contours) ∙ parts-map (map f) (parts points contours) shapes
+
+-- the polygons over whole numbers
+pub polygons_read : {P I : Type 0} (value : I → ℤ) (to : P → IntPoint I) (points : List P) (contours shapes : List ℕ)
+    → map (map (contour_of value)) (polygons (map to points) contours shapes) ≡ polygons (map (λ p. point_of value (to p)) points) contours shapes
+polygons_read value to points contours shapes =
+    sym (polygons-map (point_of value) (map to points) contours shapes) ∙ ap (λ list. polygons list contours shapes) (map-map (point_of value) to points)
+
+-- a contour more
+module _ {T : Type 0} (points : List (IntPoint T)) (contours : List ℕ) (from place : ℕ) (p q t : List (IntPoint T)) (r s u : List (Range ℕ)) where
+  pub contour_more : from ≤ place → Grows p q r s (map (ring points contours) (range_with_len from (place - from))) → t ≡ q ++ ring points contours place → u ≡ s ++ record { start = length q; end = length t } ∷ []
+      → Grows p t r u (map (ring points contours) (range_with_len from (place + 1 - from)))
+  contour_more some before more last =
+      let f = ring points contours in
       let count : place + 1 - from ≡ (place - from) + 1 = omega (arith, some) in
-      let here : contour_of value contour.items ≡ f place = ap (contour_of value) is ∙ map-map (point_of value) to (ring points contours place) ∙ sym (slice_range-map at points (offset contours place) (offset contours (place + 1))) in
-      rw count (ap (shape_of value) more ∙ map-append (λ c. contour_of value c.items) seen (contour ∷ []) ∙ ap (λ w. w ++ contour_of value contour.items ∷ []) before
-      ∙ ap (λ w. map f (range_with_len from (place - from)) ++ w ∷ []) here ∙ sym (map-range_with_len_more f from (place - from) place (omega (arith, some))))
+      let long : length t ≡ length q + length (f place) = ap length more ∙ length-append q (f place) in
+      let one : Grows q t s u (f place ∷ []) = record { points_are = more ∙ ap (λ w. q ++ w) (sym (append-nil (f place))); ranges_are = rw long at last } in
+      rw (count, map-range_with_len_more f from (place - from) place (omega (arith, some))) (grows_chain p q t r s u (map f (range_with_len from (place - from))) (f place ∷ []) before one)
 
-  -- a polygon more
-  pub polygon_more : (contours shapes : List ℕ) (k : ℕ) (seen now : List (Vec (Vec (IntPoint I)))) (shape : Vec (Vec (IntPoint I))) → offset shapes k ≤ offset shapes (k + 1) → offset shapes (k + 1) ≤ length contours - 1
-      → shape_of value shape.items ≡ map (ring (map at points) contours) (range_with_len (offset shapes k) (offset shapes (k + 1) - offset shapes k)) → now ≡ seen ++ shape ∷ []
-      → shapes_of value seen ≡ map (ring (parts (map at points) contours) shapes) (range_with_len 0 k)
-      → shapes_of value now ≡ map (ring (parts (map at points) contours) shapes) (range_with_len 0 (k + 1))
-  polygon_more contours shapes k seen now shape some within is more before =
-      let f = ring (parts (map at points) contours) shapes in
-      let here : shape_of value shape.items ≡ f k = is ∙ sym (polygon_at (map at points) contours shapes k some within) in
-      ap (shapes_of value) more ∙ map-append (λ s. shape_of value s.items) seen (shape ∷ []) ∙ ap (λ w. w ++ shape_of value shape.items ∷ []) before
-      ∙ ap (λ w. map f (range_with_len 0 k) ++ w ∷ []) here ∙ sym (map-range_with_len_more f 0 k k (omega arith))
+-- the lists of a buffer that has these polygons end to end
+pub record HasEndToEnd {T : Type 0} (buffer : FlatShapesBuffer T) (list : List (List (List (IntPoint T)))) : Type 0 where
+  pub points : buffer.points.items ≡ joined (joined list)
+  pub contour_ranges : buffer.contour_ranges.items ≡ end_to_end 0 (joined list)
+  pub shape_ranges : buffer.shape_ranges.items ≡ end_to_end 0 list
+
+-- a polygon more
+pub polygon_more : {T : Type 0} (old new : FlatShapesBuffer T) (list : List (List (List (IntPoint T)))) (shape : List (List (IntPoint T))) → HasEndToEnd old list
+    → Grows old.points.items new.points.items old.contour_ranges.items new.contour_ranges.items shape
+    → new.shape_ranges.items ≡ old.shape_ranges.items ++ record { start = length old.contour_ranges.items; end = length new.contour_ranges.items } ∷ []
+    → HasEndToEnd new (list ++ shape ∷ [])
+polygon_more old new list shape before grown last =
+    let rings : joined (list ++ shape ∷ []) ≡ joined list ++ shape = joined-append list (shape ∷ []) ∙ ap (λ w. joined list ++ w) (append-nil shape) in
+    record {
+      points = grown.points_are ∙ ap (λ w. w ++ joined shape) before.points ∙ sym (ap joined rings ∙ joined-append (joined list) shape);
+      contour_ranges =
+          grown.ranges_are ∙ ap₂ (λ w n. w ++ end_to_end n shape) before.contour_ranges (ap length before.points ∙ from_zero)
+          ∙ sym (ap (end_to_end 0) rings ∙ end_to_end-append 0 (joined list) shape);
+      shape_ranges = last ∙ ap₂ (λ w r. w ++ r ∷ []) before.shape_ranges range ∙ sym (end_to_end-append 0 list (shape ∷ []));
+    }
+  where
+    from_zero : length (joined (joined list)) ≡ 0 + length (joined (joined list))
+    from_zero = omega arith
+
+    many : length old.contour_ranges.items ≡ 0 + length (joined list)
+    many = omega (arith, ap length before.contour_ranges, length-end_to_end 0 (joined list))
+
+    more : length new.contour_ranges.items ≡ 0 + length (joined list) + length shape
+    more = omega (arith, ap length grown.ranges_are, length-append old.contour_ranges.items (end_to_end (length old.points.items) shape), many, length-end_to_end (length old.points.items) shape)
+
+    Ranges : Type 0
+    Ranges = Range ℕ
+
+    range : ◌≡◌ {A = Ranges} (record { start = length old.contour_ranges.items; end = length new.contour_ranges.items }) (record { start = 0 + length (joined list); end = 0 + length (joined list) + length shape })
+    range = ap₂ (λ s e. record { start = s; end = e }) many more
+
+-- where these are all polygons that the offsets part, the buffer reads as them
+pub polygons_held : {P I : Type 0} (value : I → ℤ) (to : P → IntPoint I) (points : List P) (contours shapes : List ℕ) (buffer : FlatShapesBuffer I) → HoldsShapes buffer (polygons (map to points) contours shapes)
+    → HoldsShapes buffer (shapes_in buffer) × (named_shapes value buffer ≡ polygons (map (λ p. point_of value (to p)) points) contours shapes)
+polygons_held value to points contours shapes buffer held =
+    (subst (HoldsShapes buffer) (sym held.shapes) held, ap (map (contours_of value)) held.shapes ∙ polygons_read value to points contours shapes)
 
 -- the first place of a list is written
 pub first_set : (xs : List ℕ) → 0 < length xs → take 1 (set xs 0 0) ≡ 0 ∷ []

@@ -1,6 +1,6 @@
 //! Points of C, and points of the library.
 
-ghost use Rattle.std.specs.Prelude.{◌≡◌, ◌+◌, ◌≤◌, ◌↔◌, length, map, take, drop, slice_range, IfOk, IsTrue};
+ghost use Rattle.std.specs.Prelude.{◌≡◌, ◌+◌, ◌≤◌, ◌++◌, ◌↔◌, length, map, take, drop, slice_range, IfOk, IsTrue};
 ghost use Rattle.i_shape.specs.IntPoint.{point_of};
 ghost use Rattle.i_shape_c.specs.Cleaned.{AreSafe};
 
@@ -9,17 +9,16 @@ use i_shape::int::IntPoint;
 use i_shape::int::shape::IntContour;
 use std::alloc::AllocError;
 
-/// Fills `copy` with the points, as the library has them. It takes no memory where `copy` has room for them.
-pub fn copy_in<P: CPoint>(
+/// Appends the points, as the library has them. It takes no memory where there is room for them.
+pub fn append_points<P: CPoint>(
     given: &[P],
-    copy: &mut IntContour<P::Coordinate>,
+    list: &mut IntContour<P::Coordinate>,
 ) -> Result<(), AllocError>
-    ensures { IfOk result (λ _. copy.new.items ≡ map P.point given.now) }
+    ensures { IfOk result (λ _. list.new.items ≡ list.old.items ++ map P.point given.now) }
 {
-    copy.clear();
-    copy.reserve(given.len())?;
+    list.reserve(given.len())?;
     for point in given {
-        copy.push_reserved((*point).to_point());
+        list.push_reserved((*point).to_point());
     }
     Ok(())
 }

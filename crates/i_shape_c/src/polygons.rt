@@ -1,12 +1,12 @@
 //! The cleaning of polygons, which lie in three arrays: points, offsets that part these into contours, and offsets that part the contours
 //! into polygons.
 
-ghost use Rattle.std.specs.Prelude.{◌≡◌, ◌↔◌, ◌+◌, ◌-◌, ◌^◌, ◌<◌, ◌≤◌, ◌∷◌, ◌++◌, List, length, map, drop, slice_range, IfOk, IsTrue};
+ghost use Rattle.std.specs.Prelude.{◌≡◌, ◌↔◌, ◌+◌, ◌-◌, ◌^◌, ◌<◌, ◌≤◌, ◌∷◌, ◌++◌, List, length, map, drop, slice_range, IfOk, OnOk, IsTrue};
 ghost use Rattle.std.specs.List.{range_with_len};
 ghost use Rattle.i_shape.specs.IntPoint.{point_of, contour_of};
 ghost use Rattle.i_shape.specs.IntPoints.{IntPoint};
-ghost use Rattle.i_shape.specs.ShapeLists.{shape_of, shapes_of};
 ghost use Rattle.i_shape.specs.Buffers.{HoldsShapes};
+ghost use Rattle.i_shape.specs.AppendedAnswers.{Grows};
 ghost use Rattle.i_shape_c.specs.Cleaned.{unsafe_code, unfit_code};
 ghost use Rattle.i_shape_c.specs.Batch.{ring, CanClean, AreSafeContours};
 ghost use Rattle.i_shape_c.specs.Polygons.{polygons, CanCleanShapes, ShapesAnswer};
@@ -14,11 +14,11 @@ ghost use Rattle.i_shape_c.specs.Polygons.{polygons, CanCleanShapes, ShapesAnswe
 use crate::batch::{can_clean, part};
 use crate::cleaner::ShapesCleaner;
 use crate::codes::{NO_MEMORY, UNFIT, UNSAFE};
-use crate::lists::{are_safe, copy_in, copy_out};
+use crate::lists::{append_points, are_safe, copy_out};
 use crate::point::CPoint;
 use i_shape::ShapeError;
 use i_shape::flat::buffer::FlatShapesBuffer;
-use i_shape::int::shape::{IntShape, IntShapes};
+use i_shape::int::shape::IntContour;
 use std::alloc::Global;
 use std::ops::Range;
 
@@ -87,55 +87,64 @@ fn shapes_left<P: CPoint, S: ShapesCleaner<P::Coordinate>>(
     ensures left { IfOk result (λ buffer. (list : List (List (List (IntPoint P.Coordinate)))) × HoldsShapes buffer list × S.gives (polygons (map (λ p. point_of P.Coordinate.value (P.point p)) points.now) contours.now shapes.now) (map (map (contour_of P.Coordinate.value)) list)) }
     ensures fewer { IfOk result (λ buffer. (length buffer.points.items ≤ length points.now) × (length buffer.contour_ranges.items < length contours.now) × (length buffer.shape_ranges.items < length shapes.now)) }
 {
-    let list = polygons_of(alloc, points, contours, shapes)?;
-    let left = S::clean(alloc, &list)?;
-    let mut buffer = FlatShapesBuffer::new(alloc);
-    buffer.set_with_shapes(left.as_slice())?;
+    let mut buffer = polygons_of(alloc, points, contours, shapes)?;
+    S::clean(&mut buffer)?;
     Ok(buffer)
 }
 
-/// The polygons, as lists of the library's points.
+/// The polygons, end to end.
 fn polygons_of<P: CPoint>(
     alloc: Global,
     points: &[P],
     contours: &[usize],
     shapes: &[usize],
-) -> Result<IntShapes<P::Coordinate>, ShapeError>
+) -> Result<FlatShapesBuffer<P::Coordinate>, ShapeError>
     requires contours_part { CanClean (length points.now) contours.now (length points.now) (length contours.now) }
     requires shapes_part { CanClean (length contours.now - 1) shapes.now (length contours.now - 1) (length shapes.now) }
-    ensures { IfOk result (λ list. shapes_of P.Coordinate.value list.items ≡ polygons (map (λ p. point_of P.Coordinate.value (P.point p)) points.now) contours.now shapes.now) }
+    ensures { IfOk result (λ buffer. HoldsShapes buffer (polygons (map P.point points.now) contours.now shapes.now)) }
 {
-    let mut list = Vec::with_capacity(alloc, shapes.len() - 1)?;
+    let mut buffer = FlatShapesBuffer::with_capacity(
+        alloc,
+        points.len(),
+        contours.len() - 1,
+        shapes.len() - 1,
+    )?;
     for place in 1..shapes.len() {
-        let shape = contours_between(alloc, points, contours, shapes[place - 1], shapes[place])?;
-        list.push(shape)?;
+        let start = buffer.contour_ranges.len();
+        append_contours(
+            &mut buffer.points,
+            &mut buffer.contour_ranges,
+            points,
+            contours,
+            shapes[place - 1],
+            shapes[place],
+        )?;
+        let end = buffer.contour_ranges.len();
+        buffer.shape_ranges.push(start..end)?;
     }
-    Ok(list)
+    Ok(buffer)
 }
 
-/// The contours from one number to another, as lists of the library's points.
-fn contours_between<P: CPoint>(
-    alloc: Global,
+/// Appends the contours from one number to another, and their ranges.
+fn append_contours<P: CPoint>(
+    list: &mut IntContour<P::Coordinate>,
+    ranges: &mut Vec<Range<usize>>,
     points: &[P],
     contours: &[usize],
     from: usize,
     to: usize,
-) -> Result<IntShape<P::Coordinate>, ShapeError>
+) -> Result<(), ShapeError>
     requires contours_part { CanClean (length points.now) contours.now (length points.now) (length contours.now) }
     requires order { from ≤ to }
     requires within { to < length contours.now }
-    ensures { IfOk result (λ shape. shape_of P.Coordinate.value shape.items ≡ map (ring (map (λ p. point_of P.Coordinate.value (P.point p)) points.now) contours.now) (range_with_len from (to - from))) }
+    ensures { OnOk result (Grows list.old.items list.new.items ranges.old.items ranges.new.items (map (ring (map P.point points.now) contours.now) (range_with_len from (to - from)))) }
 {
-    let mut shape = Vec::with_capacity(alloc, to - from)?;
     for place in from..to {
-        let mut contour = Vec::new(alloc);
-        copy_in(
-            part(points, contours[place], contours[place + 1]),
-            &mut contour,
-        )?;
-        shape.push(contour)?;
+        let start = list.len();
+        append_points(part(points, contours[place], contours[place + 1]), list)?;
+        ranges.push(start..list.len())?;
     }
-    Ok(shape)
+    Ok(())
 }
 
 /// Writes polygons to the front of the three arrays.

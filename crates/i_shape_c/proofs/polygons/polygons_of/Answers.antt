@@ -1,43 +1,49 @@
-use Rattle.std.proofs.Common.{◌≡◌, ◌+◌, ◌-◌, ◌≤◌, length, map, ap, sym, subst, arith}
+use Rattle.std.proofs.Common.{◌≡◌, ◌+◌, ◌-◌, ◌≤◌, ◌∙◌, length, map, sym, subst, arith}
 use Rattle.std.specs.List.{range_with_len}
-use Rattle.i_shape.specs.IntPoint.{point_of}
-use Rattle.i_shape.specs.ShapeLists.{shape_of, shapes_of}
+use Rattle.std.proofs.lemmas.List.FromFn.{map-range_with_len_more}
+use Rattle.i_shape.proofs.ShapesHeld.{HoldsShapes-from_lists}
+use Rattle.i_shape.specs.AppendedAnswers.{Grows}
 use Rattle.i_shape_c.specs.Batch.{offset, ring}
 use Rattle.i_shape_c.specs.Polygons.{parts}
 use Rattle.i_shape_c.proofs.Batches.{ordered}
-use Rattle.i_shape_c.proofs.PolygonLists.{polygon_more}
+use Rattle.i_shape_c.proofs.PolygonLists.{HasEndToEnd, polygon_more, polygon_at}
 use Rattle.i_shape_c.proofs.polygons.polygons_of.Goals as goal
 
 pub loop-place-init : goal.loop-place-init
-loop-place-init g c = ap (shapes_of g.P.Coordinate.IntNumber.value) c.in_ok-list.ensures.items
+loop-place-init g c =
+    let empty = c.in_ok-buffer.ensures.ok in
+    record { points = empty.points; contour_ranges = empty.contour_ranges; shape_ranges = empty.shape_ranges }
 
-pub contours_between-requires-clause-within : goal.contours_between-requires-clause-within
-contours_between-requires-clause-within g c =
+pub append_contours-requires-clause-within : goal.append_contours-requires-clause-within
+append_contours-requires-clause-within g c =
     let part = c.requires.shapes_part in
     let up = ordered c.args.shapes.now (length c.args.shapes.now) c.loop-place.place (length c.args.shapes.now - 1) part.order (omega (arith, c.loop-place-test.true)) (omega (arith, part.some)) in
     omega (arith, up, part.last, c.requires.contours_part.some)
 
 pub loop-place-preserved : goal.loop-place-preserved
 loop-place-preserved g c =
-    let value = g.P.Coordinate.IntNumber.value in
-    let to = g.P.ContourPoint.point in
-    let shapes = c.args.shapes.now in
+    let given = map g.P.ContourPoint.point c.args.points.now in
     let contours = c.args.contours.now in
-    let given = map (λ p. point_of value (to p)) c.args.points.now in
+    let shapes = c.args.shapes.now in
     let k = c.loop-place.place - 1 in
+    let f = ring (parts given contours) shapes in
     let above : 1 ≤ c.loop-place.place = c.loop-place.auto.place in
     let next : k + 1 ≡ c.loop-place.place = omega (arith, above) in
     let part = c.requires.shapes_part in
     let order = ordered shapes (length shapes) k (k + 1) part.order (omega arith) (omega (arith, c.loop-place-test.true, next)) in
     let last = ordered shapes (length shapes) (k + 1) (length shapes - 1) part.order (omega (arith, c.loop-place-test.true, next)) (omega (arith, part.some)) in
-    let is = subst (λ j. shape_of value c.in_ok-shape.shape.items ≡ map (ring given contours) (range_with_len (offset shapes k) (offset shapes j - offset shapes k))) (sym next) c.in_ok-shape.ensures in
-    let more = polygon_more value to c.args.points.now contours shapes k c.loop-place.list.items c.push.new.self.items c.in_ok-shape.shape order (omega (arith, last, part.last)) is c.in_ok-push.ensures.items c.loop-place.invariant in
+    let is : f k ≡ map (ring given contours) (range_with_len (offset shapes k) (offset shapes c.loop-place.place - offset shapes k)) =
+    subst (λ j. f k ≡ map (ring given contours) (range_with_len (offset shapes k) (offset shapes j - offset shapes k))) next (polygon_at given contours shapes k order (omega (arith, last, part.last))) in
+    let old = c.loop-place.buffer in
+    let grown = subst (Grows old.points.items c.append_contours.new.list.items old.contour_ranges.items c.append_contours.new.ranges.items) (sym is) c.in_ok-append_contours.ensures in
     let count : c.loop-place.place + 1 - 1 ≡ k + 1 = omega (arith, above) in
-    rw count more
+    rw (count, map-range_with_len_more f 0 k k (omega arith))
+    (polygon_more old (record { points = c.append_contours.new.list; contour_ranges = c.append_contours.new.ranges; shape_ranges = c.push.new.self }) (map f (range_with_len 0 k)) (f k) c.loop-place.invariant grown
+    (rw (c.len-start.ensures ∙ old.contour_ranges.ok.0, c.len-end.ensures ∙ c.append_contours.new.ranges.ok.0) at c.in_ok-push.ensures.items))
 
 pub returns : goal.returns
 returns g c =
-    let value = g.P.Coordinate.IntNumber.value in
-    let given = map (λ p. point_of value (g.P.ContourPoint.point p)) c.args.points.now in
+    let given = map g.P.ContourPoint.point c.args.points.now in
     let same : c.loop-place.place ≡ length c.args.shapes.now = omega (arith, c.loop-place-test.false, c.loop-place.auto.place-end, c.requires.shapes_part.some) in
-    subst (λ n. shapes_of value c.loop-place.list.items ≡ map (ring (parts given c.args.contours.now) c.args.shapes.now) (range_with_len 0 (n - 1))) same c.loop-place.invariant
+    let whole = subst (λ n. HasEndToEnd c.loop-place.buffer (map (ring (parts given c.args.contours.now) c.args.shapes.now) (range_with_len 0 (n - 1)))) same c.loop-place.invariant in
+    HoldsShapes-from_lists c.loop-place.buffer _ whole.points whole.contour_ranges whole.shape_ranges
