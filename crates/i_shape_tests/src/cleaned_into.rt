@@ -126,7 +126,7 @@ fn are_safe<P: ContourPoint>(points: &[P]) -> bool
 }
 
 /// These points. The test stops where one isn't safe.
-fn safe<'a, P: ContourPoint>(rt: &impl Abort, points: &'a [P]) -> &'a [P]
+pub fn safe<'a, P: ContourPoint>(rt: &impl Abort, points: &'a [P]) -> &'a [P]
     ensures points_safe { All (IsSafe P.Coordinate.width) (contour_of P.Coordinate.value (P.points result.now)) }
     ensures same { result.now ≡ points.now }
 {
@@ -135,7 +135,10 @@ fn safe<'a, P: ContourPoint>(rt: &impl Abort, points: &'a [P]) -> &'a [P]
 }
 
 /// These points as the library has them.
-fn points<I: IntNumber>(alloc: Global, list: &[[I; 2]]) -> Result<Vec<IntPoint<I>>, AllocError> {
+pub fn points<I: IntNumber>(
+    alloc: Global,
+    list: &[[I; 2]],
+) -> Result<Vec<IntPoint<I>>, AllocError> {
     let mut points = Vec::new(alloc);
     for [x, y] in list {
         points.push(IntPoint::new(*x, *y))?;

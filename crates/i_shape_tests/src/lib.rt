@@ -16,6 +16,8 @@ mod claims;
 #[cfg(test)]
 mod cleaned_into;
 #[cfg(test)]
+mod cleaners;
+#[cfg(test)]
 mod comparisons;
 #[cfg(test)]
 mod contour;
