@@ -5,7 +5,8 @@ use Rattle.std.proofs.lemmas.List.{reverse-reverse, length-reverse, get_or-rever
 use Rattle.i_shape_core.specs.Point.{Point, origin}
 use Rattle.i_shape_core.specs.Contour.{point_at}
 use Rattle.i_shape_core.specs.Canonical.{IsBefore, IsAtMost, IsLeast, IsLesserWay, started_at}
-use Rattle.i_shape_core.proofs.Order.{at_most_refl}
+use Rattle.i_shape_core.proofs.Order.{at_most_refl, at_most_total}
+use Rattle.i_shape_core.proofs.Starts.{greater_at}
 use Rattle.i_shape_core.proofs.Readings.{IsStep}
 use Rattle.i_shape_core.proofs.Rounds.{started-round, round-place, length-started}
 
@@ -56,9 +57,9 @@ module _ (c : List Point) (s k a b : ℕ) (pair : IsPair c s k a b) where
   lengths = (length-started c s (omega (arith, pair.started)), length-reverse c)
 
   -- or the lesser point tells which comes first
-  pub started_first : AgreeUpTo (started_at c s) (reverse c) k → IsBefore (point_at c a) (point_at c b) → IsAtMost (started_at c s) (reverse c)
+  pub started_first : AgreeUpTo (started_at c s) (reverse c) k → IsBefore (point_at c a) (point_at c b) → IsAtMost (reverse c) (started_at c s) → ⊥
   started_first same h =
-      at_most_there k (started_at c s) (reverse c) same (omega (arith, lengths.0, pair.within)) (omega (arith, lengths.1, pair.within)) (subst₂ IsBefore (sym ours) (sym theirs) h)
+      greater_at k (reverse c) (started_at c s) (λ t l. sym (same t l)) (omega (arith, lengths.1, pair.within)) (omega (arith, lengths.0, pair.within)) (subst₂ IsBefore (sym ours) (sym theirs) h)
 
   pub reversed_first : AgreeUpTo (started_at c s) (reverse c) k → IsBefore (point_at c b) (point_at c a) → IsAtMost (reverse c) (started_at c s)
   reversed_first same h =
@@ -73,9 +74,10 @@ agree_throughout c s n within many same =
     rw one (at_most_refl (reverse c))
 
 -- r is c read backwards: its least rotation, where that comes first, and c otherwise
-pub lesser_turned : (c r l : List Point) → r ≡ reverse c → IsLeast r l → IsAtMost l (reverse r) → IsLesserWay c l
-lesser_turned c r l back least before =
+pub lesser_turned : (c r l : List Point) → r ≡ reverse c → IsLeast r l → (IsAtMost (reverse r) l → ⊥) → IsLesserWay c l
+lesser_turned c r l back least after =
     let there : reverse r ≡ c = ap reverse back ∙ reverse-reverse c in
+    let before : IsAtMost l (reverse r) = elim (at_most_total l (reverse r)) [ inl h ↦ h | inr h ↦ absurd (after h) ] in
     record { backwards = l; is_backwards = rw back at least; one = inr refl; first = (rw there at before, at_most_refl l) }
 
 pub lesser_left : (c r b l : List Point) → r ≡ reverse c → IsLeast r b → IsAtMost (reverse r) b → l ≡ c → IsLesserWay c l

@@ -81,7 +81,7 @@ has_least_start c some = go (least_among c (length c - 1))
     }
 
 -- the first difference decides
-greater_at : (p : ℕ) (a b : List Point) → ((t : ℕ) → t < p → get_or a t origin ≡ get_or b t origin) → p < length a → p < length b
+pub greater_at : (p : ℕ) (a b : List Point) → ((t : ℕ) → t < p → get_or a t origin ≡ get_or b t origin) → p < length a → p < length b
     → IsBefore (get_or b p origin) (get_or a p origin) → IsAtMost a b → ⊥
 greater_at p [] b same wa wb h k = omega arith
 greater_at p (x ∷ a) [] same wa wb h k = k

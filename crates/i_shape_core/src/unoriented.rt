@@ -77,11 +77,10 @@ fn turn_to_lesser<P: ContourPoint>(contour: &mut [P])
     }
 }
 
-/// Whether the rotation of a contour that starts at `start` comes before the contour read backwards: either answer where the two are
-/// equal.
+/// Whether the rotation of a contour that starts at `start` comes before the contour read backwards, and isn't equal to it.
 fn comes_before_reversed<P: ContourPoint>(contour: &[P], start: usize) -> bool
     requires { start < length contour.now }
-    ensures before { let c = contour_of P.Coordinate.value (P.points contour.now) in IsTrue result → IsAtMost (started_at c start) (reverse c) }
+    ensures before { let c = contour_of P.Coordinate.value (P.points contour.now) in IsTrue result → IsAtMost (reverse c) (started_at c start) → ⊥ }
     ensures not_before { let c = contour_of P.Coordinate.value (P.points contour.now) in result ≡ false → IsAtMost (reverse c) (started_at c start) }
 {
     let mut comparer = Comparer::new(contour);

@@ -21,7 +21,7 @@ returns-then-comes_before_reversed-clause-lesser g c =
     contour-turned value (points c.reverse.new.self) (points c.rotate_left.new.self) c.least_start-start.result (points-turned g.P.ContourPoint.point points g.P.ContourPoint.each c.reverse.new.self c.rotate_left.new.self c.least_start-start.result c.rotate_left.ensures.after) in
     lesser_turned (contour_of value (points c.args.contour.now)) reversed turned back
     (subst (IsLeast reversed) (sym started) c.least_start-start.ensures.least)
-    (subst (λ l. IsAtMost l (reverse reversed)) (sym started) (c.if-comes_before_reversed.ensures.before refl))
+    (subst (λ l. IsAtMost (reverse reversed) l → ⊥) (sym started) (c.if-comes_before_reversed.ensures.before refl))
 
 pub returns-else-comes_before_reversed-clause-lesser : goal.returns-else-comes_before_reversed-clause-lesser
 returns-else-comes_before_reversed-clause-lesser g c =
