@@ -1,4 +1,6 @@
-use crate::given::{BOTH, MARK, SPIKED_AND_TRIANGLE, SQUARE, TRIANGLE, two_contours, two_shapes};
+use crate::given::{
+    BOTH, MARK, SPIKED, SPIKED_AND_TRIANGLE, SQUARE, SQUARES, TRIANGLE, two_contours, two_shapes,
+};
 use crate::told::{Lists, has_contours, told, told_of_buffer, told_unrefused};
 use i_shape::flat::buffer::FlatContoursBuffer;
 use i_shape::int::IntPoint;
@@ -183,6 +185,19 @@ fn simplify_contours(rt: HostRuntime) -> Result<(), Fail> {
 }
 
 #[test]
+fn simplify_two_contours(rt: HostRuntime) -> Result<(), Fail> {
+    let Ok(mut buffer) = full(rt.alloc(), &SPIKED, &[0..6, 0..6]) else {
+        return Ok(());
+    };
+    let result = simplify(&rt, &mut buffer);
+    let name = "FlatContoursBuffer::simplify_contours of two that aren't clean";
+    if let Some(changed) = told(&rt, name, result)? {
+        assert!(rt; changed && lists(&buffer) == lists_of(&SQUARES, &[0..4, 4..8]));
+    }
+    Ok(())
+}
+
+#[test]
 fn simplify_clean_contours(rt: HostRuntime) -> Result<(), Fail> {
     let Ok(mut buffer) = full(rt.alloc(), &BOTH, &[0..4, 4..7]) else {
         return Ok(());
@@ -217,6 +232,19 @@ fn remove_spikes(rt: HostRuntime) -> Result<(), Fail> {
         None => lists_of(&SPIKED_AND_TRIANGLE, &[0..6, 6..9]),
     };
     assert!(rt; lists(&buffer) == wanted);
+    Ok(())
+}
+
+#[test]
+fn remove_spikes_of_two_contours(rt: HostRuntime) -> Result<(), Fail> {
+    let Ok(mut buffer) = full(rt.alloc(), &SPIKED, &[0..6, 0..6]) else {
+        return Ok(());
+    };
+    let result = despike(&rt, &mut buffer);
+    let name = "FlatContoursBuffer::remove_spikes of two that have some";
+    if let Some(changed) = told(&rt, name, result)? {
+        assert!(rt; changed && lists(&buffer) == lists_of(&SQUARES, &[0..4, 4..8]));
+    }
     Ok(())
 }
 

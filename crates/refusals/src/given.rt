@@ -23,6 +23,18 @@ pub const SPIKED: [IntPoint<i32>; 6] = points![[0, 0], [2, 0], [4, 0], [2, 0], [
 /// That square without the spike.
 pub const SQUARE: [IntPoint<i32>; 4] = points![[0, 0], [2, 0], [2, 2], [0, 2]];
 
+/// The square twice, as two contours with its spike leave it.
+pub const SQUARES: [IntPoint<i32>; 8] = points![
+    [0, 0],
+    [2, 0],
+    [2, 2],
+    [0, 2],
+    [0, 0],
+    [2, 0],
+    [2, 2],
+    [0, 2]
+];
+
 /// Three points on a line.
 pub const FLAT: [IntPoint<i32>; 3] = points![[0, 0], [2, 0], [1, 0]];
 
