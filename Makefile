@@ -2,7 +2,7 @@ PREFIX ?= /usr/local
 # Where build.sh of the C library puts what it builds.
 C_OUT := bindings/c/out$(if $(TARGET)$(CPU),/$(TARGET)$(if $(TARGET),$(if $(CPU),-))$(CPU))
 
-.PHONY: test gate check fmt c wasm page wheel pictures install install-program install-c clean
+.PHONY: test gate check fmt c wasm page wheel dist pictures install install-program install-c clean
 
 # The tests of behaviour, without a proof, in minutes. What isn't built is skipped.
 test:
@@ -35,6 +35,11 @@ page: wasm
 wheel: $(if $(I_SHAPE_C_DIR),,c)
 	@sh bindings/python/build.sh
 
+# What a release holds, in dist: docs/RELEASE.md says what that is.
+dist:
+	rm -rf dist
+	@bash scripts/dist.sh dist
+
 # The pictures of docs/pictures, by the program.
 pictures:
 	@examples/draw/draw_all.sh docs/pictures
@@ -56,4 +61,4 @@ install-c: c
 	install -m 644 bindings/c/cmake/*.cmake $(C_OUT)/i_shape-config-version.cmake $(DESTDIR)$(PREFIX)/lib/cmake/i_shape
 
 clean:
-	rm -rf crates/*/out bindings/c/out bindings/js/out bindings/python/out bindings/rust/target examples/page/out
+	rm -rf crates/*/out bindings/c/out bindings/js/out bindings/python/out bindings/rust/target examples/page/out dist

@@ -6,7 +6,7 @@ cd "$(dirname "$0")/.." || exit 1
 . .ci/parts.sh
 
 mkdir "$work/checkout" || exit 1
-tar -cf - --exclude=./.git --exclude='./crates/*/out' --exclude='./bindings/*/out' --exclude=./bindings/rust/target . | tar -xf - -C "$work/checkout" || exit 1
+tar -cf - --exclude=./.git --exclude=./dist --exclude='./crates/*/out' --exclude='./bindings/*/out' --exclude=./bindings/rust/target . | tar -xf - -C "$work/checkout" || exit 1
 cd "$work/checkout" || exit 1
 
 # Tells what was said of the wrong bodies, and ends with their status.
@@ -29,6 +29,7 @@ part ./.ci/c_library.sh
 part ./.ci/elsewhere.sh
 part ./.ci/python_package.sh
 part ./.ci/javascript.sh
+part ./.ci/dist.sh
 part ./.ci/refusals.sh
 part ./.ci/scaling.sh
 part ./.ci/pictures.sh

@@ -9,6 +9,7 @@ part ./.ci/c_library.sh --if-built
 part ./.ci/elsewhere.sh --if-built
 part ./.ci/python_package.sh
 part ./.ci/javascript.sh --if-built
+part ./.ci/dist.sh --if-built
 part ./.ci/scaling.sh
 part ./.ci/pictures.sh
 part python3 .ci/pages.py

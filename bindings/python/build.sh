@@ -1,11 +1,16 @@
 #!/bin/sh
-# Builds the wheel of the Python package into bindings/python/out, with the library of `make c`, or of the folder I_SHAPE_C_DIR. It needs numpy,
-# setuptools and wheel of the Python that $PYTHON names, and no network.
+# Builds the wheel of the Python package, with the library of `make c`, or of the folder I_SHAPE_C_DIR. It needs numpy, setuptools and wheel of the Python
+# that $PYTHON names, and no network. $WHEEL_SYSTEM is the system of its tag, where that isn't linux.
+#
+# usage: build.sh [FOLDER]
+#
+# The wheel comes into the folder, or else alone into bindings/python/out.
 set -eu
 top=$(cd "$(dirname "$0")/../.." && pwd)
 here=$top/bindings/python
 library=${I_SHAPE_C_DIR:-$top/bindings/c/out}/libi_shape.so
 python=${PYTHON:-/usr/bin/python3}
+out=${1-}
 [ -e "$library" ] || {
     echo "there is no $library: run \`make c\`, or set I_SHAPE_C_DIR to the folder of libi_shape.so" >&2
     exit 1
@@ -15,10 +20,15 @@ trap 'rm -rf "$work"' EXIT
 cp -R "$here/src" "$here/pyproject.toml" "$here/setup.py" "$top/LICENSE" "$top/include/i_shape.h" "$work"
 find "$work" -name __pycache__ -prune -exec rm -rf {} +
 cp "$library" "$work/src/i_shape/libi_shape.so"
-rm -rf "$here/out"
-mkdir -p "$here/out"
-(cd "$work" && "$python" -c 'import sys; from setuptools.build_meta import build_wheel; build_wheel(sys.argv[1])' "$here/out" > "$work/log" 2>&1) || {
+chmod -R u=rwX,go=rX "$work"
+if [ -z "$out" ]; then
+    out=$here/out
+    rm -rf "$out"
+fi
+mkdir -p "$out"
+out=$(cd "$out" && pwd)
+(cd "$work" && "$python" -c 'import sys; from setuptools.build_meta import build_wheel; build_wheel(sys.argv[1])' "$out" > "$work/log" 2>&1) || {
     cat "$work/log" >&2
     exit 1
 }
-ls "$here/out/"*.whl
+ls "$out/"*.whl

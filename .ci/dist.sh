@@ -1,0 +1,289 @@
+#!/usr/bin/env bash
+# Packs what a release holds, by scripts/dist.sh, and tries each archive as someone who has nothing else of the project: unpacked into an empty folder, with
+# no rt on the path. Packed again, by another user's mask and in another time zone, each has the same bytes. The libraries ask for no symbol of a glibc
+# above 2.17. What needs a tool that isn't there is skipped. With the word --if-built it builds nothing that would be proved, and skips what holds that. The
+# last line is 'dist: N passed, M failed', and ', K skipped' behind it where K is above 0.
+set -u
+cd "$(dirname "$0")/.." || exit 1
+. .ci/c_tests.sh || exit 1
+work=$(mktemp -d) || exit 1
+trap 'rm -rf "$work"' EXIT
+only_built=${1-}
+python=${PYTHON:-/usr/bin/python3}
+version=$(sed -n 's/^version = "\(.*\)"$/\1/p' bindings/rust/Cargo.toml)
+corners=$'0 0\n4 0\n4 4\n0 4'
+export PYTHONDONTWRITEBYTECODE=1
+unset PYTHONPATH PYTHONHOME I_SHAPE_C_DIR
+# The copy that the gate tests has no commits.
+git log -1 > /dev/null 2>&1 || export SOURCE_DATE_EPOCH=${SOURCE_DATE_EPOCH:-1000000000}
+
+has_python() {
+    "$python" -c 'import numpy.typing, setuptools, wheel, venv, ensurepip' > /dev/null 2>&1
+}
+
+# Whether the library for the machine $1, and the default one that it is built over, are there, or can be built.
+has_library() {
+    local words=(--cpu x86-64)
+    [ "$1" = x86_64 ] || words=(--target aarch64)
+    if bash bindings/c/build.sh --is-built && bash bindings/c/build.sh --is-built "${words[@]}"; then return; fi
+    [ "$only_built" != --if-built ] && command -v rt > /dev/null && { [ "$1" = x86_64 ] || command -v aarch64-linux-gnu-gcc > /dev/null; }
+}
+
+has_modules() {
+    bash bindings/js/build.sh --is-built || { [ "$only_built" != --if-built ] && command -v rt > /dev/null; }
+}
+
+# The tests of the part $1 follow, which are $2, if it can be packed; else they are skipped for the reason $3.
+plan() {
+    local part=$1 runs=$2 reason=$3
+    shift 3
+    if "$@"; then
+        parts+=("$part")
+    else
+        skip "$part" "$runs" "$reason"
+    fi
+}
+
+is_packed() {
+    [[ " ${parts[*]} " == *" $1 "* ]]
+}
+
+# The words of the path without the folders that hold the kit.
+path_without_kit() {
+    local folder left=''
+    while read -rd : folder; do
+        [ -x "$folder/rt" ] || [ -x "$folder/rattle" ] || left+=:$folder
+    done <<< "$PATH:"
+    echo "${left#:}"
+}
+
+# Unpacks the archive $1 into an empty folder, and goes into it.
+unpack() {
+    rm -rf "$work/empty"
+    mkdir "$work/empty" && tar -xzf "$work/dist/$1" -C "$work/empty" && cd "$work/empty"/*
+}
+
+# The files of the folder are those of standard input.
+holds() {
+    diff <(sort) <(find . -type f | sed 's|^\./||' | sort)
+    count $? "$1: its files"
+}
+
+# The program that the words from $2 on build as $work/program prints the corners.
+prints_corners() {
+    local name=$1
+    shift
+    "$@" -o "$work/program" > "$work/log" 2>&1 || cat "$work/log"
+    [ "$("${runner[@]}" "$work/program")" = "$corners" ]
+    count $? "$name"
+    rm -f "$work/program"
+}
+
+# Whether the shared library asks for nothing but what libc.so.6 has had since glibc 2.17, looks for it nowhere else, and wants no stack that is executed.
+is_of_manylinux() {
+    [ "$(readelf -dW "$1" | sed -nE 's/.*\((NEEDED|RPATH|RUNPATH)\).*\[(.*)\]/\1 \2/p')" = 'NEEDED libc.so.6' ] &&
+        ! readelf --dyn-syms -W "$1" | awk '$7 == "UND" && $8 != "" && ($5 != "WEAK" || $8 ~ /@/) { print $8 }' |
+        grep -vxE '[A-Za-z_0-9]+@GLIBC_2\.([0-9]|1[0-7])(\.[0-9]+)?' && readelf -lW "$1" | grep -qE 'GNU_STACK .* RW +[0-9a-fx]+$'
+}
+
+# The test of that refuses a library that asks for what came with glibc 2.34.
+test_new_symbol() {
+    echo 'void *dlopen(const char *, int); void *opened(void) { return dlopen(0, 1); }' | "${CC:-cc}" -x c -shared -fPIC - -o "$work/new.so" &&
+        ! is_of_manylinux "$work/new.so" > "$work/log" && grep -q '^dlopen' "$work/log"
+    count $? 'a symbol that is too new'
+}
+
+# Each function that the header declares was proved, and so was the whole, for the machine $1.
+is_proved() {
+    "${CC:-cc}" -E include/i_shape.h | grep -oE '\bi_shape_[a-z0-9_]+ ?\(' | tr -d ' (' | sort > "$work/declared"
+    sed -nE 's/^fn .*::(i_shape_[a-z0-9_]+): proved$/\1/p' PROOF | sort > "$work/proved"
+    diff "$work/declared" "$work/proved" && [ -s "$work/proved" ] && grep -q "^logic=proved .* target=$1-unknown-linux-gnu " PROOF && ! grep -q cpu= PROOF
+    count $? "linux-$1: what the kit said of the proof"
+}
+
+test_linux() {
+    local machine=$1
+    unpack "i_shape-$version-linux-$machine.tar.gz" || return
+    holds "linux-$machine" << 'FILES'
+LICENSE
+PROOF
+README.md
+include/i_shape.h
+include/i_shape.hpp
+lib/cmake/i_shape/i_shape-config-version.cmake
+lib/cmake/i_shape/i_shape-config.cmake
+lib/cmake/i_shape/i_shape-targets.cmake
+lib/libi_shape.a
+lib/libi_shape.so
+lib/pkgconfig/i_shape.pc
+sample/consumer/CMakeLists.txt
+sample/sample.c
+sample/sample.cpp
+FILES
+    is_proved "$machine"
+    is_of_manylinux lib/libi_shape.so
+    count $? "linux-$machine: what its library asks for"
+}
+
+test_x86_64() {
+    local c=("${CC:-cc}" -std=c11 -Iinclude sample/sample.c) program
+    test_linux x86_64
+    runner=()
+    prints_corners 'linux-x86_64: C' "${c[@]}" lib/libi_shape.a
+    prints_corners 'linux-x86_64: C++' "${CXX:-c++}" -std=c++17 -Iinclude sample/sample.cpp lib/libi_shape.a
+    runner=(env LD_LIBRARY_PATH=lib)
+    prints_corners 'linux-x86_64: C, shared' "${c[@]}" lib/libi_shape.so
+    if pkg-config --version > /dev/null 2>&1; then
+        local flags
+        flags=$(PKG_CONFIG_PATH=lib/pkgconfig pkg-config --cflags --libs i_shape)
+        prints_corners 'linux-x86_64: pkg-config' "${CC:-cc}" sample/sample.c $flags
+    else
+        skip 'linux-x86_64: pkg-config' 1 'there is no pkg-config'
+    fi
+    if qemu-x86_64 --version > /dev/null 2>&1; then
+        runner=(qemu-x86_64 -cpu core2duo)
+        prints_corners 'linux-x86_64: a processor before x86-64-v2' "${c[@]}" lib/libi_shape.a
+    else
+        skip 'linux-x86_64: a processor before x86-64-v2' 1 'there is no qemu-x86_64'
+    fi
+    if cmake --version > /dev/null 2>&1; then
+        { cmake -S sample/consumer -B build "-DCMAKE_PREFIX_PATH=$PWD" && cmake --build build; } > "$work/log" 2>&1 || cat "$work/log"
+        for program in {i_shape,static,shared}_in_{c,cpp}; do
+            [ "$("build/$program")" = "$corners" ]
+            count $? "linux-x86_64: CMake: $program"
+        done
+    else
+        skip 'linux-x86_64: CMake' 6 'there is no cmake'
+    fi
+}
+
+test_aarch64() {
+    local c=(aarch64-linux-gnu-gcc -std=c11 -Iinclude sample/sample.c) tool
+    test_linux aarch64
+    for tool in aarch64-linux-gnu-gcc qemu-aarch64; do
+        command -v "$tool" > /dev/null && continue
+        skip 'linux-aarch64: C' 2 "there is no $tool"
+        return
+    done
+    runner=(qemu-aarch64 -L /usr/aarch64-linux-gnu -E LD_LIBRARY_PATH=lib)
+    prints_corners 'linux-aarch64: C' "${c[@]}" lib/libi_shape.a
+    prints_corners 'linux-aarch64: C, shared' "${c[@]}" lib/libi_shape.so
+}
+
+# The wheel for the machine $1 says so in its name and within, and holds the library.
+test_wheel() {
+    local wheel=$work/dist/i_shape-$version-py3-none-manylinux_2_17_$1.whl
+    rm -rf "$work/empty" && mkdir "$work/empty" && cd "$work/empty" || return
+    "$python" -m zipfile -e "$wheel" . && grep -qx "Tag: py3-none-manylinux_2_17_$1" i_shape-*.dist-info/WHEEL && ! grep -q 'Purelib: true' i_shape-*.dist-info/WHEEL &&
+        [ -e i_shape/__init__.py ] && [ -e i_shape/py.typed ] && [ -e "i_shape-$version.dist-info/LICENSE" ]
+    count $? "wheel-$1: its tag and files"
+    is_of_manylinux i_shape/libi_shape.so
+    count $? "wheel-$1: what its library asks for"
+}
+
+# pip takes the wheel of this machine, which answers, and not that of another.
+test_installed() {
+    "$python" -m venv --system-site-packages "$work/environment" > "$work/log" 2>&1
+    local pip=("$work/environment/bin/python" -m pip install --isolated --no-index --no-deps) wheels=$work/dist/i_shape-$version-py3-none-manylinux_2_17
+    "${pip[@]}" "${wheels}_x86_64.whl" >> "$work/log" 2>&1 || cat "$work/log"
+    cd "$work/empty" && rm -rf i_shape
+    [ "$("$work/environment/bin/python" -c 'import i_shape; print(i_shape.simplify([(0, 0), (2, 0), (4, 0), (4, 4), (0, 4)]).tolist())')" = \
+        '[[0, 0], [4, 0], [4, 4], [0, 4]]' ]
+    count $? 'wheel-x86_64: installed'
+    is_packed wheel-aarch64 || return
+    ! "${pip[@]}" "${wheels}_aarch64.whl" > "$work/log" 2>&1 && grep -q 'not a supported wheel' "$work/log"
+    count $? 'wheel-aarch64: refused on x86_64'
+}
+
+# What the page of the package shows runs where the package lies as one that was installed.
+test_javascript() {
+    unpack "i_shape-$version-javascript.tgz" || return
+    holds javascript << 'FILES'
+LICENSE
+README.md
+out/i_shape32.wasm
+out/i_shape64.wasm
+package.json
+src/arrays.js
+src/errors.js
+src/i_shape.d.ts
+src/i_shape.js
+src/memory.js
+FILES
+    if npm --version > /dev/null 2>&1; then
+        diff <(npm pack --dry-run --offline --json 2> /dev/null | grep -oP '"path": "\K[^"]+' | sort) <(find . -type f | sed 's|^\./||' | sort)
+        count $? 'javascript: the files that npm packs'
+    else
+        skip 'javascript: the files that npm packs' 1 'there is no npm'
+    fi
+    if node -e 'process.exit(parseInt(process.versions.node) < 20 ? 1 : 0)' 2> /dev/null; then
+        sed -n '/^```js$/,/^```$/{/^```/!p}' README.md > ../sample.mjs
+        mkdir ../node_modules && cd .. && mv package node_modules/i_shape
+        [ "$(node sample.mjs)" = '0 0 4 0 4 4 0 4' ]
+        count $? 'javascript: what its page shows'
+    else
+        skip 'javascript: what its page shows' 1 'there is no Node from 20 on'
+    fi
+}
+
+# The crate passes its tests over the library of the other archive.
+test_rust() {
+    unpack "i_shape-$version-rust.tar.gz" || return
+    local library=$work/library
+    mkdir "$library" && tar -xzf "$work/dist/i_shape-$version-linux-x86_64.tar.gz" -C "$library" --strip-components=1
+    I_SHAPE_C_DIR=$library/lib cargo test --offline --locked --quiet > "$work/cargo" 2>&1
+    local status=$?
+    [ "$status" = 0 ] || cat "$work/cargo"
+    awk '/^test result:/ { passed += $4; failed += $6 } END { print passed + 0 " passed, " failed + 0 " failed" }' "$work/cargo" > "$work/log"
+    add "$status" 'the crate for Rust'
+    [ "$(I_SHAPE_C_DIR=$library/lib cargo run --offline --locked --quiet --example corners)" = "$corners" ]
+    count $? 'rust: its example'
+}
+
+parts=()
+plan linux-x86_64 15 'the library is not built for it' has_library x86_64
+plan linux-aarch64 6 'the library is not built for it' has_library aarch64
+for machine in x86_64 aarch64; do
+    if is_packed "linux-$machine"; then
+        plan "wheel-$machine" 4 "$python has no numpy, setuptools, wheel or venv" has_python
+    else
+        skip "wheel-$machine" 4 'the library is not built for it'
+    fi
+done
+plan javascript 4 'the modules are not built' has_modules
+parts+=(rust)
+bash scripts/dist.sh "$work/dist" "${parts[@]}" > "$work/log" 2>&1
+status=$?
+if [ "$status" != 0 ]; then
+    cat "$work/log"
+    count 1 "scripts/dist.sh ended with status $status"
+    tell_counts dist
+    exit
+fi
+(umask 077 && TZ=Asia/Kathmandu bash scripts/dist.sh "$work/again" "${parts[@]}") > "$work/log" 2>&1 || cat "$work/log"
+for archive in "$work"/dist/*; do
+    cmp "$archive" "$work/again/${archive##*/}"
+    count $? "${archive##*/}: packed again"
+done
+(cd "$work/dist" && sha256sum --quiet -c SHA256SUMS && diff <(ls) <(sed 's/^[0-9a-f]*  //' SHA256SUMS | cat - <(echo SHA256SUMS) | sort))
+count $? 'SHA256SUMS'
+
+PATH=$(path_without_kit)
+! command -v rt > /dev/null
+count $? 'there is no rt on the path'
+test_new_symbol
+is_packed linux-x86_64 && test_x86_64
+is_packed linux-aarch64 && test_aarch64
+for machine in x86_64 aarch64; do
+    is_packed "wheel-$machine" && test_wheel "$machine"
+done
+is_packed wheel-x86_64 && test_installed
+is_packed javascript && test_javascript
+if ! is_packed linux-x86_64; then
+    skip 'rust: its tests' 2 'the library is not built for it'
+elif ! cargo --version > /dev/null 2>&1; then
+    skip 'rust: its tests' 2 'there is no cargo'
+else
+    test_rust
+fi
+tell_counts dist

@@ -1,0 +1,94 @@
+#!/usr/bin/env bash
+# Packs what a release holds into a folder: the C library for each Linux, in an archive and in a wheel, the package for JavaScript, the crate for Rust in
+# source, and SHA256SUMS. What isn't built yet is built first; the C library for each processor of its machine. Two runs over one commit give the same bytes:
+# names are sorted, and each time is that of the commit, or SOURCE_DATE_EPOCH.
+#
+# usage: dist.sh FOLDER [PART..]
+#
+# A part is linux-x86_64, linux-aarch64, wheel-x86_64, wheel-aarch64, javascript or rust. Where none is named, all are packed.
+set -euo pipefail
+umask 022
+export LC_ALL=C
+unset MAKEFLAGS MFLAGS
+top=$(cd "$(dirname "$0")/.." && pwd)
+folder=${1:?the folder to pack into}
+shift
+[ $# -gt 0 ] || set -- linux-x86_64 linux-aarch64 wheel-x86_64 wheel-aarch64 javascript rust
+version=$(sed -n 's/^version = "\(.*\)"$/\1/p' "$top/bindings/rust/Cargo.toml")
+export SOURCE_DATE_EPOCH=${SOURCE_DATE_EPOCH:-$(git -C "$top" log -1 --format=%ct)}
+work=$(mktemp -d)
+trap 'rm -rf "$work"' EXIT
+mkdir "$work/packed"
+
+# Packs the folder $1 of $work into the file $2.
+pack() {
+    tar --create --format=ustar --sort=name --owner=0 --group=0 --numeric-owner --mode=u=rwX,go=rX --mtime="@$SOURCE_DATE_EPOCH" -C "$work" "$1" |
+        gzip -n9 > "$work/packed/$2"
+}
+
+# The library for the machine $1, with $library its folder and $choice what make is told to take it.
+build_library() {
+    case $1 in
+    x86_64) library=$top/bindings/c/out/x86-64 choice=CPU=x86-64 && bash "$top/bindings/c/build.sh" --cpu x86-64 ;;
+    aarch64) library=$top/bindings/c/out/aarch64 choice=TARGET=aarch64 && bash "$top/bindings/c/build.sh" --target aarch64 ;;
+    esac
+}
+
+# What the kit said of the proof that the library stands on.
+print_proof() {
+    grep -E '^fn .*: proved$' "$library/build.log" | sort
+    grep -E '^axioms ' "$library/build.log"
+    grep -E '^logic=proved ' "$library/build.log"
+}
+
+pack_linux() {
+    local machine=$1 name=i_shape-$version-linux-$1
+    build_library "$machine"
+    make -s -C "$top" install-c "$choice" DESTDIR="$work/$name" PREFIX=
+    # so that the folder may lie anywhere
+    sed 's|@PREFIX@|${pcfiledir}/../..|' "$library/i_shape.pc.in" > "$work/$name/lib/pkgconfig/i_shape.pc"
+    mkdir "$work/$name/sample"
+    cp -R "$top"/bindings/c/{sample.c,sample.cpp,consumer} "$work/$name/sample"
+    cp "$top/LICENSE" "$work/$name"
+    sed "s|@VERSION@|$version|; s|@MACHINE@|$machine|" "$top/bindings/c/archive.md" > "$work/$name/README.md"
+    print_proof > "$work/$name/PROOF"
+    pack "$name" "$name.tar.gz"
+}
+
+pack_wheel() {
+    build_library "$1"
+    I_SHAPE_C_DIR=$library WHEEL_SYSTEM=manylinux_2_17 sh "$top/bindings/python/build.sh" "$work/packed" > /dev/null
+}
+
+# As `npm pack` lays it out.
+pack_javascript() {
+    local its=$top/bindings/js
+    bash "$its/build.sh"
+    mkdir -p "$work/package/out"
+    cp -R "$its"/{package.json,README.md,src} "$top/LICENSE" "$work/package"
+    cp "$its"/out/i_shape{64,32}.wasm "$work/package/out"
+    pack package "i_shape-$version-javascript.tgz"
+}
+
+# The crate alone, so the example that it shares with C lies in it.
+pack_rust() {
+    local its=$top/bindings/rust name=i_shape-$version-rust
+    mkdir "$work/$name"
+    cp -R "$its"/{Cargo.lock,README.md,build.rs,examples,src,tests} "$top/LICENSE" "$work/$name"
+    cp "$top/examples/clean.rs" "$work/$name/examples"
+    sed 's|"../../examples/clean.rs"|"examples/clean.rs"|' "$its/Cargo.toml" > "$work/$name/Cargo.toml"
+    pack "$name" "$name.tar.gz"
+}
+
+for part; do
+    case $part in
+    linux-x86_64 | linux-aarch64) pack_linux "${part#linux-}" ;;
+    wheel-x86_64 | wheel-aarch64) pack_wheel "${part#wheel-}" ;;
+    javascript) pack_javascript ;;
+    rust) pack_rust ;;
+    *) echo "dist.sh: what is $part?" >&2 && exit 2 ;;
+    esac
+done
+(cd "$work/packed" && sha256sum -- * > "$work/SHA256SUMS")
+mkdir -p "$folder"
+mv "$work"/packed/* "$work/SHA256SUMS" "$folder"
