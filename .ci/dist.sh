@@ -125,36 +125,39 @@ FILES
     count $? "linux-$machine: what its library asks for"
 }
 
+# The commands of the archive's page, each of which prints the corners at its end.
+test_page() {
+    local command tool
+    while read -r command; do
+        for tool in cmake pkg-config; do
+            [[ $command == *"$tool "* ]] && ! "$tool" --version > /dev/null 2>&1 || continue
+            skip "linux-x86_64: $command" 1 "there is no $tool"
+            continue 2
+        done
+        bash -c "$command" > "$work/log" 2>&1 < /dev/null && [ "$(tail -n 4 "$work/log")" = "$corners" ] || { cat "$work/log" && false; }
+        count $? "linux-x86_64: $command"
+    done < <(sed -n 's/^    //p' README.md | sed '/\\$/ { N; s/\\\n *// }')
+}
+
+# Its commands have built the project of CMake, if there is one.
 test_x86_64() {
-    local c=("${CC:-cc}" -std=c11 -Iinclude sample/sample.c) program
+    local program
     test_linux x86_64
-    runner=()
-    prints_corners 'linux-x86_64: C' "${c[@]}" lib/libi_shape.a
-    prints_corners 'linux-x86_64: C++' "${CXX:-c++}" -std=c++17 -Iinclude sample/sample.cpp lib/libi_shape.a
-    runner=(env LD_LIBRARY_PATH=lib)
-    prints_corners 'linux-x86_64: C, shared' "${c[@]}" lib/libi_shape.so
-    if pkg-config --version > /dev/null 2>&1; then
-        local flags
-        flags=$(PKG_CONFIG_PATH=lib/pkgconfig pkg-config --cflags --libs i_shape)
-        prints_corners 'linux-x86_64: pkg-config' "${CC:-cc}" sample/sample.c $flags
-    else
-        skip 'linux-x86_64: pkg-config' 1 'there is no pkg-config'
-    fi
+    test_page
     if qemu-x86_64 --version > /dev/null 2>&1; then
         runner=(qemu-x86_64 -cpu core2duo)
-        prints_corners 'linux-x86_64: a processor before x86-64-v2' "${c[@]}" lib/libi_shape.a
+        prints_corners 'linux-x86_64: a processor before x86-64-v2' "${CC:-cc}" -std=c11 -Iinclude sample/sample.c lib/libi_shape.a
     else
         skip 'linux-x86_64: a processor before x86-64-v2' 1 'there is no qemu-x86_64'
     fi
-    if cmake --version > /dev/null 2>&1; then
-        { cmake -S sample/consumer -B build "-DCMAKE_PREFIX_PATH=$PWD" && cmake --build build; } > "$work/log" 2>&1 || cat "$work/log"
-        for program in {i_shape,static,shared}_in_{c,cpp}; do
-            [ "$("build/$program")" = "$corners" ]
-            count $? "linux-x86_64: CMake: $program"
-        done
-    else
+    if ! cmake --version > /dev/null 2>&1; then
         skip 'linux-x86_64: CMake' 6 'there is no cmake'
+        return
     fi
+    for program in {i_shape,static,shared}_in_{c,cpp}; do
+        [ "$("build/$program")" = "$corners" ]
+        count $? "linux-x86_64: CMake: $program"
+    done
 }
 
 test_aarch64() {

@@ -36,6 +36,7 @@ build_library() {
 
 # What the kit said of the proof that the library stands on.
 print_proof() {
+    grep -q '^logic=proved ' "$library/build.log" || { echo "dist.sh: there is no verdict in $library/build.log" >&2 && exit 1; }
     grep -E '^fn .*: proved$' "$library/build.log" | sort
     grep -E '^axioms ' "$library/build.log"
     grep -E '^logic=proved ' "$library/build.log"
