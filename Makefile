@@ -37,8 +37,9 @@ wheel: $(if $(I_SHAPE_C_DIR),,c)
 
 # What a release holds, in dist: docs/RELEASE.md says what that is.
 dist:
-	rm -rf dist
+	@rm -rf dist
 	@bash scripts/dist.sh dist
+	@cat dist/SHA256SUMS
 
 # The pictures of docs/pictures, by the program.
 pictures:

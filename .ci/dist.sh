@@ -60,7 +60,9 @@ path_without_kit() {
 # Unpacks the archive $1 into an empty folder, and goes into it.
 unpack() {
     rm -rf "$work/empty"
-    mkdir "$work/empty" && tar -xzf "$work/dist/$1" -C "$work/empty" && cd "$work/empty"/*
+    mkdir "$work/empty" && tar -xzf "$work/dist/$1" -C "$work/empty" && cd "$work/empty"/* && return
+    count 1 "$1: unpacked"
+    return 1
 }
 
 # The files of the folder are those of standard input.
@@ -143,6 +145,7 @@ test_page() {
 test_x86_64() {
     local program
     test_linux x86_64
+    test_new_symbol
     test_page
     if qemu-x86_64 --version > /dev/null 2>&1; then
         runner=(qemu-x86_64 -cpu core2duo)
@@ -173,12 +176,13 @@ test_aarch64() {
     prints_corners 'linux-aarch64: C, shared' "${c[@]}" lib/libi_shape.so
 }
 
-# The wheel for the machine $1 says so in its name and within, and holds the library.
+# The wheel for the machine $1 says so in its name and within, and holds the library of the archive.
 test_wheel() {
     local wheel=$work/dist/i_shape-$version-py3-none-manylinux_2_17_$1.whl
     rm -rf "$work/empty" && mkdir "$work/empty" && cd "$work/empty" || return
     "$python" -m zipfile -e "$wheel" . && grep -qx "Tag: py3-none-manylinux_2_17_$1" i_shape-*.dist-info/WHEEL && ! grep -q 'Purelib: true' i_shape-*.dist-info/WHEEL &&
-        [ -e i_shape/__init__.py ] && [ -e i_shape/py.typed ] && [ -e "i_shape-$version.dist-info/LICENSE" ]
+        [ -e i_shape/__init__.py ] && [ -e i_shape/py.typed ] && [ -e "i_shape-$version.dist-info/LICENSE" ] &&
+        tar -xzOf "$work/dist/i_shape-$version-linux-$1.tar.gz" "i_shape-$version-linux-$1/lib/libi_shape.so" | cmp - i_shape/libi_shape.so
     count $? "wheel-$1: its tag and files"
     is_of_manylinux i_shape/libi_shape.so
     count $? "wheel-$1: what its library asks for"
@@ -244,7 +248,7 @@ test_rust() {
 }
 
 parts=()
-plan linux-x86_64 15 'the library is not built for it' has_library x86_64
+plan linux-x86_64 16 'the library is not built for it' has_library x86_64
 plan linux-aarch64 6 'the library is not built for it' has_library aarch64
 for machine in x86_64 aarch64; do
     if is_packed "linux-$machine"; then
@@ -274,7 +278,6 @@ count $? 'SHA256SUMS'
 PATH=$(path_without_kit)
 ! command -v rt > /dev/null
 count $? 'there is no rt on the path'
-test_new_symbol
 is_packed linux-x86_64 && test_x86_64
 is_packed linux-aarch64 && test_aarch64
 for machine in x86_64 aarch64; do
