@@ -255,15 +255,16 @@ static void AT(test_refusals)(void) {
         WITH_EACH_GROWTH_REFUSED(AT(batches)[k](given, 10, few, 4, out, 10, out_offsets, 4), 1, growths == 0, W, cleaner_names[k]);
         WITH_EACH_GROWTH_REFUSED(AT(batches)[k](given, 10, none, 1, out, 10, out_offsets, 1), 1, growths == 0, W, cleaner_names[k]);
     }
-    /* Polygons with points to be removed: three lists more, and the places of the walk, however many contours there are. */
+    /* Polygons with a spike in each contour: three lists more, and the places of the walk, of which six outgrow the room for four. */
+    const POINT spiked[10] = {{0, 0}, {8, 0}, {4, 0}, {4, 4}, {0, 0}, {8, 0}, {4, 0}, {4, 4}, {0, 4}, {0, 2}};
     for (int k = 0; k < CLEANERS; k++) {
         POINT out[10];
         size_t out_contours[3], out_shapes[3];
         const size_t one[2] = {0, 1}, both[2] = {0, 2}, apart[3] = {0, 1, 2};
         if (is_form(k)) continue;
-        WITH_EACH_GROWTH_REFUSED(AT(polygons)[k](given, 10, offsets, 2, one, 2, out, 10, out_contours, 3, out_shapes, 3), 1, growths == 7, W, cleaner_names[k]);
-        WITH_EACH_GROWTH_REFUSED(AT(polygons)[k](given, 10, offsets, 3, both, 2, out, 10, out_contours, 3, out_shapes, 3), 1, growths == 7, W, cleaner_names[k]);
-        WITH_EACH_GROWTH_REFUSED(AT(polygons)[k](given, 10, offsets, 3, apart, 3, out, 10, out_contours, 3, out_shapes, 3), 1, growths == 7, W, cleaner_names[k]);
+        WITH_EACH_GROWTH_REFUSED(AT(polygons)[k](spiked, 10, offsets, 2, one, 2, out, 10, out_contours, 3, out_shapes, 3), 1, growths == 7, W, cleaner_names[k]);
+        WITH_EACH_GROWTH_REFUSED(AT(polygons)[k](spiked, 10, offsets, 3, both, 2, out, 10, out_contours, 3, out_shapes, 3), 1, growths == 8, W, cleaner_names[k]);
+        WITH_EACH_GROWTH_REFUSED(AT(polygons)[k](spiked, 10, offsets, 3, apart, 3, out, 10, out_contours, 3, out_shapes, 3), 1, growths == 8, W, cleaner_names[k]);
     }
     WITH_EACH_GROWTH_REFUSED(CALL(is_simple)(given, 10), 1, growths == 0, W, "is_simple");
     WITH_EACH_GROWTH_REFUSED(CALL(has_no_spikes)(given, 10), 1, growths == 0, W, "has_no_spikes");
