@@ -1,11 +1,11 @@
 use Rattle.std.proofs.Common.{arith, rules, ap}
 use Rattle.i_shape_core.specs.IntPoint.{contour_of}
 use Rattle.i_shape_core.proofs.Contours.{refuted}
-use Rattle.i_shape.proofs.SpikesLeft.{spikeless_stays, spikes_collapse}
+use Rattle.i_shape.proofs.SpikesLeft.{spikeless_stays_in_place, spikes_collapse}
 use Rattle.i_shape.proofs.int.despike.IntContourDeSpike.remove_spikes.Goals as goal
 
 pub returns-then-has_no_spikes-clause-gives : goal.returns-then-has_no_spikes-clause-gives
-returns-then-has_no_spikes-clause-gives g c = spikeless_stays (contour_of g.I.IntNumber.value c.args.self.now.items) (c.has_no_spikes.ensures.0 c.if-has_no_spikes.true)
+returns-then-has_no_spikes-clause-gives g c = spikeless_stays_in_place (contour_of g.I.IntNumber.value c.args.self.now.items) (c.has_no_spikes.ensures.0 c.if-has_no_spikes.true)
 
 pub returns-in-None-clause-gives : goal.returns-in-None-clause-gives
 returns-in-None-clause-gives g c = spikes_collapse (contour_of g.I.IntNumber.value c.args.self.now.items) (contour_of g.I.IntNumber.value c.clear.new.self.items)
