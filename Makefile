@@ -1,8 +1,9 @@
 PREFIX ?= /usr/local
 # Where build.sh of the C library puts what it builds.
 C_OUT := bindings/c/out$(if $(TARGET)$(CPU),/$(TARGET)$(if $(TARGET),$(if $(CPU),-))$(CPU))
+PROGRAM := crates/i_shape_tool_main/out/$(if $(TARGET)$(CPU),$(TARGET)$(CPU)/i_shape_tool,i_shape_tool_main)
 
-.PHONY: test gate check fmt c wasm page wheel dist pictures install install-program install-c clean
+.PHONY: test gate check fmt program c wasm page wheel dist pictures install install-program install-c clean
 
 # The tests of behaviour, without a proof, in minutes. What isn't built is skipped.
 test:
@@ -18,7 +19,11 @@ check:
 fmt:
 	@for crate in crates/*/; do (cd $$crate && rt fmt) || exit 1; done
 
-# The C library, in bindings/c/out; with TARGET=aarch64 or CPU=x86-64 in the folder of that name below it.
+# The program, in crates/i_shape_tool_main/out; with TARGET=aarch64 or CPU=x86-64 in the folder of that name below it.
+program:
+	@$(if $(TARGET)$(CPU),bash scripts/program/build.sh $(if $(TARGET),--target $(TARGET)) $(if $(CPU),--cpu $(CPU)),printf '' | ./i_shape_tool simplify)
+
+# The C library, in bindings/c/out; with TARGET=aarch64, TARGET=windows (an experiment) or CPU=x86-64 in the folder of that name below it.
 c:
 	@bash bindings/c/build.sh $(if $(TARGET),--target $(TARGET)) $(if $(CPU),--cpu $(CPU))
 
@@ -47,12 +52,12 @@ pictures:
 
 install: install-program install-c
 
-install-program:
-	@printf '' | ./i_shape_tool simplify
+install-program: program
 	install -d $(DESTDIR)$(PREFIX)/bin
-	install -m 755 crates/i_shape_tool_main/out/i_shape_tool_main $(DESTDIR)$(PREFIX)/bin/i_shape_tool
+	install -m 755 $(PROGRAM) $(DESTDIR)$(PREFIX)/bin/i_shape_tool
 
 install-c: c
+	$(if $(filter windows,$(TARGET)),$(error install-c takes no TARGET=windows: bindings/c/out/windows has what make c has built))
 	install -d $(DESTDIR)$(PREFIX)/include $(DESTDIR)$(PREFIX)/lib/pkgconfig $(DESTDIR)$(PREFIX)/lib/cmake/i_shape
 	install -m 644 include/i_shape.h include/i_shape.hpp $(DESTDIR)$(PREFIX)/include
 	install -m 644 $(C_OUT)/libi_shape.a $(DESTDIR)$(PREFIX)/lib

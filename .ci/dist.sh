@@ -29,6 +29,14 @@ has_library() {
     [ "$only_built" != --if-built ] && command -v rt > /dev/null && { [ "$1" = x86_64 ] || command -v aarch64-linux-gnu-gcc > /dev/null; }
 }
 
+# Whether the program for the machine $1, and the default one that it is built over, are there, or can be built.
+has_program() {
+    local words=(--cpu x86-64)
+    [ "$1" = x86_64 ] || words=(--target aarch64)
+    bash scripts/program/build.sh --is-built "${words[@]}" && return
+    [ "$only_built" != --if-built ] && command -v rt > /dev/null && { [ "$1" = x86_64 ] || command -v aarch64-linux-gnu-gcc > /dev/null; }
+}
+
 has_modules() {
     bash bindings/js/build.sh --is-built || { [ "$only_built" != --if-built ] && command -v rt > /dev/null; }
 }
@@ -81,11 +89,16 @@ prints_corners() {
     rm -f "$work/program"
 }
 
-# Whether the shared library asks for nothing but what libc.so.6 has had since glibc 2.17, looks for it nowhere else, and wants no stack that is executed.
-is_of_manylinux() {
+# Whether the shared library or program $1 asks for nothing but what libc.so.6 has had since glibc 2.$2, looks for it nowhere else, and wants no stack that is
+# executed.
+needs_glibc() {
     [ "$(readelf -dW "$1" | sed -nE 's/.*\((NEEDED|RPATH|RUNPATH)\).*\[(.*)\]/\1 \2/p')" = 'NEEDED libc.so.6' ] &&
-        ! readelf --dyn-syms -W "$1" | awk '$7 == "UND" && $8 != "" && ($5 != "WEAK" || $8 ~ /@/) { print $8 }' |
-        grep -vxE '[A-Za-z_0-9]+@GLIBC_2\.([0-9]|1[0-7])(\.[0-9]+)?' && readelf -lW "$1" | grep -qE 'GNU_STACK .* RW +[0-9a-fx]+$'
+        ! readelf --dyn-syms -W "$1" | awk -v most="$2" '$7 == "UND" && $8 != "" && ($5 != "WEAK" || $8 ~ /@/) && !(split($8, parts, /@GLIBC_2[.]/) == 2 &&
+            parts[2] + 0 <= most) { print $8 }' | grep . && readelf -lW "$1" | grep -qE 'GNU_STACK .* RW +[0-9a-fx]+$'
+}
+
+is_of_manylinux() {
+    needs_glibc "$1" 17
 }
 
 # The test of that refuses a library that asks for what came with glibc 2.34.
@@ -176,6 +189,27 @@ test_aarch64() {
     prints_corners 'linux-aarch64: C, shared' "${c[@]}" lib/libi_shape.so
 }
 
+# The program for the machine $1 prints the corners, by the command of its page. It is run by the words of the array runner.
+test_program() {
+    unpack "i_shape_tool-$version-linux-$1.tar.gz" || return
+    holds "program-$1" << 'FILES'
+LICENSE
+PROOF
+README.md
+bin/i_shape_tool
+FILES
+    needs_glibc bin/i_shape_tool 34
+    count $? "program-$1: what it asks for"
+    grep -q "^logic=proved .* target=$1-unknown-linux-gnu " PROOF
+    count $? "program-$1: what the kit said of the proof"
+    if [ ${#runner[@]} -gt 0 ] && ! command -v "${runner[0]}" > /dev/null; then
+        skip "program-$1: its answer" 1 "there is no ${runner[0]}"
+        return
+    fi
+    [ "$(printf '0 0 2 0 4 0 4 4 0 4\n' | "${runner[@]}" bin/i_shape_tool simplify)" = '0 0 4 0 4 4 0 4' ]
+    count $? "program-$1: its answer"
+}
+
 # The wheel for the machine $1 says so in its name and within, and holds the library of the archive.
 test_wheel() {
     local wheel=$work/dist/i_shape-$version-py3-none-manylinux_2_17_$1.whl
@@ -257,6 +291,9 @@ for machine in x86_64 aarch64; do
         skip "wheel-$machine" 4 'the library is not built for it'
     fi
 done
+for machine in x86_64 aarch64; do
+    plan "program-$machine" 4 'it is not built' has_program "$machine"
+done
 plan javascript 4 'the modules are not built' has_modules
 parts+=(rust)
 bash scripts/dist.sh "$work/dist" "${parts[@]}" > "$work/log" 2>&1
@@ -284,6 +321,10 @@ for machine in x86_64 aarch64; do
     is_packed "wheel-$machine" && test_wheel "$machine"
 done
 is_packed wheel-x86_64 && test_installed
+runner=(qemu-x86_64 -cpu core2duo)
+is_packed program-x86_64 && test_program x86_64
+runner=(qemu-aarch64 -L /usr/aarch64-linux-gnu)
+is_packed program-aarch64 && test_program aarch64
 is_packed javascript && test_javascript
 if ! is_packed linux-x86_64; then
     skip 'rust: its tests' 2 'the library is not built for it'

@@ -1,14 +1,15 @@
 #!/usr/bin/env bash
 # Runs the tests of the C library elsewhere than on the machine that builds it: for aarch64 under qemu, against the archive, the shared library, as a static
 # program, as C++17, and with each growth refused; for x86-64 before x86-64-v2 under qemu; linked statically with musl; and under the thread sanitizer.
-# Builds by two compilers, and for two processors, answer random calls the same. What needs a tool that isn't there is skipped. With the word --if-built it
-# builds nothing that would be proved, and skips the runs over that. The last line is 'elsewhere: N passed, M failed', and ', K skipped' behind it where K is
-# above 0.
+# For Windows the library's tests run under wine, and it answers random contours as the one for Linux does. The program for aarch64 answers a thousand texts by
+# the bytes of the one for x86-64. Builds by two compilers, and for two processors, answer random calls the same. What needs a tool that isn't there is
+# skipped. With the word --if-built it builds nothing that would be proved, and skips the runs over that. The last line is
+# 'elsewhere: N passed, M failed', and ', K skipped' behind it where K is above 0.
 set -u
 cd "$(dirname "$0")/.." || exit 1
 . .ci/c_tests.sh || exit 1
 work=$(mktemp -d) || exit 1
-trap 'rm -rf "$work"' EXIT
+trap end EXIT
 only_built=${1-}
 tests=bindings/c/test.c
 
@@ -25,6 +26,12 @@ has_library() {
     cat "$work/log"
     count 1 "the library for $name"
     return 1
+}
+
+# Removes what the tests have made. Wine leaves a server behind that keeps its folder.
+end() {
+    [ ! -e "$work/wine" ] || wineserver -k 2> /dev/null
+    rm -rf "$work"
 }
 
 # Whether the tools from $3 on are there for the tests of $1, which are $2.
@@ -110,9 +117,128 @@ test_builds() {
     count $? 'the builds for x86-64-v2 and for each x86-64'
 }
 
+# What the program answers to each text by the command $2, into the folder $1: both streams, and the statuses. It is run by the words from $3 on.
+answer_texts() {
+    local folder=$1 command=$2 text
+    shift 2
+    mkdir -p "$folder"
+    for text in "$work"/texts/*; do
+        "$@" "$command" < "$text" 2>> "$folder/$command.errors"
+        echo "status $?"
+    done > "$folder/$command"
+}
+
+# A thousand texts of some lines, of which some two hundred have a fault.
+make_texts() {
+    mkdir "$work/texts"
+    awk -v folder="$work/texts" 'function below(count) { return int(rand() * count) }
+    function number(reach) { return below(2 * reach + 1) - reach }
+    BEGIN {
+        srand(7)
+        split("2 3 5 12 1000 1073741823", reaches, " ")
+        split("1 2 3|x 1|1  2 3 4| 1 2|1 2 |2147483648 0|1073741824 0 1 1 2 3|-1073741824 5|+1 2|1.5 2|1 2\r|\377 1", faults, "|")
+        for (text = 1; text <= 1000; text++) {
+            file = folder "/" text
+            lines = below(12)
+            at = below(4) ? 0 : 1 + below(lines + 1)
+            for (line = 1; line <= lines + (at > lines); line++) {
+                words = ""
+                reach = reaches[1 + below(6)]
+                for (count = below(14); count > 0; count--) words = words (words == "" ? "" : " ") number(reach) " " number(reach)
+                printf "%s%s", line == at ? faults[1 + below(12)] : words, line == lines && below(2) ? "" : "\n" > file
+            }
+            printf "" > file
+            close(file)
+        }
+    }'
+}
+
+test_program() {
+    local machine=/usr/aarch64-linux-gnu commands=(simplify despike area canonical compact) command
+    local native=crates/i_shape_tool_main/out/i_shape_tool_main other=crates/i_shape_tool_main/out/aarch64/i_shape_tool
+    if [ ! -e "$machine/lib/libc.so.6" ]; then
+        skip 'the program for aarch64' 8 "there is no C library for it in $machine"
+        return
+    fi
+    has_tools 'the program for aarch64' 8 aarch64-linux-gnu-gcc qemu-aarch64 || return
+    if [ "$only_built" = --if-built ] && ! bash scripts/program/build.sh --is-built --target aarch64; then
+        skip 'the program for aarch64' 8 'it is not built'
+        return
+    fi
+    if ! bash scripts/program/build.sh --target aarch64 > "$work/log" 2>&1; then
+        cat "$work/log"
+        count 1 'the program for aarch64'
+        return
+    fi
+    make_texts
+    for command in "${commands[@]}"; do
+        answer_texts "$work/x86_64" "$command" "$native" &
+        answer_texts "$work/aarch64" "$command" qemu-aarch64 -L "$machine" "$other" &
+    done
+    wait
+    for command in "${commands[@]}"; do
+        [ "$(grep -c '^status ' "$work/x86_64/$command")" = 1000 ] && cmp "$work"/{x86_64,aarch64}/"$command" && cmp "$work"/{x86_64,aarch64}/"$command.errors"
+        count $? "the program for aarch64: $command"
+    done
+    for command in '' nothing 'area area'; do
+        cmp <("$native" $command 2>&1 < /dev/null; echo $?) <(qemu-aarch64 -L "$machine" "$other" $command 2>&1 < /dev/null; echo $?)
+        count $? "the program for aarch64: what is no command: $command"
+    done
+}
+
+by_wine() {
+    (cd "$work" && set -o pipefail && wine "$1.exe" 2> /dev/null | tr -d '\r')
+}
+
+# The answers of the library $2 to random contours at each width, by a program that the words from $3 on compile. It is run by the words of the array runner.
+answer_contours() {
+    local folder=$1 library=$2 bits
+    shift 2
+    mkdir -p "$folder"
+    for bits in 16 32 64; do
+        "$@" -O2 -std=c11 -DWIDTH=$bits -DWIDTH_TWICE=$((2 * bits)) -Iinclude bindings/js/test/native/answers.c "$library" -o "$work/answers" &&
+            "${runner[@]}" "$work/answers" < "$work/contours" > "$folder/$bits" && [ -s "$folder/$bits" ] || return
+    done
+}
+
+test_windows() {
+    local library=bindings/c/out/windows gcc=x86_64-w64-mingw32-gcc c=(x86_64-w64-mingw32-gcc -std=c11)
+    has_tools Windows 8 $gcc wine && has_library Windows 8 --target windows || return
+    export WINEPREFIX=$work/wine
+    runner=(by_wine)
+    cp "$library/i_shape.dll" "$work"
+    test_sample 'Windows' "$library/libi_shape.a" "${c[@]}" -static
+    test_as 'Windows' "${c[@]}" -static "$tests" "$library/libi_shape.a"
+    test_as 'Windows, DLL' "${c[@]}" -static "$tests" "$library/libi_shape.dll.a"
+    test_as 'Windows, each growth refused' "${c[@]}" -static -DOWN_ALLOCATOR "$tests" "$library/libi_shape.a"
+    python3 bindings/module/test_retarget.py windows > "$work/told" 2>&1
+    local status=$?
+    sed 's/^tests of retarget.py: //' "$work/told" > "$work/log"
+    add "$status" 'the tests of retarget.py'
+    [ "$(x86_64-w64-mingw32-objdump -p "$library/i_shape.dll" | sed -n 's/^\s*DLL Name: //p' | sort | tr '\n' ' ')" = 'KERNEL32.dll msvcrt.dll ' ]
+    count $? 'Windows: what the DLL asks for'
+    awk 'BEGIN {
+        srand(3)
+        for (line = 0; line < 10000; line++) {
+            reach = int(exp(rand() * 10))
+            count = int(rand() * 14)
+            text = count
+            for (k = -2; k < 2 * count; k++) text = text " " int(rand() * (2 * reach + 1)) - reach
+            print text
+        }
+    }' > "$work/contours"
+    answer_contours "$work/windows" "$library/libi_shape.a" $gcc -static
+    count $? 'Windows: random contours'
+    runner=()
+    answer_contours "$work/linux" bindings/c/out/libi_shape.a "${CC:-cc}" && diff -rq "$work/linux" "$work/windows"
+    count $? 'Windows: the answers to random contours'
+}
+
 test_aarch64
+test_program
 test_old_processor
 test_musl
+test_windows
 test_thread_sanitizer
 test_builds
 tell_counts elsewhere

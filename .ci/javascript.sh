@@ -48,7 +48,7 @@ build_answers() {
 # The steps that retarget the module stop at what they don't know.
 test_steps() {
     local counts
-    python3 $package/test/test_retarget.py > "$work/log" 2>&1
+    python3 bindings/module/test_retarget.py wasm > "$work/log" 2>&1
     counts=$(sed -nE 's/^tests of retarget.py: ([0-9]+) passed, ([0-9]+) failed$/\1 \2/p' "$work/log")
     [ "${counts#* }" = 0 ] || cat "$work/log"
     counts=${counts:-0 1}

@@ -204,7 +204,8 @@ def fault_of_version():
 def fault_of_lemmas():
     """Each file of lemmas is named."""
     page = read(f"{TOP}/docs/ARCHITECTURE.md")
-    names = {os.path.basename(name).removesuffix(".antt") for name in files(["crates/*/proofs/*.antt"])} - {"Lib"}
+    names = {re.sub(r".*/proofs/|\.antt$", "", name) for name in files(["crates/*/proofs/**/*.antt"])} - {"Lib"}
+    names = {part for name in names if not name.endswith(("/Answers", "/Invariants", "/Proof")) for part in name.split("/")}
     return ", ".join(sorted(f"{name} isn't named" for name in names if f"`{name}`" not in page)) or None
 
 
@@ -221,9 +222,9 @@ def fault_of_edits():
     page = read(f"{TOP}/docs/CONTRACTS.md")
     edits = {kind: {tuple(name.removesuffix(".edit").split("/")[-3::2]) for name in files([f"crates/*/{kind}/*.edit"])} for kind in ("must-fail", "wrong")}
     named = set()
-    for cell in re.findall(r"^\|[^|]*\| ((?:core|source|shape|tool|callers) `[^|]*) \|", page, re.MULTILINE):
-        for crate, names in re.findall(r"\b(core|source|shape|tool|callers) (`[^|]*?)(?=; \w+ `|, \w+ `|$)", cell):
-            named |= {({"shape": "i_shape", "callers": "callers"}.get(crate, f"i_shape_{crate}"), name) for name in re.findall(r"`(\w+)`", names)}
+    for cell in re.findall(r"^\|[^|]*\| ((?:core|source|shape|tool|uses) `[^|]*) \|", page, re.MULTILINE):
+        for crate, names in re.findall(r"\b(core|source|shape|tool|uses) (`[^|]*?)(?=; \w+ `|, \w+ `|$)", cell):
+            named |= {({"shape": "i_shape", "uses": "uses"}.get(crate, f"i_shape_{crate}"), name) for name in re.findall(r"`(\w+)`", names)}
     missing = [f"{crate}'s {name} isn't named" for crate, name in edits["must-fail"] - named]
     strange = [f"{crate} has no edit {name}" for crate, name in named - edits["must-fail"] - edits["wrong"]]
     return "; ".join(sorted(missing + strange)) or None

@@ -11,7 +11,7 @@ import tempfile
 sys.path.insert(0, os.path.dirname(os.path.realpath(__file__)))
 import pages  # noqa: E402
 
-SOURCE = pages.read(f"{pages.TOP}/crates/callers/src/corners.rt")
+SOURCE = pages.read(f"{pages.TOP}/crates/uses/src/corners.rt")
 SAMPLE = SOURCE[SOURCE.index("use "):]
 CLAUSE = "    ensures memory { IsOkUnless result ShapeError.OutOfMemory }\n"
 
@@ -91,7 +91,7 @@ def main():
         ("another version of the package", with_text("_library.py", "_VERSION = 0x", "_VERSION = 0x9", pages.fault_of_version) is not None),
         ("another version of the package for JavaScript", with_text("js/package.json", 'version": "', 'version": "9', pages.fault_of_version) is not None),
         ("another version of the archive", with_text("version.rt", ": u32 = ", ": u32 = 9", pages.fault_of_version) is not None),
-        ("a file of lemmas that isn't named", with_text("ARCHITECTURE.md", "`Turns`", "", pages.fault_of_lemmas) is not None),
+        ("a file of lemmas that isn't named", with_text("ARCHITECTURE.md", "`CrossProducts`", "", pages.fault_of_lemmas) is not None),
     ]
     failed = [name for name, is_right in rows if not is_right]
     if failed:

@@ -125,6 +125,22 @@ int32_t i_shape_windings_i32(const i_shape_point_i32 *points, size_t count, cons
  * halves of 128. */
 bool i_shape_area_two_i32(const i_shape_point_i32 *points, size_t count, int64_t *area);
 
+/* Tests and areas of many contours, parted as above: what the call on one contour answers is written to out for each of
+ * them, so that m contours, which have offset_count = m + 1, have m items. These answer 0. I_SHAPE_UNFIT: the offsets
+ * are wrong as above, or room is below m. I_SHAPE_UNSAFE: a point from the first offset to the last isn't safe; the
+ * last two never answer it. After a code, and behind m items, out is as it was. They take no memory. */
+
+/* Each item is what i_shape_is_simple_i32 answers, 1 or 0. */
+int32_t i_shape_is_simple_contours_i32(const i_shape_point_i32 *points, size_t count, const size_t *offsets, size_t offset_count, uint8_t *out, size_t room);
+/* Each item is what i_shape_has_no_spikes_i32 answers. */
+int32_t i_shape_has_no_spikes_contours_i32(const i_shape_point_i32 *points, size_t count, const size_t *offsets, size_t offset_count, uint8_t *out, size_t room);
+/* Each item is what i_shape_is_convex_i32 answers. */
+int32_t i_shape_is_convex_contours_i32(const i_shape_point_i32 *points, size_t count, const size_t *offsets, size_t offset_count, uint8_t *out, size_t room);
+/* Each item is what i_shape_is_safe_i32 answers. */
+int32_t i_shape_is_safe_contours_i32(const i_shape_point_i32 *points, size_t count, const size_t *offsets, size_t offset_count, uint8_t *out, size_t room);
+/* Each item is the area of i_shape_area_two_i32, and 0 where there is no point. */
+int32_t i_shape_area_two_contours_i32(const i_shape_point_i32 *points, size_t count, const size_t *offsets, size_t offset_count, int64_t *areas, size_t room);
+
 /* The calls at 16 bits: scripts/widths.sh makes them of those at 32 bits. */
 ptrdiff_t i_shape_simplify_i16(const i_shape_point_i16 *points, size_t count, i_shape_point_i16 *out, size_t room);
 ptrdiff_t i_shape_despike_i16(const i_shape_point_i16 *points, size_t count, i_shape_point_i16 *out, size_t room);
@@ -146,6 +162,11 @@ int32_t i_shape_is_safe_i16(const i_shape_point_i16 *points, size_t count);
 ptrdiff_t i_shape_winding_i16(const i_shape_point_i16 *points, size_t count, int16_t x, int16_t y);
 int32_t i_shape_windings_i16(const i_shape_point_i16 *points, size_t count, const size_t *offsets, size_t offset_count, const i_shape_point_i16 *about, size_t about_count, ptrdiff_t *out, size_t room);
 bool i_shape_area_two_i16(const i_shape_point_i16 *points, size_t count, int32_t *area);
+int32_t i_shape_is_simple_contours_i16(const i_shape_point_i16 *points, size_t count, const size_t *offsets, size_t offset_count, uint8_t *out, size_t room);
+int32_t i_shape_has_no_spikes_contours_i16(const i_shape_point_i16 *points, size_t count, const size_t *offsets, size_t offset_count, uint8_t *out, size_t room);
+int32_t i_shape_is_convex_contours_i16(const i_shape_point_i16 *points, size_t count, const size_t *offsets, size_t offset_count, uint8_t *out, size_t room);
+int32_t i_shape_is_safe_contours_i16(const i_shape_point_i16 *points, size_t count, const size_t *offsets, size_t offset_count, uint8_t *out, size_t room);
+int32_t i_shape_area_two_contours_i16(const i_shape_point_i16 *points, size_t count, const size_t *offsets, size_t offset_count, int32_t *areas, size_t room);
 
 /* The calls at 64 bits: scripts/widths.sh makes them of those at 32 bits. */
 ptrdiff_t i_shape_simplify_i64(const i_shape_point_i64 *points, size_t count, i_shape_point_i64 *out, size_t room);
@@ -168,6 +189,11 @@ int32_t i_shape_is_safe_i64(const i_shape_point_i64 *points, size_t count);
 ptrdiff_t i_shape_winding_i64(const i_shape_point_i64 *points, size_t count, int64_t x, int64_t y);
 int32_t i_shape_windings_i64(const i_shape_point_i64 *points, size_t count, const size_t *offsets, size_t offset_count, const i_shape_point_i64 *about, size_t about_count, ptrdiff_t *out, size_t room);
 bool i_shape_area_two_i64(const i_shape_point_i64 *points, size_t count, i_shape_halves *area);
+int32_t i_shape_is_simple_contours_i64(const i_shape_point_i64 *points, size_t count, const size_t *offsets, size_t offset_count, uint8_t *out, size_t room);
+int32_t i_shape_has_no_spikes_contours_i64(const i_shape_point_i64 *points, size_t count, const size_t *offsets, size_t offset_count, uint8_t *out, size_t room);
+int32_t i_shape_is_convex_contours_i64(const i_shape_point_i64 *points, size_t count, const size_t *offsets, size_t offset_count, uint8_t *out, size_t room);
+int32_t i_shape_is_safe_contours_i64(const i_shape_point_i64 *points, size_t count, const size_t *offsets, size_t offset_count, uint8_t *out, size_t room);
+int32_t i_shape_area_two_contours_i64(const i_shape_point_i64 *points, size_t count, const size_t *offsets, size_t offset_count, i_shape_halves *areas, size_t room);
 
 #ifdef __cplusplus
 }

@@ -130,6 +130,11 @@ struct Calls;
         static constexpr auto winding = i_shape_winding_i##W; \
         static constexpr auto windings = i_shape_windings_i##W; \
         static constexpr auto area_two = i_shape_area_two_i##W; \
+        static constexpr auto is_simple_contours = i_shape_is_simple_contours_i##W; \
+        static constexpr auto has_no_spikes_contours = i_shape_has_no_spikes_contours_i##W; \
+        static constexpr auto is_convex_contours = i_shape_is_convex_contours_i##W; \
+        static constexpr auto is_safe_contours = i_shape_is_safe_contours_i##W; \
+        static constexpr auto area_two_contours = i_shape_area_two_contours_i##W; \
     };
 
 I_SHAPE_CALLS(16, std::int32_t)
@@ -233,6 +238,15 @@ Shapes<PointOf<Points>> clean_shapes(Call call, const Points &points, const Offs
 template <class Points, class Call>
 bool test(Call call, const Points &points) {
     return count_of(call(read(points), std::size(points))) != 0;
+}
+
+/* An item of each contour, by a call that answers 0. */
+template <class Item, class Points, class Offsets, class Call>
+std::vector<Item> measure_contours(Call call, const Points &points, const Offsets &offsets) {
+    const std::size_t offset_count = std::size(offsets);
+    std::vector<Item> items(offset_count == 0 ? 0 : offset_count - 1);
+    count_of(call(read(points), std::size(points), read_offsets(offsets), offset_count, address<Item>(items.data()), items.size()));
+    return items;
 }
 
 } // namespace detail
@@ -387,6 +401,36 @@ std::optional<AreaOf<Points>> area_two(const Points &points) noexcept {
     AreaOf<Points> area;
     if (!detail::CallsOf<Points>::area_two(detail::read(points), std::size(points), &area)) return std::nullopt;
     return area;
+}
+
+/* Tests of many contours: a byte of each, 1 or 0, in place of a vector of bool, whose items have no address. All but
+ * is_safe_contours throw Code::unsafe where a point isn't safe, and each throws Code::unfit where the offsets don't part
+ * the points. */
+
+template <class Points, class Offsets>
+std::vector<std::uint8_t> is_simple_contours(const Points &points, const Offsets &offsets) {
+    return detail::measure_contours<std::uint8_t>(detail::CallsOf<Points>::is_simple_contours, points, offsets);
+}
+
+template <class Points, class Offsets>
+std::vector<std::uint8_t> has_no_spikes_contours(const Points &points, const Offsets &offsets) {
+    return detail::measure_contours<std::uint8_t>(detail::CallsOf<Points>::has_no_spikes_contours, points, offsets);
+}
+
+template <class Points, class Offsets>
+std::vector<std::uint8_t> is_convex_contours(const Points &points, const Offsets &offsets) {
+    return detail::measure_contours<std::uint8_t>(detail::CallsOf<Points>::is_convex_contours, points, offsets);
+}
+
+template <class Points, class Offsets>
+std::vector<std::uint8_t> is_safe_contours(const Points &points, const Offsets &offsets) {
+    return detail::measure_contours<std::uint8_t>(detail::CallsOf<Points>::is_safe_contours, points, offsets);
+}
+
+/* Twice the area of each of many contours, 0 where it has no point. It throws Code::unfit as the tests do. */
+template <class Points, class Offsets>
+std::vector<AreaOf<Points>> area_two_contours(const Points &points, const Offsets &offsets) {
+    return detail::measure_contours<AreaOf<Points>>(detail::CallsOf<Points>::area_two_contours, points, offsets);
 }
 
 /* Contours, each in a vector of its own, end to end, and back. */

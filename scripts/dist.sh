@@ -1,11 +1,11 @@
 #!/usr/bin/env bash
-# Packs what a release holds into a folder: the C library for each Linux, in an archive and in a wheel, the package for JavaScript, the crate for Rust in
-# source, and SHA256SUMS. What isn't built yet is built first; the C library for each processor of its machine. Two runs over one commit give the same bytes:
+# Packs what a release holds into a folder: the C library for each Linux, in an archive and in a wheel, the program for each, the package for JavaScript, the
+# crate for Rust in source, and SHA256SUMS. What isn't built yet is built first; the C library and the program for each processor of their machine. Two runs over one commit give the same bytes:
 # names are sorted, and each time is that of the commit, or SOURCE_DATE_EPOCH.
 #
 # usage: dist.sh FOLDER [PART..]
 #
-# A part is linux-x86_64, linux-aarch64, wheel-x86_64, wheel-aarch64, javascript or rust. Where none is named, all are packed.
+# A part is linux-x86_64, linux-aarch64, wheel-x86_64, wheel-aarch64, program-x86_64, program-aarch64, javascript or rust. Where none is named, all are packed.
 set -euo pipefail
 umask 022
 export LC_ALL=C
@@ -13,7 +13,7 @@ unset MAKEFLAGS MFLAGS
 top=$(cd "$(dirname "$0")/.." && pwd)
 folder=${1:?the folder to pack into}
 shift
-[ $# -gt 0 ] || set -- linux-x86_64 linux-aarch64 wheel-x86_64 wheel-aarch64 javascript rust
+[ $# -gt 0 ] || set -- linux-x86_64 linux-aarch64 wheel-x86_64 wheel-aarch64 program-x86_64 program-aarch64 javascript rust
 version=$(sed -n 's/^version = "\(.*\)"$/\1/p' "$top/bindings/rust/Cargo.toml")
 export SOURCE_DATE_EPOCH=${SOURCE_DATE_EPOCH:-$(git -C "$top" log -1 --format=%ct)}
 work=$(mktemp -d)
@@ -34,12 +34,12 @@ build_library() {
     esac
 }
 
-# What the kit said of the proof that the library stands on.
+# What the kit said of the proof that a library or program stands on, whose log is $1.
 print_proof() {
-    grep -q '^logic=proved ' "$library/build.log" || { echo "dist.sh: there is no verdict in $library/build.log" >&2 && exit 1; }
-    grep -E '^fn .*: proved$' "$library/build.log" | sort
-    grep -E '^axioms ' "$library/build.log"
-    grep -E '^logic=proved ' "$library/build.log"
+    grep -q '^logic=proved ' "$1" || { echo "dist.sh: there is no verdict in $1" >&2 && exit 1; }
+    grep -E '^fn .*: proved$' "$1" | sort
+    grep -E '^axioms ' "$1"
+    grep -E '^logic=proved ' "$1"
 }
 
 pack_linux() {
@@ -52,7 +52,17 @@ pack_linux() {
     cp -R "$top"/bindings/c/{sample.c,sample.cpp,consumer} "$work/$name/sample"
     cp "$top/LICENSE" "$work/$name"
     sed "s|@VERSION@|$version|; s|@MACHINE@|$machine|" "$top/bindings/c/archive.md" > "$work/$name/README.md"
-    print_proof > "$work/$name/PROOF"
+    print_proof "$library/build.log" > "$work/$name/PROOF"
+    pack "$name" "$name.tar.gz"
+}
+
+pack_program() {
+    local machine=$1 name=i_shape_tool-$version-linux-$1 kind=x86-64 choice=CPU=x86-64
+    [ "$machine" = x86_64 ] || { kind=aarch64 && choice=TARGET=aarch64; }
+    make -s -C "$top" install-program "$choice" DESTDIR="$work/$name" PREFIX=
+    cp "$top/LICENSE" "$work/$name"
+    sed "s|@VERSION@|$version|; s|@MACHINE@|$machine|" "$top/scripts/program/archive.md" > "$work/$name/README.md"
+    print_proof "$top/crates/i_shape_tool_main/out/$kind/build.log" > "$work/$name/PROOF"
     pack "$name" "$name.tar.gz"
 }
 
@@ -85,6 +95,7 @@ for part; do
     case $part in
     linux-x86_64 | linux-aarch64) pack_linux "${part#linux-}" ;;
     wheel-x86_64 | wheel-aarch64) pack_wheel "${part#wheel-}" ;;
+    program-x86_64 | program-aarch64) pack_program "${part#program-}" ;;
     javascript) pack_javascript ;;
     rust) pack_rust ;;
     *) echo "dist.sh: what is $part?" >&2 && exit 2 ;;

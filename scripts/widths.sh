@@ -1,36 +1,48 @@
 #!/usr/bin/env bash
 # Makes the calls of C at 16 and at 64 bits, their proofs and their declarations, from those at 32 bits: i16.rt, i64.rt and i32.rt in
-# crates/i_shape_c/src/calls, the folders of these names in proofs/calls, and the sections of include/i_shape.h. With the word --check it tells where what
-# is there is something else, and the last line is 'widths: N passed, M failed'.
+# crates/i_shape_c/src/calls and its folder measures, the folders of these names in proofs/calls, and the sections of include/i_shape.h. With the word --check
+# it tells where what is there is something else, and the last line is 'widths: N passed, M failed'.
 set -euo pipefail
+shopt -s nullglob
 cd "$(dirname "$0")/.." || exit 1
 crate=crates/i_shape_c
+modules=(calls calls/measures)
 header=include/i_shape.h
 
 # Code at 32 bits, at $1 bits, whose products have $2 bits. The codes that the tests answer stay.
 at_width() {
-    sed -E -e 's/-> i32$/-> CODE/; s/&mut i64/\&mut WIDE/; s/\bw64\b/WIDTH/g' \
+    sed -E -e 's/-> i32$/-> CODE/; s/&mut (\[?)i64/\&mut \1WIDE/; s/\bw64\b/WIDTH/g' \
         -e "s/\bw32\b/w$1/g; s/(i|I)32/\1$1/g; s/\b32 bits/$1 bits/" -e "s/CODE/i32/; s/WIDE/i$2/; s/WIDTH/w$2/g" |
         if [ "$2" = 128 ]; then in_halves; else cat; fi
 }
 
 # C has no whole number of 128 bits: it is given the two halves of one.
 in_halves() {
-    sed -E -e 's/&mut i128/\&mut Halves/; s/area::area_two;/area::{Halves, area_two};/; s/= twice;/= Halves::of(twice);/' \
-        -e 's/area\.new ≡ (int_wrap .*) \}$/AreHalves (\1) area.new }/' \
-        -e '/specs\.Tests\./a ghost use Rattle.i_shape_c.specs.Areas.{AreHalves};'
+    sed -E -e 's/&mut (\[?)i128/\&mut \1Halves/; s/area::area_two;/area::{Halves, area_two};/; s/= twice;/= Halves::of(twice);/' \
+        -e 's/area\.new ≡ (int_wrap .*) \}$/AreHalves (\1) area.new }/; s/area ≡ (int_wrap w128 \(shoelace contour\))/AreHalves (\1) area/' \
+        -e 's/^use crate::measures::/use crate::area::Halves;\n&/' \
+        -e '/specs\.(Tests|Measures)\./a ghost use Rattle.i_shape_c.specs.Areas.{AreHalves};'
 }
 
-# Makes the width $1, whose products have $2 bits, in the folder $3.
-make_width() {
+# Makes the width $1, whose products have $2 bits, of the module $3 in the folder $4.
+make_module() {
     local proof name
-    mkdir -p "$3/src/calls"
-    at_width "$1" "$2" < "$crate/src/calls/i32.rt" > "$3/src/calls/i$1.rt"
-    for proof in "$crate"/proofs/calls/i32/*/*.antt; do
-        name=$(dirname "${proof#"$crate/proofs/calls/i32/"}")
-        mkdir -p "$3/proofs/calls/i$1/${name%i32}i$1"
+    mkdir -p "$4/src/$3"
+    at_width "$1" "$2" < "$crate/src/$3/i32.rt" > "$4/src/$3/i$1.rt"
+    for proof in "$crate/proofs/$3/i32"/*/*.antt; do
+        name=$(dirname "${proof#"$crate/proofs/$3/i32/"}")
+        mkdir -p "$4/proofs/$3/i$1/${name%i32}i$1"
         # a proof that names both widths would name one twice at 64 bits
-        sed -E "s/i32/i$1/g; s/\bw32\b/w$1/g; s/\{w64, w64\}/{w64}/" "$proof" > "$3/proofs/calls/i$1/${name%i32}i$1/$(basename "$proof")"
+        sed -E "s/i32/i$1/g; s/\bw32\b/w$1/g; s/\{w64, w64\}/{w64}/" "$proof" > "$4/proofs/$3/i$1/${name%i32}i$1/$(basename "$proof")"
+    done
+}
+
+# Makes the widths of each module in the folder $1.
+make_widths() {
+    local module
+    for module in "${modules[@]}"; do
+        make_module 16 32 "$module" "$1"
+        make_module 64 128 "$module" "$1"
     done
 }
 
@@ -50,9 +62,8 @@ made_header() {
 }
 
 if [ "${1-}" != --check ]; then
-    rm -rf "$crate"/proofs/calls/i{16,64}
-    make_width 16 32 "$crate"
-    make_width 64 128 "$crate"
+    for module in "${modules[@]}"; do rm -rf "$crate/proofs/$module"/i{16,64}; done
+    make_widths "$crate"
     made=$(made_header)
     printf '%s\n' "$made" > "$header"
     exit
@@ -60,11 +71,10 @@ fi
 . .ci/count.sh
 work=$(mktemp -d)
 trap 'rm -rf "$work"' EXIT
-make_width 16 32 "$work"
-make_width 64 128 "$work"
+make_widths "$work"
 for part in src/calls proofs/calls; do
     same=0
-    diff -r -x i32 -x i32.rt "$crate/$part" "$work/$part" || same=1
+    diff -r -x i32 -x i32.rt -x measures.rt "$crate/$part" "$work/$part" || same=1
     count $same "$crate/$part: another width than scripts/widths.sh makes of i32"
 done
 same=0

@@ -3,10 +3,11 @@
 # first, where it isn't built yet or its sources are newer, and standard error tells how far that is. Both libraries hold the allocator of the C library; a
 # program that defines rattle_alloc, rattle_realloc and rattle_dealloc itself takes its own with libi_shape.a.
 #
-# usage: build.sh [--is-built] [--target aarch64] [--cpu NAME] [--backend rattle]
+# usage: build.sh [--is-built] [--target aarch64|windows] [--cpu NAME] [--backend rattle]
 #
-# --target builds it for another machine, --cpu for another processor, as x86-64 for those before x86-64-v2, the default, and --backend by Rattle's own
-# compiler in place of LLVM: into a folder of that name below bindings/c/out. With --is-built it builds nothing, and its status says whether there is nothing to build.
+# --target builds it for another machine (windows/build.sh has that for Windows), --cpu for another processor, as x86-64 for those before x86-64-v2, the
+# default, and --backend by Rattle's own compiler in place of LLVM: into a folder of that name below bindings/c/out. With --is-built it builds nothing, and its
+# status says whether there is nothing to build.
 set -eu
 top=$(cd "$(dirname "$0")/../.." && pwd)
 here=$top/bindings/c
@@ -23,9 +24,13 @@ while [ $# -gt 0 ]; do
     esac
     shift
 done
+case $target$cpu$backend in
+windows) exec bash "$here/windows/build.sh" ${only_asks:+--is-built} ;;
+windows*) echo 'make c: TARGET=windows is for each x86-64, and takes no CPU' >&2 && exit 2 ;;
+esac
 case $target in
 '' | aarch64) ;;
-*) echo "make c: TARGET is aarch64, or left out for x86-64, and not $target" >&2 && exit 2 ;;
+*) echo "make c: TARGET is aarch64, windows, or left out for Linux on x86-64, and not $target" >&2 && exit 2 ;;
 esac
 kind=$target${cpu:+-$cpu}${backend:+-$backend}
 kind=${kind#-}

@@ -89,6 +89,13 @@ public:
         compare(windings_, [&](auto call, Output &out) {
             return call(points_.data(), count_, contours_.data(), contours_.size(), points_.data(), count_, out.numbers.data(), room_);
         });
+        for (const auto &both : tests_of_many_)
+            compare(both, [&](auto call, Output &out) {
+                return call(points_.data(), count_, contours_.data(), contours_.size(), out.bytes.data(), room_of_contours_);
+            });
+        compare(areas_, [&](auto call, Output &out) {
+            return call(points_.data(), count_, contours_.data(), contours_.size(), out.areas.data(), room_of_contours_);
+        });
         compare(area_two_, [&](auto call, Output &out) { return call(points_.data(), count_, &out.area); });
     }
 
@@ -102,6 +109,8 @@ private:
     using Contains = std::int32_t(const Point *, std::size_t, Coordinate, Coordinate);
     using Winding = std::ptrdiff_t(const Point *, std::size_t, Coordinate, Coordinate);
     using Windings = std::int32_t(const Point *, std::size_t, const std::size_t *, std::size_t, const Point *, std::size_t, std::ptrdiff_t *, std::size_t);
+    using TestMany = std::int32_t(const Point *, std::size_t, const std::size_t *, std::size_t, std::uint8_t *, std::size_t);
+    using Areas = std::int32_t(const Point *, std::size_t, const std::size_t *, std::size_t, Area *, std::size_t);
     using AreaTwo = bool(const Point *, std::size_t, Area *);
 
     /* What a call answers and writes. */
@@ -111,10 +120,13 @@ private:
         std::vector<Point> points;
         std::vector<std::size_t> contours, shapes;
         std::vector<std::ptrdiff_t> numbers;
+        std::vector<std::uint8_t> bytes;
+        std::vector<Area> areas;
 
         bool operator==(const Output &other) const {
             return answer == other.answer && std::memcmp(&area, &other.area, sizeof area) == 0 && are_same(points, other.points) &&
-                   are_same(contours, other.contours) && are_same(shapes, other.shapes) && are_same(numbers, other.numbers);
+                   are_same(contours, other.contours) && are_same(shapes, other.shapes) && are_same(numbers, other.numbers) &&
+                   are_same(bytes, other.bytes) && are_same(areas, other.areas);
         }
     };
 
@@ -123,7 +135,7 @@ private:
         std::array<Output, BUILDS> outputs;
         for (std::size_t k = 0; k < BUILDS; k++) {
             outputs[k] = {0, {}, std::vector<Point>(count_ + 1), std::vector<std::size_t>(contours_.size()), std::vector<std::size_t>(shapes_.size()),
-                          std::vector<std::ptrdiff_t>(count_ + 1)};
+                          std::vector<std::ptrdiff_t>(count_ + 1), std::vector<std::uint8_t>(contours_.size()), std::vector<Area>(contours_.size())};
             outputs[k].answer = static_cast<std::ptrdiff_t>(run(both.calls[k], outputs[k]));
         }
         const bool are_equal = outputs[0] == outputs[1];
@@ -157,6 +169,7 @@ private:
         contours_ = offsets(count_);
         shapes_ = offsets(contours_.size() - 1);
         room_ = random_.one_in(16) ? random_.below(count_ + 1) : count_;
+        room_of_contours_ = random_.one_in(16) ? random_.below(contours_.size()) : contours_.size() - 1;
     }
 
     Random &random_;
@@ -170,9 +183,12 @@ private:
     Both<Contains> contains_ = Both<Contains>("i_shape_contains" + behind_);
     Both<Winding> winding_ = Both<Winding>("i_shape_winding" + behind_);
     Both<Windings> windings_ = Both<Windings>("i_shape_windings" + behind_);
+    std::vector<Both<TestMany>> tests_of_many_ =
+        each<TestMany>({"is_simple_contours", "has_no_spikes_contours", "is_convex_contours", "is_safe_contours"}, behind_);
+    Both<Areas> areas_ = Both<Areas>("i_shape_area_two_contours" + behind_);
     Both<AreaTwo> area_two_ = Both<AreaTwo>("i_shape_area_two" + behind_);
 
-    std::size_t count_ = 0, lines_ = 1, room_ = 0;
+    std::size_t count_ = 0, lines_ = 1, room_ = 0, room_of_contours_ = 0;
     bool is_wide_ = false;
     std::vector<Point> points_;
     std::vector<std::size_t> contours_, shapes_;

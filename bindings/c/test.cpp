@@ -1,5 +1,5 @@
 /* Tests of i_shape.hpp at each width, over points of several types: worked contours by each call, each code, small and large. The points of
- * Clipper and Boost are taken where their headers are, and are counted as skipped else. */
+ * Clipper and Boost are taken where their headers are, and are counted as skipped else. KLayout's has a stand-in. */
 #include "i_shape.hpp"
 
 #include <array>
@@ -72,7 +72,41 @@ private:
     Coordinate across_, up_;
 };
 
+/* A stand-in for KLayout's db::point, whose headers Debian doesn't have: a class over the type of its coordinates, which are its only members and private, with
+ * accessors and setters of their names, converted from a point of another type and compared. */
+namespace stand_in {
+
+template <class C>
+class point {
+public:
+    typedef C coord_type;
+
+    point() : m_x(0), m_y(0) {}
+    point(C x, C y) : m_x(x), m_y(y) {}
+    template <class D>
+    explicit point(const point<D> &other) : m_x(static_cast<C>(other.x())), m_y(static_cast<C>(other.y())) {}
+
+    C x() const { return m_x; }
+    C y() const { return m_y; }
+    void set_x(C x) { m_x = x; }
+    void set_y(C y) { m_y = y; }
+    bool operator==(const point &other) const { return m_x == other.m_x && m_y == other.m_y; }
+    bool operator<(const point &other) const { return m_y != other.m_y ? m_y < other.m_y : m_x < other.m_x; }
+
+private:
+    C m_x, m_y;
+};
+
+} // namespace stand_in
+
 namespace i_shape {
+
+template <class C>
+struct PointTraits<stand_in::point<C>> {
+    using Coordinate = C;
+    static constexpr std::size_t x_offset = 0;
+    static constexpr std::size_t y_offset = sizeof(C);
+};
 
 template <class Coordinate_>
 struct PointTraits<Private<Coordinate_>> {
@@ -145,6 +179,7 @@ public:
     void run_some() const {
         test_rows();
         test_contours();
+        test_measures();
         test_tests();
         test_windings();
     }
@@ -243,6 +278,30 @@ private:
         check(i_shape::nested(i_shape::simplify_contours(none.points, none.offsets)).empty(), "simplify_contours", "no contour");
     }
 
+    /* Tests and areas of many contours. */
+    void test_measures() const {
+        std::vector<Contour> given;
+        std::vector<std::uint8_t> wanted[TESTS];
+        for (const row &row : rows) {
+            given.push_back(contour(row.points, row.count));
+            for (int k = 0; k < TESTS; k++) wanted[k].push_back(static_cast<std::uint8_t>(told(&row, k)));
+        }
+        const i_shape::Contours<Point> all = i_shape::flat(given), none = i_shape::flat(std::vector<Contour>());
+        const std::vector<std::uint8_t> answers[TESTS] = {i_shape::is_simple_contours(all.points, all.offsets),
+                                                          i_shape::has_no_spikes_contours(all.points, all.offsets),
+                                                          i_shape::is_convex_contours(all.points, all.offsets),
+                                                          i_shape::is_safe_contours(all.points, all.offsets)};
+        for (int k = 0; k < TESTS; k++) check(answers[k] == wanted[k], test_names[k], "many contours");
+        const auto areas = i_shape::area_two_contours(all.points, all.offsets);
+        check(areas.size() == given.size(), "area_two", "how many contours");
+        for (std::size_t r = 0; r < areas.size(); r++) check(is_area(areas[r], rows[r].area_two), "area_two", rows[r].name);
+        check(i_shape::is_simple_contours(none.points, none.offsets).empty(), "is_simple_contours", "no contour");
+        check(i_shape::area_two_contours(none.points, none.offsets).empty(), "area_two_contours", "no contour");
+        const Contour unsafe = {point(least_unsafe, 0), point(0, 1), point(0, 0)};
+        const std::array<std::size_t, 3> offsets = {0, 1, 3};
+        check(i_shape::is_safe_contours(unsafe, offsets) == std::vector<std::uint8_t>{0, 1}, "is_safe_contours", "a point that isn't safe");
+    }
+
     /* A square with three holes, of which one collapses; a polygon that collapses, with a hole; an empty one; and a triangle. */
     void test_shapes() const {
         const Contour outer = {point(10, 0), point(10, 10), point(0, 10), point(0, 0), point(5, 0)};
@@ -311,6 +370,14 @@ private:
         throws(Code::unsafe, "winding", "a point that isn't safe", [&] { i_shape::winding(square(), point(least_unsafe, 1)); });
         throws(Code::unsafe, "windings", "a vertex that isn't safe", [&] { i_shape::windings(unsafe, whole, square()); });
         throws(Code::unfit, "windings", "no offset", [&] { i_shape::windings(square(), none, square()); });
+        throws(Code::unsafe, "is_simple_contours", "a point that isn't safe", [&] { i_shape::is_simple_contours(unsafe, whole); });
+        throws(Code::unsafe, "has_no_spikes_contours", "a point that isn't safe", [&] { i_shape::has_no_spikes_contours(unsafe, whole); });
+        throws(Code::unsafe, "is_convex_contours", "a point that isn't safe", [&] { i_shape::is_convex_contours(unsafe, whole); });
+        throws(Code::unfit, "is_simple_contours", "no offset", [&] { i_shape::is_simple_contours(square(), none); });
+        throws(Code::unfit, "has_no_spikes_contours", "no offset", [&] { i_shape::has_no_spikes_contours(square(), none); });
+        throws(Code::unfit, "is_convex_contours", "no offset", [&] { i_shape::is_convex_contours(square(), none); });
+        throws(Code::unfit, "is_safe_contours", "no offset", [&] { i_shape::is_safe_contours(square(), none); });
+        throws(Code::unfit, "area_two_contours", "no offset", [&] { i_shape::area_two_contours(square(), none); });
     }
 
     /* Calls throw the code of each way in which they can fail. Clean one, contours and shapes are those of one cleaner. */
@@ -376,6 +443,8 @@ int main() {
     Tests<Lower<long>>("x and y of type long").run_some();
     Tests<Lower<long long>>("x and y of type long long").run_some();
     Tests<i_shape_point_i16>("C's point").run_some();
+    Tests<stand_in::point<std::int32_t>>("a stand-in for KLayout's point").run_some();
+    Tests<stand_in::point<std::int64_t>>("a stand-in for KLayout's point at 64 bits").run_some();
 #ifdef HAS_CLIPPER
     Tests<ClipperLib::IntPoint>("Clipper's point").run_some();
 #else

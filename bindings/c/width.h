@@ -17,6 +17,10 @@ static AT(clean_many) const AT(batches)[] = {CALL(simplify_contours), CALL(despi
                                             CALL(canonical_unoriented_contours)};
 static AT(clean_shapes) const AT(polygons)[] = {CALL(simplify_shapes), CALL(despike_shapes), CALL(canonical_shapes), CALL(canonical_unoriented_shapes)};
 
+typedef int32_t (*AT(test_many))(const POINT *, size_t, const size_t *, size_t, uint8_t *, size_t);
+
+static AT(test_many) const AT(tests)[] = {CALL(is_simple_contours), CALL(has_no_spikes_contours), CALL(is_convex_contours), CALL(is_safe_contours)};
+
 static void AT(points_of)(const int (*from)[2], size_t count, POINT *to) {
     for (size_t k = 0; k < count; k++) {
         to[k].x = (COORDINATE)from[k][0];
@@ -61,15 +65,20 @@ static void AT(test_codes)(void) {
     }
 }
 
-/* The worked contours in one call, the first one left out by the first offset and the last one by the last. */
-static void AT(test_many)(void) {
-    POINT given[ROWS * MOST], out[ROWS * MOST];
-    size_t offsets[ROWS + 1], out_offsets[ROWS + 2];
+/* The worked contours end to end. */
+static void AT(all_rows)(POINT *points, size_t *offsets) {
     offsets[0] = 0;
     for (size_t r = 0; r < ROWS; r++) {
-        AT(points_of)(rows[r].points, rows[r].count, given + offsets[r]);
+        AT(points_of)(rows[r].points, rows[r].count, points + offsets[r]);
         offsets[r + 1] = offsets[r] + rows[r].count;
     }
+}
+
+/* The worked contours in one call, the first one left out by the first offset and the last one by the last. */
+static void AT(clean_all_rows)(void) {
+    POINT given[ROWS * MOST], out[ROWS * MOST];
+    size_t offsets[ROWS + 1], out_offsets[ROWS + 2];
+    AT(all_rows)(given, offsets);
     for (int k = 0; k < CLEANERS; k++) {
         fill(out, sizeof out);
         fill(out_offsets, sizeof out_offsets);
@@ -189,6 +198,74 @@ static void AT(test_tests)(void) {
     check(CALL(contains)(square, 4, 1, 1) == I_SHAPE_UNSAFE, W, "contains", "a vertex that isn't safe");
 }
 
+/* The same of the tests and areas, of all worked contours and of the inner ones. */
+static void AT(test_all_rows)(void) {
+    POINT given[ROWS * MOST];
+    size_t offsets[ROWS + 1];
+    AT(all_rows)(given, offsets);
+    for (size_t left_out = 0; left_out < 2; left_out++) {
+        const size_t many = ROWS - 2 * left_out;
+        for (int k = 0; k < TESTS; k++) {
+            uint8_t out[ROWS + 1];
+            fill(out, sizeof out);
+            int is_right = AT(tests)[k](given, offsets[ROWS], offsets + left_out, many + 1, out, ROWS + 1) == 0;
+            for (size_t r = 0; r < many; r++) is_right &= out[r] == told(&rows[r + left_out], k);
+            check(is_right && is_filled(out + many, sizeof out - many), W, test_names[k], "many contours");
+        }
+        AREA areas[ROWS + 1];
+        fill(areas, sizeof areas);
+        int is_right = CALL(area_two_contours)(given, offsets[ROWS], offsets + left_out, many + 1, areas, ROWS + 1) == 0;
+        for (size_t r = 0; r < many; r++) is_right &= AREA_IS(areas[r], rows[r + left_out].area_two);
+        check(is_right && is_filled(areas + many, sizeof areas - many * sizeof *areas), W, "area_two", "many contours");
+    }
+}
+
+static void AT(test_codes_of_tests)(void) {
+    POINT given[8] = {{LEAST_UNSAFE, 0}, {0, 0}, {4, 0}, {0, 4}, {0, 0}, {4, 0}, {0, 4}, {0, LEAST_UNSAFE}};
+    const size_t inner[] = {1, 4, 7}, low[] = {0, 4, 7}, high[] = {1, 4, 8}, backwards[] = {1, 7, 4}, outside[] = {1, 9}, none[] = {8};
+    for (int k = 0; k < TESTS; k++) {
+        const int any_points = k == TESTS - 1;
+        AT(test_many) call = AT(tests)[k];
+        const char *name = test_names[k];
+        uint8_t out[3];
+        fill(out, sizeof out);
+        check(call(given, 8, inner, 0, out, 3) == I_SHAPE_UNFIT, W, name, "of many, no offset");
+        check(call(given, 8, backwards, 3, out, 3) == I_SHAPE_UNFIT, W, name, "of many, offsets that run backwards");
+        check(call(given, 8, outside, 2, out, 3) == I_SHAPE_UNFIT, W, name, "of many, an offset out of the points");
+        check(call(given, 8, inner, 3, out, 1) == I_SHAPE_UNFIT, W, name, "of many, room for one of two bytes");
+        check(call(given, 8, low, 3, out, 1) == I_SHAPE_UNFIT, W, name, "of many, the room is tested first");
+        check(is_filled(out, sizeof out), W, name, "of many, I_SHAPE_UNFIT leaves the array as it was");
+        check(call(given, 8, low, 3, out, 2) == (any_points ? 0 : I_SHAPE_UNSAFE), W, name, "of many, a first point that isn't safe");
+        check(any_points ? out[0] == 0 && out[1] == 1 : is_filled(out, sizeof out), W, name, "of many, what that leaves");
+        fill(out, sizeof out);
+        check(call(given, 8, high, 3, out, 2) == (any_points ? 0 : I_SHAPE_UNSAFE), W, name, "of many, a last point that isn't safe");
+        check(any_points ? out[0] == 1 && out[1] == 0 : is_filled(out, sizeof out), W, name, "of many, what that leaves");
+        fill(out, sizeof out);
+        check(call(given, 8, none, 1, out, 0) == 0 && is_filled(out, sizeof out), W, name, "of many, no contour");
+        check(call(given, 8, inner, 3, out, 2) == 0 && out[0] == 1 && out[1] == 1 && is_filled(out + 2, 1), W, name,
+              "of many, points outside the offsets aren't read");
+        WITH_EACH_GROWTH_REFUSED(call(given, 8, inner, 3, out, 2), 1, growths == 0, W, name);
+    }
+}
+
+static void AT(test_codes_of_areas)(void) {
+    /* A triangle, and one that has a point that isn't safe. */
+    const POINT given[7] = {{9, 9}, {0, 0}, {4, 0}, {0, 4}, {0, 0}, {LEAST_UNSAFE, 0}, {0, 1}};
+    const size_t both[] = {1, 4, 7}, empty[] = {4, 4}, backwards[] = {1, 7, 4}, outside[] = {1, 8}, none[] = {7};
+    AREA areas[3];
+    fill(areas, sizeof areas);
+    check(CALL(area_two_contours)(given, 7, both, 0, areas, 3) == I_SHAPE_UNFIT, W, "area_two", "of many, no offset");
+    check(CALL(area_two_contours)(given, 7, backwards, 3, areas, 3) == I_SHAPE_UNFIT, W, "area_two", "of many, offsets that run backwards");
+    check(CALL(area_two_contours)(given, 7, outside, 2, areas, 3) == I_SHAPE_UNFIT, W, "area_two", "of many, an offset out of the points");
+    check(CALL(area_two_contours)(given, 7, both, 3, areas, 1) == I_SHAPE_UNFIT, W, "area_two", "of many, room for one of two areas");
+    check(CALL(area_two_contours)(given, 7, none, 1, areas, 0) == 0, W, "area_two", "of many, no contour");
+    check(is_filled(areas, sizeof areas), W, "area_two", "of many, a code leaves the array as it was");
+    check(CALL(area_two_contours)(given, 7, both, 3, areas, 2) == 0 && AREA_IS(areas[0], 16) && AREA_IS(areas[1], (int64_t)LEAST_UNSAFE)
+              && is_filled(areas + 2, sizeof *areas), W, "area_two", "of many, a point that isn't safe");
+    check(CALL(area_two_contours)(given, 7, empty, 2, areas, 1) == 0 && AREA_IS(areas[0], 0), W, "area_two", "of many, a contour without a point");
+    WITH_EACH_GROWTH_REFUSED(CALL(area_two_contours)(given, 7, both, 3, areas, 2), 1, growths == 0, W, "area_two");
+}
+
 static void AT(test_windings)(void) {
     /* A square wound twice; one in it that turns right; and a triangle that is left out by the offsets. */
     POINT given[15] = {{0, 0}, {4, 0}, {4, 4}, {0, 4}, {0, 0}, {4, 0}, {4, 4}, {0, 4}, {1, 1}, {1, 3}, {3, 3}, {3, 1}, {0, 0}, {4, 0}, {0, 4}};
@@ -229,6 +306,12 @@ static void AT(test_area)(void) {
     check(!CALL(area_two)(square, 0, &area) && is_filled(&area, sizeof area), W, "area_two", "no point");
     check(CALL(area_two)(square, 4, &area) && AREA_IS(area, 32), W, "area_two", "a square that turns left");
     check(CALL(area_two)(turned, 4, &area) && AREA_IS(area, -32), W, "area_two", "a square that turns right");
+    for (size_t r = 0; r < ROWS; r++) {
+        POINT given[MOST];
+        AT(points_of)(rows[r].points, rows[r].count, given);
+        check(CALL(area_two)(given, rows[r].count, &area) == (rows[r].count > 0) && (rows[r].count == 0 || AREA_IS(area, rows[r].area_two)), W, "area_two",
+              rows[r].name);
+    }
 }
 
 static void AT(test_refusals)(void) {
@@ -278,11 +361,14 @@ static void AT(test_refusals)(void) {
 static void AT(test_width)(void) {
     AT(test_one)();
     AT(test_codes)();
-    AT(test_many)();
+    AT(clean_all_rows)();
     AT(test_many_codes)();
     AT(test_shapes)();
     AT(test_shapes_codes)();
     AT(test_tests)();
+    AT(test_all_rows)();
+    AT(test_codes_of_tests)();
+    AT(test_codes_of_areas)();
     AT(test_windings)();
     AT(test_area)();
     AT(test_refusals)();

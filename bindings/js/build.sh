@@ -1,16 +1,17 @@
 #!/usr/bin/env bash
 # Builds the C library as WebAssembly into bindings/js/out: i_shape64.wasm, with a memory of 64 bits, and i_shape32.wasm for engines that have none. What is
-# proved is what `make c` proves and keeps, and it builds that first; the kit has to give its verdict for wasm64 too. wasm/ has the steps: the LLVM module
-# that rattle makes for x86-64 (lower.sh), the same for wasm64 (retarget.py) and for wasm32 (narrow.py), the kit's clang by rattle's own words for wasm64
-# (compile.sh), and a link with an allocator (link.sh). With the word --is-built it builds nothing, and its status says whether there is something to build.
+# proved is what `make c` proves and keeps, and it builds that first; the kit has to give its verdict for wasm64 too. The steps: the LLVM module that rattle
+# makes for x86-64 (bindings/module/lower.sh), and in wasm/ the same for wasm64 (retarget.py) and for wasm32 (narrow.py), the kit's clang by rattle's own
+# words for wasm64 (compile.sh), and a link with an allocator (link.sh). With the word --is-built it builds nothing, and its status says whether there is something to build.
 set -eu
 here=$(cd "$(dirname "$0")" && pwd)
 top=$(cd "$here/../.." && pwd)
+module=$top/bindings/module
 out=$here/out
 
 is_built() {
     [ -e "$out/i_shape64.wasm" ] && [ -e "$out/i_shape32.wasm" ] && bash "$top/bindings/c/build.sh" --is-built &&
-        [ -z "$(find "$here/build.sh" "$here/wasm" "$top/crates/i_shape_c/out/libi_shape_c.a" -type f -newer "$out/i_shape32.wasm" -print -quit)" ]
+        [ -z "$(find "$here/build.sh" "$here/wasm" "$module" "$top/crates/i_shape_c/out/libi_shape_c.a" -type f -newer "$out/i_shape32.wasm" -print -quit)" ]
 }
 
 if [ "${1-}" = --is-built ]; then
@@ -27,17 +28,14 @@ fi
 bash "$top/bindings/c/build.sh"
 work=$(mktemp -d)
 trap 'rm -rf "$work"' EXIT
-kit=$(dirname "$(rt doc)")
-clang=$kit/toolchain/bin/clang
 
-sh "$here/wasm/copy_crates.sh" "$top" "$work"
+sh "$module/copy_crates.sh" "$top" "$work" i_shape_c
 if ! (cd "$work/crates/i_shape_c" && rt check --jobs 1 --target wasm64-unknown-unknown < /dev/null > "$work/log" 2>&1) ||
     ! tail -n 1 "$work/log" | grep -q '^logic=proved .*target=wasm64-unknown-unknown '; then
     cat "$work/log" >&2
     exit 1
 fi
-sh "$here/wasm/lower.sh" "$work/crates/i_shape_c" "$work/x86_64.bc"
-"$clang" -S -emit-llvm -Xclang -disable-llvm-passes --target=x86_64-unknown-linux-gnu -x ir "$work/x86_64.bc" -o "$work/x86_64.ll"
+sh "$module/lower.sh" "$work/crates/i_shape_c" "$work/x86_64.ll"
 python3 "$here/wasm/retarget.py" "$work/x86_64.ll" "$work/wasm64.ll"
 python3 "$here/wasm/narrow.py" "$work/wasm64.ll" "$work/wasm32.ll"
 mkdir -p "$out"

@@ -88,7 +88,7 @@ export interface IShape {
     /** Whether at most two points are left without repeated ones, or the way over them nowhere turns back or bends to both sides. */
     isConvex(contour: Points): boolean;
 
-    /** Whether each point is safe, as all calls but this one and `areaTwo` ask. */
+    /** Whether each point is safe, as all calls but this one, `areaTwo`, and these two of many rings ask. */
     isSafe(points: Points): boolean;
 
     /** Whether an odd number of edges pass the height of (x, y) strictly to the right of it. */
@@ -105,6 +105,24 @@ export interface IShape {
      * allowed: a sum that doesn't fit twice the bits of a coordinate wraps.
      */
     areaTwo(contour: Points): bigint | undefined;
+
+    /**
+     * Of each ring what `isSimple` answers. Points outside the offsets aren't read.
+     * @throws {OffsetsError} tested first
+     * @throws {UnsafePointError}
+     * @throws {OutOfMemoryError}
+     */
+    isSimpleRings(points: Points, offsets: Offsets): boolean[];
+
+    hasNoSpikesRings(points: Points, offsets: Offsets): boolean[];
+
+    isConvexRings(points: Points, offsets: Offsets): boolean[];
+
+    /** Of each ring what `isSafe` answers. */
+    isSafeRings(points: Points, offsets: Offsets): boolean[];
+
+    /** Of each ring what `areaTwo` answers, and 0 where it has no point. */
+    areaTwoRings(points: Points, offsets: Offsets): bigint[];
 
     /**
      * Each ring as `simplify` leaves it; one that collapses is empty, and keeps its place. Points outside the offsets aren't read.

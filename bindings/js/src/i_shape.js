@@ -73,6 +73,14 @@ function answered(answer, points, kind, offsets) {
     throw new OutOfMemoryError();
 }
 
+/** The areas at an address, as many as there are. */
+function readAreas(loan, address, count, { bits }) {
+    if (bits === 16) return Array.from(loan.read(Int32Array, address, count), BigInt);
+    if (bits === 32) return Array.from(loan.read(BigInt64Array, address, count));
+    const halves = loan.read(BigUint64Array, address, 2 * count);
+    return Array.from({ length: count }, (_, k) => BigInt.asIntN(128, (halves[2 * k + 1] << 64n) | halves[2 * k]));
+}
+
 class IShape {
     #exports;
 
@@ -159,12 +167,28 @@ class IShape {
         return borrow(this.#exports, (loan) => {
             const area = loan.take(16);
             const isThere = this.#call("area_two", kind)(loan.copy(contour, kind), countOf(contour), area);
-            if (!isThere) return undefined;
-            if (kind.bits === 16) return BigInt(loan.read(Int32Array, area, 1)[0]);
-            if (kind.bits === 32) return loan.read(BigInt64Array, area, 1)[0];
-            const [low, high] = loan.read(BigUint64Array, area, 2);
-            return BigInt.asIntN(128, (high << 64n) | low);
+            return isThere ? readAreas(loan, area, 1, kind)[0] : undefined;
         });
+    }
+
+    isSimpleRings(points, offsets) {
+        return this.#testRings("is_simple_contours", points, offsets);
+    }
+
+    hasNoSpikesRings(points, offsets) {
+        return this.#testRings("has_no_spikes_contours", points, offsets);
+    }
+
+    isConvexRings(points, offsets) {
+        return this.#testRings("is_convex_contours", points, offsets);
+    }
+
+    isSafeRings(points, offsets) {
+        return this.#testRings("is_safe_contours", points, offsets);
+    }
+
+    areaTwoRings(points, offsets) {
+        return this.#measureRings("area_two_contours", points, offsets, 16, readAreas);
     }
 
     simplifyRings(points, offsets) {
@@ -224,6 +248,25 @@ class IShape {
         const kind = kindOf(contour);
         checkAsked(x, y, kind);
         return borrow(this.#exports, (loan) => use(this.#call(name, kind)(loan.copy(contour, kind), countOf(contour), x, y), kind));
+    }
+
+    #testRings(name, points, offsets) {
+        const read = (loan, out, count) => Array.from(loan.read(Uint8Array, out, count), (byte) => byte === 1);
+        return this.#measureRings(name, points, offsets, 1, read);
+    }
+
+    /** Hands what a call writes of the rings, in items of so many bytes at the most, to `read`. */
+    #measureRings(name, points, offsets, bytes, read) {
+        const kind = kindOf(points);
+        const from = asOffsets(offsets);
+        return borrow(this.#exports, (loan) => {
+            const count = Math.max(from.length - 1, 0);
+            const out = loan.take(bytes * count);
+            const answer = this.#call(name, kind)(
+                loan.copy(points, kind), countOf(points), loan.copyWide(from), BigInt(from.length), out, BigInt(count));
+            answered(answer, points, kind, from);
+            return read(loan, out, count, kind);
+        });
     }
 
     #cleanRings(name, points, offsets) {

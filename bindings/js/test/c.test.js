@@ -4,8 +4,10 @@
  */
 import assert from "node:assert/strict";
 import { readFileSync } from "node:fs";
+import path from "node:path";
 import { test } from "node:test";
 import { Browser, hasChromium } from "./support/chromium.js";
+import { hasFirefox, readInFirefox } from "./support/firefox.js";
 
 const MODULES = process.env.I_SHAPE_C_TESTS;
 const NO_MODULES = !MODULES && "there is no module of the tests of C";
@@ -34,4 +36,14 @@ test("the tests of C, memory of 64 bits, in Chromium", { skip: NO_MODULES || (!h
     } finally {
         await browser.close();
     }
+});
+
+test("the tests of C, memory of each size, in Firefox", { skip: NO_MODULES || (!hasFirefox && "there is no firefox-esr") }, async () => {
+    const answers = await readInFirefox(
+        path.dirname(MODULES),
+        `const run = ${run};
+        const bytesOf = async (bits) => (await fetch("/${path.basename(MODULES)}" + bits + ".wasm")).arrayBuffer();
+        return [await run(await bytesOf(64)), await run(await bytesOf(32))];`,
+    );
+    answers.forEach(check);
 });

@@ -5,6 +5,8 @@ import { bytesOf, describeModules, describeWidths } from "./support/modules.js";
 
 const ONE = ["simplify", "despike", "canonical", "canonicalUnoriented", "isSimple", "hasNoSpikes", "isConvex"];
 const RINGS = ["simplifyRings", "despikeRings", "canonicalRings", "canonicalUnorientedRings"];
+const RING_TESTS = ["isSimpleRings", "hasNoSpikesRings", "isConvexRings"];
+const RINGS_OF_ANY_POINTS = ["isSafeRings", "areaTwoRings"];
 const POLYGONS = ["simplifyPolygons", "despikePolygons", "canonicalPolygons", "canonicalUnorientedPolygons"];
 const SQUARE = [0, 0, 4, 0, 4, 4, 0, 4];
 
@@ -22,7 +24,7 @@ describeWidths((shapes, { points, number, limit, bits, Points }) => {
     const square = points(SQUARE);
     /** Calls on many rings, by the offsets of the points. */
     const calls = [
-        ...RINGS.map((name) => ({ name, call: (from, offsets) => shapes[name](from, offsets) })),
+        ...[...RINGS, ...RING_TESTS].map((name) => ({ name, call: (from, offsets) => shapes[name](from, offsets) })),
         ...POLYGONS.map((name) => ({ name, call: (from, offsets) => shapes[name](from, offsets, [0]) })),
         { name: "windingNumbers", call: (from, offsets) => shapes.windingNumbers(from, offsets, points([])) },
     ];
@@ -37,6 +39,17 @@ describeWidths((shapes, { points, number, limit, bits, Points }) => {
             assert.throws(() => call(from, [0, 1, 1, 4]), { name: "UnsafePointError", code: -1, point: 2, ring: 2 });
             assert.throws(() => call(from, [0, 1, 4, 3]), OffsetsError, "offsets are tested first");
             assert.doesNotThrow(() => call(from, [0, 2]), "a point outside the offsets isn't read");
+        });
+    }
+    for (const name of RINGS_OF_ANY_POINTS) {
+        for (const row of WRONG_OFFSETS) {
+            test(`${name}: ${row.name}`, () => assert.throws(() => shapes[name](square, row.offsets), { name: "OffsetsError", code: -2 }));
+        }
+        test(`${name}: a point that isn't safe`, () => {
+            const from = square.slice();
+            from[5] = limit;
+            const told = { isSafeRings: [true, false], areaTwoRings: [0n, 4n * BigInt(limit)] };
+            assert.deepEqual(shapes[name](from, [0, 1, 4]), told[name]);
         });
     }
     for (const name of POLYGONS) {

@@ -21,6 +21,7 @@ function callsOf(shapes, { points, number }) {
     for (const name of ["contains", "windingNumber"]) calls[name] = () => shapes[name](contour, number(1), number(1));
     calls.windingNumbers = () => shapes.windingNumbers(rings, OFFSETS, contour);
     for (const name of ["simplifyRings", "despikeRings", "canonicalRings", "canonicalUnorientedRings"]) calls[name] = () => shapes[name](rings, OFFSETS);
+    for (const name of ["isSimpleRings", "hasNoSpikesRings", "isConvexRings", "isSafeRings", "areaTwoRings"]) calls[name] = () => shapes[name](rings, OFFSETS);
     for (const name of ["simplifyPolygons", "despikePolygons", "canonicalPolygons", "canonicalUnorientedPolygons"]) {
         calls[name] = () => shapes[name](rings, OFFSETS, POLYGONS);
     }

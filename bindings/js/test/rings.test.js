@@ -33,6 +33,15 @@ function evenOffsets(count, length) {
     return Uint32Array.from({ length: count + 1 }, (_, k) => k * length);
 }
 
+// What the tests and the areas tell of the rings of GIVEN, and of ONE.
+const TOLD = [
+    { call: "isSimpleRings", told: [false, false, false], one: false },
+    { call: "hasNoSpikesRings", told: [true, false, false], one: true },
+    { call: "isConvexRings", told: [true, false, false], one: true },
+    { call: "isSafeRings", told: [true, true, true], one: true },
+    { call: "areaTwoRings", told: [32n, 0n, 25n], one: 32n },
+];
+
 // A square that is wound twice, and one in it that turns right.
 const WOUND = { points: [0, 0, 4, 0, 4, 4, 0, 4, 0, 0, 4, 0, 4, 4, 0, 4, /**/ 1, 1, 1, 3, 3, 3, 3, 1], offsets: [0, 8, 12] };
 const ABOUT = [2, 2, 0, 2, 4, 2];
@@ -59,6 +68,14 @@ describeWidths((shapes, { points }) => {
                 points: points(repeated(ONE_LEFT[call], COUNT)),
                 offsets: evenOffsets(COUNT, ONE_LEFT[call].length / 2),
             }));
+    }
+
+    for (const { call, told, one } of TOLD) {
+        test(`${call}: three rings`, () => assert.deepEqual(shapes[call](points(GIVEN.points), GIVEN.offsets), told));
+        test(`${call}: the second ring alone`, () => assert.deepEqual(shapes[call](points(GIVEN.points), [5, 8]), told.slice(1, 2)));
+        test(`${call}: no ring`, () => assert.deepEqual(shapes[call](points(GIVEN.points), [3]), []));
+        test(`${call}: ${COUNT} rings`, () =>
+            assert.deepEqual(shapes[call](points(repeated(ONE, COUNT)), evenOffsets(COUNT, 5)), Array(COUNT).fill(one)));
     }
 
     for (const { name, offsets, winding } of [

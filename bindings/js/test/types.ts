@@ -22,11 +22,13 @@ async function contours(): Promise<void> {
 
 async function rings(shapes: IShape): Promise<void> {
     const points = Int32Array.of(0, 0);
+    const told: boolean[] = shapes.isSimpleRings(points, [0, 1]);
+    const areas: bigint[] = shapes.areaTwoRings(points, [0, 1]);
     const simplified: Rings<Int32Array> = shapes.simplifyRings(points, [0, 1]);
     const left: Rings<Int32Array> = shapes.canonicalUnorientedRings(simplified.points, simplified.offsets);
     const polygons: Polygons<Int32Array> = shapes.canonicalPolygons(left.points, left.offsets, BigInt64Array.of(0n, 1n));
     const windings: Int32Array = shapes.windingNumbers(points, Uint32Array.of(0, 1), polygons.points);
-    console.log(windings);
+    console.log(told, areas, windings);
     // @ts-expect-error: points of two widths
     shapes.windingNumbers(points, [0, 1], Int16Array.of(0, 0));
 }

@@ -37,8 +37,8 @@ CHANGED = re.compile(r"(ptrtoint ptr \S+ to i(64|32)|inttoptr i64 \S+ to ptr|@ll
 # Lines that mean the same at 32 bits: no pointer is read from memory or written to it, and none is turned into a number.
 UNCHANGED = re.compile(
     rf"""\s+(
-      ({LOCAL}\ =\ )?load\ (i\d+|\{{\ i\d+,\ i\d+\ \}}),\ ptr\ {VALUE},\ align\ \d+(,\ !(range|noundef)\ !\d+)*
-    | store\ (i\d+|\{{\ i\d+,\ i\d+\ \}})\ ({LOCAL}|-?\d+|true|false),\ ptr\ {VALUE},\ align\ \d+
+      ({LOCAL}\ =\ )?load\ (i\d+|<\d+\ x\ i\d+>|\{{\ i\d+,\ i\d+\ \}}),\ ptr\ {VALUE},\ align\ \d+(,\ !(range|noundef)\ !\d+)*
+    | store\ (i\d+|<\d+\ x\ i\d+>|\{{\ i\d+,\ i\d+\ \}})\ ({LOCAL}|-?\d+|true|false),\ ptr\ {VALUE},\ align\ \d+
     | {LOCAL}\ =\ getelementptr\ (inbounds\ nuw\ )?i8,\ ptr\ {VALUE},\ i64\ ({LOCAL}|-?\d+)
     | {LOCAL}\ =\ icmp\ (eq|ne)\ ptr\ {VALUE},\ (null|{VALUE})
     | ({LOCAL}\ =\ )?call\ (void|ptr|i\d+|\{{\ i\d+,\ i\d+\ \}})\ @("[^"]*"|[\w.]+)\([^(){{}}]*\)

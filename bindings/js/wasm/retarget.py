@@ -8,42 +8,19 @@ of each function that its frame fits the stack; and around each exported functio
 the same object file, of a crate that calls no function of C (same_object.sh tries that). It stops at whatever it doesn't know to mean
 the same on wasm64.
 """
+import os
 import re
 import sys
-from typing import NamedTuple, NoReturn
+from typing import NamedTuple
 
-X86_LAYOUT = re.compile(r'^target datalayout = "e-m:e-p270.*"$', re.M)
-X86_TRIPLE = re.compile(r'^target triple = "x86_64-unknown-linux-gnu"$', re.M)
-LAYOUT = 'target datalayout = "e-m:e-p:64:64-p10:8:8-p20:8:8-i64:64-i128:128-n32:64-S128-ni:1:10:20"'
-TRIPLE = 'target triple = "wasm64-unknown-unknown"'
+sys.dont_write_bytecode = True
+sys.path.insert(0, os.path.join(os.path.dirname(os.path.realpath(__file__)), "..", "..", "module"))
+from linux_module import FUNCTION_HEAD, bare, rewrite, stop, stop_at_the_unknown, with_target
 
-# What a module may declare: the allocator, and operations of LLVM that mean the same on each processor.
-KNOWN_DECLARATION = re.compile(
-    r"declare [^@]*@(rattle_(alloc|realloc|dealloc)"
-    r"|llvm\.(memset\.p0\.i64|memmove\.p0\.p0\.i64|memcpy\.p0\.p0\.i64|trap|assume"
-    r"|(ctlz|cttz|ctpop|bswap|bitreverse|fshl|fshr|abs|[us](min|max|(add|sub)\.sat)|[us](add|sub|mul)\.with\.overflow)\.i\d+))\(.*\) #\d+"
-)
-# What may stand outside of functions: comments, bytes that don't change, metadata, and groups of attributes.
-KNOWN_LINE = re.compile(
-    r"""|;.*|source_filename\ =\ "rattle"|target\ (datalayout|triple)\ =\ ".*"
-    |@static\.\d+\ =\ private\ unnamed_addr\ constant\ \[\d+\ x\ i8\]\ (zeroinitializer|c".*"),\ align\ \d+
-    |!llvm\.ident\ =\ !\{!\d+\}|!\d+\ =\ !\{[^@]*\}
-    |attributes\ \#\d+\ =\ \{\ ((alwaysinline|cold|nobuiltin|nocallback|nofree|noinline|noreturn|nosync|nounwind|speculatable|willreturn
-        |memory\((none|(argmem|inaccessiblemem):\ (read|write|readwrite))\))\ )*
-        ("probe-stack"="inline-asm"\ "stack-probe-size"="\d+"\ "target-cpu"="x86-64(-v\d)?"\ )?\}""",
-    re.X,
-)
-LABEL = re.compile(r"[\w.]+:( *;.*)?")
-NAME_OR_NUMBER = re.compile(r'[%@]"[^"]*"|[%@!#][\w.$]+|-?\b\d+\b')
-# The words of functions, but for names and numbers. They mean the same on each processor of 64 bits.
-KNOWN_WORDS = set(
-    """align alloca add and ashr br call define eq exact extractvalue false getelementptr i1 i8 i16 i32 i64 i128 icmp inbounds insertvalue internal label load
-    lshr mul ne noundef nsw null nuw or poison ptr ptrtoaddr ret sdiv select sext sge sgt shl signext sle slt srem store sub switch to true trunc udiv uge
-    ugt ule ult undef unreachable urem void x xor zeroext zeroinitializer zext""".split()
-)
-FUNCTION_HEAD = re.compile(r'define (?P<internal>internal )?(?P<result>.*?)@(?P<name>"[^"]*"|[\w.$]+)\((?P<parameters>.*)\) #(?P<attributes>\d+) \{')
+LAYOUT = "e-m:e-p:64:64-p10:8:8-p20:8:8-i64:64-i128:128-n32:64-S128-ni:1:10:20"
+TRIPLE = "wasm64-unknown-unknown"
+
 BLOCK_END = re.compile(r"\s+(br|ret|switch|unreachable)\b")
-ATTRIBUTE = re.compile(r"\b(noundef|zeroext|signext) ?")
 OUTSIDE_OF_FUNCTIONS = ("declare ", "attributes ", "!")
 
 # The numbers of the groups of attributes that are added: of three functions, and from the last on two for each export.
@@ -92,34 +69,6 @@ class Function(NamedTuple):
     lines: list[str]
 
 
-def stop(why: str) -> NoReturn:
-    sys.exit(f"retarget.py: {why}")
-
-
-def stop_at_the_unknown(text: str) -> None:
-    is_in_body = False
-    for line in text.split("\n"):
-        if line.startswith("define "):
-            is_in_body = True
-        if is_in_body:
-            words = set(re.findall(r"[A-Za-z_][\w.]*", NAME_OR_NUMBER.sub(" ", line)))
-            is_known = words <= KNOWN_WORDS or LABEL.fullmatch(line)
-        else:
-            is_known = KNOWN_LINE.fullmatch(line) or KNOWN_DECLARATION.fullmatch(line)
-        if not is_known:
-            stop(f"it is not known to mean the same on wasm64: {line}")
-        if line == "}":
-            is_in_body = False
-
-
-def with_target(text: str) -> str:
-    text, layouts = X86_LAYOUT.subn(LAYOUT, text)
-    text, triples = X86_TRIPLE.subn(TRIPLE, text)
-    if (layouts, triples) != (1, 1):
-        stop("it is no module for x86_64-unknown-linux-gnu")
-    return text
-
-
 def processor_attributes(text: str) -> dict[str, str]:
     """The groups of attributes that name a processor, by their numbers, for wasm64."""
     groups = {}
@@ -151,10 +100,6 @@ def with_stack_test(function: Function) -> list[str]:
         stop(f"an alloca behind the first block: {lines[0]}")
     place = allocas[-1] + 1 if allocas else 2
     return lines[:place] + STACK_TEST + lines[place:-1] + STACK_TRAP
-
-
-def bare(type_and_attributes: str) -> str:
-    return ATTRIBUTE.sub("", type_and_attributes).strip()
 
 
 def wrapper_of(function: Function, attributes: int) -> list[str]:
@@ -207,7 +152,7 @@ def with_exports(lines: list[str], exports: list[Function], groups: dict[str, st
 
 def retargeted(text: str) -> str:
     stop_at_the_unknown(text)
-    text = with_target(text)
+    text = with_target(text, LAYOUT, TRIPLE)
     groups = processor_attributes(text)
     for number, words in groups.items():
         text = re.sub(rf"^attributes #{number} = .*$", lambda _, number=number, words=words: f"attributes #{number} = {{ {words} }}", text, flags=re.M)
@@ -227,14 +172,5 @@ def retargeted(text: str) -> str:
     return "\n".join(with_exports(out, exports, groups)) + "\n"
 
 
-def main() -> None:
-    if len(sys.argv) != 3:
-        stop("usage: retarget.py X86_64.ll WASM64.ll")
-    with open(sys.argv[1], encoding="utf-8") as source:
-        text = source.read()
-    with open(sys.argv[2], "w", encoding="utf-8") as to:
-        to.write(retargeted(text))
-
-
 if __name__ == "__main__":
-    main()
+    rewrite(retargeted)

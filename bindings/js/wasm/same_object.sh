@@ -3,10 +3,10 @@
 # lower the others for wasm64, since their heap is C's. usage: same_object.sh TOP. It tells each level of optimization that is tried.
 set -eu
 here=$(cd "$(dirname "$0")" && pwd)
-clang=$(dirname "$(rt doc)")/toolchain/bin/clang
+module=$here/../../module
 work=$(mktemp -d)
 trap 'rm -rf "$work"' EXIT
-sh "$here/copy_crates.sh" "$1" "$work"
+sh "$module/copy_crates.sh" "$1" "$work" i_shape_c
 crate=$work/crates/i_shape_c
 
 # Without the calls that are passed an allocator.
@@ -17,9 +17,8 @@ for width in i16 i32 i64; do
         grep -q "fn ${proof##*/}(" "$crate/src/calls/$width.rt" || rm -r "$proof"
     done
 done
-sh "$here/lower.sh" "$crate" "$work/x86_64.bc"
-sh "$here/lower.sh" "$crate" "$work/wasm64.bc" --target wasm64-unknown-unknown
-"$clang" -S -emit-llvm -Xclang -disable-llvm-passes --target=x86_64-unknown-linux-gnu -x ir "$work/x86_64.bc" -o "$work/x86_64.ll"
+sh "$module/lower.sh" "$crate" "$work/x86_64.ll"
+sh "$module/lower.sh" "$crate" "$work/wasm64.bc" --target wasm64-unknown-unknown
 python3 "$here/retarget.py" "$work/x86_64.ll" "$work/retargeted.ll"
 for level in -O1 -O2 -O3; do
     sh "$here/compile.sh" 64 "$level" -x ir "$work/retargeted.ll" -o "$work/retargeted.o"

@@ -50,6 +50,79 @@ class ExampleCase(unittest.TestCase):
         return out.getvalue().splitlines()
 
 
+class EqualPolygons(ExampleCase):
+
+    name = "equal_polygons"
+
+    def test_keys_of_arrays_miss_no_pair(self):
+        lines = self.printed("--pairs", "40")
+        found = [line for line in lines if line.startswith("arrays")]
+        self.assertEqual([line.split()[2] for line in found], ["0", "0"])
+        missed = [line.split()[1] for line in lines
+                  if line.startswith("normalize")]
+        self.assertIn(missed, ([], ["0", "40"]))
+
+    def test_what_is_written_anew_is_the_same_polygon(self):
+        for place in range(40):
+            polygon = self.example.parcel(place)
+            for with_vertex in (False, True):
+                other = self.example.written_anew(polygon, place, with_vertex)
+                self.assertNotEqual(other, polygon)
+                self.assertEqual(len(other[0]), 4 + with_vertex)
+                self.assertTrue(i_shape.same_polygons(
+                    *(samples.arrays([(False, [its])], np.int32).polygons
+                      for its in (polygon, other))))
+
+
+class Store(ExampleCase):
+
+    name = "store"
+
+    def setUp(self):
+        super().setUp()
+        folder = tempfile.TemporaryDirectory()
+        self.addCleanup(folder.cleanup)
+        self.path = str(Path(folder.name, "store.sqlite"))
+
+    def opened(self, step=1.0):
+        store = self.example.opened(self.path, step)
+        self.addCleanup(store.close)
+        return store
+
+    @staticmethod
+    def features(*polygons):
+        return samples.arrays([(False, [its]) for its in polygons])
+
+    def test_polygons_are_kept_once(self):
+        turned = SQUARE[2:] + [(0, 0), (1, 0), (4, 0)]
+        line = [(0, 0), (1, 1), (2, 2)]
+        first = self.features([SQUARE], [line], [FAR], [SQUARE[::-1]])
+        store = self.opened()
+        self.assertEqual(self.example.add(store, "a", first, 1.0), (2, 3))
+        # A store that is opened again knows them.
+        store = self.opened()
+        other = self.features([turned], [SQUARE, FAR], [FAR[::-1]])
+        self.assertEqual(self.example.add(store, "b", other, 1.0), (1, 3))
+        self.assertEqual(store.execute(
+            "SELECT polygon, file, number FROM places ORDER BY file, number"
+        ).fetchall(), [(1, "a", 0), (2, "a", 2), (1, "a", 3), (1, "b", 0),
+                       (3, "b", 1), (2, "b", 2)])
+
+    def test_nothing_is_added_where_an_error_is_raised(self):
+        store = self.opened()
+        fine = self.features([SQUARE])
+        self.example.add(store, "a", fine, 1.0)
+        for file, features in (("a", self.features([FAR])),
+                               ("b", self.features([FAR], [
+                                   [(0, 0), (float("nan"), 0), (1, 1)]]))):
+            with self.assertRaises(ValueError):
+                self.example.add(store, file, features, 1.0)
+        self.assertEqual(store.execute(
+            "SELECT count(*) FROM polygons").fetchone(), (1,))
+        with self.assertRaises(ValueError):
+            self.opened(step=0.5)
+
+
 class Parcels(ExampleCase):
 
     name = "parcels"

@@ -54,6 +54,10 @@ pub(crate) type Windings<I> = unsafe extern "C" fn(
     usize,
 ) -> i32;
 
+/// A call that writes an item of each contour.
+pub(crate) type MeasureMany<I, T> =
+    unsafe extern "C" fn(*const IntPoint<I>, usize, *const usize, usize, *mut T, usize) -> i32;
+
 /// The calls at one width.
 pub trait Calls: Copy + Ord + fmt::Debug + 'static {
     /// How the library writes a double area.
@@ -79,6 +83,11 @@ pub trait Calls: Copy + Ord + fmt::Debug + 'static {
     const WINDING: Winding<Self>;
     const WINDINGS: Windings<Self>;
     const AREA_TWO: AreaTwo<Self, Self::Area>;
+    const IS_SIMPLE_CONTOURS: MeasureMany<Self, u8>;
+    const HAS_NO_SPIKES_CONTOURS: MeasureMany<Self, u8>;
+    const IS_CONVEX_CONTOURS: MeasureMany<Self, u8>;
+    const IS_SAFE_CONTOURS: MeasureMany<Self, u8>;
+    const AREA_TWO_CONTOURS: MeasureMany<Self, Self::Area>;
 }
 
 /// The two halves of the 128 bits of a number.
@@ -166,6 +175,24 @@ macro_rules! tests {
     };
 }
 
+macro_rules! measures_of_many {
+    ($number:ty, $width:literal, $($function:ident $name:literal $item:ty),*) => {
+        unsafe extern "C" {
+            $(
+                #[link_name = concat!("i_shape_", $name, $width)]
+                fn $function(
+                    points: *const IntPoint<$number>,
+                    count: usize,
+                    offsets: *const usize,
+                    offset_count: usize,
+                    out: *mut $item,
+                    room: usize,
+                ) -> i32;
+            )*
+        }
+    };
+}
+
 macro_rules! calls {
     ($number:ty, $width:literal, $area:ty) => {
         const _: () = {
@@ -186,6 +213,13 @@ macro_rules! calls {
             tests!(
                 $number, $width, is_simple "is_simple_i", has_no_spikes "has_no_spikes_i",
                 is_convex "is_convex_i", is_safe "is_safe_i"
+            );
+            measures_of_many!(
+                $number, $width, is_simple_contours "is_simple_contours_i" u8,
+                has_no_spikes_contours "has_no_spikes_contours_i" u8,
+                is_convex_contours "is_convex_contours_i" u8,
+                is_safe_contours "is_safe_contours_i" u8,
+                area_two_contours "area_two_contours_i" $area
             );
             unsafe extern "C" {
                 #[link_name = concat!("i_shape_contains_i", $width)]
@@ -245,6 +279,11 @@ macro_rules! calls {
                 const WINDING: Winding<Self> = winding;
                 const WINDINGS: Windings<Self> = windings;
                 const AREA_TWO: AreaTwo<Self, Self::Area> = area_two;
+                const IS_SIMPLE_CONTOURS: MeasureMany<Self, u8> = is_simple_contours;
+                const HAS_NO_SPIKES_CONTOURS: MeasureMany<Self, u8> = has_no_spikes_contours;
+                const IS_CONVEX_CONTOURS: MeasureMany<Self, u8> = is_convex_contours;
+                const IS_SAFE_CONTOURS: MeasureMany<Self, u8> = is_safe_contours;
+                const AREA_TWO_CONTOURS: MeasureMany<Self, Self::Area> = area_two_contours;
             }
         };
     };
@@ -417,4 +456,25 @@ pub(crate) fn area_two<I: IntNumber>(points: &[IntPoint<I>]) -> Option<I::Wide> 
     // SAFETY: the pointer and the count are those of one slice, and `area` is a place of its own.
     let is_some = unsafe { (I::AREA_TWO)(points.as_ptr(), points.len(), &mut area) };
     is_some.then(|| area.into())
+}
+
+/// Writes an item of each contour to the front of `out`.
+pub(crate) fn measure_many<I: Calls, T>(
+    call: MeasureMany<I, T>,
+    points: &[IntPoint<I>],
+    offsets: &[usize],
+    out: &mut [MaybeUninit<T>],
+) -> Result<(), Error> {
+    // SAFETY: as in `clean_one`.
+    let answer = unsafe {
+        call(
+            points.as_ptr(),
+            points.len(),
+            offsets.as_ptr(),
+            offsets.len(),
+            out.as_mut_ptr().cast(),
+            out.len(),
+        )
+    };
+    number(answer as isize).map(|_| ())
 }

@@ -49,6 +49,7 @@
 
 pub mod buffer;
 mod contours;
+mod measures;
 pub mod offsets;
 mod shapes;
 

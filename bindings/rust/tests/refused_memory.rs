@@ -231,6 +231,11 @@ fn batches<I: Number>() {
     let behind = Contours::new(flat.points(), &flat.offsets()[1..]);
     assert!(growths(|| behind.try_simplified()) > 3);
     let about = [point([1, 1]); 3];
+    assert_eq!(growths(|| all.try_are_simple()), 2);
+    assert_eq!(growths(|| all.try_have_no_spikes()), 2);
+    assert_eq!(growths(|| all.try_are_convex()), 2);
+    assert_eq!(growths(|| all.try_are_in_safe_range()), 2);
+    assert_eq!(growths(|| all.try_areas_two()), 2);
     assert_eq!(growths(|| all.try_winding_numbers(&about)), 1);
     assert_eq!(
         growths(|| all.try_winding_numbers_into(&about, &mut [0; 3])),

@@ -3,7 +3,7 @@ use Rattle.std.proofs.Common.{◌≡◌, ◌↔◌, ◌≤◌, ℕ, ◌+◌, ◌
 use Rattle.std.specs.Global.{Vec}
 use Rattle.std.specs.Int.{Width}
 use Rattle.std.specs.declared.ops.Range.{Range}
-use Rattle.std.specs.Result.{IsOk, IsErr, is_ok, OnOk}
+use Rattle.std.specs.Result.{IsOk, IsErr, is_ok, OnOk, IsOkUnless}
 use Rattle.std.specs.List.{All, AllZip, filter_map, sum_by, slice_get}
 use Rattle.std.proofs.lemmas.Int.{ints}
 use Rattle.std.proofs.lemmas.List.Elements.{All-nil, All-cons, All-head, All-tail, All-append, All-take, All-drop}
@@ -18,8 +18,10 @@ use Rattle.i_shape_core.specs.Convex.{NoSpikes}
 use Rattle.i_shape_core.specs.Cleaners.{SimpleAnswer, SpikelessAnswer, DespikeAnswer, KeptAnswer, IsKept, EachEndCollapses}
 use Rattle.i_shape_core.specs.Written.{slot, IsWritten}
 use Rattle.i_shape_core.specs.declared.error.ShapeError.{ShapeError}
+use Rattle.i_shape_core.specs.declared.error.ShapeError.TheVariants.{OutOfMemory}
+use Rattle.i_shape_core.specs.Refusals.{OkUnlessMemory}
 use Rattle.i_shape_core.specs.declared.point.IntPoint.{IntPoint}
-use Rattle.i_shape_source.specs.Paths.{paths_of_shape, paths_of_shapes, shape_lists, joined}
+use Rattle.i_shape_source.specs.Paths.{paths_of_shape, paths_of_shapes, shape_lists, concatenated}
 use Rattle.i_shape.specs.declared.flat.buffer.contours.FlatContoursBuffer.{FlatContoursBuffer}
 use Rattle.i_shape.specs.Flat.{part_of, slices, shapes, end_to_end}
 use Rattle.i_shape.specs.Buffers.{Compact, contours_in, range_len, HoldsContours, HoldsShapes, contours_of, named_shapes}
@@ -27,13 +29,13 @@ use Rattle.i_shape.specs.declared.flat.buffer.shapes.FlatShapesBuffer.{FlatShape
 use Rattle.i_shape.specs.ShapeLists.{shape_of, shapes_of, IsSafeShape, IsSafeList, AreSafePaths}
 use Rattle.i_shape.specs.ShapeAnswers.{HasPoints, inside_count, shapes_shoelace, Survivors, ShapeClean, ListClean, EachContour, EachShape, AreKept, ListKept}
 use Rattle.i_shape.specs.InPlace.{Leaves, CleansContour, DespikesContour, CleansShape, CleansList}
-use Rattle.i_shape_core.proofs.Answered.{simple_kept, nothing_keeps}
-use Rattle.i_shape_core.proofs.Ends.{reach_shrinks, no_step}
-use Rattle.i_shape_core.proofs.Spikes.{spikeless_end}
-use Rattle.i_shape_core.proofs.AllTold.{mapped}
-use Rattle.i_shape.proofs.Keeping.{inside_count-append}
-use Rattle.i_shape.proofs.Surviving.{survivors_have}
-use Rattle.i_shape.proofs.ShapeRanges.{slice_range-map, slices-part_of}
+use Rattle.i_shape_core.proofs.answers.Kept.{simple_kept, nothing_keeps}
+use Rattle.i_shape_core.proofs.removal.Ends.{reach_shrinks, no_step}
+use Rattle.i_shape_core.proofs.walks.Spikes.{spikeless_end}
+use Rattle.i_shape_core.proofs.lists.Mapped.{all_mapped}
+use Rattle.i_shape.proofs.shapes.Kept.{inside_count-append}
+use Rattle.i_shape.proofs.lists.Surviving.{survivors_have}
+use Rattle.i_shape.proofs.buffers.ShapeRanges.{slice_range-map, slices-part_of}
 
 -- the contours of a shape are read from the lists of its points
 pub shape_of_paths : {I : Type 0} (value : I → ℤ) (contours : List (Vec (IntPoint I))) → shape_of value contours ≡ map (contour_of value) (paths_of_shape contours)
@@ -75,35 +77,35 @@ contours_held value buffer contours held = ap (map (contour_of value)) held.slic
 pub safe_held : {I : Type 0} (width : Width) (value : I → ℤ) (buffer : FlatContoursBuffer I) (contours : List (Vec (IntPoint I))) → HoldsContours buffer (paths_of_shape contours) → IsSafeShape width (shape_of value contours) → IsSafeShape width (contours_in value buffer)
 safe_held width value buffer contours held safe = subst (IsSafeShape width) (sym (contours_held value buffer contours held)) safe
 
-named_points : {P : Type 0} (start : ℕ) (contours : List (List P)) → sum_by range_len (end_to_end start contours) ≡ length (joined contours)
+named_points : {P : Type 0} (start : ℕ) (contours : List (List P)) → sum_by range_len (end_to_end start contours) ≡ length (concatenated contours)
 named_points start [] = refl
 named_points start (c ∷ contours) =
     let more = sum_by-cons range_len (record { start = start; end = start + length c }) (end_to_end (start + length c) contours) in
-    omega (arith, more, named_points (start + length c) contours, length-append c (joined contours))
+    omega (arith, more, named_points (start + length c) contours, length-append c (concatenated contours))
 
 -- the ranges of the buffer name as many points as the contours have, as `too_many` of `simplify_contours` asks
-pub points_held : {I : Type 0} (buffer : FlatContoursBuffer I) (contours : List (List (IntPoint I))) → HoldsContours buffer contours → sum_by range_len buffer.ranges.items ≡ length (joined contours)
+pub points_held : {I : Type 0} (buffer : FlatContoursBuffer I) (contours : List (List (IntPoint I))) → HoldsContours buffer contours → sum_by range_len buffer.ranges.items ≡ length (concatenated contours)
 points_held buffer contours held = ap (sum_by range_len) held.ranges ∙ named_points 0 contours
 
-shapes_of_paths : {I : Type 0} (value : I → ℤ) (shapes : List (Vec (Vec (IntPoint I)))) → joined (shapes_of value shapes) ≡ map (contour_of value) (paths_of_shapes shapes)
+shapes_of_paths : {I : Type 0} (value : I → ℤ) (shapes : List (Vec (Vec (IntPoint I)))) → concatenated (shapes_of value shapes) ≡ map (contour_of value) (paths_of_shapes shapes)
 shapes_of_paths value [] = refl
 shapes_of_paths value (shape ∷ shapes) =
-    ap (λ w. w ++ joined (shapes_of value shapes)) (shape_of_paths value shape.items)
+    ap (λ w. w ++ concatenated (shapes_of value shapes)) (shape_of_paths value shape.items)
     ∙ ap (λ w. map (contour_of value) (paths_of_shape shape.items) ++ w) (shapes_of_paths value shapes)
     ∙ sym (map-append (contour_of value) (paths_of_shape shape.items) (paths_of_shapes shapes))
 
 -- a buffer that was filled with shapes names their contours
-pub shapes_held : {I : Type 0} (value : I → ℤ) (buffer : FlatContoursBuffer I) (shapes : List (Vec (Vec (IntPoint I)))) → HoldsContours buffer (paths_of_shapes shapes) → contours_in value buffer ≡ joined (shapes_of value shapes)
+pub shapes_held : {I : Type 0} (value : I → ℤ) (buffer : FlatContoursBuffer I) (shapes : List (Vec (Vec (IntPoint I)))) → HoldsContours buffer (paths_of_shapes shapes) → contours_in value buffer ≡ concatenated (shapes_of value shapes)
 shapes_held value buffer shapes held = ap (map (contour_of value)) held.slices ∙ sym (shapes_of_paths value shapes)
 
-safe_joined : (width : Width) (shapes : List (List (List Point))) → IsSafeList width shapes → IsSafeShape width (joined shapes)
-safe_joined width [] safe = All-nil (All (IsSafe width))
-safe_joined width (shape ∷ shapes) safe =
-    All-append (All (IsSafe width)) shape (joined shapes) (All-head (IsSafeShape width) shape shapes safe) (safe_joined width shapes (All-tail (IsSafeShape width) shape shapes safe))
+safe_concatenated : (width : Width) (shapes : List (List (List Point))) → IsSafeList width shapes → IsSafeShape width (concatenated shapes)
+safe_concatenated width [] safe = All-nil (All (IsSafe width))
+safe_concatenated width (shape ∷ shapes) safe =
+    All-append (All (IsSafe width)) shape (concatenated shapes) (All-head (IsSafeShape width) shape shapes safe) (safe_concatenated width shapes (All-tail (IsSafeShape width) shape shapes safe))
 
 -- and they are safe where these are
 pub safe_shapes_held : {I : Type 0} (width : Width) (value : I → ℤ) (buffer : FlatContoursBuffer I) (shapes : List (Vec (Vec (IntPoint I)))) → HoldsContours buffer (paths_of_shapes shapes) → IsSafeList width (shapes_of value shapes) → IsSafeShape width (contours_in value buffer)
-safe_shapes_held width value buffer shapes held safe = subst (IsSafeShape width) (sym (shapes_held value buffer shapes held)) (safe_joined width (shapes_of value shapes) safe)
+safe_shapes_held width value buffer shapes held safe = subst (IsSafeShape width) (sym (shapes_held value buffer shapes held)) (safe_concatenated width (shapes_of value shapes) safe)
 
 -- the contours that are read from a buffer are those that it names
 pub contours_read : {I : Type 0} (value : I → ℤ) (buffer : FlatContoursBuffer I) (contours : List (Vec (IntPoint I))) → paths_of_shape contours ≡ slices buffer.points.items buffer.ranges.items → shape_of value contours ≡ contours_in value buffer
@@ -188,7 +190,7 @@ module _ (Answer : List Point → Option (List Point) → Type 0) where
   left_shorter (shape ∷ shapes) (Some kept ∷ answers) h = omega (arith, left_shorter shapes answers h.1)
 
   left_kept : (shapes : List (List (List Point))) (answers : List (Option (List (List Point)))) → AllZip Keeps shapes answers → length (filter_map (λ answer. answer) answers) ≡ length shapes
-      → (shapes_shoelace (filter_map (λ answer. answer) answers) ≡ shapes_shoelace shapes) × ((p : Point) → inside_count (joined (filter_map (λ answer. answer) answers)) p ≡ inside_count (joined shapes) p)
+      → (shapes_shoelace (filter_map (λ answer. answer) answers) ≡ shapes_shoelace shapes) × ((p : Point) → inside_count (concatenated (filter_map (λ answer. answer) answers)) p ≡ inside_count (concatenated shapes) p)
   left_kept [] [] h whole = (refl, λ p. refl)
   left_kept [] (a ∷ answers) h whole = absurd h
   left_kept (shape ∷ shapes) [] h whole = absurd h
@@ -199,7 +201,7 @@ module _ (Answer : List Point → Option (List Point) → Type 0) where
       let here_area = here.area in
       let rest_area = rest.0 in (
         omega (arith, ints),
-        λ p. omega (arith, inside_count-append shape (joined shapes) p, inside_count-append kept (joined (filter_map (λ answer. answer) answers)) p, here.inside p, rest.1 p),
+        λ p. omega (arith, inside_count-append shape (concatenated shapes) p, inside_count-append kept (concatenated (filter_map (λ answer. answer) answers)) p, here.inside p, rest.1 p),
       )
 
 -- cleaning a list leaves no more shapes than there were
@@ -212,15 +214,16 @@ list_area {Answer} {shapes} kept_list whole = let (answers, zipped, are) = kept_
 
 -- and each point is inside of as many of its contours
 pub list_inside : {Answer : List Point → Option (List Point) → Type 0} {shapes kept : List (List (List Point))} → ListKept Answer shapes kept → length kept ≡ length shapes
-    → (p : Point) → inside_count (joined kept) p ≡ inside_count (joined shapes) p
+    → (p : Point) → inside_count (concatenated kept) p ≡ inside_count (concatenated shapes) p
 list_inside {Answer} {shapes} kept_list whole p =
     let (answers, zipped, are) = kept_list.each in
-    ap (λ w. inside_count (joined w) p) are ∙ (left_kept Answer shapes answers zipped (sym (ap length are) ∙ whole)).1 p
+    ap (λ w. inside_count (concatenated w) p) are ∙ (left_kept Answer shapes answers zipped (sym (ap length are) ∙ whole)).1 p
 
 -- the same of the area where the answer is named, in the form that a function names
 pub simplified_list_area : {shapes kept : List (List (List Point))} → ListKept SimpleAnswer shapes kept → length kept ≡ length shapes → shapes_shoelace kept ≡ shapes_shoelace shapes
 simplified_list_area kept_list whole = list_area kept_list whole
 
+-- the removal of spikes keeps the double area of a list where no shape is left out
 pub despiked_list_area : {shapes kept : List (List (List Point))} → ListKept DespikeAnswer shapes kept → length kept ≡ length shapes → shapes_shoelace kept ≡ shapes_shoelace shapes
 despiked_list_area kept_list whole = list_area kept_list whole
 
@@ -311,8 +314,8 @@ module _ {old between new : List (List (List Point))} {q r : Result Bool ShapeEr
 pub points_safe : {P I : Type 0} (width : Width) (value : I → ℤ) (point : P → IntPoint I) (points : List P → List (IntPoint I)) → ((list : List P) → points list ≡ map point list)
     → (list : List P) → All (λ p. IsSafe width (point_of value (point p))) list ↔ All (IsSafe width) (contour_of value (points list))
 points_safe width value point points each list =
-    let one = mapped (λ q. IsSafe width (point_of value q)) point list in
-    let all = mapped (IsSafe width) (point_of value) (map point list) in
+    let one = all_mapped (λ q. IsSafe width (point_of value q)) point list in
+    let all = all_mapped (IsSafe width) (point_of value) (map point list) in
     rw (each list) (λ safe. all.0 (one.0 safe), λ safe. one.1 (all.1 safe))
 
 slot_simple : (c s : List Point) → SimpleAnswer c (slot s) → IsSimple s ↔ (EachEndCollapses c → ⊥)
@@ -339,15 +342,25 @@ slot_stays c (p ∷ e) (q ∷ d) simple despiked = go despiked.ended.reached
 
 module _ {P : Type 0} {width : Width} {read : List P → List Point} {given old new : List P} {n : ℕ} where
   -- what a cleaner writes has the double area of what it was given, and the same points inside, also where it writes nothing
-  pub written_kept : {Answer : List Point → Option (List Point) → Type 0} → IsWritten Answer KeptAnswer width read given old new n → IsKept (read given) (read (take n new))
+  pub written_kept : {Answer : List Point → Option (List Point) → Type 0} {Picks : List P → List P → Type 0} → IsWritten Answer KeptAnswer Picks width read given old new n → IsKept (read given) (read (take n new))
   written_kept written = slot_keeps (read given) (read (take n new)) written.cleaned.kept
 
   -- what is written without zero turns is simple exactly where something is left
-  pub written_simple : IsWritten SimpleAnswer KeptAnswer width read given old new n → IsSimple (read (take n new)) ↔ (EachEndCollapses (read given) → ⊥)
+  pub written_simple : {Picks : List P → List P → Type 0} → IsWritten SimpleAnswer KeptAnswer Picks width read given old new n → IsSimple (read (take n new)) ↔ (EachEndCollapses (read given) → ⊥)
   written_simple written = slot_simple (read given) (read (take n new)) written.cleaned.answer
 
   -- where zero turns were removed, what is written where spikes are removed from the rest is the contour without zero turns too
-  pub cleaned_twice : {before after : List P} {m : ℕ} → IsWritten SimpleAnswer KeptAnswer width read given old new n → IsWritten SpikelessAnswer KeptAnswer width read (take n new) before after m → SimpleAnswer (read given) (slot (read (take m after)))
+  pub cleaned_twice : {before after : List P} {m : ℕ} {Picks Leaves : List P → List P → Type 0} → IsWritten SimpleAnswer KeptAnswer Picks width read given old new n → IsWritten SpikelessAnswer KeptAnswer Leaves width read (take n new) before after m → SimpleAnswer (read given) (slot (read (take m after)))
   cleaned_twice {before} {after} {m} simple despiked =
       let same = slot_stays (read given) (read (take n new)) (read (take m after)) simple.cleaned.answer despiked.cleaned.answer in
       rw same simple.cleaned.answer
+
+-- what a value that is given has, of which more is said
+pub of_ok : {T : Type 0} {Holds Part : T → Type 0} (result : Result T ShapeError) → ((t : T) → Holds t → Part t) → OkUnlessMemory result Holds → IfOk result Part
+of_ok (Ok t) part is = part t is
+of_ok (Err e) part is = tt
+
+-- and an error is want of memory
+pub of_memory : {T : Type 0} (Holds : T → Type 0) (result : Result T ShapeError) → OkUnlessMemory result Holds → IsOkUnless result OutOfMemory
+of_memory Holds (Ok t) is = tt
+of_memory Holds (Err e) is = is

@@ -3,7 +3,7 @@ use Rattle.std.proofs.Common.{◌≡◌, ℕ, List, [], ◌∷◌, ◌<◌, Opti
 use Rattle.std.specs.declared.ops.Range.{Range}
 use Rattle.i_shape_core.specs.Point.{Point, cross}
 use Rattle.i_shape_core.specs.Edges.{shoelace, area_of_edge, is_right}
-use Rattle.i_shape_source.specs.Paths.{joined}
+use Rattle.i_shape_source.specs.Paths.{concatenated}
 use Rattle.i_shape.specs.Flat.{InOrder, part_of, slices, shapes, IsReadableShape, end_to_end}
 use Rattle.i_shape.specs.Buffers.{CanReadFirst, first_contour, range_len}
 use Rattle.i_shape.specs.FloatBuffers.{readable_slices, in_one_shape}
@@ -34,7 +34,7 @@ lent : readable_slices three (from_to 3 2 ∷ from_to 1 2 ∷ from_to 0 9 ∷ fr
 lent = refl
 
 -- ---- lists end to end, an empty one among them
-laid : (joined ((7 ∷ 8 ∷ []) ∷ [] ∷ (9 ∷ []) ∷ []) ≡ three) × (end_to_end {P = ℕ} 0 ((7 ∷ 8 ∷ []) ∷ [] ∷ (9 ∷ []) ∷ []) ≡ from_to 0 2 ∷ from_to 2 2 ∷ from_to 2 3 ∷ [])
+laid : (concatenated ((7 ∷ 8 ∷ []) ∷ [] ∷ (9 ∷ []) ∷ []) ≡ three) × (end_to_end {P = ℕ} 0 ((7 ∷ 8 ∷ []) ∷ [] ∷ (9 ∷ []) ∷ []) ≡ from_to 0 2 ∷ from_to 2 2 ∷ from_to 2 3 ∷ [])
 laid = (refl, refl)
 
 -- ---- shapes: a shape range that is empty or runs backwards names the shape without contours, wherever it points

@@ -1,30 +1,12 @@
-pub mod EqualLists
-pub mod Surviving
-pub mod Keeping
-pub mod Fewer
-pub mod EndToEnd
-pub mod ContoursHeld
-pub mod ShapeRanges
-pub mod ShapesHeld
-pub mod CompactLaws
-pub mod ShapesCleaned
-pub mod WrittenBehind
-pub mod WrappedSums
-pub mod LeftInPlace
-pub mod SpikesLeft
-pub mod CleanedAside
+-- lists: end to end, in order, permuted, what cleaning leaves of them
+pub mod lists
+-- shapes and lists of shapes: what cleaning keeps, their order and forms
+pub mod shapes
+-- flat buffers: what they hold, and cleaning inside them
+pub mod buffers
+-- cleaning in place
+pub mod in_place
 -- what callers cite
 pub mod CallerLemmas
--- paths that are lent, and what generic buffers hold
-pub mod LentPaths
-pub mod FloatHeld
--- canonical forms
-pub mod Shuffles
-pub mod Uniqueness
-pub mod SortedLists
-pub mod ShapeOrder
-pub mod Orders
-pub mod Matches
-pub mod ShapeForms
-pub mod FewerForms
+-- the definitions of flat lists, shapes and ranges at values that are written out
 pub mod Examples

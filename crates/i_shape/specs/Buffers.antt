@@ -4,7 +4,7 @@ use Rattle.std.specs.List.{All, sum_by}
 use Rattle.std.specs.declared.ops.Range.{Range}
 use Rattle.i_shape_core.specs.declared.point.IntPoint.{IntPoint}
 use Rattle.i_shape.specs.declared.flat.buffer.contours.FlatContoursBuffer.{FlatContoursBuffer}
-use Rattle.i_shape_source.specs.Paths.{joined}
+use Rattle.i_shape_source.specs.Paths.{concatenated}
 use Rattle.i_shape.specs.Flat.{InOrder, part_of, slices, end_to_end, IsReadableShape, shapes}
 use Rattle.i_shape.specs.declared.flat.buffer.shapes.FlatShapesBuffer.{FlatShapesBuffer}
 use Rattle.i_shape_core.specs.Point.{Point}
@@ -13,7 +13,7 @@ pub use Rattle.i_shape_core.specs.Survivors.{Compact}
 
 -- the buffer has the contours end to end, and nothing else
 pub record HoldsContours {T : Type 0} (buffer : FlatContoursBuffer T) (contours : List (List (IntPoint T))) : Type 0 where
-  pub points : buffer.points.items ≡ joined contours
+  pub points : buffer.points.items ≡ concatenated contours
   pub ranges : buffer.ranges.items ≡ end_to_end 0 contours
   pub readable : All (InOrder (length buffer.points.items)) buffer.ranges.items
   pub slices : slices buffer.points.items buffer.ranges.items ≡ contours
@@ -43,12 +43,12 @@ shapes_in buffer = shapes buffer.points.items buffer.contour_ranges.items buffer
 
 -- the buffer has the contours of the shapes end to end, and nothing else
 pub record HoldsShapes {T : Type 0} (buffer : FlatShapesBuffer T) (list : List (List (List (IntPoint T)))) : Type 0 where
-  pub points : buffer.points.items ≡ joined (joined list)
-  pub contour_ranges : buffer.contour_ranges.items ≡ end_to_end 0 (joined list)
+  pub points : buffer.points.items ≡ concatenated (concatenated list)
+  pub contour_ranges : buffer.contour_ranges.items ≡ end_to_end 0 (concatenated list)
   pub shape_ranges : buffer.shape_ranges.items ≡ end_to_end 0 list
   pub contours_readable : All (InOrder (length buffer.points.items)) buffer.contour_ranges.items
   pub shapes_readable : CanReadShapes buffer
-  pub slices : slices buffer.points.items buffer.contour_ranges.items ≡ joined list
+  pub slices : slices buffer.points.items buffer.contour_ranges.items ≡ concatenated list
   pub shapes : shapes_in buffer ≡ list
 
 -- the two buffers have the same points and the same ranges
@@ -59,7 +59,7 @@ pub record SameShapeLists {T : Type 0} (old new : FlatShapesBuffer T) : Type 0 w
 
 -- the new buffer is the old one with one shape more at the end
 pub record AddsShape {T : Type 0} (old new : FlatShapesBuffer T) (shape : List (List (IntPoint T))) : Type 0 where
-  pub points : new.points.items ≡ old.points.items ++ joined shape
+  pub points : new.points.items ≡ old.points.items ++ concatenated shape
   pub contour_ranges : new.contour_ranges.items ≡ old.contour_ranges.items ++ end_to_end (length old.points.items) shape
   pub shape_ranges : new.shape_ranges.items ≡ old.shape_ranges.items ++ record { start = length old.contour_ranges.items; end = length old.contour_ranges.items + length shape } ∷ []
   -- where the shapes could be read, they can be read still, with this one at the end
@@ -86,6 +86,6 @@ named_shapes value buffer = map (contours_of value) (shapes_in buffer)
 abbrev pub named_points : List (Range ℕ) → List (Range ℕ) → ℕ
 named_points contour_ranges shape_ranges = sum_by (λ range. sum_by range_len (part_of contour_ranges range)) shape_ranges
 
--- and how many contours
+-- how many contours the shapes have together, each as often as it is named
 abbrev pub named_contours : List (Range ℕ) → List (Range ℕ) → ℕ
 named_contours contour_ranges shape_ranges = sum_by (λ range. length (part_of contour_ranges range)) shape_ranges

@@ -1,6 +1,11 @@
 -- One form for all polygons whose contours lead to one another, and for all lists of such polygons. `Form` relates a contour to its form, and to none where it collapses.
 use Rattle.std.specs.Prelude.{◌≡◌, ℤ, List, Option, Some, None, IsPermutation, ◌⊎◌, ◌↔◌, nat_abs, [], ◌∷◌, IfSome}
+use Rattle.std.specs.Global.{Vec}
+use Rattle.std.specs.Int.{Width}
 use Rattle.std.specs.List.{AllZip, AllPairs, sum_by}
+use Rattle.i_shape_core.specs.IntPoint.{answered}
+use Rattle.i_shape_core.specs.declared.point.IntPoint.{IntPoint}
+use Rattle.i_shape_source.specs.ShapeLists.{shape_of, shapes_of, IsSafeShape, IsSafeList}
 use Rattle.i_shape.specs.ShapeAnswers.{Survivors, inside_count}
 use Rattle.i_shape_core.specs.Point.{Point}
 use Rattle.i_shape_core.specs.Edges.{shoelace}
@@ -21,11 +26,11 @@ Stays Collapses x None = Collapses x
 Stays Collapses x (Some y) = (Collapses x → ⊥) × (y ≡ x)
 
 -- the members of xs that don't collapse are matched one to one with those of ys that don't
-pub record MatchedStanding {X : Type 0} (Collapses : X → Type 0) (R : X → X → Type 0) (xs ys : List X) : Type 0 where
+pub record MatchedUncollapsed {X : Type 0} (Collapses : X → Type 0) (R : X → X → Type 0) (xs ys : List X) : Type 0 where
   pub left : List X
   pub right : List X
-  pub stand_left : Survivors (Stays Collapses) xs left
-  pub stand_right : Survivors (Stays Collapses) ys right
+  pub uncollapsed_left : Survivors (Stays Collapses) xs left
+  pub uncollapsed_right : Survivors (Stays Collapses) ys right
   pub matched : Matched R left right
 
 -- the answers at the members that have one, in order by AtMost
@@ -59,11 +64,11 @@ abbrev pub SameShape : (List Point → List Point → Type 0) → List (List Poi
 SameShape Same [] [] = Unit {0}
 SameShape Same [] (d ∷ t) = ⊥
 SameShape Same (c ∷ s) [] = ⊥
-SameShape Same (c ∷ s) (d ∷ t) = Same c d × MatchedStanding EachEndCollapses Same s t
+SameShape Same (c ∷ s) (d ∷ t) = Same c d × MatchedUncollapsed EachEndCollapses Same s t
 
--- so are the shapes of two lists whose outer contours don't collapse, one to one
+-- the shapes of two lists whose outer contours don't collapse are the same, one to one
 abbrev pub SameList : (List Point → List Point → Type 0) → List (List (List Point)) → List (List (List Point)) → Type 0
-SameList Same s t = MatchedStanding OuterCollapses (SameShape Same) s t
+SameList Same s t = MatchedUncollapsed OuterCollapses (SameShape Same) s t
 
 -- the contours that are left have the same double areas together, each without its sign; each point is inside of as many of them, and they have the same winding numbers about it together, each without its sign, also where all contours are scaled by any n
 pub record AreKeptEitherWay (contours left : List (List Point)) : Type 0 where
@@ -77,6 +82,25 @@ pub record FormsKept (Form : List Point → Option (List Point) → Type 0) (Kep
   pub forms : List (List (List Point))
   pub each : Survivors (λ shape r. ShapeForm Form shape r × IfSome r (Kept shape)) shapes forms
   pub same : IsPermutation forms sorted
+
+-- r is the form of a shape, of which it keeps this
+pub record IsFormOfShape (Form : List Point → Option (List Point) → Type 0) (Kept : List (List Point) → List (List Point) → Type 0) (width : Width) (shape : List (List Point)) (r : Option (List (List Point))) : Type 0 where
+  pub answer : ShapeForm Form shape r
+  pub kept : IfSome r (Kept shape)
+  pub safe : IfSome r (IsSafeShape width)
+
+-- the same of a list of shapes
+pub record IsFormOfList (Form : List Point → Option (List Point) → Type 0) (Kept : List (List Point) → List (List Point) → Type 0) (width : Width) (shapes sorted : List (List (List Point))) : Type 0 where
+  pub answer : ListForm Form shapes sorted
+  pub kept : FormsKept Form Kept shapes sorted
+  pub safe : IsSafeList width sorted
+
+-- the same of answers in points of the program, where `value` is what coordinates stand for
+abbrev pub FormsShapeTo : {I : Type 0} → (List Point → Option (List Point) → Type 0) → (List (List Point) → List (List Point) → Type 0) → Width → (I → ℤ) → List (List Point) → Option (Vec (Vec (IntPoint I))) → Type 0
+FormsShapeTo Form Kept width value shape r = IsFormOfShape Form Kept width shape (answered (shape_of value) r)
+
+abbrev pub FormsListTo : {I : Type 0} → (List Point → Option (List Point) → Type 0) → (List (List Point) → List (List Point) → Type 0) → Width → (I → ℤ) → List (List (List Point)) → Vec (Vec (Vec (IntPoint I))) → Type 0
+FormsListTo Form Kept width value shapes r = IsFormOfList Form Kept width shapes (shapes_of value r.items)
 
 -- where two shapes have forms, these are one exactly where the shapes are the same
 abbrev pub OneShapeForm : (List Point → Option (List Point) → Type 0) → (List Point → List Point → Type 0) → List (List Point) → List (List Point) → Type 0

@@ -5,7 +5,7 @@ use Rattle.std.specs.declared.ops.Range.{Range}
 use Rattle.i_shape.specs.Flat.{slices, InOrder, IsReadableShape, shapes, end_to_end}
 use Rattle.i_shape.specs.declared.flat.float.contours.FloatFlatContoursBuffer.{FloatFlatContoursBuffer}
 use Rattle.i_shape.specs.declared.flat.float.shapes.FloatFlatShapesBuffer.{FloatFlatShapesBuffer}
-use Rattle.i_shape_source.specs.Paths.{joined}
+use Rattle.i_shape_source.specs.Paths.{concatenated}
 
 -- whether the range lies in a list of n members, and does not run backwards
 abbrev pub is_readable : ℕ → Range ℕ → Bool
@@ -28,7 +28,7 @@ pub record HasShapeLists {P : Type 0} (buffer : FloatFlatShapesBuffer P) (held :
 
 -- the points are the paths end to end, and one range names each path
 pub record LieEndToEnd {P : Type 0} (held : List P) (named : List (Range ℕ)) (paths : List (List P)) : Type 0 where
-  pub points : held ≡ joined paths
+  pub points : held ≡ concatenated paths
   pub ranges : named ≡ end_to_end 0 paths
   pub readable : All (InOrder (length held)) named
   pub slices : slices held named ≡ paths

@@ -15,32 +15,32 @@ Leaves {Y} Answer old new = (answer : Option (List Y)) × Answer old answer × (
 pub record CleansInPlace {X : Type 0} (Passes : X → Type 0) (Cleans : X → X → Type 0) (old new : X) (r : Result Bool ShapeError) : Type 0 where
   -- where it passes nothing changes, and no memory is taken
   pub passes : Passes old → (r ≡ Ok false) × (new ≡ old)
-  -- it answers so only there
+  -- it answers that nothing changed only where the value passes
   pub clean : r ≡ Ok false → Passes old
   -- whichever it answers, the cleaned value is left
   pub left : OnOk r (Cleans old new)
   -- after a refusal it is as it was, and only memory is refused
   pub refused : (e : ShapeError) → r ≡ Err e → (e ≡ OutOfMemory) × (new ≡ old)
 
--- the same of a contour, which keeps its double area and the points inside, whatever the call answered
+-- a contour is cleaned in place; it keeps its double area and the points inside, whatever the call answered
 pub record CleansContour (Passes : List Point → Type 0) (Answer : List Point → Option (List Point) → Type 0) (old new : List Point) (r : Result Bool ShapeError) : Type 0 where
   pub cleans : CleansInPlace Passes (Leaves Answer) old new r
   pub kept : IsKept old new
-  -- of fewer than three points none is left, and no memory is taken
+  -- a contour of fewer than three points is left empty, and no memory is taken
   pub short : length old < 3 → (r ≡ Ok true) × (new ≡ [])
 
--- the same where spikes are removed
+-- spikes of a contour are removed in place
 pub record DespikesContour (old new : List Point) (r : Result Bool ShapeError) : Type 0 where
   pub contour : CleansContour NoSpikes DespikeAnswer old new r
   -- a second call finds the contour clean exactly where it isn't empty
   pub again : (b : Bool) → r ≡ Ok b → NoSpikes new ↔ (0 < length new)
 
--- the same of a shape, where a contour is left
+-- a shape is cleaned in place; it keeps its double area and the points inside where a contour is left
 pub record CleansShape (Passes : List Point → Type 0) (Answer : List Point → Option (List Point) → Type 0) (old new : List (List Point)) (r : Result Bool ShapeError) : Type 0 where
   pub cleans : CleansInPlace (EachContour Passes) (Leaves (ShapeClean Answer)) old new r
   pub kept : 0 < length new → AreKept old new
 
--- and of a list, shape by shape
+-- a list is cleaned in place, shape by shape
 pub record CleansList (Passes : List Point → Type 0) (Answer : List Point → Option (List Point) → Type 0) (old new : List (List (List Point))) (r : Result Bool ShapeError) : Type 0 where
   pub cleans : CleansInPlace (EachShape Passes) (ListClean Answer) old new r
   pub kept : OnOk r (ListKept Answer old new)

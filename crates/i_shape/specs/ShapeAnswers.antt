@@ -1,6 +1,11 @@
 -- What cleaning leaves of a shape and of a list of shapes, where `Answer` relates a contour to its cleaned one, and to none where it collapses.
 use Rattle.std.specs.Prelude.{◌≡◌, List, Option, ℕ, ◌<◌, ◌%◌, ℤ, [], ◌∷◌, length, map, Some, None, IfSome}
+use Rattle.std.specs.Global.{Vec}
+use Rattle.std.specs.Int.{Width}
 use Rattle.std.specs.List.{count_by, sum_by, All}
+use Rattle.i_shape_core.specs.IntPoint.{answered}
+use Rattle.i_shape_core.specs.declared.point.IntPoint.{IntPoint}
+use Rattle.i_shape_source.specs.ShapeLists.{shape_of, shapes_of, IsSafeShape, IsSafeList}
 use Rattle.i_shape_core.specs.Point.{Point}
 use Rattle.i_shape_core.specs.Edges.{edges, is_right, shoelace}
 use Rattle.i_shape_core.specs.Moves.{moved, scaling}
@@ -12,7 +17,7 @@ pub use Rattle.i_shape_core.specs.Survivors.{Survivors}
 abbrev pub shape_shoelace : List (List Point) → ℤ
 shape_shoelace contours = sum_of shoelace contours
 
--- and twice the area of a list that of its shapes together
+-- twice the area of a list is that of its shapes together
 abbrev pub shapes_shoelace : List (List (List Point)) → ℤ
 shapes_shoelace shapes = sum_of shape_shoelace shapes
 
@@ -46,10 +51,29 @@ pub record AreKept (contours left : List (List Point)) : Type 0 where
 pub record ListKept (Answer : List Point → Option (List Point) → Type 0) (shapes kept : List (List (List Point))) : Type 0 where
   pub each : Survivors (λ shape r. ShapeClean Answer shape r × IfSome r (AreKept shape)) shapes kept
 
+-- r is what cleaning leaves of a shape, where `Answer` is what the cleaner of its contours answers
+pub record IsCleanedShape (Answer : List Point → Option (List Point) → Type 0) (width : Width) (shape : List (List Point)) (r : Option (List (List Point))) : Type 0 where
+  pub answer : ShapeClean Answer shape r
+  pub kept : IfSome r (AreKept shape)
+  pub safe : IfSome r (IsSafeShape width)
+
+-- the same of a list of shapes
+pub record IsCleanedList (Answer : List Point → Option (List Point) → Type 0) (width : Width) (shapes left : List (List (List Point))) : Type 0 where
+  pub answer : ListClean Answer shapes left
+  pub kept : ListKept Answer shapes left
+  pub safe : IsSafeList width left
+
+-- the same of answers in points of the program, where `value` is what coordinates stand for
+abbrev pub CleansShapeTo : {I : Type 0} → (List Point → Option (List Point) → Type 0) → Width → (I → ℤ) → List (List Point) → Option (Vec (Vec (IntPoint I))) → Type 0
+CleansShapeTo Answer width value shape r = IsCleanedShape Answer width shape (answered (shape_of value) r)
+
+abbrev pub CleansListTo : {I : Type 0} → (List Point → Option (List Point) → Type 0) → Width → (I → ℤ) → List (List (List Point)) → Vec (Vec (Vec (IntPoint I))) → Type 0
+CleansListTo Answer width value shapes r = IsCleanedList Answer width shapes (shapes_of value r.items)
+
 -- each contour of the shape passes its test
 abbrev pub EachContour : (List Point → Type 0) → List (List Point) → Type 0
 EachContour Passes shape = All Passes shape
 
--- each contour of each shape does
+-- each contour of each shape passes its test
 abbrev pub EachShape : (List Point → Type 0) → List (List (List Point)) → Type 0
 EachShape Passes shapes = All (EachContour Passes) shapes

@@ -1,19 +1,20 @@
 -- Contours in one array of points, parted by offsets.
 use Rattle.std.proofs.Common.{◌≡◌, ℕ, ◌+◌, ◌-◌, ◌≤◌, ◌<◌, max, suc, zero, List, map, length, take, drop, set, slice_range, ap, sym, subst, ◌∙◌, arith, Option, ◌⊎◌, inl, inr, eq-or-lt_of_le, subst₂}
 use Rattle.std.specs.Int.{Width}
+use Rattle.std.specs.List.{All}
 use Rattle.std.specs.Prelude.{Result, Ok, Err, OnErr, OnOk}
 use Rattle.std.proofs.lemmas.List.{take-take, drop-take, drop-drop, get_or-set_same, get_or-set_other}
 use Rattle.std.proofs.lemmas.Bool.{cases_lt}
 use Rattle.std.proofs.lemmas.List.Elements.{All-take, All-drop}
 use Rattle.i_shape.specs.Point.{Point}
 use Rattle.i_shape.specs.IntPoint.{IsSafe}
-use Rattle.i_shape.specs.Written.{IsCleaned}
+use Rattle.i_shape.specs.Written.{slot, IsCleaned}
 use Rattle.i_shape_c.specs.Cleaned.{AreSafe}
-use Rattle.i_shape_c.specs.Batch.{offset, ring, InOrder, IsLongest, AreSafeContours, IsCleanedBatch}
+use Rattle.i_shape_c.specs.Batch.{offset, nth_contour, AreRising, IsLongest, AreSafeContours, IsCleanedBatch}
 
 -- what stands behind a place is the same further on too
-pub further : {X : Type 0} (xs ys : List X) (n m : ℕ) → n ≤ m → drop n xs ≡ drop n ys → drop m xs ≡ drop m ys
-further xs ys n m less same =
+pub same_further : {X : Type 0} (xs ys : List X) (n m : ℕ) → n ≤ m → drop n xs ≡ drop n ys → drop m xs ≡ drop m ys
+same_further xs ys n m less same =
     let split : n + (m - n) ≡ m = omega (arith, less) in
     subst (λ k. drop k xs ≡ drop k ys) split (sym (drop-drop (m - n) n xs) ∙ ap (drop (m - n)) same ∙ drop-drop (m - n) n ys)
 
@@ -36,7 +37,7 @@ same_part : {X : Type 0} (xs ys : List X) (n a b : ℕ) → a ≤ b → b ≤ n 
 same_part xs ys n a b some within same = same_part_at xs ys n a (b - a) (omega (arith, some, within)) same
 
 -- offsets in order
-ordered_by : (offsets : List ℕ) (n a d : ℕ) → InOrder offsets n → a + d < n → offset offsets a ≤ offset offsets (a + d)
+ordered_by : (offsets : List ℕ) (n a d : ℕ) → AreRising offsets n → a + d < n → offset offsets a ≤ offset offsets (a + d)
 ordered_by offsets n a zero order within =
     let same : a ≡ a + 0 = omega arith in
     subst (λ k. offset offsets a ≤ offset offsets k) same (omega arith)
@@ -46,8 +47,9 @@ ordered_by offsets n a (suc d) order within =
     let same : a + d + 1 ≡ a + suc d = omega arith in
     subst (λ k. offset offsets a ≤ offset offsets k) same (omega (arith, before, here))
 
-pub ordered : (offsets : List ℕ) (n a b : ℕ) → InOrder offsets n → a ≤ b → b < n → offset offsets a ≤ offset offsets b
-ordered offsets n a b order some within =
+-- an offset is at most each later one
+pub rises_to : (offsets : List ℕ) (n a b : ℕ) → AreRising offsets n → a ≤ b → b < n → offset offsets a ≤ offset offsets b
+rises_to offsets n a b order some within =
     let same : a + (b - a) ≡ b = omega (arith, some) in
     subst (λ k. offset offsets a ≤ offset offsets k) same (ordered_by offsets n a (b - a) order (omega (arith, within, same)))
 
@@ -56,8 +58,9 @@ module _ (offsets : List ℕ) (place most more : ℕ) (some : 0 < place) (order 
   there : offset offsets (place - 1 + 1) ≡ offset offsets place
   there = let same : place - 1 + 1 ≡ place = omega (arith, some) in ap (offset offsets) same
 
-  pub longer : IsLongest offsets (place + 1) more
-  longer = record { most = λ k less. all k (eq-or-lt_of_le (let low : k + 1 ≤ place = omega (arith, less) in low)); reached = go (cases_lt most (offset offsets place - offset offsets (place - 1))) before.reached }
+  -- the longest of the contours up to this one is the longer of it and the longest before
+  pub longest_more : IsLongest offsets (place + 1) more
+  longest_more = record { most = λ k less. all k (eq-or-lt_of_le (let low : k + 1 ≤ place = omega (arith, less) in low)); reached = go (cases_lt most (offset offsets place - offset offsets (place - 1))) before.reached }
     where
       all : (k : ℕ) → (k + 1 ≡ place) ⊎ (k + 1 < place) → offset offsets (k + 1) ≤ offset offsets k + more
       all k (inl last) =
@@ -80,27 +83,32 @@ inner_part xs a b c d ab bc cd =
     let behind : drop b xs ≡ drop (b - a) (drop a xs) = subst (λ k. drop k xs ≡ drop (b - a) (drop a xs)) up (sym (drop-drop (b - a) a xs)) in
     ap (take (c - b)) behind ∙ sym (drop-take (b - a) (c - b) (drop a xs)) ∙ ap (drop (b - a)) (sym (take-take ((b - a) + (c - b)) (d - a) (drop a xs) fit)) ∙ drop-take (b - a) (c - b) (take (d - a) (drop a xs))
 
--- where all the points are safe, those of each contour are
-pub safe_part : {P : Type 0} (width : Width) (point : P → Point) (points : List P) (offsets : List ℕ) (a b : ℕ) → InOrder offsets (length offsets) → a ≤ b → b < length offsets
-    → AreSafeContours width point points offsets → AreSafe width point (slice_range points (offset offsets a) (offset offsets b))
-safe_part {P} width point points offsets a b order less within safe =
-    let low = ordered offsets (length offsets) 0 a order (omega arith) (omega (arith, less, within)) in
-    let mid = ordered offsets (length offsets) a b order less within in
-    let high = ordered offsets (length offsets) b (length offsets - 1) order (omega (arith, within)) (omega (arith, within)) in
-    let Q : P → Type 0 = λ p. IsSafe width (point p) in
+-- what holds of all the points holds of those of each contour
+pub all_part : {P : Type 0} (Q : P → Type 0) (points : List P) (offsets : List ℕ) (a b : ℕ) → AreRising offsets (length offsets) → a ≤ b → b < length offsets
+    → All Q (slice_range points (offset offsets 0) (offset offsets (length offsets - 1))) → All Q (slice_range points (offset offsets a) (offset offsets b))
+all_part Q points offsets a b order less within all =
+    let low = rises_to offsets (length offsets) 0 a order (omega arith) (omega (arith, less, within)) in
+    let mid = rises_to offsets (length offsets) a b order less within in
+    let high = rises_to offsets (length offsets) b (length offsets - 1) order (omega (arith, within)) (omega (arith, within)) in
     rw (inner_part points (offset offsets 0) (offset offsets a) (offset offsets b) (offset offsets (length offsets - 1)) low mid high)
-    (All-take Q _ _ (All-drop Q _ _ safe))
+    (All-take Q _ _ (All-drop Q _ _ all))
+
+-- where all the points are safe, those of each contour are
+pub safe_part : {P : Type 0} (width : Width) (point : P → Point) (points : List P) (offsets : List ℕ) (a b : ℕ) → AreRising offsets (length offsets) → a ≤ b → b < length offsets
+    → AreSafeContours width point points offsets → AreSafe width point (slice_range points (offset offsets a) (offset offsets b))
+safe_part width point points offsets a b order less within safe = all_part (λ p. IsSafe width (point p)) points offsets a b order less within safe
 
 module _ {P : Type 0} (Answer Kept : List Point → Option (List Point) → Type 0) (width : Width) (point : P → Point) where
   -- the contours before a place are done
   pub record Done (points : List P) (offsets : List ℕ) (out_points : List P) (out_offsets : List ℕ) (place written : ℕ) : Type 0 where
     pub some : 0 < place
     pub first : offset out_offsets 0 ≡ 0
-    pub order : InOrder out_offsets place
+    pub order : AreRising out_offsets place
     pub last : offset out_offsets (place - 1) ≡ written
     pub fewer : written ≤ offset offsets (place - 1)
-    pub cleaned : (k : ℕ) → k + 1 < place → IsCleaned Answer Kept width (map point (ring points offsets k)) (map point (ring out_points out_offsets k))
+    pub cleaned : (k : ℕ) → k + 1 < place → IsCleaned Answer Kept width (map point (nth_contour points offsets k)) (slot (map point (nth_contour out_points out_offsets k)))
 
+  -- before the first contour is cleaned none is done
   pub nothing_done : (points : List P) (offsets : List ℕ) (out_points : List P) (out_offsets : List ℕ)
       → offset out_offsets 0 ≡ 0 → Done points offsets out_points out_offsets 1 0
   nothing_done points offsets out_points out_offsets first = record {
@@ -115,7 +123,7 @@ module _ {P : Type 0} (Answer Kept : List Point → Option (List Point) → Type
   module _ (points : List P) (offsets : List ℕ) (old new : List P) (parts : List ℕ) (place written end : ℕ)
       (done : Done points offsets old parts place written) (room : place < length parts) (above : written ≤ end) (under : end ≤ offset offsets place)
       (same : take written new ≡ take written old)
-      (answer : IsCleaned Answer Kept width (map point (slice_range points (offset offsets (place - 1)) (offset offsets place))) (map point (slice_range new written end))) where
+      (answer : IsCleaned Answer Kept width (map point (slice_range points (offset offsets (place - 1)) (offset offsets place))) (slot (map point (slice_range new written end)))) where
     abbrev grown : List ℕ
     grown = set parts place end
 
@@ -134,23 +142,24 @@ module _ {P : Type 0} (Answer Kept : List Point → Option (List Point) → Type
     order_at k (inr less) = rw (kept_at k (omega (arith, less)), kept_at (k + 1) less) (done.order k less)
     order_at k (inl is) = omega (arith, (at_place k is).0, (at_place k is).1, above)
 
-    cleaned_at : (k : ℕ) → (k + 1 ≡ place) ⊎ (k + 1 < place) → IsCleaned Answer Kept width (map point (ring points offsets k)) (map point (ring new grown k))
+    cleaned_at : (k : ℕ) → (k + 1 ≡ place) ⊎ (k + 1 < place) → IsCleaned Answer Kept width (map point (nth_contour points offsets k)) (slot (map point (nth_contour new grown k)))
     cleaned_at k (inr less) =
         let low = kept_at k (omega (arith, less)) in
         let high = kept_at (k + 1) less in
-        let up : offset parts (k + 1) ≤ written = subst (λ n. offset parts (k + 1) ≤ n) done.last (ordered parts place (k + 1) (place - 1) done.order (omega (arith, less)) (omega (arith, less))) in
+        let up : offset parts (k + 1) ≤ written = subst (λ n. offset parts (k + 1) ≤ n) done.last (rises_to parts place (k + 1) (place - 1) done.order (omega (arith, less)) (omega (arith, less))) in
         let part = same_part new old written (offset parts k) (offset parts (k + 1)) (done.order k less) up same in
         rw (low, high, part) (done.cleaned k less)
     cleaned_at k (inl is) =
         let here : place - 1 ≡ k = omega (arith, is) in
         let part : List P = slice_range new written end in
-        let low = subst (λ m. IsCleaned Answer Kept width (map point (slice_range points (offset offsets m) (offset offsets place))) (map point part)) here answer in
-        let both = subst (λ m. IsCleaned Answer Kept width (map point (slice_range points (offset offsets k) (offset offsets m))) (map point part)) (sym is) low in
+        let low = subst (λ m. IsCleaned Answer Kept width (map point (slice_range points (offset offsets m) (offset offsets place))) (slot (map point part))) here answer in
+        let both = subst (λ m. IsCleaned Answer Kept width (map point (slice_range points (offset offsets k) (offset offsets m))) (slot (map point part))) (sym is) low in
         rw ((at_place k is).0, (at_place k is).1) both
 
     split : (k : ℕ) → k + 1 < place + 1 → (k + 1 ≡ place) ⊎ (k + 1 < place)
     split k less = eq-or-lt_of_le (let most : k + 1 ≤ place = omega (arith, less) in most)
 
+    -- once this contour is cleaned and its offset written, the contours up to it are done
     pub done_more : Done points offsets new grown (place + 1) end
     done_more = record {
       some = omega arith;

@@ -10,12 +10,12 @@ use Rattle.i_shape_c.specs.Cleaned.{AreSafe}
 
 module _ {P I : Type 0} (width : Width) (value : I → ℤ) (to : P → IntPoint I) where
   -- points that were copied in are the same points
-  pub copied : (given : List P) (copy : List (IntPoint I)) → copy ≡ map to given → contour_of value copy ≡ map (λ p. point_of value (to p)) given
-  copied given copy is = ap (contour_of value) is ∙ map-map (point_of value) to given
+  pub copied_points : (given : List P) (copy : List (IntPoint I)) → copy ≡ map to given → contour_of value copy ≡ map (λ p. point_of value (to p)) given
+  copied_points given copy is = ap (contour_of value) is ∙ map-map (point_of value) to given
 
   -- and as safe
   pub safe_contour : (given : List P) (copy : List (IntPoint I)) → copy ≡ map to given → AreSafe width (λ p. point_of value (to p)) given → All (IsSafe width) (contour_of value copy)
-  safe_contour given copy is safe = rw (copied given copy is) (All-map (IsSafe width) (λ p. point_of value (to p)) given safe)
+  safe_contour given copy is safe = rw (copied_points given copy is) (All-map (IsSafe width) (λ p. point_of value (to p)) given safe)
 
 -- points that were copied out are the same points
 pub same_points : {P I : Type 0} (value : I → ℤ) (to : P → IntPoint I) (of : IntPoint I → P) → ((p : IntPoint I) → to (of p) ≡ p) → (kept : List (IntPoint I)) → map (λ p. point_of value (to p)) (map of kept) ≡ contour_of value kept

@@ -5,3 +5,4 @@ pub mod Areas
 pub mod PolygonLists
 pub mod Counts
 pub mod Windings
+pub mod Told

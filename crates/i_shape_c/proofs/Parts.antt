@@ -18,9 +18,11 @@ module _ {X : Type 0} (old new part : List X) (n : ℕ) (within : n ≤ length o
   front : length (take n old) ≡ n
   front = length-take-le n old within
 
+  -- what lies before the part stayed
   pub pasted_before : take n new ≡ take n old
   pasted_before = ap (take n) whole ∙ subst (λ m. take m (take n old ++ (part ++ rest)) ≡ take n old) front (take-append_seam (take n old) (part ++ rest))
 
+  -- the part stands where it was written
   pub pasted_part : slice_range new n (n + length part) ≡ part
   pasted_part =
       let count : n + length part - n ≡ length part = omega arith in
@@ -28,10 +30,10 @@ module _ {X : Type 0} (old new part : List X) (n : ℕ) (within : n ≤ length o
       rw (count, behind) (take-append_seam part rest)
 
 -- all of a list was written from a place on, where its items are first made into others
-pub finished : {A X : Type 0} (f : A → X) (items : List A) (old new : List X) (at place : ℕ) → at + length items ≤ length old → length items ≤ place → place ≤ length items
+pub all_written : {A X : Type 0} (f : A → X) (items : List A) (old new : List X) (at place : ℕ) → at + length items ≤ length old → length items ≤ place → place ≤ length items
     → take (at + place) new ≡ take at old ++ map f (take place items)
     → (take at new ≡ take at old) × (slice_range new at (at + length items) ≡ map f items)
-finished f items old new at place room least most front =
+all_written f items old new at place room least most front =
     let same : length items ≡ place = omega (arith, least, most) in
     let count : length (map f items) ≡ length items = length-map items f in
     let all = take_all place items least in

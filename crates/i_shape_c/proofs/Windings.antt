@@ -2,7 +2,7 @@
 use Rattle.std.proofs.Common.{◌≡◌, ℕ, zero, suc, ◌+◌, ◌^◌, ◌<◌, FitsSigned, w64, ℤ, ◌+ℤ◌, ap, ◌∙◌, arith}
 use Rattle.std.specs.List.{range_with_len}
 use Rattle.std.proofs.lemmas.Int.{ints}
-use Rattle.i_shape_core.proofs.Products.{reach-fits}
+use Rattle.i_shape_core.proofs.arithmetic.Products.{reach-fits}
 use Rattle.i_shape_c.specs.Windings.{no_winding}
 use Rattle.i_shape.specs.Edges.{sum_of}
 use Rattle.i_shape.specs.Winding.{IsWithinHalf}
@@ -17,6 +17,7 @@ sum_more f a (suc n) =
     grouped : (x y z : ℤ) → x +ℤ (y +ℤ z) ≡ x +ℤ y +ℤ z
     grouped x y z = omega (arith, ints)
 
+-- a sum over one place more has one more term
 pub one_more : (f : ℕ → ℤ) (n : ℕ) → sum_of f (range_with_len 0 (suc n)) ≡ sum_of f (range_with_len 0 n) +ℤ f n
 one_more f n = sum_more f 0 n ∙ ap (λ (k : ℕ). sum_of f (range_with_len 0 n) +ℤ f k) (let same : 0 + n ≡ n = omega arith in same)
 

@@ -1,21 +1,21 @@
 -- Many contours in one array of points, parted by offsets.
-use Rattle.std.specs.Prelude.{◌≡◌, ℕ, ℤ, ◌+◌, ◌-◌, ◌<◌, ◌≤◌, ◌⊎◌, pos, negsuc, zero, suc, List, map, length, drop, get_or, slice_range, Option}
+use Rattle.std.specs.Prelude.{◌≡◌, ◌↔◌, ℕ, ℤ, ◌+◌, ◌-◌, ◌<◌, ◌≤◌, ◌⊎◌, pos, negsuc, zero, suc, List, map, length, drop, get_or, slice_range, Option}
 use Rattle.std.specs.Int.{Width}
 use Rattle.i_shape.specs.Point.{Point}
-use Rattle.i_shape.specs.Written.{IsCleaned}
-use Rattle.i_shape_c.specs.Cleaned.{AreSafe, TakesNoMemory}
+use Rattle.i_shape.specs.Written.{slot, IsCleaned}
+use Rattle.i_shape_c.specs.Cleaned.{AreSafe, TakesNoMemory, unfit_code, unsafe_code, no_memory_code}
 
 -- the offset at a place
 abbrev pub offset : List ℕ → ℕ → ℕ
 offset offsets k = get_or offsets k 0
 
 -- the points of contour k
-abbrev pub ring : {P : Type 0} → List P → List ℕ → ℕ → List P
-ring points offsets k = slice_range points (offset offsets k) (offset offsets (k + 1))
+abbrev pub nth_contour : {P : Type 0} → List P → List ℕ → ℕ → List P
+nth_contour points offsets k = slice_range points (offset offsets k) (offset offsets (k + 1))
 
 -- none of the first n offsets is less than the one before it
-abbrev pub InOrder : List ℕ → ℕ → Type 0
-InOrder offsets n = (k : ℕ) → k + 1 < n → offset offsets k ≤ offset offsets (k + 1)
+abbrev pub AreRising : List ℕ → ℕ → Type 0
+AreRising offsets n = (k : ℕ) → k + 1 < n → offset offsets k ≤ offset offsets (k + 1)
 
 -- the longest of the contours between the first n offsets has m points, and m is 0 where there is none
 pub record IsLongest (offsets : List ℕ) (n m : ℕ) : Type 0 where
@@ -25,7 +25,7 @@ pub record IsLongest (offsets : List ℕ) (n m : ℕ) : Type 0 where
 -- the offsets part so many points, and there is room for an answer
 pub record CanClean (points : ℕ) (offsets : List ℕ) (out_points out_offsets : ℕ) : Type 0 where
   pub some : 0 < length offsets
-  pub order : InOrder offsets (length offsets)
+  pub order : AreRising offsets (length offsets)
   pub last : offset offsets (length offsets - 1) ≤ points
   pub room : points ≤ out_points
   pub offsets_room : length offsets ≤ out_offsets
@@ -36,17 +36,17 @@ AreSafeContours width point points offsets = AreSafe width point (slice_range po
 
 -- each contour is clean, or has fewer than three points
 abbrev pub NoneTakesMemory : {P : Type 0} → (List Point → Type 0) → (P → Point) → List P → List ℕ → Type 0
-NoneTakesMemory Clean point points offsets = (k : ℕ) → k + 1 < length offsets → TakesNoMemory Clean point (ring points offsets k)
+NoneTakesMemory Clean point points offsets = (k : ℕ) → k + 1 < length offsets → TakesNoMemory Clean point (nth_contour points offsets k)
 
 -- each contour that the new offsets part is what the cleaner makes of the given one at the same place, empty where that collapses; there
 -- are n points in all, and what stands behind them and behind the offsets is as it was
 pub record IsCleanedBatch {P : Type 0} (Answer Kept : List Point → Option (List Point) → Type 0) (width : Width) (point : P → Point) (points : List P) (offsets : List ℕ)
     (old_points new_points : List P) (old_offsets new_offsets : List ℕ) (n : ℕ) : Type 0 where
   pub first : offset new_offsets 0 ≡ 0
-  pub order : InOrder new_offsets (length offsets)
+  pub order : AreRising new_offsets (length offsets)
   pub last : offset new_offsets (length offsets - 1) ≡ n
   pub fewer : n ≤ length points
-  pub cleaned : (k : ℕ) → k + 1 < length offsets → IsCleaned Answer Kept width (map point (ring points offsets k)) (map point (ring new_points new_offsets k))
+  pub cleaned : (k : ℕ) → k + 1 < length offsets → IsCleaned Answer Kept width (map point (nth_contour points offsets k)) (slot (map point (nth_contour new_points new_offsets k)))
   pub rest : drop n new_points ≡ drop n old_points
   pub offsets_rest : drop (length offsets) new_offsets ≡ drop (length offsets) old_offsets
 
@@ -69,3 +69,11 @@ BatchAnswer Answer Kept width point points offsets old_points new_points old_off
 BatchAnswer Answer Kept width point points offsets old_points new_points old_offsets new_offsets (negsuc (suc (suc zero))) =
     IsWithin (length points) (length offsets) old_points new_points old_offsets new_offsets
 BatchAnswer Answer Kept width point points offsets old_points new_points old_offsets new_offsets (negsuc (suc (suc (suc n)))) = ⊥
+
+-- what a call that cleans many contours answers and leaves, and exactly when it answers with a code; it tells of refused memory only where it takes some
+pub record CleansContours {P : Type 0} (Clean : List Point → Type 0) (Answer Kept : List Point → Option (List Point) → Type 0) (width : Width) (point : P → Point) (points : List P) (offsets : List ℕ)
+    (old_points new_points : List P) (old_offsets new_offsets : List ℕ) (result : ℤ) : Type 0 where
+  pub answer : BatchAnswer Answer Kept width point points offsets old_points new_points old_offsets new_offsets result
+  pub unfit : result ≡ unfit_code ↔ (CanClean (length points) offsets (length old_points) (length old_offsets) → ⊥)
+  pub unsafe_points : result ≡ unsafe_code ↔ (CanClean (length points) offsets (length old_points) (length old_offsets) × (AreSafeContours width point points offsets → ⊥))
+  pub memory : result ≡ no_memory_code → NoneTakesMemory Clean point points offsets → ⊥

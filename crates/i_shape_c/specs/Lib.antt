@@ -5,3 +5,4 @@ pub mod Polygons
 pub mod Tests
 pub mod Areas
 pub mod Windings
+pub mod Measures

@@ -1,13 +1,15 @@
 -- Polygons in three arrays: points, offsets that part these into contours, and offsets that part the contours into polygons.
-use Rattle.std.specs.Prelude.{◌≡◌, ℕ, ℤ, ◌+◌, ◌-◌, ◌<◌, ◌≤◌, ◌++◌, pos, negsuc, List, [], ◌∷◌, map, length, take, drop}
+use Rattle.std.specs.Prelude.{◌≡◌, ◌↔◌, ℕ, ℤ, ◌+◌, ◌-◌, ◌<◌, ◌≤◌, ◌++◌, pos, negsuc, List, [], ◌∷◌, map, length, take, drop}
 use Rattle.std.specs.List.{range_with_len}
 use Rattle.i_shape.specs.Point.{Point}
-use Rattle.i_shape.specs.Paths.{joined}
-use Rattle.i_shape_c.specs.Batch.{ring, CanClean}
+use Rattle.i_shape.specs.Paths.{concatenated}
+use Rattle.i_shape_c.specs.Batch.{nth_contour, CanClean, AreSafeContours}
+use Rattle.i_shape_c.specs.Cleaned.{unfit_code, unsafe_code, no_memory_code}
+use Rattle.std.specs.Int.{Width}
 
 -- the parts of a list between one offset and the next
 abbrev pub parts : {P : Type 0} → List P → List ℕ → List (List P)
-parts list offsets = map (ring list offsets) (range_with_len 0 (length offsets - 1))
+parts list offsets = map (nth_contour list offsets) (range_with_len 0 (length offsets - 1))
 
 -- the contours of each polygon
 abbrev pub polygons : {P : Type 0} → List P → List ℕ → List ℕ → List (List (List P))
@@ -26,8 +28,8 @@ pub record CanCleanShapes (points : ℕ) (contours shapes : List ℕ) (out_point
 -- there are no more polygons, contours and points than there were
 pub record AreFewer (given left : List (List (List Point))) : Type 0 where
   pub shapes : length left ≤ length given
-  pub contours : length (joined left) ≤ length (joined given)
-  pub points : length (joined (joined left)) ≤ length (joined (joined given))
+  pub contours : length (concatenated left) ≤ length (concatenated given)
+  pub points : length (concatenated (concatenated left)) ≤ length (concatenated (concatenated given))
 
 -- the new arrays hold what is left of the polygons, which are n then, from the start on, and behind it what they held; there are no more
 -- points, contours and polygons than were given
@@ -35,12 +37,12 @@ pub record AreShapesLeft {P : Type 0} (Gives : List (List (List Point)) → List
   pub list : List (List (List Point))
   pub left : Gives (polygons (map point points) contours shapes) list
   pub count : length list ≡ n
-  pub fewer_points : length (joined (joined list)) ≤ length points
-  pub fewer_contours : length (joined list) < length contours
+  pub fewer_points : length (concatenated (concatenated list)) ≤ length points
+  pub fewer_contours : length (concatenated list) < length contours
   pub fewer_shapes : n < length shapes
-  pub written : map point (take (length (joined (joined list))) new_points) ≡ joined (joined list)
-  pub rest : drop (length (joined (joined list))) new_points ≡ drop (length (joined (joined list))) old_points
-  pub contours_are : new_contours ≡ offsets_of 0 (joined list) ++ drop (length (joined list) + 1) old_contours
+  pub written : map point (take (length (concatenated (concatenated list))) new_points) ≡ concatenated (concatenated list)
+  pub rest : drop (length (concatenated (concatenated list))) new_points ≡ drop (length (concatenated (concatenated list))) old_points
+  pub contours_are : new_contours ≡ offsets_of 0 (concatenated list) ++ drop (length (concatenated list) + 1) old_contours
   pub shapes_are : new_shapes ≡ offsets_of 0 list ++ drop (length list + 1) old_shapes
 
 -- the number of polygons that are left, or one of three codes, and nothing is written
@@ -49,3 +51,11 @@ ShapesAnswer Gives point points contours shapes old_points new_points old_contou
     AreShapesLeft Gives point points contours shapes old_points new_points old_contours new_contours old_shapes new_shapes n
 ShapesAnswer Gives point points contours shapes old_points new_points old_contours new_contours old_shapes new_shapes (negsuc n) =
     (n < 3) × (new_points ≡ old_points) × (new_contours ≡ old_contours) × (new_shapes ≡ old_shapes)
+
+-- what a call that cleans polygons answers and leaves, and exactly when it answers with a code; it tells of refused memory only where there is a polygon
+pub record CleansPolygons {P : Type 0} (Gives : List (List (List Point)) → List (List (List Point)) → Type 0) (width : Width) (point : P → Point) (points : List P) (contours shapes : List ℕ)
+    (old_points new_points : List P) (old_contours new_contours old_shapes new_shapes : List ℕ) (result : ℤ) : Type 0 where
+  pub answer : ShapesAnswer Gives point points contours shapes old_points new_points old_contours new_contours old_shapes new_shapes result
+  pub unfit : result ≡ unfit_code ↔ (CanCleanShapes (length points) contours shapes (length old_points) (length old_contours) (length old_shapes) → ⊥)
+  pub unsafe_points : result ≡ unsafe_code ↔ (CanCleanShapes (length points) contours shapes (length old_points) (length old_contours) (length old_shapes) × (AreSafeContours width point points contours → ⊥))
+  pub memory : result ≡ no_memory_code → 1 < length shapes

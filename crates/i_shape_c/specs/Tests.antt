@@ -8,7 +8,7 @@ IsTold Holds (pos (suc zero)) = Holds
 IsTold Holds (pos (suc (suc n))) = ⊥
 IsTold Holds (negsuc n) = ⊥
 
--- the same, or the code of points that aren't safe
+-- 1 where the test holds, 0 where it doesn't, or the code of points that aren't safe
 abbrev pub TestAnswer : Type 0 → ℤ → Type 0
 TestAnswer Holds (pos n) = IsTold Holds (pos n)
 TestAnswer Holds (negsuc zero) = Unit {0}

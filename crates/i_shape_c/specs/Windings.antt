@@ -4,7 +4,7 @@ use Rattle.std.specs.List.{range_with_len}
 use Rattle.i_shape.specs.Point.{Point}
 use Rattle.i_shape.specs.Edges.{sum_of}
 use Rattle.i_shape.specs.Winding.{winding}
-use Rattle.i_shape_c.specs.Batch.{ring, CanClean}
+use Rattle.i_shape_c.specs.Batch.{nth_contour, CanClean}
 
 -- the code of a winding number about a point that isn't safe: the least number of 64 bits, which no winding number is
 abbrev pub no_winding : ℤ
@@ -16,11 +16,11 @@ pub record CanWind (points : ℕ) (offsets : List ℕ) (about out : ℕ) : Type 
   pub room : about ≤ out
 
 -- how often the contours that the offsets part wind about p together
-abbrev pub rings_winding : {P : Type 0} → (P → Point) → List P → List ℕ → Point → ℤ
-rings_winding point points offsets p = sum_of (λ k. winding (map point (ring points offsets k)) p) (range_with_len 0 (length offsets - 1))
+abbrev pub contours_winding : {P : Type 0} → (P → Point) → List P → List ℕ → Point → ℤ
+contours_winding point points offsets p = sum_of (λ k. winding (map point (nth_contour points offsets k)) p) (range_with_len 0 (length offsets - 1))
 
 -- 0, and a number for each of the points, or one of two codes, and nothing is written
 abbrev pub WindingsAnswer : {P : Type 0} → (P → Point) → List P → List ℕ → List P → List ℤ → List ℤ → ℤ → Type 0
-WindingsAnswer point points offsets about old new (pos zero) = new ≡ map (λ q. rings_winding point points offsets (point q)) about ++ drop (length about) old
+WindingsAnswer point points offsets about old new (pos zero) = new ≡ map (λ q. contours_winding point points offsets (point q)) about ++ drop (length about) old
 WindingsAnswer point points offsets about old new (pos (suc n)) = ⊥
 WindingsAnswer point points offsets about old new (negsuc n) = (n < 2) × (new ≡ old)

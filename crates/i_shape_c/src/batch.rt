@@ -1,9 +1,8 @@
 //! The cleaning of many contours, which lie end to end in one array and are parted by offsets.
 
-ghost use Rattle.std.specs.Prelude.{◌≡◌, ◌↔◌, ℕ, ◌+◌, ◌^◌, ◌<◌, ◌≤◌, length, slice_range, IsTrue, IfOk, OnErr};
+ghost use Rattle.std.specs.Prelude.{◌≡◌, ◌↔◌, ◌+◌, ◌^◌, ◌<◌, ◌≤◌, length, slice_range, IsTrue, IfOk, OnErr};
 ghost use Rattle.i_shape.specs.IntPoint.{point_of};
-ghost use Rattle.i_shape_c.specs.Cleaned.{unsafe_code, unfit_code, no_memory_code};
-ghost use Rattle.i_shape_c.specs.Batch.{InOrder, IsLongest, CanClean, AreSafeContours, NoneTakesMemory, IsCleanedBatch, IsWithin, BatchAnswer};
+ghost use Rattle.i_shape_c.specs.Batch.{AreRising, IsLongest, CanClean, AreSafeContours, NoneTakesMemory, IsCleanedBatch, IsWithin, CleansContours};
 
 use crate::codes::{NO_MEMORY, UNFIT, UNSAFE};
 use crate::contour::clean_into;
@@ -23,10 +22,9 @@ pub fn clean_contours<P: CPoint, C: ContourCleaner>(
     out_offsets: &mut [usize],
 ) -> isize
     requires { length out_points.old < 2 ^ 63 }
-    ensures answer { BatchAnswer C.answers C.keeps P.Coordinate.width (λ p. point_of P.Coordinate.value (P.point p)) points.now offsets.now out_points.old out_points.new out_offsets.old out_offsets.new result }
-    ensures unfit { result ≡ unfit_code ↔ (CanClean (length points.now) offsets.now (length out_points.old) (length out_offsets.old) → ⊥) }
-    ensures unsafe_points { result ≡ unsafe_code ↔ (CanClean (length points.now) offsets.now (length out_points.old) (length out_offsets.old) × (AreSafeContours P.Coordinate.width (λ p. point_of P.Coordinate.value (P.point p)) points.now offsets.now → ⊥)) }
-    ensures memory { result ≡ no_memory_code → NoneTakesMemory C.clean (λ p. point_of P.Coordinate.value (P.point p)) points.now offsets.now → ⊥ }
+    ensures { CleansContours C.clean C.answers C.keeps P.Coordinate.width
+        (λ p. point_of P.Coordinate.value (P.point p)) points.now offsets.now
+        out_points.old out_points.new out_offsets.old out_offsets.new result }
 {
     if !can_clean(points.len(), offsets, out_points.len(), out_offsets.len()) {
         return UNFIT;
@@ -83,7 +81,7 @@ fn clean_all<P: CPoint, C: ContourCleaner>(
 /// How many points the longest contour has, 0 where there is no contour.
 fn longest(offsets: &[usize]) -> usize
     requires some { 0 < length offsets.now }
-    requires order { InOrder offsets.now (length offsets.now) }
+    requires order { AreRising offsets.now (length offsets.now) }
     ensures { IsLongest offsets.now (length offsets.now) result }
 {
     let mut most: usize = 0;

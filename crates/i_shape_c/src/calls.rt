@@ -3,3 +3,4 @@
 mod i16;
 mod i32;
 mod i64;
+mod measures;

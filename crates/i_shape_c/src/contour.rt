@@ -2,8 +2,8 @@
 
 ghost use Rattle.std.specs.Prelude.{◌≡◌, ◌↔◌, ◌+◌, ◌^◌, ◌<◌, ◌≤◌, length, map, take, drop, slice_range, IfOk, OnErr};
 ghost use Rattle.i_shape.specs.IntPoint.{point_of};
-ghost use Rattle.i_shape.specs.Written.{IsCleaned};
-ghost use Rattle.i_shape_c.specs.Cleaned.{AreSafe, CleanAnswer, TakesNoMemory, unsafe_code, unfit_code, no_memory_code};
+ghost use Rattle.i_shape.specs.Written.{IsCleaned, slot};
+ghost use Rattle.i_shape_c.specs.Cleaned.{AreSafe, TakesNoMemory, CleansContour};
 
 use crate::codes::{NO_MEMORY, UNFIT, UNSAFE};
 use crate::lists::are_safe;
@@ -19,10 +19,8 @@ pub fn clean_contour<P: CPoint, C: ContourCleaner>(
     out: &mut [P],
 ) -> isize
     requires { length out.old < 2 ^ 63 }
-    ensures answer { CleanAnswer C.answers C.keeps P.Coordinate.width (λ p. point_of P.Coordinate.value (P.point p)) points.now out.old out.new result }
-    ensures unfit { result ≡ unfit_code ↔ (length out.old < length points.now) }
-    ensures unsafe_points { result ≡ unsafe_code ↔ ((length points.now ≤ length out.old) × (AreSafe P.Coordinate.width (λ p. point_of P.Coordinate.value (P.point p)) points.now → ⊥)) }
-    ensures memory { result ≡ no_memory_code → TakesNoMemory C.clean (λ p. point_of P.Coordinate.value (P.point p)) points.now → ⊥ }
+    ensures { CleansContour C.clean C.answers C.keeps (C.picks P) P.Coordinate.width
+        (λ p. point_of P.Coordinate.value (P.point p)) points.now out.old out.new result }
 {
     if out.len() < points.len() {
         return UNFIT;
@@ -47,7 +45,8 @@ pub fn clean_into<P: CPoint, C: ContourCleaner>(
     requires points_safe { AreSafe P.Coordinate.width (λ p. point_of P.Coordinate.value (P.point p)) given.now }
     requires room { at + length given.now ≤ length out.old }
     ensures end { IfOk result (λ end. (at ≤ end) × (end ≤ at + length given.now)) }
-    ensures cleaned { IfOk result (λ end. IsCleaned C.answers C.keeps P.Coordinate.width (map (λ p. point_of P.Coordinate.value (P.point p)) given.now) (map (λ p. point_of P.Coordinate.value (P.point p)) (slice_range out.new at end))) }
+    ensures cleaned { IfOk result (λ end. IsCleaned C.answers C.keeps P.Coordinate.width (map (λ p. point_of P.Coordinate.value (P.point p)) given.now) (slot (map (λ p. point_of P.Coordinate.value (P.point p)) (slice_range out.new at end)))) }
+    ensures picked { IfOk result (λ end. C.picks P given.now (slice_range out.new at end)) }
     ensures before { take at out.new ≡ take at out.old }
     ensures after { IfOk result (λ end. drop end out.new ≡ drop end out.old) }
     ensures len { length out.new ≡ length out.old }

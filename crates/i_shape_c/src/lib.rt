@@ -9,6 +9,7 @@ mod cleaner;
 mod codes;
 mod contour;
 mod lists;
+mod measures;
 mod point;
 mod polygons;
 mod tests;

@@ -1,15 +1,14 @@
 //! The cleaning of polygons, which lie in three arrays: points, offsets that part these into contours, and offsets that part the contours
 //! into polygons.
 
-ghost use Rattle.std.specs.Prelude.{◌≡◌, ◌↔◌, ◌+◌, ◌-◌, ◌^◌, ◌<◌, ◌≤◌, ◌∷◌, ◌++◌, List, length, map, drop, slice_range, IfOk, OnOk, IsTrue};
+ghost use Rattle.std.specs.Prelude.{◌≡◌, ◌↔◌, ◌+◌, ◌-◌, ◌^◌, ◌<◌, ◌≤◌, ◌∷◌, ◌++◌, List, length, map, drop, slice_range, IfOk, OnOk, OnErr, IsTrue};
 ghost use Rattle.std.specs.List.{range_with_len};
 ghost use Rattle.i_shape.specs.IntPoint.{point_of, contour_of};
 ghost use Rattle.i_shape.specs.IntPoints.{IntPoint};
 ghost use Rattle.i_shape.specs.Buffers.{HoldsShapes};
 ghost use Rattle.i_shape.specs.AppendedAnswers.{Grows};
-ghost use Rattle.i_shape_c.specs.Cleaned.{unsafe_code, unfit_code};
-ghost use Rattle.i_shape_c.specs.Batch.{ring, CanClean, AreSafeContours};
-ghost use Rattle.i_shape_c.specs.Polygons.{polygons, CanCleanShapes, ShapesAnswer};
+ghost use Rattle.i_shape_c.specs.Batch.{nth_contour, CanClean, AreSafeContours};
+ghost use Rattle.i_shape_c.specs.Polygons.{polygons, CanCleanShapes, CleansPolygons};
 
 use crate::batch::{can_clean, part};
 use crate::cleaner::ShapesCleaner;
@@ -33,9 +32,9 @@ pub fn clean_shapes<P: CPoint, S: ShapesCleaner<P::Coordinate>>(
     out_shapes: &mut [usize],
 ) -> isize
     requires { length out_shapes.old < 2 ^ 63 }
-    ensures answer { ShapesAnswer S.gives (λ p. point_of P.Coordinate.value (P.point p)) points.now contours.now shapes.now out_points.old out_points.new out_contours.old out_contours.new out_shapes.old out_shapes.new result }
-    ensures unfit { result ≡ unfit_code ↔ (CanCleanShapes (length points.now) contours.now shapes.now (length out_points.old) (length out_contours.old) (length out_shapes.old) → ⊥) }
-    ensures unsafe_points { result ≡ unsafe_code ↔ (CanCleanShapes (length points.now) contours.now shapes.now (length out_points.old) (length out_contours.old) (length out_shapes.old) × (AreSafeContours P.Coordinate.width (λ p. point_of P.Coordinate.value (P.point p)) points.now contours.now → ⊥)) }
+    ensures { CleansPolygons S.gives P.Coordinate.width (λ p. point_of P.Coordinate.value (P.point p))
+        points.now contours.now shapes.now out_points.old out_points.new
+        out_contours.old out_contours.new out_shapes.old out_shapes.new result }
 {
     if !can_clean_shapes(
         points.len(),
@@ -74,7 +73,7 @@ fn can_clean_shapes(
         && can_clean(contours.len() - 1, shapes, contours.len() - 1, out_shapes)
 }
 
-/// What is left of the polygons, end to end.
+/// What is left of the polygons, end to end. Of no polygon nothing is, and no memory is taken.
 fn shapes_left<P: CPoint, S: ShapesCleaner<P::Coordinate>>(
     alloc: Global,
     points: &[P],
@@ -86,7 +85,11 @@ fn shapes_left<P: CPoint, S: ShapesCleaner<P::Coordinate>>(
     requires points_safe { AreSafeContours P.Coordinate.width (λ p. point_of P.Coordinate.value (P.point p)) points.now contours.now }
     ensures left { IfOk result (λ buffer. (list : List (List (List (IntPoint P.Coordinate)))) × HoldsShapes buffer list × S.gives (polygons (map (λ p. point_of P.Coordinate.value (P.point p)) points.now) contours.now shapes.now) (map (map (contour_of P.Coordinate.value)) list)) }
     ensures fewer { IfOk result (λ buffer. (length buffer.points.items ≤ length points.now) × (length buffer.contour_ranges.items < length contours.now) × (length buffer.shape_ranges.items < length shapes.now)) }
+    ensures memory { OnErr result (1 < length shapes.now) }
 {
+    if shapes.len() == 1 {
+        return Ok(FlatShapesBuffer::new(alloc));
+    }
     let mut buffer = polygons_of(alloc, points, contours, shapes)?;
     S::clean(&mut buffer)?;
     Ok(buffer)
@@ -137,7 +140,7 @@ fn append_contours<P: CPoint>(
     requires contours_part { CanClean (length points.now) contours.now (length points.now) (length contours.now) }
     requires order { from ≤ to }
     requires within { to < length contours.now }
-    ensures { OnOk result (Grows list.old.items list.new.items ranges.old.items ranges.new.items (map (ring (map P.point points.now) contours.now) (range_with_len from (to - from)))) }
+    ensures { OnOk result (Grows list.old.items list.new.items ranges.old.items ranges.new.items (map (nth_contour (map P.point points.now) contours.now) (range_with_len from (to - from)))) }
 {
     for place in from..to {
         let start = list.len();

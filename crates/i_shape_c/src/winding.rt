@@ -1,11 +1,11 @@
 //! Winding numbers of contours about points, at any width. They take no memory.
 
-ghost use Rattle.std.specs.Prelude.{◌≡◌, ◌↔◌, ◌≤◌, length, map, IsTrue};
+ghost use Rattle.std.specs.Prelude.{◌≡◌, ◌↔◌, ◌≤◌, length, map};
 ghost use Rattle.i_shape.specs.IntPoint.{point_of, IsSafe};
 ghost use Rattle.i_shape.specs.Winding.{winding};
 ghost use Rattle.i_shape_c.specs.Cleaned.{AreSafe, unsafe_code, unfit_code};
 ghost use Rattle.i_shape_c.specs.Batch.{CanClean, AreSafeContours};
-ghost use Rattle.i_shape_c.specs.Windings.{no_winding, CanWind, rings_winding, WindingsAnswer};
+ghost use Rattle.i_shape_c.specs.Windings.{no_winding, CanWind, contours_winding, WindingsAnswer};
 
 use crate::batch::{can_clean, part};
 use crate::codes::{NO_WINDING, UNFIT_TEST, UNSAFE_TEST};
@@ -53,7 +53,7 @@ fn wind_all<P: CPoint>(points: &[P], offsets: &[usize], point: IntPoint<P::Coord
     requires can { CanClean (length points.now) offsets.now (length points.now) (length offsets.now) }
     requires points_safe { AreSafeContours P.Coordinate.width (λ p. point_of P.Coordinate.value (P.point p)) points.now offsets.now }
     requires point_safe { IsSafe P.Coordinate.width (point_of P.Coordinate.value point) }
-    ensures { result ≡ rings_winding (λ p. point_of P.Coordinate.value (P.point p)) points.now offsets.now (point_of P.Coordinate.value point) }
+    ensures { result ≡ contours_winding (λ p. point_of P.Coordinate.value (P.point p)) points.now offsets.now (point_of P.Coordinate.value point) }
 {
     let mut sum: isize = 0;
     for place in 1..offsets.len() {

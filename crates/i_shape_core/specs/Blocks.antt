@@ -4,16 +4,6 @@ use Rattle.i_shape_core.specs.Point.{Point, vector, cross_of, dot_of}
 use Rattle.i_shape_core.specs.Convex.{is_same}
 use Rattle.i_shape_core.specs.Edges.{is_right}
 
--- after the edge e that leads to p, some turn of the way over p and the points is a zero turn
-abbrev pub Flat : Point → Point → List Point → Type 0
-Flat e p [] = ⊥
-Flat e p (q ∷ qs) = (cross_of e (vector p q) ≡ pos 0) ⊎ Flat (vector p q) q qs
-
--- the last edge of that way
-abbrev pub last_edge : Point → Point → List Point → Point
-last_edge e p [] = e
-last_edge e p (q ∷ qs) = last_edge (vector p q) q qs
-
 -- from p, to which the edge e leads, the way goes back to q
 abbrev pub Reverses : Point → Point → Point → Type 0
 Reverses e p q = (cross_of e (vector p q) ≡ pos 0) × (dot_of e (vector p q) <ℤ pos 0)

@@ -46,6 +46,7 @@ pub record IsVisited (n fewest visits : ℕ) : Type 0 where
   pub least : fewest ≤ visits
   pub most : visits ≤ 3 * n
 
+-- how many vertices a cleaner visits, by whether it answers a contour or that it collapses
 abbrev pub VisitsAnswer : List Point → Option (List Point) → ℕ → Type 0
 VisitsAnswer c None visits = IsVisited (length c) (length c - 2) visits
 VisitsAnswer c (Some e) visits = IsVisited (length c) (length c) visits
@@ -55,7 +56,7 @@ pub record IsDespiked (c d : List Point) : Type 0 where
   pub ended : End IsBack c d
   pub enough : 3 ≤ length d
   pub spikeless : NoSpikes d
-  pub stands : (e : List Point) → End IsZeroTurn c e → 3 ≤ length e
+  pub uncollapsed : (e : List Point) → End IsZeroTurn c e → 3 ≤ length e
   pub ends : (e f : List Point) → End IsZeroTurn c e → End IsZeroTurn d f → Rotation e f
 
 -- despiking leaves the contour as it is

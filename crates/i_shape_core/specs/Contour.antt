@@ -1,5 +1,5 @@
 -- A contour is a list of points read as a cycle. What can be left of it when points that pass a test are removed one by one.
-use Rattle.std.specs.Prelude.{◌≡◌, ℕ, ◌+◌, ◌-◌, ◌%◌, ◌<◌, ◌≤◌, List, ◌++◌, length, get_or, ◌⊎◌, [], ◌∷◌}
+use Rattle.std.specs.Prelude.{◌≡◌, ℕ, ◌+◌, ◌-◌, ◌%◌, ◌<◌, ◌≤◌, List, ◌++◌, length, get_or, reverse, ◌⊎◌, [], ◌∷◌}
 use Rattle.std.specs.List.{remove}
 use Rattle.i_shape_core.specs.Point.{Point, origin, IsZeroTurn}
 
@@ -7,10 +7,11 @@ use Rattle.i_shape_core.specs.Point.{Point, origin, IsZeroTurn}
 abbrev pub point_at : List Point → ℕ → Point
 point_at c k = get_or c k origin
 
--- the neighbours of place k on a cycle of n places
+-- the place before place k on a cycle of n places
 abbrev pub place_before : ℕ → ℕ → ℕ
 place_before n k = (k + (n - 1)) % n
 
+-- the place after place k on a cycle of n places
 abbrev pub place_after : ℕ → ℕ → ℕ
 place_after n k = (k + 1) % n
 
@@ -44,17 +45,17 @@ pub record End (P : Test) (c e : List Point) : Type 0 where
 abbrev pub IsCollapsed : List Point → Type 0
 IsCollapsed c = length c < 3
 
--- the same cycle, from another start
-pub record Rotation (c d : List Point) : Type 0 where
-  pub front : List Point
-  pub back : List Point
+-- d is the same cycle as c, from another start
+pub record Rotation {A : Type 0} (c d : List A) : Type 0 where
+  pub front : List A
+  pub back : List A
   pub before : c ≡ front ++ back
   pub after : d ≡ back ++ front
 
 -- both have collapsed, or neither has and they are the same cycle
 pub data SameEnd (e f : List Point) : Type 0 where
   collapsed : IsCollapsed e → IsCollapsed f → SameEnd e f
-  turned : 3 ≤ length e → 3 ≤ length f → Rotation e f → SameEnd e f
+  rotated : 3 ≤ length e → 3 ≤ length f → Rotation e f → SameEnd e f
 
 -- at least three points, and none of them a zero turn
 pub record IsSimple (c : List Point) : Type 0 where
@@ -65,3 +66,11 @@ pub record IsSimple (c : List Point) : Type 0 where
 abbrev pub Sublist : {A : Type 0} → List A → List A → Type 0
 Sublist {A} [] d = d ≡ []
 Sublist {A} (a ∷ c) d = Sublist c d ⊎ ((e : List A) × (d ≡ a ∷ e) × Sublist c e)
+
+-- d is a rotation of a sublist of c
+abbrev pub RotatedSublist : {A : Type 0} → List A → List A → Type 0
+RotatedSublist {A} c d = (s : List A) × Sublist c s × Rotation s d
+
+-- the same, or of a sublist read backwards
+abbrev pub SublistEitherWay : {A : Type 0} → List A → List A → Type 0
+SublistEitherWay {A} c d = (s : List A) × Sublist c s × (Rotation s d ⊎ Rotation (reverse s) d)

@@ -4,6 +4,7 @@ use Rattle.std.specs.Ordering.{int_eq}
 use Rattle.i_shape_core.specs.Point.{Point, origin, cross, dot}
 use Rattle.i_shape_core.specs.Contour.{point_at, place_before, place_after}
 
+-- whether two points are one
 unfoldable pub is_same : Point → Point → Bool
 is_same a b = int_eq a.x b.x && int_eq a.y b.y
 
@@ -22,28 +23,30 @@ unfoldable pub dedup : List Point → List Point
 dedup c = changes_after (last_of origin c) c
 
 -- how far the contour turns to the left at place k
-unfoldable pub turn_at : List Point → ℕ → ℤ
-turn_at c k = cross (point_at c (place_before (length c) k)) (point_at c k) (point_at c (place_after (length c) k))
+unfoldable pub cross_at : List Point → ℕ → ℤ
+cross_at c k = cross (point_at c (place_before (length c) k)) (point_at c k) (point_at c (place_after (length c) k))
 
 -- at place k the contour goes back the way it came
 pub record IsReversal (c : List Point) (k : ℕ) : Type 0 where
   pub within : k < length c
-  pub no_turn : turn_at c k ≡ pos 0
+  pub straight : cross_at c k ≡ pos 0
   pub back : dot (point_at c (place_before (length c) k)) (point_at c k) (point_at c (place_after (length c) k)) <ℤ pos 0
 
+-- without its repeated points the contour has at least three, and goes back the way it came at none of them
 pub record NoSpikes (c : List Point) : Type 0 where
   pub enough : 3 ≤ length (dedup c)
   pub none : (k : ℕ) → IsReversal (dedup c) k → ⊥
 
--- it does not turn to the left at one place and to the right at another
-pub record TurnsOneWay (c : List Point) : Type 0 where
-  pub one_way : (j k : ℕ) → j < length c → k < length c → pos 0 <ℤ turn_at c j → turn_at c k <ℤ pos 0 → ⊥
+-- the contour does not turn to the left at one place and to the right at another
+pub record BendsOneWay (c : List Point) : Type 0 where
+  pub one_way : (j k : ℕ) → j < length c → k < length c → pos 0 <ℤ cross_at c j → cross_at c k <ℤ pos 0 → ⊥
 
--- without reversals and turning one way
+-- the contour turns one way, and nowhere goes back the way it came
 pub record Bulges (c : List Point) : Type 0 where
   pub none : (k : ℕ) → IsReversal c k → ⊥
-  pub turns : TurnsOneWay c
+  pub bends : BendsOneWay c
 
+-- the contour has at most two different neighbours, or else turns one way and never goes back
 abbrev pub Convex : List Point → Type 0
 Convex c = (length (dedup c) ≤ 2) ⊎ Bulges (dedup c)
 

@@ -3,6 +3,7 @@ use Rattle.std.specs.Prelude.{◌≡◌, ◌%◌, ℤ, pos, ◌+ℤ◌, ◌-ℤ�
 use Rattle.std.specs.List.{count_by}
 use Rattle.i_shape_core.specs.Point.{Point, cross}
 
+-- a segment from one point to another
 pub record Edge : Type 0 where
   pub start : Point
   pub end : Point

@@ -2,6 +2,7 @@
 use Rattle.std.specs.Prelude.{ℤ, List, map, Option, option_map}
 use Rattle.std.specs.Global.{Vec}
 use Rattle.std.specs.Int.{Width}
+use Rattle.std.specs.List.{All}
 use Rattle.i_shape_core.specs.Point.{Point}
 pub use Rattle.i_shape_core.specs.SafeCoordinates.{IsSafeCoordinate}
 use Rattle.i_shape_core.specs.declared.point.IntPoint.{IntPoint}
@@ -21,3 +22,7 @@ answered read answer = option_map (λ kept. read kept.items) answer
 -- both coordinates of the point are safe
 abbrev pub IsSafe : Width → Point → Type 0
 IsSafe width p = IsSafeCoordinate width p.x × IsSafeCoordinate width p.y
+
+-- each point of the contour is safe
+abbrev pub IsSafeContour : Width → List Point → Type 0
+IsSafeContour width c = All (IsSafe width) c

@@ -12,11 +12,11 @@ use Rattle.i_shape_core.specs.Winding.{winding}
 abbrev pub OneEnd : List Point → Type 0
 OneEnd c = (e f : List Point) → End IsZeroTurn c e → End IsZeroTurn c f → SameEnd e f
 
--- so are an end of c and one of a rotation of c
+-- an end of c and one of a rotation of c are one cycle, or both have collapsed
 abbrev pub RotatedEnds : List Point → List Point → Type 0
 RotatedEnds c d = Rotation c d → (e f : List Point) → End IsZeroTurn c e → End IsZeroTurn d f → SameEnd e f
 
--- and an end of c, read backwards, and one of c read backwards
+-- an end of c, read backwards, and one of c read backwards are one cycle, or both have collapsed
 abbrev pub ReversedEnds : List Point → Type 0
 ReversedEnds c = (e f : List Point) → End IsZeroTurn c e → End IsZeroTurn (reverse c) f → SameEnd (reverse e) f
 
@@ -62,7 +62,7 @@ pub record InsideKept (c d : List Point) : Type 0 where
 -- without spikes no end collapses, and each is convex where the contour is; rotation, reversal and a point repeated beside itself keep convexity
 pub record ConvexKept (c : List Point) : Type 0 where
   pub ends : NoSpikes c → (e : List Point) → End IsZeroTurn c e → (3 ≤ length e) × (Convex c ↔ Convex e)
-  pub turned : (d : List Point) → Rotation c d → Convex c ↔ Convex d
+  pub rotated : (d : List Point) → Rotation c d → Convex c ↔ Convex d
   pub backwards : Convex c ↔ Convex (reverse c)
   pub repeated : (u : List Point) (p : Point) (t : List Point) → c ≡ u ++ p ∷ t → Convex c ↔ Convex (u ++ p ∷ p ∷ t)
 
@@ -75,7 +75,7 @@ pub record MovedAlike (m : Move) (c : List Point) : Type 0 where
   pub answers : (r : Option (List Point)) → SimpleAnswer c r ↔ SimpleAnswer (moved m c) (option_map (moved m) r)
   pub despiked : (r : Option (List Point)) → DespikeAnswer c r ↔ DespikeAnswer (moved m c) (option_map (moved m) r)
 
--- a moved contour winds about the moved point as often as the contour about the point, and as often the other way where the move turns the plane over
+-- a moved contour winds about the moved point as often as the contour about the point, and as often the other way where the move mirrors the plane
 pub record WindingMoved (m : Move) (c : List Point) (p : Point) : Type 0 where
   pub kept : pos 0 <ℤ determinant m → winding (moved m c) (moved_point m p) ≡ winding c p
-  pub turned_over : determinant m <ℤ pos 0 → winding (moved m c) (moved_point m p) ≡ neg_ℤ (winding c p)
+  pub mirrored : determinant m <ℤ pos 0 → winding (moved m c) (moved_point m p) ≡ neg_ℤ (winding c p)

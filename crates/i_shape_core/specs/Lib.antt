@@ -19,3 +19,4 @@ pub mod Refusals
 pub mod Canonical
 pub mod Walks
 pub mod Blocks
+pub mod FourTurns

@@ -11,13 +11,15 @@ pub record Move : Type 0 where
   pub x : ℤ
   pub y : ℤ
 
--- how many times an area grows; 0 where the plane is moved into a line, and below 0 where it is turned over
+-- how many times an area grows; 0 where the plane is moved into a line, and below 0 where it is mirrored
 abbrev pub determinant : Move → ℤ
 determinant m = m.xx *ℤ m.yy -ℤ m.xy *ℤ m.yx
 
+-- the point that a move takes p to
 abbrev pub moved_point : Move → Point → Point
 moved_point m p = record { x = m.xx *ℤ p.x +ℤ m.xy *ℤ p.y +ℤ m.x; y = m.yx *ℤ p.x +ℤ m.yy *ℤ p.y +ℤ m.y }
 
+-- the contour that a move takes c to, point by point
 abbrev pub moved : Move → List Point → List Point
 moved m c = map (moved_point m) c
 

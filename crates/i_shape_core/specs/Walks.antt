@@ -2,8 +2,8 @@
 use Rattle.std.specs.Prelude.{ℕ, List, ◌-◌, ◌*◌, ◌≤◌, length, Option, Some, None, ◌≡◌, ◌+◌, ◌<◌, min, ◌++◌, map, drop, slice_index, suc, ◌⊎◌, take, cond, nat_lt, ◌<ℤ◌, ◌≤ℤ◌, pos, get_or}
 use Rattle.i_shape_core.specs.declared.point.IntPoint.{IntPoint}
 use Rattle.i_shape_core.specs.Point.{Point, cross, dot, origin}
-use Rattle.i_shape_core.specs.Contour.{Test, Reach, End, IsCollapsed, point_at, IsRemovable}
-use Rattle.std.specs.List.{All}
+use Rattle.i_shape_core.specs.Contour.{Test, Reach, End, IsCollapsed, point_at, IsRemovable, Sublist}
+use Rattle.std.specs.List.{All, range_with_len}
 use Rattle.i_shape_core.specs.declared.bend.Bend.{Bend}
 use Rattle.i_shape_core.specs.declared.bend.Bend.TheVariants.{Straight, Left, Right, Reversal}
 use Rattle.std.specs.Ordering.{MatchOrdering}
@@ -30,6 +30,7 @@ pub record Falls (P : Test) (c : List Point) (visits : ℕ) : Type 0 where
   pub least : length c - 2 ≤ visits
   pub most : visits ≤ 3 * length c
 
+-- what a walk answers, after so many visits: an end, or that it fell below three points
 abbrev pub WalkAnswer : Test → List Point → Option (List Point) → ℕ → Type 0
 WalkAnswer P c None visits = Falls P c visits
 WalkAnswer P c (Some e) visits = Finds P c e visits
@@ -52,13 +53,18 @@ stacked_point c stack k = point_at c (slice_index stack k)
 abbrev pub points_left : List Point → List ℕ → ℕ → List Point
 points_left c stack place = map (point_at c) stack ++ drop place c
 
--- these points are reached, and no point of the stack may be removed between its neighbours on the stack
+-- places below n that rise
+abbrev pub RisingPlaces : ℕ → List ℕ → Type 0
+RisingPlaces n places = Sublist (range_with_len 0 n) places
+
+-- the points left are reached, and no point of the stack may be removed between its neighbours on the stack
 pub record IsStacked (P : Point → Point → Point → Type 0) (c : List Point) (stack : List ℕ) (place : ℕ) : Type 0 where
   pub reached : Reach P c (points_left c stack place)
-  pub turning : (k : ℕ) → k + 2 < length stack → ¬ (P (stacked_point c stack k) (stacked_point c stack (k + 1)) (stacked_point c stack (k + 2)))
+  pub unremovable : (k : ℕ) → k + 2 < length stack → ¬ (P (stacked_point c stack k) (stacked_point c stack (k + 1)) (stacked_point c stack (k + 2)))
   pub within : All (λ k. k < length c) stack
+  pub rising : RisingPlaces place stack
 
--- the same, with bounds on the vertices visited so far
+-- the stack of a walk that has read the places before `place`, with bounds on the vertices visited so far
 pub record IsWalked (P : Point → Point → Point → Type 0) (c : List Point) (stack : List ℕ) (place visits : ℕ) : Type 0 where
   pub stacked : IsStacked P c stack place
   pub short : length stack ≤ place
@@ -70,8 +76,8 @@ abbrev pub IsSettled : (Point → Point → Point → Type 0) → List Point →
 IsSettled P c stack place = (j k : ℕ) → length stack ≡ k + 1 → k ≡ j + 1 → ¬ (P (stacked_point c stack j) (stacked_point c stack k) (point_at c place))
 
 -- a ring in the order of the contour: lead is how many of it stand ahead of the contour's first
-abbrev pub in_order : {X : Type 0} → List X → ℕ → List X
-in_order ring lead = drop lead ring ++ take lead ring
+abbrev pub from_contour_first : {X : Type 0} → List X → ℕ → List X
+from_contour_first ring lead = drop lead ring ++ take lead ring
 
 -- the ring, from the walk's place on, holds what is left of c; only the first `untested` of it may pass the test
 pub record IsRingWalk (P : Test) (c ring : List Point) (untested lead : ℕ) : Type 0 where
@@ -79,19 +85,20 @@ pub record IsRingWalk (P : Test) (c ring : List Point) (untested lead : ℕ) : T
   pub untested_within : untested ≤ length ring
   pub lead_above : 0 < lead
   pub lead_within : lead ≤ length ring
-  pub reached : Reach P c (in_order ring lead)
+  pub reached : Reach P c (from_contour_first ring lead)
   pub tested : (k : ℕ) → untested ≤ k → IsRemovable P ring k → ⊥
 
 -- a ring of places, from the walk's place on: how many of them, from the first on, are still to be tested, and how many stand ahead of the contour's first
-pub record Standing : Type 0 where
+pub record PlacedRing : Type 0 where
   pub places : List ℕ
   pub untested : ℕ
   pub lead : ℕ
 
--- the same ring by the places of its points, and how many vertices were visited
-pub record IsRingState (P : Test) (c : List Point) (ring : Standing) (visits : ℕ) : Type 0 where
+-- the ring of a walk by the places of its points, and how many vertices were visited
+pub record IsRingState (P : Test) (c : List Point) (ring : PlacedRing) (visits : ℕ) : Type 0 where
   pub walk : IsRingWalk P c (map (point_at c) ring.places) ring.untested ring.lead
   pub below : All (λ k. k < length c) ring.places
+  pub rising : RisingPlaces (length c) (from_contour_first ring.places ring.lead)
   pub at_most : visits + 2 * length ring.places + ring.untested ≤ 3 * length c
   pub tested_each : length c ≤ visits + ring.untested
   pub left_each : length c ≤ visits + length ring.places
@@ -167,8 +174,3 @@ pub record Precedes (c : List Point) (i j k : ℕ) : Type 0 where
 -- the points of c from place j on and before place k come after p
 abbrev pub AreAfter : List Point → Point → ℕ → ℕ → Type 0
 AreAfter c p j k = (s : ℕ) → j ≤ s → s < k → IsBefore p (point_at c s)
-
--- one list is the other, turned so that it starts at a place
-pub record IsTurned {A : Type 0} (before after : List A) : Type 0 where
-  pub place : ℕ
-  pub starts_there : after ≡ drop place before ++ take place before

@@ -35,6 +35,6 @@ abbrev pub IsOdd : ℤ → Type 0
 IsOdd z = unsigned_abs z % 2 ≡ 1
 
 -- a contour has the same winding numbers from whichever point it starts, and the opposite ones backwards
-pub record WindingTurned (c d : List Point) : Type 0 where
-  pub turned : Rotation c d → (p : Point) → winding c p ≡ winding d p
+pub record WindingRotated (c d : List Point) : Type 0 where
+  pub rotated : Rotation c d → (p : Point) → winding c p ≡ winding d p
   pub backwards : (p : Point) → winding (reverse c) p ≡ neg_ℤ (winding c p)

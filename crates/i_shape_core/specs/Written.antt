@@ -1,23 +1,53 @@
 -- What a cleaner writes into a list of a caller's.
-use Rattle.std.specs.Prelude.{ℕ, ◌≤◌, ◌≡◌, List, [], ◌∷◌, length, take, drop, Option, Some, None}
+use Rattle.std.specs.Prelude.{ℕ, ℤ, ◌<◌, ◌≤◌, ◌≡◌, List, [], ◌∷◌, length, take, drop, Option, Some, None, Result, Ok, IfSome, IfOk, OnErr, IsOkUnless}
+use Rattle.std.specs.Global.{Vec}
 use Rattle.std.specs.Int.{Width}
-use Rattle.std.specs.List.{All}
 use Rattle.i_shape_core.specs.Point.{Point}
-use Rattle.i_shape_core.specs.IntPoint.{IsSafe}
+use Rattle.i_shape_core.specs.IntPoint.{IsSafeContour, contour_of, answered}
+use Rattle.i_shape_core.specs.Contour.{Sublist}
+use Rattle.i_shape_core.specs.Cleaners.{KeptAnswer}
+use Rattle.i_shape_core.specs.declared.point.IntPoint.{IntPoint}
+use Rattle.i_shape_core.specs.declared.error.ShapeError.{ShapeError}
+use Rattle.i_shape_core.specs.declared.error.ShapeError.TheVariants.{OutOfMemory}
 
 -- a list of points stands for an answer, and one without points for none
 abbrev pub slot : List Point → Option (List Point)
 slot [] = None
 slot (p ∷ ps) = Some (p ∷ ps)
 
--- s is what a cleaner makes of c, where `Answer` is what that cleaner answers, and `Kept` what its answers keep
-pub record IsCleaned (Answer Kept : List Point → Option (List Point) → Type 0) (width : Width) (c s : List Point) : Type 0 where
-  pub answer : Answer c (slot s)
-  pub kept : Kept c (slot s)
-  pub safe : All (IsSafe width) s
+-- r is what a cleaner makes of the contour c, where `Answer` is what that cleaner answers, and `Kept` what its answers keep
+pub record IsCleaned (Answer Kept : List Point → Option (List Point) → Type 0) (width : Width) (c : List Point) (r : Option (List Point)) : Type 0 where
+  pub answer : Answer c r
+  pub kept : Kept c r
+  pub safe : IfSome r (IsSafeContour width)
 
--- the first n points of `new` are what the cleaner makes of the given ones, where `read` gives the points that a list stands for; the rest is as in `old`
-pub record IsWritten {P : Type 0} (Answer Kept : List Point → Option (List Point) → Type 0) (width : Width) (read : List P → List Point) (given old new : List P) (n : ℕ) : Type 0 where
+-- the same of a cleaner that leaves points in their order
+pub record IsCleanedInOrder (Answer : List Point → Option (List Point) → Type 0) (width : Width) (c : List Point) (r : Option (List Point)) : Type 0 where
+  pub cleaned : IsCleaned Answer KeptAnswer width c r
+  pub in_order : IfSome r (Sublist c)
+
+-- the same of an answer in points of the program, where `value` is what coordinates stand for
+abbrev pub CleansTo : {I : Type 0} → (List Point → Option (List Point) → Type 0) → (List Point → Option (List Point) → Type 0) → Width → (I → ℤ) → List Point → Option (Vec (IntPoint I)) → Type 0
+CleansTo Answer Kept width value c r = IsCleaned Answer Kept width c (answered (contour_of value) r)
+
+abbrev pub CleansInOrder : {I : Type 0} → (List Point → Option (List Point) → Type 0) → Width → (I → ℤ) → List Point → Option (Vec (IntPoint I)) → Type 0
+CleansInOrder Answer width value c r = IsCleanedInOrder Answer width c (answered (contour_of value) r)
+
+-- the first n points of `new` are what the cleaner makes of the given ones, where `read` gives the points that a list stands for, and are the
+-- caller's own, as `Picks` says which, and in which order; the rest is as in `old`
+pub record IsWritten {P : Type 0} (Answer Kept : List Point → Option (List Point) → Type 0) (Picks : List P → List P → Type 0) (width : Width) (read : List P → List Point) (given old new : List P) (n : ℕ) : Type 0 where
   pub fewer : n ≤ length given
-  pub cleaned : IsCleaned Answer Kept width (read given) (read (take n new))
+  pub picked : Picks given (take n new)
+  pub cleaned : IsCleaned Answer Kept width (read given) (slot (read (take n new)))
   pub rest : drop n new ≡ drop n old
+
+-- what a call that writes a cleaned contour to the front of a list of a caller's answers, and what it leaves
+pub record CleansInto {P : Type 0} (Clean : List Point → Type 0) (Answer Kept : List Point → Option (List Point) → Type 0) (Picks : List P → List P → Type 0) (width : Width) (read : List P → List Point) (given old new : List P) (result : Result ℕ ShapeError) : Type 0 where
+  pub written : IfOk result (IsWritten Answer Kept Picks width read given old new)
+  pub len : length new ≡ length old
+  -- only memory is refused, and not at a clean contour; then nothing is written
+  pub memory : IsOkUnless result OutOfMemory
+  pub unclean : OnErr result (Clean (read given) → ⊥)
+  pub err : OnErr result (new ≡ old)
+  -- fewer than three points collapse
+  pub short : length given < 3 → result ≡ Ok 0

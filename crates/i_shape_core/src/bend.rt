@@ -23,7 +23,7 @@ pub enum Bend {
 
 impl Bend {
     /// The bend of a way that bends so and then so. There is none where the two differ, unless one of them is straight.
-    pub fn joined_with(self, next: Bend) -> Option<Bend>
+    pub fn followed_by(self, next: Bend) -> Option<Bend>
         ensures { result ≡ bend_of_both self next }
     {
         if self == next {

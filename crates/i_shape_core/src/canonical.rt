@@ -1,15 +1,14 @@
 //! The canonical form of a contour: the least rotation of what is left of it without zero turns.
 
-ghost use Rattle.std.specs.Prelude.{◌≡◌, ◌⊎◌, ℕ, ◌+◌, ◌-◌, ◌*◌, ◌<◌, ◌≤◌, min, max, length, IfOk, OnErr, IsOkUnless};
-ghost use Rattle.std.specs.Option.{IfSome};
-ghost use Rattle.std.specs.List.{All};
+ghost use Rattle.std.specs.Prelude.{◌≡◌, ◌⊎◌, ℕ, ◌+◌, ◌-◌, ◌*◌, ◌<◌, ◌≤◌, min, max, length};
 ghost use Rattle.std.specs.Ordering.{MatchOrdering};
-ghost use Rattle.i_shape_core.specs.IntPoint.{contour_of, IsSafe, answered};
-ghost use Rattle.i_shape_core.specs.Contour.{IsSimple, point_at};
+ghost use Rattle.i_shape_core.specs.IntPoint.{contour_of, IsSafeContour};
+ghost use Rattle.i_shape_core.specs.Contour.{IsSimple, point_at, RotatedSublist, Rotation};
 ghost use Rattle.i_shape_core.specs.Cleaners.{KeptAnswer};
-ghost use Rattle.i_shape_core.specs.Written.{IsWritten};
 ghost use Rattle.i_shape_core.specs.Canonical.{IsBefore, IsLeast, CanonicalAnswer, started_at};
-ghost use Rattle.i_shape_core.specs.Walks.{IsOrder, Agree, Precedes, AreAfter, IsTurned};
+ghost use Rattle.i_shape_core.specs.Walks.{IsOrder, Agree, Precedes, AreAfter};
+ghost use Rattle.i_shape_core.specs.Refusals.{OkUnlessMemory};
+ghost use Rattle.i_shape_core.specs.Written.{CleansTo, CleansInto};
 
 use crate::comparer::Comparer;
 use crate::error::ShapeError;
@@ -25,17 +24,15 @@ impl ContourSimplifier {
         &mut self,
         contour: &[IntPoint<I>],
     ) -> Result<Option<IntContour<I>>, ShapeError>
-        requires { All (IsSafe I.width) (contour_of I.value contour.now) }
-        ensures answer { IfOk result (λ r. CanonicalAnswer (contour_of I.value contour.now) (answered (contour_of I.value) r)) }
-        ensures kept { IfOk result (λ r. KeptAnswer (contour_of I.value contour.now) (answered (contour_of I.value) r)) }
-        ensures safe { IfOk result (λ r. IfSome r (λ kept. All (IsSafe I.width) (contour_of I.value kept.items))) }
+        requires { IsSafeContour I.width (contour_of I.value contour.now) }
+        ensures answer { let c = contour_of I.value contour.now in
+            OkUnlessMemory result (CleansTo CanonicalAnswer KeptAnswer I.width I.value c) }
         ensures short { length contour.now < 3 → result ≡ Ok None }
-        ensures memory { IsOkUnless result ShapeError.OutOfMemory }
     {
         let Some(mut kept) = self.simplify_contour(contour)? else {
             return Ok(None);
         };
-        turn_to_least(kept.as_mut_slice());
+        rotate_to_least(kept.as_mut_slice());
         Ok(Some(kept))
     }
 
@@ -47,28 +44,24 @@ impl ContourSimplifier {
         contour: &[P],
         out: &mut [P],
     ) -> Result<usize, ShapeError>
-        requires points_safe { All (IsSafe P.Coordinate.width) (contour_of P.Coordinate.value (P.points contour.now)) }
+        requires points_safe { IsSafeContour P.Coordinate.width (contour_of P.Coordinate.value (P.points contour.now)) }
         requires room { length contour.now ≤ length out.old }
-        ensures written { IfOk result (λ n. IsWritten CanonicalAnswer KeptAnswer P.Coordinate.width (λ list. contour_of P.Coordinate.value (P.points list)) contour.now out.old out.new n) }
-        ensures len { length out.new ≡ length out.old }
-        ensures err { OnErr result (out.new ≡ out.old) }
-        ensures short { length contour.now < 3 → result ≡ Ok 0 }
-        ensures unclean { OnErr result (IsSimple (contour_of P.Coordinate.value (P.points contour.now)) → ⊥) }
-        ensures memory { IsOkUnless result ShapeError.OutOfMemory }
+        ensures { CleansInto IsSimple CanonicalAnswer KeptAnswer RotatedSublist P.Coordinate.width
+            (λ list. contour_of P.Coordinate.value (P.points list)) contour.now out.old out.new result }
     {
         let count = self.simplify_into(contour, out)?;
         if count > 0 {
-            turn_to_least(&mut out[..count]);
+            rotate_to_least(&mut out[..count]);
         }
         Ok(count)
     }
 }
 
-/// Turns a contour in place to its least rotation.
-pub(crate) fn turn_to_least<P: ContourPoint>(contour: &mut [P])
+/// Rotates a contour in place to its least rotation.
+pub(crate) fn rotate_to_least<P: ContourPoint>(contour: &mut [P])
     requires { 0 < length contour.old }
     ensures least { IsLeast (contour_of P.Coordinate.value (P.points contour.old)) (contour_of P.Coordinate.value (P.points contour.new)) }
-    ensures turned { IsTurned contour.old contour.new }
+    ensures rotated { Rotation contour.old contour.new }
     ensures len { length contour.new ≡ length contour.old }
 {
     let start = least_start(contour);

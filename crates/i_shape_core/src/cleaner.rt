@@ -1,29 +1,28 @@
 //! The cleaners of one contour: one trait, and its five kinds.
 
-ghost use Rattle.std.specs.Prelude.{◌≡◌, ◌↔◌, ◌<◌, ◌≤◌, List, length, Option, IsTrue, IfOk, OnErr, IsOkUnless};
-ghost use Rattle.std.specs.Option.{IfSome};
-ghost use Rattle.std.specs.List.{All};
+ghost use Rattle.std.specs.Prelude.{◌≡◌, ◌↔◌, ◌<◌, ◌≤◌, List, length, Option, IsTrue};
 ghost use Rattle.i_shape_core.specs.Point.{Point};
-ghost use Rattle.i_shape_core.specs.IntPoint.{contour_of, IsSafe, answered};
-ghost use Rattle.i_shape_core.specs.Contour.{IsSimple};
+ghost use Rattle.i_shape_core.specs.IntPoint.{contour_of, IsSafeContour};
+ghost use Rattle.i_shape_core.specs.Contour.{IsSimple, RotatedSublist, SublistEitherWay, Sublist};
 ghost use Rattle.i_shape_core.specs.Convex.{NoSpikes};
 ghost use Rattle.i_shape_core.specs.Cleaners.{IsDespikedAlready, SimpleAnswer, SpikelessAnswer, DespikeAnswer, KeptAnswer};
 ghost use Rattle.i_shape_core.specs.Canonical.{CanonicalAnswer, UnorientedAnswer, KeptEitherWay};
-ghost use Rattle.i_shape_core.specs.Written.{IsWritten};
+ghost use Rattle.i_shape_core.specs.Refusals.{OkUnlessMemory};
+ghost use Rattle.i_shape_core.specs.Written.{CleansTo, CleansInto};
 
 use crate::despike::{ContourDeSpiker, has_no_spikes, is_despiked};
 use crate::error::ShapeError;
 use crate::number::IntNumber;
 use crate::point::{ContourPoint, IntContour, IntPoint};
-use crate::probe::Probe;
 use crate::simple::is_simple;
 use crate::simplifier::ContourSimplifier;
+use crate::write::write_whole;
 use std::alloc::Global;
 
 /// Cleans contours of safe points. One value cleans any number of them, and keeps its memory from one to the next; no answer depends on
 /// earlier use, nor on an earlier refusal (of the removal of spikes this is tested, and no clause says it).
 pub trait ContourCleaner: Drop {
-    /// The contours of which no point is removed: for these `clean_into` takes no memory. A canonical form still turns them.
+    /// The contours of which no point is removed: for these `clean_into` takes no memory. A canonical form still rotates them.
     ghost clean: { List Point → Type 0 };
 
     /// What a contour becomes: none where it collapses.
@@ -32,13 +31,16 @@ pub trait ContourCleaner: Drop {
     /// What the answer keeps of the contour.
     ghost keeps: { List Point → Option (List Point) → Type 0 };
 
+    /// Which points of the contour the answer has, and in which order, whatever their type.
+    ghost picks: { (P : Type 0) → List P → List P → Type 0 };
+
     /// A cleaner that takes its memory from `alloc`, once where no contour has more than `room` points. It takes none before
     /// a contour needs it.
     fn with_room(alloc: Global, room: usize) -> Self;
 
     /// Whether the contour is clean. It takes no memory.
     fn is_clean<P: ContourPoint>(contour: &[P]) -> bool
-        requires { All (IsSafe P.Coordinate.width) (contour_of P.Coordinate.value (P.points contour.now)) }
+        requires { IsSafeContour P.Coordinate.width (contour_of P.Coordinate.value (P.points contour.now)) }
         ensures { IsTrue result ↔ clean (contour_of P.Coordinate.value (P.points contour.now)) };
 
     /// The cleaned contour. The only error is `OutOfMemory`.
@@ -46,25 +48,21 @@ pub trait ContourCleaner: Drop {
         &mut self,
         contour: &[IntPoint<I>],
     ) -> Result<Option<IntContour<I>>, ShapeError>
-        requires { All (IsSafe I.width) (contour_of I.value contour.now) }
-        ensures answer { IfOk result (λ r. answers (contour_of I.value contour.now) (answered (contour_of I.value) r)) }
-        ensures kept { IfOk result (λ r. keeps (contour_of I.value contour.now) (answered (contour_of I.value) r)) }
-        ensures safe { IfOk result (λ r. IfSome r (λ kept. All (IsSafe I.width) (contour_of I.value kept.items))) }
-        ensures short { length contour.now < 3 → result ≡ Ok None }
-        ensures memory { IsOkUnless result ShapeError.OutOfMemory };
+        requires { IsSafeContour I.width (contour_of I.value contour.now) }
+        ensures answer { let c = contour_of I.value contour.now in
+            OkUnlessMemory result (CleansTo answers keeps I.width I.value c) }
+        ensures short { length contour.now < 3 → result ≡ Ok None };
 
     /// The same, of a contour that isn't clean, without testing it again.
     fn cleaned_untested<I: IntNumber>(
         &mut self,
         contour: &[IntPoint<I>],
     ) -> Result<Option<IntContour<I>>, ShapeError>
-        requires points_safe { All (IsSafe I.width) (contour_of I.value contour.now) }
+        requires points_safe { IsSafeContour I.width (contour_of I.value contour.now) }
         requires unclean { clean (contour_of I.value contour.now) → ⊥ }
-        ensures answer { IfOk result (λ r. answers (contour_of I.value contour.now) (answered (contour_of I.value) r)) }
-        ensures kept { IfOk result (λ r. keeps (contour_of I.value contour.now) (answered (contour_of I.value) r)) }
-        ensures safe { IfOk result (λ r. IfSome r (λ kept. All (IsSafe I.width) (contour_of I.value kept.items))) }
+        ensures answer { let c = contour_of I.value contour.now in
+            OkUnlessMemory result (CleansTo answers keeps I.width I.value c) }
         ensures short { length contour.now < 3 → result ≡ Ok None }
-        ensures memory { IsOkUnless result ShapeError.OutOfMemory }
     {
         self.cleaned(contour)
     }
@@ -77,14 +75,10 @@ pub trait ContourCleaner: Drop {
         contour: &[P],
         out: &mut [P],
     ) -> Result<usize, ShapeError>
-        requires points_safe { All (IsSafe P.Coordinate.width) (contour_of P.Coordinate.value (P.points contour.now)) }
+        requires points_safe { IsSafeContour P.Coordinate.width (contour_of P.Coordinate.value (P.points contour.now)) }
         requires room { length contour.now ≤ length out.old }
-        ensures written { IfOk result (λ n. IsWritten answers keeps P.Coordinate.width (λ list. contour_of P.Coordinate.value (P.points list)) contour.now out.old out.new n) }
-        ensures len { length out.new ≡ length out.old }
-        ensures err { OnErr result (out.new ≡ out.old) }
-        ensures short { length contour.now < 3 → result ≡ Ok 0 }
-        ensures unclean { OnErr result (clean (contour_of P.Coordinate.value (P.points contour.now)) → ⊥) }
-        ensures memory { IsOkUnless result ShapeError.OutOfMemory };
+        ensures { CleansInto clean answers keeps (picks P) P.Coordinate.width
+            (λ list. contour_of P.Coordinate.value (P.points list)) contour.now out.old out.new result };
 }
 
 /// Removes zero turns.
@@ -94,6 +88,8 @@ impl ContourCleaner for ContourSimplifier {
     ghost answers = { SimpleAnswer };
 
     ghost keeps = { KeptAnswer };
+
+    ghost picks = { λ P. Sublist };
 
     fn with_room(alloc: Global, room: usize) -> ContourSimplifier {
         ContourSimplifier::with_room(alloc, room)
@@ -126,6 +122,8 @@ impl ContourCleaner for ContourDeSpiker {
     ghost answers = { SpikelessAnswer };
 
     ghost keeps = { KeptAnswer };
+
+    ghost picks = { λ P. Sublist };
 
     fn with_room(alloc: Global, room: usize) -> ContourDeSpiker {
         ContourDeSpiker::with_room(alloc, room)
@@ -164,6 +162,8 @@ impl ContourCleaner for SpikeRemover {
 
     ghost keeps = { KeptAnswer };
 
+    ghost picks = { λ P. Sublist };
+
     fn with_room(alloc: Global, room: usize) -> SpikeRemover {
         SpikeRemover {
             de_spiker: ContourDeSpiker::with_room(alloc, room),
@@ -197,7 +197,7 @@ impl ContourCleaner for SpikeRemover {
         out: &mut [P],
     ) -> Result<usize, ShapeError> {
         if has_no_spikes(contour) {
-            return Ok(Probe::new(contour).write_whole(out));
+            return Ok(write_whole(contour, out));
         }
         self.de_spiker.despike_into(contour, out)
     }
@@ -215,6 +215,8 @@ impl ContourCleaner for Canonicalizer {
     ghost answers = { CanonicalAnswer };
 
     ghost keeps = { KeptAnswer };
+
+    ghost picks = { λ P. RotatedSublist };
 
     fn with_room(alloc: Global, room: usize) -> Canonicalizer {
         Canonicalizer {
@@ -254,6 +256,8 @@ impl ContourCleaner for UnorientedCanonicalizer {
     ghost answers = { UnorientedAnswer };
 
     ghost keeps = { KeptEitherWay };
+
+    ghost picks = { λ P. SublistEitherWay };
 
     fn with_room(alloc: Global, room: usize) -> UnorientedCanonicalizer {
         UnorientedCanonicalizer {

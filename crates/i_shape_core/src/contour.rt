@@ -2,8 +2,7 @@
 
 ghost use Rattle.std.specs.Prelude.{◌≡◌, ◌<◌, ◌↔◌, ◌≤◌, ◌≤ℤ◌, ◌++◌, pos, List, length, map, drop, IsTrue};
 ghost use Rattle.std.specs.Int.{int_wrap};
-ghost use Rattle.std.specs.List.{All};
-ghost use Rattle.i_shape_core.specs.IntPoint.{point_of, contour_of, IsSafe};
+ghost use Rattle.i_shape_core.specs.IntPoint.{point_of, contour_of, IsSafe, IsSafeContour};
 ghost use Rattle.i_shape_core.specs.Point.{Point};
 ghost use Rattle.i_shape_core.specs.Edges.{shoelace, Inside, is_right};
 ghost use Rattle.i_shape_core.specs.Winding.{winding};
@@ -28,7 +27,7 @@ pub trait ContourExtension<I: IntNumber> {
     /// Whether, without the points that equal the one before them on the cycle, at most two are left, or the way over them
     /// nowhere goes back the way it came and does not bend to the left at one place and to the right at another.
     fn is_convex(&self) -> bool
-        requires { All (IsSafe I.width) (contour self.now) }
+        requires { IsSafeContour I.width (contour self.now) }
         ensures { IsTrue result ↔ Convex (contour self.now) };
 
     /// Whether the double area, wrapped as `UnsafeArea::unsafe_area` wraps it, is at most zero. The contour has a point.
@@ -38,28 +37,28 @@ pub trait ContourExtension<I: IntNumber> {
 
     /// Whether an odd number of edges pass the height of `point` strictly to the right of it. A contour without points contains none.
     fn contains_point(&self, point: IntPoint<I>) -> bool
-        requires points_safe { All (IsSafe I.width) (contour self.now) }
+        requires points_safe { IsSafeContour I.width (contour self.now) }
         requires point_safe { IsSafe I.width (point_of I.value point) }
         ensures { IsTrue result ↔ Inside (contour self.now) (point_of I.value point) };
 
     /// How often the contour winds about `point`, to the left: how many edges pass the height of `point` upwards and strictly to
     /// the right of it, less those that do so downwards. A contour without points winds about none.
     fn winding_number(&self, point: IntPoint<I>) -> isize
-        requires points_safe { All (IsSafe I.width) (contour self.now) }
+        requires points_safe { IsSafeContour I.width (contour self.now) }
         requires point_safe { IsSafe I.width (point_of I.value point) }
         ensures { result ≡ winding (contour self.now) (point_of I.value point) };
 
     /// Whether a fill rule fills `point`, by how often the contour winds about it. By `EvenOdd` it is `contains_point`.
     fn contains_by(&self, point: IntPoint<I>, rule: FillRule) -> bool
-        requires points_safe { All (IsSafe I.width) (contour self.now) }
+        requires points_safe { IsSafeContour I.width (contour self.now) }
         requires point_safe { IsSafe I.width (point_of I.value point) }
         ensures { IsTrue result ↔ IsFilled rule (winding (contour self.now) (point_of I.value point)) };
 
     /// Writes the winding number about each of the points, which may be of any type, to the front of `out`, which is at least as
     /// long. What stands behind stays as it was.
     fn winding_numbers_into<P: ContourPoint<Coordinate = I>>(&self, points: &[P], out: &mut [isize])
-        requires contour_safe { All (IsSafe I.width) (contour self.now) }
-        requires points_safe { All (IsSafe I.width) (contour_of I.value (P.points points.now)) }
+        requires contour_safe { IsSafeContour I.width (contour self.now) }
+        requires points_safe { IsSafeContour I.width (contour_of I.value (P.points points.now)) }
         requires room { length points.now ≤ length out.old }
         ensures { out.new ≡ map (winding (contour self.now)) (contour_of I.value (P.points points.now)) ++ drop (length points.now) out.old };
 }
@@ -77,7 +76,7 @@ impl<I: IntNumber> ContourExtension<I> for &[IntPoint<I>] {
     }
 
     fn contains_point(&self, point: IntPoint<I>) -> bool
-        requires points_safe { All (IsSafe I.width) (contour_of I.value self.now.now) }
+        requires points_safe { IsSafeContour I.width (contour_of I.value self.now.now) }
         requires point_safe { IsSafe I.width (point_of I.value point) }
         ensures { IsTrue result ↔ Inside (contour_of I.value self.now.now) (point_of I.value point) }
     {
@@ -85,7 +84,7 @@ impl<I: IntNumber> ContourExtension<I> for &[IntPoint<I>] {
     }
 
     fn winding_number(&self, point: IntPoint<I>) -> isize
-        requires points_safe { All (IsSafe I.width) (contour_of I.value self.now.now) }
+        requires points_safe { IsSafeContour I.width (contour_of I.value self.now.now) }
         requires point_safe { IsSafe I.width (point_of I.value point) }
         ensures { result ≡ winding (contour_of I.value self.now.now) (point_of I.value point) }
     {
@@ -93,7 +92,7 @@ impl<I: IntNumber> ContourExtension<I> for &[IntPoint<I>] {
     }
 
     fn contains_by(&self, point: IntPoint<I>, rule: FillRule) -> bool
-        requires points_safe { All (IsSafe I.width) (contour_of I.value self.now.now) }
+        requires points_safe { IsSafeContour I.width (contour_of I.value self.now.now) }
         requires point_safe { IsSafe I.width (point_of I.value point) }
         ensures { IsTrue result ↔ IsFilled rule (winding (contour_of I.value self.now.now) (point_of I.value point)) }
     {
@@ -101,8 +100,8 @@ impl<I: IntNumber> ContourExtension<I> for &[IntPoint<I>] {
     }
 
     fn winding_numbers_into<P: ContourPoint<Coordinate = I>>(&self, points: &[P], out: &mut [isize])
-        requires contour_safe { All (IsSafe I.width) (contour_of I.value self.now.now) }
-        requires points_safe { All (IsSafe I.width) (contour_of I.value (P.points points.now)) }
+        requires contour_safe { IsSafeContour I.width (contour_of I.value self.now.now) }
+        requires points_safe { IsSafeContour I.width (contour_of I.value (P.points points.now)) }
         requires room { length points.now ≤ length out.old }
         ensures { out.new ≡ map (winding (contour_of I.value self.now.now)) (contour_of I.value (P.points points.now)) ++ drop (length points.now) out.old }
     {
@@ -113,7 +112,7 @@ impl<I: IntNumber> ContourExtension<I> for &[IntPoint<I>] {
 /// Whether, without the points that equal the one before them on the cycle, at most two are left, or the way over them nowhere goes back
 /// the way it came and does not bend to the left at one place and to the right at another.
 pub fn is_convex<P: ContourPoint>(points: &[P]) -> bool
-    requires { All (IsSafe P.Coordinate.width) (contour_of P.Coordinate.value (P.points points.now)) }
+    requires { IsSafeContour P.Coordinate.width (contour_of P.Coordinate.value (P.points points.now)) }
     ensures { IsTrue result ↔ Convex (contour_of P.Coordinate.value (P.points points.now)) }
 {
     let Some(last) = points.last() else {
@@ -129,12 +128,12 @@ pub fn is_convex<P: ContourPoint>(points: &[P]) -> bool
     for given in points {
         let point = given.to_point();
         let next = point - here;
-        let turned = bend_of(edge, next);
-        if turned == Bend::Straight && are_same(here, point) {
+        let bent = bend_of(edge, next);
+        if bent == Bend::Straight && are_same(here, point) {
             repeats += 1;
             continue;
         }
-        let Some(both) = bend.joined_with(turned) else {
+        let Some(both) = bend.followed_by(bent) else {
             return false;
         };
         bend = both;
@@ -146,7 +145,7 @@ pub fn is_convex<P: ContourPoint>(points: &[P]) -> bool
 
 /// Whether an odd number of edges pass the height of `point` strictly to the right of it. A contour without points contains none.
 pub fn contains_point<P: ContourPoint>(contour: &[P], point: IntPoint<P::Coordinate>) -> bool
-    requires points_safe { All (IsSafe P.Coordinate.width) (contour_of P.Coordinate.value (P.points contour.now)) }
+    requires points_safe { IsSafeContour P.Coordinate.width (contour_of P.Coordinate.value (P.points contour.now)) }
     requires point_safe { IsSafe P.Coordinate.width (point_of P.Coordinate.value point) }
     ensures { IsTrue result ↔ Inside (contour_of P.Coordinate.value (P.points contour.now)) (point_of P.Coordinate.value point) }
 {
@@ -177,7 +176,7 @@ fn is_inside_after<P: ContourPoint>(
 ) -> bool
     requires point_safe { IsSafe P.Coordinate.width (point_of P.Coordinate.value point) }
     requires first_safe { IsSafe P.Coordinate.width (point_of P.Coordinate.value first) }
-    requires points_safe { All (IsSafe P.Coordinate.width) (contour_of P.Coordinate.value (P.points points.now)) }
+    requires points_safe { IsSafeContour P.Coordinate.width (contour_of P.Coordinate.value (P.points points.now)) }
     ensures { result ≡ inside_after (point_of P.Coordinate.value point) was_inside (point_of P.Coordinate.value first) (contour_of P.Coordinate.value (P.points points.now)) }
 {
     let mut is_inside = was_inside;

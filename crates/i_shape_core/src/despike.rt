@@ -1,17 +1,17 @@
 //! Contours without spikes: the tests, the cleaned copy, and the cleaner.
 
-ghost use Rattle.std.specs.Prelude.{◌≡◌, ◌↔◌, ◌+◌, ◌-◌, ◌*◌, ◌^◌, ◌<◌, ◌≤◌, List, Some, length, map, option_map, false, IsTrue, IsNone, IfOk, OnErr, IsOkUnless};
+ghost use Rattle.std.specs.Prelude.{◌≡◌, ◌↔◌, ◌+◌, ◌-◌, ◌*◌, ◌^◌, ◌<◌, ◌≤◌, List, Some, length, map, option_map, false, IsTrue, IsNone, IfOk, IsOkUnless};
 ghost use Rattle.std.specs.Option.{IfSome};
 ghost use Rattle.std.specs.List.{All};
-ghost use Rattle.i_shape_core.specs.IntPoint.{contour_of, point_of, IsSafe, answered};
+ghost use Rattle.i_shape_core.specs.IntPoint.{contour_of, point_of, IsSafe, answered, IsSafeContour};
 ghost use Rattle.i_shape_core.specs.Point.{Point, IsBack};
-ghost use Rattle.i_shape_core.specs.Contour.{Sublist};
+ghost use Rattle.i_shape_core.specs.Contour.{Sublist, point_at};
 ghost use Rattle.i_shape_core.specs.Blocks.{GoesBack, last_change};
 ghost use Rattle.i_shape_core.specs.Convex.{NoSpikes, last_of};
 ghost use Rattle.i_shape_core.specs.Cleaners.{IsDespikedAlready, SpikelessAnswer, KeptAnswer, VisitsAnswer};
-ghost use Rattle.i_shape_core.specs.Written.{IsWritten};
-ghost use Rattle.i_shape_core.specs.Contour.{point_at};
-ghost use Rattle.i_shape_core.specs.Walks.{WalkAnswer, Finds, Falls, FirstAnswer, IsRingState, PassesAtPlace, in_order};
+ghost use Rattle.i_shape_core.specs.Walks.{RisingPlaces, WalkAnswer, Finds, Falls, FirstAnswer, IsRingState, PassesAtPlace, from_contour_first};
+ghost use Rattle.i_shape_core.specs.Refusals.{OkUnlessMemory};
+ghost use Rattle.i_shape_core.specs.Written.{CleansInOrder, CleansInto};
 
 use crate::error::ShapeError;
 use crate::number::{IntNumber, WideIntNumber};
@@ -19,7 +19,9 @@ use crate::point::{ContourPoint, IntContour, IntPoint};
 use crate::probe::Probe;
 use crate::ring::Ring;
 use crate::same::{are_same, last_other};
+use crate::simple::is_simple;
 use crate::turn::Turn;
+use crate::write::{write_at, write_whole};
 use std::alloc::Global;
 use std::mem;
 
@@ -31,7 +33,7 @@ pub trait DeSpikeContour<I: IntNumber> {
     /// Whether at least three points are left without those that equal the one before them on the cycle,
     /// and the way over them nowhere goes back the way it came. It takes no memory.
     fn has_no_spikes(&self) -> bool
-        requires { All (IsSafe I.width) (contour self.now) }
+        requires { IsSafeContour I.width (contour self.now) }
         ensures { IsTrue result ↔ NoSpikes (contour self.now) };
 
     /// The contour without the points at which the way turns back or stands still, in the order of the input.
@@ -40,25 +42,19 @@ pub trait DeSpikeContour<I: IntNumber> {
     /// are safe again.
     /// The only error is `OutOfMemory`; below three points no memory is taken.
     fn despiked_contour(&self, alloc: Global) -> Result<Option<IntContour<I>>, ShapeError>
-        requires { All (IsSafe I.width) (contour self.now) }
-        ensures answer { IfOk result (λ r. SpikelessAnswer (contour self.now) (answered (contour_of I.value) r)) }
-        ensures in_order { IfOk result (λ r. IfSome r (λ kept. Sublist (contour self.now) (contour_of I.value kept.items))) }
-        ensures kept { IfOk result (λ r. KeptAnswer (contour self.now) (answered (contour_of I.value) r)) }
-        ensures safe { IfOk result (λ r. IfSome r (λ kept. All (IsSafe I.width) (contour_of I.value kept.items))) }
-        ensures short { length (contour self.now) < 3 → result ≡ Ok None }
-        ensures memory { IsOkUnless result ShapeError.OutOfMemory };
+        requires { IsSafeContour I.width (contour self.now) }
+        ensures answer { OkUnlessMemory result
+            (CleansInOrder SpikelessAnswer I.width I.value (contour self.now)) }
+        ensures short { length (contour self.now) < 3 → result ≡ Ok None };
 
     /// The same, with the number of vertices visited: at most three for each vertex of the contour, at least one for each,
     /// but for two where the contour collapses, and none where it has fewer than three.
     fn despiked_counted(&self, alloc: Global) -> Result<(Option<IntContour<I>>, u128), ShapeError>
-        requires { All (IsSafe I.width) (contour self.now) }
-        ensures answer { IfOk result (λ r. SpikelessAnswer (contour self.now) (answered (contour_of I.value) r.0)) }
-        ensures in_order { IfOk result (λ r. IfSome r.0 (λ kept. Sublist (contour self.now) (contour_of I.value kept.items))) }
-        ensures kept { IfOk result (λ r. KeptAnswer (contour self.now) (answered (contour_of I.value) r.0)) }
-        ensures safe { IfOk result (λ r. IfSome r.0 (λ kept. All (IsSafe I.width) (contour_of I.value kept.items))) }
+        requires { IsSafeContour I.width (contour self.now) }
+        ensures answer { OkUnlessMemory result
+            (λ r. CleansInOrder SpikelessAnswer I.width I.value (contour self.now) r.0) }
         ensures visits { IfOk result (λ r. VisitsAnswer (contour self.now) (answered (contour_of I.value) r.0) r.1) }
-        ensures short { length (contour self.now) < 3 → result ≡ Ok (None, 0) }
-        ensures memory { IsOkUnless result ShapeError.OutOfMemory };
+        ensures short { length (contour self.now) < 3 → result ≡ Ok (None, 0) };
 }
 
 impl<I: IntNumber> DeSpikeContour<I> for &[IntPoint<I>] {
@@ -127,13 +123,10 @@ impl ContourDeSpiker {
         &mut self,
         contour: &[IntPoint<I>],
     ) -> Result<Option<IntContour<I>>, ShapeError>
-        requires { All (IsSafe I.width) (contour_of I.value contour.now) }
-        ensures answer { IfOk result (λ r. SpikelessAnswer (contour_of I.value contour.now) (answered (contour_of I.value) r)) }
-        ensures in_order { IfOk result (λ r. IfSome r (λ kept. Sublist (contour_of I.value contour.now) (contour_of I.value kept.items))) }
-        ensures kept { IfOk result (λ r. KeptAnswer (contour_of I.value contour.now) (answered (contour_of I.value) r)) }
-        ensures safe { IfOk result (λ r. IfSome r (λ kept. All (IsSafe I.width) (contour_of I.value kept.items))) }
+        requires { IsSafeContour I.width (contour_of I.value contour.now) }
+        ensures answer { let c = contour_of I.value contour.now in
+            OkUnlessMemory result (CleansInOrder SpikelessAnswer I.width I.value c) }
         ensures short { length contour.now < 3 → result ≡ Ok None }
-        ensures memory { IsOkUnless result ShapeError.OutOfMemory }
     {
         let (kept, _visits) = self.despike_counted(contour)?;
         Ok(kept)
@@ -145,14 +138,11 @@ impl ContourDeSpiker {
         &mut self,
         contour: &[IntPoint<I>],
     ) -> Result<(Option<IntContour<I>>, u128), ShapeError>
-        requires { All (IsSafe I.width) (contour_of I.value contour.now) }
-        ensures answer { IfOk result (λ r. SpikelessAnswer (contour_of I.value contour.now) (answered (contour_of I.value) r.0)) }
-        ensures in_order { IfOk result (λ r. IfSome r.0 (λ kept. Sublist (contour_of I.value contour.now) (contour_of I.value kept.items))) }
-        ensures kept { IfOk result (λ r. KeptAnswer (contour_of I.value contour.now) (answered (contour_of I.value) r.0)) }
-        ensures safe { IfOk result (λ r. IfSome r.0 (λ kept. All (IsSafe I.width) (contour_of I.value kept.items))) }
+        requires { IsSafeContour I.width (contour_of I.value contour.now) }
+        ensures answer { let c = contour_of I.value contour.now in
+            OkUnlessMemory result (λ r. CleansInOrder SpikelessAnswer I.width I.value c r.0) }
         ensures visits { IfOk result (λ r. VisitsAnswer (contour_of I.value contour.now) (answered (contour_of I.value) r.0) r.1) }
         ensures short { length contour.now < 3 → result ≡ Ok (None, 0) }
-        ensures memory { IsOkUnless result ShapeError.OutOfMemory }
     {
         if contour.len() < 3 {
             return Ok((None, 0));
@@ -168,27 +158,23 @@ impl ContourDeSpiker {
         contour: &[P],
         out: &mut [P],
     ) -> Result<usize, ShapeError>
-        requires points_safe { All (IsSafe P.Coordinate.width) (contour_of P.Coordinate.value (P.points contour.now)) }
+        requires points_safe { IsSafeContour P.Coordinate.width (contour_of P.Coordinate.value (P.points contour.now)) }
         requires room { length contour.now ≤ length out.old }
-        ensures written { IfOk result (λ n. IsWritten SpikelessAnswer KeptAnswer P.Coordinate.width (λ list. contour_of P.Coordinate.value (P.points list)) contour.now out.old out.new n) }
-        ensures len { length out.new ≡ length out.old }
-        ensures err { OnErr result (out.new ≡ out.old) }
-        ensures short { length contour.now < 3 → result ≡ Ok 0 }
-        ensures unclean { OnErr result (IsDespikedAlready (contour_of P.Coordinate.value (P.points contour.now)) → ⊥) }
-        ensures memory { IsOkUnless result ShapeError.OutOfMemory }
+        ensures { CleansInto IsDespikedAlready SpikelessAnswer KeptAnswer Sublist P.Coordinate.width
+            (λ list. contour_of P.Coordinate.value (P.points list)) contour.now out.old out.new result }
     {
         if contour.len() < 3 {
             return Ok(0);
         }
         let mut probe = Probe::new(contour);
         let Some(place) = first_back(&mut probe) else {
-            return Ok(probe.write_whole(out));
+            return Ok(write_whole(contour, out));
         };
-        let (probe, left) = self.walk_round(probe, place)?;
+        let (_probe, left) = self.walk_round(probe, place)?;
         let Some(places) = left else {
             return Ok(0);
         };
-        Ok(probe.write(out, places))
+        Ok(write_at(contour, places, out))
     }
 
     /// What is left of a contour, and how many vertices were visited.
@@ -219,7 +205,7 @@ impl ContourDeSpiker {
         requires first { FirstAnswer IsBack (contour_of P.Coordinate.value probe.contour) (Some place) probe.visits }
         ensures contour { IfOk result (λ r. r.0.contour ≡ probe.entry.contour) }
         ensures answer { let c = contour_of P.Coordinate.value probe.entry.contour in IfOk result (λ r. WalkAnswer IsBack c (option_map (λ places. map (point_at c) places.now) r.1) r.0.visits) }
-        ensures below { IfOk result (λ r. IfSome r.1 (λ places. All (λ k. k < length probe.entry.contour) places.now)) }
+        ensures rising { IfOk result (λ r. IfSome r.1 (λ places. RisingPlaces (length probe.entry.contour) places.now)) }
         ensures memory { IsOkUnless result ShapeError.OutOfMemory }
     {
         let count = probe.len();
@@ -230,11 +216,11 @@ impl ContourDeSpiker {
         self.places.reserve(count.max(self.room))?;
         let alloc = *self.places.allocator();
         let memory = mem::replace(&mut self.places, Vec::new(alloc));
-        let mut ring = Ring::standing(memory, count, place);
+        let mut ring = Ring::starting_at(memory, count, place);
         ring.remove();
-        let stands = walk(&mut probe, &mut ring);
+        let uncollapsed = walk(&mut probe, &mut ring);
         self.places = ring.into_order();
-        if !stands {
+        if !uncollapsed {
             return Ok((probe, None));
         }
         Ok((probe, Some(self.places.as_slice())))
@@ -297,8 +283,8 @@ fn walk<P: ContourPoint>(probe: &mut Probe<'_, P::Coordinate, P>, ring: &mut Rin
     requires state { IsRingState IsBack (contour_of P.Coordinate.value probe.old.contour) ring.old probe.old.visits }
     requires room { length probe.old.contour ≤ usize.MAX }
     ensures contour { probe.new.contour ≡ probe.old.contour }
-    ensures stands { let c = contour_of P.Coordinate.value probe.old.contour in IsTrue result → Finds IsBack c (map (point_at c) (in_order ring.new.places ring.new.lead)) probe.new.visits }
-    ensures below { IsTrue result → All (λ k. k < length probe.old.contour) (in_order ring.new.places ring.new.lead) }
+    ensures uncollapsed { let c = contour_of P.Coordinate.value probe.old.contour in IsTrue result → Finds IsBack c (map (point_at c) (from_contour_first ring.new.places ring.new.lead)) probe.new.visits }
+    ensures rising { IsTrue result → RisingPlaces (length probe.old.contour) (from_contour_first ring.new.places ring.new.lead) }
     ensures falls { result ≡ false → Falls IsBack (contour_of P.Coordinate.value probe.old.contour) probe.new.visits }
 {
     while ring.untested() > 0 {
@@ -316,7 +302,7 @@ fn walk<P: ContourPoint>(probe: &mut Probe<'_, P::Coordinate, P>, ring: &mut Rin
 /// Whether there are at least three points, and the way over them nowhere goes back or stands still: the removal of spikes leaves such a
 /// contour as it is.
 pub fn is_despiked<P: ContourPoint>(points: &[P]) -> bool
-    requires { All (IsSafe P.Coordinate.width) (contour_of P.Coordinate.value (P.points points.now)) }
+    requires { IsSafeContour P.Coordinate.width (contour_of P.Coordinate.value (P.points points.now)) }
     ensures { IsTrue result ↔ IsDespikedAlready (contour_of P.Coordinate.value (P.points points.now)) }
 {
     if points.len() < 3 {
@@ -327,9 +313,13 @@ pub fn is_despiked<P: ContourPoint>(points: &[P]) -> bool
 
 /// Whether at least three points are left without repeated ones, and the way over them nowhere goes back.
 pub fn has_no_spikes<P: ContourPoint>(points: &[P]) -> bool
-    requires { All (IsSafe P.Coordinate.width) (contour_of P.Coordinate.value (P.points points.now)) }
+    requires { IsSafeContour P.Coordinate.width (contour_of P.Coordinate.value (P.points points.now)) }
     ensures { IsTrue result ↔ NoSpikes (contour_of P.Coordinate.value (P.points points.now)) }
 {
+    // The test of all turns at once pays for itself but where products take several steps.
+    if P::Coordinate::BITS < 64 && is_simple(points) {
+        return true;
+    }
     let Some(last) = points.last() else {
         return false;
     };
@@ -361,7 +351,7 @@ fn walk_onward<P: ContourPoint>(
     block: &[P],
 ) -> Option<(IntPoint<P::Coordinate>, IntPoint<P::Coordinate>)>
     requires start_safe { IsSafe P.Coordinate.width (point_of P.Coordinate.value start) }
-    requires block_safe { All (IsSafe P.Coordinate.width) (contour_of P.Coordinate.value (P.points block.now)) }
+    requires block_safe { IsSafeContour P.Coordinate.width (contour_of P.Coordinate.value (P.points block.now)) }
     ensures back { IsNone result ↔ GoesBack (point_of P.Coordinate.value first) (point_of P.Coordinate.value start) (contour_of P.Coordinate.value (P.points block.now)) }
     ensures edge { IfSome result (λ r. point_of P.Coordinate.value r.0 ≡ last_change (point_of P.Coordinate.value first) (point_of P.Coordinate.value start) (contour_of P.Coordinate.value (P.points block.now))) }
     ensures end { IfSome result (λ r. point_of P.Coordinate.value r.1 ≡ last_of (point_of P.Coordinate.value start) (contour_of P.Coordinate.value (P.points block.now))) }

@@ -12,7 +12,7 @@ ghost use Rattle.i_shape_core.specs.Boundary.{BoundaryWithin, IsOnEdge};
 ghost use Rattle.i_shape_core.specs.Filling.{FillingKept};
 ghost use Rattle.i_shape_core.specs.Moves.{Move, determinant};
 ghost use Rattle.i_shape_core.specs.RationalPoints.{WindingBetween};
-ghost use Rattle.i_shape_core.specs.Winding.{winding, IsOdd, WindingKept, WindingTurned};
+ghost use Rattle.i_shape_core.specs.Winding.{winding, IsOdd, WindingKept, WindingRotated};
 ghost use Rattle.i_shape_core.specs.Laws.{
   Agreed,
   AreaKept,
@@ -89,8 +89,8 @@ pub fn winding_parity<I: IntNumber>(_c: &[IntPoint<I>])
 {}
 
 /// The start of a contour doesn't matter, and read backwards it winds the other way.
-pub fn winding_turned<I: IntNumber>(_c: &[IntPoint<I>], _d: &[IntPoint<I>])
-    ensures { WindingTurned (contour_of I.value _c.now) (contour_of I.value _d.now) }
+pub fn winding_rotated<I: IntNumber>(_c: &[IntPoint<I>], _d: &[IntPoint<I>])
+    ensures { WindingRotated (contour_of I.value _c.now) (contour_of I.value _d.now) }
 {}
 
 /// The removal of zero turns keeps how often the contour winds about each point of rational coordinates.
@@ -116,7 +116,7 @@ pub fn moved_alike()
 {}
 
 /// A moved contour winds about the moved point as often as the contour about the point, where that is off the edges and the map keeps
-/// the plane's orientation: translations, scalings, quarter turns and shears do. Where the map turns the plane over, as mirrorings
+/// the plane's orientation: translations, scalings, quarter turns and shears do. Where the map mirrors the plane, as reflections
 /// do, it winds as often the other way.
 pub fn winding_moved()
     ensures { (m : Move) (c : List Point) (p : Point) → (IsOnEdge c p → ⊥) → WindingMoved m c p }

@@ -62,7 +62,7 @@ impl<I: IntNumber> IntPoint<I> {
     pub fn is_in_safe_range(&self) -> bool
         ensures { IsTrue result ↔ IsSafe I.width (point_of I.value self.now) }
     {
-        is_safe_coordinate(self.x) && is_safe_coordinate(self.y)
+        is_safe_coordinate(self.x) & is_safe_coordinate(self.y)
     }
 }
 
@@ -105,7 +105,7 @@ fn is_safe_coordinate<I: IntNumber>(coordinate: I) -> bool
     let low = I::MIN.to_wide().divide(I::Wide::TWO);
     let high = I::Wide::ZERO.wrapping_sub(low);
     let wide = coordinate.to_wide();
-    low < wide && wide < high
+    (low < wide) & (wide < high)
 }
 
 impl<I: IntNumber> Sub<IntPoint<I>> for IntPoint<I> {

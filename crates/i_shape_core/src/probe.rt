@@ -1,14 +1,16 @@
 //! The view of a contour that a cleaner's walk is given, which counts its visits.
 
-ghost use Rattle.std.specs.Prelude.{◌≡◌, ◌+◌, ◌<◌, ◌≤◌, Some, map, get_or, take, drop, option_map, length, slice_get, IfOk, IsOkUnless};
+ghost use Rattle.std.specs.Prelude.{◌≡◌, ◌+◌, ◌<◌, ◌≤◌, Some, map, get_or, option_map, length, slice_get, IfOk, IsOkUnless};
 ghost use Rattle.std.specs.Option.{IfSome};
 ghost use Rattle.std.specs.List.{All};
-ghost use Rattle.i_shape_core.specs.IntPoint.{contour_of, point_of, answered, IsSafe};
+ghost use Rattle.i_shape_core.specs.IntPoint.{contour_of, point_of, answered, IsSafe, IsSafeContour};
 ghost use Rattle.i_shape_core.specs.Contour.{point_at};
 ghost use Rattle.i_shape_core.specs.Walks.{Seen};
+ghost use Rattle.i_shape_core.specs.FourTurns.{IsTurning};
 ghost use Rattle.i_shape_core.specs.Turn.{IsTurn};
 
 use crate::error::ShapeError;
+use crate::four_turns::count_turning;
 use crate::number::IntNumber;
 use crate::point::{ContourPoint, IntPoint};
 use crate::turn::{Turn, turn_of};
@@ -27,13 +29,13 @@ impl<'a, I: IntNumber, P: ContourPoint<Coordinate = I>> Model for Probe<'a, I, P
 
     ghost view = { λ p. record { contour = P.points p.points.now; visits = p.count } };
 
-    ghost invariant = { λ p. All (IsSafe I.width) (contour_of I.value (P.points p.points.now)) };
+    ghost invariant = { λ p. IsSafeContour I.width (contour_of I.value (P.points p.points.now)) };
 }
 
 impl<'a, I: IntNumber, P: ContourPoint<Coordinate = I>> Probe<'a, I, P> {
     /// A probe of a contour of safe points, with nothing visited.
     pub fn new(contour: &'a [P]) -> Probe<'a, I, P>
-        requires { All (IsSafe I.width) (contour_of I.value (P.points contour.now)) }
+        requires { IsSafeContour I.width (contour_of I.value (P.points contour.now)) }
         ensures contour { result.contour ≡ P.points contour.now }
         ensures visits { result.visits ≡ 0 }
     {
@@ -81,6 +83,20 @@ impl<'a, I: IntNumber, P: ContourPoint<Coordinate = I>> Probe<'a, I, P> {
         ensures visits { self.new.visits ≡ self.old.visits + 1 }
     {
         self.count += 1;
+    }
+
+    /// Passes over turns that are no zero turns, from the first on and four at a time, and counts a visit of each. Answers how many
+    /// they are. The closing turns aren't looked at.
+    pub(crate) fn skip_turning(&mut self) -> usize
+        requires fresh { self.old.visits ≡ 0 }
+        ensures turning { IsTurning (contour_of I.value self.old.contour) result }
+        ensures within { 2 ≤ length self.old.contour → result + 2 ≤ length self.old.contour }
+        ensures contour { self.new.contour ≡ self.old.contour }
+        ensures visits { self.new.visits ≡ result }
+    {
+        let turning = count_turning(self.points);
+        self.count += turning as u128;
+        turning
     }
 
     /// The number of visits so far.
@@ -139,34 +155,5 @@ impl<'a, I: IntNumber, P: ContourPoint<Coordinate = I>> Probe<'a, I, P> {
         };
         let (kept, visits) = self.keep(alloc, places)?;
         Ok((Some(kept), visits))
-    }
-
-    /// Writes all points to the front of `out`, and answers how many they are.
-    pub(crate) fn write_whole(&self, out: &mut [P]) -> usize
-        requires { length self.now.contour ≤ length out.old }
-        ensures count { result ≡ length self.now.contour }
-        ensures points { P.points (take result out.new) ≡ self.now.contour }
-        ensures rest { drop result out.new ≡ drop result out.old }
-        ensures len { length out.new ≡ length out.old }
-    {
-        let points = self.points;
-        out[..points.len()].copy_from_slice(points);
-        points.len()
-    }
-
-    /// Writes the points at these places to the front of `out`, in the order given, and answers how many they are.
-    pub(crate) fn write(&self, out: &mut [P], indices: &[usize]) -> usize
-        requires below { All (λ k. k < length self.now.contour) indices.now }
-        requires room { length indices.now ≤ length out.old }
-        ensures count { result ≡ length indices.now }
-        ensures points { let c = contour_of I.value self.now.contour in contour_of I.value (P.points (take result out.new)) ≡ map (point_at c) indices.now }
-        ensures rest { drop result out.new ≡ drop result out.old }
-        ensures len { length out.new ≡ length out.old }
-    {
-        let points = self.points;
-        for place in 0..indices.len() {
-            out[place] = points[indices[place]];
-        }
-        indices.len()
     }
 }

@@ -2,7 +2,7 @@
 
 ghost use Rattle.std.specs.Prelude.{◌≡◌, ◌+◌, ◌-◌, ◌<◌, ◌≤◌, ◌∷◌, ◌++◌, [], min, max, take, drop, length, slice_index, vec_len, vec_capacity};
 ghost use Rattle.std.specs.List.{range_with_len};
-ghost use Rattle.i_shape_core.specs.Walks.{Standing, LeadKept, LeadRemoved, around_gap, lead_over_gap, in_order};
+ghost use Rattle.i_shape_core.specs.Walks.{PlacedRing, LeadKept, LeadRemoved, around_gap, lead_over_gap, from_contour_first};
 
 use std::marker::Model;
 
@@ -20,7 +20,7 @@ pub struct Ring {
 }
 
 impl Model for Ring {
-    ghost Value = { Standing };
+    ghost Value = { PlacedRing };
 
     ghost view = { λ r. record { places = around_gap r.places.items r.behind r.ahead r.end; untested = r.untested; lead = lead_over_gap (r.behind + (r.end - r.ahead)) r.first r.behind } };
 
@@ -29,7 +29,7 @@ impl Model for Ring {
 
 impl Ring {
     /// The ring of all places below `count`, in this memory, with the walk at `place` and the places before it tested.
-    pub fn standing(memory: Vec<usize>, count: usize, place: usize) -> Ring
+    pub fn starting_at(memory: Vec<usize>, count: usize, place: usize) -> Ring
         requires within { place < count }
         requires empty { vec_len memory ≡ 0 }
         requires room { count ≤ vec_capacity memory }
@@ -132,7 +132,7 @@ impl Ring {
 
     /// The places that are left, in the order of the contour.
     pub fn into_order(self) -> Vec<usize>
-        ensures { result.items ≡ in_order self.places self.lead }
+        ensures { result.items ≡ from_contour_first self.places self.lead }
     {
         let mut places = self.places;
         places.copy_within(self.ahead..self.end, self.behind);

@@ -1,17 +1,16 @@
 //! Contours without zero turns: the test, the cleaned copy and its canonical forms.
 
-ghost use Rattle.std.specs.Prelude.{◌≡◌, ◌↔◌, ◌<◌, List, length, IsTrue, IfOk, IsOkUnless};
-ghost use Rattle.std.specs.Option.{IfSome};
-ghost use Rattle.std.specs.List.{All};
-ghost use Rattle.i_shape_core.specs.IntPoint.{point_of, contour_of, IsSafe, answered};
+ghost use Rattle.std.specs.Prelude.{◌≡◌, ◌↔◌, ◌<◌, List, length, IsTrue};
+ghost use Rattle.i_shape_core.specs.IntPoint.{contour_of, IsSafeContour};
 ghost use Rattle.i_shape_core.specs.Point.{Point};
-ghost use Rattle.i_shape_core.specs.Blocks.{Flat, last_edge};
-ghost use Rattle.i_shape_core.specs.Convex.{last_of};
-ghost use Rattle.i_shape_core.specs.Contour.{Sublist, IsSimple};
+ghost use Rattle.i_shape_core.specs.Contour.{IsSimple};
 ghost use Rattle.i_shape_core.specs.Cleaners.{SimpleAnswer, KeptAnswer};
 ghost use Rattle.i_shape_core.specs.Canonical.{CanonicalAnswer, UnorientedAnswer, KeptEitherWay};
+ghost use Rattle.i_shape_core.specs.Refusals.{OkUnlessMemory};
+ghost use Rattle.i_shape_core.specs.Written.{CleansTo, CleansInOrder};
 
 use crate::error::ShapeError;
+use crate::four_turns::{count_turning, is_zero_turn};
 use crate::number::IntNumber;
 use crate::point::{ContourPoint, IntContour, IntPoint};
 use crate::simplifier::ContourSimplifier;
@@ -25,7 +24,7 @@ pub trait SimpleContour<I: IntNumber> {
     /// Whether there are at least three vertices and no zero turn, the closing edge included.
     /// One pass; it takes no memory.
     fn is_simple(&self) -> bool
-        requires { All (IsSafe I.width) (contour self.now) }
+        requires { IsSafeContour I.width (contour self.now) }
         ensures { IsTrue result ↔ IsSimple (contour self.now) };
 
     /// The contour without zero turns, in the order of the input: the one end up to rotation of removing them in any order.
@@ -33,13 +32,10 @@ pub trait SimpleContour<I: IntNumber> {
     /// kept, and the points are safe again.
     /// The only error is `OutOfMemory`; below three points no memory is taken.
     fn simplified(&self, alloc: Global) -> Result<Option<IntContour<I>>, ShapeError>
-        requires { All (IsSafe I.width) (contour self.now) }
-        ensures answer { IfOk result (λ r. SimpleAnswer (contour self.now) (answered (contour_of I.value) r)) }
-        ensures in_order { IfOk result (λ r. IfSome r (λ kept. Sublist (contour self.now) (contour_of I.value kept.items))) }
-        ensures kept { IfOk result (λ r. KeptAnswer (contour self.now) (answered (contour_of I.value) r)) }
-        ensures safe { IfOk result (λ r. IfSome r (λ kept. All (IsSafe I.width) (contour_of I.value kept.items))) }
-        ensures short { length (contour self.now) < 3 → result ≡ Ok None }
-        ensures memory { IsOkUnless result ShapeError.OutOfMemory };
+        requires { IsSafeContour I.width (contour self.now) }
+        ensures answer { OkUnlessMemory result
+            (CleansInOrder SimpleAnswer I.width I.value (contour self.now)) }
+        ensures short { length (contour self.now) < 3 → result ≡ Ok None };
 
     /// The canonical form: of the contour without zero turns the rotation that comes first, where lists are compared
     /// point by point, and points by x and then by y. Two contours that don't collapse have the same canonical form
@@ -47,12 +43,10 @@ pub trait SimpleContour<I: IntNumber> {
     /// `None` exactly where `simplified` is. Double area, containment and winding numbers are kept, and the points are safe again.
     /// The only error is `OutOfMemory`; below three points no memory is taken.
     fn canonical(&self, alloc: Global) -> Result<Option<IntContour<I>>, ShapeError>
-        requires { All (IsSafe I.width) (contour self.now) }
-        ensures answer { IfOk result (λ r. CanonicalAnswer (contour self.now) (answered (contour_of I.value) r)) }
-        ensures kept { IfOk result (λ r. KeptAnswer (contour self.now) (answered (contour_of I.value) r)) }
-        ensures safe { IfOk result (λ r. IfSome r (λ kept. All (IsSafe I.width) (contour_of I.value kept.items))) }
-        ensures short { length (contour self.now) < 3 → result ≡ Ok None }
-        ensures memory { IsOkUnless result ShapeError.OutOfMemory };
+        requires { IsSafeContour I.width (contour self.now) }
+        ensures answer { OkUnlessMemory result
+            (CleansTo CanonicalAnswer KeptAnswer I.width I.value (contour self.now)) }
+        ensures short { length (contour self.now) < 3 → result ≡ Ok None };
 
     /// The canonical form whichever way round the contour is wound: the one that comes first of the canonical forms of the contour
     /// and of the contour read backwards. Two contours that don't collapse have the same such form exactly where removals and
@@ -61,12 +55,10 @@ pub trait SimpleContour<I: IntNumber> {
     /// opposites; the points are safe again.
     /// The only error is `OutOfMemory`; below three points no memory is taken.
     fn canonical_unoriented(&self, alloc: Global) -> Result<Option<IntContour<I>>, ShapeError>
-        requires { All (IsSafe I.width) (contour self.now) }
-        ensures answer { IfOk result (λ r. UnorientedAnswer (contour self.now) (answered (contour_of I.value) r)) }
-        ensures kept { IfOk result (λ r. KeptEitherWay (contour self.now) (answered (contour_of I.value) r)) }
-        ensures safe { IfOk result (λ r. IfSome r (λ kept. All (IsSafe I.width) (contour_of I.value kept.items))) }
-        ensures short { length (contour self.now) < 3 → result ≡ Ok None }
-        ensures memory { IsOkUnless result ShapeError.OutOfMemory };
+        requires { IsSafeContour I.width (contour self.now) }
+        ensures answer { OkUnlessMemory result
+            (CleansTo UnorientedAnswer KeptEitherWay I.width I.value (contour self.now)) }
+        ensures short { length (contour self.now) < 3 → result ≡ Ok None };
 }
 
 impl<I: IntNumber> SimpleContour<I> for &[IntPoint<I>] {
@@ -91,55 +83,23 @@ impl<I: IntNumber> SimpleContour<I> for &[IntPoint<I>] {
 
 /// Whether there are at least three points and no zero turn, the closing edge included. One pass; it takes no memory.
 pub fn is_simple<P: ContourPoint>(contour: &[P]) -> bool
-    requires { All (IsSafe P.Coordinate.width) (contour_of P.Coordinate.value (P.points contour.now)) }
+    requires { IsSafeContour P.Coordinate.width (contour_of P.Coordinate.value (P.points contour.now)) }
     ensures { IsTrue result ↔ IsSimple (contour_of P.Coordinate.value (P.points contour.now)) }
 {
     if contour.len() < 3 {
         return false;
     }
     let last = contour.len() - 1;
-    let mut here = contour[last].to_point();
-    let mut edge = here - contour[last - 1].to_point();
-    let mut rest = contour;
-    // Blocks of four points, which the compiler can write out one after the other.
-    while rest.len() >= 4 {
-        let (block, later) = rest.split_at(4);
-        let (has_zero_turn, last_edge, end) = walk_block(edge, here, block);
-        if has_zero_turn {
+    let turning = count_turning(contour);
+    if contour.len() >= 6 && turning < last - 1 {
+        return false;
+    }
+    for place in turning..last - 1 {
+        if is_zero_turn(contour, place, place + 1, place + 2) {
             return false;
         }
-        edge = last_edge;
-        here = end;
-        rest = later;
     }
-    let (has_zero_turn, _last_edge, _end) = walk_block(edge, here, rest);
-    !has_zero_turn
-}
-
-/// Walks over a block of points from `start`, to which the edge `first` leads: whether it passes a zero turn, its last edge, and
-/// its last point. It has no early end, and so no branch between points.
-#[inline(always)]
-fn walk_block<P: ContourPoint>(
-    first: IntPoint<P::Coordinate>,
-    start: IntPoint<P::Coordinate>,
-    block: &[P],
-) -> (bool, IntPoint<P::Coordinate>, IntPoint<P::Coordinate>)
-    requires start_safe { IsSafe P.Coordinate.width (point_of P.Coordinate.value start) }
-    requires block_safe { All (IsSafe P.Coordinate.width) (contour_of P.Coordinate.value (P.points block.now)) }
-    ensures flat { IsTrue result.0 ↔ Flat (point_of P.Coordinate.value first) (point_of P.Coordinate.value start) (contour_of P.Coordinate.value (P.points block.now)) }
-    ensures edge { point_of P.Coordinate.value result.1 ≡ last_edge (point_of P.Coordinate.value first) (point_of P.Coordinate.value start) (contour_of P.Coordinate.value (P.points block.now)) }
-    ensures end { point_of P.Coordinate.value result.2 ≡ last_of (point_of P.Coordinate.value start) (contour_of P.Coordinate.value (P.points block.now)) }
-    ensures end_safe { IsSafe P.Coordinate.width (point_of P.Coordinate.value result.2) }
-{
-    let mut edge = first;
-    let mut here = start;
-    let mut has_zero_turn = false;
-    for given in block {
-        let point = given.to_point();
-        let next = point - here;
-        has_zero_turn = has_zero_turn | edge.is_parallel_to(next);
-        edge = next;
-        here = point;
-    }
-    (has_zero_turn, edge, here)
+    let closes_straight = is_zero_turn(contour, last - 1, last, 0);
+    let opens_straight = is_zero_turn(contour, last, 0, 1);
+    !(closes_straight | opens_straight)
 }

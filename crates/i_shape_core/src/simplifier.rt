@@ -1,20 +1,22 @@
 //! The cleaner that removes zero turns.
 
-ghost use Rattle.std.specs.Prelude.{◌≡◌, ◌↔◌, ◌+◌, ◌-◌, ◌*◌, ◌^◌, ◌<◌, ◌≤◌, map, take, drop, min, option_map, IsTrue, length, vec_len, vec_capacity, IfOk, OnErr, IsOkUnless, None};
+ghost use Rattle.std.specs.Prelude.{◌≡◌, ◌↔◌, ◌+◌, ◌-◌, ◌*◌, ◌^◌, ◌<◌, ◌≤◌, map, take, drop, min, option_map, IsTrue, length, vec_len, vec_capacity, IfOk, IsOkUnless, None};
 ghost use Rattle.std.specs.Option.{IfSome};
-ghost use Rattle.std.specs.List.{All, range_with_len};
-ghost use Rattle.i_shape_core.specs.IntPoint.{contour_of, IsSafe, answered};
+ghost use Rattle.std.specs.List.{range_with_len};
+ghost use Rattle.i_shape_core.specs.IntPoint.{contour_of, answered, IsSafeContour};
 ghost use Rattle.i_shape_core.specs.Point.{IsZeroTurn};
 ghost use Rattle.i_shape_core.specs.Contour.{End, IsSimple, Sublist, point_at};
 ghost use Rattle.i_shape_core.specs.Cleaners.{SimpleAnswer, KeptAnswer, VisitsAnswer};
-ghost use Rattle.i_shape_core.specs.Written.{IsWritten};
-ghost use Rattle.i_shape_core.specs.Walks.{IsWalked, IsStacked, IsSettled, WalkAnswer};
+ghost use Rattle.i_shape_core.specs.Walks.{RisingPlaces, IsWalked, IsStacked, IsSettled, WalkAnswer};
+ghost use Rattle.i_shape_core.specs.Refusals.{OkUnlessMemory};
+ghost use Rattle.i_shape_core.specs.Written.{CleansInOrder, CleansInto};
 
 use crate::error::ShapeError;
 use crate::number::IntNumber;
 use crate::point::{ContourPoint, IntContour, IntPoint};
 use crate::probe::Probe;
 use crate::turn::Turn;
+use crate::write::{write_at, write_whole};
 use std::alloc::Global;
 
 /// Removes zero turns. It keeps its memory from one contour to the next.
@@ -46,13 +48,10 @@ impl ContourSimplifier {
         &mut self,
         contour: &[IntPoint<I>],
     ) -> Result<Option<IntContour<I>>, ShapeError>
-        requires { All (IsSafe I.width) (contour_of I.value contour.now) }
-        ensures answer { IfOk result (λ r. SimpleAnswer (contour_of I.value contour.now) (answered (contour_of I.value) r)) }
-        ensures in_order { IfOk result (λ r. IfSome r (λ kept. Sublist (contour_of I.value contour.now) (contour_of I.value kept.items))) }
-        ensures kept { IfOk result (λ r. KeptAnswer (contour_of I.value contour.now) (answered (contour_of I.value) r)) }
-        ensures safe { IfOk result (λ r. IfSome r (λ kept. All (IsSafe I.width) (contour_of I.value kept.items))) }
+        requires { IsSafeContour I.width (contour_of I.value contour.now) }
+        ensures answer { let c = contour_of I.value contour.now in
+            OkUnlessMemory result (CleansInOrder SimpleAnswer I.width I.value c) }
         ensures short { length contour.now < 3 → result ≡ Ok None }
-        ensures memory { IsOkUnless result ShapeError.OutOfMemory }
     {
         let (kept, _visits) = self.simplify_counted(contour)?;
         Ok(kept)
@@ -64,14 +63,11 @@ impl ContourSimplifier {
         &mut self,
         contour: &[IntPoint<I>],
     ) -> Result<(Option<IntContour<I>>, u128), ShapeError>
-        requires { All (IsSafe I.width) (contour_of I.value contour.now) }
-        ensures answer { IfOk result (λ r. SimpleAnswer (contour_of I.value contour.now) (answered (contour_of I.value) r.0)) }
-        ensures in_order { IfOk result (λ r. IfSome r.0 (λ kept. Sublist (contour_of I.value contour.now) (contour_of I.value kept.items))) }
-        ensures kept { IfOk result (λ r. KeptAnswer (contour_of I.value contour.now) (answered (contour_of I.value) r.0)) }
-        ensures safe { IfOk result (λ r. IfSome r.0 (λ kept. All (IsSafe I.width) (contour_of I.value kept.items))) }
+        requires { IsSafeContour I.width (contour_of I.value contour.now) }
+        ensures answer { let c = contour_of I.value contour.now in
+            OkUnlessMemory result (λ r. CleansInOrder SimpleAnswer I.width I.value c r.0) }
         ensures visits { IfOk result (λ r. VisitsAnswer (contour_of I.value contour.now) (answered (contour_of I.value) r.0) r.1) }
         ensures short { length contour.now < 3 → result ≡ Ok (None, 0) }
-        ensures memory { IsOkUnless result ShapeError.OutOfMemory }
     {
         if contour.len() < 3 {
             return Ok((None, 0));
@@ -93,27 +89,23 @@ impl ContourSimplifier {
         contour: &[P],
         out: &mut [P],
     ) -> Result<usize, ShapeError>
-        requires points_safe { All (IsSafe P.Coordinate.width) (contour_of P.Coordinate.value (P.points contour.now)) }
+        requires points_safe { IsSafeContour P.Coordinate.width (contour_of P.Coordinate.value (P.points contour.now)) }
         requires room { length contour.now ≤ length out.old }
-        ensures written { IfOk result (λ n. IsWritten SimpleAnswer KeptAnswer P.Coordinate.width (λ list. contour_of P.Coordinate.value (P.points list)) contour.now out.old out.new n) }
-        ensures len { length out.new ≡ length out.old }
-        ensures err { OnErr result (out.new ≡ out.old) }
-        ensures short { length contour.now < 3 → result ≡ Ok 0 }
-        ensures unclean { OnErr result (IsSimple (contour_of P.Coordinate.value (P.points contour.now)) → ⊥) }
-        ensures memory { IsOkUnless result ShapeError.OutOfMemory }
+        ensures { CleansInto IsSimple SimpleAnswer KeptAnswer Sublist P.Coordinate.width
+            (λ list. contour_of P.Coordinate.value (P.points list)) contour.now out.old out.new result }
     {
         if contour.len() < 3 {
             return Ok(0);
         }
         let mut probe = Probe::new(contour);
         let Some(start) = start_of_walk(&mut probe) else {
-            return Ok(probe.write_whole(out));
+            return Ok(write_whole(contour, out));
         };
-        let (probe, left) = self.walk(probe, start)?;
+        let (_probe, left) = self.walk(probe, start)?;
         let Some(places) = left else {
             return Ok(0);
         };
-        Ok(probe.write(out, places))
+        Ok(write_at(contour, places, out))
     }
 
     /// Walks on from a start. Gives the places that are left, `None` where these are fewer than three.
@@ -123,12 +115,12 @@ impl ContourSimplifier {
         start: (usize, usize, usize),
     ) -> Result<(Probe<'a, P::Coordinate, P>, Option<&[usize]>), ShapeError>
         requires walked { IsWalked IsZeroTurn (contour_of P.Coordinate.value probe.contour) (range_with_len start.0 (start.1 - start.0)) start.2 probe.visits }
-        requires in_order { start.0 ≤ start.1 }
+        requires rising { start.0 ≤ start.1 }
         requires end_within { start.1 ≤ length probe.contour }
         requires place_within { start.2 ≤ length probe.contour }
         ensures contour { IfOk result (λ r. r.0.contour ≡ probe.entry.contour) }
         ensures answer { let c = contour_of P.Coordinate.value probe.entry.contour in IfOk result (λ r. WalkAnswer IsZeroTurn c (option_map (λ places. map (point_at c) places.now) r.1) r.0.visits) }
-        ensures below { IfOk result (λ r. IfSome r.1 (λ places. All (λ k. k < length probe.entry.contour) places.now)) }
+        ensures rising { IfOk result (λ r. IfSome r.1 (λ places. RisingPlaces (length probe.entry.contour) places.now)) }
         ensures memory { IsOkUnless result ShapeError.OutOfMemory }
     {
         let (first, end, place) = start;
@@ -150,12 +142,14 @@ fn clean_prefix<P: ContourPoint>(probe: &mut Probe<'_, P::Coordinate, P>) -> usi
     ensures zero_turn { let c = contour_of P.Coordinate.value probe.old.contour in result < length c → IsZeroTurn (point_at c (result - 2)) (point_at c (result - 1)) (point_at c result) }
     ensures visits { probe.new.visits + 2 ≡ min (result + 1) (length probe.old.contour) }
 {
-    for place in 2..probe.len() {
+    let count = probe.len();
+    let turning = probe.skip_turning();
+    for place in turning + 2..count {
         if is_zero_at(probe, place - 2, place - 1, place) {
             return place;
         }
     }
-    probe.len()
+    count
 }
 
 /// Where the contour has a zero turn: the first place and the end of a stack of places, none of them at a zero turn, and the place
@@ -167,7 +161,7 @@ fn start_of_walk<P: ContourPoint>(
     requires enough { 3 ≤ length probe.old.contour }
     ensures contour { probe.new.contour ≡ probe.old.contour }
     ensures walked { IfSome result (λ s. IsWalked IsZeroTurn (contour_of P.Coordinate.value probe.old.contour) (range_with_len s.0 (s.1 - s.0)) s.2 probe.new.visits) }
-    ensures in_order { IfSome result (λ s. s.0 ≤ s.1) }
+    ensures rising { IfSome result (λ s. s.0 ≤ s.1) }
     ensures end_within { IfSome result (λ s. s.1 ≤ length probe.old.contour) }
     ensures place_within { IfSome result (λ s. s.2 ≤ length probe.old.contour) }
     ensures clean { let c = contour_of P.Coordinate.value probe.old.contour in result ≡ None → End IsZeroTurn c c }
@@ -191,7 +185,7 @@ fn start_of_walk<P: ContourPoint>(
 
 /// Puts the places from `first` on and before `end` on the stack, in place of what it holds, and makes room for `count`.
 fn fill(stack: &mut Vec<usize>, count: usize, first: usize, end: usize) -> Result<(), ShapeError>
-    requires in_order { first ≤ end }
+    requires rising { first ≤ end }
     requires within { end - first ≤ count }
     ensures items { IfOk result (λ _. stack.new.items ≡ range_with_len first (end - first)) }
     ensures room { IfOk result (λ _. count ≤ vec_capacity stack.new) }
@@ -277,7 +271,7 @@ fn close<'a, 's, P: ContourPoint>(
     requires room { length probe.contour ≤ usize.MAX }
     ensures contour { result.0.contour ≡ probe.entry.contour }
     ensures answer { let c = contour_of P.Coordinate.value probe.entry.contour in WalkAnswer IsZeroTurn c (option_map (λ places. map (point_at c) places.now) result.1) result.0.visits }
-    ensures below { IfSome result.1 (λ places. All (λ k. k < length probe.entry.contour) places.now) }
+    ensures rising { IfSome result.1 (λ places. RisingPlaces (length probe.entry.contour) places.now) }
 {
     let mut left = stack;
     while left.len() >= 3 {

@@ -1,6 +1,6 @@
 //! The kinds of turn at a vertex.
 
-ghost use Rattle.std.specs.Prelude.{◌≡◌, pos};
+ghost use Rattle.std.specs.Prelude.{◌≡◌};
 ghost use Rattle.i_shape_core.specs.IntPoint.{point_of, IsSafe};
 ghost use Rattle.i_shape_core.specs.Turn.{IsTurn};
 

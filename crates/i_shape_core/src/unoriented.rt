@@ -1,12 +1,11 @@
 //! The form of a contour whichever way round it is wound: the lesser of its canonical form and that of the contour read backwards.
 
-ghost use Rattle.std.specs.Prelude.{◌≡◌, ◌<◌, ◌≤◌, false, length, reverse, IsTrue, IfOk, OnErr, IsOkUnless};
-ghost use Rattle.std.specs.Option.{IfSome};
-ghost use Rattle.std.specs.List.{All};
-ghost use Rattle.i_shape_core.specs.IntPoint.{contour_of, IsSafe, answered};
-ghost use Rattle.i_shape_core.specs.Contour.{IsSimple};
+ghost use Rattle.std.specs.Prelude.{◌≡◌, ◌⊎◌, ◌<◌, ◌≤◌, false, length, reverse, IsTrue};
+ghost use Rattle.i_shape_core.specs.IntPoint.{contour_of, IsSafeContour};
+ghost use Rattle.i_shape_core.specs.Contour.{IsSimple, SublistEitherWay, Rotation};
 ghost use Rattle.i_shape_core.specs.Canonical.{IsAtMost, IsLesserWay, UnorientedAnswer, KeptEitherWay, started_at};
-ghost use Rattle.i_shape_core.specs.Written.{IsWritten};
+ghost use Rattle.i_shape_core.specs.Refusals.{OkUnlessMemory};
+ghost use Rattle.i_shape_core.specs.Written.{CleansTo, CleansInto};
 
 use crate::canonical::{least_start, place_at_step};
 use crate::comparer::Comparer;
@@ -23,17 +22,15 @@ impl ContourSimplifier {
         &mut self,
         contour: &[IntPoint<I>],
     ) -> Result<Option<IntContour<I>>, ShapeError>
-        requires { All (IsSafe I.width) (contour_of I.value contour.now) }
-        ensures answer { IfOk result (λ r. UnorientedAnswer (contour_of I.value contour.now) (answered (contour_of I.value) r)) }
-        ensures kept { IfOk result (λ r. KeptEitherWay (contour_of I.value contour.now) (answered (contour_of I.value) r)) }
-        ensures safe { IfOk result (λ r. IfSome r (λ kept. All (IsSafe I.width) (contour_of I.value kept.items))) }
+        requires { IsSafeContour I.width (contour_of I.value contour.now) }
+        ensures answer { let c = contour_of I.value contour.now in
+            OkUnlessMemory result (CleansTo UnorientedAnswer KeptEitherWay I.width I.value c) }
         ensures short { length contour.now < 3 → result ≡ Ok None }
-        ensures memory { IsOkUnless result ShapeError.OutOfMemory }
     {
         let Some(mut kept) = self.canonical(contour)? else {
             return Ok(None);
         };
-        turn_to_lesser(kept.as_mut_slice());
+        rotate_to_lesser(kept.as_mut_slice());
         Ok(Some(kept))
     }
 
@@ -45,27 +42,24 @@ impl ContourSimplifier {
         contour: &[P],
         out: &mut [P],
     ) -> Result<usize, ShapeError>
-        requires points_safe { All (IsSafe P.Coordinate.width) (contour_of P.Coordinate.value (P.points contour.now)) }
+        requires points_safe { IsSafeContour P.Coordinate.width (contour_of P.Coordinate.value (P.points contour.now)) }
         requires room { length contour.now ≤ length out.old }
-        ensures written { IfOk result (λ n. IsWritten UnorientedAnswer KeptEitherWay P.Coordinate.width (λ list. contour_of P.Coordinate.value (P.points list)) contour.now out.old out.new n) }
-        ensures len { length out.new ≡ length out.old }
-        ensures err { OnErr result (out.new ≡ out.old) }
-        ensures short { length contour.now < 3 → result ≡ Ok 0 }
-        ensures unclean { OnErr result (IsSimple (contour_of P.Coordinate.value (P.points contour.now)) → ⊥) }
-        ensures memory { IsOkUnless result ShapeError.OutOfMemory }
+        ensures { CleansInto IsSimple UnorientedAnswer KeptEitherWay SublistEitherWay P.Coordinate.width
+            (λ list. contour_of P.Coordinate.value (P.points list)) contour.now out.old out.new result }
     {
         let count = self.canonical_into(contour, out)?;
         if count > 0 {
-            turn_to_lesser(&mut out[..count]);
+            rotate_to_lesser(&mut out[..count]);
         }
         Ok(count)
     }
 }
 
-/// Turns a contour in place to the least rotation of the contour read backwards, where that comes first; otherwise it stays.
-fn turn_to_lesser<P: ContourPoint>(contour: &mut [P])
+/// Brings a contour in place to the least rotation of the contour read backwards, where that comes first; otherwise it stays.
+fn rotate_to_lesser<P: ContourPoint>(contour: &mut [P])
     requires { 0 < length contour.old }
     ensures lesser { IsLesserWay (contour_of P.Coordinate.value (P.points contour.old)) (contour_of P.Coordinate.value (P.points contour.new)) }
+    ensures picked { (contour.new ≡ contour.old) ⊎ Rotation (reverse contour.old) contour.new }
     ensures len { length contour.new ≡ length contour.old }
 {
     contour.reverse();

@@ -1,8 +1,7 @@
 //! How often a contour winds about a point, over points of any type.
 
 ghost use Rattle.std.specs.Prelude.{◌≡◌, ◌≤◌, ◌++◌, length, map, drop};
-ghost use Rattle.std.specs.List.{All};
-ghost use Rattle.i_shape_core.specs.IntPoint.{point_of, contour_of, IsSafe};
+ghost use Rattle.i_shape_core.specs.IntPoint.{point_of, contour_of, IsSafe, IsSafeContour};
 ghost use Rattle.i_shape_core.specs.Winding.{winding, winding_of_edge, IsWithinHalf};
 
 use crate::contour::passes_right;
@@ -13,7 +12,7 @@ use crate::point::{ContourPoint, IntPoint};
 /// right of it, less those that do so downwards. That is at most half the number of points away from 0. A contour without points
 /// winds about none.
 pub fn winding_about<P: ContourPoint>(contour: &[P], point: IntPoint<P::Coordinate>) -> isize
-    requires points_safe { All (IsSafe P.Coordinate.width) (contour_of P.Coordinate.value (P.points contour.now)) }
+    requires points_safe { IsSafeContour P.Coordinate.width (contour_of P.Coordinate.value (P.points contour.now)) }
     requires point_safe { IsSafe P.Coordinate.width (point_of P.Coordinate.value point) }
     ensures answer { result ≡ winding (contour_of P.Coordinate.value (P.points contour.now)) (point_of P.Coordinate.value point) }
     ensures half { IsWithinHalf (length contour.now) result }
@@ -22,13 +21,13 @@ pub fn winding_about<P: ContourPoint>(contour: &[P], point: IntPoint<P::Coordina
         return 0;
     };
     let mut before = (*last).to_point();
-    let mut turns: isize = 0;
+    let mut total: isize = 0;
     for given in contour {
         let end = (*given).to_point();
-        turns += turn_about(point, before, end);
+        total += edge_winding(point, before, end);
         before = end;
     }
-    turns
+    total
 }
 
 /// Writes how often the contour winds about each of the points, as `winding_about` answers it, to the front of `out`, which is at
@@ -38,8 +37,8 @@ pub fn windings_about<P: ContourPoint, Q: ContourPoint<Coordinate = P::Coordinat
     points: &[Q],
     out: &mut [isize],
 )
-    requires contour_safe { All (IsSafe P.Coordinate.width) (contour_of P.Coordinate.value (P.points contour.now)) }
-    requires points_safe { All (IsSafe P.Coordinate.width) (contour_of P.Coordinate.value (Q.points points.now)) }
+    requires contour_safe { IsSafeContour P.Coordinate.width (contour_of P.Coordinate.value (P.points contour.now)) }
+    requires points_safe { IsSafeContour P.Coordinate.width (contour_of P.Coordinate.value (Q.points points.now)) }
     requires room { length points.now ≤ length out.old }
     ensures { out.new ≡ map (winding (contour_of P.Coordinate.value (P.points contour.now))) (contour_of P.Coordinate.value (Q.points points.now)) ++ drop (length points.now) out.old }
 {
@@ -49,7 +48,7 @@ pub fn windings_about<P: ContourPoint, Q: ContourPoint<Coordinate = P::Coordinat
 }
 
 /// What the edge from `start` to `end` adds to the winding number about `point`.
-fn turn_about<I: IntNumber>(point: IntPoint<I>, start: IntPoint<I>, end: IntPoint<I>) -> isize
+fn edge_winding<I: IntNumber>(point: IntPoint<I>, start: IntPoint<I>, end: IntPoint<I>) -> isize
     requires point_safe { IsSafe I.width (point_of I.value point) }
     requires start_safe { IsSafe I.width (point_of I.value start) }
     requires end_safe { IsSafe I.width (point_of I.value end) }

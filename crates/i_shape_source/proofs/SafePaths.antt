@@ -1,5 +1,5 @@
 -- The safe paths of a contour, a shape and a list of shapes.
-use Rattle.std.proofs.Common.{◌≡◌, ◌↔◌, Bool, false, IsTrue, ℤ, List, [], ◌∷◌, ◌++◌, map, subst, sym}
+use Rattle.std.proofs.Common.{◌↔◌, ℤ, List, [], ◌∷◌, ◌++◌, map}
 use Rattle.std.specs.Global.{Vec}
 use Rattle.std.specs.Int.{Width}
 use Rattle.std.specs.List.{All}
@@ -8,47 +8,35 @@ use Rattle.std.proofs.lemmas.List.Elements.{All-nil, All-cons, All-head, All-tai
 use Rattle.std.proofs.lemmas.Simd.{map-map}
 use Rattle.i_shape_core.specs.declared.point.IntPoint.{IntPoint}
 use Rattle.i_shape_core.specs.IntPoint.{contour_of, IsSafe}
-use Rattle.i_shape_core.proofs.AllTold.{mapped}
+use Rattle.i_shape_core.proofs.lists.Mapped.{all_mapped}
 use Rattle.i_shape_source.specs.Paths.{paths_of_shape, paths_of_shapes}
 use Rattle.i_shape_source.specs.ShapeLists.{shape_of, shapes_of, IsSafeShape, IsSafeList, AreSafePaths}
 
 module _ {X : Type 0} (P : X → Type 0) where
   -- what holds of each member of two lists end to end holds of each member of either
-  pub parts : (xs ys : List X) → All P (xs ++ ys) → All P xs × All P ys
-  parts [] ys h = (All-nil P, h)
-  parts (x ∷ xs) ys h =
-      let rest = parts xs ys (All-tail P x (xs ++ ys) h) in
+  pub all_parts : (xs ys : List X) → All P (xs ++ ys) → All P xs × All P ys
+  all_parts [] ys h = (All-nil P, h)
+  all_parts (x ∷ xs) ys h =
+      let rest = all_parts xs ys (All-tail P x (xs ++ ys) h) in
       (All-cons P x xs (All-head P x (xs ++ ys) h) rest.0, rest.1)
 
   -- a list of one member
-  alone : (x : X) → All P (x ∷ []) ↔ P x
-  alone x = (λ h. All-head P x [] h, λ h. All-cons P x [] h (All-nil P))
-
-  -- after a block that passes, a list passes where the rest does
-  pub block_on : (path rest block later : List X) (b : Bool) → rest ≡ block ++ later → IsTrue b ↔ All P block → IsTrue b → All P rest ↔ All P path → All P later ↔ All P path
-  block_on path rest block later b e f t w =
-      (λ h. w.0 (subst (All P) (sym e) (All-append P block later (f.0 t) h)), λ h. let both = parts block later (subst (All P) e (w.1 h)) in both.1)
-
-  -- and at a block that doesn't, it doesn't
-  pub block_stops : (path rest block later : List X) (b : Bool) → rest ≡ block ++ later → IsTrue b ↔ All P block → b ≡ false → All P rest ↔ All P path → All P path → ⊥
-  block_stops path rest block later b e f n w h =
-      let both = parts block later (subst (All P) e (w.1 h)) in
-      let t = f.1 both.0 in
-      absurd (cc)
+  all_of_one : (x : X) → All P (x ∷ []) ↔ P x
+  all_of_one x = (λ h. All-head P x [] h, λ h. All-cons P x [] h (All-nil P))
 
 module _ {I : Type 0} (width : Width) (value : I → ℤ) where
   -- one path is safe where its points are
   pub safe_path : (path : List (IntPoint I)) → AreSafePaths width value (path ∷ []) ↔ All (IsSafe width) (contour_of value path)
   unfolding AreSafePaths
-  safe_path path = alone (All (IsSafe width)) (contour_of value path)
+  safe_path path = all_of_one (All (IsSafe width)) (contour_of value path)
 
   -- paths are safe where each alone is
   pub safe_paths : (paths : List (List (IntPoint I))) → All (λ path. AreSafePaths width value (path ∷ [])) paths ↔ AreSafePaths width value paths
   unfolding AreSafePaths
   safe_paths paths =
-      let same = mapped (All (IsSafe width)) (contour_of value) paths in (
-        λ h. same.0 (All-weaker _ _ (λ path. (alone (All (IsSafe width)) (contour_of value path)).0) paths h),
-        λ h. All-weaker _ _ (λ path. (alone (All (IsSafe width)) (contour_of value path)).1) paths (same.1 h),
+      let same = all_mapped (All (IsSafe width)) (contour_of value) paths in (
+        λ h. same.0 (All-weaker _ _ (λ path. (all_of_one (All (IsSafe width)) (contour_of value path)).0) paths h),
+        λ h. All-weaker _ _ (λ path. (all_of_one (All (IsSafe width)) (contour_of value path)).1) paths (same.1 h),
       )
 
   -- the paths of a shape are safe where the shape is
@@ -63,7 +51,7 @@ module _ {I : Type 0} (width : Width) (value : I → ℤ) where
   to_list [] h = All-nil (IsSafeShape width)
   to_list (shape ∷ shapes) h =
       let more = map-append (contour_of value) (paths_of_shape shape.items) (paths_of_shapes shapes) in
-      let both = parts (All (IsSafe width)) (map (contour_of value) (paths_of_shape shape.items)) (map (contour_of value) (paths_of_shapes shapes)) (rw more at h) in
+      let both = all_parts (All (IsSafe width)) (map (contour_of value) (paths_of_shape shape.items)) (map (contour_of value) (paths_of_shapes shapes)) (rw more at h) in
       All-cons (IsSafeShape width) (shape_of value shape.items) (shapes_of value shapes) ((safe_shape shape.items).0 both.0) (to_list shapes both.1)
 
   from_list : (shapes : List (Vec (Vec (IntPoint I)))) → IsSafeList width (shapes_of value shapes) → AreSafePaths width value (paths_of_shapes shapes)

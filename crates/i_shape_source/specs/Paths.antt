@@ -5,7 +5,7 @@ use Rattle.std.specs.Global.{Vec}
 use Rattle.std.specs.Iterator.{AlwaysYields}
 use Rattle.std.specs.Iterator.Runs.{EachRunFrom, ItemsMapTo}
 
--- each member of a list of paths
+-- the paths of a shape
 abbrev pub paths_of_shape : {P : Type 0} → List (Vec P) → List (List P)
 paths_of_shape shape = map (λ path. path.items) shape
 
@@ -14,15 +14,15 @@ abbrev pub shape_lists : {P : Type 0} → List (Vec (Vec P)) → List (List (Lis
 shape_lists shapes = map (λ shape. paths_of_shape shape.items) shapes
 
 -- lists end to end
-abbrev pub joined : {P : Type 0} → List (List P) → List P
-joined [] = []
-joined (part ∷ parts) = part ++ joined parts
+abbrev pub concatenated : {P : Type 0} → List (List P) → List P
+concatenated [] = []
+concatenated (part ∷ parts) = part ++ concatenated parts
 
--- each path of each shape
+-- the paths of a list of shapes, shape by shape
 abbrev pub paths_of_shapes : {P : Type 0} → List (Vec (Vec P)) → List (List P)
-paths_of_shapes shapes = joined (shape_lists shapes)
+paths_of_shapes shapes = concatenated (shape_lists shapes)
 
--- each member of a list of borrowed paths
+-- the paths that a list of borrowed paths points to
 abbrev pub paths_of_slices : {P : Type 0} → List (Bor (List P)) → List (List P)
 paths_of_slices slices = map (λ path. path.now) slices
 
@@ -40,6 +40,6 @@ module _ {S P : Type 0} (steps : S → Option (Bor (List P)) → S → Type 0) (
   pub record LendsExactly : Type 0 where
     pub lends : AlwaysYields steps path_of s paths
 
-  -- the same, as a chain of iterators reads it
+  -- every run of calls from s lends the paths one by one, in the form that a chain of iterators reads
   abbrev pub RunsThrough : Type 0
   RunsThrough = EachRunFrom steps s (λ run. ItemsMapTo run path_of paths)

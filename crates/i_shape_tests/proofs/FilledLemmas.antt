@@ -9,6 +9,7 @@ use Rattle.i_shape.specs.ShapeLists.{shape_of}
 use Rattle.i_shape.specs.ShapeAnswers.{HasPoints}
 use Rattle.i_shape.specs.declared.int.IntPoint.{IntPoint}
 
+-- contours that have points, and one more that has, all have points
 pub filled-pushed : {I : Type 0} (value : I → ℤ) (xs ys : List (Vec (IntPoint I))) (c : Vec (IntPoint I)) → ys ≡ xs ++ c ∷ []
     → All HasPoints (shape_of value xs) → HasPoints (contour_of value c.items) → All HasPoints (shape_of value ys)
 filled-pushed {I} value xs ys c e filled one =

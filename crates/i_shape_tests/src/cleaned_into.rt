@@ -168,6 +168,27 @@ fn marks<P: ContourPoint>(alloc: Global, mark: P, count: usize) -> Result<Vec<P>
     Ok(marks)
 }
 
+/// Vertices that stand where these points do, with a number that no vertex of a contour has, and marks behind them.
+fn stale<I: IntNumber>(
+    alloc: Global,
+    mark: Vertex<I>,
+    points: &[[I; 2]],
+    count: usize,
+) -> Result<Vec<Vertex<I>>, AllocError> {
+    let mut vertices = Vec::new(alloc);
+    for [x, y] in points {
+        vertices.push(Vertex {
+            id: usize::MAX,
+            x: *x,
+            y: *y,
+        })?;
+    }
+    for _ in points.len()..count {
+        vertices.push(mark)?;
+    }
+    Ok(vertices)
+}
+
 /// Whether the points have these coordinates.
 fn are_at<P: ContourPoint>(points: &[P], left: &[[P::Coordinate; 2]]) -> bool {
     points.len() == left.len()
@@ -280,6 +301,7 @@ fn are_turned<I: IntNumber>(vertices: &[Vertex<I>]) -> bool {
 }
 
 /// Each call writes vertices of the contour, with the numbers that they have, in their order: the canonical form from some start on.
+/// It writes them too where vertices of other numbers stand at the same points.
 fn vertices_are_written<I: IntNumber>(
     rt: &impl Abort,
     alloc: Global,
@@ -316,6 +338,23 @@ fn vertices_are_written<I: IntNumber>(
             _ => are_in_order(kept),
         };
         holds(rt, is_ordered, row, "the order of the vertices");
+        let mut over = stale(alloc, mark, left, given.len())?;
+        let again = written(
+            rt,
+            alloc,
+            cleaners,
+            row,
+            call,
+            given.as_slice(),
+            over.as_mut_slice(),
+            left,
+        )?;
+        holds(
+            rt,
+            again == kept,
+            row,
+            "vertices over others at the same points",
+        );
     }
     Ok(())
 }

@@ -17,7 +17,7 @@ fn laws_hold<I: IntNumber>(c: &[IntPoint<I>], d: &[IntPoint<I>]) {
     laws::convex_kept(c);
     laws::winding_kept(c, d);
     laws::winding_parity(c);
-    laws::winding_turned(c, d);
+    laws::winding_rotated(c, d);
     laws::canonical_joined(c, d);
     laws::shortest();
     laws::points_equal(&IntPoint::<I>::ZERO, &IntPoint::<I>::ZERO);

@@ -3,8 +3,6 @@
 use crate::claims::holds;
 use crate::given::contour;
 use crate::given_shapes::{shape, shapes};
-use callers::polygons::PolygonStore;
-use callers::store::Insertion;
 use i_shape::IntNumber;
 use i_shape::flat::buffer::{FlatContoursBuffer, FlatShapesBuffer};
 use i_shape::int::canonical::{CanonicalShape, CanonicalShapes};
@@ -12,6 +10,8 @@ use i_shape::int::simple::SimpleContour;
 use std::alloc::Global;
 use std::process::Abort;
 use std::test::Fail;
+use uses::polygons::PolygonStore;
+use uses::store::Insertion;
 
 type Contour = &'static [[i32; 2]];
 

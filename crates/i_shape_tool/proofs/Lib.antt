@@ -1,18 +1,8 @@
--- texts cut at single bytes
-pub mod Words
--- reading a line
-pub mod Reading
--- reading a number
-pub mod Numerals
+-- reading a text: words, numbers and lines
+pub mod reading
 -- showing a number and a contour
-pub mod Decimals
-pub mod Showing
+pub mod showing
 -- a text, line by line, and one run of the program
-pub mod Running
-pub mod Serving
-pub mod Compacting
+pub mod running
 -- the definitions at texts that are written out
 pub mod Examples
--- the laws
-pub mod LineLaws
-pub mod Splitting

@@ -9,7 +9,7 @@ abbrev pub EndsWord : List ℕ → Type 0
 EndsWord [] = Unit {0}
 EndsWord (b ∷ rest) = b ≡ space
 
--- no digit follows
+-- the text does not begin with a digit
 abbrev pub EndsDigits : List ℕ → Type 0
 EndsDigits [] = Unit {0}
 EndsDigits (b ∷ rest) = digit_value b < 10 → ⊥

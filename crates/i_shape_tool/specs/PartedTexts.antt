@@ -19,7 +19,7 @@ pub record PartedAnswer (command : Command) (text more output : List ℕ) : Type
   pub answers_first : AnswersText command text first
   pub answers_second : AnswersText command more second
 
--- the same fault, n lines further down
+-- a fault, told n lines further down
 abbrev pub lines_later : ℕ → ToolFault → ToolFault
 lines_later n (NotAContour line) = NotAContour (n + line)
 lines_later n (OutOfRange line) = OutOfRange (n + line)

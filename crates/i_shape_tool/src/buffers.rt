@@ -2,7 +2,7 @@
 
 ghost use Rattle.std.specs.Prelude.{◌≡◌, ◌<◌, ◌↔◌, ◌⊎◌, length, IfOk, IsErrOf};
 ghost use Rattle.i_shape.specs.Cleaners.{SimpleAnswer, DespikeAnswer};
-ghost use Rattle.i_shape.specs.Paths.{shape_lists, joined};
+ghost use Rattle.i_shape.specs.Paths.{shape_lists, concatenated};
 ghost use Rattle.i_shape.specs.ShapeLists.{shapes_of, IsSafeList};
 ghost use Rattle.i_shape.specs.ShapeAnswers.{ListClean, ListKept};
 
@@ -25,8 +25,8 @@ pub fn clean_through_buffer<I: IntNumber>(
     ensures kept { IfOk result (λ r. ListKept SimpleAnswer (shapes_of I.value shapes.now) (shapes_of I.value r.items)) }
     ensures safe { IfOk result (λ r. IsSafeList I.width (shapes_of I.value r.items)) }
     ensures too_many { IsErrOf result ShapeError.TooManyPoints
-        ↔ ((usize.MAX < length (joined (joined (shape_lists shapes.now))))
-        ⊎ (usize.MAX < length (joined (shape_lists shapes.now)))) }
+        ↔ ((usize.MAX < length (concatenated (concatenated (shape_lists shapes.now))))
+        ⊎ (usize.MAX < length (concatenated (shape_lists shapes.now)))) }
 {
     let kept = read_back(alloc, shapes)?;
     kept.as_slice().simplified(alloc)
@@ -42,8 +42,8 @@ pub fn despike_through_buffer<I: IntNumber>(
     ensures kept { IfOk result (λ r. ListKept DespikeAnswer (shapes_of I.value shapes.now) (shapes_of I.value r.items)) }
     ensures safe { IfOk result (λ r. IsSafeList I.width (shapes_of I.value r.items)) }
     ensures too_many { IsErrOf result ShapeError.TooManyPoints
-        ↔ ((usize.MAX < length (joined (joined (shape_lists shapes.now))))
-        ⊎ (usize.MAX < length (joined (shape_lists shapes.now)))) }
+        ↔ ((usize.MAX < length (concatenated (concatenated (shape_lists shapes.now))))
+        ⊎ (usize.MAX < length (concatenated (shape_lists shapes.now)))) }
 {
     let mut kept = read_back(alloc, shapes)?;
     kept.remove_spikes()?;
@@ -57,8 +57,8 @@ fn read_back<I: IntNumber>(
 ) -> Result<IntShapes<I>, ShapeError>
     ensures same { IfOk result (λ r. shape_lists r.items ≡ shape_lists shapes.now) }
     ensures too_many { IsErrOf result ShapeError.TooManyPoints
-        ↔ ((usize.MAX < length (joined (joined (shape_lists shapes.now))))
-        ⊎ (usize.MAX < length (joined (shape_lists shapes.now)))) }
+        ↔ ((usize.MAX < length (concatenated (concatenated (shape_lists shapes.now))))
+        ⊎ (usize.MAX < length (concatenated (shape_lists shapes.now)))) }
 {
     let mut buffer = FlatShapesBuffer::new(alloc);
     buffer.set_with_shapes(shapes)?;

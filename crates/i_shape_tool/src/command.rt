@@ -11,7 +11,7 @@ pub enum Command {
     Despike,
     /// Tell twice the area of each contour.
     Area,
-    /// Remove the zero turns of each contour, and turn it to its least rotation.
+    /// Remove the zero turns of each contour, and rotate it to its least rotation.
     Canonical,
     /// Remove the zero turns of all contours, and the contours that collapse.
     Compact,

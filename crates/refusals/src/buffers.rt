@@ -1,14 +1,16 @@
-use crate::given::{self, SQUARE};
+use crate::flat_buffers::{FlatBuffer, PAIR_AND_TRIPLE, SQUARE_AND_TRIANGLE};
+use crate::given::SQUARE;
 use crate::told::told_done;
-use crate::{flat_contours, flat_shapes, generic_contours, generic_shapes, spots};
+use i_shape::flat::buffer::{FlatContoursBuffer, FlatShapesBuffer};
+use i_shape::flat::float::{FloatFlatContoursBuffer, FloatFlatShapesBuffer};
 use std::test::Fail;
 
 #[test]
 fn tests_of_whole_number_buffers(rt: HostRuntime) -> Result<(), Fail> {
     let alloc = rt.alloc();
     let (Ok(mut contours), Ok(shapes)) = (
-        flat_contours::full(alloc, &given::BOTH, &[0..4, 4..7]),
-        flat_shapes::full(alloc, &given::BOTH, &[0..4, 4..7], &[0..2]),
+        FlatContoursBuffer::full(alloc, SQUARE_AND_TRIANGLE),
+        FlatShapesBuffer::full(alloc, SQUARE_AND_TRIANGLE),
     ) else {
         return Ok(());
     };
@@ -51,8 +53,8 @@ fn tests_of_whole_number_buffers(rt: HostRuntime) -> Result<(), Fail> {
 fn tests_of_generic_buffers(rt: HostRuntime) -> Result<(), Fail> {
     let alloc = rt.alloc();
     let (Ok(contours), Ok(shapes)) = (
-        generic_contours::full(alloc, &spots::BOTH, &[0..2, 2..5]),
-        generic_shapes::full(alloc, &spots::BOTH, &[0..2, 2..5], &[0..2]),
+        FloatFlatContoursBuffer::full(alloc, PAIR_AND_TRIPLE),
+        FloatFlatShapesBuffer::full(alloc, PAIR_AND_TRIPLE),
     ) else {
         return Ok(());
     };

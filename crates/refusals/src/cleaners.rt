@@ -1,6 +1,5 @@
-use crate::given::{FLAT, SPIKED, SQUARE, contour, safe};
-use crate::told::{told, told_unrefused};
-use i_shape::int::IntPoint;
+use crate::given::{CANONICAL, FLAT, SPIKED, SQUARE, SQUARE_BACK, TURNED, contour, safe};
+use crate::told::{told, told_of_contour, told_unrefused};
 use i_shape::int::despike::{ContourDeSpiker, DeSpikeContour};
 use i_shape::int::simple::{ContourSimplifier, SimpleContour};
 use std::test::Fail;
@@ -9,10 +8,7 @@ use std::test::Fail;
 fn simplified(rt: HostRuntime) -> Result<(), Fail> {
     let points = safe(&rt, SPIKED.as_slice());
     let result = points.simplified(rt.alloc());
-    if let Some(kept) = told(&rt, "SimpleContour::simplified", result)? {
-        assert!(rt; kept.ok_or("it collapsed")?.as_slice() == SQUARE.as_slice());
-    }
-    Ok(())
+    told_of_contour(&rt, "SimpleContour::simplified", result, &SQUARE)
 }
 
 #[test]
@@ -20,10 +16,7 @@ fn simplified_where_it_is_clean(rt: HostRuntime) -> Result<(), Fail> {
     let points = safe(&rt, SQUARE.as_slice());
     let result = points.simplified(rt.alloc());
     let name = "SimpleContour::simplified of a clean contour";
-    if let Some(kept) = told(&rt, name, result)? {
-        assert!(rt; kept.ok_or("it collapsed")?.as_slice() == SQUARE.as_slice());
-    }
-    Ok(())
+    told_of_contour(&rt, name, result, &SQUARE)
 }
 
 #[test]
@@ -51,10 +44,7 @@ fn simplify_counted(rt: HostRuntime) -> Result<(), Fail> {
 fn simplify_contour(rt: HostRuntime) -> Result<(), Fail> {
     let points = safe(&rt, SPIKED.as_slice());
     let result = ContourSimplifier::new(rt.alloc()).simplify_contour(points);
-    if let Some(kept) = told(&rt, "ContourSimplifier::simplify_contour", result)? {
-        assert!(rt; kept.ok_or("it collapsed")?.as_slice() == SQUARE.as_slice());
-    }
-    Ok(())
+    told_of_contour(&rt, "ContourSimplifier::simplify_contour", result, &SQUARE)
 }
 
 #[test]
@@ -64,10 +54,7 @@ fn despiked_contour(rt: HostRuntime) -> Result<(), Fail> {
         return Ok(());
     };
     let result = given.despiked_contour(alloc);
-    if let Some(kept) = told(&rt, "DeSpikeContour::despiked_contour", result)? {
-        assert!(rt; kept.ok_or("it collapsed")?.as_slice() == SQUARE.as_slice());
-    }
-    Ok(())
+    told_of_contour(&rt, "DeSpikeContour::despiked_contour", result, &SQUARE)
 }
 
 #[test]
@@ -76,31 +63,24 @@ fn despiked_counted(rt: HostRuntime) -> Result<(), Fail> {
     let Ok(given) = contour(&rt, alloc, SPIKED.as_slice()) else {
         return Ok(());
     };
-    let result = given.despiked_counted(alloc);
-    if let Some((kept, _visits)) = told(&rt, "DeSpikeContour::despiked_counted", result)? {
-        assert!(rt; kept.ok_or("it collapsed")?.as_slice() == SQUARE.as_slice());
-    }
-    Ok(())
+    let result = given.despiked_counted(alloc).map(|(kept, _visits)| kept);
+    told_of_contour(&rt, "DeSpikeContour::despiked_counted", result, &SQUARE)
 }
 
 #[test]
 fn despike_contour(rt: HostRuntime) -> Result<(), Fail> {
     let points = safe(&rt, SPIKED.as_slice());
     let result = ContourDeSpiker::new(rt.alloc()).despike_contour(points);
-    if let Some(kept) = told(&rt, "ContourDeSpiker::despike_contour", result)? {
-        assert!(rt; kept.ok_or("it collapsed")?.as_slice() == SQUARE.as_slice());
-    }
-    Ok(())
+    told_of_contour(&rt, "ContourDeSpiker::despike_contour", result, &SQUARE)
 }
 
 #[test]
 fn despike_counted(rt: HostRuntime) -> Result<(), Fail> {
     let points = safe(&rt, SPIKED.as_slice());
-    let result = ContourDeSpiker::new(rt.alloc()).despike_counted(points);
-    if let Some((kept, _visits)) = told(&rt, "ContourDeSpiker::despike_counted", result)? {
-        assert!(rt; kept.ok_or("it collapsed")?.as_slice() == SQUARE.as_slice());
-    }
-    Ok(())
+    let result = ContourDeSpiker::new(rt.alloc())
+        .despike_counted(points)
+        .map(|(kept, _visits)| kept);
+    told_of_contour(&rt, "ContourDeSpiker::despike_counted", result, &SQUARE)
 }
 
 #[test]
@@ -108,21 +88,17 @@ fn despiked_contour_where_it_is_clean(rt: HostRuntime) -> Result<(), Fail> {
     let points = safe(&rt, SQUARE.as_slice());
     let result = points.despiked_contour(rt.alloc());
     let name = "DeSpikeContour::despiked_contour of a clean contour";
-    if let Some(kept) = told(&rt, name, result)? {
-        assert!(rt; kept.ok_or("it collapsed")?.as_slice() == SQUARE.as_slice());
-    }
-    Ok(())
+    told_of_contour(&rt, name, result, &SQUARE)
 }
 
 #[test]
 fn despiked_counted_where_it_is_clean(rt: HostRuntime) -> Result<(), Fail> {
     let points = safe(&rt, SQUARE.as_slice());
-    let result = points.despiked_counted(rt.alloc());
+    let result = points
+        .despiked_counted(rt.alloc())
+        .map(|(kept, _visits)| kept);
     let name = "DeSpikeContour::despiked_counted of a clean contour";
-    if let Some((kept, _visits)) = told(&rt, name, result)? {
-        assert!(rt; kept.ok_or("it collapsed")?.as_slice() == SQUARE.as_slice());
-    }
-    Ok(())
+    told_of_contour(&rt, name, result, &SQUARE)
 }
 
 #[test]
@@ -130,12 +106,8 @@ fn despiked_where_three_points_collapse(rt: HostRuntime) -> Result<(), Fail> {
     let alloc = rt.alloc();
     let points = safe(&rt, FLAT.as_slice());
     let result = points.despiked_contour(alloc);
-    told_unrefused(
-        &rt,
-        "DeSpikeContour::despiked_contour of three points that collapse",
-        result,
-        None,
-    )?;
+    let name = "DeSpikeContour::despiked_contour of three points that collapse";
+    told_unrefused(&rt, name, result, None)?;
     let result = points.despiked_counted(alloc);
     let name = "DeSpikeContour::despiked_counted of three points that collapse";
     if let Some((kept, _visits)) = told(&rt, name, result)? {
@@ -144,39 +116,34 @@ fn despiked_where_three_points_collapse(rt: HostRuntime) -> Result<(), Fail> {
     Ok(())
 }
 
-/// A contour whose canonical form starts elsewhere.
-const TURNED: [IntPoint<i32>; 5] = [
-    IntPoint { x: 6, y: 0 },
-    IntPoint { x: 0, y: 0 },
-    IntPoint { x: 2, y: 0 },
-    IntPoint { x: 1, y: 0 },
-    IntPoint { x: 1, y: 5 },
-];
-
-const CANONICAL: [IntPoint<i32>; 3] = [
-    IntPoint { x: 1, y: 0 },
-    IntPoint { x: 1, y: 5 },
-    IntPoint { x: 6, y: 0 },
-];
-
 #[test]
 fn canonical(rt: HostRuntime) -> Result<(), Fail> {
     let points = safe(&rt, TURNED.as_slice());
     let result = points.canonical(rt.alloc());
-    if let Some(kept) = told(&rt, "SimpleContour::canonical", result)? {
-        assert!(rt; kept.ok_or("it collapsed")?.as_slice() == CANONICAL.as_slice());
-    }
-    Ok(())
+    told_of_contour(&rt, "SimpleContour::canonical", result, &CANONICAL)
 }
 
 #[test]
 fn canonical_of_a_simplifier(rt: HostRuntime) -> Result<(), Fail> {
     let points = safe(&rt, TURNED.as_slice());
     let result = ContourSimplifier::new(rt.alloc()).canonical(points);
-    if let Some(kept) = told(&rt, "ContourSimplifier::canonical", result)? {
-        assert!(rt; kept.ok_or("it collapsed")?.as_slice() == CANONICAL.as_slice());
-    }
-    Ok(())
+    told_of_contour(&rt, "ContourSimplifier::canonical", result, &CANONICAL)
+}
+
+#[test]
+fn canonical_unoriented(rt: HostRuntime) -> Result<(), Fail> {
+    let points = safe(&rt, SPIKED.as_slice());
+    let result = points.canonical_unoriented(rt.alloc());
+    let name = "SimpleContour::canonical_unoriented";
+    told_of_contour(&rt, name, result, &SQUARE_BACK)
+}
+
+#[test]
+fn canonical_unoriented_of_a_simplifier(rt: HostRuntime) -> Result<(), Fail> {
+    let points = safe(&rt, SPIKED.as_slice());
+    let result = ContourSimplifier::new(rt.alloc()).canonical_unoriented(points);
+    let name = "ContourSimplifier::canonical_unoriented";
+    told_of_contour(&rt, name, result, &SQUARE_BACK)
 }
 
 #[test]
@@ -188,53 +155,31 @@ fn below_three_points(rt: HostRuntime) -> Result<(), Fail> {
     let points = given.as_slice();
     let mut simplifier = ContourSimplifier::new(alloc);
     let result = points.simplified(alloc);
-    told_unrefused(
-        &rt,
-        "SimpleContour::simplified below three points",
-        result,
-        None,
-    )?;
+    let name = "SimpleContour::simplified below three points";
+    told_unrefused(&rt, name, result, None)?;
     let result = points.canonical(alloc);
-    told_unrefused(
-        &rt,
-        "SimpleContour::canonical below three points",
-        result,
-        None,
-    )?;
+    let name = "SimpleContour::canonical below three points";
+    told_unrefused(&rt, name, result, None)?;
     let result = simplifier.simplify_contour(points);
-    told_unrefused(
-        &rt,
-        "ContourSimplifier::simplify_contour below three points",
-        result,
-        None,
-    )?;
+    let name = "ContourSimplifier::simplify_contour below three points";
+    told_unrefused(&rt, name, result, None)?;
     let result = simplifier.simplify_counted(points);
-    told_unrefused(
-        &rt,
-        "ContourSimplifier::simplify_counted below three points",
-        result,
-        (None, 0),
-    )?;
+    let name = "ContourSimplifier::simplify_counted below three points";
+    told_unrefused(&rt, name, result, (None, 0))?;
     let result = simplifier.canonical(points);
-    told_unrefused(
-        &rt,
-        "ContourSimplifier::canonical below three points",
-        result,
-        None,
-    )?;
+    let name = "ContourSimplifier::canonical below three points";
+    told_unrefused(&rt, name, result, None)?;
     let result = given.despiked_contour(alloc);
-    told_unrefused(
-        &rt,
-        "DeSpikeContour::despiked_contour below three points",
-        result,
-        None,
-    )?;
+    let name = "DeSpikeContour::despiked_contour below three points";
+    told_unrefused(&rt, name, result, None)?;
     let result = given.despiked_counted(alloc);
-    told_unrefused(
-        &rt,
-        "DeSpikeContour::despiked_counted below three points",
-        result,
-        (None, 0),
-    )?;
+    let name = "DeSpikeContour::despiked_counted below three points";
+    told_unrefused(&rt, name, result, (None, 0))?;
+    let result = points.canonical_unoriented(alloc);
+    let name = "SimpleContour::canonical_unoriented below three points";
+    told_unrefused(&rt, name, result, None)?;
+    let result = simplifier.canonical_unoriented(points);
+    let name = "ContourSimplifier::canonical_unoriented below three points";
+    told_unrefused(&rt, name, result, None)?;
     Ok(())
 }

@@ -17,6 +17,8 @@ macro_rules! points {
     };
 }
 
+pub(crate) use points;
+
 /// A square with a spike on its first edge.
 pub const SPIKED: [IntPoint<i32>; 6] = points![[0, 0], [2, 0], [4, 0], [2, 0], [2, 2], [0, 2]];
 
@@ -64,6 +66,18 @@ pub const SPIKED_AND_TRIANGLE: [IntPoint<i32>; 9] = points![
     [1, 0],
     [0, 1]
 ];
+
+/// The least rotation of the square read backwards.
+pub const SQUARE_BACK: [IntPoint<i32>; 4] = points![[0, 0], [0, 2], [2, 2], [2, 0]];
+
+/// And that of the triangle.
+pub const TRIANGLE_BACK: [IntPoint<i32>; 3] = points![[0, 0], [0, 1], [1, 0]];
+
+/// A contour with a spike, and a canonical form that starts elsewhere.
+pub const TURNED: [IntPoint<i32>; 5] = points![[6, 0], [0, 0], [2, 0], [1, 0], [1, 5]];
+
+/// That form.
+pub const CANONICAL: [IntPoint<i32>; 3] = points![[1, 0], [1, 5], [6, 0]];
 
 /// What a buffer holds before a call.
 pub const MARK: [IntPoint<i32>; 1] = points![[9, 9]];

@@ -1,5 +1,5 @@
 use crate::given::{SPIKED, SQUARE, TRIANGLE, contour, one_shape, shape};
-use crate::told::{has_contours, has_one_shape, told, told_unrefused};
+use crate::told::{has_contours, has_one_shape, told_in_place, told_unrefused};
 use i_shape::int::despike::DeSpike;
 use i_shape::int::simple::Simplify;
 use std::test::Fail;
@@ -10,11 +10,10 @@ fn simplify_contour(rt: HostRuntime) -> Result<(), Fail> {
         return Ok(());
     };
     let result = given.simplify_contour();
-    match told(&rt, "IntContour::simplify_contour", result)? {
-        Some(changed) => assert!(rt; changed && given.as_slice() == SQUARE.as_slice()),
-        None => assert!(rt; given.as_slice() == SPIKED.as_slice()),
-    }
-    Ok(())
+    let is_given = given.as_slice() == SPIKED.as_slice();
+    let is_clean = given.as_slice() == SQUARE.as_slice();
+    let name = "IntContour::simplify_contour";
+    told_in_place(&rt, name, result, is_given, is_clean)
 }
 
 #[test]
@@ -23,71 +22,62 @@ fn remove_spikes(rt: HostRuntime) -> Result<(), Fail> {
         return Ok(());
     };
     let result = given.remove_spikes();
-    match told(&rt, "IntContour::remove_spikes", result)? {
-        Some(changed) => assert!(rt; changed && given.as_slice() == SQUARE.as_slice()),
-        None => assert!(rt; given.as_slice() == SPIKED.as_slice()),
-    }
-    Ok(())
+    let is_given = given.as_slice() == SPIKED.as_slice();
+    let is_clean = given.as_slice() == SQUARE.as_slice();
+    told_in_place(&rt, "IntContour::remove_spikes", result, is_given, is_clean)
+}
+
+/// A call that cleans a shape of two contours, one with a spike, or a list of it.
+macro_rules! cleans {
+    ($rt:ident, $name:literal, $given:ident.$call:ident(), $has:ident) => {{
+        let Ok(mut given) = $given(&$rt, $rt.alloc(), &[&SPIKED, &TRIANGLE]) else {
+            return Ok(());
+        };
+        let outcome = given.$call();
+        let is_given = $has(given.as_slice(), &[&SPIKED, &TRIANGLE]);
+        let is_clean = $has(given.as_slice(), &[&SQUARE, &TRIANGLE]);
+        told_in_place(&$rt, $name, outcome, is_given, is_clean)
+    }};
 }
 
 #[test]
 fn simplify_contours_of_a_shape(rt: HostRuntime) -> Result<(), Fail> {
-    let Ok(mut given) = shape(&rt, rt.alloc(), &[&SPIKED, &TRIANGLE]) else {
-        return Ok(());
-    };
-    let result = given.simplify_contour();
-    match told(&rt, "IntShape::simplify_contour", result)? {
-        Some(changed) => {
-            assert!(rt; changed && has_contours(given.as_slice(), &[&SQUARE, &TRIANGLE]));
-        }
-        None => assert!(rt; has_contours(given.as_slice(), &[&SPIKED, &TRIANGLE])),
-    }
-    Ok(())
+    cleans!(
+        rt,
+        "IntShape::simplify_contour",
+        shape.simplify_contour(),
+        has_contours
+    )
 }
 
 #[test]
 fn remove_spikes_of_a_shape(rt: HostRuntime) -> Result<(), Fail> {
-    let Ok(mut given) = shape(&rt, rt.alloc(), &[&SPIKED, &TRIANGLE]) else {
-        return Ok(());
-    };
-    let result = given.remove_spikes();
-    match told(&rt, "IntShape::remove_spikes", result)? {
-        Some(changed) => {
-            assert!(rt; changed && has_contours(given.as_slice(), &[&SQUARE, &TRIANGLE]));
-        }
-        None => assert!(rt; has_contours(given.as_slice(), &[&SPIKED, &TRIANGLE])),
-    }
-    Ok(())
+    cleans!(
+        rt,
+        "IntShape::remove_spikes",
+        shape.remove_spikes(),
+        has_contours
+    )
 }
 
 #[test]
 fn simplify_contours_of_a_list(rt: HostRuntime) -> Result<(), Fail> {
-    let Ok(mut given) = one_shape(&rt, rt.alloc(), &[&SPIKED, &TRIANGLE]) else {
-        return Ok(());
-    };
-    let result = given.simplify_contour();
-    match told(&rt, "IntShapes::simplify_contour", result)? {
-        Some(changed) => {
-            assert!(rt; changed && has_one_shape(given.as_slice(), &[&SQUARE, &TRIANGLE]));
-        }
-        None => assert!(rt; has_one_shape(given.as_slice(), &[&SPIKED, &TRIANGLE])),
-    }
-    Ok(())
+    cleans!(
+        rt,
+        "IntShapes::simplify_contour",
+        one_shape.simplify_contour(),
+        has_one_shape
+    )
 }
 
 #[test]
 fn remove_spikes_of_a_list(rt: HostRuntime) -> Result<(), Fail> {
-    let Ok(mut given) = one_shape(&rt, rt.alloc(), &[&SPIKED, &TRIANGLE]) else {
-        return Ok(());
-    };
-    let result = given.remove_spikes();
-    match told(&rt, "IntShapes::remove_spikes", result)? {
-        Some(changed) => {
-            assert!(rt; changed && has_one_shape(given.as_slice(), &[&SQUARE, &TRIANGLE]));
-        }
-        None => assert!(rt; has_one_shape(given.as_slice(), &[&SPIKED, &TRIANGLE])),
-    }
-    Ok(())
+    cleans!(
+        rt,
+        "IntShapes::remove_spikes",
+        one_shape.remove_spikes(),
+        has_one_shape
+    )
 }
 
 #[test]
@@ -101,26 +91,14 @@ fn clean_values(rt: HostRuntime) -> Result<(), Fail> {
         return Ok(());
     };
     let result = one.simplify_contour();
-    told_unrefused(
-        &rt,
-        "IntContour::simplify_contour of a clean value",
-        result,
-        false,
-    )?;
+    let name = "IntContour::simplify_contour of a clean value";
+    told_unrefused(&rt, name, result, false)?;
     let result = two.simplify_contour();
-    told_unrefused(
-        &rt,
-        "IntShape::simplify_contour of a clean value",
-        result,
-        false,
-    )?;
+    let name = "IntShape::simplify_contour of a clean value";
+    told_unrefused(&rt, name, result, false)?;
     let result = list.simplify_contour();
-    told_unrefused(
-        &rt,
-        "IntShapes::simplify_contour of a clean value",
-        result,
-        false,
-    )?;
+    let name = "IntShapes::simplify_contour of a clean value";
+    told_unrefused(&rt, name, result, false)?;
     Ok(())
 }
 
@@ -135,25 +113,13 @@ fn spikeless_values(rt: HostRuntime) -> Result<(), Fail> {
         return Ok(());
     };
     let result = one.remove_spikes();
-    told_unrefused(
-        &rt,
-        "IntContour::remove_spikes of a clean value",
-        result,
-        false,
-    )?;
+    let name = "IntContour::remove_spikes of a clean value";
+    told_unrefused(&rt, name, result, false)?;
     let result = two.remove_spikes();
-    told_unrefused(
-        &rt,
-        "IntShape::remove_spikes of a clean value",
-        result,
-        false,
-    )?;
+    let name = "IntShape::remove_spikes of a clean value";
+    told_unrefused(&rt, name, result, false)?;
     let result = list.remove_spikes();
-    told_unrefused(
-        &rt,
-        "IntShapes::remove_spikes of a clean value",
-        result,
-        false,
-    )?;
+    let name = "IntShapes::remove_spikes of a clean value";
+    told_unrefused(&rt, name, result, false)?;
     Ok(())
 }

@@ -9,15 +9,9 @@ mod cleaners;
 #[cfg(test)]
 mod copies;
 #[cfg(test)]
-mod flat_contours;
+mod flat_buffers;
 #[cfg(test)]
-mod flat_shapes;
-#[cfg(test)]
-mod forms;
-#[cfg(test)]
-mod generic_contours;
-#[cfg(test)]
-mod generic_shapes;
+mod flat_calls;
 #[cfg(test)]
 mod given;
 #[cfg(test)]

@@ -1,7 +1,6 @@
 use crate::given::{SPIKED, SQUARE, shape};
-use crate::told::{has_one_shape, told};
+use crate::told::told_of_list;
 use i_shape_tool::{clean_through_buffer, despike_through_buffer};
-use std::process::Abort;
 use std::test::Fail;
 
 #[test]
@@ -11,10 +10,7 @@ fn cleaned_through_a_buffer(rt: HostRuntime) -> Result<(), Fail> {
         return Ok(());
     };
     let result = clean_through_buffer(alloc, &[given]);
-    if let Some(kept) = told(&rt, "clean_through_buffer", result)? {
-        assert!(rt; has_one_shape(kept.as_slice(), &[&SQUARE]));
-    }
-    Ok(())
+    told_of_list(&rt, "clean_through_buffer", result, &[&SQUARE])
 }
 
 #[test]
@@ -24,8 +20,5 @@ fn despiked_through_a_buffer(rt: HostRuntime) -> Result<(), Fail> {
         return Ok(());
     };
     let result = despike_through_buffer(alloc, &[given]);
-    if let Some(kept) = told(&rt, "despike_through_buffer", result)? {
-        assert!(rt; has_one_shape(kept.as_slice(), &[&SQUARE]));
-    }
-    Ok(())
+    told_of_list(&rt, "despike_through_buffer", result, &[&SQUARE])
 }

@@ -1,9 +1,11 @@
 //! How a call under test ended, and what it left.
 
 use i_shape::ShapeError;
+use i_shape::int::IntPoint;
+use i_shape::int::shape::{IntContour, IntShape, IntShapes};
 use std::io;
-use std::ops::Range;
 use std::process::Abort;
+use std::test::Fail;
 
 /// Prints `NAME done` or `NAME refused`, and answers the value of a call that was done. The test stops at a refusal for anything
 /// but memory.
@@ -44,28 +46,57 @@ pub fn told_unrefused<T: Drop + PartialEq>(
     Ok(())
 }
 
-/// The lists of a buffer. One of contours alone has no ranges of shapes.
-#[derive(Clone, Copy, PartialEq)]
-pub struct Lists<'a, P> {
-    pub points: &'a [P],
-    pub ranges: &'a [Range<usize>],
-    pub shape_ranges: &'a [Range<usize>],
-}
-
-/// Tells how a call ended that changes a buffer: done it leaves the lists `after`, and refused those `before`.
-pub fn told_of_buffer<P: PartialEq>(
+/// Tells how a call ended that answers a contour, which is to have these points.
+pub fn told_of_contour(
     rt: &(impl Abort + Print),
     name: &str,
-    outcome: Result<(), ShapeError>,
-    now: Lists<'_, P>,
-    before: Lists<'_, P>,
-    after: Lists<'_, P>,
-) -> io::Result<()> {
-    let wanted = match told(rt, name, outcome)? {
-        Some(()) => after,
-        None => before,
-    };
-    assert!(rt; now == wanted);
+    outcome: Result<Option<IntContour<i32>>, ShapeError>,
+    points: &[IntPoint<i32>],
+) -> Result<(), Fail> {
+    if let Some(kept) = told(rt, name, outcome)? {
+        assert!(rt; kept.ok_or("it collapsed")?.as_slice() == points);
+    }
+    Ok(())
+}
+
+/// The same of a shape, which is to have these contours.
+pub fn told_of_shape(
+    rt: &(impl Abort + Print),
+    name: &str,
+    outcome: Result<Option<IntShape<i32>>, ShapeError>,
+    contours: &[&[IntPoint<i32>]],
+) -> Result<(), Fail> {
+    if let Some(kept) = told(rt, name, outcome)? {
+        assert!(rt; has_contours(kept.ok_or("it collapsed")?.as_slice(), contours));
+    }
+    Ok(())
+}
+
+/// The same of a list, which is to be of one shape with these contours.
+pub fn told_of_list(
+    rt: &(impl Abort + Print),
+    name: &str,
+    outcome: Result<IntShapes<i32>, ShapeError>,
+    contours: &[&[IntPoint<i32>]],
+) -> Result<(), Fail> {
+    if let Some(kept) = told(rt, name, outcome)? {
+        assert!(rt; has_one_shape(kept.as_slice(), contours));
+    }
+    Ok(())
+}
+
+/// Tells how a call ended that cleans in place what isn't clean: done it leaves what is wanted, and refused what was given.
+pub fn told_in_place(
+    rt: &(impl Abort + Print),
+    name: &str,
+    outcome: Result<bool, ShapeError>,
+    is_as_given: bool,
+    is_as_wanted: bool,
+) -> Result<(), Fail> {
+    match told(rt, name, outcome)? {
+        Some(changed) => assert!(rt; changed && is_as_wanted, "{name}"),
+        None => assert!(rt; is_as_given, "{name}"),
+    }
     Ok(())
 }
 

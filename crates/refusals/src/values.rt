@@ -1,5 +1,5 @@
-use crate::flat_contours;
-use crate::given::{BOTH, FLAT, MARK, SQUARE, contour, safe, two_contours};
+use crate::flat_buffers::{FlatBuffer, SQUARE_AND_TRIANGLE};
+use crate::given::{FLAT, MARK, SQUARE, contour, safe, two_contours};
 use crate::told::{told_done, told_unrefused};
 use i_shape::IntNumber;
 use i_shape::flat::buffer::{FlatContoursBuffer, FlatShapesBuffer};
@@ -101,7 +101,7 @@ fn counts_of_lent_paths(rt: HostRuntime) -> Result<(), Fail> {
     let alloc = rt.alloc();
     let (Ok(contours), Ok(buffer)) = (
         two_contours(alloc),
-        flat_contours::full(alloc, &BOTH, &[0..4, 4..7]),
+        FlatContoursBuffer::full(alloc, SQUARE_AND_TRIANGLE),
     ) else {
         return Ok(());
     };

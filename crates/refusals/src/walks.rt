@@ -1,7 +1,9 @@
-use crate::given::{self, SQUARE, TRIANGLE, two_contours, two_shapes};
-use crate::spots::{self, PAIR, Spot, TRIPLE};
+use crate::flat_buffers::{FlatBuffer, PAIR_AND_TRIPLE, SQUARE_AND_TRIANGLE};
+use crate::given::{SQUARE, TRIANGLE, two_contours, two_shapes};
+use crate::spots::{PAIR, Spot, TRIPLE};
 use crate::told::told_done;
-use crate::{flat_contours, flat_shapes, generic_contours, generic_shapes};
+use i_shape::flat::buffer::{FlatContoursBuffer, FlatShapesBuffer};
+use i_shape::flat::float::{FloatFlatContoursBuffer, FloatFlatShapesBuffer};
 use i_shape::int::IntPoint;
 use i_shape::int::safe_range::IntSafeRange;
 use i_shape::source::float::resource::ShapeResource;
@@ -71,8 +73,8 @@ fn over_whole_numbers(rt: HostRuntime) -> Result<(), Fail> {
 fn over_whole_number_buffers(rt: HostRuntime) -> Result<(), Fail> {
     let alloc = rt.alloc();
     let (Ok(contours), Ok(shapes)) = (
-        flat_contours::full(alloc, &given::BOTH, &[0..4, 4..7]),
-        flat_shapes::full(alloc, &given::BOTH, &[0..4, 4..7], &[0..2]),
+        FlatContoursBuffer::full(alloc, SQUARE_AND_TRIANGLE),
+        FlatShapesBuffer::full(alloc, SQUARE_AND_TRIANGLE),
     ) else {
         return Ok(());
     };
@@ -97,8 +99,8 @@ fn over_whole_number_buffers(rt: HostRuntime) -> Result<(), Fail> {
 fn over_points_of_any_kind(rt: HostRuntime) -> Result<(), Fail> {
     let alloc = rt.alloc();
     let (Ok(contours), Ok(shapes)) = (
-        generic_contours::full(alloc, &spots::BOTH, &[0..2, 2..5]),
-        generic_shapes::full(alloc, &spots::BOTH, &[0..2, 2..5], &[0..2]),
+        FloatFlatContoursBuffer::full(alloc, PAIR_AND_TRIPLE),
+        FloatFlatShapesBuffer::full(alloc, PAIR_AND_TRIPLE),
     ) else {
         return Ok(());
     };

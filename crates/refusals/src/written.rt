@@ -2,7 +2,7 @@ ghost use Rattle.std.specs.Prelude.{◌≤◌, length};
 ghost use Rattle.std.specs.List.{All};
 ghost use Rattle.i_shape.specs.IntPoint.{contour_of, IsSafe};
 
-use crate::given::{BOTH, FLAT, SPIKED, SPIKED_AND_TRIANGLE, SQUARE, safe};
+use crate::given::{BOTH, FLAT, SPIKED, SPIKED_AND_TRIANGLE, SQUARE, TURNED, points, safe};
 use crate::told::{told, told_unrefused};
 use i_shape::int::IntPoint;
 use i_shape::int::despike::ContourDeSpiker;
@@ -11,12 +11,6 @@ use i_shape::{IntNumber, ShapeError};
 use std::io;
 use std::process::Abort;
 use std::test::Fail;
-
-macro_rules! points {
-    ($([$x:expr, $y:expr]),*) => {
-        [$(IntPoint { x: $x, y: $y }),*]
-    };
-}
 
 /// A slice before a call writes into it.
 const MARKS: [IntPoint<i32>; 9] = points![
@@ -57,10 +51,7 @@ const SQUARE_BACK_AND_MARKS: [IntPoint<i32>; 9] = points![
     [1, 9]
 ];
 
-/// A contour with a spike, and a canonical form that starts elsewhere.
-const TURNED: [IntPoint<i32>; 5] = points![[6, 0], [0, 0], [2, 0], [1, 0], [1, 5]];
-
-/// The slice after that form is written.
+/// And after the form of a contour that is turned.
 const CANONICAL_AND_MARKS: [IntPoint<i32>; 9] = points![
     [1, 0],
     [1, 5],
@@ -105,60 +96,41 @@ fn told_of_slice(
     }
 }
 
+/// A new cleaner's call that writes what is left of a contour: so many points, and these in the slice. Where it was refused, the next
+/// one writes the same.
+macro_rules! writes {
+    ($rt:ident, $cleaner:ident::$call:ident($points:expr) => $count:literal, $after:expr) => {{
+        let points = few(&$rt, $points.as_slice());
+        let mut cleaner = $cleaner::new($rt.alloc());
+        let mut out = MARKS;
+        let outcome = cleaner.$call(points, out.as_mut_slice());
+        let name = concat!(stringify!($cleaner), "::", stringify!($call));
+        if !told_of_slice(&$rt, name, outcome, $count, &out, &$after)? {
+            let again = cleaner.$call(points, out.as_mut_slice())?;
+            assert!($rt; again == $count && out == $after);
+        }
+        Ok(())
+    }};
+}
+
 #[test]
 fn simplify_into(rt: HostRuntime) -> Result<(), Fail> {
-    let points = few(&rt, SPIKED.as_slice());
-    let mut simplifier = ContourSimplifier::new(rt.alloc());
-    let mut out = MARKS;
-    let result = simplifier.simplify_into(points, out.as_mut_slice());
-    let name = "ContourSimplifier::simplify_into";
-    if !told_of_slice(&rt, name, result, 4, &out, &SQUARE_AND_MARKS)? {
-        let again = simplifier.simplify_into(points, out.as_mut_slice())?;
-        assert!(rt; again == 4 && out == SQUARE_AND_MARKS);
-    }
-    Ok(())
+    writes!(rt, ContourSimplifier::simplify_into(SPIKED) => 4, SQUARE_AND_MARKS)
 }
 
 #[test]
 fn canonical_into(rt: HostRuntime) -> Result<(), Fail> {
-    let points = few(&rt, TURNED.as_slice());
-    let mut simplifier = ContourSimplifier::new(rt.alloc());
-    let mut out = MARKS;
-    let result = simplifier.canonical_into(points, out.as_mut_slice());
-    let name = "ContourSimplifier::canonical_into";
-    if !told_of_slice(&rt, name, result, 3, &out, &CANONICAL_AND_MARKS)? {
-        let again = simplifier.canonical_into(points, out.as_mut_slice())?;
-        assert!(rt; again == 3 && out == CANONICAL_AND_MARKS);
-    }
-    Ok(())
+    writes!(rt, ContourSimplifier::canonical_into(TURNED) => 3, CANONICAL_AND_MARKS)
 }
 
 #[test]
 fn canonical_unoriented_into(rt: HostRuntime) -> Result<(), Fail> {
-    let points = few(&rt, SPIKED.as_slice());
-    let mut simplifier = ContourSimplifier::new(rt.alloc());
-    let mut out = MARKS;
-    let result = simplifier.canonical_unoriented_into(points, out.as_mut_slice());
-    let name = "ContourSimplifier::canonical_unoriented_into";
-    if !told_of_slice(&rt, name, result, 4, &out, &SQUARE_BACK_AND_MARKS)? {
-        let again = simplifier.canonical_unoriented_into(points, out.as_mut_slice())?;
-        assert!(rt; again == 4 && out == SQUARE_BACK_AND_MARKS);
-    }
-    Ok(())
+    writes!(rt, ContourSimplifier::canonical_unoriented_into(SPIKED) => 4, SQUARE_BACK_AND_MARKS)
 }
 
 #[test]
 fn despike_into(rt: HostRuntime) -> Result<(), Fail> {
-    let points = few(&rt, SPIKED.as_slice());
-    let mut despiker = ContourDeSpiker::new(rt.alloc());
-    let mut out = MARKS;
-    let result = despiker.despike_into(points, out.as_mut_slice());
-    let name = "ContourDeSpiker::despike_into";
-    if !told_of_slice(&rt, name, result, 4, &out, &SQUARE_AND_MARKS)? {
-        let again = despiker.despike_into(points, out.as_mut_slice())?;
-        assert!(rt; again == 4 && out == SQUARE_AND_MARKS);
-    }
-    Ok(())
+    writes!(rt, ContourDeSpiker::despike_into(SPIKED) => 4, SQUARE_AND_MARKS)
 }
 
 #[test]

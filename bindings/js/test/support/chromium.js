@@ -19,9 +19,10 @@ const PATIENCE = 60_000;
 /** Whether there is a Chromium that opens a page here. */
 export const hasChromium = spawnSync("chromium", [...WORDS, "--dump-dom", "about:blank"], { timeout: PATIENCE }).status === 0;
 
-/** Serves the files of a folder, and answers the server and the address of the folder. */
-export async function serve(folder) {
+/** Serves the files of a folder, but for requests that `takes` answers, and answers the server and the address of the folder. */
+export async function serve(folder, takes = () => false) {
     const server = http.createServer((request, response) => {
+        if (takes(request, response)) return;
         const name = new URL(request.url, "http://localhost").pathname;
         const file = path.join(folder, name.endsWith("/") ? `${name}index.html` : name);
         if (!existsSync(file)) response.writeHead(404).end();

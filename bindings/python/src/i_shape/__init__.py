@@ -11,18 +11,24 @@ from ._contours import (area_two, canonical, contains, despike,
                         has_no_spikes, is_convex, is_safe, is_simple,
                         simplify)
 from ._errors import OffsetsError, UnsafePointError
+from ._keys import canonical_keys, same_rings
 from ._library import version
-from ._polygons import (Polygons, canonical_polygons, same_polygons,
-                        simplify_polygons)
+from ._measures import (area_two_polygons, area_two_rings,
+                        has_no_spikes_rings, is_convex_rings, is_safe_rings,
+                        is_simple_rings)
+from ._polygons import (Polygons, canonical_polygons, despike_polygons,
+                        same_polygons, simplify_polygons)
 from ._rings import Rings, canonical_rings, despike_rings, simplify_rings
 from ._windings import contains_points, winding_number, winding_numbers
 
 __all__ = [
     "OffsetsError", "Polygons", "Rings", "UnsafePointError",
-    "area_two", "canonical", "canonical_polygons", "canonical_rings",
-    "contains", "contains_points", "despike", "despike_rings",
-    "has_no_spikes", "is_convex", "is_safe", "is_simple", "same_polygons",
-    "simplify", "simplify_polygons", "simplify_rings", "winding_number",
-    "winding_numbers",
+    "area_two", "area_two_polygons", "area_two_rings", "canonical",
+    "canonical_keys", "canonical_polygons", "canonical_rings", "contains",
+    "contains_points", "despike", "despike_polygons", "despike_rings",
+    "has_no_spikes", "has_no_spikes_rings", "is_convex", "is_convex_rings",
+    "is_safe", "is_safe_rings", "is_simple", "is_simple_rings",
+    "same_polygons", "same_rings", "simplify", "simplify_polygons",
+    "simplify_rings", "winding_number", "winding_numbers",
 ]
 __version__ = version()

@@ -59,10 +59,12 @@ class Calls(NamedTuple):
     many: dict[str, Any]
     polygons: dict[str, Any]
     test: dict[str, Any]
+    test_many: dict[str, Any]
     contains: Any
     winding: Any
     windings: Any
     area_two: Any
+    areas: Any
     area: Any
 
 
@@ -88,6 +90,9 @@ def _calls(bits: int, number: Any, area: Any) -> Calls:
                   for name in cleaners},
         test={name: _call(f"i_shape_{name}_i{bits}", ctypes.c_int32, *array)
               for name in tests},
+        test_many={name: _call(f"i_shape_{name}_contours_i{bits}",
+                               ctypes.c_int32, *array * 3)
+                   for name in tests},
         contains=_call(f"i_shape_contains_i{bits}", ctypes.c_int32, *array,
                        number, number),
         winding=_call(f"i_shape_winding_i{bits}", ctypes.c_ssize_t, *array,
@@ -96,6 +101,8 @@ def _calls(bits: int, number: Any, area: Any) -> Calls:
                        *array * 4),
         area_two=_call(f"i_shape_area_two_i{bits}", ctypes.c_bool, *array,
                        ctypes.POINTER(area)),
+        areas=_call(f"i_shape_area_two_contours_i{bits}", ctypes.c_int32,
+                    *array * 3),
         area=area)
 
 

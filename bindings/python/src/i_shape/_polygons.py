@@ -12,7 +12,7 @@ import numpy.typing as npt
 
 from ._library import (CALLS, Array, address, as_offsets, as_parts, as_points,
                        as_threads, raise_offsets, run_parts)
-from ._rings import equal_cuts, raise_codes
+from ._rings import canonical_cleaner, equal_cuts, raise_codes
 
 Int = TypeVar("Int", np.int16, np.int32, np.int64)
 
@@ -33,7 +33,7 @@ class Polygons(NamedTuple):
     polygon_offsets: npt.NDArray[np.int64]
 
 
-class _Given(NamedTuple):
+class Given(NamedTuple):
     """The arrays of a call: the polygons' rings, the first of them ring
     ``before`` of those that were given, and the polygons' offsets, from 0 on.
     """
@@ -44,7 +44,9 @@ class _Given(NamedTuple):
     before: int
 
 
-def _given(points: Any, ring_offsets: Any, polygon_offsets: Any) -> _Given:
+def given_polygons(points: Any, ring_offsets: Any,
+                   polygon_offsets: Any) -> Given:
+    """The arrays of polygons, tested but for the offsets of their rings."""
     points = as_points(points)
     rings = as_offsets(ring_offsets, "ring_offsets")
     parts = as_offsets(polygon_offsets, "polygon_offsets")
@@ -52,18 +54,18 @@ def _given(points: Any, ring_offsets: Any, polygon_offsets: Any) -> _Given:
     count = len(rings) - 1
     if start < 0 or end > count or (parts[1:] < parts[:-1]).any():
         raise_offsets(parts, count, "polygon_offsets", "rings")
-    return _Given(points, rings[start:end + 1], parts - start, start)
+    return Given(points, rings[start:end + 1], parts - start, start)
 
 
-def _part(given: _Given, start: int, end: int) -> _Given:
+def _part(given: Given, start: int, end: int) -> Given:
     """The polygons from one place to another."""
     parts = given.parts[start:end + 1]
     first, last = int(parts[0]), int(parts[-1])
-    return _Given(given.points, given.rings[first:last + 1], parts - first,
+    return Given(given.points, given.rings[first:last + 1], parts - first,
                   given.before + first)
 
 
-def _clean_part(cleaner: str, given: _Given) -> tuple[int, Polygons]:
+def _clean_part(cleaner: str, given: Given) -> tuple[int, Polygons]:
     """Clean the polygons by one call of the library.
 
     It answers how many are left, or a code, and the arrays with their room.
@@ -94,7 +96,7 @@ def _end_to_end(answers: list[tuple[int, Polygons]]) -> Polygons:
                     np.concatenate(parts))
 
 
-def _clean_polygons(cleaner: str, given: _Given, parts: int) -> Polygons:
+def _clean_polygons(cleaner: str, given: Given, parts: int) -> Polygons:
     """Clean the polygons, parted among so many threads."""
     rings, count = given.rings, len(given.points)
     if (not 0 <= rings[0] <= rings[-1] <= count
@@ -161,9 +163,54 @@ def simplify_polygons(points: npt.NDArray[Int], ring_offsets: npt.ArrayLike,
     >>> left.ring_offsets.tolist(), left.polygon_offsets.tolist()
     ([0, 4, 7], [0, 2])
     """
-    given = _given(points, ring_offsets, polygon_offsets)
+    given = given_polygons(points, ring_offsets, polygon_offsets)
     parts = as_parts(threads, len(given.parts) - 1)
     return _clean_polygons("simplify", given, parts)
+
+
+def despike_polygons(points: npt.NDArray[Int], ring_offsets: npt.ArrayLike,
+                     polygon_offsets: npt.ArrayLike,
+                     threads: int = 1) -> Polygons:
+    """Return each polygon without the spikes of its rings.
+
+    It is :func:`simplify_polygons`, but a ring is left as :func:`despike`
+    answers it, with vertices that lie on an edge, and a ring that
+    :func:`has_no_spikes` stays as it is, with points that repeat.
+
+    Parameters
+    ----------
+    points : array of shape (n, 2), int16, int32 or int64
+    ring_offsets : array of shape (m + 1,), of whole numbers
+    polygon_offsets : array of shape (p + 1,), of whole numbers
+    threads : int
+        As for :func:`simplify_polygons`.
+
+    Returns
+    -------
+    Polygons
+        The named tuple ``(points, ring_offsets, polygon_offsets)``, as
+        :func:`simplify_polygons`.
+
+    Raises
+    ------
+    OffsetsError, UnsafePointError, TypeError, ValueError, MemoryError
+        As :func:`simplify_polygons` does.
+
+    Examples
+    --------
+    >>> import numpy as np
+    >>> from i_shape import despike_polygons
+    >>> points = np.array([(0, 0), (2, 0), (4, 0), (4, 4), (4, 9), (4, 4),
+    ...                    (1, 1), (2, 2), (3, 3)])
+    >>> left = despike_polygons(points, [0, 6, 9], [0, 2])
+    >>> left.points.tolist()
+    [[0, 0], [2, 0], [4, 0], [4, 4]]
+    >>> left.ring_offsets.tolist(), left.polygon_offsets.tolist()
+    ([0, 4], [0, 1])
+    """
+    given = given_polygons(points, ring_offsets, polygon_offsets)
+    parts = as_parts(threads, len(given.parts) - 1)
+    return _clean_polygons("despike", given, parts)
 
 
 def canonical_polygons(points: npt.NDArray[Int], ring_offsets: npt.ArrayLike,
@@ -220,10 +267,9 @@ def canonical_polygons(points: npt.NDArray[Int], ring_offsets: npt.ArrayLike,
     >>> form.ring_offsets.tolist()
     [0, 3, 7]
     """
-    given = _given(points, ring_offsets, polygon_offsets)
-    cleaner = "canonical" if oriented else "canonical_unoriented"
+    given = given_polygons(points, ring_offsets, polygon_offsets)
     as_threads(threads)
-    return _clean_polygons(cleaner, given, 1)
+    return _clean_polygons(canonical_cleaner(oriented), given, 1)
 
 
 def same_polygons(a: Triple, b: Triple, oriented: bool = True,

@@ -73,21 +73,25 @@ def raise_codes(codes: list[int], points: Array, offsets: Array,
         raise_code(NO_MEMORY, points)
 
 
-def _clean_rings(cleaner: str, points: Any, offsets: Any,
-                 threads: Any) -> Rings:
-    """Clean each ring."""
+def clean_rings(cleaner: str, points: Any, offsets: Any, threads: Any,
+                name: str = "offsets", before: int = 0) -> Rings:
+    """Clean each ring.
+
+    An error calls the offsets by ``name``, and counts them and the rings
+    from ``before`` on.
+    """
     points = as_points(points)
     offsets = as_offsets(offsets)
     parts = as_parts(threads, len(offsets) - 1)
     start, end = int(offsets[0]), int(offsets[-1])
     if (not 0 <= start <= end <= len(points)
             or parts > 1 and (offsets[1:] < offsets[:-1]).any()):
-        raise_offsets(offsets, len(points))
+        raise_offsets(offsets, len(points), name, before=before)
     call = CALLS[points.itemsize].many[cleaner]
     out = np.empty((end - start, 2), points.dtype)
     if parts == 1:
         total, ends = _clean_part(call, points, offsets, out)
-        raise_codes([total], points, offsets)
+        raise_codes([total], points, offsets, name, before)
     else:
         cuts = equal_cuts(offsets, parts)
         starts = (offsets[cuts] - start).tolist()
@@ -98,7 +102,8 @@ def _clean_rings(cleaner: str, points: Any, offsets: Any,
                                out[starts[part]:starts[part + 1]])
 
         answers = run_parts(clean_part, parts)
-        raise_codes([left for left, _ in answers], points, offsets)
+        raise_codes([left for left, _ in answers], points, offsets, name,
+                    before)
         # What the parts have left is moved together, from the front on.
         ends = np.empty(offsets.shape, np.int64)
         ends[0] = total = 0
@@ -111,6 +116,11 @@ def _clean_rings(cleaner: str, points: Any, offsets: Any,
             total += left
     out.resize((total, 2), refcheck=False)  # it gives back what isn't used
     return Rings(out, ends)
+
+
+def canonical_cleaner(oriented: bool) -> str:
+    """The name of the cleaner that makes a canonical form."""
+    return "canonical" if oriented else "canonical_unoriented"
 
 
 def simplify_rings(points: npt.NDArray[Int], offsets: npt.ArrayLike,
@@ -168,7 +178,7 @@ def simplify_rings(points: npt.NDArray[Int], offsets: npt.ArrayLike,
     >>> left.offsets.tolist()
     [0, 4, 4]
     """
-    return _clean_rings("simplify", points, offsets, threads)
+    return clean_rings("simplify", points, offsets, threads)
 
 
 def despike_rings(points: npt.NDArray[Int], offsets: npt.ArrayLike,
@@ -200,7 +210,7 @@ def despike_rings(points: npt.NDArray[Int], offsets: npt.ArrayLike,
     >>> despike_rings(points, [0, 6]).offsets.tolist()
     [0, 4]
     """
-    return _clean_rings("despike", points, offsets, threads)
+    return clean_rings("despike", points, offsets, threads)
 
 
 def canonical_rings(points: npt.NDArray[Int], offsets: npt.ArrayLike,
@@ -237,5 +247,4 @@ def canonical_rings(points: npt.NDArray[Int], offsets: npt.ArrayLike,
     >>> canonical_rings(points, [0, 5], oriented=False).points.tolist()
     [[0, 0], [0, 4], [4, 4], [4, 0]]
     """
-    cleaner = "canonical" if oriented else "canonical_unoriented"
-    return _clean_rings(cleaner, points, offsets, threads)
+    return clean_rings(canonical_cleaner(oriented), points, offsets, threads)

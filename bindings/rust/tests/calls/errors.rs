@@ -207,6 +207,9 @@ fn batches_with_an_unsafe_point<I: Number>() {
         &mut out.0,
         &mut out.1
     );
+    refuses!(error, contours, try_are_simple, are_simple);
+    refuses!(error, contours, try_have_no_spikes, have_no_spikes);
+    refuses!(error, contours, try_are_convex, are_convex);
     let about = [point([1, 1])];
     refuses!(
         error,

@@ -1,8 +1,8 @@
 //! Batch calls over borrowed points and offsets, and the buffers.
 
 use crate::shared::{
-    FLAT, HOLE, Number, SPIKED, SQUARE, STAR, STRAIGHT, at_each_width, contour, point, shape,
-    shapes,
+    FLAT, HOLE, Number, SPIKED, SQUARE, STAR, STRAIGHT, Written, at_each_width, contour, point,
+    shape, shapes,
 };
 use i_shape::flat::buffer::{FlatContoursBuffer, FlatShapesBuffer};
 use i_shape::flat::{Contours, OwnedContours, OwnedShapes, Shapes, offsets};
@@ -18,6 +18,8 @@ at_each_width!(
     contours_as_one_by_one,
     contours_into_slices,
     contours_behind_an_offset,
+    contours_tested,
+    contours_measured,
     parts_of_contours,
     rings_wound_about,
     polygons_cleaned,
@@ -132,6 +134,56 @@ fn contours_behind_an_offset<I: Number>() {
     assert!(!Contours::new(&points, &[1, 7, 10]).is_in_safe_range());
     assert_eq!(contours.get(1), Some(&points[7..10]));
     assert_eq!(contours.get(2), None);
+}
+
+/// Whether a contour is simple, has no spikes, is convex, and is safe.
+const TOLD: [(&Written, [bool; 4]); 8] = [
+    (&STRAIGHT, [false, true, true, true]),
+    (&FLAT, [false, false, false, true]),
+    (&[], [false, false, true, true]),
+    (&SPIKED, [false, false, false, true]),
+    (&SQUARE, [true, true, true, true]),
+    (&[[0, 0], [4, 0], [4, 4], [3, 1]], [true, true, false, true]),
+    (&STAR, [true, true, true, true]),
+    (&[[1, 1]], [false, false, true, true]),
+];
+
+fn contours_tested<I: Number>() {
+    for repeats in [1, 10_000] {
+        let contours: Vec<_> = TOLD
+            .repeat(repeats)
+            .iter()
+            .map(|row| contour::<I>(row.0))
+            .collect();
+        let told = |test: usize| TOLD.map(|row| row.1[test]).repeat(repeats);
+        let flat = OwnedContours::from_contours(&contours);
+        let all = flat.as_contours();
+        assert_eq!(all.are_simple(), told(0));
+        assert_eq!(all.have_no_spikes(), told(1));
+        assert_eq!(all.are_convex(), told(2));
+        assert_eq!(all.are_in_safe_range(), told(3));
+    }
+    let none = Contours::<I>::new(&[], &[0]);
+    assert_eq!(none.try_are_simple(), Ok(vec![]));
+    let points = [[0, 0], [4, 0], [0, 4]].map(point).to_vec();
+    let outside = vec![IntPoint::new(I::ABOVE, I::ZERO)];
+    let points = [outside.clone(), points, outside].concat();
+    let contours = Contours::new(&points, &[0, 1, 4]);
+    assert_eq!(contours.try_are_in_safe_range(), Ok(vec![false, true]));
+    let inner = Contours::new(&points, &[1, 4]);
+    assert_eq!(inner.try_are_simple(), Ok(vec![true]));
+}
+
+fn contours_measured<I: Number>() {
+    for repeats in [1, 10_000] {
+        let contours = [&SQUARE[..], &HOLE, &[], &FLAT].repeat(repeats);
+        let contours: Vec<_> = contours.into_iter().map(contour::<I>).collect();
+        let flat = OwnedContours::from_contours(&contours);
+        let areas = flat.as_contours().areas_two();
+        let areas: Vec<_> = areas.iter().map(ToString::to_string).collect();
+        assert_eq!(areas, ["32", "-1", "0", "0"].repeat(repeats));
+    }
+    assert_eq!(Contours::<I>::new(&[], &[0]).try_areas_two(), Ok(vec![]));
 }
 
 fn parts_of_contours<I: Number>() {

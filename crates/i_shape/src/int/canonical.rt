@@ -1,12 +1,12 @@
 //! The canonical forms of shapes and of lists of shapes, as their contours are wound and whichever way round they are.
 
-ghost use Rattle.std.specs.Prelude.{List, IfOk, IfSome, IsOkUnless};
+ghost use Rattle.std.specs.Prelude.{List};
 ghost use Rattle.i_shape_core.specs.Point.{Point};
-ghost use Rattle.i_shape_core.specs.IntPoint.{answered};
 ghost use Rattle.i_shape_core.specs.Canonical.{CanonicalAnswer, UnorientedAnswer};
 ghost use Rattle.i_shape.specs.ShapeLists.{shape_of, shapes_of, IsSafeShape, IsSafeList};
 ghost use Rattle.i_shape.specs.ShapeAnswers.{AreKept};
-ghost use Rattle.i_shape.specs.CanonicalShapes.{ShapeForm, ListForm, FormsKept, AreKeptEitherWay};
+ghost use Rattle.i_shape.specs.CanonicalShapes.{AreKeptEitherWay, FormsShapeTo, FormsListTo};
+ghost use Rattle.i_shape_core.specs.Refusals.{OkUnlessMemory};
 
 mod forms;
 pub mod laws;
@@ -30,10 +30,8 @@ pub trait CanonicalShape<I: IntNumber> {
     /// Double area, containment and winding numbers are kept, and the points are safe again. The only error is `OutOfMemory`.
     fn canonical(&self, alloc: Global) -> Result<Option<IntShape<I>>, ShapeError>
         requires { IsSafeShape I.width (shape self.now) }
-        ensures answer { IfOk result (λ r. ShapeForm CanonicalAnswer (shape self.now) (answered (shape_of I.value) r)) }
-        ensures kept { IfOk result (λ r. IfSome r (λ form. AreKept (shape self.now) (shape_of I.value form.items))) }
-        ensures safe { IfOk result (λ r. IfSome r (λ form. IsSafeShape I.width (shape_of I.value form.items))) }
-        ensures memory { IsOkUnless result ShapeError.OutOfMemory };
+        ensures { OkUnlessMemory result
+            (FormsShapeTo CanonicalAnswer AreKept I.width I.value (shape self.now)) };
 
     /// The same, of forms that don't tell which way round a contour is wound: two shapes that have forms have the same one exactly
     /// where they are the same polygon but for the direction of each contour. The contours' double areas, each without its sign, have the same
@@ -41,10 +39,8 @@ pub trait CanonicalShape<I: IntNumber> {
     /// error is `OutOfMemory`.
     fn canonical_unoriented(&self, alloc: Global) -> Result<Option<IntShape<I>>, ShapeError>
         requires { IsSafeShape I.width (shape self.now) }
-        ensures answer { IfOk result (λ r. ShapeForm UnorientedAnswer (shape self.now) (answered (shape_of I.value) r)) }
-        ensures kept { IfOk result (λ r. IfSome r (λ form. AreKeptEitherWay (shape self.now) (shape_of I.value form.items))) }
-        ensures safe { IfOk result (λ r. IfSome r (λ form. IsSafeShape I.width (shape_of I.value form.items))) }
-        ensures memory { IsOkUnless result ShapeError.OutOfMemory };
+        ensures { OkUnlessMemory result
+            (FormsShapeTo UnorientedAnswer AreKeptEitherWay I.width I.value (shape self.now)) };
 }
 
 /// The canonical forms of a list of shapes of safe points.
@@ -58,19 +54,15 @@ pub trait CanonicalShapes<I: IntNumber> {
     /// `OutOfMemory`.
     fn canonical(&self, alloc: Global) -> Result<IntShapes<I>, ShapeError>
         requires { IsSafeList I.width (shapes self.now) }
-        ensures answer { IfOk result (λ r. ListForm CanonicalAnswer (shapes self.now) (shapes_of I.value r.items)) }
-        ensures kept { IfOk result (λ r. FormsKept CanonicalAnswer AreKept (shapes self.now) (shapes_of I.value r.items)) }
-        ensures safe { IfOk result (λ r. IsSafeList I.width (shapes_of I.value r.items)) }
-        ensures memory { IsOkUnless result ShapeError.OutOfMemory };
+        ensures { OkUnlessMemory result
+            (FormsListTo CanonicalAnswer AreKept I.width I.value (shapes self.now)) };
 
     /// The same, of forms that don't tell which way round a contour is wound, and which keep of their shapes what
     /// `CanonicalShape::canonical_unoriented` says.
     fn canonical_unoriented(&self, alloc: Global) -> Result<IntShapes<I>, ShapeError>
         requires { IsSafeList I.width (shapes self.now) }
-        ensures answer { IfOk result (λ r. ListForm UnorientedAnswer (shapes self.now) (shapes_of I.value r.items)) }
-        ensures kept { IfOk result (λ r. FormsKept UnorientedAnswer AreKeptEitherWay (shapes self.now) (shapes_of I.value r.items)) }
-        ensures safe { IfOk result (λ r. IsSafeList I.width (shapes_of I.value r.items)) }
-        ensures memory { IsOkUnless result ShapeError.OutOfMemory };
+        ensures { OkUnlessMemory result
+            (FormsListTo UnorientedAnswer AreKeptEitherWay I.width I.value (shapes self.now)) };
 }
 
 impl<I: IntNumber> CanonicalShape<I> for &[IntContour<I>] {

@@ -1,18 +1,19 @@
 //! Shapes and shape lists, cleaned by any cleaner of contours.
 
-ghost use Rattle.std.specs.Prelude.{◌≡◌, ◌↔◌, ◌++◌, List, Option, Some, IsTrue, IfOk, IfSome, OnOk, IsOkUnless};
+ghost use Rattle.std.specs.Prelude.{◌≡◌, ◌↔◌, ◌++◌, List, Option, Some, IsTrue, OnOk, IsOkUnless};
 ghost use Rattle.std.specs.Int.{Width};
 ghost use Rattle.std.specs.List.{All};
 ghost use Rattle.std.specs.Option.{option_to_list};
 ghost use Rattle.i_shape_core.specs.Point.{Point};
-ghost use Rattle.i_shape_core.specs.IntPoint.{contour_of, IsSafe, answered};
+ghost use Rattle.i_shape_core.specs.IntPoint.{contour_of, IsSafe, IsSafeContour};
 ghost use Rattle.i_shape_core.specs.Cleaners.{KeptAnswer};
-ghost use Rattle.i_shape_core.proofs.Cleaned.{simple_stays};
-ghost use Rattle.i_shape_core.proofs.Answered.{simple_kept, despike_kept, spikeless_stays};
-ghost use Rattle.i_shape_core.proofs.CleanerLaws.{simple_safe, simple_points, simple_left_points, despike_safe, spikeless_points, despike_left_points, canonical_safe, unoriented_safe};
-ghost use Rattle.i_shape.specs.ShapeAnswers.{HasPoints, Survivors, ShapeClean, ListClean, EachContour, EachShape, AreKept, ListKept};
+ghost use Rattle.i_shape_core.proofs.walks.Found.{simple_stays};
+ghost use Rattle.i_shape_core.proofs.answers.Kept.{simple_kept, despike_kept, spikeless_stays};
+ghost use Rattle.i_shape_core.proofs.answers.Cleaners.{simple_safe, simple_points, simple_left_points, despike_safe, spikeless_points, despike_left_points, canonical_safe, unoriented_safe};
+ghost use Rattle.i_shape.specs.ShapeAnswers.{HasPoints, Survivors, ShapeClean, EachContour, EachShape, CleansShapeTo, CleansListTo};
 ghost use Rattle.i_shape.specs.ShapeLists.{shape_of, shapes_of, IsSafeShape, IsSafeList};
 ghost use Rattle.i_shape.specs.InPlace.{CleansShape, CleansList};
+ghost use Rattle.i_shape_core.specs.Refusals.{OkUnlessMemory};
 
 mod changes;
 
@@ -119,7 +120,7 @@ pub fn append_contour<I: IntNumber, C: ContourCleaner>(
     kept: &mut IntShape<I>,
     contour: &[IntPoint<I>],
 ) -> Result<(), ShapeError>
-    requires { All (IsSafe I.width) (contour_of I.value contour.now) }
+    requires { IsSafeContour I.width (contour_of I.value contour.now) }
     ensures ok { OnOk result ((answer : Option (List Point)) × C.answers (contour_of I.value contour.now) answer × (shape_of I.value kept.new.items ≡ shape_of I.value kept.old.items ++ option_to_list answer)) }
     ensures memory { IsOkUnless result ShapeError.OutOfMemory }
 {
@@ -155,10 +156,8 @@ pub fn clean_shape<I: IntNumber, C: InPlaceCleaner>(
     shape: &[IntContour<I>],
 ) -> Result<Option<IntShape<I>>, ShapeError>
     requires { IsSafeShape I.width (shape_of I.value shape.now) }
-    ensures answer { IfOk result (λ r. ShapeClean C.answers (shape_of I.value shape.now) (answered (shape_of I.value) r)) }
-    ensures kept { IfOk result (λ r. IfSome r (λ kept. AreKept (shape_of I.value shape.now) (shape_of I.value kept.items))) }
-    ensures safe { IfOk result (λ r. IfSome r (λ kept. IsSafeShape I.width (shape_of I.value kept.items))) }
-    ensures memory { IsOkUnless result ShapeError.OutOfMemory }
+    ensures { OkUnlessMemory result
+        (CleansShapeTo C.answers I.width I.value (shape_of I.value shape.now)) }
 {
     let Some((outer, holes)) = shape.split_first() else {
         return Ok(Some(Vec::new(alloc)));
@@ -173,7 +172,7 @@ pub fn clean_shape<I: IntNumber, C: InPlaceCleaner>(
 }
 
 /// Appends the cleaned shape, and nothing where it is left out.
-fn append_shape<I: IntNumber, C: InPlaceCleaner>(
+fn push_cleaned_shape<I: IntNumber, C: InPlaceCleaner>(
     cleaner: &mut C,
     kept: &mut IntShapes<I>,
     shape: &[IntContour<I>],
@@ -199,14 +198,12 @@ pub fn clean_list<I: IntNumber, C: InPlaceCleaner>(
     shapes: &[IntShape<I>],
 ) -> Result<IntShapes<I>, ShapeError>
     requires { IsSafeList I.width (shapes_of I.value shapes.now) }
-    ensures answer { IfOk result (λ r. ListClean C.answers (shapes_of I.value shapes.now) (shapes_of I.value r.items)) }
-    ensures kept { IfOk result (λ r. ListKept C.answers (shapes_of I.value shapes.now) (shapes_of I.value r.items)) }
-    ensures safe { IfOk result (λ r. IsSafeList I.width (shapes_of I.value r.items)) }
-    ensures memory { IsOkUnless result ShapeError.OutOfMemory }
+    ensures { OkUnlessMemory result
+        (CleansListTo C.answers I.width I.value (shapes_of I.value shapes.now)) }
 {
     let mut kept = Vec::with_capacity(alloc, shapes.len())?;
     for shape in shapes {
-        append_shape(cleaner, &mut kept, shape.as_slice())?;
+        push_cleaned_shape(cleaner, &mut kept, shape.as_slice())?;
     }
     Ok(kept)
 }

@@ -1,8 +1,7 @@
 //! The removal of spikes.
 
 ghost use Rattle.std.specs.Prelude.{Bool, Result};
-ghost use Rattle.std.specs.List.{All};
-ghost use Rattle.i_shape_core.specs.IntPoint.{contour_of, IsSafe};
+ghost use Rattle.i_shape_core.specs.IntPoint.{contour_of, IsSafeContour};
 ghost use Rattle.i_shape_core.specs.declared.error.ShapeError.{ShapeError};
 ghost use Rattle.i_shape.specs.InPlace.{DespikesContour};
 
@@ -34,7 +33,7 @@ pub trait DeSpike {
 /// A contour that collapses is left empty. Fewer than three points collapse, without memory.
 /// A second call answers false exactly where the contour isn't empty.
 impl<I: IntNumber> DeSpike for IntContour<I> {
-    ghost can_despike = { λ contour. All (IsSafe I.width) (contour_of I.value contour.items) };
+    ghost can_despike = { λ contour. IsSafeContour I.width (contour_of I.value contour.items) };
 
     ghost despike_gives = { λ old r new. DespikesContour (contour_of I.value old.items) (contour_of I.value new.items) r };
 

@@ -1,8 +1,7 @@
 //! The removal of zero turns.
 
 ghost use Rattle.std.specs.Prelude.{Bool, Result};
-ghost use Rattle.std.specs.List.{All};
-ghost use Rattle.i_shape_core.specs.IntPoint.{contour_of, IsSafe};
+ghost use Rattle.i_shape_core.specs.IntPoint.{contour_of, IsSafeContour};
 ghost use Rattle.i_shape_core.specs.Contour.{IsSimple};
 ghost use Rattle.i_shape_core.specs.Cleaners.{SimpleAnswer};
 ghost use Rattle.i_shape_core.specs.declared.error.ShapeError.{ShapeError};
@@ -36,7 +35,7 @@ pub trait Simplify {
 
 /// A contour that collapses is left empty. Fewer than three points collapse, without memory.
 impl<I: IntNumber> Simplify for IntContour<I> {
-    ghost can_simplify = { λ contour. All (IsSafe I.width) (contour_of I.value contour.items) };
+    ghost can_simplify = { λ contour. IsSafeContour I.width (contour_of I.value contour.items) };
 
     ghost simplify_gives = { λ old r new. CleansContour IsSimple SimpleAnswer (contour_of I.value old.items) (contour_of I.value new.items) r };
 

@@ -6,17 +6,17 @@ ghost use Rattle.i_shape.specs.Cleaners.{SimpleAnswer, SpikelessAnswer, DespikeA
 ghost use Rattle.i_shape.specs.Canonical.{CanonicalAnswer, UnorientedAnswer, KeptEitherWay};
 ghost use Rattle.i_shape.specs.CanonicalShapes.{ListForm};
 ghost use Rattle.i_shape.specs.ShapeAnswers.{ListClean};
-ghost use Rattle.i_shape.specs.Contour.{IsSimple};
+ghost use Rattle.i_shape.specs.Contour.{IsSimple, Sublist, RotatedSublist, SublistEitherWay};
 ghost use Rattle.i_shape.specs.Convex.{Convex, NoSpikes};
 ghost use Rattle.i_shape.specs.Edges.{Inside, shoelace};
 ghost use Rattle.i_shape.specs.IntPoint.{IsSafe};
 ghost use Rattle.i_shape_c.specs.Points.{point_i32};
-ghost use Rattle.i_shape_c.specs.Cleaned.{AreSafe, CleanAnswer, TakesNoMemory, unsafe_code, unfit_code, no_memory_code};
-ghost use Rattle.i_shape_c.specs.Batch.{AreSafeContours, BatchAnswer, CanClean, NoneTakesMemory};
-ghost use Rattle.i_shape_c.specs.Polygons.{CanCleanShapes, ShapesAnswer};
+ghost use Rattle.i_shape_c.specs.Cleaned.{AreSafe, unsafe_code, unfit_code, CleansContour};
+ghost use Rattle.i_shape_c.specs.Batch.{AreSafeContours, CleansContours};
 ghost use Rattle.i_shape_c.specs.Tests.{IsTold, TestAnswer};
 ghost use Rattle.i_shape.specs.Winding.{winding as winding_of};
 ghost use Rattle.i_shape_c.specs.Windings.{no_winding, CanWind, WindingsAnswer};
+ghost use Rattle.i_shape_c.specs.Polygons.{CleansPolygons};
 
 use crate::area::area_two;
 use crate::batch::clean_contours;
@@ -38,10 +38,8 @@ pub extern "C" fn i_shape_simplify_i32(
     points: &[PointI32],
     out: &mut [PointI32],
 ) -> isize
-    ensures answer { CleanAnswer SimpleAnswer KeptAnswer w32 point_i32 points.now out.old out.new result }
-    ensures unfit { result ≡ unfit_code ↔ (length out.old < length points.now) }
-    ensures unsafe_points { result ≡ unsafe_code ↔ ((length points.now ≤ length out.old) × (AreSafe w32 point_i32 points.now → ⊥)) }
-    ensures memory { result ≡ no_memory_code → TakesNoMemory IsSimple point_i32 points.now → ⊥ }
+    ensures { CleansContour IsSimple SimpleAnswer KeptAnswer Sublist w32 point_i32
+        points.now out.old out.new result }
 {
     clean_contour::<PointI32, ContourSimplifier>(alloc, points, out)
 }
@@ -54,10 +52,8 @@ pub extern "C" fn i_shape_despike_i32(
     points: &[PointI32],
     out: &mut [PointI32],
 ) -> isize
-    ensures answer { CleanAnswer SpikelessAnswer KeptAnswer w32 point_i32 points.now out.old out.new result }
-    ensures unfit { result ≡ unfit_code ↔ (length out.old < length points.now) }
-    ensures unsafe_points { result ≡ unsafe_code ↔ ((length points.now ≤ length out.old) × (AreSafe w32 point_i32 points.now → ⊥)) }
-    ensures memory { result ≡ no_memory_code → TakesNoMemory IsDespikedAlready point_i32 points.now → ⊥ }
+    ensures { CleansContour IsDespikedAlready SpikelessAnswer KeptAnswer Sublist w32 point_i32
+        points.now out.old out.new result }
 {
     clean_contour::<PointI32, ContourDeSpiker>(alloc, points, out)
 }
@@ -70,10 +66,8 @@ pub extern "C" fn i_shape_canonical_i32(
     points: &[PointI32],
     out: &mut [PointI32],
 ) -> isize
-    ensures answer { CleanAnswer CanonicalAnswer KeptAnswer w32 point_i32 points.now out.old out.new result }
-    ensures unfit { result ≡ unfit_code ↔ (length out.old < length points.now) }
-    ensures unsafe_points { result ≡ unsafe_code ↔ ((length points.now ≤ length out.old) × (AreSafe w32 point_i32 points.now → ⊥)) }
-    ensures memory { result ≡ no_memory_code → TakesNoMemory IsSimple point_i32 points.now → ⊥ }
+    ensures { CleansContour IsSimple CanonicalAnswer KeptAnswer RotatedSublist w32 point_i32
+        points.now out.old out.new result }
 {
     clean_contour::<PointI32, Canonicalizer>(alloc, points, out)
 }
@@ -86,10 +80,8 @@ pub extern "C" fn i_shape_canonical_unoriented_i32(
     points: &[PointI32],
     out: &mut [PointI32],
 ) -> isize
-    ensures answer { CleanAnswer UnorientedAnswer KeptEitherWay w32 point_i32 points.now out.old out.new result }
-    ensures unfit { result ≡ unfit_code ↔ (length out.old < length points.now) }
-    ensures unsafe_points { result ≡ unsafe_code ↔ ((length points.now ≤ length out.old) × (AreSafe w32 point_i32 points.now → ⊥)) }
-    ensures memory { result ≡ no_memory_code → TakesNoMemory IsSimple point_i32 points.now → ⊥ }
+    ensures { CleansContour IsSimple UnorientedAnswer KeptEitherWay SublistEitherWay w32 point_i32
+        points.now out.old out.new result }
 {
     clean_contour::<PointI32, UnorientedCanonicalizer>(alloc, points, out)
 }
@@ -103,10 +95,8 @@ pub extern "C" fn i_shape_simplify_contours_i32(
     out_points: &mut [PointI32],
     out_offsets: &mut [usize],
 ) -> isize
-    ensures answer { BatchAnswer SimpleAnswer KeptAnswer w32 point_i32 points.now offsets.now out_points.old out_points.new out_offsets.old out_offsets.new result }
-    ensures unfit { result ≡ unfit_code ↔ (CanClean (length points.now) offsets.now (length out_points.old) (length out_offsets.old) → ⊥) }
-    ensures unsafe_points { result ≡ unsafe_code ↔ (CanClean (length points.now) offsets.now (length out_points.old) (length out_offsets.old) × (AreSafeContours w32 point_i32 points.now offsets.now → ⊥)) }
-    ensures memory { result ≡ no_memory_code → NoneTakesMemory IsSimple point_i32 points.now offsets.now → ⊥ }
+    ensures { CleansContours IsSimple SimpleAnswer KeptAnswer w32 point_i32 points.now offsets.now
+        out_points.old out_points.new out_offsets.old out_offsets.new result }
 {
     clean_contours::<PointI32, ContourSimplifier>(alloc, points, offsets, out_points, out_offsets)
 }
@@ -120,10 +110,8 @@ pub extern "C" fn i_shape_despike_contours_i32(
     out_points: &mut [PointI32],
     out_offsets: &mut [usize],
 ) -> isize
-    ensures answer { BatchAnswer SpikelessAnswer KeptAnswer w32 point_i32 points.now offsets.now out_points.old out_points.new out_offsets.old out_offsets.new result }
-    ensures unfit { result ≡ unfit_code ↔ (CanClean (length points.now) offsets.now (length out_points.old) (length out_offsets.old) → ⊥) }
-    ensures unsafe_points { result ≡ unsafe_code ↔ (CanClean (length points.now) offsets.now (length out_points.old) (length out_offsets.old) × (AreSafeContours w32 point_i32 points.now offsets.now → ⊥)) }
-    ensures memory { result ≡ no_memory_code → NoneTakesMemory IsDespikedAlready point_i32 points.now offsets.now → ⊥ }
+    ensures { CleansContours IsDespikedAlready SpikelessAnswer KeptAnswer w32 point_i32 points.now offsets.now
+        out_points.old out_points.new out_offsets.old out_offsets.new result }
 {
     clean_contours::<PointI32, ContourDeSpiker>(alloc, points, offsets, out_points, out_offsets)
 }
@@ -137,10 +125,8 @@ pub extern "C" fn i_shape_canonical_contours_i32(
     out_points: &mut [PointI32],
     out_offsets: &mut [usize],
 ) -> isize
-    ensures answer { BatchAnswer CanonicalAnswer KeptAnswer w32 point_i32 points.now offsets.now out_points.old out_points.new out_offsets.old out_offsets.new result }
-    ensures unfit { result ≡ unfit_code ↔ (CanClean (length points.now) offsets.now (length out_points.old) (length out_offsets.old) → ⊥) }
-    ensures unsafe_points { result ≡ unsafe_code ↔ (CanClean (length points.now) offsets.now (length out_points.old) (length out_offsets.old) × (AreSafeContours w32 point_i32 points.now offsets.now → ⊥)) }
-    ensures memory { result ≡ no_memory_code → NoneTakesMemory IsSimple point_i32 points.now offsets.now → ⊥ }
+    ensures { CleansContours IsSimple CanonicalAnswer KeptAnswer w32 point_i32 points.now offsets.now
+        out_points.old out_points.new out_offsets.old out_offsets.new result }
 {
     clean_contours::<PointI32, Canonicalizer>(alloc, points, offsets, out_points, out_offsets)
 }
@@ -154,10 +140,8 @@ pub extern "C" fn i_shape_canonical_unoriented_contours_i32(
     out_points: &mut [PointI32],
     out_offsets: &mut [usize],
 ) -> isize
-    ensures answer { BatchAnswer UnorientedAnswer KeptEitherWay w32 point_i32 points.now offsets.now out_points.old out_points.new out_offsets.old out_offsets.new result }
-    ensures unfit { result ≡ unfit_code ↔ (CanClean (length points.now) offsets.now (length out_points.old) (length out_offsets.old) → ⊥) }
-    ensures unsafe_points { result ≡ unsafe_code ↔ (CanClean (length points.now) offsets.now (length out_points.old) (length out_offsets.old) × (AreSafeContours w32 point_i32 points.now offsets.now → ⊥)) }
-    ensures memory { result ≡ no_memory_code → NoneTakesMemory IsSimple point_i32 points.now offsets.now → ⊥ }
+    ensures { CleansContours IsSimple UnorientedAnswer KeptEitherWay w32 point_i32 points.now offsets.now
+        out_points.old out_points.new out_offsets.old out_offsets.new result }
 {
     clean_contours::<PointI32, UnorientedCanonicalizer>(
         alloc,
@@ -179,9 +163,9 @@ pub extern "C" fn i_shape_simplify_shapes_i32(
     out_contours: &mut [usize],
     out_shapes: &mut [usize],
 ) -> isize
-    ensures answer { ShapesAnswer (ListClean SimpleAnswer) point_i32 points.now contours.now shapes.now out_points.old out_points.new out_contours.old out_contours.new out_shapes.old out_shapes.new result }
-    ensures unfit { result ≡ unfit_code ↔ (CanCleanShapes (length points.now) contours.now shapes.now (length out_points.old) (length out_contours.old) (length out_shapes.old) → ⊥) }
-    ensures unsafe_points { result ≡ unsafe_code ↔ (CanCleanShapes (length points.now) contours.now shapes.now (length out_points.old) (length out_contours.old) (length out_shapes.old) × (AreSafeContours w32 point_i32 points.now contours.now → ⊥)) }
+    ensures { CleansPolygons (ListClean SimpleAnswer) w32 point_i32
+        points.now contours.now shapes.now out_points.old out_points.new
+        out_contours.old out_contours.new out_shapes.old out_shapes.new result }
 {
     clean_shapes::<PointI32, ContourSimplifier>(
         alloc,
@@ -205,9 +189,9 @@ pub extern "C" fn i_shape_despike_shapes_i32(
     out_contours: &mut [usize],
     out_shapes: &mut [usize],
 ) -> isize
-    ensures answer { ShapesAnswer (ListClean DespikeAnswer) point_i32 points.now contours.now shapes.now out_points.old out_points.new out_contours.old out_contours.new out_shapes.old out_shapes.new result }
-    ensures unfit { result ≡ unfit_code ↔ (CanCleanShapes (length points.now) contours.now shapes.now (length out_points.old) (length out_contours.old) (length out_shapes.old) → ⊥) }
-    ensures unsafe_points { result ≡ unsafe_code ↔ (CanCleanShapes (length points.now) contours.now shapes.now (length out_points.old) (length out_contours.old) (length out_shapes.old) × (AreSafeContours w32 point_i32 points.now contours.now → ⊥)) }
+    ensures { CleansPolygons (ListClean DespikeAnswer) w32 point_i32
+        points.now contours.now shapes.now out_points.old out_points.new
+        out_contours.old out_contours.new out_shapes.old out_shapes.new result }
 {
     clean_shapes::<PointI32, SpikeRemover>(
         alloc,
@@ -231,9 +215,9 @@ pub extern "C" fn i_shape_canonical_shapes_i32(
     out_contours: &mut [usize],
     out_shapes: &mut [usize],
 ) -> isize
-    ensures answer { ShapesAnswer (ListForm CanonicalAnswer) point_i32 points.now contours.now shapes.now out_points.old out_points.new out_contours.old out_contours.new out_shapes.old out_shapes.new result }
-    ensures unfit { result ≡ unfit_code ↔ (CanCleanShapes (length points.now) contours.now shapes.now (length out_points.old) (length out_contours.old) (length out_shapes.old) → ⊥) }
-    ensures unsafe_points { result ≡ unsafe_code ↔ (CanCleanShapes (length points.now) contours.now shapes.now (length out_points.old) (length out_contours.old) (length out_shapes.old) × (AreSafeContours w32 point_i32 points.now contours.now → ⊥)) }
+    ensures { CleansPolygons (ListForm CanonicalAnswer) w32 point_i32
+        points.now contours.now shapes.now out_points.old out_points.new
+        out_contours.old out_contours.new out_shapes.old out_shapes.new result }
 {
     clean_shapes::<PointI32, Canonicalizer>(
         alloc,
@@ -257,9 +241,9 @@ pub extern "C" fn i_shape_canonical_unoriented_shapes_i32(
     out_contours: &mut [usize],
     out_shapes: &mut [usize],
 ) -> isize
-    ensures answer { ShapesAnswer (ListForm UnorientedAnswer) point_i32 points.now contours.now shapes.now out_points.old out_points.new out_contours.old out_contours.new out_shapes.old out_shapes.new result }
-    ensures unfit { result ≡ unfit_code ↔ (CanCleanShapes (length points.now) contours.now shapes.now (length out_points.old) (length out_contours.old) (length out_shapes.old) → ⊥) }
-    ensures unsafe_points { result ≡ unsafe_code ↔ (CanCleanShapes (length points.now) contours.now shapes.now (length out_points.old) (length out_contours.old) (length out_shapes.old) × (AreSafeContours w32 point_i32 points.now contours.now → ⊥)) }
+    ensures { CleansPolygons (ListForm UnorientedAnswer) w32 point_i32
+        points.now contours.now shapes.now out_points.old out_points.new
+        out_contours.old out_contours.new out_shapes.old out_shapes.new result }
 {
     clean_shapes::<PointI32, UnorientedCanonicalizer>(
         alloc,

@@ -6,18 +6,18 @@ ghost use Rattle.i_shape.specs.Cleaners.{SimpleAnswer, SpikelessAnswer, DespikeA
 ghost use Rattle.i_shape.specs.Canonical.{CanonicalAnswer, UnorientedAnswer, KeptEitherWay};
 ghost use Rattle.i_shape.specs.CanonicalShapes.{ListForm};
 ghost use Rattle.i_shape.specs.ShapeAnswers.{ListClean};
-ghost use Rattle.i_shape.specs.Contour.{IsSimple};
+ghost use Rattle.i_shape.specs.Contour.{IsSimple, Sublist, RotatedSublist, SublistEitherWay};
 ghost use Rattle.i_shape.specs.Convex.{Convex, NoSpikes};
 ghost use Rattle.i_shape.specs.Edges.{Inside, shoelace};
 ghost use Rattle.i_shape.specs.IntPoint.{IsSafe};
 ghost use Rattle.i_shape_c.specs.Points.{point_i64};
-ghost use Rattle.i_shape_c.specs.Cleaned.{AreSafe, CleanAnswer, TakesNoMemory, unsafe_code, unfit_code, no_memory_code};
-ghost use Rattle.i_shape_c.specs.Batch.{AreSafeContours, BatchAnswer, CanClean, NoneTakesMemory};
-ghost use Rattle.i_shape_c.specs.Polygons.{CanCleanShapes, ShapesAnswer};
+ghost use Rattle.i_shape_c.specs.Cleaned.{AreSafe, unsafe_code, unfit_code, CleansContour};
+ghost use Rattle.i_shape_c.specs.Batch.{AreSafeContours, CleansContours};
 ghost use Rattle.i_shape_c.specs.Tests.{IsTold, TestAnswer};
 ghost use Rattle.i_shape_c.specs.Areas.{AreHalves};
 ghost use Rattle.i_shape.specs.Winding.{winding as winding_of};
 ghost use Rattle.i_shape_c.specs.Windings.{no_winding, CanWind, WindingsAnswer};
+ghost use Rattle.i_shape_c.specs.Polygons.{CleansPolygons};
 
 use crate::area::{Halves, area_two};
 use crate::batch::clean_contours;
@@ -39,10 +39,8 @@ pub extern "C" fn i_shape_simplify_i64(
     points: &[PointI64],
     out: &mut [PointI64],
 ) -> isize
-    ensures answer { CleanAnswer SimpleAnswer KeptAnswer w64 point_i64 points.now out.old out.new result }
-    ensures unfit { result ≡ unfit_code ↔ (length out.old < length points.now) }
-    ensures unsafe_points { result ≡ unsafe_code ↔ ((length points.now ≤ length out.old) × (AreSafe w64 point_i64 points.now → ⊥)) }
-    ensures memory { result ≡ no_memory_code → TakesNoMemory IsSimple point_i64 points.now → ⊥ }
+    ensures { CleansContour IsSimple SimpleAnswer KeptAnswer Sublist w64 point_i64
+        points.now out.old out.new result }
 {
     clean_contour::<PointI64, ContourSimplifier>(alloc, points, out)
 }
@@ -55,10 +53,8 @@ pub extern "C" fn i_shape_despike_i64(
     points: &[PointI64],
     out: &mut [PointI64],
 ) -> isize
-    ensures answer { CleanAnswer SpikelessAnswer KeptAnswer w64 point_i64 points.now out.old out.new result }
-    ensures unfit { result ≡ unfit_code ↔ (length out.old < length points.now) }
-    ensures unsafe_points { result ≡ unsafe_code ↔ ((length points.now ≤ length out.old) × (AreSafe w64 point_i64 points.now → ⊥)) }
-    ensures memory { result ≡ no_memory_code → TakesNoMemory IsDespikedAlready point_i64 points.now → ⊥ }
+    ensures { CleansContour IsDespikedAlready SpikelessAnswer KeptAnswer Sublist w64 point_i64
+        points.now out.old out.new result }
 {
     clean_contour::<PointI64, ContourDeSpiker>(alloc, points, out)
 }
@@ -71,10 +67,8 @@ pub extern "C" fn i_shape_canonical_i64(
     points: &[PointI64],
     out: &mut [PointI64],
 ) -> isize
-    ensures answer { CleanAnswer CanonicalAnswer KeptAnswer w64 point_i64 points.now out.old out.new result }
-    ensures unfit { result ≡ unfit_code ↔ (length out.old < length points.now) }
-    ensures unsafe_points { result ≡ unsafe_code ↔ ((length points.now ≤ length out.old) × (AreSafe w64 point_i64 points.now → ⊥)) }
-    ensures memory { result ≡ no_memory_code → TakesNoMemory IsSimple point_i64 points.now → ⊥ }
+    ensures { CleansContour IsSimple CanonicalAnswer KeptAnswer RotatedSublist w64 point_i64
+        points.now out.old out.new result }
 {
     clean_contour::<PointI64, Canonicalizer>(alloc, points, out)
 }
@@ -87,10 +81,8 @@ pub extern "C" fn i_shape_canonical_unoriented_i64(
     points: &[PointI64],
     out: &mut [PointI64],
 ) -> isize
-    ensures answer { CleanAnswer UnorientedAnswer KeptEitherWay w64 point_i64 points.now out.old out.new result }
-    ensures unfit { result ≡ unfit_code ↔ (length out.old < length points.now) }
-    ensures unsafe_points { result ≡ unsafe_code ↔ ((length points.now ≤ length out.old) × (AreSafe w64 point_i64 points.now → ⊥)) }
-    ensures memory { result ≡ no_memory_code → TakesNoMemory IsSimple point_i64 points.now → ⊥ }
+    ensures { CleansContour IsSimple UnorientedAnswer KeptEitherWay SublistEitherWay w64 point_i64
+        points.now out.old out.new result }
 {
     clean_contour::<PointI64, UnorientedCanonicalizer>(alloc, points, out)
 }
@@ -104,10 +96,8 @@ pub extern "C" fn i_shape_simplify_contours_i64(
     out_points: &mut [PointI64],
     out_offsets: &mut [usize],
 ) -> isize
-    ensures answer { BatchAnswer SimpleAnswer KeptAnswer w64 point_i64 points.now offsets.now out_points.old out_points.new out_offsets.old out_offsets.new result }
-    ensures unfit { result ≡ unfit_code ↔ (CanClean (length points.now) offsets.now (length out_points.old) (length out_offsets.old) → ⊥) }
-    ensures unsafe_points { result ≡ unsafe_code ↔ (CanClean (length points.now) offsets.now (length out_points.old) (length out_offsets.old) × (AreSafeContours w64 point_i64 points.now offsets.now → ⊥)) }
-    ensures memory { result ≡ no_memory_code → NoneTakesMemory IsSimple point_i64 points.now offsets.now → ⊥ }
+    ensures { CleansContours IsSimple SimpleAnswer KeptAnswer w64 point_i64 points.now offsets.now
+        out_points.old out_points.new out_offsets.old out_offsets.new result }
 {
     clean_contours::<PointI64, ContourSimplifier>(alloc, points, offsets, out_points, out_offsets)
 }
@@ -121,10 +111,8 @@ pub extern "C" fn i_shape_despike_contours_i64(
     out_points: &mut [PointI64],
     out_offsets: &mut [usize],
 ) -> isize
-    ensures answer { BatchAnswer SpikelessAnswer KeptAnswer w64 point_i64 points.now offsets.now out_points.old out_points.new out_offsets.old out_offsets.new result }
-    ensures unfit { result ≡ unfit_code ↔ (CanClean (length points.now) offsets.now (length out_points.old) (length out_offsets.old) → ⊥) }
-    ensures unsafe_points { result ≡ unsafe_code ↔ (CanClean (length points.now) offsets.now (length out_points.old) (length out_offsets.old) × (AreSafeContours w64 point_i64 points.now offsets.now → ⊥)) }
-    ensures memory { result ≡ no_memory_code → NoneTakesMemory IsDespikedAlready point_i64 points.now offsets.now → ⊥ }
+    ensures { CleansContours IsDespikedAlready SpikelessAnswer KeptAnswer w64 point_i64 points.now offsets.now
+        out_points.old out_points.new out_offsets.old out_offsets.new result }
 {
     clean_contours::<PointI64, ContourDeSpiker>(alloc, points, offsets, out_points, out_offsets)
 }
@@ -138,10 +126,8 @@ pub extern "C" fn i_shape_canonical_contours_i64(
     out_points: &mut [PointI64],
     out_offsets: &mut [usize],
 ) -> isize
-    ensures answer { BatchAnswer CanonicalAnswer KeptAnswer w64 point_i64 points.now offsets.now out_points.old out_points.new out_offsets.old out_offsets.new result }
-    ensures unfit { result ≡ unfit_code ↔ (CanClean (length points.now) offsets.now (length out_points.old) (length out_offsets.old) → ⊥) }
-    ensures unsafe_points { result ≡ unsafe_code ↔ (CanClean (length points.now) offsets.now (length out_points.old) (length out_offsets.old) × (AreSafeContours w64 point_i64 points.now offsets.now → ⊥)) }
-    ensures memory { result ≡ no_memory_code → NoneTakesMemory IsSimple point_i64 points.now offsets.now → ⊥ }
+    ensures { CleansContours IsSimple CanonicalAnswer KeptAnswer w64 point_i64 points.now offsets.now
+        out_points.old out_points.new out_offsets.old out_offsets.new result }
 {
     clean_contours::<PointI64, Canonicalizer>(alloc, points, offsets, out_points, out_offsets)
 }
@@ -155,10 +141,8 @@ pub extern "C" fn i_shape_canonical_unoriented_contours_i64(
     out_points: &mut [PointI64],
     out_offsets: &mut [usize],
 ) -> isize
-    ensures answer { BatchAnswer UnorientedAnswer KeptEitherWay w64 point_i64 points.now offsets.now out_points.old out_points.new out_offsets.old out_offsets.new result }
-    ensures unfit { result ≡ unfit_code ↔ (CanClean (length points.now) offsets.now (length out_points.old) (length out_offsets.old) → ⊥) }
-    ensures unsafe_points { result ≡ unsafe_code ↔ (CanClean (length points.now) offsets.now (length out_points.old) (length out_offsets.old) × (AreSafeContours w64 point_i64 points.now offsets.now → ⊥)) }
-    ensures memory { result ≡ no_memory_code → NoneTakesMemory IsSimple point_i64 points.now offsets.now → ⊥ }
+    ensures { CleansContours IsSimple UnorientedAnswer KeptEitherWay w64 point_i64 points.now offsets.now
+        out_points.old out_points.new out_offsets.old out_offsets.new result }
 {
     clean_contours::<PointI64, UnorientedCanonicalizer>(
         alloc,
@@ -180,9 +164,9 @@ pub extern "C" fn i_shape_simplify_shapes_i64(
     out_contours: &mut [usize],
     out_shapes: &mut [usize],
 ) -> isize
-    ensures answer { ShapesAnswer (ListClean SimpleAnswer) point_i64 points.now contours.now shapes.now out_points.old out_points.new out_contours.old out_contours.new out_shapes.old out_shapes.new result }
-    ensures unfit { result ≡ unfit_code ↔ (CanCleanShapes (length points.now) contours.now shapes.now (length out_points.old) (length out_contours.old) (length out_shapes.old) → ⊥) }
-    ensures unsafe_points { result ≡ unsafe_code ↔ (CanCleanShapes (length points.now) contours.now shapes.now (length out_points.old) (length out_contours.old) (length out_shapes.old) × (AreSafeContours w64 point_i64 points.now contours.now → ⊥)) }
+    ensures { CleansPolygons (ListClean SimpleAnswer) w64 point_i64
+        points.now contours.now shapes.now out_points.old out_points.new
+        out_contours.old out_contours.new out_shapes.old out_shapes.new result }
 {
     clean_shapes::<PointI64, ContourSimplifier>(
         alloc,
@@ -206,9 +190,9 @@ pub extern "C" fn i_shape_despike_shapes_i64(
     out_contours: &mut [usize],
     out_shapes: &mut [usize],
 ) -> isize
-    ensures answer { ShapesAnswer (ListClean DespikeAnswer) point_i64 points.now contours.now shapes.now out_points.old out_points.new out_contours.old out_contours.new out_shapes.old out_shapes.new result }
-    ensures unfit { result ≡ unfit_code ↔ (CanCleanShapes (length points.now) contours.now shapes.now (length out_points.old) (length out_contours.old) (length out_shapes.old) → ⊥) }
-    ensures unsafe_points { result ≡ unsafe_code ↔ (CanCleanShapes (length points.now) contours.now shapes.now (length out_points.old) (length out_contours.old) (length out_shapes.old) × (AreSafeContours w64 point_i64 points.now contours.now → ⊥)) }
+    ensures { CleansPolygons (ListClean DespikeAnswer) w64 point_i64
+        points.now contours.now shapes.now out_points.old out_points.new
+        out_contours.old out_contours.new out_shapes.old out_shapes.new result }
 {
     clean_shapes::<PointI64, SpikeRemover>(
         alloc,
@@ -232,9 +216,9 @@ pub extern "C" fn i_shape_canonical_shapes_i64(
     out_contours: &mut [usize],
     out_shapes: &mut [usize],
 ) -> isize
-    ensures answer { ShapesAnswer (ListForm CanonicalAnswer) point_i64 points.now contours.now shapes.now out_points.old out_points.new out_contours.old out_contours.new out_shapes.old out_shapes.new result }
-    ensures unfit { result ≡ unfit_code ↔ (CanCleanShapes (length points.now) contours.now shapes.now (length out_points.old) (length out_contours.old) (length out_shapes.old) → ⊥) }
-    ensures unsafe_points { result ≡ unsafe_code ↔ (CanCleanShapes (length points.now) contours.now shapes.now (length out_points.old) (length out_contours.old) (length out_shapes.old) × (AreSafeContours w64 point_i64 points.now contours.now → ⊥)) }
+    ensures { CleansPolygons (ListForm CanonicalAnswer) w64 point_i64
+        points.now contours.now shapes.now out_points.old out_points.new
+        out_contours.old out_contours.new out_shapes.old out_shapes.new result }
 {
     clean_shapes::<PointI64, Canonicalizer>(
         alloc,
@@ -258,9 +242,9 @@ pub extern "C" fn i_shape_canonical_unoriented_shapes_i64(
     out_contours: &mut [usize],
     out_shapes: &mut [usize],
 ) -> isize
-    ensures answer { ShapesAnswer (ListForm UnorientedAnswer) point_i64 points.now contours.now shapes.now out_points.old out_points.new out_contours.old out_contours.new out_shapes.old out_shapes.new result }
-    ensures unfit { result ≡ unfit_code ↔ (CanCleanShapes (length points.now) contours.now shapes.now (length out_points.old) (length out_contours.old) (length out_shapes.old) → ⊥) }
-    ensures unsafe_points { result ≡ unsafe_code ↔ (CanCleanShapes (length points.now) contours.now shapes.now (length out_points.old) (length out_contours.old) (length out_shapes.old) × (AreSafeContours w64 point_i64 points.now contours.now → ⊥)) }
+    ensures { CleansPolygons (ListForm UnorientedAnswer) w64 point_i64
+        points.now contours.now shapes.now out_points.old out_points.new
+        out_contours.old out_contours.new out_shapes.old out_shapes.new result }
 {
     clean_shapes::<PointI64, UnorientedCanonicalizer>(
         alloc,

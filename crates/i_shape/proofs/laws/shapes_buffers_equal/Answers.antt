@@ -1,6 +1,6 @@
 use Rattle.std.proofs.Common.{sym}
 use Rattle.std.proofs.lemmas.Bool.Decides.{Decides-and}
-use Rattle.i_shape.proofs.EqualLists.{lists_decided, points_decided, ranges_decided}
+use Rattle.i_shape.proofs.lists.Equality.{lists_decided, points_decided, ranges_decided}
 use Rattle.i_shape.proofs.laws.shapes_buffers_equal.Goals as goal
 
 pub returns : goal.returns

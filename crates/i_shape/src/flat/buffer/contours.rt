@@ -3,7 +3,7 @@
 ghost use Rattle.std.specs.Prelude.{◌≡◌, ◌+◌, ◌<◌, ◌≤◌, ◌++◌, ◌∷◌, ◌↔◌, ◌⊎◌, [], length, vec_len, vec_capacity, IfOk, OnOk, OnErr, IsOkUnless, IsErrOf, IsTrue};
 ghost use Rattle.std.specs.List.{All};
 ghost use Rattle.std.specs.Borrow.{sem};
-ghost use Rattle.i_shape_source.specs.Paths.{paths_of_shape, joined, paths_of_shapes};
+ghost use Rattle.i_shape_source.specs.Paths.{paths_of_shape, concatenated, paths_of_shapes};
 ghost use Rattle.i_shape.specs.Flat.{InOrder, part_of, slices};
 ghost use Rattle.i_shape.specs.Buffers.{HoldsContours, SameLists, CanReadFirst, first_contour};
 ghost use Rattle.i_shape.specs.Lending.{LendsFirst, first_start};
@@ -130,7 +130,7 @@ impl<T: IntNumber> FlatContoursBuffer<T> {
     pub fn set_with_shape(&mut self, shape: &[IntContour<T>]) -> Result<(), ShapeError>
         ensures ok { OnOk result (HoldsContours self.new (paths_of_shape shape.now)) }
         ensures err { OnErr result (SameLists self.old self.new) }
-        ensures too_many { IsErrOf result ShapeError.TooManyPoints ↔ (usize.MAX < length (joined (paths_of_shape shape.now))) }
+        ensures too_many { IsErrOf result ShapeError.TooManyPoints ↔ (usize.MAX < length (concatenated (paths_of_shape shape.now))) }
     {
         let count = checked_points_count(shape).ok_or(ShapeError::TooManyPoints)?;
         self.clear_and_reserve(count, shape.len())?;
@@ -144,7 +144,7 @@ impl<T: IntNumber> FlatContoursBuffer<T> {
         ensures ok { OnOk result (HoldsContours self.new (paths_of_shapes shapes.now)) }
         ensures err { OnErr result (SameLists self.old self.new) }
         ensures too_many { IsErrOf result ShapeError.TooManyPoints
-            ↔ ((usize.MAX < length (joined (paths_of_shapes shapes.now)))
+            ↔ ((usize.MAX < length (concatenated (paths_of_shapes shapes.now)))
             ⊎ (usize.MAX < length (paths_of_shapes shapes.now))) }
     {
         let counts = checked_counts(shapes).ok_or(ShapeError::TooManyPoints)?;

@@ -2,7 +2,7 @@
 
 ghost use Rattle.std.specs.Prelude.{◌≡◌, ◌+◌, ◌<◌, ◌≤◌, ◌∷◌, ◌↔◌, ◌⊎◌, [], length, vec_len, vec_capacity, IfOk, OnOk, OnErr, IsOkUnless, IsErrOf, IsTrue};
 ghost use Rattle.std.specs.List.{All};
-ghost use Rattle.i_shape_source.specs.Paths.{paths_of_shape, shape_lists, joined, paths_of_shapes};
+ghost use Rattle.i_shape_source.specs.Paths.{paths_of_shape, shape_lists, concatenated, paths_of_shapes};
 ghost use Rattle.i_shape.specs.Flat.{InOrder, slices};
 ghost use Rattle.i_shape.specs.Buffers.{HoldsShapes, SameShapeLists, AddsShape, CanReadShapes, shapes_in};
 
@@ -141,7 +141,7 @@ impl<T: IntNumber> FlatShapesBuffer<T> {
     pub fn set_with_shape(&mut self, shape: &[IntContour<T>]) -> Result<(), ShapeError>
         ensures ok { OnOk result (HoldsShapes self.new (paths_of_shape shape.now ∷ [])) }
         ensures err { OnErr result (SameShapeLists self.old self.new) }
-        ensures too_many { IsErrOf result ShapeError.TooManyPoints ↔ (usize.MAX < length (joined (paths_of_shape shape.now))) }
+        ensures too_many { IsErrOf result ShapeError.TooManyPoints ↔ (usize.MAX < length (concatenated (paths_of_shape shape.now))) }
     {
         let count = checked_points_count(shape).ok_or(ShapeError::TooManyPoints)?;
         self.clear_and_reserve(count, shape.len(), 1)?;
@@ -160,7 +160,7 @@ impl<T: IntNumber> FlatShapesBuffer<T> {
         ensures ok { OnOk result (HoldsShapes self.new (shape_lists shapes.now)) }
         ensures err { OnErr result (SameShapeLists self.old self.new) }
         ensures too_many { IsErrOf result ShapeError.TooManyPoints
-            ↔ ((usize.MAX < length (joined (paths_of_shapes shapes.now)))
+            ↔ ((usize.MAX < length (concatenated (paths_of_shapes shapes.now)))
             ⊎ (usize.MAX < length (paths_of_shapes shapes.now))) }
     {
         let counts = checked_counts(shapes).ok_or(ShapeError::TooManyPoints)?;
@@ -180,7 +180,7 @@ impl<T: IntNumber> FlatShapesBuffer<T> {
         ensures ok { OnOk result (AddsShape self.old self.new (paths_of_shape shape.now)) }
         ensures err { OnErr result (SameShapeLists self.old self.new) }
         ensures too_many { IsErrOf result ShapeError.TooManyPoints
-            ↔ ((usize.MAX < vec_len self.old.points + length (joined (paths_of_shape shape.now)))
+            ↔ ((usize.MAX < vec_len self.old.points + length (concatenated (paths_of_shape shape.now)))
             ⊎ (usize.MAX < vec_len self.old.contour_ranges + length shape.now)) }
     {
         let count = checked_points_count(shape).ok_or(ShapeError::TooManyPoints)?;

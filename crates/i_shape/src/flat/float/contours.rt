@@ -3,7 +3,7 @@
 ghost use Rattle.std.specs.Prelude.{◌≡◌, ◌+◌, ◌<◌, ◌≤◌, ◌++◌, ◌∷◌, ◌↔◌, ◌⊎◌, [], List, length, vec_capacity, IfOk, OnOk, OnErr, IsOkUnless, IsErrOf, IsTrue};
 ghost use Rattle.std.specs.List.{All};
 ghost use Rattle.std.specs.Iterator.{Drains, IsFinite};
-ghost use Rattle.i_shape_source.specs.Paths.{paths_of_shape, joined};
+ghost use Rattle.i_shape_source.specs.Paths.{paths_of_shape, concatenated};
 ghost use Rattle.i_shape.specs.Flat.{InOrder, slices};
 ghost use Rattle.i_shape.specs.FloatBuffers.{HasLists, LieEndToEnd};
 
@@ -199,7 +199,7 @@ impl<P: ShapePoint> FloatFlatContoursBuffer<P> {
         requires { R.can_read resource }
         ensures ok { OnOk result (LieEndToEnd self.new.points.items self.new.ranges.items (R.paths resource)) }
         ensures err { OnErr result (HasLists self.new self.old.points.items self.old.ranges.items) }
-        ensures too_many { IsErrOf result ShapeError.TooManyPoints ↔ ((usize.MAX < length (joined (R.paths resource))) ⊎ (usize.MAX < length (R.paths resource))) }
+        ensures too_many { IsErrOf result ShapeError.TooManyPoints ↔ ((usize.MAX < length (concatenated (R.paths resource))) ⊎ (usize.MAX < length (R.paths resource))) }
     {
         let counts = checked_path_counts(resource).ok_or(ShapeError::TooManyPoints)?;
         self.clear_and_reserve(counts.points, counts.contours)?;

@@ -3,7 +3,7 @@
 ghost use Rattle.std.specs.Prelude.{◌≡◌, ◌+◌, ◌<◌, ◌≤◌, ◌++◌, ◌⊎◌, List, length, map, vec_len, vec_capacity, OnOk, OnErr, IsOkUnless, MatchOption};
 ghost use Rattle.std.specs.List.{All, Contains};
 ghost use Rattle.std.specs.Iterator.{Drains, IsFinite};
-ghost use Rattle.i_shape_source.specs.Paths.{joined};
+ghost use Rattle.i_shape_source.specs.Paths.{concatenated};
 ghost use Rattle.i_shape.specs.Flat.{end_to_end};
 
 use crate::ShapeError;
@@ -58,7 +58,7 @@ pub fn checked_path_counts<'a, P: ShapePoint + 'a, R: ShapeResource<'a, P> + Cop
     resource: R,
 ) -> Option<Counts>
     requires { R.can_read resource }
-    ensures { MatchOption result ((usize.MAX < length (joined (R.paths resource))) ⊎ (usize.MAX < length (R.paths resource))) (λ counts. (counts.points ≡ length (joined (R.paths resource))) × (counts.contours ≡ length (R.paths resource))) }
+    ensures { MatchOption result ((usize.MAX < length (concatenated (R.paths resource))) ⊎ (usize.MAX < length (R.paths resource))) (λ counts. (counts.points ≡ length (concatenated (R.paths resource))) × (counts.contours ≡ length (R.paths resource))) }
 {
     let mut points: usize = 0;
     let mut contours: usize = 0;
@@ -76,9 +76,9 @@ pub fn append_paths<'a, P: ShapePoint + 'a, R: ShapeResource<'a, P> + Copy>(
     resource: R,
 )
     requires can { R.can_read resource }
-    requires points_room { vec_len points.old + length (joined (R.paths resource)) ≤ vec_capacity points.old }
+    requires points_room { vec_len points.old + length (concatenated (R.paths resource)) ≤ vec_capacity points.old }
     requires ranges_room { vec_len ranges.old + length (R.paths resource) ≤ vec_capacity ranges.old }
-    ensures points { points.new.items ≡ points.old.items ++ joined (R.paths resource) }
+    ensures points { points.new.items ≡ points.old.items ++ concatenated (R.paths resource) }
     ensures ranges { ranges.new.items ≡ ranges.old.items ++ end_to_end (vec_len points.old) (R.paths resource) }
 {
     for path in resource.iter_paths() {

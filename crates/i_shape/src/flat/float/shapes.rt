@@ -3,7 +3,7 @@
 ghost use Rattle.std.specs.Prelude.{◌≡◌, ◌+◌, ◌<◌, ◌≤◌, ◌++◌, ◌∷◌, ◌↔◌, ◌⊎◌, [], List, length, vec_capacity, IfOk, OnOk, OnErr, IsOk, IsOkUnless, IsErrOf, IsTrue};
 ghost use Rattle.std.specs.List.{All};
 ghost use Rattle.std.specs.Iterator.{Drains, IsFinite};
-ghost use Rattle.i_shape_source.specs.Paths.{paths_of_shape, shape_lists, joined};
+ghost use Rattle.i_shape_source.specs.Paths.{paths_of_shape, shape_lists, concatenated};
 ghost use Rattle.i_shape.specs.Flat.{InOrder, IsReadableShape, slices, shapes};
 ghost use Rattle.i_shape.specs.FloatBuffers.{HasShapeLists, LieEndToEnd, FormOneShape};
 
@@ -265,7 +265,7 @@ impl<P: ShapePoint> FloatFlatShapesBuffer<P> {
         ensures one_shape { OnOk result (FormOneShape self.new (R.paths resource)) }
         ensures no_paths { R.paths resource ≡ [] → IsOk result }
         ensures err { OnErr result (HasShapeLists self.new self.old.points.items self.old.contour_ranges.items self.old.shape_ranges.items) }
-        ensures too_many { IsErrOf result ShapeError.TooManyPoints ↔ ((usize.MAX < length (joined (R.paths resource))) ⊎ (usize.MAX < length (R.paths resource))) }
+        ensures too_many { IsErrOf result ShapeError.TooManyPoints ↔ ((usize.MAX < length (concatenated (R.paths resource))) ⊎ (usize.MAX < length (R.paths resource))) }
     {
         let counts = checked_path_counts(resource).ok_or(ShapeError::TooManyPoints)?;
         if counts.contours == 0 {

@@ -1,10 +1,9 @@
 //! The forms of shapes and of lists of shapes, by the cleaner that gives those of contours.
 
 ghost use Rattle.std.specs.Prelude.{◌≡◌, ◌++◌, List, Option, Some, IfOk, IfSome, OnOk, IsOkUnless};
-ghost use Rattle.std.specs.List.{All};
 ghost use Rattle.std.specs.Option.{option_to_list};
 ghost use Rattle.i_shape_core.specs.Point.{Point};
-ghost use Rattle.i_shape_core.specs.IntPoint.{contour_of, IsSafe, answered};
+ghost use Rattle.i_shape_core.specs.IntPoint.{answered};
 ghost use Rattle.i_shape_core.specs.Canonical.{IsAtMost};
 ghost use Rattle.i_shape.specs.ShapeLists.{shape_of, shapes_of, IsSafeShape, IsSafeList};
 ghost use Rattle.i_shape.specs.CanonicalShapes.{SortedForms, ShapeForm, ListForm};
@@ -56,7 +55,7 @@ pub fn shape_form<I: IntNumber, C: CleanerLaws>(
 }
 
 /// Appends the form of a shape, and nothing where its outer contour collapses.
-fn append_shape<I: IntNumber, C: CleanerLaws>(
+fn push_shape_form<I: IntNumber, C: CleanerLaws>(
     cleaner: &mut C,
     forms: &mut IntShapes<I>,
     shape: &[IntContour<I>],
@@ -88,7 +87,7 @@ pub fn list_form<I: IntNumber, C: CleanerLaws>(
 {
     let mut forms = Vec::with_capacity(alloc, shapes.len())?;
     for shape in shapes {
-        append_shape(cleaner, &mut forms, shape.as_slice())?;
+        push_shape_form(cleaner, &mut forms, shape.as_slice())?;
     }
     forms.sort_unstable();
     Ok(forms)

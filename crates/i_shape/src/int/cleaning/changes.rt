@@ -3,10 +3,10 @@
 
 ghost use Rattle.std.specs.Prelude.{◌≡◌, ◌↔◌, ◌++◌, List, IsTrue, IfOk, OnOk, OnErr, IsOkUnless};
 ghost use Rattle.std.specs.List.{All};
-ghost use Rattle.i_shape_core.specs.IntPoint.{contour_of, IsSafe};
+ghost use Rattle.i_shape_core.specs.IntPoint.{contour_of, IsSafeContour};
 ghost use Rattle.i_shape.specs.ShapeAnswers.{EachContour, EachShape};
 ghost use Rattle.i_shape.specs.ShapeLists.{shape_of, shapes_of, IsSafeShape, IsSafeList};
-ghost use Rattle.i_shape.specs.Changes.{Edit, edits_of, IsLeft, put_contour, put_in_list, FitsShape, FitsList, all_put, AllFit, ComesFor, CleansAside, CleansListAside, stands, standing, standing_shapes};
+ghost use Rattle.i_shape.specs.Changes.{Edit, edits_of, IsLeft, put_contour, put_in_list, FitsShape, FitsList, all_put, AllFit, ComesFor, CleansAside, CleansListAside, keeps_outer, kept_contours, kept_shapes};
 
 use crate::int::cleaning::InPlaceCleaner;
 use crate::int::shape::{IntContour, IntShape, IntShapes};
@@ -29,7 +29,7 @@ fn replacement<I: IntNumber, C: InPlaceCleaner>(
     alloc: Global,
     contour: &[IntPoint<I>],
 ) -> Result<IntContour<I>, ShapeError>
-    requires safe { All (IsSafe I.width) (contour_of I.value contour.now) }
+    requires safe { IsSafeContour I.width (contour_of I.value contour.now) }
     requires unclean { C.clean (contour_of I.value contour.now) → ⊥ }
     ensures answer { IfOk result (λ r. ComesFor C.answers (contour_of I.value contour.now) (contour_of I.value r.items)) }
     ensures memory { IsOkUnless result ShapeError.OutOfMemory }
@@ -134,8 +134,8 @@ pub fn put_in_list<I: IntNumber>(shapes: &mut IntShapes<I>, mut changes: Vec<Cha
 }
 
 /// Whether the outer contour has points. True where there is none.
-fn stands<I: IntNumber>(shape: &[IntContour<I>]) -> bool
-    ensures { result ≡ stands (shape_of I.value shape.now) }
+fn keeps_outer<I: IntNumber>(shape: &[IntContour<I>]) -> bool
+    ensures { result ≡ keeps_outer (shape_of I.value shape.now) }
 {
     match shape.first() {
         Some(outer) => !outer.is_empty(),
@@ -145,9 +145,9 @@ fn stands<I: IntNumber>(shape: &[IntContour<I>]) -> bool
 
 /// Takes out the contours without points, and all where the outer one has none.
 pub fn take_out_collapsed<I: IntNumber>(shape: &mut IntShape<I>)
-    ensures { shape_of I.value shape.new.items ≡ standing (shape_of I.value shape.old.items) }
+    ensures { shape_of I.value shape.new.items ≡ kept_contours (shape_of I.value shape.old.items) }
 {
-    if stands(shape.as_slice()) {
+    if keeps_outer(shape.as_slice()) {
         shape.retain(|contour| !contour.is_empty());
     } else {
         shape.clear();
@@ -156,9 +156,9 @@ pub fn take_out_collapsed<I: IntNumber>(shape: &mut IntShape<I>)
 
 /// Takes out the contours without points, and the shapes whose outer one has none.
 pub fn take_out_of_list<I: IntNumber>(shapes: &mut IntShapes<I>)
-    ensures { shapes_of I.value shapes.new.items ≡ standing_shapes (shapes_of I.value shapes.old.items) }
+    ensures { shapes_of I.value shapes.new.items ≡ kept_shapes (shapes_of I.value shapes.old.items) }
 {
-    shapes.retain(|shape| stands(shape.as_slice()));
+    shapes.retain(|shape| keeps_outer(shape.as_slice()));
     for shape in shapes.iter_mut() {
         shape.retain(|contour| !contour.is_empty());
     }

@@ -1,13 +1,13 @@
 //! Shapes and shape lists without spikes: the tests, the cleaned copies, and the cleaning in place.
 
-ghost use Rattle.std.specs.Prelude.{◌≡◌, ◌↔◌, List, IsTrue, IfOk, IfSome, IsOkUnless, refl};
+ghost use Rattle.std.specs.Prelude.{◌≡◌, ◌↔◌, List, IsTrue};
 ghost use Rattle.i_shape_core.specs.Point.{Point};
-ghost use Rattle.i_shape_core.specs.IntPoint.{contour_of, IsSafe, answered};
 ghost use Rattle.i_shape_core.specs.Convex.{NoSpikes};
 ghost use Rattle.i_shape_core.specs.Cleaners.{DespikeAnswer};
 ghost use Rattle.i_shape.specs.ShapeLists.{shape_of, shapes_of, IsSafeShape, IsSafeList};
-ghost use Rattle.i_shape.specs.ShapeAnswers.{ShapeClean, ListClean, EachContour, EachShape, AreKept, ListKept};
+ghost use Rattle.i_shape.specs.ShapeAnswers.{EachContour, EachShape, CleansShapeTo, CleansListTo};
 ghost use Rattle.i_shape.specs.InPlace.{CleansShape, CleansList};
+ghost use Rattle.i_shape_core.specs.Refusals.{OkUnlessMemory};
 
 use crate::int::cleaning::{
     ContourCleaner, SpikeRemover, clean_list, clean_list_in_place, clean_shape,
@@ -34,10 +34,8 @@ pub trait DeSpikeShape<I: IntNumber> {
     /// A contour without spikes is copied as it is, and an empty shape stays empty. The only error is `OutOfMemory`.
     fn despiked_shape(&self, alloc: Global) -> Result<Option<IntShape<I>>, ShapeError>
         requires { IsSafeShape I.width (shape self.now) }
-        ensures answer { IfOk result (λ r. ShapeClean DespikeAnswer (shape self.now) (answered (shape_of I.value) r)) }
-        ensures kept { IfOk result (λ r. IfSome r (λ kept. AreKept (shape self.now) (shape_of I.value kept.items))) }
-        ensures safe { IfOk result (λ r. IfSome r (λ kept. IsSafeShape I.width (shape_of I.value kept.items))) }
-        ensures memory { IsOkUnless result ShapeError.OutOfMemory };
+        ensures { OkUnlessMemory result
+            (CleansShapeTo DespikeAnswer I.width I.value (shape self.now)) };
 }
 
 /// The test of a list of shapes of safe points for spikes, and its copy without them.
@@ -55,10 +53,8 @@ pub trait DeSpikeShapes<I: IntNumber> {
     /// The only error is `OutOfMemory`.
     fn despiked_shapes(&self, alloc: Global) -> Result<IntShapes<I>, ShapeError>
         requires { IsSafeList I.width (shapes self.now) }
-        ensures answer { IfOk result (λ r. ListClean DespikeAnswer (shapes self.now) (shapes_of I.value r.items)) }
-        ensures kept { IfOk result (λ r. ListKept DespikeAnswer (shapes self.now) (shapes_of I.value r.items)) }
-        ensures safe { IfOk result (λ r. IsSafeList I.width (shapes_of I.value r.items)) }
-        ensures memory { IsOkUnless result ShapeError.OutOfMemory };
+        ensures { OkUnlessMemory result
+            (CleansListTo DespikeAnswer I.width I.value (shapes self.now)) };
 }
 
 impl<I: IntNumber> DeSpikeShape<I> for IntShape<I> {

@@ -1,14 +1,13 @@
 //! Shapes and shape lists without zero turns: the tests, and the cleaned copies.
 
-ghost use Rattle.std.specs.Prelude.{◌≡◌, ◌↔◌, List, IsTrue, IfOk, IfSome, IsOkUnless};
-ghost use Rattle.std.specs.List.{All};
+ghost use Rattle.std.specs.Prelude.{◌≡◌, ◌↔◌, List, IsTrue};
 ghost use Rattle.i_shape_core.specs.Point.{Point};
-ghost use Rattle.i_shape_core.specs.IntPoint.{contour_of, IsSafe, answered};
 ghost use Rattle.i_shape_core.specs.Contour.{IsSimple};
 ghost use Rattle.i_shape_core.specs.Cleaners.{SimpleAnswer};
 ghost use Rattle.i_shape.specs.ShapeLists.{shape_of, shapes_of, IsSafeShape, IsSafeList};
-ghost use Rattle.i_shape.specs.ShapeAnswers.{ShapeClean, ListClean, EachContour, EachShape, AreKept, ListKept};
+ghost use Rattle.i_shape.specs.ShapeAnswers.{EachContour, EachShape, CleansShapeTo, CleansListTo};
 ghost use Rattle.i_shape.specs.InPlace.{CleansShape, CleansList};
+ghost use Rattle.i_shape_core.specs.Refusals.{OkUnlessMemory};
 
 use crate::int::cleaning::{
     clean_list, clean_list_in_place, clean_shape, clean_shape_in_place, is_clean_list,
@@ -35,10 +34,8 @@ pub trait SimpleShape<I: IntNumber> {
     /// A simple contour is copied as it is, and an empty shape stays empty. The only error is `OutOfMemory`.
     fn simplified(&self, alloc: Global) -> Result<Option<IntShape<I>>, ShapeError>
         requires { IsSafeShape I.width (shape self.now) }
-        ensures answer { IfOk result (λ r. ShapeClean SimpleAnswer (shape self.now) (answered (shape_of I.value) r)) }
-        ensures kept { IfOk result (λ r. IfSome r (λ kept. AreKept (shape self.now) (shape_of I.value kept.items))) }
-        ensures safe { IfOk result (λ r. IfSome r (λ kept. IsSafeShape I.width (shape_of I.value kept.items))) }
-        ensures memory { IsOkUnless result ShapeError.OutOfMemory };
+        ensures { OkUnlessMemory result
+            (CleansShapeTo SimpleAnswer I.width I.value (shape self.now)) };
 }
 
 /// The test of a list of shapes of safe points for zero turns, and its copy without them.
@@ -55,10 +52,8 @@ pub trait SimpleShapes<I: IntNumber> {
     /// The only error is `OutOfMemory`.
     fn simplified(&self, alloc: Global) -> Result<IntShapes<I>, ShapeError>
         requires { IsSafeList I.width (shapes self.now) }
-        ensures answer { IfOk result (λ r. ListClean SimpleAnswer (shapes self.now) (shapes_of I.value r.items)) }
-        ensures kept { IfOk result (λ r. ListKept SimpleAnswer (shapes self.now) (shapes_of I.value r.items)) }
-        ensures safe { IfOk result (λ r. IsSafeList I.width (shapes_of I.value r.items)) }
-        ensures memory { IsOkUnless result ShapeError.OutOfMemory };
+        ensures { OkUnlessMemory result
+            (CleansListTo SimpleAnswer I.width I.value (shapes self.now)) };
 }
 
 impl<I: IntNumber> SimpleShape<I> for &[IntContour<I>] {

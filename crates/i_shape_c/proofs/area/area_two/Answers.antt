@@ -1,5 +1,5 @@
 use Rattle.std.proofs.Common.{rules, refl, subst, map, take}
-use Rattle.i_shape_core.proofs.SummedArea.{IsSummed, summed-more, summed-last, wrapped-zero}
+use Rattle.i_shape_core.proofs.measure.AreaWalk.{IsSummed, summed-more, summed-last, wrapped-zero}
 use Rattle.i_shape_c.proofs.Areas.{mapped_more, whole_area}
 use Rattle.i_shape_c.proofs.area.area_two.Goals as goal
 

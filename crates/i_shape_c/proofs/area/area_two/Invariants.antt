@@ -1,5 +1,5 @@
 use Rattle.std.proofs.Common.{map, take}
-use Rattle.i_shape_core.proofs.SummedArea.{IsSummed}
+use Rattle.i_shape_core.proofs.measure.AreaWalk.{IsSummed}
 use Rattle.i_shape_c.proofs.area.area_two.Given as goal
 
 abbrev pub invariant-loop-given : goal.invariant-loop-given

@@ -3,12 +3,12 @@ use Rattle.std.proofs.lemmas.List.{length-set}
 use Rattle.i_shape.specs.IntPoint.{point_of}
 use Rattle.i_shape_c.specs.Batch.{offset, IsWithin}
 use Rattle.i_shape_c.proofs.Parts.{back_more}
-use Rattle.i_shape_c.proofs.Batches.{ordered, safe_part, further, on_err, done_more, all_done}
+use Rattle.i_shape_c.proofs.Batches.{rises_to, safe_part, same_further, on_err, done_more, all_done}
 use Rattle.i_shape_c.proofs.batch.clean_all.Goals as goal
 
 pub part-ring-requires-clause-within : goal.part-ring-requires-clause-within
 part-ring-requires-clause-within g c =
-    let up = ordered c.args.offsets.now (length c.args.offsets.now) c.loop-place.place (length c.args.offsets.now - 1) c.requires.can.order (omega (arith, c.loop-place-test.true)) (omega (arith, c.loop-place-test.true)) in
+    let up = rises_to c.args.offsets.now (length c.args.offsets.now) c.loop-place.place (length c.args.offsets.now - 1) c.requires.can.order (omega (arith, c.loop-place-test.true)) (omega (arith, c.loop-place-test.true)) in
     omega (arith, up, c.requires.can.last)
 
 pub clean_into-requires-clause-points_safe : goal.clean_into-requires-clause-points_safe
@@ -19,7 +19,7 @@ clean_into-requires-clause-points_safe g c =
 
 pub clean_into-requires-clause-room : goal.clean_into-requires-clause-room
 clean_into-requires-clause-room g c =
-    let up = ordered c.args.offsets.now (length c.args.offsets.now) c.loop-place.place (length c.args.offsets.now - 1) c.requires.can.order (omega (arith, c.loop-place-test.true)) (omega (arith, c.loop-place-test.true)) in
+    let up = rises_to c.args.offsets.now (length c.args.offsets.now) c.loop-place.place (length c.args.offsets.now - 1) c.requires.can.order (omega (arith, c.loop-place-test.true)) (omega (arith, c.loop-place-test.true)) in
     omega (arith, up, c.requires.can.last, c.requires.can.room, c.loop-place.invariant.points, c.loop-place.invariant.done.fewer, c.part-ring.ensures.len)
 
 pub loop-place-preserved : goal.loop-place-preserved
@@ -33,7 +33,7 @@ loop-place-preserved g c =
     record {
       points = clean.len ∙ c.loop-place.invariant.points;
       offsets = length-set c.loop-place.out_offsets c.loop-place.place end ∙ c.loop-place.invariant.offsets;
-      points_rest = clean.after ∙ further c.loop-place.out_points c.args.out_points.now c.loop-place.written end clean.end.0 c.loop-place.invariant.points_rest;
+      points_rest = clean.after ∙ same_further c.loop-place.out_points c.args.out_points.now c.loop-place.written end clean.end.0 c.loop-place.invariant.points_rest;
       offsets_rest = back_more c.loop-place.out_offsets c.args.out_offsets.now c.loop-place.place _ end (omega arith) c.loop-place.invariant.offsets_rest;
       done = done_more g.C.ContourCleaner.answers g.C.ContourCleaner.keeps g.P.Coordinate.IntNumber.width at c.args.points.now c.args.offsets.now c.loop-place.out_points c.clean_into.new.out c.loop-place.out_offsets
           c.loop-place.place c.loop-place.written end done room clean.end.0 under clean.before (rw (c.part-ring.ensures.part) at clean.cleaned);
@@ -41,11 +41,11 @@ loop-place-preserved g c =
 
 pub returns-in_err-written-clause-err : goal.returns-in_err-written-clause-err
 returns-in_err-written-clause-err g c =
-    let up = ordered c.args.offsets.now (length c.args.offsets.now) (c.loop-place.place - 1) (length c.args.offsets.now - 1) c.requires.can.order (omega (arith, c.loop-place-test.true)) (omega (arith, c.requires.can.some)) in
+    let up = rises_to c.args.offsets.now (length c.args.offsets.now) (c.loop-place.place - 1) (length c.args.offsets.now - 1) c.requires.can.order (omega (arith, c.loop-place-test.true)) (omega (arith, c.requires.can.some)) in
     let less : c.loop-place.written ≤ length c.args.points.now = omega (arith, up, c.requires.can.last, c.loop-place.invariant.done.fewer) in
     on_err {Q = IsWithin (length c.args.points.now) (length c.args.offsets.now) c.args.out_points.now c.clean_into.new.out c.args.out_offsets.now c.loop-place.out_offsets} c.from_residual.result (record {
-      points = ap (drop (length c.args.points.now)) c.in_err-written.ensures.err ∙ further c.loop-place.out_points c.args.out_points.now c.loop-place.written (length c.args.points.now) less c.loop-place.invariant.points_rest;
-      offsets = further c.loop-place.out_offsets c.args.out_offsets.now c.loop-place.place (length c.args.offsets.now) (omega (arith, c.loop-place-test.true)) c.loop-place.invariant.offsets_rest;
+      points = ap (drop (length c.args.points.now)) c.in_err-written.ensures.err ∙ same_further c.loop-place.out_points c.args.out_points.now c.loop-place.written (length c.args.points.now) less c.loop-place.invariant.points_rest;
+      offsets = same_further c.loop-place.out_offsets c.args.out_offsets.now c.loop-place.place (length c.args.offsets.now) (omega (arith, c.loop-place-test.true)) c.loop-place.invariant.offsets_rest;
     })
 
 pub returns-clause-ok : goal.returns-clause-ok

@@ -1,6 +1,6 @@
 use Rattle.std.proofs.Common.{◌≡◌, ◌≤◌, ◌-◌, length, inl, refl, subst, arith}
 use Rattle.i_shape_c.specs.Batch.{IsLongest}
-use Rattle.i_shape_c.proofs.Batches.{longer}
+use Rattle.i_shape_c.proofs.Batches.{longest_more}
 use Rattle.i_shape_c.proofs.batch.longest.Goals as goal
 
 pub loop-place-init : goal.loop-place-init
@@ -8,7 +8,7 @@ loop-place-init c = record { most = λ k less. absurd (omega (arith, less)); rea
 
 pub loop-place-preserved : goal.loop-place-preserved
 loop-place-preserved c =
-    longer c.args.offsets.now c.loop-place.place c.loop-place.most c.max-most.result (omega arith) (c.requires.order (c.loop-place.place - 1) (omega (arith, c.loop-place-test.true))) c.max-most.ensures c.loop-place.invariant
+    longest_more c.args.offsets.now c.loop-place.place c.loop-place.most c.max-most.result (omega arith) (c.requires.order (c.loop-place.place - 1) (omega (arith, c.loop-place-test.true))) c.max-most.ensures c.loop-place.invariant
 
 pub returns : goal.returns
 returns c =

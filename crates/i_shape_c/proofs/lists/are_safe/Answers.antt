@@ -1,6 +1,6 @@
 use Rattle.i_shape.specs.Point.{Point}
 use Rattle.i_shape.specs.IntPoint.{point_of, IsSafe}
-use Rattle.i_shape_core.proofs.AllTold.{next_told, whole_told}
+use Rattle.i_shape_core.proofs.lists.Mapped.{next_told, whole_told}
 use Rattle.i_shape_c.proofs.lists.are_safe.Goals as goal
 
 pub loop-given-preserved : goal.loop-given-preserved

@@ -1,7 +1,7 @@
 use Rattle.std.proofs.Common.{arith, ◌∙◌}
 use Rattle.std.proofs.lemmas.List.{length-set}
 use Rattle.std.proofs.lemmas.Grind.{common_steps}
-use Rattle.i_shape_c.proofs.Parts.{finished, back_more}
+use Rattle.i_shape_c.proofs.Parts.{all_written, back_more}
 use Rattle.i_shape_c.proofs.lists.copy_out.Goals as goal
 
 pub loop-place-preserved : goal.loop-place-preserved
@@ -12,7 +12,7 @@ loop-place-preserved g c = record {
 }
 
 pub returns-clause-before : goal.returns-clause-before
-returns-clause-before g c = (finished g.P.CPoint.c_point c.args.points.now c.args.out.now c.loop-place.out c.args.at c.loop-place.place c.requires c.loop-place-test.false c.loop-place.auto.place-end c.loop-place.invariant.front).0
+returns-clause-before g c = (all_written g.P.CPoint.c_point c.args.points.now c.args.out.now c.loop-place.out c.args.at c.loop-place.place c.requires c.loop-place-test.false c.loop-place.auto.place-end c.loop-place.invariant.front).0
 
 pub returns-clause-out : goal.returns-clause-out
-returns-clause-out g c = (finished g.P.CPoint.c_point c.args.points.now c.args.out.now c.loop-place.out c.args.at c.loop-place.place c.requires c.loop-place-test.false c.loop-place.auto.place-end c.loop-place.invariant.front).1
+returns-clause-out g c = (all_written g.P.CPoint.c_point c.args.points.now c.args.out.now c.loop-place.out c.args.at c.loop-place.place c.requires c.loop-place-test.false c.loop-place.auto.place-end c.loop-place.invariant.front).1

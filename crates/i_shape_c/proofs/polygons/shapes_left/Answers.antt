@@ -1,4 +1,4 @@
-use Rattle.std.proofs.Common.{map}
+use Rattle.std.proofs.Common.{◌≡◌, ◌-◌, [], length, map, arith}
 use Rattle.i_shape.specs.Point.{Point}
 use Rattle.i_shape.specs.IntPoint.{point_of}
 use Rattle.i_shape.specs.Buffers.{shapes_in, named_shapes}
@@ -6,6 +6,11 @@ use Rattle.i_shape_c.specs.Polygons.{polygons}
 use Rattle.i_shape_c.proofs.PolygonLists.{safe_polygons, polygons_held}
 use Rattle.i_shape_c.proofs.Counts.{left_fits}
 use Rattle.i_shape_c.proofs.polygons.shapes_left.Goals as goal
+
+pub returns-then-shapes-eq1-clause-left : goal.returns-then-shapes-eq1-clause-left
+returns-then-shapes-eq1-clause-left g c =
+    let none : length c.args.shapes.now - 1 ≡ 0 = omega (arith, c.if-shapes-eq1.true) in
+    ([], c.new.ensures, rw none g.met.S.ShapesCleaner.nothing)
 
 pub clean-requires-clause-held : goal.clean-requires-clause-held
 clean-requires-clause-held g c =

@@ -1,5 +1,5 @@
 use Rattle.std.proofs.Common.{rules, refl, sym, subst, IsTrue, false}
-use Rattle.i_shape_c.proofs.Boundary.{copied, safe_contour}
+use Rattle.i_shape_c.proofs.Boundary.{copied_points, safe_contour}
 use Rattle.i_shape_c.proofs.tests.test_contour.Goals as goal
 
 pub test-requires-clause-points_safe : goal.test-requires-clause-points_safe
@@ -8,7 +8,7 @@ test-requires-clause-points_safe g c =
 
 pub returns-then-test-clause-answer : goal.returns-then-test-clause-answer
 returns-then-test-clause-answer g c =
-    let same = copied g.P.Coordinate.IntNumber.width g.P.Coordinate.IntNumber.value g.P.ContourPoint.point c.args.points.now (g.P.ContourPoint.points c.args.points.now) (g.P.ContourPoint.each c.args.points.now) in
+    let same = copied_points g.P.Coordinate.IntNumber.width g.P.Coordinate.IntNumber.value g.P.ContourPoint.point c.args.points.now (g.P.ContourPoint.points c.args.points.now) (g.P.ContourPoint.each c.args.points.now) in
     subst (g.T.ContourTest.holds c.args.test) same (c.if-test.ensures.0 refl)
 
 pub returns-then-test-clause-unsafe_points : goal.returns-then-test-clause-unsafe_points
@@ -16,7 +16,7 @@ returns-then-test-clause-unsafe_points g c = (λ is. search rules, λ not_safe. 
 
 pub returns-else-test-clause-answer : goal.returns-else-test-clause-answer
 returns-else-test-clause-answer g c = λ holds.
-    let same = copied g.P.Coordinate.IntNumber.width g.P.Coordinate.IntNumber.value g.P.ContourPoint.point c.args.points.now (g.P.ContourPoint.points c.args.points.now) (g.P.ContourPoint.each c.args.points.now) in
+    let same = copied_points g.P.Coordinate.IntNumber.width g.P.Coordinate.IntNumber.value g.P.ContourPoint.point c.args.points.now (g.P.ContourPoint.points c.args.points.now) (g.P.ContourPoint.each c.args.points.now) in
     let told : IsTrue false = c.if-test.ensures.1 (subst (g.T.ContourTest.holds c.args.test) (sym same) holds) in
     cc
 

@@ -2,7 +2,7 @@ use Rattle.std.proofs.Common.{◌∙◌, ◌^◌, ◌<◌, length, map, ap, refl
 use Rattle.std.proofs.lemmas.Int.{to_z-of_z}
 use Rattle.i_shape.specs.IntPoint.{point_of, IsSafe}
 use Rattle.i_shape.specs.Winding.{winding}
-use Rattle.i_shape_c.proofs.Boundary.{copied, safe_contour}
+use Rattle.i_shape_c.proofs.Boundary.{copied_points, safe_contour}
 use Rattle.i_shape_c.proofs.Windings.{half_apart}
 use Rattle.i_shape_c.proofs.winding.winding.Goals as goal
 
@@ -15,7 +15,7 @@ returns-clause-answer g c = λ safe.
     let value = g.P.Coordinate.IntNumber.value in
     let fits : FitsSigned w64 c.winding_about.result = record { sfits = c.winding_about.type_inv } in
     to_z-of_z w64 c.winding_about.result fits ∙ c.winding_about.ensures.answer
-    ∙ ap (λ points. winding points (point_of value c.to_point-point.result)) (copied g.P.Coordinate.IntNumber.width value g.P.ContourPoint.point c.args.points.now (g.P.ContourPoint.points c.args.points.now) (g.P.ContourPoint.each c.args.points.now))
+    ∙ ap (λ points. winding points (point_of value c.to_point-point.result)) (copied_points g.P.Coordinate.IntNumber.width value g.P.ContourPoint.point c.args.points.now (g.P.ContourPoint.points c.args.points.now) (g.P.ContourPoint.each c.args.points.now))
     ∙ ap (λ p. winding (map (λ q. point_of value (g.P.ContourPoint.point q)) c.args.points.now) (point_of value p)) c.to_point-point.ensures
 
 pub returns-clause-unsafe_points : goal.returns-clause-unsafe_points

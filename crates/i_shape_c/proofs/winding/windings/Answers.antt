@@ -4,15 +4,15 @@ use Rattle.std.proofs.lemmas.List.{take_more, take_more_set, take-append-drop, m
 use Rattle.i_shape.specs.IntPoint.{point_of}
 use Rattle.i_shape_c.specs.Batch.{AreSafeContours}
 use Rattle.i_shape_c.specs.Cleaned.{AreSafe}
-use Rattle.i_shape_c.specs.Windings.{rings_winding, CanWind}
-use Rattle.i_shape_c.proofs.Batches.{ordered}
+use Rattle.i_shape_c.specs.Windings.{contours_winding, CanWind}
+use Rattle.i_shape_c.proofs.Batches.{rises_to}
 use Rattle.i_shape_c.proofs.Parts.{back_more}
 use Rattle.i_shape_c.proofs.winding.windings.Goals as goal
 
 pub part-requires-clause-order : goal.part-requires-clause-order
 part-requires-clause-order g c =
     let can = c.if-not-can_clean.ensures.0 refl in
-    ordered c.args.offsets.now (length c.args.offsets.now) 0 (length c.args.offsets.now - 1) can.order (omega arith) (omega (arith, can.some))
+    rises_to c.args.offsets.now (length c.args.offsets.now) 0 (length c.args.offsets.now - 1) can.order (omega arith) (omega (arith, can.some))
 
 pub loop-place-preserved : goal.loop-place-preserved
 loop-place-preserved g c =
@@ -20,14 +20,14 @@ loop-place-preserved g c =
     let about = c.args.about.now in
     let at = c.loop-place.place in
     let read = c.index-about-place.result in
-    let f = λ (q : g.row.P.Denot). rings_winding (λ p. point_of value (g.P.ContourPoint.point p)) c.args.points.now c.args.offsets.now (point_of value (g.P.ContourPoint.point q)) in
+    let f = λ (q : g.row.P.Denot). contours_winding (λ p. point_of value (g.P.ContourPoint.point p)) c.args.points.now c.args.offsets.now (point_of value (g.P.ContourPoint.point q)) in
     let room : at < length c.loop-place.out = omega (arith, c.loop-place.auto.out, c.if-out-about.false, c.loop-place-test.true) in
     let longer = take_more about at read c.loop-place-test.true ∙ ap (λ p. take at about ++ p ∷ []) (sym c.index-about-place.is) in
     let more = ap (map f) longer ∙ map-append f (take at about) (read ∷ []) in
     let fits : FitsSigned w64 c.wind_all.result = record { sfits = c.wind_all.type_inv } in
     rw (to_z-of_z w64 c.wind_all.result fits) (record {
       told = take_more_set c.loop-place.out at c.wind_all.result room
-          ∙ ap₂ (λ list w. list ++ w ∷ []) c.loop-place.invariant.told (c.wind_all.ensures ∙ ap (λ p. rings_winding (λ q. point_of value (g.P.ContourPoint.point q)) c.args.points.now c.args.offsets.now (point_of value p)) c.to_point.ensures)
+          ∙ ap₂ (λ list w. list ++ w ∷ []) c.loop-place.invariant.told (c.wind_all.ensures ∙ ap (λ p. contours_winding (λ q. point_of value (g.P.ContourPoint.point q)) c.args.points.now c.args.offsets.now (point_of value p)) c.to_point.ensures)
           ∙ sym more;
       rest = back_more c.loop-place.out c.args.out.now at (at + 1) c.wind_all.result refl c.loop-place.invariant.rest;
     })

@@ -1,8 +1,8 @@
 use Rattle.std.proofs.Common.{◌≡◌, ◌<◌, ◌-◌, ◌∙◌, ap, get_or, length, arith, rules}
 use Rattle.std.proofs.lemmas.Grind.{common_steps}
-use Rattle.i_shape_core.proofs.PointLists.{points-length, points-item}
-use Rattle.i_shape_core.proofs.AreaByPlaces.{summed-empty, summed-next, summed-closed}
-use Rattle.i_shape_core.proofs.SummedArea.{wrapped-zero}
+use Rattle.i_shape_core.proofs.plane.PointLists.{points-length, points-item}
+use Rattle.i_shape_core.proofs.measure.AreaByPlaces.{summed-empty, summed-next, summed-closed}
+use Rattle.i_shape_core.proofs.measure.AreaWalk.{wrapped-zero}
 use Rattle.i_shape_core.proofs.area.area_of.Goals as goal
 
 pub returns-then-is_empty : goal.returns-then-is_empty

@@ -1,7 +1,7 @@
 use Rattle.std.proofs.Common.{◌≡◌}
 use Rattle.std.specs.Int.{int_wrap}
 use Rattle.i_shape_core.specs.IntPoint.{contour_of}
-use Rattle.i_shape_core.proofs.AreaByPlaces.{area_up_to}
+use Rattle.i_shape_core.proofs.measure.AreaByPlaces.{area_up_to}
 use Rattle.i_shape_core.proofs.area.area_of.Given as goal
 
 abbrev pub invariant-loop-place : goal.invariant-loop-place

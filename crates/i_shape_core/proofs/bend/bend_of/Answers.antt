@@ -1,7 +1,7 @@
 use Rattle.std.proofs.Common.{arith}
 use Rattle.std.proofs.lemmas.Grind.{common_steps}
 use Rattle.i_shape_core.specs.declared.bend.Bend.TheVariants.{Straight, Left, Right, Reversal}
-use Rattle.i_shape_core.proofs.Bends.{tells_bend}
+use Rattle.i_shape_core.proofs.convex.BendWalk.{tells_bend}
 use Rattle.i_shape_core.proofs.bend.bend_of.Goals as goal
 
 pub returns-then-gt : goal.returns-then-gt

@@ -1,6 +1,6 @@
 use Rattle.std.proofs.Common.{◌≡◌, ◌+◌}
 use Rattle.i_shape_core.specs.IntPoint.{contour_of}
-use Rattle.i_shape_core.proofs.Readings.{RunsAgree}
+use Rattle.i_shape_core.proofs.least_rotation.Readings.{RunsAgree}
 use Rattle.i_shape_core.proofs.canonical.compare_runs.Given as goal
 
 abbrev pub invariant-loop-step : goal.invariant-loop-step

@@ -1,5 +1,5 @@
 use Rattle.std.proofs.Common.{length, refl, ap, sym, ◌∙◌}
-use Rattle.i_shape_core.proofs.StartSteps.{first_decides, first_agrees, some_point, is_run, run_counted, equal_room, equal_on, less_on, greater_on}
+use Rattle.i_shape_core.proofs.least_rotation.StartSteps.{first_decides, first_agrees, some_point, is_run, run_counted, equal_room, equal_on, less_on, greater_on}
 use Rattle.i_shape_core.proofs.canonical.compare_starts.Goals as goal
 
 pub returns-then-ne-clause-order : goal.returns-then-ne-clause-order

@@ -1,6 +1,6 @@
 use Rattle.std.proofs.Common.{◌+◌, ◌∙◌, length, ap, arith}
-use Rattle.i_shape_core.proofs.Search.{search_greater, inside, search_past}
-use Rattle.i_shape_core.proofs.SearchSteps.{met, is_rival, less_told, equal_told, greater_told, lost, round_least, lost_in_step, kept_in_step, none_met, met_after, none_after, room_after, is_next, all_compared, loop_most, sum_fits, next_fits, room_to_compare}
+use Rattle.i_shape_core.proofs.least_rotation.Search.{search_greater, next_start_within, search_past}
+use Rattle.i_shape_core.proofs.least_rotation.SearchSteps.{search_to_rival, is_rival, less_told, equal_told, greater_told, search_past_rival, round_least, lost_in_step, kept_in_step, none_met, met_after, none_after, room_after, is_next, all_compared, loop_most, sum_fits, next_fits, room_to_compare}
 use Rattle.i_shape_core.proofs.canonical.search_starts.Goals as goal
 
 pub loop-challenger-preserved-in-Less : goal.loop-challenger-preserved-in-Less
@@ -9,13 +9,13 @@ loop-challenger-preserved-in-Less g c =
     let count = c.len-count.ensures in
     let found = c.next_rival-rival.ensures in
     let compared = c.compare_starts-compared.ensures in
-    let s = met g.P.Coordinate.IntNumber.value _ _ inv.contour _ _ _ _ count inv.search found.within found.passed in
+    let s = search_to_rival g.P.Coordinate.IntNumber.value _ _ inv.contour _ _ _ _ count inv.search found.within found.passed in
     let wr = is_rival g.P.Coordinate.IntNumber.value _ _ inv.contour _ _ _ count found.within c.if-rival-count.false in
     let ahead = less_told g.P.Coordinate.IntNumber.value _ _ (found.contour ∙ inv.contour) _ _ _ _ c.in-Less.is compared.order in
     let bounds = lost_in_step _ _ _ _ _ _ _ _ inv.slow inv.moved (met_after _ _ _ _ _ _ _ count (ap length inv.contour) wr found.counted) compared.counted (room_after _ _ _ c.if-compared-count.false) in
     record {
       contour = compared.contour ∙ (found.contour ∙ inv.contour);
-      search = lost _ _ _ _ _ s wr ahead;
+      search = search_past_rival _ _ _ _ _ s wr ahead;
       slow = bounds.0;
       moved = bounds.1;
       short = bounds.2;
@@ -27,10 +27,10 @@ overflow_add-kept g c =
     let count = c.len-count.ensures in
     let found = c.next_rival-rival.ensures in
     let compared = c.compare_starts-compared.ensures in
-    let s = met g.P.Coordinate.IntNumber.value _ _ inv.contour _ _ _ _ count inv.search found.within found.passed in
+    let s = search_to_rival g.P.Coordinate.IntNumber.value _ _ inv.contour _ _ _ _ count inv.search found.within found.passed in
     let wr = is_rival g.P.Coordinate.IntNumber.value _ _ inv.contour _ _ _ count found.within c.if-rival-count.false in
     let ahead = greater_told g.P.Coordinate.IntNumber.value _ _ (found.contour ∙ inv.contour) _ _ _ _ c.in-Greater.is compared.order in
-    sum_fits _ _ _ (inside _ _ _ _ _ s wr ahead) c.len-count.type_inv
+    sum_fits _ _ _ (next_start_within _ _ _ _ _ s wr ahead) c.len-count.type_inv
 
 pub overflow_add-challenger-in-Greater : goal.overflow_add-challenger-in-Greater
 overflow_add-challenger-in-Greater g c =
@@ -38,10 +38,10 @@ overflow_add-challenger-in-Greater g c =
     let count = c.len-count.ensures in
     let found = c.next_rival-rival.ensures in
     let compared = c.compare_starts-compared.ensures in
-    let s = met g.P.Coordinate.IntNumber.value _ _ inv.contour _ _ _ _ count inv.search found.within found.passed in
+    let s = search_to_rival g.P.Coordinate.IntNumber.value _ _ inv.contour _ _ _ _ count inv.search found.within found.passed in
     let wr = is_rival g.P.Coordinate.IntNumber.value _ _ inv.contour _ _ _ count found.within c.if-rival-count.false in
     let ahead = greater_told g.P.Coordinate.IntNumber.value _ _ (found.contour ∙ inv.contour) _ _ _ _ c.in-Greater.is compared.order in
-    next_fits _ _ _ _ c.max-kept.ensures (inside _ _ _ _ _ s wr ahead) c.len-count.type_inv
+    next_fits _ _ _ _ c.max-kept.ensures (next_start_within _ _ _ _ _ s wr ahead) c.len-count.type_inv
 
 pub loop-challenger-preserved : goal.loop-challenger-preserved
 loop-challenger-preserved g c =
@@ -49,10 +49,10 @@ loop-challenger-preserved g c =
     let count = c.len-count.ensures in
     let found = c.next_rival-rival.ensures in
     let compared = c.compare_starts-compared.ensures in
-    let s = met g.P.Coordinate.IntNumber.value _ _ inv.contour _ _ _ _ count inv.search found.within found.passed in
+    let s = search_to_rival g.P.Coordinate.IntNumber.value _ _ inv.contour _ _ _ _ count inv.search found.within found.passed in
     let wr = is_rival g.P.Coordinate.IntNumber.value _ _ inv.contour _ _ _ count found.within c.if-rival-count.false in
     let ahead = greater_told g.P.Coordinate.IntNumber.value _ _ (found.contour ∙ inv.contour) _ _ _ _ c.in-Greater.is compared.order in
-    let bounds = kept_in_step _ _ _ _ _ _ _ _ inv.slow inv.moved (met_after _ _ _ _ _ _ _ count (ap length inv.contour) wr found.counted) compared.counted _ (is_next _ _ _ _ _ _ c.max-kept.ensures (inside _ _ _ _ _ s wr ahead) s.apart ahead.last) in
+    let bounds = kept_in_step _ _ _ _ _ _ _ _ inv.slow inv.moved (met_after _ _ _ _ _ _ _ count (ap length inv.contour) wr found.counted) compared.counted _ (is_next _ _ _ _ _ _ c.max-kept.ensures (next_start_within _ _ _ _ _ s wr ahead) s.apart ahead.last) in
     record {
       contour = compared.contour ∙ (found.contour ∙ inv.contour);
       search = search_greater _ _ _ _ _ s wr ahead _ c.max-kept.ensures;
@@ -70,7 +70,7 @@ returns-then-rival-count-clause-least g c =
     let inv = c.loop-challenger.invariant in
     let count = c.len-count.ensures in
     let found = c.next_rival-rival.ensures in
-    let s = met g.P.Coordinate.IntNumber.value _ _ inv.contour _ _ _ _ count inv.search found.within found.passed in
+    let s = search_to_rival g.P.Coordinate.IntNumber.value _ _ inv.contour _ _ _ _ count inv.search found.within found.passed in
     search_past _ _ _ _ s (omega arith)
 
 pub returns-in-Equal-clause-least : goal.returns-in-Equal-clause-least
@@ -79,7 +79,7 @@ returns-in-Equal-clause-least g c =
     let count = c.len-count.ensures in
     let found = c.next_rival-rival.ensures in
     let compared = c.compare_starts-compared.ensures in
-    let s = met g.P.Coordinate.IntNumber.value _ _ inv.contour _ _ _ _ count inv.search found.within found.passed in
+    let s = search_to_rival g.P.Coordinate.IntNumber.value _ _ inv.contour _ _ _ _ count inv.search found.within found.passed in
     let same = equal_told g.P.Coordinate.IntNumber.value _ _ (found.contour ∙ inv.contour) _ _ _ _ c.in-Equal.is compared.order in
     round_least _ _ _ _ _ count s same.0
 
@@ -89,10 +89,10 @@ returns-then-compared-count-clause-least g c =
     let count = c.len-count.ensures in
     let found = c.next_rival-rival.ensures in
     let compared = c.compare_starts-compared.ensures in
-    let s = met g.P.Coordinate.IntNumber.value _ _ inv.contour _ _ _ _ count inv.search found.within found.passed in
+    let s = search_to_rival g.P.Coordinate.IntNumber.value _ _ inv.contour _ _ _ _ count inv.search found.within found.passed in
     let wr = is_rival g.P.Coordinate.IntNumber.value _ _ inv.contour _ _ _ count found.within c.if-rival-count.false in
     let ahead = less_told g.P.Coordinate.IntNumber.value _ _ (found.contour ∙ inv.contour) _ _ _ _ c.in-Less.is compared.order in
-    search_past _ _ _ (c.next_rival-rival.result.0 + c.compare_starts-compared.result.0) (lost _ _ _ _ _ s wr ahead) (omega arith)
+    search_past _ _ _ (c.next_rival-rival.result.0 + c.compare_starts-compared.result.0) (search_past_rival _ _ _ _ _ s wr ahead) (omega arith)
 
 pub returns-after-loop-challenger-clause-most : goal.returns-after-loop-challenger-clause-most
 returns-after-loop-challenger-clause-most g c =

@@ -1,6 +1,6 @@
 use Rattle.std.proofs.Common.{◌≡◌, ◌+◌, ◌-◌, ◌*◌, ◌≤◌}
 use Rattle.i_shape_core.specs.IntPoint.{contour_of}
-use Rattle.i_shape_core.proofs.Search.{IsSearch}
+use Rattle.i_shape_core.proofs.least_rotation.Search.{IsSearch}
 use Rattle.i_shape_core.proofs.canonical.search_starts.Given as goal
 
 abbrev pub invariant-loop-challenger : goal.invariant-loop-challenger

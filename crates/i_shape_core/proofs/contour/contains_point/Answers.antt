@@ -1,9 +1,9 @@
 use Rattle.std.proofs.Common.{◌∙◌, ◌≡◌, ◌-◌, ◌<◌, get_or, length, arith, refl}
 use Rattle.i_shape_core.specs.IntPoint.{point_of}
-use Rattle.i_shape_core.proofs.Contours.{read-safe}
-use Rattle.i_shape_core.proofs.PointLists.{points-length, points-item, points-take, points-drop, points-append}
-use Rattle.i_shape_core.proofs.LastEdge.{first-safe, later-safe}
-use Rattle.i_shape_core.proofs.Walked.{last_read, block_walked, walk_end, nothing_inside}
+use Rattle.i_shape_core.proofs.plane.Contours.{read-safe}
+use Rattle.i_shape_core.proofs.plane.PointLists.{points-length, points-item, points-take, points-drop, points-append}
+use Rattle.i_shape_core.proofs.plane.SafeParts.{first-safe, later-safe}
+use Rattle.i_shape_core.proofs.measure.InsideWalk.{last_read, block_walked, walk_end, nothing_inside}
 use Rattle.i_shape_core.proofs.contour.contains_point.Goals as goal
 
 pub returns-in_default : goal.returns-in_default

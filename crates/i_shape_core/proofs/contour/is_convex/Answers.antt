@@ -3,10 +3,10 @@ use Rattle.std.proofs.lemmas.Grind.{common_steps}
 use Rattle.i_shape_core.specs.declared.bend.Bend.TheVariants.{Straight, Reversal}
 use Rattle.i_shape_core.specs.IntPoint.{point_of}
 use Rattle.i_shape_core.specs.Convex.{is_same}
-use Rattle.i_shape_core.proofs.Contours.{read-safe}
-use Rattle.i_shape_core.proofs.PointLists.{points-length, points-item}
-use Rattle.i_shape_core.proofs.Spikes.{found_safe}
-use Rattle.i_shape_core.proofs.Bends.{bending_begins, bending_repeat, bending_item, bending_over, clash_item, few_tells, convex_without, convex_alike}
+use Rattle.i_shape_core.proofs.plane.Contours.{read-safe}
+use Rattle.i_shape_core.proofs.plane.PointLists.{points-length, points-item}
+use Rattle.i_shape_core.proofs.walks.Spikes.{found_safe}
+use Rattle.i_shape_core.proofs.convex.BendWalk.{bending_begins, bending_repeat, bending_item, bending_over, clash_item, few_tells, convex_without, convex_alike}
 use Rattle.i_shape_core.proofs.contour.is_convex.Goals as goal
 use Rattle.i_shape_core.proofs.contour.is_convex.Goals.{else-eq-via-then-eq+else-are_same, else-eq-via-else-eq}
 
@@ -52,8 +52,8 @@ sub-next-requires g c =
     let next = read-safe g.P.Coordinate.IntNumber.width g.P.Coordinate.IntNumber.value (g.P.ContourPoint.points c.args.points.now) _ c.to_point-point.result c.requires within read in
     search rules
 
-pub bend_of-turned-requires : goal.bend_of-turned-requires
-bend_of-turned-requires g c =
+pub bend_of-bent-requires : goal.bend_of-bent-requires
+bend_of-bent-requires g c =
     let count = points-length g.P.ContourPoint.point g.P.ContourPoint.points g.P.ContourPoint.each c.args.points.now in
     let within : c.loop-given.given-index < length (g.P.ContourPoint.points c.args.points.now) = omega (arith, count, c.loop-given-test.true) in
     let read = points-item g.P.ContourPoint.point g.P.ContourPoint.points g.P.ContourPoint.each c.args.points.now _ c.given-item.result c.to_point-point.result c.to_point-point.ensures c.loop-given-test.true c.given-item.is in
@@ -71,35 +71,35 @@ loop-given-preserved-then-are_same g c =
           within read (sym c.are_same.ensures ∙ c.if-are_same.true) c.loop-given.invariant.bending;
     }
 
-pub returns-in_default-joined_with : goal.returns-in_default-joined_with
-returns-in_default-joined_with g c =
+pub returns-in_default-followed_by : goal.returns-in_default-followed_by
+returns-in_default-followed_by g c =
     let count = points-length g.P.ContourPoint.point g.P.ContourPoint.points g.P.ContourPoint.each c.args.points.now in
     let within : c.loop-given.given-index < length (g.P.ContourPoint.points c.args.points.now) = omega (arith, count, c.loop-given-test.true) in
     let read = points-item g.P.ContourPoint.point g.P.ContourPoint.points g.P.ContourPoint.each c.args.points.now _ c.given-item.result c.to_point-point.result c.to_point-point.ensures c.loop-given-test.true c.given-item.is in
-    let told : IsTrue c.eq.result ↔ (c.bend_of-turned.result ≡ Straight) = search rules in
-    let moved : c.bend_of-turned.result ≡ Straight → is_same (point_of g.P.Coordinate.IntNumber.value c.loop-given.here) (point_of g.P.Coordinate.IntNumber.value c.to_point-point.result) ≡ false = elim c.else-eq.branch [
+    let told : IsTrue c.eq.result ↔ (c.bend_of-bent.result ≡ Straight) = search rules in
+    let moved : c.bend_of-bent.result ≡ Straight → is_same (point_of g.P.Coordinate.IntNumber.value c.loop-given.here) (point_of g.P.Coordinate.IntNumber.value c.to_point-point.result) ≡ false = elim c.else-eq.branch [
       | else-eq-via-then-eq+else-are_same w ↦ λ s. sym w.are_same.ensures ∙ w.if-are_same.false
       | else-eq-via-else-eq w ↦ λ s. let t = told.1 s in let f = w.if-eq.false in absurd (cc)
     ] in
-    clash_item g.P.Coordinate.IntNumber.value (g.P.ContourPoint.points c.args.points.now) c.loop-given.bend c.bend_of-turned.result c.loop-given.repeats c.loop-given.given-index
+    clash_item g.P.Coordinate.IntNumber.value (g.P.ContourPoint.points c.args.points.now) c.loop-given.bend c.bend_of-bent.result c.loop-given.repeats c.loop-given.given-index
     (point_of g.P.Coordinate.IntNumber.value c.loop-given.edge) (point_of g.P.Coordinate.IntNumber.value c.sub-next.result) c.loop-given.here c.to_point-point.result
-    within read moved c.bend_of-turned.ensures c.sub-next.ensures (sym c.in_default-joined_with.ensures) c.loop-given.invariant.bending
+    within read moved c.bend_of-bent.ensures c.sub-next.ensures (sym c.in_default-followed_by.ensures) c.loop-given.invariant.bending
 
 pub loop-given-preserved : goal.loop-given-preserved
 loop-given-preserved g c =
     let count = points-length g.P.ContourPoint.point g.P.ContourPoint.points g.P.ContourPoint.each c.args.points.now in
     let within : c.loop-given.given-index < length (g.P.ContourPoint.points c.args.points.now) = omega (arith, count, c.loop-given-test.true) in
     let read = points-item g.P.ContourPoint.point g.P.ContourPoint.points g.P.ContourPoint.each c.args.points.now _ c.given-item.result c.to_point-point.result c.to_point-point.ensures c.loop-given-test.true c.given-item.is in
-    let told : IsTrue c.eq.result ↔ (c.bend_of-turned.result ≡ Straight) = search rules in
-    let moved : c.bend_of-turned.result ≡ Straight → is_same (point_of g.P.Coordinate.IntNumber.value c.loop-given.here) (point_of g.P.Coordinate.IntNumber.value c.to_point-point.result) ≡ false = elim c.else-eq.branch [
+    let told : IsTrue c.eq.result ↔ (c.bend_of-bent.result ≡ Straight) = search rules in
+    let moved : c.bend_of-bent.result ≡ Straight → is_same (point_of g.P.Coordinate.IntNumber.value c.loop-given.here) (point_of g.P.Coordinate.IntNumber.value c.to_point-point.result) ≡ false = elim c.else-eq.branch [
       | else-eq-via-then-eq+else-are_same w ↦ λ s. sym w.are_same.ensures ∙ w.if-are_same.false
       | else-eq-via-else-eq w ↦ λ s. let t = told.1 s in let f = w.if-eq.false in absurd (cc)
     ] in
     record {
       here_safe = read-safe g.P.Coordinate.IntNumber.width g.P.Coordinate.IntNumber.value (g.P.ContourPoint.points c.args.points.now) _ c.to_point-point.result c.requires within read;
-      bending = bending_item g.P.Coordinate.IntNumber.value (g.P.ContourPoint.points c.args.points.now) c.loop-given.bend c.bend_of-turned.result c.in-Some-joined_with.both c.loop-given.repeats c.loop-given.given-index
+      bending = bending_item g.P.Coordinate.IntNumber.value (g.P.ContourPoint.points c.args.points.now) c.loop-given.bend c.bend_of-bent.result c.in-Some-followed_by.both c.loop-given.repeats c.loop-given.given-index
           (point_of g.P.Coordinate.IntNumber.value c.loop-given.edge) (point_of g.P.Coordinate.IntNumber.value c.sub-next.result) c.loop-given.here c.to_point-point.result
-          within read moved c.bend_of-turned.ensures c.sub-next.ensures (sym c.in-Some-joined_with.ensures) c.loop-given.invariant.bending;
+          within read moved c.bend_of-bent.ensures c.sub-next.ensures (sym c.in-Some-followed_by.ensures) c.loop-given.invariant.bending;
     }
 
 pub returns-then-ne : goal.returns-then-ne

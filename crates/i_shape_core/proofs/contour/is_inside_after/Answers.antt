@@ -1,10 +1,10 @@
 use Rattle.std.proofs.Common.{◌≡◌, ◌<◌, ◌∙◌, ap, sym, not, cond, Bool, length, arith}
 use Rattle.i_shape_core.specs.IntPoint.{point_of}
 use Rattle.i_shape_core.specs.Edges.{is_right}
-use Rattle.i_shape_core.proofs.Contours.{read-safe, rest-none}
-use Rattle.i_shape_core.proofs.PointLists.{points-length, points-item}
-use Rattle.i_shape_core.proofs.Turns.{edge}
-use Rattle.i_shape_core.proofs.Walked.{walk_step}
+use Rattle.i_shape_core.proofs.plane.Contours.{read-safe, rest-none}
+use Rattle.i_shape_core.proofs.plane.PointLists.{points-length, points-item}
+use Rattle.i_shape_core.proofs.plane.CrossProducts.{edge}
+use Rattle.i_shape_core.proofs.measure.InsideWalk.{walk_step}
 use Rattle.i_shape_core.proofs.contour.is_inside_after.Goals as goal
 use Rattle.i_shape_core.proofs.contour.is_inside_after.Goals.{then-passes_right, else-passes_right}
 

@@ -1,8 +1,8 @@
 use Rattle.std.proofs.Common.{◌≡◌, ◌∙◌, ◌-◌, ◌+◌, length, List, ℕ, inl, inr, refl, arith}
 use Rattle.i_shape_core.specs.Point.{Point}
 use Rattle.i_shape_core.specs.IntPoint.{contour_of}
-use Rattle.i_shape_core.proofs.Contours.{refuted, length-contour}
-use Rattle.i_shape_core.proofs.FirstPlaces.{removable_between, none_on}
+use Rattle.i_shape_core.proofs.plane.Contours.{refuted_by_test, length-contour}
+use Rattle.i_shape_core.proofs.lists.FirstPlaces.{removable_between, none_on}
 use Rattle.i_shape_core.proofs.despike.first_back.Goals as goal
 
 pub loop-place-init : goal.loop-place-init
@@ -42,7 +42,7 @@ loop-place-preserved g c =
       before_within = omega (arith, c.len-last.ensures, c.loop-place-test.true);
       follows = inl (omega (arith, long, c.len-last.ensures, c.loop-place-test.true), refl);
       earlier = none_on whole c.loop-place.before c.loop-place.place (c.loop-place.place + 1) (omega (arith, long, inv.before_within)) (omega (arith, long, c.len-last.ensures, c.loop-place-test.true))
-          inv.follows (inl (omega (arith, long, c.len-last.ensures, c.loop-place-test.true), refl)) (refuted c.is_back_between.result test (λ h. h, λ h. h) c.if-is_back_between.false) inv.earlier;
+          inv.follows (inl (omega (arith, long, c.len-last.ensures, c.loop-place-test.true), refl)) (refuted_by_test c.is_back_between.result test (λ h. h, λ h. h) c.if-is_back_between.false) inv.earlier;
     }
 
 pub returns-then-is_back_between-2-clause-answer : goal.returns-then-is_back_between-2-clause-answer
@@ -72,6 +72,6 @@ returns-clause-answer g c =
     let at : c.loop-place.place ≡ last = omega (arith, c.loop-place.auto.place-end, c.loop-place-test.false) in (
       (λ k m. none_on whole (last - 1) last 0 (omega (arith, long, c.len-last.ensures, c.requires.enough)) (omega (arith, long, c.len-last.ensures, c.requires.enough))
           (inl (omega (arith, long, c.len-last.ensures, c.requires.enough), omega (arith, c.len-last.ensures, c.requires.enough))) (inr (omega (arith, long, c.len-last.ensures, c.requires.enough), refl))
-          (refuted c.is_back_between-2.result test (λ h. h, λ h. h) c.if-is_back_between-2.false) (λ j h r. inv.earlier j (omega (arith, h, at)) r) k (omega (arith, long, c.len-last.ensures, m.within)) m),
+          (refuted_by_test c.is_back_between-2.result test (λ h. h, λ h. h) c.if-is_back_between-2.false) (λ j h r. inv.earlier j (omega (arith, h, at)) r) k (omega (arith, long, c.len-last.ensures, m.within)) m),
       omega (arith, long, c.is_back_between-2.ensures.visits, inv.visits, at, c.len-last.ensures, c.requires.enough),
     )

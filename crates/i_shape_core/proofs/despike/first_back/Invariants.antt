@@ -2,7 +2,7 @@ use Rattle.std.proofs.Common.{◌≡◌, ◌<◌, ℕ, length}
 use Rattle.i_shape_core.specs.IntPoint.{contour_of}
 use Rattle.i_shape_core.specs.Point.{IsBack}
 use Rattle.i_shape_core.specs.Contour.{IsRemovable}
-use Rattle.i_shape_core.proofs.Places.{Follows}
+use Rattle.i_shape_core.proofs.removal.Places.{Follows}
 use Rattle.i_shape_core.proofs.despike.first_back.Given as goal
 
 abbrev pub invariant-loop-place : goal.invariant-loop-place

@@ -1,11 +1,16 @@
 use Rattle.std.proofs.Common.{◌≡◌, ◌-◌, ◌<◌, get_or, length, arith, refl}
-use Rattle.i_shape_core.specs.IntPoint.{point_of}
-use Rattle.i_shape_core.proofs.Contours.{read-safe}
-use Rattle.i_shape_core.proofs.Coordinates.{safe_points-apart}
-use Rattle.i_shape_core.proofs.PointLists.{points-length, points-item, points-take, points-drop, points-append}
-use Rattle.i_shape_core.proofs.LastEdge.{first-safe, later-safe}
-use Rattle.i_shape_core.proofs.Spikes.{walking_begins, none_differs, found_safe, nothing_told, block_goes_on, block_goes_back, last_block_tells}
+use Rattle.i_shape_core.specs.IntPoint.{point_of, contour_of}
+use Rattle.i_shape_core.proofs.plane.Contours.{read-safe}
+use Rattle.i_shape_core.proofs.arithmetic.Coordinates.{safe_points-apart}
+use Rattle.i_shape_core.proofs.plane.PointLists.{points-length, points-item, points-take, points-drop, points-append}
+use Rattle.i_shape_core.proofs.plane.SafeParts.{first-safe, later-safe}
+use Rattle.i_shape_core.proofs.walks.Spikes.{walking_begins, none_differs, found_safe, nothing_told, block_goes_on, block_goes_back, last_block_tells, simple_spikeless}
+use Rattle.i_shape_core.proofs.walks.StackReads.{holds_by_test}
 use Rattle.i_shape_core.proofs.despike.has_no_spikes.Goals as goal
+
+pub returns-then-is_simple : goal.returns-then-is_simple
+returns-then-is_simple g c =
+    (λ t. simple_spikeless (contour_of g.P.Coordinate.IntNumber.value (g.P.ContourPoint.points c.args.points.now)) (holds_by_test c.is_simple.result c.is_simple.ensures c.if-is_simple.true), λ s. refl)
 
 pub returns-in_default : goal.returns-in_default
 returns-in_default g c =

@@ -1,7 +1,7 @@
 use Rattle.std.proofs.Common.{length}
 use Rattle.std.specs.List.{All}
 use Rattle.i_shape_core.specs.IntPoint.{point_of, contour_of, IsSafe}
-use Rattle.i_shape_core.proofs.Spikes.{EdgeWalking}
+use Rattle.i_shape_core.proofs.walks.Spikes.{EdgeWalking}
 use Rattle.i_shape_core.proofs.despike.has_no_spikes.Given as goal
 
 abbrev pub invariant-loop-rest : goal.invariant-loop-rest

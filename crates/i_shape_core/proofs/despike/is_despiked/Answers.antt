@@ -1,8 +1,8 @@
 use Rattle.std.proofs.Common.{◌∙◌, arith}
 use Rattle.i_shape_core.specs.IntPoint.{contour_of}
-use Rattle.i_shape_core.proofs.Contours.{length-contour}
-use Rattle.i_shape_core.proofs.PointLists.{points-length}
-use Rattle.i_shape_core.proofs.Answered.{despiked_told}
+use Rattle.i_shape_core.proofs.plane.Contours.{length-contour}
+use Rattle.i_shape_core.proofs.plane.PointLists.{points-length}
+use Rattle.i_shape_core.proofs.answers.Kept.{despiked_told}
 use Rattle.i_shape_core.proofs.despike.is_despiked.Goals as goal
 
 pub returns : goal.returns

@@ -4,9 +4,9 @@ use Rattle.std.proofs.lemmas.List.{length-map, length-append, length-drop, lengt
 use Rattle.i_shape_core.specs.IntPoint.{contour_of}
 use Rattle.i_shape_core.specs.Point.{Point, IsBack}
 use Rattle.i_shape_core.specs.Contour.{point_at}
-use Rattle.i_shape_core.specs.Walks.{Falls, IsRingState, in_order}
-use Rattle.i_shape_core.proofs.Contours.{refuted, length-contour}
-use Rattle.i_shape_core.proofs.RingStates.{state_keeps, state_removes, state_collapses, state_ends, ends_below}
+use Rattle.i_shape_core.specs.Walks.{Falls, IsRingState, from_contour_first}
+use Rattle.i_shape_core.proofs.plane.Contours.{refuted_by_test, length-contour}
+use Rattle.i_shape_core.proofs.walks.RingStates.{state_keeps, state_removes, state_collapses, state_ends}
 use Rattle.i_shape_core.proofs.despike.walk.Goals as goal
 
 pub is_back_at-requires-clause-enough : goal.is_back_at-requires-clause-enough
@@ -41,7 +41,7 @@ loop-probe-preserved-then-not-is_back_at g c =
       contour = c.is_back_at.ensures.contour ∙ inv.contour;
       state = subst (IsRingState IsBack whole c.keep.new.self) (sym c.is_back_at.ensures.visits)
           (state_keeps whole ring.places c.keep.new.self.places ring.untested c.keep.new.self.untested ring.lead c.keep.new.self.lead c.loop-probe.probe.visits inv.state
-          (omega (arith, c.loop-probe-test.true, c.untested.ensures)) (refuted c.is_back_at.result test (λ h. h, λ h. h) c.if-not-is_back_at.true)
+          (omega (arith, c.loop-probe-test.true, c.untested.ensures)) (refuted_by_test c.is_back_at.result test (λ h. h, λ h. h) c.if-not-is_back_at.true)
           c.keep.ensures.places c.keep.ensures.untested c.keep.ensures.lead);
     }
 
@@ -74,17 +74,12 @@ returns-else-len-gt3-clause-falls g c = λ no.
     subst (Falls IsBack whole) (sym c.is_back_at.ensures.visits)
     (state_collapses whole ring.places ring.untested ring.lead c.loop-probe.probe.visits inv.state (test.0 c.if-not-is_back_at.false) three)
 
-pub returns-clause-below : goal.returns-clause-below
-returns-clause-below g c = λ yes.
-    let whole : List Point = contour_of g.P.Coordinate.IntNumber.value c.args.probe.now.contour in
-    let ring = c.loop-probe.ring in
-    let long : length whole ≡ length c.args.probe.now.contour = length-contour g.P.Coordinate.IntNumber.value c.args.probe.now.contour in
-    subst (λ (n : ℕ). All (λ k. k < n) (in_order ring.places ring.lead)) long
-    (ends_below whole ring.places ring.untested ring.lead c.loop-probe.probe.visits c.loop-probe.invariant.state)
+pub returns-clause-rising : goal.returns-clause-rising
+returns-clause-rising g c = λ yes. rw (length-contour g.P.Coordinate.IntNumber.value c.args.probe.now.contour) at c.loop-probe.invariant.state.rising
 
-pub returns-clause-stands : goal.returns-clause-stands
-returns-clause-stands g c = λ yes.
+pub returns-clause-uncollapsed : goal.returns-clause-uncollapsed
+returns-clause-uncollapsed g c = λ yes.
     let whole : List Point = contour_of g.P.Coordinate.IntNumber.value c.args.probe.now.contour in
     let ring = c.loop-probe.ring in
-    state_ends whole (map (point_at whole) (in_order ring.places ring.lead)) ring.places ring.untested ring.lead c.loop-probe.probe.visits c.loop-probe.invariant.state
+    state_ends whole (map (point_at whole) (from_contour_first ring.places ring.lead)) ring.places ring.untested ring.lead c.loop-probe.probe.visits c.loop-probe.invariant.state
     (omega (arith, c.loop-probe-test.false, c.untested.ensures)) refl

@@ -1,10 +1,10 @@
 use Rattle.std.proofs.Common.{◌≡◌, ◌<◌, ◌∙◌, pos, length, refl, sym, ap, arith}
 use Rattle.i_shape_core.specs.Point.{Point, vector, cross_of, dot_of}
 use Rattle.i_shape_core.specs.IntPoint.{point_of, contour_of}
-use Rattle.i_shape_core.proofs.Contours.{read-safe, rest-read, rest-none, refuted}
-use Rattle.i_shape_core.proofs.PointLists.{points-length, points-item}
-use Rattle.i_shape_core.proofs.Coordinates.{safe_points-apart, safe_difference-above, below-told}
-use Rattle.i_shape_core.proofs.Spikes.{onward_start, onward_skips, onward_on, onward_stops}
+use Rattle.i_shape_core.proofs.plane.Contours.{read-safe, rest-read, rest-none, refuted_by_test}
+use Rattle.i_shape_core.proofs.plane.PointLists.{points-length, points-item}
+use Rattle.i_shape_core.proofs.arithmetic.Coordinates.{safe_points-apart, safe_difference-above, below-told}
+use Rattle.i_shape_core.proofs.walks.Spikes.{onward_start, onward_skips, onward_on, onward_stops}
 use Rattle.i_shape_core.proofs.despike.walk_onward.Goals as goal
 use Rattle.i_shape_core.proofs.despike.walk_onward.Goals.{then-not-are_same+then-is_parallel_to+else-lt, then-not-are_same+else-is_parallel_to, else-not-are_same}
 
@@ -69,7 +69,7 @@ loop-given-preserved g c =
         | then-not-are_same+then-is_parallel_to+else-lt w ↦
             let told = below-told g.P.Coordinate.Wide.WideIntNumber.value w.dot_product.result w.ZERO.result w.lt.result _ _ w.lt.ensures (wide.partial_order _ _) (ap g.P.Coordinate.Wide.WideIntNumber.value w.ZERO.ensures ∙ wide.zero_value)
             (w.dot_product.ensures ∙ ap (dot_of (point_of value c.loop-given.edge)) w.sub-next.ensures) in
-            rw (w.edge-is, w.sub-next.ensures) (onward_on _ _ _ _ _ _ _ (sym c.are_same.ensures ∙ w.if-not-are_same.true) (λ z back. refuted w.lt.result told (λ h. h, λ h. h) w.if-lt.false back) onward)
+            rw (w.edge-is, w.sub-next.ensures) (onward_on _ _ _ _ _ _ _ (sym c.are_same.ensures ∙ w.if-not-are_same.true) (λ z back. refuted_by_test w.lt.result told (λ h. h, λ h. h) w.if-lt.false back) onward)
         | then-not-are_same+else-is_parallel_to w ↦
             let turns : cross_of (point_of value c.loop-given.edge) (vector (point_of value c.loop-given.here) (point_of value c.to_point-point.result)) ≡ pos 0 → ⊥ =
             λ z. (let t = w.is_parallel_to.ensures.1 (ap (cross_of (point_of value c.loop-given.edge)) w.sub-next.ensures ∙ z) in let f = w.if-is_parallel_to.false in absurd (cc)) in

@@ -1,6 +1,6 @@
 use Rattle.std.proofs.Common.{drop}
 use Rattle.i_shape_core.specs.IntPoint.{point_of, contour_of, IsSafe}
-use Rattle.i_shape_core.proofs.Spikes.{IsOnward}
+use Rattle.i_shape_core.proofs.walks.Spikes.{IsOnward}
 use Rattle.i_shape_core.proofs.despike.walk_onward.Given as goal
 
 abbrev pub invariant-loop-given : goal.invariant-loop-given

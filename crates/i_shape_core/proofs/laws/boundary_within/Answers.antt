@@ -1,4 +1,4 @@
-use Rattle.i_shape_core.proofs.Boundaries as lemmas
+use Rattle.i_shape_core.proofs.measure.Boundaries as lemmas
 use Rattle.i_shape_core.proofs.laws.boundary_within.Goals as goal
 
 pub returns : goal.returns

@@ -1,4 +1,4 @@
-use Rattle.i_shape_core.proofs.Fillings as lemmas
+use Rattle.i_shape_core.proofs.measure.Fillings as lemmas
 use Rattle.i_shape_core.proofs.laws.filling_kept.Goals as goal
 
 pub returns : goal.returns

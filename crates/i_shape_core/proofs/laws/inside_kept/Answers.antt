@@ -1,5 +1,5 @@
 use Rattle.i_shape_core.specs.IntPoint.{contour_of}
-use Rattle.i_shape_core.proofs.Inside as lemmas
+use Rattle.i_shape_core.proofs.measure.Inside as lemmas
 use Rattle.i_shape_core.proofs.laws.inside_kept.Goals as goal
 
 pub returns : goal.returns

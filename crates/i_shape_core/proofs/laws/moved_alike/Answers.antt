@@ -1,4 +1,4 @@
-use Rattle.i_shape_core.proofs.MovedLaws as lemmas
+use Rattle.i_shape_core.proofs.moved.Laws as lemmas
 use Rattle.i_shape_core.proofs.laws.moved_alike.Goals as goal
 
 pub returns : goal.returns

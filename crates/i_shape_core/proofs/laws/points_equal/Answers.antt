@@ -1,7 +1,7 @@
 use Rattle.std.proofs.Common.{ℤ, ap}
 use Rattle.std.proofs.lemmas.Bool.Decides.{Decides-and}
 use Rattle.i_shape_core.specs.declared.point.IntPoint.{IntPoint}
-use Rattle.i_shape_core.proofs.Contours.{points-same}
+use Rattle.i_shape_core.proofs.plane.Contours.{points-same}
 use Rattle.i_shape_core.proofs.laws.points_equal.Goals as goal
 
 pub returns-clause-same_value : goal.returns-clause-same_value

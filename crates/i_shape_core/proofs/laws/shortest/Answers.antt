@@ -1,5 +1,5 @@
-use Rattle.i_shape_core.proofs.CanonicalForm as lemmas
+use Rattle.i_shape_core.proofs.forms.Canonical as lemmas
 use Rattle.i_shape_core.proofs.laws.shortest.Goals as goal
 
 pub returns : goal.returns
-returns c = lemmas.shortest
+returns c = lemmas.end_is_shortest

@@ -1,5 +1,5 @@
 use Rattle.i_shape_core.specs.IntPoint.{contour_of}
-use Rattle.i_shape_core.proofs.ContourForms as lemmas
+use Rattle.i_shape_core.proofs.forms.Unoriented as lemmas
 use Rattle.i_shape_core.proofs.laws.unoriented_joined.Goals as goal
 
 pub returns : goal.returns

@@ -1,4 +1,4 @@
-use Rattle.i_shape_core.proofs.RationalWindings as lemmas
+use Rattle.i_shape_core.proofs.measure.RationalWindings as lemmas
 use Rattle.i_shape_core.proofs.laws.winding_between.Goals as goal
 
 pub returns : goal.returns

@@ -1,4 +1,4 @@
-use Rattle.i_shape_core.proofs.MovedWindings as lemmas
+use Rattle.i_shape_core.proofs.moved.Windings as lemmas
 use Rattle.i_shape_core.proofs.laws.winding_moved.Goals as goal
 
 pub returns : goal.returns

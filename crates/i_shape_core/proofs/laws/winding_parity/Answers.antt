@@ -1,5 +1,5 @@
 use Rattle.i_shape_core.specs.IntPoint.{contour_of}
-use Rattle.i_shape_core.proofs.Windings as lemmas
+use Rattle.i_shape_core.proofs.measure.Windings as lemmas
 use Rattle.i_shape_core.proofs.laws.winding_parity.Goals as goal
 
 pub returns : goal.returns

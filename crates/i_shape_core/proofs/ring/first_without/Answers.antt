@@ -1,5 +1,5 @@
 use Rattle.std.proofs.Common.{◌∙◌, inl, inr, refl, arith}
-use Rattle.i_shape_core.proofs.Gaps.{IsMoved, removed_lead}
+use Rattle.i_shape_core.proofs.walks.Gaps.{IsMoved, removed_lead}
 use Rattle.i_shape_core.proofs.ring.first_without.Goals as goal
 use Rattle.i_shape_core.proofs.ring.first_without.Goals.{then-behind-eq0, else-behind-eq0+then-behind-first, else-behind-eq0+else-behind-first}
 

@@ -1,5 +1,5 @@
 use Rattle.std.proofs.Common.{◌∙◌}
-use Rattle.i_shape_core.proofs.Spikes.{same-told}
+use Rattle.i_shape_core.proofs.walks.Spikes.{same-told}
 use Rattle.i_shape_core.proofs.same.are_same.Goals as goal
 
 pub returns : goal.returns

@@ -1,7 +1,7 @@
 use Rattle.std.proofs.Common.{◌∙◌, not, sym, ap, option_map, Some}
 use Rattle.i_shape_core.specs.IntPoint.{point_of}
 use Rattle.i_shape_core.specs.Convex.{is_same}
-use Rattle.i_shape_core.proofs.PointLists.{points-found}
+use Rattle.i_shape_core.proofs.plane.PointLists.{points-found}
 use Rattle.i_shape_core.proofs.same.last_other.Goals as goal
 
 pub returns-in-Some : goal.returns-in-Some

@@ -1,17 +1,7 @@
-use Rattle.std.proofs.Common.{length}
-use Rattle.std.specs.List.{All}
-use Rattle.i_shape_core.specs.IntPoint.{point_of, contour_of, IsSafe}
-use Rattle.i_shape_core.proofs.LastEdge.{IsWalking}
+use Rattle.i_shape_core.specs.FourTurns.{IsTurning}
+use Rattle.i_shape_core.specs.IntPoint.{contour_of}
 use Rattle.i_shape_core.proofs.simple.is_simple.Given as goal
 
-abbrev pub invariant-loop-rest : goal.invariant-loop-rest
-invariant-loop-rest g l =
-    let value = g.P.Coordinate.IntNumber.value in
-    record {
-      here_safe : IsSafe g.P.Coordinate.IntNumber.width (point_of value l.here);
-      rest_safe : All (IsSafe g.P.Coordinate.IntNumber.width) (contour_of value (g.P.ContourPoint.points l.rest));
-      walking : IsWalking (contour_of value (g.P.ContourPoint.points l.initial.rest)) (point_of value l.edge) (point_of value l.here) (contour_of value (g.P.ContourPoint.points l.rest));
-    }
-
-abbrev pub decreases-loop-rest : goal.decreases-loop-rest
-decreases-loop-rest g l = length l.rest
+-- the turns so far are no zero turns
+abbrev pub invariant-loop-place : goal.invariant-loop-place
+invariant-loop-place g l = IsTurning (contour_of g.P.Coordinate.IntNumber.value (g.P.ContourPoint.points l.contour)) l.place

@@ -4,8 +4,8 @@ use Rattle.i_shape_core.specs.Walks.{points_left}
 use Rattle.i_shape_core.specs.IntPoint.{contour_of}
 use Rattle.i_shape_core.specs.Contour.{point_at}
 use Rattle.i_shape_core.specs.Point.{Point}
-use Rattle.i_shape_core.proofs.Contours.{length-contour}
-use Rattle.i_shape_core.proofs.Walks.{place-within, each-within, first-read, last-read, end-read}
+use Rattle.i_shape_core.proofs.plane.Contours.{length-contour}
+use Rattle.i_shape_core.proofs.walks.StackReads.{place-within, first-read, last-read, end-read}
 use Rattle.i_shape_core.proofs.simplifier.close.Goals as goal
 
 pub loop-left-init : goal.loop-left-init
@@ -78,9 +78,8 @@ loop-left-preserved g c =
       least = omega (arith, inv.least, c.is_zero_at.ensures.visits, c.is_zero_at-else-is_zero_at.ensures.visits);
     }
 
-pub returns-else-is_zero_at-2-clause-below : goal.returns-else-is_zero_at-2-clause-below
-returns-else-is_zero_at-2-clause-below g c = λ k d h.
-    each-within g.P.Coordinate.IntNumber.value _ _ refl c.loop-left.left.now _ k d c.loop-left.invariant.stacked h
+pub returns-else-is_zero_at-2-clause-rising : goal.returns-else-is_zero_at-2-clause-rising
+returns-else-is_zero_at-2-clause-rising g c = rw (length-contour g.P.Coordinate.IntNumber.value c.args.probe.contour) at c.loop-left.invariant.stacked.rising
 
 pub returns-else-is_zero_at-2-clause-answer : goal.returns-else-is_zero_at-2-clause-answer
 returns-else-is_zero_at-2-clause-answer g c =

@@ -1,5 +1,5 @@
 use Rattle.std.proofs.Common.{◌-◌, arith}
-use Rattle.i_shape_core.proofs.Prefixes.{range_more}
+use Rattle.i_shape_core.proofs.walks.Prefixes.{range_more}
 use Rattle.i_shape_core.proofs.simplifier.fill.Goals as goal
 
 pub loop-place-preserved : goal.loop-place-preserved

@@ -2,8 +2,8 @@ use Rattle.std.proofs.Common.{◌≡◌, ℕ, length, arith, refl, ap, subst, �
 use Rattle.i_shape_core.specs.IntPoint.{contour_of}
 use Rattle.i_shape_core.specs.Point.{IsZeroTurn}
 use Rattle.i_shape_core.specs.Walks.{IsWalked}
-use Rattle.i_shape_core.proofs.Contours.{length-contour}
-use Rattle.i_shape_core.proofs.Walks.{push-read}
+use Rattle.i_shape_core.proofs.plane.Contours.{length-contour}
+use Rattle.i_shape_core.proofs.walks.StackReads.{push-read}
 use Rattle.i_shape_core.proofs.simplifier.stack_places.Goals as goal
 
 pub loop-place-init : goal.loop-place-init

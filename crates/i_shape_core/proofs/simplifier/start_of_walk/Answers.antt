@@ -3,10 +3,10 @@ use Rattle.std.specs.List.{range_with_len}
 use Rattle.i_shape_core.specs.IntPoint.{contour_of}
 use Rattle.i_shape_core.specs.Point.{Point, IsZeroTurn}
 use Rattle.i_shape_core.specs.Walks.{IsStacked}
-use Rattle.i_shape_core.proofs.Contours.{length-contour}
-use Rattle.i_shape_core.proofs.FirstPlaces.{removable_between}
-use Rattle.i_shape_core.proofs.Walks.{held, failed}
-use Rattle.i_shape_core.proofs.Prefixes.{prefix_walked, whole_without_first, whole_without_last, whole_ends}
+use Rattle.i_shape_core.proofs.plane.Contours.{length-contour}
+use Rattle.i_shape_core.proofs.lists.FirstPlaces.{removable_between}
+use Rattle.i_shape_core.proofs.walks.StackReads.{holds_by_test, fails_by_test}
+use Rattle.i_shape_core.proofs.walks.Prefixes.{prefix_walked, whole_without_first, whole_without_last, whole_ends}
 use Rattle.i_shape_core.proofs.simplifier.start_of_walk.Goals as goal
 
 pub returns-then-place-count-clause-walked : goal.returns-then-place-count-clause-walked
@@ -31,7 +31,7 @@ returns-then-is_zero_at-clause-walked g c =
     let three : 3 ≤ length points = omega (arith, c.requires.enough, all) in
     rw e (whole_without_first IsZeroTurn points (length points) c.is_zero_at.new.probe.visits refl three
     (omega (arith, prefix.visits, w, c.is_zero_at.ensures.visits, all)) whole
-    (held c.is_zero_at.result (rw (prefix.contour, e) at c.is_zero_at.ensures.test) c.if-is_zero_at.true))
+    (holds_by_test c.is_zero_at.result (rw (prefix.contour, e) at c.is_zero_at.ensures.test) c.if-is_zero_at.true))
 
 pub returns-then-is_zero_at-2-clause-walked : goal.returns-then-is_zero_at-2-clause-walked
 returns-then-is_zero_at-2-clause-walked g c =
@@ -45,7 +45,7 @@ returns-then-is_zero_at-2-clause-walked g c =
     let same : c.is_zero_at.new.probe.contour ≡ c.args.probe.now.contour = c.is_zero_at.ensures.contour ∙ prefix.contour in
     rw e (whole_without_last IsZeroTurn points (length points) c.is_zero_at-2.new.probe.visits _ refl three
     (omega (arith, prefix.visits, w, c.is_zero_at.ensures.visits, c.is_zero_at-2.ensures.visits, all)) (omega (arith, three)) whole
-    (held c.is_zero_at-2.result (rw (same, e) at c.is_zero_at-2.ensures.test) c.if-is_zero_at-2.true))
+    (holds_by_test c.is_zero_at-2.result (rw (same, e) at c.is_zero_at-2.ensures.test) c.if-is_zero_at-2.true))
 
 pub returns-clause-clean : goal.returns-clause-clean
 returns-clause-clean g c = λ none.
@@ -58,8 +58,8 @@ returns-clause-clean g c = λ none.
     let three : 3 ≤ length points = omega (arith, c.requires.enough, all) in
     let same : c.is_zero_at.new.probe.contour ≡ c.args.probe.now.contour = c.is_zero_at.ensures.contour ∙ prefix.contour in
     whole_ends IsZeroTurn points (length points) refl three whole
-    (failed c.is_zero_at.result (rw (prefix.contour, e) at c.is_zero_at.ensures.test) c.if-is_zero_at.false)
-    (failed c.is_zero_at-2.result (rw (same, e) at c.is_zero_at-2.ensures.test) c.if-is_zero_at-2.false)
+    (fails_by_test c.is_zero_at.result (rw (prefix.contour, e) at c.is_zero_at.ensures.test) c.if-is_zero_at.false)
+    (fails_by_test c.is_zero_at-2.result (rw (same, e) at c.is_zero_at-2.ensures.test) c.if-is_zero_at-2.false)
 
 pub returns-then-place-count-clause-unclean : goal.returns-then-place-count-clause-unclean
 returns-then-place-count-clause-unclean g c = λ simple.
@@ -81,7 +81,7 @@ returns-then-is_zero_at-clause-unclean g c = λ simple.
     let last : ℕ = length points - 1 in
     let three = simple.enough in
     simple.none 0 (removable_between points last 0 1 three (omega (arith, three)) (omega (arith, three)) (inr (omega (arith, three), refl)) (inl (omega (arith, three), refl))
-    (held c.is_zero_at.result (rw (prefix.contour, e) at c.is_zero_at.ensures.test) c.if-is_zero_at.true))
+    (holds_by_test c.is_zero_at.result (rw (prefix.contour, e) at c.is_zero_at.ensures.test) c.if-is_zero_at.true))
 
 pub returns-then-is_zero_at-2-clause-unclean : goal.returns-then-is_zero_at-2-clause-unclean
 returns-then-is_zero_at-2-clause-unclean g c = λ simple.
@@ -93,4 +93,4 @@ returns-then-is_zero_at-2-clause-unclean g c = λ simple.
     let last : ℕ = length points - 1 in
     let three = simple.enough in
     simple.none last (removable_between points (last - 1) last 0 three (omega (arith, three)) (omega (arith, three)) (inl (omega (arith, three), omega (arith, three)))
-    (inr (omega (arith, three), refl)) (held c.is_zero_at-2.result (rw (same, e) at c.is_zero_at-2.ensures.test) c.if-is_zero_at-2.true))
+    (inr (omega (arith, three), refl)) (holds_by_test c.is_zero_at-2.result (rw (same, e) at c.is_zero_at-2.ensures.test) c.if-is_zero_at-2.true))

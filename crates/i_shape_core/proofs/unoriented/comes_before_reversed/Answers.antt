@@ -1,8 +1,8 @@
 use Rattle.std.proofs.Common.{◌≡◌, ◌∙◌, length, ap, sym, arith}
 use Rattle.i_shape_core.specs.IntPoint.{contour_of}
-use Rattle.i_shape_core.proofs.Contours.{length-contour}
-use Rattle.i_shape_core.proofs.PointLists.{points-length}
-use Rattle.i_shape_core.proofs.BothWays.{is_pair, agree_longer, started_first, reversed_first, agree_throughout}
+use Rattle.i_shape_core.proofs.plane.Contours.{length-contour}
+use Rattle.i_shape_core.proofs.plane.PointLists.{points-length}
+use Rattle.i_shape_core.proofs.forms.LesserWay.{is_pair, agree_longer, started_first, reversed_first, agree_throughout}
 use Rattle.i_shape_core.proofs.unoriented.comes_before_reversed.Goals as goal
 
 pub returns-in-Less-clause-before : goal.returns-in-Less-clause-before

@@ -2,9 +2,9 @@ use Rattle.std.proofs.Common.{◌≡◌, ◌+ℤ◌, ◌-◌, ◌^◌, ◌<◌, 
 use Rattle.std.proofs.lemmas.Int.{to_z-of_z}
 use Rattle.i_shape_core.specs.IntPoint.{point_of, contour_of}
 use Rattle.i_shape_core.specs.Winding.{level, IsWithinHalf}
-use Rattle.i_shape_core.proofs.Contours.{read-safe, length-contour}
-use Rattle.i_shape_core.proofs.PointLists.{points-length, points-at}
-use Rattle.i_shape_core.proofs.WindingWalk.{near_first, near_step, no_points, walk_first, walk_turn, walk_over, turns_fit, added, winding_half}
+use Rattle.i_shape_core.proofs.plane.Contours.{read-safe, length-contour}
+use Rattle.i_shape_core.proofs.plane.PointLists.{points-length, points-at}
+use Rattle.i_shape_core.proofs.measure.WindingWalk.{near_first, near_step, no_points, walk_first, walk_edge, walk_over, total_fits, total_added, winding_half}
 use Rattle.i_shape_core.proofs.winding.winding_about.Goals as goal
 
 pub returns-in_default-clause-answer : goal.returns-in_default-clause-answer
@@ -32,8 +32,8 @@ loop-given-init g c =
       told = walk_first _;
     }
 
-pub turn_about-turns-requires-clause-end_safe : goal.turn_about-turns-requires-clause-end_safe
-turn_about-turns-requires-clause-end_safe g c =
+pub edge_winding-total-requires-clause-end_safe : goal.edge_winding-total-requires-clause-end_safe
+edge_winding-total-requires-clause-end_safe g c =
     let value = g.P.Coordinate.IntNumber.value in
     let width = g.P.Coordinate.IntNumber.width in
     let point = g.P.ContourPoint.point in
@@ -45,8 +45,8 @@ turn_about-turns-requires-clause-end_safe g c =
     rw c.to_point-end.ensures (points-at point points g.P.ContourPoint.each whole _ c.given-item.result c.loop-given-test.true c.given-item.is) in
     read-safe width value (points whole) _ c.to_point-end.result c.requires.points_safe within end
 
-pub overflow_add-turns : goal.overflow_add-turns
-overflow_add-turns g c =
+pub overflow_add-total : goal.overflow_add-total
+overflow_add-total g c =
     let value = g.P.Coordinate.IntNumber.value in
     let point = g.P.ContourPoint.point in
     let points = g.P.ContourPoint.points in
@@ -58,10 +58,10 @@ overflow_add-turns g c =
     let end : c.to_point-end.result ≡ get_or (points whole) c.loop-given.given-index c.to_point-end.result =
     rw c.to_point-end.ensures (points-at point points g.P.ContourPoint.each whole _ c.given-item.result c.loop-given-test.true c.given-item.is) in
     let room : length (points whole) < 2 ^ 64 = rw count (search rules) in
-    let turn : FitsSigned w64 c.turn_about-turns.result = record { sfits = c.turn_about-turns.type_inv } in
-    let fits = turns_fit value (point_of value c.args.point) (points whole) c.loop-given.given-index c.loop-given.before c.to_point-before.result c.to_point-end.result (to_z w64 c.loop-given.turns-bits) c.turn_about-turns.result
-    last within room end c.turn_about-turns.ensures c.loop-given.invariant.near in
-    rw (to_z-of_z w64 c.turn_about-turns.result turn) fits
+    let turn : FitsSigned w64 c.edge_winding-total.result = record { sfits = c.edge_winding-total.type_inv } in
+    let fits = total_fits value (point_of value c.args.point) (points whole) c.loop-given.given-index c.loop-given.before c.to_point-before.result c.to_point-end.result (to_z w64 c.loop-given.total-bits) c.edge_winding-total.result
+    last within room end c.edge_winding-total.ensures c.loop-given.invariant.near in
+    rw (to_z-of_z w64 c.edge_winding-total.result turn) fits
 
 pub loop-given-preserved : goal.loop-given-preserved
 loop-given-preserved g c =
@@ -77,16 +77,16 @@ loop-given-preserved g c =
     let end : c.to_point-end.result ≡ get_or (points whole) c.loop-given.given-index c.to_point-end.result =
     rw c.to_point-end.ensures (points-at point points g.P.ContourPoint.each whole _ c.given-item.result c.loop-given-test.true c.given-item.is) in
     let room : length (points whole) < 2 ^ 64 = rw count (search rules) in
-    let turn : FitsSigned w64 c.turn_about-turns.result = record { sfits = c.turn_about-turns.type_inv } in
-    let fits = turns_fit value (point_of value c.args.point) (points whole) c.loop-given.given-index c.loop-given.before c.to_point-before.result c.to_point-end.result (to_z w64 c.loop-given.turns-bits) c.turn_about-turns.result
-    last within room end c.turn_about-turns.ensures c.loop-given.invariant.near in
-    let sum : to_z w64 (of_z w64 (to_z w64 c.loop-given.turns-bits +ℤ to_z w64 (of_z w64 c.turn_about-turns.result))) ≡ to_z w64 c.loop-given.turns-bits +ℤ c.turn_about-turns.result =
-    added (to_z w64 c.loop-given.turns-bits) c.turn_about-turns.result fits turn in
+    let turn : FitsSigned w64 c.edge_winding-total.result = record { sfits = c.edge_winding-total.type_inv } in
+    let fits = total_fits value (point_of value c.args.point) (points whole) c.loop-given.given-index c.loop-given.before c.to_point-before.result c.to_point-end.result (to_z w64 c.loop-given.total-bits) c.edge_winding-total.result
+    last within room end c.edge_winding-total.ensures c.loop-given.invariant.near in
+    let sum : to_z w64 (of_z w64 (to_z w64 c.loop-given.total-bits +ℤ to_z w64 (of_z w64 c.edge_winding-total.result))) ≡ to_z w64 c.loop-given.total-bits +ℤ c.edge_winding-total.result =
+    total_added (to_z w64 c.loop-given.total-bits) c.edge_winding-total.result fits turn in
     let p = point_of value c.args.point in
     record {
       before_safe = read-safe width value (points whole) _ c.to_point-end.result c.requires.points_safe within end;
-      near = rw (sum, c.turn_about-turns.ensures) (near_step p (point_of value c.loop-given.before) (point_of value c.to_point-end.result) c.loop-given.given-index (level p (point_of value c.to_point-before.result)) (to_z w64 c.loop-given.turns-bits) c.loop-given.invariant.near);
-      told = rw sum (walk_turn value p (points whole) c.loop-given.given-index c.loop-given.before c.to_point-end.result (to_z w64 c.loop-given.turns-bits) c.turn_about-turns.result _ within end c.turn_about-turns.ensures c.loop-given.invariant.told);
+      near = rw (sum, c.edge_winding-total.ensures) (near_step p (point_of value c.loop-given.before) (point_of value c.to_point-end.result) c.loop-given.given-index (level p (point_of value c.to_point-before.result)) (to_z w64 c.loop-given.total-bits) c.loop-given.invariant.near);
+      told = rw sum (walk_edge value p (points whole) c.loop-given.given-index c.loop-given.before c.to_point-end.result (to_z w64 c.loop-given.total-bits) c.edge_winding-total.result _ within end c.edge_winding-total.ensures c.loop-given.invariant.told);
     }
 
 pub returns-clause-answer : goal.returns-clause-answer

@@ -2,8 +2,8 @@ use Rattle.std.proofs.Common.{◌≡◌, ◌+ℤ◌, drop}
 use Rattle.i_shape_core.specs.IntPoint.{point_of, contour_of, IsSafe}
 use Rattle.i_shape_core.specs.Edges.{sum_of}
 use Rattle.i_shape_core.specs.Winding.{level, winding_of_edge}
-use Rattle.i_shape_core.proofs.Walked.{path_over}
-use Rattle.i_shape_core.proofs.WindingWalk.{IsNear}
+use Rattle.i_shape_core.proofs.measure.InsideWalk.{path_over}
+use Rattle.i_shape_core.proofs.measure.WindingWalk.{IsNear}
 use Rattle.i_shape_core.proofs.winding.winding_about.Given as goal
 
 abbrev pub invariant-loop-given : goal.invariant-loop-given
@@ -12,6 +12,6 @@ invariant-loop-given g l =
     let p = point_of value l.point in
     record {
       before_safe : IsSafe g.P.Coordinate.IntNumber.width (point_of value l.before);
-      near : IsNear l.given-index (level p (point_of value l.initial.before)) (level p (point_of value l.before)) l.turns;
-      told : l.turns +ℤ sum_of (winding_of_edge p) (path_over (point_of value l.before) (contour_of value (drop l.given-index (g.P.ContourPoint.points l.contour)))) ≡ sum_of (winding_of_edge p) (path_over (point_of value l.initial.before) (contour_of value (g.P.ContourPoint.points l.contour)));
+      near : IsNear l.given-index (level p (point_of value l.initial.before)) (level p (point_of value l.before)) l.total;
+      told : l.total +ℤ sum_of (winding_of_edge p) (path_over (point_of value l.before) (contour_of value (drop l.given-index (g.P.ContourPoint.points l.contour)))) ≡ sum_of (winding_of_edge p) (path_over (point_of value l.initial.before) (contour_of value (g.P.ContourPoint.points l.contour)));
     }

@@ -3,8 +3,8 @@ use Rattle.std.proofs.lemmas.Int.{to_z-of_z}
 use Rattle.std.proofs.lemmas.List.{take_more, take_more_set, take-append-drop, drop-set-lt, drop-drop, map-append}
 use Rattle.i_shape_core.specs.IntPoint.{point_of, contour_of}
 use Rattle.i_shape_core.specs.Winding.{winding}
-use Rattle.i_shape_core.proofs.Contours.{read-safe}
-use Rattle.i_shape_core.proofs.PointLists.{points-length, points-at, points-push}
+use Rattle.i_shape_core.proofs.plane.Contours.{read-safe}
+use Rattle.i_shape_core.proofs.plane.PointLists.{points-length, points-at, points-push}
 use Rattle.i_shape_core.proofs.winding.windings_about.Goals as goal
 
 pub loop-place-init : goal.loop-place-init

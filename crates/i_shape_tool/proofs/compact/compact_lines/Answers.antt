@@ -2,7 +2,7 @@ use Rattle.std.proofs.Common.{rules, string_bytes}
 use Rattle.std.proofs.lemmas.Result.{err_from_is_err_and}
 use Rattle.i_shape_tool.specs.Points.{contours_in}
 use Rattle.i_shape_tool.specs.Text.{lines_of}
-use Rattle.i_shape_tool.proofs.Compacting.{given_safe, refused_memory, nothing_shown}
+use Rattle.i_shape_tool.proofs.running.Compacting.{given_safe, refused_memory, nothing_shown}
 use Rattle.i_shape_tool.proofs.compact.compact_lines.Goals as goal
 
 pub returns-then-is_empty-clause-ok : goal.returns-then-is_empty-clause-ok

@@ -1,8 +1,8 @@
 use Rattle.std.proofs.Common.{rules}
 use Rattle.std.proofs.lemmas.Result.{err_from_is_err_and}
-use Rattle.i_shape.proofs.ContoursHeld.{HoldsContours-added}
+use Rattle.i_shape.proofs.buffers.Contours.{HoldsContours-added}
 use Rattle.i_shape_tool.specs.declared.fault.ToolFault.TheVariants.{OutOfMemory}
-use Rattle.i_shape_tool.proofs.Compacting.{read_nothing, read_more, fault_after_reading, all_read}
+use Rattle.i_shape_tool.proofs.running.Compacting.{read_nothing, read_more, fault_after_reading, all_read}
 use Rattle.i_shape_tool.proofs.compact.read_lines.Goals as goal
 
 pub loop-rest-init : goal.loop-rest-init

@@ -1,7 +1,7 @@
 use Rattle.std.proofs.Common.{◌≡◌, ◌+◌, ◌-◌, ◌<◌, length, arith, append_assoc}
 use Rattle.std.proofs.lemmas.Fmt.{decimal_digit}
 use Rattle.std.proofs.lemmas.List.{drop-set}
-use Rattle.i_shape_tool.proofs.Decimals.{decimal_pair, length_pair, decimal_two, length_two, length_one}
+use Rattle.i_shape_tool.proofs.showing.Decimals.{decimal_pair, length_pair, decimal_two, length_two, length_one}
 use Rattle.i_shape_tool.proofs.decimal.write_digits.Goals as goal
 
 pub overflow_sub-start : goal.overflow_sub-start

@@ -1,4 +1,4 @@
-use Rattle.i_shape_tool.proofs.Splitting.{answers_parted}
+use Rattle.i_shape_tool.proofs.running.TwoTexts.{answers_parted}
 use Rattle.i_shape_tool.proofs.laws.answers_parted.Goals as goal
 
 pub returns : goal.returns

@@ -1,6 +1,6 @@
 use Rattle.std.proofs.Common.{rules}
 use Rattle.i_shape_tool.specs.Text.{words_of}
-use Rattle.i_shape_tool.proofs.Reading.{some_word, no_first, no_second}
+use Rattle.i_shape_tool.proofs.reading.Lines.{some_word, no_first, no_second}
 use Rattle.i_shape_tool.proofs.line.first_point.Goals as goal
 
 pub returns-in_err-x-clause-no_point : goal.returns-in_err-x-clause-no_point

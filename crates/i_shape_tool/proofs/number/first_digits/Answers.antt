@@ -3,7 +3,7 @@ use Rattle.std.specs.Char.{digit_value, IsNotAsciiDigit}
 use Rattle.std.proofs.lemmas.Str.{digit_value_digit}
 use Rattle.std.proofs.lemmas.Str.Parse.{digit_from_value}
 use Rattle.i_shape_tool.specs.Numeral.{EndsDigits}
-use Rattle.i_shape_tool.proofs.Numerals.{HasTaken, taken_nothing, take_digit, too_large, no_digits, all_digits, ends_before, ends_with_text}
+use Rattle.i_shape_tool.proofs.reading.Numerals.{HasTaken, taken_nothing, take_digit, too_large, no_digits, all_digits, ends_before, ends_with_text}
 use Rattle.i_shape_tool.proofs.number.first_digits.Goals as goal
 use Rattle.i_shape_tool.proofs.number.first_digits.Goals.{in-Some+then-not-is_ascii_digit, in_default}
 

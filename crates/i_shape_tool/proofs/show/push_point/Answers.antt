@@ -1,6 +1,6 @@
 use Rattle.std.proofs.Common.{◌-◌, drop, take_all, length-drop, arith}
 use Rattle.std.specs.Str.{IsUtf8}
-use Rattle.i_shape_tool.proofs.Decimals.{two_are_text}
+use Rattle.i_shape_tool.proofs.showing.Decimals.{two_are_text}
 use Rattle.i_shape_tool.proofs.show.push_point.Goals as goal
 
 pub from_utf8_unchecked-requires : goal.from_utf8_unchecked-requires

@@ -1,5 +1,5 @@
 use Rattle.std.proofs.Common.{string_bytes}
-use Rattle.i_shape_tool.proofs.Showing.{shown_next}
+use Rattle.i_shape_tool.proofs.showing.Contours.{shown_next}
 use Rattle.i_shape_tool.proofs.show.show_contour.Goals as goal
 
 pub loop-point-preserved : goal.loop-point-preserved

@@ -5,7 +5,7 @@ use Rattle.std.proofs.lemmas.Str.{encode_ascii}
 use Rattle.i_shape_tool.specs.declared.fault.ToolFault.TheVariants.{OutOfMemory}
 use Rattle.i_shape_tool.specs.Points.{contour_of}
 use Rattle.i_shape_tool.specs.Run.{AnswersLine}
-use Rattle.i_shape_tool.proofs.Running.{answered_nothing, answer_more, fault_after}
+use Rattle.i_shape_tool.proofs.running.Lines.{answered_nothing, answer_more, fault_after}
 use Rattle.i_shape_tool.proofs.text.answer_lines.Goals as goal
 
 pub loop-rest-init : goal.loop-rest-init

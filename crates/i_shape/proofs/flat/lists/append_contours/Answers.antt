@@ -1,6 +1,6 @@
 use Rattle.std.proofs.Common.{arith, ap, length}
 use Rattle.std.proofs.lemmas.Grind.{common_steps}
-use Rattle.i_shape.proofs.EndToEnd.{points_step, ranges_step, length_step, length_within}
+use Rattle.i_shape.proofs.lists.EndToEnd.{points_step, ranges_step, length_step, length_within}
 use Rattle.i_shape.proofs.flat.lists.append_contours.Goals as goal
 
 pub append_contour-requires-clause-points_room : goal.append_contour-requires-clause-points_room

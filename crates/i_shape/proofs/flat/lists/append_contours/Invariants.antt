@@ -1,13 +1,13 @@
 use Rattle.std.proofs.Common.{◌≡◌, ◌+◌, ◌≤◌, ◌++◌, length, take, vec_len, vec_capacity}
-use Rattle.i_shape_source.specs.Paths.{paths_of_shape, joined}
+use Rattle.i_shape_source.specs.Paths.{paths_of_shape, concatenated}
 use Rattle.i_shape.specs.Flat.{end_to_end}
 use Rattle.i_shape.proofs.flat.lists.append_contours.Given as goal
 
 abbrev pub invariant-loop-contour : goal.invariant-loop-contour
 invariant-loop-contour g l = record {
-  points : l.points.items ≡ l.initial.points.items ++ joined (paths_of_shape (take l.contour-index l.contours));
+  points : l.points.items ≡ l.initial.points.items ++ concatenated (paths_of_shape (take l.contour-index l.contours));
   ranges : l.ranges.items ≡ l.initial.ranges.items ++ end_to_end (vec_len l.initial.points) (paths_of_shape (take l.contour-index l.contours));
-  points_len : vec_len l.points ≡ vec_len l.initial.points + length (joined (paths_of_shape (take l.contour-index l.contours)));
+  points_len : vec_len l.points ≡ vec_len l.initial.points + length (concatenated (paths_of_shape (take l.contour-index l.contours)));
   ranges_len : vec_len l.ranges ≡ vec_len l.initial.ranges + l.contour-index;
   points_capacity : vec_capacity l.initial.points ≤ vec_capacity l.points;
   ranges_capacity : vec_capacity l.initial.ranges ≤ vec_capacity l.ranges;

@@ -5,8 +5,8 @@ use Rattle.std.proofs.lemmas.List.{take_all}
 use Rattle.i_shape_core.specs.declared.point.IntPoint.{IntPoint}
 use Rattle.i_shape_core.specs.IntPoint.{contour_of, IsSafe}
 use Rattle.i_shape.specs.ShapeLists.{shape_of}
-use Rattle.i_shape_core.proofs.Survivors.{survivors-none}
-use Rattle.i_shape.proofs.Surviving.{mapped-read, survivors-more}
+use Rattle.i_shape_core.proofs.lists.Survivors.{survivors-none}
+use Rattle.i_shape.proofs.lists.Surviving.{mapped-read, survivors-more}
 use Rattle.i_shape.proofs.int.cleaning.append_holes.Goals as goal
 
 pub append_contour-requires : goal.append_contour-requires

@@ -4,12 +4,12 @@ use Rattle.std.proofs.lemmas.List.{take_all}
 use Rattle.i_shape_core.specs.declared.point.IntPoint.{IntPoint}
 use Rattle.i_shape.specs.ShapeLists.{shape_of, shapes_of, IsSafeShape}
 use Rattle.i_shape.specs.ShapeAnswers.{ShapeClean}
-use Rattle.i_shape.proofs.Surviving.{mapped-read, survivors-more}
-use Rattle.i_shape.proofs.Keeping.{list_keeps, list_safe}
+use Rattle.i_shape.proofs.lists.Surviving.{mapped-read, survivors-more}
+use Rattle.i_shape.proofs.shapes.Kept.{list_keeps, list_safe}
 use Rattle.i_shape.proofs.int.cleaning.clean_list.Goals as goal
 
-pub append_shape-requires : goal.append_shape-requires
-append_shape-requires g c =
+pub push_cleaned_shape-requires : goal.push_cleaned_shape-requires
+push_cleaned_shape-requires g c =
     let value = g.I.IntNumber.value in
     let Safe : List (Vec (IntPoint g.row.I.Denot)) → Type 0 = λ w. IsSafeShape g.I.IntNumber.width (shape_of value w) in
     subst Safe (sym c.as_slice.ensures.value) (mapped-read (λ s. shape_of value s.items) (IsSafeShape g.I.IntNumber.width) c.args.shapes.now c.loop-shape.shape-index c.shape-item.result c.loop-shape-test.true c.shape-item.is c.requires)
@@ -18,21 +18,17 @@ pub loop-shape-preserved : goal.loop-shape-preserved
 loop-shape-preserved g c =
     let value = g.I.IntNumber.value in
     let answers = g.C.ContourCleaner.answers in
-    let step = c.in_ok-append_shape.ensures.ok in
+    let step = c.in_ok-push_cleaned_shape.ensures.ok in
     let Clean : List (Vec (IntPoint g.row.I.Denot)) → Type 0 = λ w. ShapeClean answers (shape_of value w) step.0 in
     rw step.2 (survivors-more (λ s. shape_of value s.items) (ShapeClean answers) c.args.shapes.now c.loop-shape.shape-index c.shape-item.result (shapes_of value c.loop-shape.kept.items) step.0 c.loop-shape-test.true c.shape-item.is c.loop-shape.invariant (subst Clean c.as_slice.ensures.value step.1))
 
-pub returns-clause-answer : goal.returns-clause-answer
-returns-clause-answer g c =
+pub returns : goal.returns
+returns g c =
+    let answers = g.C.ContourCleaner.answers in
     let whole = take_all c.loop-shape.shape-index c.args.shapes.now c.loop-shape-test.false in
-    rw whole at c.loop-shape.invariant
-
-pub returns-clause-kept : goal.returns-clause-kept
-returns-clause-kept g c =
-    let whole = take_all c.loop-shape.shape-index c.args.shapes.now c.loop-shape-test.false in
-    list_keeps g.C.ContourCleaner.answers g.met.C.InPlaceCleaner.kept _ _ (rw whole at c.loop-shape.invariant)
-
-pub returns-clause-safe : goal.returns-clause-safe
-returns-clause-safe g c =
-    let whole = take_all c.loop-shape.shape-index c.args.shapes.now c.loop-shape-test.false in
-    list_safe g.C.ContourCleaner.answers g.I.IntNumber.width (g.met.C.CleanerLaws.stays_safe g.I.IntNumber.width) _ _ (rw whole at c.loop-shape.invariant) c.requires
+    let answer = rw whole at c.loop-shape.invariant in
+    record {
+      answer = answer;
+      kept = list_keeps answers g.met.C.InPlaceCleaner.kept _ _ answer;
+      safe = list_safe answers g.I.IntNumber.width (g.met.C.CleanerLaws.stays_safe g.I.IntNumber.width) _ _ answer c.requires;
+    }

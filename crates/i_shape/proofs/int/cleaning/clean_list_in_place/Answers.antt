@@ -9,10 +9,10 @@ use Rattle.i_shape.specs.ShapeAnswers.{EachShape}
 use Rattle.i_shape_core.specs.declared.error.ShapeError.{ShapeError}
 use Rattle.i_shape.specs.InPlace.{CleansList}
 use Rattle.i_shape.specs.declared.int.cleaning.changes.Change.{Change}
-use Rattle.i_shape.specs.Changes.{edits_of, IsLeft, put_in_list, FitsList, AllFit, CleansListAside, standing_shapes}
-use Rattle.i_shape.proofs.Keeping.{list_safe}
-use Rattle.i_shape.proofs.LeftInPlace.{list_stays_in_place}
-use Rattle.i_shape.proofs.CleanedAside.{list_aside_fit, none_told, some_told, whole_clean, taken_clean, list_cleaned_in_place, list_refused_in_place}
+use Rattle.i_shape.specs.Changes.{edits_of, IsLeft, put_in_list, FitsList, AllFit, CleansListAside, kept_shapes}
+use Rattle.i_shape.proofs.shapes.Kept.{list_safe}
+use Rattle.i_shape.proofs.in_place.Contours.{list_stays_in_place}
+use Rattle.i_shape.proofs.in_place.Edits.{list_aside_fit, none_told, some_told, whole_clean, taken_clean, list_cleaned_in_place, list_refused_in_place}
 use Rattle.i_shape.proofs.int.cleaning.clean_list_in_place.Goals as goal
 
 pub list_changes-requires : goal.list_changes-requires
@@ -45,7 +45,7 @@ returns-then-not-all_left-clause-gives g c =
     let Aside : List (Vec (Vec (IntPoint g.row.I.Denot))) → Type 0 = λ w. CleansListAside cleaner.clean cleaner.answers (shapes_of value w) edits in
     let aside = subst Aside c.as_slice.ensures.value c.in_ok-changes.ensures.ok in
     let fails : EachShape cleaner.clean shapes → ⊥ = λ all. false≢true (sym c.if-is_empty.false ∙ c.is_empty.ensures ∙ none_told value changes.items changes.len changes.ok.0 (aside.clean.1 all)) in
-    list_cleaned_in_place cleaner.clean cleaner.answers g.met.C.InPlaceCleaner.kept shapes _ fails (taken_clean cleaner.clean cleaner.answers shapes _ edits aside (c.take_out_of_list.ensures ∙ ap standing_shapes c.put_in_list.ensures))
+    list_cleaned_in_place cleaner.clean cleaner.answers g.met.C.InPlaceCleaner.kept shapes _ fails (taken_clean cleaner.clean cleaner.answers shapes _ edits aside (c.take_out_of_list.ensures ∙ ap kept_shapes c.put_in_list.ensures))
 
 pub returns-then-not-all_left-clause-safe : goal.returns-then-not-all_left-clause-safe
 returns-then-not-all_left-clause-safe g c =
@@ -55,7 +55,7 @@ returns-then-not-all_left-clause-safe g c =
     let shapes : List (List (List Point)) = shapes_of value c.args.shapes.now.items in
     let Aside : List (Vec (Vec (IntPoint g.row.I.Denot))) → Type 0 = λ w. CleansListAside cleaner.clean cleaner.answers (shapes_of value w) edits in
     let aside = subst Aside c.as_slice.ensures.value c.in_ok-changes.ensures.ok in
-    list_safe cleaner.answers g.I.IntNumber.width (g.met.C.CleanerLaws.stays_safe g.I.IntNumber.width) shapes _ (taken_clean cleaner.clean cleaner.answers shapes _ edits aside (c.take_out_of_list.ensures ∙ ap standing_shapes c.put_in_list.ensures)) c.requires
+    list_safe cleaner.answers g.I.IntNumber.width (g.met.C.CleanerLaws.stays_safe g.I.IntNumber.width) shapes _ (taken_clean cleaner.clean cleaner.answers shapes _ edits aside (c.take_out_of_list.ensures ∙ ap kept_shapes c.put_in_list.ensures)) c.requires
 
 pub returns-else-not-all_left-clause-gives : goal.returns-else-not-all_left-clause-gives
 returns-else-not-all_left-clause-gives g c =

@@ -7,7 +7,7 @@ use Rattle.i_shape_core.specs.declared.point.IntPoint.{IntPoint}
 use Rattle.i_shape_core.specs.IntPoint.{contour_of, IsSafe}
 use Rattle.i_shape.specs.ShapeLists.{shape_of, IsSafeShape}
 use Rattle.i_shape.specs.ShapeAnswers.{ShapeClean}
-use Rattle.i_shape.proofs.Keeping.{shape_keeps, shape_safe}
+use Rattle.i_shape.proofs.shapes.Kept.{shape_keeps, shape_safe}
 use Rattle.i_shape.proofs.int.cleaning.clean_shape.Goals as goal
 
 pub cleaned-requires : goal.cleaned-requires
@@ -24,17 +24,25 @@ append_holes-requires g c =
     let Safe : List (Vec (IntPoint g.row.I.Denot)) → Type 0 = λ w. IsSafeShape g.I.IntNumber.width (shape_of value w) in
     All-tail (All (IsSafe g.I.IntNumber.width)) (contour_of value c.in-Some.outer.now.items) (shape_of value c.in-Some.holes.now) (subst Safe c.in-Some.ensures.cases.0 c.requires)
 
-pub returns-in_default-clause-answer : goal.returns-in_default-clause-answer
-returns-in_default-clause-answer g c = grind (arith, common_steps)
+pub returns-in_default : goal.returns-in_default
+returns-in_default g c =
+    let value = g.I.IntNumber.value in
+    let answer : ShapeClean g.C.ContourCleaner.answers (shape_of value c.args.shape.now) (Some (shape_of value c.new.result.items)) = grind (arith, common_steps) in
+    record {
+      answer = answer;
+      kept = shape_keeps g.C.ContourCleaner.answers g.met.C.InPlaceCleaner.kept _ _ answer;
+      safe = shape_safe g.C.ContourCleaner.answers g.I.IntNumber.width (g.met.C.CleanerLaws.stays_safe g.I.IntNumber.width) _ _ answer c.requires;
+    }
 
-pub returns-clause-kept : goal.returns-clause-kept
-returns-clause-kept g c =
+pub returns-in_default-2 : goal.returns-in_default-2
+returns-in_default-2 g c = record { answer = search rules; kept = tt; safe = tt }
+
+pub returns : goal.returns
+returns g c =
     let value = g.I.IntNumber.value in
     let answer : ShapeClean g.C.ContourCleaner.answers (shape_of value c.args.shape.now) (Some (shape_of value c.append_holes.new.kept.items)) = search rules in
-    shape_keeps g.C.ContourCleaner.answers g.met.C.InPlaceCleaner.kept _ _ answer
-
-pub returns-clause-safe : goal.returns-clause-safe
-returns-clause-safe g c =
-    let value = g.I.IntNumber.value in
-    let answer : ShapeClean g.C.ContourCleaner.answers (shape_of value c.args.shape.now) (Some (shape_of value c.append_holes.new.kept.items)) = search rules in
-    shape_safe g.C.ContourCleaner.answers g.I.IntNumber.width (g.met.C.CleanerLaws.stays_safe g.I.IntNumber.width) _ _ answer c.requires
+    record {
+      answer = answer;
+      kept = shape_keeps g.C.ContourCleaner.answers g.met.C.InPlaceCleaner.kept _ _ answer;
+      safe = shape_safe g.C.ContourCleaner.answers g.I.IntNumber.width (g.met.C.CleanerLaws.stays_safe g.I.IntNumber.width) _ _ answer c.requires;
+    }

@@ -9,9 +9,9 @@ use Rattle.i_shape.specs.ShapeAnswers.{EachContour}
 use Rattle.i_shape_core.specs.declared.error.ShapeError.{ShapeError}
 use Rattle.i_shape.specs.InPlace.{CleansShape}
 use Rattle.i_shape.specs.declared.int.cleaning.changes.Change.{Change}
-use Rattle.i_shape.specs.Changes.{edits_of, IsLeft, put_contour, FitsShape, AllFit, CleansAside, standing}
-use Rattle.i_shape.proofs.LeftInPlace.{shape_stays_in_place}
-use Rattle.i_shape.proofs.CleanedAside.{aside_fit, none_told, some_told, whole_leaves, taken_leaves, shape_cleaned_in_place, shape_refused_in_place, leaves_safe}
+use Rattle.i_shape.specs.Changes.{edits_of, IsLeft, put_contour, FitsShape, AllFit, CleansAside, kept_contours}
+use Rattle.i_shape.proofs.in_place.Contours.{shape_stays_in_place}
+use Rattle.i_shape.proofs.in_place.Edits.{aside_fit, none_told, some_told, whole_leaves, taken_leaves, shape_cleaned_in_place, shape_refused_in_place, leaves_safe}
 use Rattle.i_shape.proofs.int.cleaning.clean_shape_in_place.Goals as goal
 
 pub shape_changes-requires : goal.shape_changes-requires
@@ -44,7 +44,7 @@ returns-then-not-all_left-clause-gives g c =
     let Aside : List (Vec (IntPoint g.row.I.Denot)) → Type 0 = λ w. CleansAside cleaner.clean cleaner.answers 0 (shape_of value w) edits in
     let aside = subst Aside c.as_slice.ensures.value c.in_ok-changes.ensures.ok in
     let fails : EachContour cleaner.clean shape → ⊥ = λ all. false≢true (sym c.if-is_empty.false ∙ c.is_empty.ensures ∙ none_told value changes.items changes.len changes.ok.0 (aside.clean.1 all)) in
-    shape_cleaned_in_place cleaner.clean cleaner.answers g.met.C.InPlaceCleaner.kept shape _ fails (taken_leaves cleaner.clean cleaner.answers 0 shape _ edits aside (c.take_out_collapsed.ensures ∙ ap standing c.put_in_shape.ensures))
+    shape_cleaned_in_place cleaner.clean cleaner.answers g.met.C.InPlaceCleaner.kept shape _ fails (taken_leaves cleaner.clean cleaner.answers 0 shape _ edits aside (c.take_out_collapsed.ensures ∙ ap kept_contours c.put_in_shape.ensures))
 
 pub returns-then-not-all_left-clause-safe : goal.returns-then-not-all_left-clause-safe
 returns-then-not-all_left-clause-safe g c =
@@ -54,7 +54,7 @@ returns-then-not-all_left-clause-safe g c =
     let shape : List (List Point) = shape_of value c.args.shape.now.items in
     let Aside : List (Vec (IntPoint g.row.I.Denot)) → Type 0 = λ w. CleansAside cleaner.clean cleaner.answers 0 (shape_of value w) edits in
     let aside = subst Aside c.as_slice.ensures.value c.in_ok-changes.ensures.ok in
-    leaves_safe cleaner.answers g.I.IntNumber.width (g.met.C.CleanerLaws.stays_safe g.I.IntNumber.width) shape _ (taken_leaves cleaner.clean cleaner.answers 0 shape _ edits aside (c.take_out_collapsed.ensures ∙ ap standing c.put_in_shape.ensures)) c.requires
+    leaves_safe cleaner.answers g.I.IntNumber.width (g.met.C.CleanerLaws.stays_safe g.I.IntNumber.width) shape _ (taken_leaves cleaner.clean cleaner.answers 0 shape _ edits aside (c.take_out_collapsed.ensures ∙ ap kept_contours c.put_in_shape.ensures)) c.requires
 
 pub returns-else-not-all_left-clause-gives : goal.returns-else-not-all_left-clause-gives
 returns-else-not-all_left-clause-gives g c =

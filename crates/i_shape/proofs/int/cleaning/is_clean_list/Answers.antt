@@ -5,7 +5,7 @@ use Rattle.std.proofs.lemmas.List.{take_all}
 use Rattle.i_shape_core.specs.declared.point.IntPoint.{IntPoint}
 use Rattle.i_shape.specs.ShapeLists.{shape_of, IsSafeShape}
 use Rattle.i_shape.specs.ShapeAnswers.{EachContour}
-use Rattle.i_shape.proofs.Surviving.{mapped-read, mapped-more}
+use Rattle.i_shape.proofs.lists.Surviving.{mapped-read, mapped-more}
 use Rattle.i_shape.proofs.int.cleaning.is_clean_list.Goals as goal
 
 pub is_clean_shape-requires : goal.is_clean_shape-requires

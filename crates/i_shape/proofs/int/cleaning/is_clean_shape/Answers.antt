@@ -4,7 +4,7 @@ use Rattle.std.proofs.lemmas.Bool.{false≢true}
 use Rattle.std.proofs.lemmas.List.{take_all}
 use Rattle.i_shape_core.specs.declared.point.IntPoint.{IntPoint}
 use Rattle.i_shape_core.specs.IntPoint.{contour_of, IsSafe}
-use Rattle.i_shape.proofs.Surviving.{mapped-read, mapped-more}
+use Rattle.i_shape.proofs.lists.Surviving.{mapped-read, mapped-more}
 use Rattle.i_shape.proofs.int.cleaning.is_clean_shape.Goals as goal
 
 pub is_clean-requires : goal.is_clean-requires

@@ -3,7 +3,7 @@
 ghost use Rattle.std.specs.Prelude.{◌≡◌, ◌<◌, ◌↔◌, ◌∷◌, [], List, Option, map, length, IfOk, OnOk, IsOkUnless, IsTrue, MatchOption, option_map};
 ghost use Rattle.std.specs.List.{All, sum_by};
 ghost use Rattle.std.specs.Option.{option_to_list, is_some};
-ghost use Rattle.i_shape_core.specs.IntPoint.{contour_of, IsSafe};
+ghost use Rattle.i_shape_core.specs.IntPoint.{contour_of, IsSafe, IsSafeContour};
 ghost use Rattle.i_shape_core.specs.declared.point.IntPoint.{IntPoint};
 ghost use Rattle.i_shape.specs.ShapeAnswers.{Survivors};
 ghost use Rattle.i_shape.specs.Flat.{InOrder, part_of, slices};
@@ -60,7 +60,7 @@ pub fn append_cleaned<T: IntNumber, C: ContourCleaner>(
     ranges: &mut Vec<Range<usize>>,
     contour: &[IntPoint<T>],
 ) -> Result<bool, ShapeError>
-    requires { All (IsSafe T.width) (contour_of T.value contour.now) }
+    requires { IsSafeContour T.width (contour_of T.value contour.now) }
     ensures ok { IfOk result (λ left. (answer : Option (List (IntPoint T))) × C.answers (contour_of T.value contour.now) (option_map (contour_of T.value) answer) × Grows points.old.items points.new.items ranges.old.items ranges.new.items (option_to_list answer) × (left ≡ is_some answer)) }
     ensures memory { IsOkUnless result ShapeError.OutOfMemory }
 {

@@ -2,7 +2,6 @@
 
 ghost use Rattle.std.specs.Prelude.{◌≡◌, ◌⊎◌, ◌<◌, ◌≤◌, ◌↔◌, true, false, map, length, IfOk, OnOk, OnErr, IsOkUnless, IsErrOf, IsTrue, MatchOption};
 ghost use Rattle.std.specs.List.{All};
-ghost use Rattle.i_shape_core.specs.IntPoint.{IsSafe};
 ghost use Rattle.i_shape_core.specs.Contour.{IsSimple};
 ghost use Rattle.i_shape_core.specs.Convex.{NoSpikes};
 ghost use Rattle.i_shape_core.specs.Cleaners.{SimpleAnswer, DespikeAnswer};
@@ -155,7 +154,7 @@ fn checked_named(contour_ranges: &[Range<usize>], shape_ranges: &[Range<usize>])
 }
 
 /// Appends the cleaned shape that contour ranges name, and nothing where its first contour collapses.
-fn append_shape<T: IntNumber, C: ContourCleaner>(
+fn append_cleaned_shape<T: IntNumber, C: ContourCleaner>(
     cleaner: &mut C,
     kept: &mut FlatShapesBuffer<T>,
     source: &[IntPoint<T>],
@@ -216,7 +215,7 @@ fn cleaned_shapes<T: IntNumber, C: ContourCleaner>(
     )?;
     let mut cleaner = C::with_room(alloc, 0);
     for range in shape_ranges {
-        append_shape(
+        append_cleaned_shape(
             &mut cleaner,
             &mut kept,
             points,

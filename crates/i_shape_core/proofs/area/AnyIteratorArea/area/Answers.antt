@@ -1,5 +1,5 @@
 use Rattle.std.proofs.Common.{◌∙◌, ap, rules}
-use Rattle.i_shape_core.proofs.SummedArea.{half-fits}
+use Rattle.i_shape_core.proofs.measure.AreaWalk.{half-fits}
 use Rattle.i_shape_core.proofs.area.AnyIteratorArea.area.Goals as goal
 
 pub divide-requires-clause-fits : goal.divide-requires-clause-fits

@@ -1,6 +1,6 @@
 use Rattle.std.proofs.Common.{◌∷◌, subst, refl, rules}
 use Rattle.std.specs.Iterator.{Yields}
-use Rattle.i_shape_core.proofs.SummedArea.{summed-more, summed-last, wrapped-zero}
+use Rattle.i_shape_core.proofs.measure.AreaWalk.{summed-more, summed-last, wrapped-zero}
 use Rattle.i_shape_core.proofs.area.AnyUnsafeArea.unsafe_area.Goals as goal
 
 pub loop-point-init : goal.loop-point-init

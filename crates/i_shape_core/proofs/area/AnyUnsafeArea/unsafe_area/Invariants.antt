@@ -1,4 +1,4 @@
-use Rattle.i_shape_core.proofs.SummedArea.{IsSummed}
+use Rattle.i_shape_core.proofs.measure.AreaWalk.{IsSummed}
 use Rattle.i_shape_core.proofs.area.AnyUnsafeArea.unsafe_area.Given as goal
 
 abbrev pub invariant-loop-point : goal.invariant-loop-point

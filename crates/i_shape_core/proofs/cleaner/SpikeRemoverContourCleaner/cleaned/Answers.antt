@@ -1,7 +1,7 @@
 use Rattle.std.proofs.Common.{arith}
 use Rattle.i_shape_core.specs.IntPoint.{contour_of}
-use Rattle.i_shape_core.proofs.Contours.{length-contour}
-use Rattle.i_shape_core.proofs.Answered.{spikeless_long}
+use Rattle.i_shape_core.proofs.plane.Contours.{length-contour}
+use Rattle.i_shape_core.proofs.answers.Kept.{spikeless_long}
 use Rattle.i_shape_core.proofs.cleaner.SpikeRemoverContourCleaner.cleaned.Goals as goal
 
 pub returns-in_err-from_slice-clause-short : goal.returns-in_err-from_slice-clause-short

@@ -1,5 +1,5 @@
 use Rattle.std.proofs.Common.{◌+◌, ap}
-use Rattle.i_shape_core.proofs.Readings.{count_fits, read-order}
+use Rattle.i_shape_core.proofs.least_rotation.Readings.{count_fits, read-order}
 use Rattle.i_shape_core.proofs.comparer.Comparer.compare.Goals as goal
 
 pub returns-clause-order : goal.returns-clause-order

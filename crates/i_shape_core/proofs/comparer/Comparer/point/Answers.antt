@@ -1,5 +1,5 @@
 use Rattle.std.proofs.Common.{◌∙◌, sym, ap, rules}
-use Rattle.i_shape_core.proofs.PointLists.{points-length, points-read}
+use Rattle.i_shape_core.proofs.plane.PointLists.{points-length, points-read}
 use Rattle.i_shape_core.proofs.comparer.Comparer.point.Goals as goal
 
 pub offset_bounds-points-place : goal.offset_bounds-points-place

@@ -1,83 +1,94 @@
-use Rattle.std.proofs.Common.{◌≡◌, ◌∙◌, List, map, length, ap, sym, arith}
+use Rattle.std.proofs.Common.{◌≡◌, ◌∙◌, refl, rules, Some, List, map, length, ap, sym, arith}
 use Rattle.std.proofs.lemmas.List.{length-map}
 use Rattle.std.proofs.lemmas.Result.{err_from_is_err_and}
 use Rattle.i_shape_core.specs.Point.{IsBack}
 use Rattle.i_shape_core.specs.Contour.{point_at}
 use Rattle.i_shape_core.specs.IntPoint.{contour_of}
-use Rattle.i_shape_core.specs.Cleaners.{SpikelessAnswer}
+use Rattle.i_shape_core.specs.Cleaners.{SpikelessAnswer, KeptAnswer}
 use Rattle.i_shape_core.specs.Walks.{Finds}
-use Rattle.i_shape_core.proofs.Contours.{length-contour}
-use Rattle.i_shape_core.proofs.PointLists.{points-length}
-use Rattle.i_shape_core.proofs.Ends.{reach_shrinks}
-use Rattle.i_shape_core.proofs.FirstPlaces.{none_found}
-use Rattle.i_shape_core.proofs.Cleaned.{spikeless_answer, kept_spikeless, short_answer}
-use Rattle.i_shape_core.proofs.Written.{nothing_written, points_written}
+use Rattle.i_shape_core.proofs.plane.Contours.{length-contour}
+use Rattle.i_shape_core.proofs.plane.PointLists.{points-length, points-at-places}
+use Rattle.i_shape_core.proofs.removal.Ends.{reach_shrinks}
+use Rattle.i_shape_core.proofs.lists.FirstPlaces.{none_found}
+use Rattle.i_shape_core.proofs.walks.Found.{spikeless_answer, kept_spikeless, short_answer}
+use Rattle.i_shape_core.proofs.plane.Contours.{kept-contour}
+use Rattle.i_shape_core.proofs.walks.RisingPlaces.{rising_below, picked_at}
+use Rattle.i_shape_core.proofs.answers.Written.{nothing_written, points_written, whole_written, into, into_refused}
 use Rattle.i_shape_core.proofs.despike.ContourDeSpiker.despike_into.Goals as goal
 
-pub returns-then-contour-lt3-clause-written : goal.returns-then-contour-lt3-clause-written
-returns-then-contour-lt3-clause-written g c =
-    let read = λ (list : List g.row.P.Denot). contour_of g.P.Coordinate.IntNumber.value (g.P.ContourPoint.points list) in
-    let counts = λ (list : List g.row.P.Denot). length-contour g.P.Coordinate.IntNumber.value (g.P.ContourPoint.points list) ∙ points-length g.P.ContourPoint.point g.P.ContourPoint.points g.P.ContourPoint.each list in
-    nothing_written g.P.Coordinate.IntNumber.width read counts c.args.contour.now c.args.out.now IsBack SpikelessAnswer (spikeless_answer (read c.args.contour.now)) (kept_spikeless (read c.args.contour.now)) 0
-    (short_answer IsBack (read c.args.contour.now) (omega (arith, counts c.args.contour.now, c.if-contour-lt3.true)))
+pub returns-then-contour-lt3 : goal.returns-then-contour-lt3
+returns-then-contour-lt3 g c =
+    let value = g.P.Coordinate.IntNumber.value in
+    let read = λ (list : List g.row.P.Denot). contour_of value (g.P.ContourPoint.points list) in
+    let counts = λ (list : List g.row.P.Denot). length-contour value (g.P.ContourPoint.points list) ∙ points-length g.P.ContourPoint.point g.P.ContourPoint.points g.P.ContourPoint.each list in
+    let whole = read c.args.contour.now in
+    into 0
+    (nothing_written g.P.Coordinate.IntNumber.width read counts c.args.contour.now c.args.out.now IsBack SpikelessAnswer (spikeless_answer whole) (kept_spikeless whole) 0
+    (short_answer IsBack whole (omega (arith, counts c.args.contour.now, c.if-contour-lt3.true)))) refl (λ few. refl)
 
 pub first_back-requires-clause-enough : goal.first_back-requires-clause-enough
 first_back-requires-clause-enough g c =
     omega (arith, c.if-contour-lt3.false, ap length c.new-probe.ensures.contour, points-length g.P.ContourPoint.point g.P.ContourPoint.points g.P.ContourPoint.each c.args.contour.now)
 
-pub write_whole-requires : goal.write_whole-requires
-write_whole-requires g c =
-    omega (arith, c.requires.room, ap length (c.first_back.ensures.contour ∙ c.new-probe.ensures.contour), points-length g.P.ContourPoint.point g.P.ContourPoint.points g.P.ContourPoint.each c.args.contour.now)
-
-pub returns-in_default-clause-written : goal.returns-in_default-clause-written
-returns-in_default-clause-written g c =
+pub returns-in_default : goal.returns-in_default
+returns-in_default g c =
     let value = g.P.Coordinate.IntNumber.value in
     let read = λ (list : List g.row.P.Denot). contour_of value (g.P.ContourPoint.points list) in
     let counts = λ (list : List g.row.P.Denot). length-contour value (g.P.ContourPoint.points list) ∙ points-length g.P.ContourPoint.point g.P.ContourPoint.points g.P.ContourPoint.each list in
     let whole = read c.args.contour.now in
     let fresh : c.new-probe.result.contour ≡ g.P.ContourPoint.points c.args.contour.now = c.new-probe.ensures.contour in
-    let first : c.first_back.new.probe.contour ≡ g.P.ContourPoint.points c.args.contour.now = c.first_back.ensures.contour ∙ fresh in
-    let found = rw fresh at c.in_default.ensures.answer in
-    points_written g.P.Coordinate.IntNumber.width read counts c.args.contour.now c.args.out.now IsBack SpikelessAnswer (spikeless_answer whole) (kept_spikeless whole)
-    c.write_whole.new.out c.write_whole.result whole c.first_back.new.probe.visits c.requires.points_safe (ap (contour_of value) (c.write_whole.ensures.points ∙ first))
-    (c.write_whole.ensures.count ∙ ap length first ∙ sym (length-contour value (g.P.ContourPoint.points c.args.contour.now))) c.write_whole.ensures.rest
-    (none_found whole c.first_back.new.probe.visits (omega (arith, counts c.args.contour.now, c.if-contour-lt3.false)) found.0 found.1)
+    let none = rw fresh at c.in_default.ensures.answer in
+    let found = none_found whole c.first_back.new.probe.visits (omega (arith, counts c.args.contour.now, c.if-contour-lt3.false)) none.0 none.1 in
+    into c.write_whole.result
+    (whole_written g.P.Coordinate.IntNumber.width read SpikelessAnswer KeptAnswer c.args.contour.now c.args.out.now c.write_whole.new.out c.write_whole.result c.write_whole.ensures.count c.write_whole.ensures.items c.write_whole.ensures.rest
+    (omega (arith, counts c.args.contour.now, c.if-contour-lt3.false)) (spikeless_answer whole (Some whole) c.first_back.new.probe.visits found) (kept_spikeless whole (Some whole) c.first_back.new.probe.visits found) c.requires.points_safe)
+    c.write_whole.ensures.len (λ few. absurd (omega (arith, few, c.if-contour-lt3.false)))
 
-pub returns-in_default-left-clause-written : goal.returns-in_default-left-clause-written
-returns-in_default-left-clause-written g c =
-    let value = g.P.Coordinate.IntNumber.value in
-    let read = λ (list : List g.row.P.Denot). contour_of value (g.P.ContourPoint.points list) in
-    let counts = λ (list : List g.row.P.Denot). length-contour value (g.P.ContourPoint.points list) ∙ points-length g.P.ContourPoint.point g.P.ContourPoint.points g.P.ContourPoint.each list in
-    let whole = read c.args.contour.now in
-    let first : c.first_back.new.probe.contour ≡ g.P.ContourPoint.points c.args.contour.now = c.first_back.ensures.contour ∙ c.new-probe.ensures.contour in
-    nothing_written g.P.Coordinate.IntNumber.width read counts c.args.contour.now c.args.out.now IsBack SpikelessAnswer (spikeless_answer whole) (kept_spikeless whole)
-    c.in_ok-probe.probe.visits (rw (first, c.in_default-left.is) at c.in_ok-probe.ensures.answer)
-
-pub write-requires-clause-room : goal.write-requires-clause-room
-write-requires-clause-room g c =
-    let value = g.P.Coordinate.IntNumber.value in
-    let read = λ (list : List g.row.P.Denot). contour_of value (g.P.ContourPoint.points list) in
-    let counts = λ (list : List g.row.P.Denot). length-contour value (g.P.ContourPoint.points list) ∙ points-length g.P.ContourPoint.point g.P.ContourPoint.points g.P.ContourPoint.each list in
-    let whole = read c.args.contour.now in
-    let first : c.first_back.new.probe.contour ≡ g.P.ContourPoint.points c.args.contour.now = c.first_back.ensures.contour ∙ c.new-probe.ensures.contour in
-    let found : Finds IsBack whole (map (point_at whole) c.in-Some-left.places.now) c.in_ok-probe.probe.visits = rw (first, c.in-Some-left.is) at c.in_ok-probe.ensures.answer in
-    omega (arith, c.requires.room, reach_shrinks found.ended.reached, length-map c.in-Some-left.places.now (point_at whole), counts c.args.contour.now)
-
-pub returns-clause-written : goal.returns-clause-written
-returns-clause-written g c =
-    let value = g.P.Coordinate.IntNumber.value in
-    let read = λ (list : List g.row.P.Denot). contour_of value (g.P.ContourPoint.points list) in
-    let counts = λ (list : List g.row.P.Denot). length-contour value (g.P.ContourPoint.points list) ∙ points-length g.P.ContourPoint.point g.P.ContourPoint.points g.P.ContourPoint.each list in
-    let whole = read c.args.contour.now in
-    let first : c.first_back.new.probe.contour ≡ g.P.ContourPoint.points c.args.contour.now = c.first_back.ensures.contour ∙ c.new-probe.ensures.contour in
-    let same : c.in_ok-probe.probe.contour ≡ g.P.ContourPoint.points c.args.contour.now = c.in_ok-probe.ensures.contour ∙ first in
-    let found : Finds IsBack whole (map (point_at whole) c.in-Some-left.places.now) c.in_ok-probe.probe.visits = rw (first, c.in-Some-left.is) at c.in_ok-probe.ensures.answer in
-    points_written g.P.Coordinate.IntNumber.width read counts c.args.contour.now c.args.out.now IsBack SpikelessAnswer (spikeless_answer whole) (kept_spikeless whole)
-    c.write.new.out c.write.result (map (point_at whole) c.in-Some-left.places.now) c.in_ok-probe.probe.visits c.requires.points_safe (rw same at c.write.ensures.points)
-    (c.write.ensures.count ∙ sym (length-map c.in-Some-left.places.now (point_at whole))) c.write.ensures.rest found
-
-pub returns-in_err-probe-clause-unclean : goal.returns-in_err-probe-clause-unclean
-returns-in_err-probe-clause-unclean g c =
+pub returns-in_err-_probe : goal.returns-in_err-_probe
+returns-in_err-_probe g c =
     let found = rw c.new-probe.ensures.contour at c.in-Some.ensures.answer in
     let refused = err_from_is_err_and c.from_residual.result c.from_residual.ensures.1 in
-    rw refused.1 (λ despiked. despiked.ended.none_left c.in-Some.place found.0.here)
+    rw refused.1 (into_refused refused.0 (search rules) (λ despiked. despiked.ended.none_left c.in-Some.place found.0.here) (omega (arith, c.if-contour-lt3.false)) refl)
+
+pub returns-in_default-left : goal.returns-in_default-left
+returns-in_default-left g c =
+    let value = g.P.Coordinate.IntNumber.value in
+    let read = λ (list : List g.row.P.Denot). contour_of value (g.P.ContourPoint.points list) in
+    let counts = λ (list : List g.row.P.Denot). length-contour value (g.P.ContourPoint.points list) ∙ points-length g.P.ContourPoint.point g.P.ContourPoint.points g.P.ContourPoint.each list in
+    let whole = read c.args.contour.now in
+    let first : c.first_back.new.probe.contour ≡ g.P.ContourPoint.points c.args.contour.now = c.first_back.ensures.contour ∙ c.new-probe.ensures.contour in
+    into 0
+    (nothing_written g.P.Coordinate.IntNumber.width read counts c.args.contour.now c.args.out.now IsBack SpikelessAnswer (spikeless_answer whole) (kept_spikeless whole)
+    c.in_ok-_probe._probe.visits (rw (first, c.in_default-left.is) at c.in_ok-_probe.ensures.answer)) refl (λ few. refl)
+
+pub write_at-requires-clause-below : goal.write_at-requires-clause-below
+write_at-requires-clause-below g c =
+    let first : c.first_back.new.probe.contour ≡ g.P.ContourPoint.points c.args.contour.now = c.first_back.ensures.contour ∙ c.new-probe.ensures.contour in
+    rising_below _ _ (rw (first, points-length g.P.ContourPoint.point g.P.ContourPoint.points g.P.ContourPoint.each c.args.contour.now, c.in-Some-left.is) at c.in_ok-_probe.ensures.rising)
+
+pub write_at-requires-clause-room : goal.write_at-requires-clause-room
+write_at-requires-clause-room g c =
+    let value = g.P.Coordinate.IntNumber.value in
+    let read = λ (list : List g.row.P.Denot). contour_of value (g.P.ContourPoint.points list) in
+    let counts = λ (list : List g.row.P.Denot). length-contour value (g.P.ContourPoint.points list) ∙ points-length g.P.ContourPoint.point g.P.ContourPoint.points g.P.ContourPoint.each list in
+    let whole = read c.args.contour.now in
+    let first : c.first_back.new.probe.contour ≡ g.P.ContourPoint.points c.args.contour.now = c.first_back.ensures.contour ∙ c.new-probe.ensures.contour in
+    let found : Finds IsBack whole (map (point_at whole) c.in-Some-left.places.now) c.in_ok-_probe._probe.visits = rw (first, c.in-Some-left.is) at c.in_ok-_probe.ensures.answer in
+    omega (arith, c.requires.room, reach_shrinks found.ended.reached, length-map c.in-Some-left.places.now (point_at whole), counts c.args.contour.now)
+
+pub returns : goal.returns
+returns g c =
+    let value = g.P.Coordinate.IntNumber.value in
+    let read = λ (list : List g.row.P.Denot). contour_of value (g.P.ContourPoint.points list) in
+    let counts = λ (list : List g.row.P.Denot). length-contour value (g.P.ContourPoint.points list) ∙ points-length g.P.ContourPoint.point g.P.ContourPoint.points g.P.ContourPoint.each list in
+    let whole = read c.args.contour.now in
+    let first : c.first_back.new.probe.contour ≡ g.P.ContourPoint.points c.args.contour.now = c.first_back.ensures.contour ∙ c.new-probe.ensures.contour in
+    let found : Finds IsBack whole (map (point_at whole) c.in-Some-left.places.now) c.in_ok-_probe._probe.visits = rw (first, c.in-Some-left.is) at c.in_ok-_probe.ensures.answer in
+    let items = c.write_at.ensures.items in
+    into c.write_at.result
+    (points_written g.P.Coordinate.IntNumber.width read counts c.args.contour.now c.args.out.now IsBack SpikelessAnswer (spikeless_answer whole) (kept_spikeless whole)
+    c.write_at.new.out c.write_at.result (map (point_at whole) c.in-Some-left.places.now) c.in_ok-_probe._probe.visits c.requires.points_safe
+    (picked_at c.args.contour.now _ c.in-Some-left.places.now (rw (first, points-length g.P.ContourPoint.point g.P.ContourPoint.points g.P.ContourPoint.each c.args.contour.now, c.in-Some-left.is) at c.in_ok-_probe.ensures.rising) items)
+    (kept-contour value (g.P.ContourPoint.points c.args.contour.now) _ c.in-Some-left.places.now (points-at-places g.P.ContourPoint.point g.P.ContourPoint.points g.P.ContourPoint.each c.args.contour.now _ c.in-Some-left.places.now items))
+    (c.write_at.ensures.count ∙ sym (length-map c.in-Some-left.places.now (point_at whole))) c.write_at.ensures.rest found) c.write_at.ensures.len
+    (λ few. absurd (omega (arith, few, c.if-contour-lt3.false)))

@@ -1,9 +1,10 @@
 use Rattle.std.proofs.Common.{◌≡◌, ◌∙◌, length, List, Some, arith}
 use Rattle.i_shape_core.specs.IntPoint.{contour_of}
 use Rattle.i_shape_core.specs.Point.{Point, IsBack}
-use Rattle.i_shape_core.proofs.Contours.{length-contour}
-use Rattle.i_shape_core.proofs.Cleaned.{walk_kept}
-use Rattle.i_shape_core.proofs.FirstPlaces.{none_found}
+use Rattle.i_shape_core.proofs.plane.Contours.{length-contour}
+use Rattle.i_shape_core.proofs.walks.Found.{walk_kept}
+use Rattle.i_shape_core.proofs.lists.FirstPlaces.{none_found}
+use Rattle.i_shape_core.proofs.walks.RisingPlaces.{each_rising_below}
 use Rattle.i_shape_core.proofs.despike.ContourDeSpiker.despiked.Goals as goal
 
 pub returns-in_default-clause-answer : goal.returns-in_default-clause-answer
@@ -14,7 +15,7 @@ returns-in_default-clause-answer g c =
     (none_found whole c.first_back.new.probe.visits (omega (arith, long, c.requires.enough)) c.in_default.ensures.answer.0 c.in_default.ensures.answer.1)
 
 pub keep_left-requires : goal.keep_left-requires
-keep_left-requires g c = rw (c.in_ok-probe.ensures.contour) (c.in_ok-probe.ensures.below)
+keep_left-requires g c = rw (c.in_ok-probe.ensures.contour) (each_rising_below _ _ c.in_ok-probe.ensures.rising)
 
 pub returns-clause-answer : goal.returns-clause-answer
 returns-clause-answer g c =

@@ -1,6 +1,6 @@
 use Rattle.std.proofs.Common.{◌∙◌, ◌++◌, ◌∷◌, [], ap, sym, get_or, arith, rules, take_all}
-use Rattle.i_shape_core.proofs.Contours.{kept-more}
-use Rattle.i_shape_core.proofs.PointLists.{points-length, points-read, points-push}
+use Rattle.i_shape_core.proofs.plane.Contours.{kept-more}
+use Rattle.i_shape_core.proofs.plane.PointLists.{points-length, points-read, points-push}
 use Rattle.i_shape_core.proofs.probe.Probe.keep.Goals as goal
 
 bounds : goal.bounds-self-inside-index

@@ -1,5 +1,5 @@
 use Rattle.std.proofs.Common.{rules, Some, ap}
-use Rattle.i_shape_core.proofs.Contours.{kept-contour}
+use Rattle.i_shape_core.proofs.plane.Contours.{kept-contour}
 use Rattle.i_shape_core.proofs.probe.Probe.keep_left.Goals as goal
 
 pub returns-clause-kept : goal.returns-clause-kept

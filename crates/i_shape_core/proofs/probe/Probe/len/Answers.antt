@@ -1,5 +1,5 @@
 use Rattle.std.proofs.Common.{sym}
-use Rattle.i_shape_core.proofs.PointLists.{points-length}
+use Rattle.i_shape_core.proofs.plane.PointLists.{points-length}
 use Rattle.i_shape_core.proofs.probe.Probe.len.Goals as goal
 
 pub returns : goal.returns

@@ -1,7 +1,7 @@
 use Rattle.std.proofs.Common.{◌<◌, ◌≤◌, length, sym, ◌∙◌, ◌+◌, arith}
 use Rattle.std.proofs.lemmas.List.{get_or_read}
 use Rattle.i_shape_core.specs.Walks.{around_gap}
-use Rattle.i_shape_core.proofs.Gaps.{gap_second, gap_second-behind, length-gap}
+use Rattle.i_shape_core.proofs.walks.Gaps.{gap_second, gap_second-behind, length-gap}
 use Rattle.i_shape_core.proofs.ring.Ring.after.Goals as goal
 
 pub returns-then-self : goal.returns-then-self

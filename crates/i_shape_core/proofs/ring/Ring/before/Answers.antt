@@ -1,6 +1,6 @@
 use Rattle.std.proofs.Common.{sym, ◌∙◌, ◌-◌, arith}
 use Rattle.std.proofs.lemmas.List.{get_or_read}
-use Rattle.i_shape_core.proofs.Gaps.{gap_last-behind, gap_last-end}
+use Rattle.i_shape_core.proofs.walks.Gaps.{gap_last-behind, gap_last-end}
 use Rattle.i_shape_core.proofs.ring.Ring.before.Goals as goal
 
 pub returns-then-self-gt0 : goal.returns-then-self-gt0

@@ -1,7 +1,7 @@
 use Rattle.std.proofs.Common.{◌≤◌, ◌+◌, ◌-◌, set, length, ◌∙◌, inl, inr, refl, arith}
 use Rattle.std.proofs.lemmas.List.{get_or_read}
 use Rattle.i_shape_core.specs.Walks.{around_gap}
-use Rattle.i_shape_core.proofs.Gaps.{gap_kept, gap_turned, kept_lead, length-gap}
+use Rattle.i_shape_core.proofs.walks.Gaps.{gap_kept, gap_rotated, kept_lead, length-gap}
 use Rattle.i_shape_core.proofs.ring.Ring.keep.Goals as goal
 
 pub returns-then-self-clause-places : goal.returns-then-self-clause-places
@@ -10,7 +10,7 @@ returns-then-self-clause-places c =
     let i = c.self.invariant in
     let within : r.end ≤ length r.places.items = omega (arith, i.within, r.places.ok.0) in
     let read = get_or_read r.places.items r.ahead c.index.result.now (omega (arith, i.some, within)) c.index.ensures 0 in
-    rw (← c.self.view_is) (gap_turned (set r.places.items r.behind c.index.result.now) (r.behind + 1) (r.ahead + 1) r.end c.if-self.true
+    rw (← c.self.view_is) (gap_rotated (set r.places.items r.behind c.index.result.now) (r.behind + 1) (r.ahead + 1) r.end c.if-self.true
     ∙ gap_kept r.places.items r.behind r.ahead r.end c.index.result.now i.gap i.some within read)
 
 pub returns-else-self-clause-places : goal.returns-else-self-clause-places

@@ -1,5 +1,5 @@
 use Rattle.std.proofs.Common.{sym, arith}
-use Rattle.i_shape_core.proofs.Gaps.{length-gap}
+use Rattle.i_shape_core.proofs.walks.Gaps.{length-gap}
 use Rattle.i_shape_core.proofs.ring.Ring.len.Goals as goal
 
 pub returns : goal.returns

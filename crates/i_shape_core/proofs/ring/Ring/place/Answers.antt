@@ -1,6 +1,6 @@
 use Rattle.std.proofs.Common.{sym, ◌∙◌, arith}
 use Rattle.std.proofs.lemmas.List.{get_or_read}
-use Rattle.i_shape_core.proofs.Gaps.{gap_first}
+use Rattle.i_shape_core.proofs.walks.Gaps.{gap_first}
 use Rattle.i_shape_core.proofs.ring.Ring.place.Goals as goal
 
 pub returns : goal.returns

@@ -1,6 +1,6 @@
 use Rattle.std.proofs.Common.{◌≡◌, ◌≤◌, ◌<◌, ◌+◌, ◌-◌, length, refl, arith}
 use Rattle.i_shape_core.specs.Walks.{around_gap}
-use Rattle.i_shape_core.proofs.Gaps.{gap_removed-behind, gap_removed-end, length-gap, removed_told}
+use Rattle.i_shape_core.proofs.walks.Gaps.{gap_removed-behind, gap_removed-end, length-gap, removed_told}
 use Rattle.i_shape_core.proofs.ring.Ring.remove.Goals as goal
 
 pub first_without-self-inside-requires-clause-first : goal.first_without-self-inside-requires-clause-first

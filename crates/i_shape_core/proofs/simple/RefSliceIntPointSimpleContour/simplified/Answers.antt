@@ -1,5 +1,5 @@
 use Rattle.std.proofs.Common.{arith}
-use Rattle.i_shape_core.proofs.Contours.{length-contour}
+use Rattle.i_shape_core.proofs.plane.Contours.{length-contour}
 use Rattle.i_shape_core.proofs.simple.RefSliceIntPointSimpleContour.simplified.Goals as goal
 
 pub returns-clause-short : goal.returns-clause-short

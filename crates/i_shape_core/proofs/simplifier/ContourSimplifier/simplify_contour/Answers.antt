@@ -3,6 +3,3 @@ use Rattle.i_shape_core.proofs.simplifier.ContourSimplifier.simplify_contour.Goa
 
 pub returns-clause-answer : goal.returns-clause-answer
 returns-clause-answer g c = search rules
-
-pub returns-clause-kept : goal.returns-clause-kept
-returns-clause-kept g c = search rules

@@ -1,14 +1,20 @@
 use Rattle.std.proofs.Common.{◌≡◌, ◌∙◌, ℕ, ℤ, List, length, Option, None, Some, option_map, ap, sym, arith}
 use Rattle.std.specs.Global.{Vec}
+use Rattle.std.specs.Int.{Width}
+use Rattle.std.specs.List.{All}
 use Rattle.std.specs.Result.{IfOk}
 use Rattle.std.specs.declared.result.Result.{Result}
 use Rattle.std.proofs.lemmas.Result.{IfOk-weaker}
 use Rattle.i_shape_core.specs.Point.{Point, IsZeroTurn}
 use Rattle.i_shape_core.specs.IntPoint.{contour_of, IsSafe}
+use Rattle.i_shape_core.specs.Cleaners.{SimpleAnswer}
+use Rattle.i_shape_core.specs.Written.{CleansInOrder}
 use Rattle.i_shape_core.specs.Walks.{WalkAnswer}
 use Rattle.i_shape_core.specs.declared.point.IntPoint.{IntPoint}
-use Rattle.i_shape_core.proofs.Contours.{length-contour}
-use Rattle.i_shape_core.proofs.Cleaned.{simple_answer, kept_answer, all_answered, in_order_answered, visits_answer, short_answer, walk_kept, whole_found}
+use Rattle.i_shape_core.proofs.plane.Contours.{length-contour}
+use Rattle.i_shape_core.proofs.walks.Found.{simple_answer, kept_answer, visits_answer, short_answer, walk_kept, whole_found}
+use Rattle.i_shape_core.proofs.walks.RisingPlaces.{each_rising_below}
+use Rattle.i_shape_core.proofs.answers.Written.{walked, unless_memory}
 use Rattle.i_shape_core.proofs.simplifier.ContourSimplifier.simplify_counted.Given.{Over}
 use Rattle.i_shape_core.proofs.simplifier.ContourSimplifier.simplify_counted.Goals.{After-keep_whole}
 use Rattle.i_shape_core.proofs.simplifier.ContourSimplifier.simplify_counted.Goals as goal
@@ -23,13 +29,10 @@ Found value contour result = IfOk result (λ r. WalkAnswer IsZeroTurn (contour_o
 
 pub returns-then-contour-lt3-clause-answer : goal.returns-then-contour-lt3-clause-answer
 returns-then-contour-lt3-clause-answer g c =
-    let points = contour_of g.I.IntNumber.value c.before.args.contour.now in
-    simple_answer points None 0 (short_answer IsZeroTurn points (omega (arith, length-contour g.I.IntNumber.value c.before.args.contour.now)))
-
-pub returns-then-contour-lt3-clause-kept : goal.returns-then-contour-lt3-clause-kept
-returns-then-contour-lt3-clause-kept g c =
-    let points = contour_of g.I.IntNumber.value c.before.args.contour.now in
-    kept_answer points None 0 (short_answer IsZeroTurn points (omega (arith, length-contour g.I.IntNumber.value c.before.args.contour.now)))
+    let value = g.I.IntNumber.value in
+    let points = contour_of value c.before.args.contour.now in
+    walked g.I.IntNumber.width IsZeroTurn SimpleAnswer points (λ (kept : Vec (IntPoint g.row.I.Denot)). contour_of value kept.items) None 0 (simple_answer points None 0) (kept_answer points None 0) c.before.requires
+    (short_answer IsZeroTurn points (omega (arith, length-contour value c.before.args.contour.now)))
 
 pub returns-then-contour-lt3-clause-visits : goal.returns-then-contour-lt3-clause-visits
 returns-then-contour-lt3-clause-visits g c =
@@ -45,29 +48,16 @@ whole g c =
     (whole_found IsZeroTurn points c.start_of_walk.new.probe.visits (rw c.new-probe.ensures.contour at (c.start_of_walk.ensures.clean c.in_default.is)) (omega (arith, long, c.if-contour-lt3.false))
     (c.start_of_walk.ensures.visits c.in_default.is ∙ ap length c.new-probe.ensures.contour ∙ sym long))
 
+-- what it answers, of what a walk finds
+told : {I E : Type 0} (width : Width) (value : I → ℤ) (contour : List (IntPoint I)) (result : Result (Option (Vec (IntPoint I)) × ℕ) E) → All (IsSafe width) (contour_of value contour) → Found value contour result
+    → IfOk result (λ r. CleansInOrder SimpleAnswer width value (contour_of value contour) r.0)
+told {I} width value contour result safe found =
+    IfOk-weaker result _ _ (λ r w. walked width IsZeroTurn SimpleAnswer (contour_of value contour) (λ (kept : Vec (IntPoint I)). contour_of value kept.items) r.0 r.1
+    (simple_answer (contour_of value contour) (shown value r) r.1) (kept_answer (contour_of value contour) (shown value r) r.1) safe w) found
+
 pub returns-in_default-clause-answer : goal.returns-in_default-clause-answer
 returns-in_default-clause-answer g c =
-    let value = g.I.IntNumber.value in
-    let points = contour_of value c.args.contour.now in
-    IfOk-weaker c.keep_whole.result _ _ (λ r w. simple_answer points (shown value r) r.1 w) (whole g c)
-
-pub returns-in_default-clause-kept : goal.returns-in_default-clause-kept
-returns-in_default-clause-kept g c =
-    let value = g.I.IntNumber.value in
-    let points = contour_of value c.args.contour.now in
-    IfOk-weaker c.keep_whole.result _ _ (λ r w. kept_answer points (shown value r) r.1 w) (whole g c)
-
-pub returns-in_default-clause-safe : goal.returns-in_default-clause-safe
-returns-in_default-clause-safe g c =
-    let value = g.I.IntNumber.value in
-    let points = contour_of value c.args.contour.now in
-    IfOk-weaker c.keep_whole.result _ _ (λ r w. all_answered IsZeroTurn (IsSafe g.I.IntNumber.width) (λ kept. contour_of value kept.items) points r.0 r.1 w c.requires) (whole g c)
-
-pub returns-in_default-clause-in_order : goal.returns-in_default-clause-in_order
-returns-in_default-clause-in_order g c =
-    let value = g.I.IntNumber.value in
-    let points = contour_of value c.args.contour.now in
-    IfOk-weaker c.keep_whole.result _ _ (λ r w. in_order_answered IsZeroTurn (λ kept. contour_of value kept.items) points r.0 r.1 w) (whole g c)
+    unless_memory c.keep_whole.result _ (told g.I.IntNumber.width g.I.IntNumber.value c.args.contour.now c.keep_whole.result c.requires (whole g c)) c.keep_whole.ensures.memory
 
 pub returns-in_default-clause-visits : goal.returns-in_default-clause-visits
 returns-in_default-clause-visits g c =
@@ -75,38 +65,14 @@ returns-in_default-clause-visits g c =
     let points = contour_of value c.args.contour.now in
     IfOk-weaker c.keep_whole.result _ _ (λ r w. visits_answer IsZeroTurn points (shown value r) r.1 w) (whole g c)
 
+pub keep_left-requires : goal.keep_left-requires
+keep_left-requires g c = rw (c.in_ok-probe.ensures.contour) (each_rising_below _ _ c.in_ok-probe.ensures.rising)
+
 pub returns-clause-answer : goal.returns-clause-answer
 returns-clause-answer g c =
     let value = g.I.IntNumber.value in
     let points = contour_of value c.args.contour.now in
     let first : c.start_of_walk.new.probe.contour ≡ c.args.contour.now = c.start_of_walk.ensures.contour ∙ c.new-probe.ensures.contour in
     let same : c.in_ok-probe.probe.contour ≡ c.args.contour.now = c.in_ok-probe.ensures.contour ∙ first in
-    let told : Found value c.args.contour.now c.keep_left.result = walk_kept IsZeroTurn points (shown value) (λ r. r.1) c.keep_left.result _ c.in_ok-probe.probe.visits (rw same at c.keep_left.ensures.kept) (rw first at c.in_ok-probe.ensures.answer) in
-    IfOk-weaker c.keep_left.result _ _ (λ r w. simple_answer points (shown value r) r.1 w) told
-
-pub returns-clause-kept : goal.returns-clause-kept
-returns-clause-kept g c =
-    let value = g.I.IntNumber.value in
-    let points = contour_of value c.args.contour.now in
-    let first : c.start_of_walk.new.probe.contour ≡ c.args.contour.now = c.start_of_walk.ensures.contour ∙ c.new-probe.ensures.contour in
-    let same : c.in_ok-probe.probe.contour ≡ c.args.contour.now = c.in_ok-probe.ensures.contour ∙ first in
-    let told : Found value c.args.contour.now c.keep_left.result = walk_kept IsZeroTurn points (shown value) (λ r. r.1) c.keep_left.result _ c.in_ok-probe.probe.visits (rw same at c.keep_left.ensures.kept) (rw first at c.in_ok-probe.ensures.answer) in
-    IfOk-weaker c.keep_left.result _ _ (λ r w. kept_answer points (shown value r) r.1 w) told
-
-pub returns-clause-safe : goal.returns-clause-safe
-returns-clause-safe g c =
-    let value = g.I.IntNumber.value in
-    let points = contour_of value c.args.contour.now in
-    let first : c.start_of_walk.new.probe.contour ≡ c.args.contour.now = c.start_of_walk.ensures.contour ∙ c.new-probe.ensures.contour in
-    let same : c.in_ok-probe.probe.contour ≡ c.args.contour.now = c.in_ok-probe.ensures.contour ∙ first in
-    let told : Found value c.args.contour.now c.keep_left.result = walk_kept IsZeroTurn points (shown value) (λ r. r.1) c.keep_left.result _ c.in_ok-probe.probe.visits (rw same at c.keep_left.ensures.kept) (rw first at c.in_ok-probe.ensures.answer) in
-    IfOk-weaker c.keep_left.result _ _ (λ r w. all_answered IsZeroTurn (IsSafe g.I.IntNumber.width) (λ kept. contour_of value kept.items) points r.0 r.1 w c.requires) told
-
-pub returns-clause-in_order : goal.returns-clause-in_order
-returns-clause-in_order g c =
-    let value = g.I.IntNumber.value in
-    let points = contour_of value c.args.contour.now in
-    let first : c.start_of_walk.new.probe.contour ≡ c.args.contour.now = c.start_of_walk.ensures.contour ∙ c.new-probe.ensures.contour in
-    let same : c.in_ok-probe.probe.contour ≡ c.args.contour.now = c.in_ok-probe.ensures.contour ∙ first in
-    let told : Found value c.args.contour.now c.keep_left.result = walk_kept IsZeroTurn points (shown value) (λ r. r.1) c.keep_left.result _ c.in_ok-probe.probe.visits (rw same at c.keep_left.ensures.kept) (rw first at c.in_ok-probe.ensures.answer) in
-    IfOk-weaker c.keep_left.result _ _ (λ r w. in_order_answered IsZeroTurn (λ kept. contour_of value kept.items) points r.0 r.1 w) told
+    let found : Found value c.args.contour.now c.keep_left.result = walk_kept IsZeroTurn points (shown value) (λ r. r.1) c.keep_left.result _ c.in_ok-probe.probe.visits (rw same at c.keep_left.ensures.kept) (rw first at c.in_ok-probe.ensures.answer) in
+    unless_memory c.keep_left.result _ (told g.I.IntNumber.width value c.args.contour.now c.keep_left.result c.requires found) c.keep_left.ensures.memory

@@ -4,8 +4,8 @@ use Rattle.std.proofs.lemmas.Result.{err_from_is_err_and}
 use Rattle.i_shape_core.specs.declared.error.ShapeError.TheVariants.{TooManyPoints}
 use Rattle.i_shape.specs.ShapeAnswers.{Survivors}
 use Rattle.i_shape.specs.Buffers.{contours_in}
-use Rattle.i_shape.proofs.Surviving.{survivors_stay}
-use Rattle.i_shape.proofs.Keeping.{survivors_keep, survivors_safe}
+use Rattle.i_shape.proofs.lists.Surviving.{survivors_stay}
+use Rattle.i_shape.proofs.shapes.Kept.{survivors_keep, survivors_safe}
 use Rattle.i_shape.proofs.flat.buffer.cleaning.clean_contours.Goals as goal
 
 pub returns-then-are_clean-clause-cleaned : goal.returns-then-are_clean-clause-cleaned

@@ -4,7 +4,7 @@ use Rattle.i_shape_core.specs.IntPoint.{contour_of}
 use Rattle.i_shape.specs.ShapeAnswers.{Survivors}
 use Rattle.i_shape.specs.declared.flat.buffer.contours.FlatContoursBuffer.{FlatContoursBuffer}
 use Rattle.i_shape.specs.Flat.{slices}
-use Rattle.i_shape.proofs.ShapesCleaned.{grown_held, held_slices}
+use Rattle.i_shape.proofs.buffers.CleanedShapes.{grown_held, held_slices}
 use Rattle.i_shape.proofs.flat.buffer.cleaning.cleaned_parts.Goals as goal
 
 pub returns-clause-cleaned : goal.returns-clause-cleaned

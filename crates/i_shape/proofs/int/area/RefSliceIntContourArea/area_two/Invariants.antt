@@ -1,6 +1,6 @@
 use Rattle.i_shape.specs.IntPoint.{contour_of}
 use Rattle.i_shape.specs.Edges.{shoelace}
-use Rattle.i_shape.proofs.WrappedSums.{IsSummedUp}
+use Rattle.i_shape.proofs.lists.WrappedSums.{IsSummedUp}
 use Rattle.i_shape.proofs.int.area.RefSliceIntContourArea.area_two.Given as goal
 
 abbrev pub invariant-loop-contour : goal.invariant-loop-contour

@@ -4,8 +4,8 @@ use Rattle.std.specs.Int.{int_wrap}
 use Rattle.std.specs.List.{All}
 use Rattle.i_shape.specs.ShapeLists.{shape_of}
 use Rattle.i_shape.specs.ShapeAnswers.{HasPoints, shape_shoelace}
-use Rattle.i_shape.proofs.Surviving.{mapped-read}
-use Rattle.i_shape.proofs.WrappedSums.{sum-more}
+use Rattle.i_shape.proofs.lists.Surviving.{mapped-read}
+use Rattle.i_shape.proofs.lists.WrappedSums.{sum-more}
 use Rattle.i_shape.proofs.int.area.RefSliceIntShapeArea.area_two.Goals as goal
 
 pub area_two-requires : goal.area_two-requires

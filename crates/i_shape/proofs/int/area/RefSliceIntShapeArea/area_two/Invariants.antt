@@ -1,6 +1,6 @@
 use Rattle.i_shape.specs.ShapeLists.{shape_of}
 use Rattle.i_shape.specs.ShapeAnswers.{shape_shoelace}
-use Rattle.i_shape.proofs.WrappedSums.{IsSummedUp}
+use Rattle.i_shape.proofs.lists.WrappedSums.{IsSummedUp}
 use Rattle.i_shape.proofs.int.area.RefSliceIntShapeArea.area_two.Given as goal
 
 abbrev pub invariant-loop-shape : goal.invariant-loop-shape

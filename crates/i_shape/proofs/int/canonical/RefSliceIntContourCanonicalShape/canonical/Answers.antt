@@ -1,8 +1,10 @@
 use Rattle.i_shape_core.specs.Canonical.{CanonicalAnswer}
 use Rattle.i_shape.specs.ShapeAnswers.{AreKept}
 use Rattle.i_shape.specs.ShapeLists.{shape_of}
-use Rattle.i_shape.proofs.ShapeForms.{canonical_keeps, given_keeps}
+use Rattle.i_shape.proofs.shapes.Forms.{canonical_keeps, shape_form_given}
 use Rattle.i_shape.proofs.int.canonical.RefSliceIntContourCanonicalShape.canonical.Goals as goal
 
-pub returns-clause-kept : goal.returns-clause-kept
-returns-clause-kept g c = given_keeps CanonicalAnswer AreKept canonical_keeps (λ form. shape_of g.I.IntNumber.value form.items) (shape_of g.I.IntNumber.value c.args.self.now.now) c.shape_form.result c.shape_form.ensures.answer
+pub returns : goal.returns
+returns g c =
+    shape_form_given CanonicalAnswer AreKept canonical_keeps g.I.IntNumber.width g.I.IntNumber.value (shape_of g.I.IntNumber.value c.args.self.now.now) c.shape_form.result
+    c.shape_form.ensures.answer c.shape_form.ensures.safe c.shape_form.ensures.memory

@@ -1,8 +1,10 @@
 use Rattle.i_shape_core.specs.Canonical.{UnorientedAnswer}
 use Rattle.i_shape.specs.CanonicalShapes.{AreKeptEitherWay}
 use Rattle.i_shape.specs.ShapeLists.{shapes_of}
-use Rattle.i_shape.proofs.ShapeForms.{unoriented_keeps, given_forms_keep}
+use Rattle.i_shape.proofs.shapes.Forms.{unoriented_keeps, list_form_given}
 use Rattle.i_shape.proofs.int.canonical.RefSliceIntShapeCanonicalShapes.canonical_unoriented.Goals as goal
 
-pub returns-clause-kept : goal.returns-clause-kept
-returns-clause-kept g c = given_forms_keep UnorientedAnswer AreKeptEitherWay unoriented_keeps (λ form. shapes_of g.I.IntNumber.value form.items) (shapes_of g.I.IntNumber.value c.args.self.now.now) c.list_form.result c.list_form.ensures.answer
+pub returns : goal.returns
+returns g c =
+    list_form_given UnorientedAnswer AreKeptEitherWay unoriented_keeps g.I.IntNumber.width g.I.IntNumber.value (shapes_of g.I.IntNumber.value c.args.self.now.now) c.list_form.result
+    c.list_form.ensures.answer c.list_form.ensures.safe c.list_form.ensures.memory

@@ -7,15 +7,15 @@ use Rattle.std.proofs.lemmas.List.Sorted.{IsPermutation-map}
 use Rattle.i_shape_core.specs.declared.point.IntPoint.{IntPoint}
 use Rattle.i_shape_core.specs.IntPoint.{point_of, contour_of}
 use Rattle.i_shape.specs.ShapeLists.{shape_of, shapes_of, IsSafeShape}
-use Rattle.i_shape.proofs.Surviving.{mapped-read, survivors-more}
+use Rattle.i_shape.proofs.lists.Surviving.{mapped-read, survivors-more}
 use Rattle.i_shape.specs.CanonicalShapes.{ShapeForm, IsShapeAtMost}
-use Rattle.i_shape_core.proofs.ContourOrder.{point_cmp, points_told, points_total, contours_told}
-use Rattle.i_shape.proofs.Orders.{shape_told, sorted_pairs}
-use Rattle.i_shape.proofs.ShapeForms.{forms_safe}
+use Rattle.i_shape_core.proofs.forms.ContourOrder.{point_cmp, points_told, points_total, contours_told}
+use Rattle.i_shape.proofs.shapes.SortedOrders.{shape_told, sorted_pairs}
+use Rattle.i_shape.proofs.shapes.Forms.{forms_safe}
 use Rattle.i_shape.proofs.int.canonical.forms.list_form.Goals as goal
 
-pub append_shape-requires : goal.append_shape-requires
-append_shape-requires g c =
+pub push_shape_form-requires : goal.push_shape_form-requires
+push_shape_form-requires g c =
     let value = g.I.IntNumber.value in
     let Safe : List (Vec (IntPoint g.row.I.Denot)) → Type 0 = λ w. IsSafeShape g.I.IntNumber.width (shape_of value w) in
     subst Safe (sym c.as_slice.ensures.value) (mapped-read (λ s. shape_of value s.items) (IsSafeShape g.I.IntNumber.width) c.args.shapes.now c.loop-shape.shape-index c.shape-item.result c.loop-shape-test.true c.shape-item.is c.requires)
@@ -23,7 +23,7 @@ append_shape-requires g c =
 pub loop-shape-preserved : goal.loop-shape-preserved
 loop-shape-preserved g c =
     let value = g.I.IntNumber.value in
-    let step = c.in_ok-append_shape.ensures.ok in
+    let step = c.in_ok-push_shape_form.ensures.ok in
     let Clean : List (Vec (IntPoint g.row.I.Denot)) → Type 0 = λ w. ShapeForm g.C.ContourCleaner.answers (shape_of value w) step.0 in
     rw step.2 (survivors-more (λ s. shape_of value s.items) (ShapeForm g.C.ContourCleaner.answers) c.args.shapes.now c.loop-shape.shape-index c.shape-item.result (shapes_of value c.loop-shape.forms.items) step.0 c.loop-shape-test.true c.shape-item.is c.loop-shape.invariant (subst Clean c.as_slice.ensures.value step.1))
 

@@ -6,7 +6,7 @@ use Rattle.i_shape_core.specs.declared.point.IntPoint.{IntPoint}
 use Rattle.i_shape_core.specs.IntPoint.{contour_of, IsSafe}
 use Rattle.i_shape.specs.ShapeLists.{shape_of, IsSafeShape}
 use Rattle.i_shape.specs.CanonicalShapes.{ShapeForm}
-use Rattle.i_shape.proofs.ShapeForms.{form_safe}
+use Rattle.i_shape.proofs.shapes.Forms.{form_safe}
 use Rattle.i_shape.proofs.int.canonical.forms.shape_form.Goals as goal
 
 pub cleaned-requires : goal.cleaned-requires

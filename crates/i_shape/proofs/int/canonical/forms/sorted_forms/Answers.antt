@@ -5,12 +5,12 @@ use Rattle.i_shape_core.specs.declared.point.IntPoint.{IntPoint}
 use Rattle.std.specs.Cmp.Lexicographic.{slice_cmp}
 use Rattle.std.proofs.lemmas.Cmp.{on_total, lists_total}
 use Rattle.std.proofs.lemmas.List.Sorted.{IsPermutation-map}
-use Rattle.i_shape_core.proofs.ContourOrder.{point_cmp, points_told, points_total, contours_told, contour_told}
-use Rattle.i_shape.proofs.Orders.{sorted_pairs}
+use Rattle.i_shape_core.proofs.forms.ContourOrder.{point_cmp, points_told, points_total, contours_told, contour_told}
+use Rattle.i_shape.proofs.shapes.SortedOrders.{sorted_pairs}
 use Rattle.i_shape_core.specs.IntPoint.{point_of, contour_of, IsSafe}
 use Rattle.i_shape_core.specs.Canonical.{IsAtMost}
 use Rattle.i_shape.specs.ShapeLists.{shape_of}
-use Rattle.i_shape.proofs.Surviving.{mapped-read, survivors-more}
+use Rattle.i_shape.proofs.lists.Surviving.{mapped-read, survivors-more}
 use Rattle.i_shape.proofs.int.canonical.forms.sorted_forms.Goals as goal
 
 pub append_contour-requires : goal.append_contour-requires

@@ -1,5 +1,5 @@
 use Rattle.i_shape.specs.ShapeLists.{shape_of}
-use Rattle.i_shape.proofs.ShapeForms.{canonical_shapes, unoriented_shapes}
+use Rattle.i_shape.proofs.shapes.Forms.{canonical_shapes, unoriented_shapes}
 use Rattle.i_shape.proofs.int.canonical.laws.same_shapes.Goals as goal
 
 pub returns : goal.returns

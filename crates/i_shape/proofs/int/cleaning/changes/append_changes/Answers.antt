@@ -8,8 +8,8 @@ use Rattle.i_shape_core.specs.IntPoint.{contour_of, IsSafe}
 use Rattle.i_shape.specs.ShapeAnswers.{HasPoints, EachContour}
 use Rattle.i_shape.specs.ShapeLists.{shape_of}
 use Rattle.i_shape.specs.Changes.{Edit, edits_of, ComesFor, CleansAside}
-use Rattle.i_shape.proofs.Surviving.{mapped-read}
-use Rattle.i_shape.proofs.CleanedAside.{on_err, read_far, read_more, aside_none, aside_clean, aside_unclean}
+use Rattle.i_shape.proofs.lists.Surviving.{mapped-read}
+use Rattle.i_shape.proofs.in_place.Edits.{on_err, read_far, read_more, aside_none, aside_clean, aside_unclean}
 use Rattle.i_shape.proofs.int.cleaning.changes.append_changes.Goals as goal
 
 pub loop-place-init : goal.loop-place-init

@@ -2,8 +2,8 @@ use Rattle.std.proofs.Common.{refl, sym, ◌∙◌}
 use Rattle.std.proofs.lemmas.List.{take_all}
 use Rattle.i_shape_core.specs.IntPoint.{contour_of}
 use Rattle.i_shape.specs.Changes.{IsLeft}
-use Rattle.i_shape.proofs.Surviving.{mapped-read, mapped-more}
-use Rattle.i_shape.proofs.CleanedAside.{empty_told, points_told}
+use Rattle.i_shape.proofs.lists.Surviving.{mapped-read, mapped-more}
+use Rattle.i_shape.proofs.in_place.Edits.{empty_told, points_told}
 use Rattle.i_shape.proofs.int.cleaning.changes.are_left.Goals as goal
 
 pub returns-then-is_empty : goal.returns-then-is_empty

@@ -7,8 +7,8 @@ use Rattle.i_shape.specs.ShapeAnswers.{EachContour, EachShape}
 use Rattle.i_shape.specs.ShapeLists.{shape_of, shapes_of, IsSafeShape}
 use Rattle.i_shape.specs.declared.int.cleaning.changes.Change.{Change}
 use Rattle.i_shape.specs.Changes.{Edit, edits_of, CleansAside, CleansListAside}
-use Rattle.i_shape.proofs.Surviving.{mapped-read}
-use Rattle.i_shape.proofs.CleanedAside.{on_err, read_far, read_more, list_aside_none, list_aside_more}
+use Rattle.i_shape.proofs.lists.Surviving.{mapped-read}
+use Rattle.i_shape.proofs.in_place.Edits.{on_err, read_far, read_more, list_aside_none, list_aside_more}
 use Rattle.i_shape.proofs.int.cleaning.changes.list_changes.Goals as goal
 
 pub loop-number-init : goal.loop-number-init

@@ -4,7 +4,7 @@ use Rattle.i_shape_core.specs.Point.{Point}
 use Rattle.i_shape_core.specs.IntPoint.{contour_of}
 use Rattle.i_shape.specs.ShapeLists.{shape_of}
 use Rattle.i_shape.specs.Changes.{Edit, edits_of, put_contour, FitsShape, all_put, AllFit}
-use Rattle.i_shape.proofs.CleanedAside.{all_put-append, fit-last}
+use Rattle.i_shape.proofs.in_place.Edits.{all_put-append, fit-last}
 use Rattle.i_shape.proofs.int.cleaning.changes.put_in_shape.Goals as goal
 
 pub index_mut-requires : goal.index_mut-requires

@@ -7,8 +7,8 @@ use Rattle.i_shape_core.specs.Point.{Point}
 use Rattle.i_shape_core.specs.IntPoint.{contour_of}
 use Rattle.i_shape_core.specs.declared.point.IntPoint.{IntPoint}
 use Rattle.i_shape.specs.ShapeLists.{shape_of, shapes_of}
-use Rattle.i_shape.specs.Changes.{has_points, stands}
-use Rattle.i_shape.proofs.CleanedAside.{has_points_told, filter_read, changed_more, changed_all}
+use Rattle.i_shape.specs.Changes.{has_points, keeps_outer}
+use Rattle.i_shape.proofs.in_place.Edits.{has_points_told, filter_read, changed_more, changed_all}
 use Rattle.i_shape.proofs.int.cleaning.changes.take_out_of_list.Goals as goal
 
 pub loop-shape-preserved : goal.loop-shape-preserved
@@ -35,10 +35,10 @@ returns g c =
     let all = c.deref_mut-shape-items.result.now in
     let before : List (List (List Point)) = shapes_of value all in
     let done : length before ≤ c.loop-shape.shape-index = omega (arith, c.loop-shape-test.false, c.loop-shape.auto.shape-items, length-map all (λ s. shape_of value s.items)) in
-    let test : Vec (Vec (IntPoint g.row.I.Denot)) → Bool = λ s. stands (shape_of value s.items) in
+    let test : Vec (Vec (IntPoint g.row.I.Denot)) → Bool = λ s. keeps_outer (shape_of value s.items) in
     let kept : c.retain.new.self.items ≡ filter test c.args.shapes.now.items = filter_same _ test _ (λ x b f' k. search rules) _ _ c.retain.ensures.filtered in
     let same : c.retain.new.self.len ≡ length items = omega (arith, c.retain.new.self.ok.0, c.deref_mut-shape-items.ensures.len, c.loop-shape.auto.shape-items) in
     let whole : take c.retain.new.self.len (items ++ drop (length items) c.retain.new.self.items) ≡ items =
     take-append-le c.retain.new.self.len items (drop (length items) c.retain.new.self.items) (omega (arith, same)) ∙ take_all c.retain.new.self.len items (omega (arith, same)) in
     ap (shapes_of value) whole ∙ changed_all (filter has_points) before (shapes_of value items) c.loop-shape.shape-index done c.loop-shape.invariant
-    ∙ ap (λ w. map (filter has_points) (shapes_of value w)) (c.deref_mut-shape-items.ensures.value ∙ kept) ∙ ap (map (filter has_points)) (filter_read (λ s. shape_of value s.items) stands c.args.shapes.now.items)
+    ∙ ap (λ w. map (filter has_points) (shapes_of value w)) (c.deref_mut-shape-items.ensures.value ∙ kept) ∙ ap (map (filter has_points)) (filter_read (λ s. shape_of value s.items) keeps_outer c.args.shapes.now.items)

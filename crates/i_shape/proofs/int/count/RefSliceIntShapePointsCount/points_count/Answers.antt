@@ -1,7 +1,7 @@
 use Rattle.std.proofs.Common.{arith, vec_len}
 use Rattle.std.proofs.lemmas.Grind.{common_steps}
 use Rattle.std.specs.List.{sum_by}
-use Rattle.i_shape.proofs.WrappedSums.{count-rest}
+use Rattle.i_shape.proofs.lists.WrappedSums.{count-rest}
 use Rattle.i_shape.proofs.int.count.RefSliceIntShapePointsCount.points_count.Goals as goal
 
 pub loop-shape-preserved : goal.loop-shape-preserved

@@ -1,7 +1,7 @@
 use Rattle.std.proofs.Common.{arith, rules, ap}
 use Rattle.i_shape_core.specs.IntPoint.{contour_of}
-use Rattle.i_shape_core.proofs.Contours.{refuted}
-use Rattle.i_shape.proofs.SpikesLeft.{spikeless_stays_in_place, spikes_collapse}
+use Rattle.i_shape_core.proofs.plane.Contours.{refuted_by_test}
+use Rattle.i_shape.proofs.in_place.Spikes.{spikeless_stays_in_place, spikes_collapse}
 use Rattle.i_shape.proofs.int.despike.IntContourDeSpike.remove_spikes.Goals as goal
 
 pub returns-then-has_no_spikes-clause-gives : goal.returns-then-has_no_spikes-clause-gives
@@ -9,7 +9,7 @@ returns-then-has_no_spikes-clause-gives g c = spikeless_stays_in_place (contour_
 
 pub returns-in-None-clause-gives : goal.returns-in-None-clause-gives
 returns-in-None-clause-gives g c = spikes_collapse (contour_of g.I.IntNumber.value c.args.self.now.items) (contour_of g.I.IntNumber.value c.clear.new.self.items)
-    (refuted c.has_no_spikes.result c.has_no_spikes.ensures (λ h. h, λ h. h) c.if-has_no_spikes.false) (rw c.in-None.is at c.in_ok-contour.ensures.answer) (ap (contour_of g.I.IntNumber.value) c.clear.ensures.items)
+    (refuted_by_test c.has_no_spikes.result c.has_no_spikes.ensures (λ h. h, λ h. h) c.if-has_no_spikes.false) (rw c.in-None.is at c.in_ok-contour.ensures.answer).cleaned.answer (ap (contour_of g.I.IntNumber.value) c.clear.ensures.items)
 
 pub returns-in-Some : goal.returns-in-Some
 returns-in-Some g c = grind arith

@@ -3,10 +3,10 @@ use Rattle.std.proofs.lemmas.Grind.{common_steps}
 use Rattle.i_shape_core.specs.IntPoint.{contour_of}
 use Rattle.i_shape_core.specs.Contour.{IsSimple}
 use Rattle.i_shape_core.specs.Cleaners.{SimpleAnswer}
-use Rattle.i_shape_core.proofs.Answered.{itself, collapsed_flat}
-use Rattle.i_shape_core.proofs.Cleaned.{simple_stays}
-use Rattle.i_shape_core.proofs.Contours.{refuted}
-use Rattle.i_shape.proofs.LeftInPlace.{contour_stays, contour_collapses}
+use Rattle.i_shape_core.proofs.answers.Kept.{keeps_itself, collapsed_flat}
+use Rattle.i_shape_core.proofs.walks.Found.{simple_stays}
+use Rattle.i_shape_core.proofs.plane.Contours.{refuted_by_test}
+use Rattle.i_shape.proofs.in_place.Contours.{contour_stays, contour_collapses}
 use Rattle.i_shape.proofs.int.simple.IntContourSimplify.simplify_contour.Goals as goal
 
 pub returns-then-is_simple-clause-gives : goal.returns-then-is_simple-clause-gives
@@ -17,7 +17,7 @@ returns-then-is_simple-clause-gives g c =
 pub returns-in_err-contour-clause-gives : goal.returns-in_err-contour-clause-gives
 returns-in_err-contour-clause-gives g c = record {
   cleans = grind (arith, common_steps);
-  kept = itself _;
+  kept = keeps_itself _;
   short = search rules;
 }
 
@@ -25,6 +25,6 @@ pub returns-in-None-clause-gives : goal.returns-in-None-clause-gives
 returns-in-None-clause-gives g c =
     let value = g.I.IntNumber.value in
     let told = rw c.as_slice.ensures.value at c.is_simple.ensures in
-    let ends = rw (c.in-None.is, c.as_slice-2.ensures.value) at c.in_ok-contour.ensures.answer in
+    let ends = (rw (c.in-None.is, c.as_slice-2.ensures.value) at c.in_ok-contour.ensures.answer).cleaned.answer in
     contour_collapses IsSimple SimpleAnswer (contour_of value c.args.self.now.items) (contour_of value c.clear.new.self.items)
-    (refuted c.is_simple.result told (λ h. h, λ h. h) c.if-is_simple.false) ends (collapsed_flat _ ends) (ap (contour_of value) c.clear.ensures.items)
+    (refuted_by_test c.is_simple.result told (λ h. h, λ h. h) c.if-is_simple.false) ends (collapsed_flat _ ends) (ap (contour_of value) c.clear.ensures.items)

@@ -4,8 +4,8 @@ use Rattle.std.specs.List.{All}
 use Rattle.std.proofs.lemmas.Int.{to_z-of_z}
 use Rattle.i_shape.specs.IntPoint.{point_of, contour_of, IsSafe}
 use Rattle.i_shape.specs.Winding.{winding}
-use Rattle.i_shape.proofs.Surviving.{mapped-read}
-use Rattle.i_shape.proofs.WrappedSums.{fits-twice, far-fits, far-more}
+use Rattle.i_shape.proofs.lists.Surviving.{mapped-read}
+use Rattle.i_shape.proofs.lists.WrappedSums.{fits-twice, far-fits, far-more}
 use Rattle.i_shape.proofs.int.winding.RefSliceIntContourShapeExtension.winding_number.Goals as goal
 
 pub winding_about-requires-clause-points_safe : goal.winding_about-requires-clause-points_safe

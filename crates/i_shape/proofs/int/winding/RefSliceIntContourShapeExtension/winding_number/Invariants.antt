@@ -1,6 +1,6 @@
 use Rattle.i_shape.specs.IntPoint.{point_of, contour_of}
 use Rattle.i_shape.specs.Winding.{winding}
-use Rattle.i_shape.proofs.WrappedSums.{IsSummedFar}
+use Rattle.i_shape.proofs.lists.WrappedSums.{IsSummedFar}
 use Rattle.i_shape.proofs.int.winding.RefSliceIntContourShapeExtension.winding_number.Given as goal
 
 abbrev pub invariant-loop-contour : goal.invariant-loop-contour

@@ -1,6 +1,6 @@
 use Rattle.std.proofs.Common.{refl}
 use Rattle.std.specs.Int.{w32, w64}
-use Rattle.i_shape_core.proofs.Products.{products-told}
+use Rattle.i_shape_core.proofs.arithmetic.Products.{products-told}
 use Rattle.i_shape_core.proofs.number.coordinate.I32IntNumber.are_products_equal.Goals as goal
 
 pub returns : goal.returns

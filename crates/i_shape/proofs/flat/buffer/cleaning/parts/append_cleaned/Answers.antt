@@ -1,5 +1,5 @@
 use Rattle.std.proofs.Common.{◌∙◌, ◌+◌, ◌<◌, ◌≤◌, length, refl, arith}
-use Rattle.i_shape.proofs.WrittenBehind.{written_behind, behind_length, collapse_appended, left_appended}
+use Rattle.i_shape.proofs.buffers.WrittenBehind.{written_behind, behind_length, collapse_appended, left_appended}
 use Rattle.i_shape.proofs.flat.buffer.cleaning.parts.append_cleaned.Goals as goal
 
 pub returns-then-count-eq0-clause-ok : goal.returns-then-count-eq0-clause-ok

@@ -6,10 +6,10 @@ use Rattle.std.proofs.lemmas.List.{get_or_default, map-append}
 use Rattle.i_shape_core.specs.IntPoint.{contour_of, IsSafe}
 use Rattle.i_shape_core.specs.declared.point.IntPoint.{IntPoint}
 use Rattle.i_shape.specs.ShapeAnswers.{Survivors}
-use Rattle.i_shape.proofs.CompactLaws.{contour_at, contour-read, contours-all, map-option_to_list}
-use Rattle.i_shape.proofs.Surviving.{survivors-more}
+use Rattle.i_shape.proofs.buffers.CleanedContours.{contour_at, contour-read, contours-all, map-option_to_list}
+use Rattle.i_shape.proofs.lists.Surviving.{survivors-more}
 use Rattle.i_shape.specs.Buffers.{contours_of}
-use Rattle.i_shape.proofs.ShapesCleaned.{grows_chain}
+use Rattle.i_shape.proofs.buffers.CleanedShapes.{grows_chain}
 use Rattle.i_shape.proofs.flat.buffer.cleaning.parts.append_parts.Goals as goal
 
 pub append_cleaned-requires : goal.append_cleaned-requires

@@ -1,6 +1,6 @@
 use Rattle.std.proofs.Common.{map, take}
 use Rattle.std.specs.List.{All}
-use Rattle.i_shape.proofs.CompactLaws.{contour_at}
+use Rattle.i_shape.proofs.buffers.CleanedContours.{contour_at}
 use Rattle.i_shape.proofs.flat.buffer.cleaning.parts.are_clean.Given as goal
 
 abbrev pub invariant-loop-range : goal.invariant-loop-range

@@ -1,7 +1,7 @@
 use Rattle.std.proofs.Common.{rules, refl, IsTrue}
 use Rattle.std.specs.List.{All}
 use Rattle.i_shape_core.specs.IntPoint.{IsSafe}
-use Rattle.i_shape.proofs.ShapesCleaned.{shape-read, shapes-more, shapes-all}
+use Rattle.i_shape.proofs.buffers.CleanedShapes.{shape-read, shapes-more, shapes-all}
 use Rattle.i_shape.proofs.flat.buffer.cleaning.shapes.are_clean_shapes.Goals as goal
 
 pub are_clean-requires-clause-safe : goal.are_clean-requires-clause-safe

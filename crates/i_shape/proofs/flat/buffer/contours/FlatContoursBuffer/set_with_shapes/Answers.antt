@@ -1,5 +1,5 @@
 use Rattle.std.proofs.Common.{rules}
-use Rattle.i_shape.proofs.ContoursHeld.{HoldsContours-appended}
+use Rattle.i_shape.proofs.buffers.Contours.{HoldsContours-appended}
 use Rattle.i_shape.proofs.flat.buffer.contours.FlatContoursBuffer.set_with_shapes.Goals as goal
 
 pub returns-clause-ok : goal.returns-clause-ok

@@ -1,6 +1,6 @@
 use Rattle.std.proofs.Common.{rules, refl, ◌∙◌}
-use Rattle.i_shape.proofs.EndToEnd.{as_contours}
-use Rattle.i_shape.proofs.ShapesHeld.{AddsShape-from_lists}
+use Rattle.i_shape.proofs.lists.EndToEnd.{as_contours}
+use Rattle.i_shape.proofs.buffers.Shapes.{AddsShape-from_lists}
 use Rattle.i_shape.proofs.flat.buffer.shapes.FlatShapesBuffer.add_shape.Goals as goal
 
 pub returns-clause-ok : goal.returns-clause-ok

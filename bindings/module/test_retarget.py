@@ -1,0 +1,200 @@
+#!/usr/bin/env python3
+"""Tests what turns the LLVM module for x86-64 Linux into one for another machine, on a small module: the right one passes and compiles, and one with something that
+isn't known stops the script, by name.
+
+usage: test_retarget.py wasm|windows
+
+The last line is 'tests of retarget.py: N passed, M failed'.
+"""
+import os
+import subprocess
+import sys
+import tempfile
+
+BINDINGS = os.path.dirname(os.path.dirname(os.path.realpath(__file__)))
+WASM = os.path.join(BINDINGS, "js", "wasm")
+WINDOWS = os.path.join(BINDINGS, "c", "windows")
+MODULE = """\
+; ModuleID = 'module.bc'
+source_filename = "rattle"
+target datalayout = "e-m:e-p270:32:32-p271:32:32-p272:64:64-i64:64-i128:128-f80:128-n8:16:32:64-S128"
+target triple = "x86_64-unknown-linux-gnu"
+
+@static.0 = private unnamed_addr constant [1 x i8] c"\\01", align 1
+
+; Function Attrs: nounwind
+define internal noundef i64 @"toy::kept"(ptr noundef %a0, i64 noundef %a1) #0 {
+start:
+  %r0 = alloca ptr, align 8
+  %r1 = alloca i64, align 8
+  store ptr %a0, ptr %r0, align 8
+  %v0 = call { ptr, i64 } @"toy::pair"(ptr %r0, i64 %a1)
+  %v1 = extractvalue { ptr, i64 } %v0, 0
+  %v2 = extractvalue { ptr, i64 } %v0, 1
+  %v3 = icmp ult i64 %v2, %a1
+  br i1 %v3, label %then.0, label %else.0
+
+then.0:                                           ; preds = %start
+  call void @llvm.memset.p0.i64(ptr %v1, i8 0, i64 %v2, i1 false)
+  ret i64 %v2
+
+else.0:                                           ; preds = %start
+  call void @llvm.trap()
+  unreachable
+}
+
+; Function Attrs: nounwind
+define internal { ptr, i64 } @"toy::pair"(ptr noundef %a0, i64 noundef %a1) #0 {
+start:
+  %v0 = load ptr, ptr %a0, align 8
+  %v1 = load { ptr, i64 }, ptr %v0, align 8
+  ret { ptr, i64 } %v1
+}
+
+; Function Attrs: nounwind
+define internal i64 @"toy::held"(i64 noundef %a0, ptr noundef %a1) #0 {
+start:
+  %v0 = call { i64, i64 } @rattle_alloc(i64 %a0, i64 8)
+  %v1 = call { i64, i64 } @rattle_realloc(ptr %a1, i64 %a0, i64 %a0, i64 8)
+  %v2 = extractvalue { i64, i64 } %v0, 0
+  call void @rattle_dealloc(ptr %a1)
+  ret i64 %v2
+}
+
+; Function Attrs: nounwind
+define noundef i64 @toy_kept(ptr noundef %a0, i64 noundef %a1) #0 {
+start:
+  %v0 = call i64 @"toy::kept"(ptr %a0, i64 %a1)
+  %v1 = call i64 @"toy::held"(i64 %v0, ptr %a0)
+  ret i64 %v1
+}
+
+; Function Attrs: nounwind
+define noundef zeroext i1 @toy_narrow(i16 noundef signext %a0) #0 {
+start:
+  %v0 = icmp eq i16 %a0, 7
+  ret i1 %v0
+}
+
+; Function Attrs: nobuiltin nounwind
+declare { i64, i64 } @rattle_realloc(ptr noundef, i64 noundef, i64 noundef, i64 noundef) #3
+
+; Function Attrs: nobuiltin nounwind
+declare { i64, i64 } @rattle_alloc(i64 noundef, i64 noundef) #3
+
+; Function Attrs: nobuiltin nounwind
+declare void @rattle_dealloc(ptr noundef) #3
+
+; Function Attrs: nocallback nofree nounwind willreturn memory(argmem: write)
+declare void @llvm.memset.p0.i64(ptr writeonly captures(none), i8, i64, i1 immarg) #1
+
+; Function Attrs: cold noreturn nounwind memory(inaccessiblemem: write)
+declare void @llvm.trap() #2
+
+attributes #0 = { nounwind "probe-stack"="inline-asm" "stack-probe-size"="3072" "target-cpu"="x86-64-v2" }
+attributes #1 = { nocallback nofree nounwind willreturn memory(argmem: write) }
+attributes #2 = { cold noreturn nounwind memory(inaccessiblemem: write) }
+attributes #3 = { nobuiltin nounwind }
+
+!llvm.ident = !{!0}
+
+!0 = !{!"rattle logic=0"}
+"""
+FIRST = "  %v3 = icmp ult i64 %v2, %a1\n"
+
+# What each script stops at: its name, the text that the module has, and what stands there in its place.
+UNKNOWN = [
+    ("another target", "x86_64-unknown-linux-gnu", "aarch64-unknown-linux-gnu"),
+    ("another layout", "e-m:e-p270", "e-m:o-p270"),
+    ("a function of C", "declare void @llvm.trap()", "declare void @malloc()"),
+    ("an operation of one processor", "declare void @llvm.trap()", "declare void @llvm.x86.sse2.pause()"),
+    ("assembly", FIRST, FIRST + '  call void asm sideeffect "nop", ""()\n'),
+    ("assembly of the module", "source_filename", 'module asm "nop"\nsource_filename'),
+    ("a float of one processor", FIRST, FIRST + "  %f = load x86_fp80, ptr %r0, align 16\n"),
+    ("a float", FIRST, FIRST + "  %f = load double, ptr %r0, align 8\n"),
+    ("a vector operation", FIRST, FIRST + "  %f = shufflevector <2 x i64> %a, <2 x i64> %b, <2 x i32> zeroinitializer\n"),
+    ("a phi", FIRST, FIRST + "  %f = phi i64 [ 0, %start ]\n"),
+    ("an atomic operation", FIRST, FIRST + "  fence seq_cst\n"),
+    ("an argument on the stack", "i64 @toy_kept(ptr noundef", "i64 @toy_kept(ptr byval(i64) noundef"),
+    ("another calling convention", "define noundef i64 @toy_kept", "define fastcc noundef i64 @toy_kept"),
+    ("features of a processor", '"target-cpu"="x86-64-v2"', '"target-cpu"="x86-64-v2" "target-features"="+avx2"'),
+    ("a variable", "@static.0 = private unnamed_addr constant", "@static.0 = internal global"),
+    ("a thread's variable", "@static.0 = private unnamed_addr constant", "@static.0 = private thread_local unnamed_addr constant"),
+]
+# What that for WebAssembly stops at besides, for its test of the stack.
+UNKNOWN_FRAMES = [
+    ("an alloca behind the first block", "then.0:                                           ; preds = %start\n", "then.0:\n  %r9 = alloca i64, align 8\n"),
+    ("a function that begins otherwise", 'i64 noundef %a1) #0 {\nstart:\n  %r0', 'i64 noundef %a1) #0 {\nbegin:\n  %r0'),
+]
+# What narrow.py stops at, of what retarget.py lets through.
+UNKNOWN_POINTERS = [
+    ("an order of pointers", FIRST, FIRST + "  %f = icmp ult ptr %a0, %v1\n"),
+    ("a triple with a pointer in memory", FIRST, FIRST + "  %f = load { i64, ptr, i64 }, ptr %r0, align 8\n"),
+    ("a slot for two pointers", "  %r1 = alloca i64, align 8\n", "  %r1 = alloca [2 x ptr], align 8\n"),
+    ("a step by another type", FIRST, FIRST + "  %f = getelementptr ptr, ptr %a0, i64 1\n"),
+    ("a choice of pointers", FIRST, FIRST + "  %f = select i1 %v3, ptr %a0, ptr %v1\n"),
+]
+
+
+# What that for Windows stops at besides, since it is passed there in another way.
+UNKNOWN_CALLS = [
+    ("an exported function that is passed a struct", "@toy_kept(ptr noundef %a0, i64", "@toy_kept(ptr noundef %a0, { i64, i64 }"),
+    ("an exported function that is passed a number of 128 bits", "@toy_kept(ptr noundef %a0, i64", "@toy_kept(ptr noundef %a0, i128"),
+    ("an exported function that answers a pair", "define noundef i64 @toy_kept", "define { i64, i64 } @toy_kept"),
+    ("an allocator that answers another pair", "declare { i64, i64 } @rattle_alloc", "declare { i64, ptr } @rattle_alloc"),
+    ("an allocator that is passed more", "@rattle_alloc(i64 noundef,", "@rattle_alloc(ptr noundef, i64 noundef,"),
+]
+
+# The scripts that a module goes through, each with what it stops at, and how clang is told to compile what each writes.
+STEPS = {
+    "wasm": [
+        (os.path.join(WASM, "retarget.py"), UNKNOWN + UNKNOWN_FRAMES, [os.path.join(WASM, "compile.sh"), "64"]),
+        (os.path.join(WASM, "narrow.py"), UNKNOWN_POINTERS, [os.path.join(WASM, "compile.sh"), "32"]),
+    ],
+    "windows": [(os.path.join(WINDOWS, "retarget.py"), UNKNOWN + UNKNOWN_CALLS, [os.path.join(WINDOWS, "compile.sh")])],
+}
+
+
+def write_module(text, folder):
+    with open(os.path.join(folder, "0.ll"), "w", encoding="utf-8") as module:
+        module.write(text)
+
+
+def stopped_by(steps, text, folder):
+    """The script that a module stops, or nothing. A script that fails in another way answers what it says."""
+    write_module(text, folder)
+    for place, (script, _, _) in enumerate(steps):
+        words = [sys.executable, script, *(os.path.join(folder, f"{number}.ll") for number in (place, place + 1))]
+        ran = subprocess.run(words, capture_output=True, text=True, check=False)
+        if ran.returncode:
+            is_told = ran.stderr.startswith(f"{os.path.basename(script)}: ") and ran.returncode == 1
+            return script if is_told else f"{script} failed: {ran.stderr}"
+    return None
+
+
+def compiles(steps, folder):
+    """Whether the kit's clang takes what each script has written of the last module."""
+    words = [["sh", *how, "-O1", "-x", "ir", os.path.join(folder, f"{place}.ll"), "-o", os.devnull] for place, (_, _, how) in enumerate(steps, 1)]
+    return all(subprocess.run(each, check=False).returncode == 0 for each in words)
+
+
+def main():
+    steps = STEPS[sys.argv[1]]
+    rows = []
+    with tempfile.TemporaryDirectory() as folder:
+        rows.append(("the module", stopped_by(steps, MODULE, folder) is None and compiles(steps, folder)))
+        if steps is STEPS["windows"]:
+            with open(os.path.join(folder, "1.ll"), encoding="utf-8") as module:
+                rows.append(("what is known of a narrow number", "@toy_narrow(i16 noundef %a0)" in module.read()))
+        for script, unknown, _ in steps:
+            for name, old, new in unknown:
+                rows.append((name, old in MODULE and stopped_by(steps, MODULE.replace(old, new, 1), folder) == script))
+    failed = [name for name, is_right in rows if not is_right]
+    if failed:
+        print(f"it is done otherwise: {', '.join(failed)}")
+    print(f"tests of retarget.py: {len(rows) - len(failed)} passed, {len(failed)} failed")
+    return 1 if failed else 0
+
+
+if __name__ == "__main__":
+    sys.exit(main())

@@ -1,0 +1,224 @@
+"""Keys of rings and of polygons: bytes that are equal where forms are.
+
+A key holds whole numbers of 64 bits, the low byte first, so keys of arrays
+of any dtype can be compared. That of a ring is the points of its form; that
+of a polygon is how many rings its form has, and for each ring how many
+points, and these. Nothing is left of what collapses, and its key is empty.
+"""
+
+from __future__ import annotations
+
+from typing import Any, Optional, Sequence, Tuple, TypeVar, Union
+
+import numpy as np
+import numpy.typing as npt
+
+from ._library import Array
+from ._polygons import Given, given_polygons
+from ._rings import Rings, canonical_cleaner, canonical_rings, clean_rings
+
+Int = TypeVar("Int", np.int16, np.int32, np.int64)
+Pair = Union[Rings, Tuple[npt.NDArray[Any], npt.ArrayLike]]
+
+_WORD = np.dtype("<i8")
+_BLOCK = 1 << 16  # polygons
+
+
+def _cut(words: Array, ends: Array) -> list[bytes]:
+    """The bytes of the words between one end and the next."""
+    whole = words.tobytes()
+    places = (ends * _WORD.itemsize).tolist()
+    return [whole[a:b] for a, b in zip(places, places[1:])]
+
+
+def _keys_of_rings(forms: Rings) -> list[bytes]:
+    return _cut(forms.points.astype(_WORD), 2 * forms.offsets)
+
+
+def _picked(points: Array, offsets: Array, rings: Array) -> Rings:
+    """These of the rings, in this order."""
+    starts, sizes = offsets[rings], np.diff(offsets)[rings]
+    ends = np.zeros(len(rings) + 1, np.int64)
+    np.cumsum(sizes, out=ends[1:])
+    rows = np.arange(ends[-1]) + np.repeat(starts - ends[:-1], sizes)
+    return Rings(points[rows], ends)
+
+
+def _sort_holes(forms: Rings, rings: Array, firsts: Array,
+                counts: Array) -> None:
+    """Put the holes of each polygon in an order that their forms decide.
+
+    ``rings`` are those of the polygons, end to end: polygon k has
+    ``counts[k]`` of them from the place ``firsts[k]`` on.
+    """
+    several = np.flatnonzero(counts > 2)
+    if not len(several):
+        return
+    keys = _keys_of_rings(forms)
+    for first, count in zip(firsts[several].tolist(),
+                            counts[several].tolist()):
+        holes = rings[first + 1:first + count]
+        holes[:] = sorted(holes.tolist(), key=keys.__getitem__)
+
+
+def _keys_of_forms(forms: Rings, parts: Array) -> list[bytes]:
+    """The keys of polygons whose rings have these forms."""
+    is_left = np.diff(forms.offsets) > 0
+    has_rings = parts[1:] > parts[:-1]
+    collapses = np.zeros(len(has_rings), np.bool_)
+    collapses[has_rings] = ~is_left[parts[:-1][has_rings]]
+    polygon_of = np.repeat(np.arange(len(has_rings)), np.diff(parts))
+    is_left &= ~collapses[polygon_of]
+    rings, polygon_of = np.flatnonzero(is_left), polygon_of[is_left]
+    counts = np.bincount(polygon_of, minlength=len(has_rings))
+    _sort_holes(forms, rings, np.cumsum(counts) - counts, counts)
+    points, offsets = _picked(*forms, rings)
+    # Before each polygon that doesn't collapse its word, and before each
+    # ring one.
+    words_before = np.cumsum(~collapses)
+    ring_words = (words_before[polygon_of] + np.arange(len(rings))
+                  + 2 * offsets[:-1])
+    ends = np.zeros(len(has_rings) + 1, np.int64)
+    rings_before = np.cumsum(counts)
+    ends[1:] = words_before + rings_before + 2 * offsets[rings_before]
+    words = np.empty(int(ends[-1]), _WORD)
+    is_point = np.ones(len(words), np.bool_)
+    polygon_words = ends[:-1][~collapses]
+    is_point[polygon_words] = is_point[ring_words] = False
+    words[polygon_words] = counts[~collapses]
+    words[ring_words] = np.diff(offsets)
+    words[is_point] = points.ravel()
+    return _cut(words, ends)
+
+
+def _keys_of_polygons(given: Given, oriented: bool,
+                      threads: Any) -> list[bytes]:
+    points, offsets = clean_rings(
+        canonical_cleaner(oriented), given.points, given.rings, threads,
+        "ring_offsets", given.before)
+    keys: list[bytes] = []
+    # One block after another takes less memory.
+    for start in range(0, len(given.parts) - 1, _BLOCK):
+        parts = given.parts[start:start + _BLOCK + 1]
+        ends = offsets[parts[0]:parts[-1] + 1]
+        forms = Rings(points[ends[0]:ends[-1]], ends - ends[0])
+        keys += _keys_of_forms(forms, parts - parts[0])
+    return keys
+
+
+def _as_array(keys: Sequence[bytes]) -> npt.NDArray[np.object_]:
+    array = np.empty(len(keys), object)
+    array[:] = keys
+    return array
+
+
+def canonical_keys(points: npt.NDArray[Int], ring_offsets: npt.ArrayLike,
+                   polygon_offsets: Optional[npt.ArrayLike] = None,
+                   oriented: bool = True,
+                   threads: int = 1) -> npt.NDArray[np.object_]:
+    """Return a key of each ring, or of each polygon.
+
+    Two keys are equal where the canonical forms are: of rings those of
+    :func:`canonical_rings`, and of polygons those that
+    :func:`canonical_polygons` answers of each alone. So a dictionary, a set,
+    ``numpy.unique``, pandas or a table of a database finds equal ones among
+    many. The dtypes of ``points`` may differ from call to call.
+
+    Parameters
+    ----------
+    points : array of shape (n, 2), int16, int32 or int64
+    ring_offsets : array of shape (m + 1,), of whole numbers
+        As for :func:`simplify_rings`.
+    polygon_offsets : array of shape (p + 1,), of whole numbers, or None
+        As for :func:`simplify_polygons`. None asks for the keys of the
+        rings.
+    oriented : bool
+        False lets each ring be read backwards too, as for
+        :func:`canonical`.
+    threads : int
+        How many threads make the forms of a part of the rings each, at most
+        as many as there are processors. The answer is the same.
+
+    Returns
+    -------
+    array of shape (m,) or (p,) and dtype object
+        In order, each of type ``bytes``. It is empty where the ring, or the
+        outer ring of the polygon, collapses; that of a polygon without
+        rings isn't. What else stands in a key may differ between versions.
+
+    Raises
+    ------
+    OffsetsError, UnsafePointError, TypeError, ValueError, MemoryError
+        As :func:`simplify_rings` and :func:`simplify_polygons` do.
+
+    See also
+    --------
+    same_rings : which rings of one list are those of another.
+
+    Examples
+    --------
+    >>> import numpy as np
+    >>> from i_shape import canonical_keys
+    >>> points = np.array([(0, 0), (4, 0), (4, 4),
+    ...                    (4, 4), (0, 0), (2, 0), (4, 0),
+    ...                    (0, 0), (9, 0), (0, 9)])
+    >>> keys = canonical_keys(points, [0, 3, 7, 10])
+    >>> keys[0] == keys[1], keys[0] == keys[2]
+    (True, False)
+    >>> _, first, group = np.unique(keys, return_index=True,
+    ...                             return_inverse=True)
+    >>> first[group].tolist()
+    [0, 0, 2]
+    """
+    if polygon_offsets is None:
+        keys = _keys_of_rings(
+            canonical_rings(points, ring_offsets, threads, oriented))
+    else:
+        given = given_polygons(points, ring_offsets, polygon_offsets)
+        keys = _keys_of_polygons(given, oriented, threads)
+    return _as_array(keys)
+
+
+def same_rings(a: Pair, b: Pair, oriented: bool = True,
+               threads: int = 1) -> npt.NDArray[np.intp]:
+    """Return for each ring of one list where the same ring is in another.
+
+    Rings are the same where their canonical forms are equal, of which
+    :func:`canonical_rings` tells. Nothing is left of a ring that collapses,
+    so all these are the same.
+
+    Parameters
+    ----------
+    a, b : Rings, or a tuple (points, offsets)
+        As for :func:`simplify_rings`. Their dtypes may differ.
+    oriented : bool
+        False lets a ring be read backwards too.
+    threads : int
+        As for :func:`canonical_keys`.
+
+    Returns
+    -------
+    array of shape (m,) and dtype intp
+        For each of the m rings of ``a``, in order, the least number of a
+        ring of ``b`` that is the same, and -1 where none is.
+
+    Raises
+    ------
+    OffsetsError, UnsafePointError, TypeError, ValueError, MemoryError
+        As :func:`simplify_rings` does.
+
+    Examples
+    --------
+    >>> import numpy as np
+    >>> from i_shape import same_rings
+    >>> a = np.array([(0, 0), (4, 0), (4, 4), (0, 0), (9, 0), (0, 9)])
+    >>> b = np.array([(1, 0), (4, 0), (4, 4), (4, 4), (0, 0), (2, 0), (4, 0)])
+    >>> same_rings((a, [0, 3, 6]), (b, [0, 3, 7])).tolist()
+    [1, -1]
+    """
+    ours, theirs = (
+        _keys_of_rings(canonical_rings(*rings, threads, oriented))
+        for rings in (a, b))
+    place = {key: k for k, key in reversed(list(enumerate(theirs)))}
+    return np.fromiter((place.get(key, -1) for key in ours), np.intp,
+                       len(ours))

@@ -1,0 +1,291 @@
+"""Tests and areas of many rings, and areas of polygons."""
+
+from __future__ import annotations
+
+from typing import Any, TypeVar
+
+import numpy as np
+import numpy.typing as npt
+
+from ._library import (CALLS, Array, address, as_offsets, as_parts, as_points,
+                       raise_offsets, run_parts)
+from ._polygons import given_polygons
+from ._rings import equal_cuts, raise_codes
+
+Int = TypeVar("Int", np.int16, np.int32, np.int64)
+
+# What the library writes of an area, by the size of a coordinate in bytes.
+_AREAS: dict[int, Any] = {
+    2: np.int32,
+    4: np.int64,
+    8: np.dtype([("low", np.uint64), ("high", np.int64)]),
+}
+
+
+def _measure_rings(call: Any, points: Array, offsets: Array, item: Any,
+                   threads: Any, name: str = "offsets",
+                   before: int = 0) -> Array:
+    """What a call writes of each ring.
+
+    An error calls the offsets by ``name``, and counts them and the rings
+    from ``before`` on.
+    """
+    parts = as_parts(threads, len(offsets) - 1)
+    if parts > 1 and (offsets[1:] < offsets[:-1]).any():
+        raise_offsets(offsets, len(points), name, before=before)
+    cuts = [0, len(offsets) - 1] if parts == 1 else equal_cuts(offsets, parts)
+    out = np.empty(len(offsets) - 1, item)
+
+    def measure(part: int) -> int:
+        start, end = cuts[part:part + 2]
+        its, items = offsets[start:end + 1], out[start:end]
+        code: int = call(address(points), len(points), address(its), len(its),
+                         address(items), len(items))
+        return code
+
+    raise_codes(run_parts(measure, parts), points, offsets, name, before)
+    return out
+
+
+def _test_rings(test: str, points: Any, offsets: Any,
+                threads: Any) -> npt.NDArray[np.bool_]:
+    points = as_points(points)
+    return _measure_rings(CALLS[points.itemsize].test_many[test], points,
+                          as_offsets(offsets), np.bool_, threads)
+
+
+def is_simple_rings(points: npt.NDArray[Int], offsets: npt.ArrayLike,
+                    threads: int = 1) -> npt.NDArray[np.bool_]:
+    """Return which rings have three points or more and no zero turn.
+
+    Parameters
+    ----------
+    points : array of shape (n, 2), int16, int32 or int64
+    offsets : array of shape (m + 1,), of whole numbers
+        As for :func:`simplify_rings`.
+    threads : int
+        How many threads test a part of the rings each, at most as many as
+        there are processors. The answer is the same.
+
+    Returns
+    -------
+    array of shape (m,) and dtype bool
+        For each ring what :func:`is_simple` answers, in order.
+
+    Raises
+    ------
+    OffsetsError, UnsafePointError, TypeError, ValueError
+        As :func:`simplify_rings` does.
+    MemoryError
+        There is none for the answer.
+
+    Examples
+    --------
+    >>> import numpy as np
+    >>> from i_shape import is_simple_rings
+    >>> points = np.array([(0, 0), (4, 0), (4, 4),
+    ...                    (0, 0), (2, 0), (4, 0), (4, 4)])
+    >>> is_simple_rings(points, [0, 3, 7]).tolist()
+    [True, False]
+    """
+    return _test_rings("is_simple", points, offsets, threads)
+
+
+def has_no_spikes_rings(points: npt.NDArray[Int], offsets: npt.ArrayLike,
+                        threads: int = 1) -> npt.NDArray[np.bool_]:
+    """Return on which rings the way nowhere turns back.
+
+    Parameters
+    ----------
+    points : array of shape (n, 2), int16, int32 or int64
+    offsets : array of shape (m + 1,), of whole numbers
+    threads : int
+        As for :func:`is_simple_rings`.
+
+    Returns
+    -------
+    array of shape (m,) and dtype bool
+        For each ring what :func:`has_no_spikes` answers, in order.
+
+    Raises
+    ------
+    OffsetsError, UnsafePointError, TypeError, ValueError, MemoryError
+        As :func:`is_simple_rings` does.
+
+    Examples
+    --------
+    >>> import numpy as np
+    >>> from i_shape import has_no_spikes_rings
+    >>> points = np.array([(0, 0), (4, 0), (4, 4),
+    ...                    (0, 0), (4, 0), (4, 4), (4, 9), (4, 4)])
+    >>> has_no_spikes_rings(points, [0, 3, 8]).tolist()
+    [True, False]
+    """
+    return _test_rings("has_no_spikes", points, offsets, threads)
+
+
+def is_convex_rings(points: npt.NDArray[Int], offsets: npt.ArrayLike,
+                    threads: int = 1) -> npt.NDArray[np.bool_]:
+    """Return on which rings the way nowhere turns back nor bends both ways.
+
+    Parameters
+    ----------
+    points : array of shape (n, 2), int16, int32 or int64
+    offsets : array of shape (m + 1,), of whole numbers
+    threads : int
+        As for :func:`is_simple_rings`.
+
+    Returns
+    -------
+    array of shape (m,) and dtype bool
+        For each ring what :func:`is_convex` answers, in order.
+
+    Raises
+    ------
+    OffsetsError, UnsafePointError, TypeError, ValueError, MemoryError
+        As :func:`is_simple_rings` does.
+
+    Examples
+    --------
+    >>> import numpy as np
+    >>> from i_shape import is_convex_rings
+    >>> points = np.array([(0, 0), (4, 0), (4, 4),
+    ...                    (0, 0), (4, 0), (4, 4), (3, 1)])
+    >>> is_convex_rings(points, [0, 3, 7]).tolist()
+    [True, False]
+    """
+    return _test_rings("is_convex", points, offsets, threads)
+
+
+def is_safe_rings(points: npt.NDArray[Int], offsets: npt.ArrayLike,
+                  threads: int = 1) -> npt.NDArray[np.bool_]:
+    """Return of which rings each point is safe, as the other calls ask for.
+
+    Parameters
+    ----------
+    points : array of shape (n, 2), int16, int32 or int64
+    offsets : array of shape (m + 1,), of whole numbers
+    threads : int
+        As for :func:`is_simple_rings`, but points of any coordinates.
+
+    Returns
+    -------
+    array of shape (m,) and dtype bool
+        For each ring what :func:`is_safe` answers, in order.
+
+    Raises
+    ------
+    OffsetsError, TypeError, ValueError, MemoryError
+        As :func:`is_simple_rings` does.
+
+    Examples
+    --------
+    >>> import numpy as np
+    >>> from i_shape import is_safe_rings
+    >>> points = np.array([(0, 0), (2**14, 0), (4, 4)], "int16")
+    >>> is_safe_rings(points, [0, 1, 3]).tolist()
+    [True, False]
+    """
+    return _test_rings("is_safe", points, offsets, threads)
+
+
+def _areas(points: Any, offsets: Array, threads: Any, name: str = "offsets",
+           before: int = 0) -> Array:
+    """Twice the area of each ring, of 128 bits as whole numbers of Python."""
+    points = as_points(points)
+    areas = _measure_rings(CALLS[points.itemsize].areas, points, offsets,
+                           _AREAS[points.itemsize], threads, name, before)
+    if areas.dtype.names is None:
+        return areas
+    high: Array = areas["high"].astype(object)
+    return high * 2**64 + areas["low"]
+
+
+def area_two_rings(points: npt.NDArray[Int], offsets: npt.ArrayLike,
+                   threads: int = 1) -> npt.NDArray[Any]:
+    """Return twice the signed area of each ring.
+
+    Parameters
+    ----------
+    points : array of shape (n, 2), int16, int32 or int64
+        As for :func:`simplify_rings`, but of any coordinates: no safe range
+        is asked.
+    offsets : array of shape (m + 1,), of whole numbers
+    threads : int
+        As for :func:`is_simple_rings`.
+
+    Returns
+    -------
+    array of shape (m,)
+        For each ring what :func:`area_two` answers, in order, and 0 where
+        the ring has no point. The dtype is int32 for points of int16, int64
+        for int32, and object for int64: numbers of Python, since an area
+        may take 128 bits. A sum that doesn't fit so many bits wraps.
+
+    Raises
+    ------
+    OffsetsError, TypeError, ValueError, MemoryError
+        As :func:`is_simple_rings` does.
+
+    Examples
+    --------
+    >>> import numpy as np
+    >>> from i_shape import area_two_rings
+    >>> points = np.array([(0, 0), (4, 0), (4, 4), (0, 4),
+    ...                    (0, 0), (0, 3), (3, 0)], "int32")
+    >>> area_two_rings(points, [0, 4, 4, 7]).tolist()
+    [32, 0, -9]
+    """
+    return _areas(points, as_offsets(offsets), threads)
+
+
+def area_two_polygons(points: npt.NDArray[Int], ring_offsets: npt.ArrayLike,
+                      polygon_offsets: npt.ArrayLike,
+                      threads: int = 1) -> npt.NDArray[Any]:
+    """Return twice the signed area of each polygon.
+
+    It is the sum over its rings, each above 0 where it turns left: a hole
+    counts against an outer ring that turns the other way.
+
+    Parameters
+    ----------
+    points : array of shape (n, 2), int16, int32 or int64
+        As for :func:`simplify_polygons`, but of any coordinates: no safe
+        range is asked.
+    ring_offsets : array of shape (m + 1,), of whole numbers
+    polygon_offsets : array of shape (p + 1,), of whole numbers
+        As for :func:`simplify_polygons`.
+    threads : int
+        As for :func:`is_simple_rings`.
+
+    Returns
+    -------
+    array of shape (p,)
+        In order, and 0 where the polygon has no ring, in the dtype that
+        :func:`area_two_rings` answers. A sum that doesn't fit twice the
+        bits of ``points`` wraps.
+
+    Raises
+    ------
+    OffsetsError, TypeError, ValueError, MemoryError
+        As :func:`simplify_polygons` does.
+
+    Examples
+    --------
+    >>> import numpy as np
+    >>> from i_shape import area_two_polygons
+    >>> points = np.array([(0, 0), (8, 0), (8, 8), (0, 8),
+    ...                    (2, 2), (2, 4), (4, 2)], "int32")
+    >>> area_two_polygons(points, [0, 4, 7], [0, 2, 2]).tolist()
+    [124, 0]
+    """
+    given = given_polygons(points, ring_offsets, polygon_offsets)
+    areas = _areas(given.points, given.rings, threads, "ring_offsets",
+                   given.before)
+    sums = np.zeros(len(areas) + 1, areas.dtype)
+    # What wraps on the way doesn't change a difference.
+    np.cumsum(areas, dtype=areas.dtype, out=sums[1:])
+    its = sums[given.parts[1:]] - sums[given.parts[:-1]]
+    if its.dtype == object:
+        its = (its + 2**127) % 2**128 - 2**127
+    return its

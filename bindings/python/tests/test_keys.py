@@ -1,0 +1,221 @@
+"""Keys of rings and polygons, and rings that two lists share."""
+
+import random
+import unittest
+from unittest import mock
+
+import numpy as np
+
+import i_shape
+import plain
+from i_shape import _keys
+from test_polygons import flat, form, moved, random_polygons
+
+RINGS = [[(0, 0), (1, 0), (0, 1)], [(1, 0), (0, 1), (0, 0)],
+         [(0, 0), (0, 1), (1, 0)], [(0, 0), (1, 1), (2, 2)],
+         [(0, 0), (2, 0), (0, 1)], [(0, 0), (1, 0), (2, 0), (0, 1)], []]
+
+
+def groups(items):
+    """For each item the place of the first that is equal."""
+    return [items.index(item) for item in items]
+
+
+class OfRings(unittest.TestCase):
+
+    def test_keys_are_equal_exactly_where_forms_are(self):
+        for dtype in plain.DTYPES:
+            numbers = random.Random(31)
+            rings = [numbers.choice(RINGS) for _ in range(50)]
+            rings += [plain.random_ring(numbers, dtype) for _ in range(300)]
+            for oriented, of_ring in ((True, plain.canonical),
+                                      (False, plain.canonical_unoriented)):
+                forms = [of_ring(ring, numbers) for ring in rings]
+                for threads in (1, 3):
+                    keys = i_shape.canonical_keys(
+                        *plain.flat(rings, dtype), oriented=oriented,
+                        threads=threads)
+                    self.assertEqual((keys.dtype, keys.shape),
+                                     (object, (350,)))
+                    self.assertEqual(set(map(type, keys)), {bytes})
+                    self.assertEqual(groups(keys.tolist()), groups(forms))
+                    self.assertEqual([not key for key in keys],
+                                     [not its for its in forms])
+
+    def test_keys_do_not_depend_on_the_dtype(self):
+        numbers = random.Random(32)
+        rings = [plain.random_ring(numbers, np.int16) for _ in range(200)]
+        one, *others = (i_shape.canonical_keys(*plain.flat(rings, dtype))
+                        for dtype in plain.DTYPES)
+        for other in others:
+            self.assertEqual(one.tolist(), other.tolist())
+
+    def test_the_numbers_of_a_key(self):
+        given = plain.flat([[(4, 4), (0, 4), (-1, 0), (4, 0)]], np.int16)
+        self.assertEqual(
+            np.frombuffer(i_shape.canonical_keys(*given)[0], "<i8").tolist(),
+            [-1, 0, 4, 0, 4, 4, 0, 4])
+
+    def test_groups_by_numpy_and_by_a_dictionary(self):
+        numbers = random.Random(33)
+        rings = [numbers.choice(RINGS) for _ in range(500)]
+        forms = [plain.canonical(ring, numbers) for ring in rings]
+        keys = i_shape.canonical_keys(*plain.flat(rings, np.int32))
+        _, first, group = np.unique(keys, return_index=True,
+                                    return_inverse=True)
+        self.assertEqual(first[group].tolist(), groups(forms))
+        places = {}
+        self.assertEqual([places.setdefault(key, place)
+                          for place, key in enumerate(keys)], groups(forms))
+
+    def test_no_rings(self):
+        for dtype in plain.DTYPES:
+            given = np.ones((3, 2), dtype), [3]
+            self.assertEqual(i_shape.canonical_keys(*given).shape, (0,))
+            self.assertEqual(i_shape.same_rings(given, given).shape, (0,))
+
+    def test_a_million_rings(self):
+        count = 10**6
+        x = np.arange(count, dtype=np.int32) // 2 * 9
+        points = np.zeros((count, 4, 2), np.int32)
+        points[:, :, 0] = x[:, None] + [0, 2, 4, 4]
+        points[:, 3, 1] = 4
+        points[1::2] = np.roll(points[1::2], 1, axis=1)
+        offsets = np.arange(0, 4 * count + 1, 4)
+        keys = i_shape.canonical_keys(points.reshape(-1, 2), offsets,
+                                      threads=2)
+        self.assertEqual(len(set(keys)), count // 2)
+        self.assertTrue((keys[::2] == keys[1::2]).all())
+
+
+class OfPolygons(unittest.TestCase):
+
+    def test_keys_are_equal_exactly_where_forms_are(self):
+        for dtype in plain.DTYPES:
+            numbers = random.Random(34)
+            polygons = [[numbers.choice(RINGS)
+                         for _ in range(numbers.randrange(5))]
+                        for _ in range(400)]
+            polygons += random_polygons(numbers, dtype)
+            for oriented in (True, False):
+                forms = [form([polygon], numbers, oriented)
+                         for polygon in polygons]
+                for threads in (1, 3):
+                    keys = i_shape.canonical_keys(
+                        *flat(polygons, dtype), oriented=oriented,
+                        threads=threads)
+                    self.assertEqual(set(map(type, keys)), {bytes})
+                    self.assertEqual(groups(keys.tolist()), groups(forms))
+                    self.assertEqual([not key for key in keys],
+                                     [not its for its in forms])
+
+    def test_the_key_stays_after_moves(self):
+        for dtype in plain.DTYPES:
+            numbers = random.Random(35)
+            for _ in range(200):
+                polygons = random_polygons(numbers, dtype)
+                for oriented in (True, False):
+                    for polygon in polygons:
+                        # moved() may add a polygon that collapses
+                        other = moved([polygon], numbers, oriented)
+                        one, two = (
+                            [key for key in i_shape.canonical_keys(
+                                *flat(its, dtype), oriented=oriented) if key]
+                            for its in ([polygon], other))
+                        self.assertEqual(one, two)
+
+    def test_holes_and_outer_rings_are_told_apart(self):
+        big, small = [(0, 0), (9, 0), (0, 9)], [(1, 1), (2, 1), (1, 2)]
+        flat_ring = [(0, 0), (1, 1), (2, 2)]
+        keys = i_shape.canonical_keys(*flat(
+            [[big, small], [small, big], [big], [small], [big, small, small],
+             [], [flat_ring], [flat_ring, big], [big, flat_ring]], np.int32))
+        self.assertEqual(groups(keys.tolist()), [0, 1, 2, 3, 4, 5, 6, 6, 2])
+        self.assertEqual(keys[6], b"")
+
+    def test_rings_that_add_up_to_the_same_points(self):
+        # Six points as one ring, and as a ring and a hole of three each.
+        ring = [(0, 0), (9, 0), (9, 9), (1, 1), (2, 1), (2, 2)]
+        keys = i_shape.canonical_keys(*flat(
+            [[ring], [ring[:3], ring[3:]], [ring[:3]]], np.int16))
+        self.assertEqual(len(set(keys)), 3)
+
+    def test_many_holes_in_any_order(self):
+        numbers = random.Random(36)
+        holes = [[(9 * k, 1), (9 * k + 2, 1), (9 * k + 1, 3)]
+                 for k in range(2000)]
+        outer = [(-9, -9), (10**6, -9), (10**6, 9), (-9, 9)]
+        other = holes[:]
+        numbers.shuffle(other)
+        one, two, three = i_shape.canonical_keys(*flat(
+            [[outer, *holes], [outer, *other], [outer, *other[1:]]],
+            np.int32))
+        self.assertEqual(one, two)
+        self.assertNotEqual(one, three)
+
+    def test_a_part_of_the_polygons(self):
+        numbers = random.Random(37)
+        for _ in range(50):
+            polygons = random_polygons(numbers, np.int32) + [[], []]
+            points, rings, ends = flat(polygons, np.int32)
+            right = i_shape.canonical_keys(*flat(polygons[1:-1], np.int32))
+            self.assertEqual(
+                i_shape.canonical_keys(points, rings, ends[1:-1]).tolist(),
+                right.tolist())
+
+    def test_one_block_after_another(self):
+        numbers = random.Random(40)
+        polygons = [[numbers.choice(RINGS)
+                     for _ in range(numbers.randrange(5))] for _ in range(99)]
+        given = flat(polygons, np.int32)
+        right = i_shape.canonical_keys(*given).tolist()
+        for block in (1, 2, 7, 98, 99, 100):
+            with mock.patch.object(_keys, "_BLOCK", block):
+                self.assertEqual(i_shape.canonical_keys(*given).tolist(),
+                                 right)
+
+    def test_no_polygons(self):
+        for dtype in plain.DTYPES:
+            self.assertEqual(
+                i_shape.canonical_keys(*flat([], dtype)).shape, (0,))
+            keys = i_shape.canonical_keys(*flat([[], []], dtype))
+            self.assertEqual(keys[0], keys[1])
+            self.assertNotEqual(keys[0], b"")
+
+
+class SameRings(unittest.TestCase):
+
+    def test_the_first_that_is_the_same(self):
+        numbers = random.Random(38)
+        for _ in range(300):
+            pair = [[numbers.choice(RINGS)
+                     for _ in range(numbers.randrange(9))] for _ in range(2)]
+            for oriented, of_ring in ((True, plain.canonical),
+                                      (False, plain.canonical_unoriented)):
+                ours, theirs = ([of_ring(ring, numbers) for ring in rings]
+                                for rings in pair)
+                right = [theirs.index(its) if its in theirs else -1
+                         for its in ours]
+                told = i_shape.same_rings(
+                    plain.flat(pair[0], np.int16),
+                    i_shape.Rings(*plain.flat(pair[1], np.int64)),
+                    oriented=oriented, threads=numbers.randint(1, 3))
+                self.assertEqual(told.dtype, np.intp)
+                self.assertEqual(told.tolist(), right)
+
+    def test_errors_of_either(self):
+        points = np.zeros((6, 2), np.int32)
+        fine = points, [0, 6]
+        unsafe = points + 2**30, [0, 6]
+        for other, kind in (((points, [0, 7]), i_shape.OffsetsError),
+                            (unsafe, i_shape.UnsafePointError),
+                            ((points.astype(float), [0, 6]), TypeError)):
+            for pair in ((fine, other), (other, fine)):
+                with self.assertRaises(kind):
+                    i_shape.same_rings(*pair)
+        with self.assertRaises(ValueError):
+            i_shape.same_rings(fine, fine, threads=0)
+
+
+if __name__ == "__main__":
+    unittest.main()

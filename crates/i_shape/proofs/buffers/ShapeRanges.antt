@@ -1,0 +1,128 @@
+-- Shapes by ranges of contour ranges.
+use Rattle.std.proofs.Common.{◌≡◌, ℕ, ◌+◌, ◌-◌, ◌≤◌, List, [], ◌∷◌, ◌++◌, length, map, take, drop, slice_range, refl, sym, ap, ◌∙◌, arith, append-nil, inl, inr, length-append, length-drop}
+use Rattle.std.proofs.lemmas.List.{take-map, drop-map, take-append-le, drop-append-le, drop_at, map-append, take_all}
+use Rattle.std.proofs.lemmas.List.Elements.{All-head, All-tail, All-take, All-drop, All-weaker, All-push}
+use Rattle.std.proofs.lemmas.Bool.{cases_lt}
+use Rattle.std.specs.List.{All}
+use Rattle.std.specs.declared.ops.Range.{Range}
+use Rattle.i_shape_source.specs.Paths.{concatenated}
+use Rattle.i_shape.specs.Flat.{InOrder, IsReadableShape, part_of, slices, shapes, end_to_end}
+use Rattle.i_shape.proofs.lists.EndToEnd.{slices-end_to_end, slices_concatenated, InOrder-end_to_end, InOrder_concatenated, length-end_to_end}
+
+-- a part of a list whose items are made into others
+pub slice_range-map : {X Y : Type 0} (f : X → Y) (xs : List X) (a b : ℕ) → slice_range (map f xs) a b ≡ map f (slice_range xs a b)
+slice_range-map f xs a b = ap (take (b - a)) (drop-map f a xs) ∙ take-map f (b - a) (drop a xs)
+
+-- the slices of some of the ranges are some of the slices
+pub slices-part_of : {P : Type 0} (points : List P) (ranges : List (Range ℕ)) (range : Range ℕ) → slices points (part_of ranges range) ≡ part_of (slices points ranges) range
+slices-part_of points ranges range = sym (slice_range-map (part_of points) ranges range.start range.end)
+
+-- a part that is there stays as it is where the list grows
+pub part_of-append : {P : Type 0} (list more : List P) (range : Range ℕ) → InOrder (length list) range → part_of (list ++ more) range ≡ part_of list range
+part_of-append list more range within =
+    let begins : range.start ≤ length list = omega arith in
+    let fits : range.end - range.start ≤ length (drop range.start list) = omega (arith, length-drop range.start list) in
+    ap (take (range.end - range.start)) (drop-append-le range.start list more begins) ∙ take-append-le (range.end - range.start) (drop range.start list) more fits
+
+-- ranges within the points name the same slices where points are appended
+pub slices-append : {P : Type 0} (points more : List P) (ranges : List (Range ℕ)) → All (InOrder (length points)) ranges → slices (points ++ more) ranges ≡ slices points ranges
+slices-append points more [] within = refl
+slices-append points more (range ∷ ranges) within =
+    ap (λ w. w ∷ slices (points ++ more) ranges) (part_of-append points more range (All-head (InOrder (length points)) range ranges within))
+    ∙ ap (λ w. part_of points range ∷ w) (slices-append points more ranges (All-tail (InOrder (length points)) range ranges within))
+
+-- an empty or reversed range names no member
+pub part_of-empty : {P : Type 0} (list : List P) (range : Range ℕ) → range.end ≤ range.start → part_of list range ≡ []
+part_of-empty list range backwards =
+    let none : range.end - range.start ≡ 0 = omega arith in
+    ap (λ n. take n (drop range.start list)) none
+
+-- a readable shape stays the same where points and ranges are appended
+pub shape-append : {P : Type 0} (points more : List P) (ranges more_ranges : List (Range ℕ)) (range : Range ℕ) → IsReadableShape (length points) ranges range →
+    slices (points ++ more) (part_of (ranges ++ more_ranges) range) ≡ slices points (part_of ranges range)
+shape-append points more ranges more_ranges range readable =
+    elim (cases_lt range.start range.end) [
+      | inl forwards ↦ ap (slices (points ++ more)) (part_of-append ranges more_ranges range (omega arith, (readable forwards).0))
+          ∙ slices-append points more (part_of ranges range) (readable forwards).1
+      | inr backwards ↦ ap (slices (points ++ more)) (part_of-empty (ranges ++ more_ranges) range backwards) ∙ sym (ap (slices points) (part_of-empty ranges range backwards))
+    ]
+
+-- readable shapes stay the same where points and ranges are appended
+pub shapes-append : {P : Type 0} (points more : List P) (ranges more_ranges shape_ranges : List (Range ℕ)) → All (IsReadableShape (length points) ranges) shape_ranges →
+    shapes (points ++ more) (ranges ++ more_ranges) shape_ranges ≡ shapes points ranges shape_ranges
+shapes-append points more ranges more_ranges [] readable = refl
+shapes-append points more ranges more_ranges (range ∷ shape_ranges) readable =
+    ap (λ w. w ∷ shapes (points ++ more) (ranges ++ more_ranges) shape_ranges) (shape-append points more ranges more_ranges range (All-head (IsReadableShape (length points) ranges) range shape_ranges readable))
+    ∙ ap (λ w. slices points (part_of ranges range) ∷ w) (shapes-append points more ranges more_ranges shape_ranges (All-tail (IsReadableShape (length points) ranges) range shape_ranges readable))
+
+-- the ranges that a new shape range names
+pub last_part : {P : Type 0} (ranges : List (Range ℕ)) (shape : List (List P)) (at n : ℕ) (range : Range ℕ) → n ≡ length shape → range ≡ record { start = length ranges; end = length ranges + n } →
+    part_of (ranges ++ end_to_end at shape) range ≡ end_to_end at shape
+last_part ranges shape at n range count is_range =
+    let dropped : drop (length ranges) (ranges ++ end_to_end at shape) ≡ end_to_end at shape = drop_at ranges (end_to_end at shape) (length ranges) refl in
+    let fits : length (end_to_end at shape) ≤ length ranges + n - length ranges = omega (arith, length-end_to_end at shape) in
+    ap (part_of (ranges ++ end_to_end at shape)) is_range ∙ ap (take (length ranges + n - length ranges)) dropped ∙ take_all _ (end_to_end at shape) fits
+
+-- a shape that is appended to a buffer is named by the range of its contour ranges
+pub last_shape : {P : Type 0} (points : List P) (ranges : List (Range ℕ)) (shape : List (List P)) (n : ℕ) (range : Range ℕ) → n ≡ length shape → range ≡ record { start = length ranges; end = length ranges + n } →
+    slices (points ++ concatenated shape) (part_of (ranges ++ end_to_end (length points) shape) range) ≡ shape
+last_shape points ranges shape n range count is_range =
+    ap (slices (points ++ concatenated shape)) (last_part ranges shape (length points) n range count is_range)
+    ∙ ap (λ w. slices (points ++ w) (end_to_end (length points) shape)) (sym (append-nil (concatenated shape)))
+    ∙ slices-end_to_end points [] shape (length points) refl
+
+-- where each contour range and each shape range lies within
+readable_from_within : (n : ℕ) (contour_ranges shape_ranges : List (Range ℕ)) → All (InOrder n) contour_ranges → All (InOrder (length contour_ranges)) shape_ranges →
+    All (IsReadableShape n contour_ranges) shape_ranges
+readable_from_within n contour_ranges shape_ranges contours_within shapes_within =
+    All-weaker (InOrder (length contour_ranges)) (IsReadableShape n contour_ranges)
+    (λ range within forwards. (within.1, All-take (InOrder n) _ _ (All-drop (InOrder n) _ _ contours_within))) shape_ranges shapes_within
+
+-- the shape ranges of shapes end to end can be read
+pub readable_concatenated : {P : Type 0} (list : List (List (List P))) → All (IsReadableShape (length (concatenated (concatenated list))) (end_to_end 0 (concatenated list))) (end_to_end 0 list)
+readable_concatenated list =
+    let fits : 0 + length (concatenated list) ≤ length (end_to_end 0 (concatenated list)) = omega (arith, length-end_to_end 0 (concatenated list)) in
+    readable_from_within _ _ _ (InOrder_concatenated (concatenated list)) (InOrder-end_to_end list 0 _ fits)
+
+-- one more shape keeps the others readable, and is readable
+pub readable-append : {P : Type 0} (points : List P) (ranges shape_ranges : List (Range ℕ)) (shape : List (List P)) (n : ℕ) (range : Range ℕ) →
+    n ≡ length shape → range ≡ record { start = length ranges; end = length ranges + n } →
+    All (IsReadableShape (length points) ranges) shape_ranges →
+    All (IsReadableShape (length (points ++ concatenated shape)) (ranges ++ end_to_end (length points) shape)) (shape_ranges ++ range ∷ [])
+readable-append points ranges shape_ranges shape n range count is_range readable =
+    let longer : length (points ++ concatenated shape) ≡ length points + length (concatenated shape) = length-append points (concatenated shape) in
+    let more : length (ranges ++ end_to_end (length points) shape) ≡ length ranges + length (end_to_end (length points) shape) = length-append ranges (end_to_end (length points) shape) in
+    let as_many : length (end_to_end (length points) shape) ≡ length shape = length-end_to_end (length points) shape in
+    let P' : Range ℕ → Type 0 = IsReadableShape (length (points ++ concatenated shape)) (ranges ++ end_to_end (length points) shape) in
+    let kept : (old : Range ℕ) → IsReadableShape (length points) ranges old → P' old =
+    λ old was forwards.
+    let facts : (old.end ≤ length ranges) × All (InOrder (length points)) (part_of ranges old) = was forwards in
+    let within : InOrder (length ranges) old = (omega arith, facts.0) in
+    let inside : All (InOrder (length (points ++ concatenated shape))) (part_of ranges old) =
+    All-weaker (InOrder (length points)) (InOrder (length (points ++ concatenated shape))) (λ r o. (o.0, omega (arith, o.1))) (part_of ranges old) facts.1 in
+    (omega (arith, facts.0), rw (part_of-append ranges (end_to_end (length points) shape) old within) inside) in
+    let new : P' range =
+    λ forwards. (omega (arith, ap (λ r. r.end) is_range), rw (last_part ranges shape (length points) n range count is_range) (InOrder-end_to_end shape (length points) (length (points ++ concatenated shape)) (omega arith))) in
+    All-push P' shape_ranges range (All-weaker (IsReadableShape (length points) ranges) P' kept shape_ranges readable) new
+
+-- one more shape stands at the end
+pub shapes-push : {P : Type 0} (points : List P) (ranges shape_ranges : List (Range ℕ)) (shape : List (List P)) (n : ℕ) (range : Range ℕ) →
+    n ≡ length shape → range ≡ record { start = length ranges; end = length ranges + n } →
+    All (IsReadableShape (length points) ranges) shape_ranges →
+    shapes (points ++ concatenated shape) (ranges ++ end_to_end (length points) shape) (shape_ranges ++ range ∷ []) ≡ shapes points ranges shape_ranges ++ shape ∷ []
+shapes-push points ranges shape_ranges shape n range count is_range readable =
+    map-append (λ r. slices (points ++ concatenated shape) (part_of (ranges ++ end_to_end (length points) shape) r)) shape_ranges (range ∷ [])
+    ∙ ap (λ w. w ++ slices (points ++ concatenated shape) (part_of (ranges ++ end_to_end (length points) shape) range) ∷ []) (shapes-append points (concatenated shape) ranges (end_to_end (length points) shape) shape_ranges readable)
+    ∙ ap (λ w. shapes points ranges shape_ranges ++ w ∷ []) (last_shape points ranges shape n range count is_range)
+
+-- the shapes are parts of the slices
+pub shapes_by_parts : {P : Type 0} (points : List P) (ranges shape_ranges : List (Range ℕ)) → shapes points ranges shape_ranges ≡ slices (slices points ranges) shape_ranges
+shapes_by_parts points ranges [] = refl
+shapes_by_parts points ranges (range ∷ shape_ranges) =
+    ap (λ w. w ∷ shapes points ranges shape_ranges) (slices-part_of points ranges range) ∙ ap (λ w. part_of (slices points ranges) range ∷ w) (shapes_by_parts points ranges shape_ranges)
+
+-- shapes end to end are the shapes
+pub shapes-end_to_end : {P : Type 0} (list : List (List (List P))) → shapes (concatenated (concatenated list)) (end_to_end 0 (concatenated list)) (end_to_end 0 list) ≡ list
+shapes-end_to_end list =
+    shapes_by_parts (concatenated (concatenated list)) (end_to_end 0 (concatenated list)) (end_to_end 0 list)
+    ∙ ap (λ w. slices w (end_to_end 0 list)) (slices_concatenated (concatenated list)) ∙ slices_concatenated list

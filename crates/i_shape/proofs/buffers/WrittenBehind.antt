@@ -1,0 +1,69 @@
+-- A contour that is cleaned over its copy at the end of a list, of which what is left stays.
+use Rattle.std.proofs.Common.{◌≡◌, ℕ, ℤ, ◌+◌, ◌-◌, ◌<◌, ◌≤◌, List, [], ◌∷◌, ◌++◌, take, drop, length, Bool, true, false, Option, Some, None, option_map, refl, sym, ap, subst, ◌∙◌, arith, append_assoc, append-nil, length-append, length-take, length-drop}
+use Rattle.std.specs.Int.{Width}
+use Rattle.std.specs.Option.{option_to_list, is_some}
+use Rattle.std.specs.declared.ops.Range.{Range}
+use Rattle.std.proofs.lemmas.List.{take-take, take-append-le, length-take-le}
+use Rattle.std.proofs.Math.Seq.{take-append_seam, take-append-add}
+use Rattle.i_shape_core.specs.Point.{Point}
+use Rattle.i_shape_core.specs.IntPoint.{contour_of}
+use Rattle.i_shape_core.specs.declared.point.IntPoint.{IntPoint}
+use Rattle.i_shape_core.specs.Written.{slot, IsWritten}
+use Rattle.i_shape.specs.AppendedAnswers.{Grows}
+
+-- the front of a list that was written over behind its first items
+pub written_behind : {X : Type 0} (points contour whole written behind rest after : List X) (start n room : ℕ) → start ≡ length points → whole ≡ points ++ contour → n ≤ length written → start + length written ≤ room
+    → after ≡ take (start + n) (take room ((take start whole ++ (written ++ behind)) ++ rest)) → after ≡ points ++ take n written
+written_behind points contour whole written behind rest after start n room at is most fits left =
+    let front : take start whole ≡ points = rw (is, at) (take-append_seam points contour) in
+    let apart : (take start whole ++ (written ++ behind)) ++ rest ≡ points ++ ((written ++ behind) ++ rest) = rw front (append_assoc points (written ++ behind) rest) in
+    let low : start + n ≤ room = omega (arith, most, fits) in
+    let inner : take n ((written ++ behind) ++ rest) ≡ take n written = ap (take n) (append_assoc written behind rest) ∙ take-append-le n written (behind ++ rest) most in
+    left ∙ take-take (start + n) room _ low ∙ ap (take (start + n)) apart
+    ∙ rw at (take-append-add points ((written ++ behind) ++ rest) n) ∙ ap (λ l. points ++ l) inner
+
+-- as many items stand behind the first ones as came there
+pub behind_length : {X : Type 0} (points contour whole : List X) (start many : ℕ) → start ≡ length points → whole ≡ points ++ contour → many ≡ length (take (length whole - start) (drop start whole)) → many ≡ length contour
+behind_length points contour whole start many at is long =
+    omega (arith, at, ap length is, long, length-append points contour, length-drop start whole, length-take (length whole - start) (drop start whole))
+
+-- the points that are left of a contour, and none where there are none
+abbrev pub left_of : {X : Type 0} → List X → Option (List X)
+left_of [] = None
+left_of (x ∷ xs) = Some (x ∷ xs)
+
+left_read : {T : Type 0} (value : T → ℤ) (points : List (IntPoint T)) → slot (contour_of value points) ≡ option_map (contour_of value) (left_of points)
+left_read value [] = refl
+left_read value (p ∷ points) = refl
+
+left_none : {X : Type 0} (xs : List X) → length xs ≡ 0 → left_of xs ≡ None
+left_none [] none = refl
+left_none (x ∷ xs) none = absurd (omega (arith, none))
+
+left_some : {X : Type 0} (xs : List X) → 0 < length xs → left_of xs ≡ Some xs
+left_some [] some = absurd (omega (arith, some))
+left_some (x ∷ xs) some = refl
+
+-- a contour whose answer is appended to the points, and its range to the ranges
+abbrev pub Appends : {T : Type 0} → (List Point → Option (List Point) → Type 0) → (T → ℤ) → List (IntPoint T) → List (IntPoint T) → List (IntPoint T) → List (Range ℕ) → List (Range ℕ) → Bool → Type 0
+Appends {T} Answer value contour points after ranges ranges_after left =
+    (answer : Option (List (IntPoint T))) × Answer (contour_of value contour) (option_map (contour_of value) answer) × Grows points after ranges ranges_after (option_to_list answer) × (left ≡ is_some answer)
+
+module _ {T : Type 0} {width : Width} {Answer Kept : List Point → Option (List Point) → Type 0} {Picks : List (IntPoint T) → List (IntPoint T) → Type 0} (value : T → ℤ) (contour over points written after : List (IntPoint T)) (ranges ranges_after : List (Range ℕ)) (n : ℕ)
+    (cleans : IsWritten Answer Kept Picks width (contour_of value) contour over written n) (ends : after ≡ points ++ take n written) where
+  answered : Answer (contour_of value contour) (option_map (contour_of value) (left_of (take n written)))
+  answered = subst (Answer (contour_of value contour)) (left_read value (take n written)) cleans.cleaned.answer
+
+  -- where it collapses
+  pub collapse_appended : n ≡ 0 → ranges_after ≡ ranges → Appends Answer value contour points after ranges ranges_after false
+  collapse_appended nothing same =
+      let none : left_of (take n written) ≡ None = rw nothing refl in
+      let empty : take n written ≡ [] = rw nothing refl in
+      (None, rw none at answered, record { points_are = ends ∙ ap (λ l. points ++ l) empty; ranges_are = same ∙ sym (append-nil ranges) }, refl)
+
+  -- and where points are left of it
+  pub left_appended : 0 < n → n ≤ length written → ranges_after ≡ ranges ++ record { start = length points; end = length points + n } ∷ [] → Appends Answer value contour points after ranges ranges_after true
+  left_appended some most more =
+      let long : length (take n written) ≡ n = length-take-le n written most in
+      let is : left_of (take n written) ≡ Some (take n written) = left_some (take n written) (omega (arith, long, some)) in
+      (Some (take n written), rw is at answered, record { points_are = ends ∙ ap (λ l. points ++ l) (sym (append-nil (take n written))); ranges_are = rw long more }, refl)

@@ -1,0 +1,4 @@
+-- Cleaning in place.
+pub mod Contours
+pub mod Spikes
+pub mod Edits

@@ -1,0 +1,65 @@
+-- Cleaning leaves no more shapes, contours and points than there were.
+use Rattle.std.proofs.Common.{◌≡◌, ℕ, ◌≤◌, List, [], ◌∷◌, length, length-append, refl, ap, arith, Option, Some, None}
+use Rattle.std.specs.List.{AllZip, filter_map, sum_by}
+use Rattle.std.proofs.lemmas.List.Sums.{sum_by-cons, sum_by-append}
+use Rattle.i_shape_core.specs.Point.{Point}
+use Rattle.i_shape_source.specs.Paths.{concatenated}
+use Rattle.i_shape.specs.ShapeAnswers.{Survivors, ShapeClean, ListClean}
+
+-- a number for each item, summed up over lists end to end
+pub sum_by-concatenated : {X : Type 0} (f : X → ℕ) (lists : List (List X)) → sum_by f (concatenated lists) ≡ sum_by (λ list. sum_by f list) lists
+sum_by-concatenated f [] = refl
+sum_by-concatenated f (list ∷ lists) = omega (arith, sum_by-append f list (concatenated lists), sum_by-cons (λ list. sum_by f list) list lists, sum_by-concatenated f lists)
+
+-- 1 for each item makes the length
+pub sum_by-one : {X : Type 0} (list : List X) → sum_by (λ x. 1) list ≡ length list
+sum_by-one [] = refl
+sum_by-one (x ∷ list) = omega (arith, sum_by-cons (λ x. 1) x list, sum_by-one list)
+
+-- the lengths of lists are that of the lists end to end
+pub sum_by-length : {X : Type 0} (lists : List (List X)) → sum_by length lists ≡ length (concatenated lists)
+sum_by-length [] = refl
+sum_by-length (list ∷ lists) = omega (arith, sum_by-cons length list lists, sum_by-length lists, length-append list (concatenated lists))
+
+-- where no answer has more of something than its member, the answers that are left have no more of it together
+module _ {X Y : Type 0} (Answer : X → Option Y → Type 0) (f : X → ℕ) (g : Y → ℕ) (fewer : (x : X) (y : Y) → Answer x (Some y) → g y ≤ f x) where
+  answers_fewer : (xs : List X) (answers : List (Option Y)) → AllZip Answer xs answers → sum_by g (filter_map (λ answer. answer) answers) ≤ sum_by f xs
+  answers_fewer [] [] h = omega arith
+  answers_fewer [] (a ∷ answers) h = absurd h
+  answers_fewer (x ∷ xs) [] h = absurd h
+  answers_fewer (x ∷ xs) (None ∷ answers) h = omega (arith, sum_by-cons f x xs, answers_fewer xs answers h.1)
+  answers_fewer (x ∷ xs) (Some y ∷ answers) h = omega (arith, sum_by-cons f x xs, sum_by-cons g y (filter_map (λ answer. answer) answers), fewer x y h.0, answers_fewer xs answers h.1)
+
+  -- the answers that are left have no more of it together than the members
+  pub survivors_fewer : (xs : List X) (kept : List Y) → Survivors Answer xs kept → sum_by g kept ≤ sum_by f xs
+  survivors_fewer xs kept (answers, zipped, are) = omega (arith, ap (sum_by g) are, answers_fewer xs answers zipped)
+
+-- nor have the contours of a cleaned shape
+pub shape_fewer : (Answer : List Point → Option (List Point) → Type 0) (f : List Point → ℕ) → ((c e : List Point) → Answer c (Some e) → f e ≤ f c)
+    → (s k : List (List Point)) → ShapeClean Answer s (Some k) → sum_by f k ≤ sum_by f s
+shape_fewer Answer f fewer [] [] a = omega arith
+shape_fewer Answer f fewer [] (e ∷ k) a = absurd cc
+shape_fewer Answer f fewer (c ∷ s) [] a = absurd a
+shape_fewer Answer f fewer (c ∷ s) (e ∷ k) a = omega (arith, sum_by-cons f c s, sum_by-cons f e k, fewer c e a.0, survivors_fewer Answer f f fewer s k a.1)
+
+-- no more shapes, contours and points by sums over the shapes
+pub fewer_by_sums : (shapes kept : List (List (List Point))) → sum_by (λ s. 1) kept ≤ sum_by (λ s. 1) shapes
+    → sum_by (λ s. sum_by (λ c. 1) s) kept ≤ sum_by (λ s. sum_by (λ c. 1) s) shapes → sum_by (λ s. sum_by length s) kept ≤ sum_by (λ s. sum_by length s) shapes
+    → (length kept ≤ length shapes) × (length (concatenated kept) ≤ length (concatenated shapes)) × (length (concatenated (concatenated kept)) ≤ length (concatenated (concatenated shapes)))
+fewer_by_sums shapes kept fewer_shapes fewer_contours fewer_points = (
+  omega (arith, sum_by-one kept, sum_by-one shapes, fewer_shapes),
+  omega (arith, sum_by-concatenated (λ c. 1) kept, sum_by-concatenated (λ c. 1) shapes, sum_by-one (concatenated kept), sum_by-one (concatenated shapes), fewer_contours),
+  omega (arith, sum_by-concatenated length kept, sum_by-concatenated length shapes, sum_by-length (concatenated kept), sum_by-length (concatenated shapes), fewer_points),
+)
+
+-- a cleaned list has no more of them
+pub list_fewer : (Answer : List Point → Option (List Point) → Type 0) → ((c e : List Point) → Answer c (Some e) → length e ≤ length c) → (shapes kept : List (List (List Point))) → ListClean Answer shapes kept
+    → (length kept ≤ length shapes) × (length (concatenated kept) ≤ length (concatenated shapes)) × (length (concatenated (concatenated kept)) ≤ length (concatenated (concatenated shapes)))
+list_fewer Answer fewer shapes kept clean = fewer_by_sums shapes kept
+    (survivors_fewer (ShapeClean Answer) (λ s. 1) (λ s. 1) (λ s k a. omega arith) shapes kept clean)
+    (survivors_fewer (ShapeClean Answer) (λ s. sum_by (λ c. 1) s) (λ s. sum_by (λ c. 1) s) (shape_fewer Answer (λ c. 1) (λ c e a. omega arith)) shapes kept clean)
+    (survivors_fewer (ShapeClean Answer) (λ s. sum_by length s) (λ s. sum_by length s) (shape_fewer Answer length fewer) shapes kept clean)
+
+-- of no shape none is left
+pub nothing_cleaned : (Answer : List Point → Option (List Point) → Type 0) → ListClean Answer [] []
+nothing_cleaned Answer = ([], tt, refl)

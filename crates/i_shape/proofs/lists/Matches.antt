@@ -1,0 +1,116 @@
+-- Where two members have equal answers exactly where they are related, the sorted answers of two lists are one list exactly where the members that have answers are matched.
+use Rattle.std.proofs.Common.{◌≡◌, ◌↔◌, List, [], ◌∷◌, Option, Some, None, refl, sym, ap, subst, ◌∙◌, IsPermutation}
+use Rattle.std.specs.List.{AllZip, filter_map}
+use Rattle.std.proofs.lemmas.List.Sorted.{IsPermutation-sym, IsPermutation-trans}
+use Rattle.i_shape.specs.ShapeAnswers.{Survivors}
+use Rattle.i_shape.specs.CanonicalShapes.{Stays, MatchedUncollapsed, SortedForms}
+use Rattle.i_shape.proofs.lists.Permutations.{follows_permutation}
+use Rattle.i_shape.proofs.lists.Uniqueness.{in_one_order}
+
+module _ {X Y : Type 0} (Answer : X → Option Y → Type 0) (Collapses : X → Type 0) (R : X → X → Type 0) (AtMost : Y → Y → Type 0)
+    (none : (x : X) → Answer x None → Collapses x)
+    (some : (x : X) (y : Y) → Answer x (Some y) → Collapses x → ⊥)
+    (one : (x z : X) (y w : Y) → Answer x (Some y) → Answer z (Some w) → (y ≡ w) ↔ R x z)
+    (decide : (y w : Y) → Dec (y ≡ w))
+    (itself : (y : Y) → AtMost y y)
+    (antisym : (y w : Y) → AtMost y w → AtMost w y → y ≡ w) where
+  abbrev Gives : X → Y → Type 0
+  Gives x y = Answer x (Some y)
+
+  -- the members that have an answer, and their answers
+  parted : (xs : List X) (answers : List (Option Y)) → AllZip Answer xs answers
+      → (left : List X) × Survivors (Stays Collapses) xs left × AllZip Gives left (filter_map (λ a. a) answers)
+  parted [] [] h = ([], ([], tt, refl), tt)
+  parted [] (a ∷ answers) h = absurd h
+  parted (x ∷ xs) [] h = absurd h
+  parted (x ∷ xs) (None ∷ answers) h =
+      let r = parted xs answers h.1 in
+      (r.0, (None ∷ r.1.0, (none x h.0, r.1.1), r.1.2), r.2)
+  parted (x ∷ xs) (Some y ∷ answers) h =
+      let r = parted xs answers h.1 in
+      (x ∷ r.0, (Some x ∷ r.1.0, ((some x y h.0, refl), r.1.1), ap (λ l. x ∷ l) r.1.2), (h.0, r.2))
+
+  uncollapsed_of : (xs : List X) (forms : List Y) → Survivors Answer xs forms → (left : List X) × Survivors (Stays Collapses) xs left × AllZip Gives left forms
+  uncollapsed_of xs forms (answers, zipped, are) = let r = parted xs answers zipped in (r.0, r.1, subst (AllZip Gives r.0) (sym are) r.2)
+
+  -- which members stand is certain
+  stand_alike : (xs : List X) (a b : List (Option X)) → AllZip (Stays Collapses) xs a → AllZip (Stays Collapses) xs b → filter_map (λ z. z) a ≡ filter_map (λ z. z) b
+  stand_alike [] [] [] h k = refl
+  stand_alike [] [] (q ∷ b) h k = absurd k
+  stand_alike [] (p ∷ a) b h k = absurd h
+  stand_alike (x ∷ xs) [] b h k = absurd h
+  stand_alike (x ∷ xs) (p ∷ a) [] h k = absurd k
+  stand_alike (x ∷ xs) (None ∷ a) (None ∷ b) h k = stand_alike xs a b h.1 k.1
+  stand_alike (x ∷ xs) (None ∷ a) (Some q ∷ b) h k = absurd (k.0.0 h.0)
+  stand_alike (x ∷ xs) (Some p ∷ a) (None ∷ b) h k = absurd (h.0.0 k.0)
+  stand_alike (x ∷ xs) (Some p ∷ a) (Some q ∷ b) h k =
+      let rest = stand_alike xs a b h.1 k.1 in
+      let here : p ≡ q = h.0.1 ∙ sym k.0.1 in
+      λ i. here i ∷ rest i
+
+  stand_once : (xs left right : List X) → Survivors (Stays Collapses) xs left → Survivors (Stays Collapses) xs right → left ≡ right
+  stand_once xs left right (a, h, p) (b, k, q) = p ∙ stand_alike xs a b h k ∙ sym q
+
+  -- equal answers place by place are related members, and the other way round
+  related : (xs zs : List X) (ys : List Y) → AllZip Gives xs ys → AllZip Gives zs ys → AllZip R xs zs
+  related [] [] ys h k = tt
+  related [] (z ∷ zs) [] h k = absurd k
+  related [] (z ∷ zs) (y ∷ ys) h k = absurd h
+  related (x ∷ xs) [] [] h k = absurd h
+  related (x ∷ xs) [] (y ∷ ys) h k = absurd k
+  related (x ∷ xs) (z ∷ zs) [] h k = absurd h
+  related (x ∷ xs) (z ∷ zs) (y ∷ ys) h k = ((one x z y y h.0 k.0).0 refl, related xs zs ys h.1 k.1)
+
+  answered_alike : (xs zs : List X) (ys ws : List Y) → AllZip Gives xs ys → AllZip Gives zs ws → AllZip R xs zs → ys ≡ ws
+  answered_alike [] [] [] [] h k r = refl
+  answered_alike [] [] [] (w ∷ ws) h k r = absurd k
+  answered_alike [] [] (y ∷ ys) ws h k r = absurd h
+  answered_alike [] (z ∷ zs) ys ws h k r = absurd r
+  answered_alike (x ∷ xs) [] ys ws h k r = absurd r
+  answered_alike (x ∷ xs) (z ∷ zs) [] ws h k r = absurd h
+  answered_alike (x ∷ xs) (z ∷ zs) (y ∷ ys) [] h k r = absurd k
+  answered_alike (x ∷ xs) (z ∷ zs) (y ∷ ys) (w ∷ ws) h k r =
+      let here : y ≡ w = (one x z y w h.0 k.0).1 r.0 in
+      let rest = answered_alike xs zs ys ws h.1 k.1 r.1 in
+      λ i. here i ∷ rest i
+
+  -- the sorted forms of two lists are one exactly where their members that have forms are matched
+  pub sorted_alike : (xs zs : List X) (l m : List Y) → SortedForms Answer AtMost xs l → SortedForms Answer AtMost zs m → (l ≡ m) ↔ MatchedUncollapsed Collapses R xs zs
+  sorted_alike xs zs l m (fs, of_xs, to_l, up) (gs, of_zs, to_m, down) = (to, from)
+    where
+      a : (left : List X) × Survivors (Stays Collapses) xs left × AllZip Gives left fs
+      a = uncollapsed_of xs fs of_xs
+
+      b : (left : List X) × Survivors (Stays Collapses) zs left × AllZip Gives left gs
+      b = uncollapsed_of zs gs of_zs
+
+      to : l ≡ m → MatchedUncollapsed Collapses R xs zs
+      to e =
+          let both : IsPermutation gs fs = IsPermutation-trans gs l fs (subst (IsPermutation gs) (sym e) to_m) (IsPermutation-sym fs l to_l) in
+          let moves : IsPermutation fs gs = IsPermutation-sym gs fs both in
+          let back = followed fs gs moves a.0 a.2 in
+          record { left = a.0; right = b.0; uncollapsed_left = a.1; uncollapsed_right = b.1; matched = record { order = back.0; same = back.1; pairs = related back.0 b.0 gs back.2 b.2 } }
+        where
+          given_back : (us : List Y) (vs : List X) → AllZip (λ y x. Gives x y) us vs → AllZip Gives vs us
+          given_back [] [] h = tt
+          given_back [] (v ∷ vs) h = absurd h
+          given_back (u ∷ us) [] h = absurd h
+          given_back (u ∷ us) (v ∷ vs) h = (h.0, given_back us vs h.1)
+
+          given_forth : (us : List Y) (vs : List X) → AllZip Gives vs us → AllZip (λ y x. Gives x y) us vs
+          given_forth [] [] h = tt
+          given_forth [] (v ∷ vs) h = absurd h
+          given_forth (u ∷ us) [] h = absurd h
+          given_forth (u ∷ us) (v ∷ vs) h = (h.0, given_forth us vs h.1)
+
+          followed : (us vs : List Y) → IsPermutation us vs → (left : List X) → AllZip Gives left us → (order : List X) × IsPermutation left order × AllZip Gives order vs
+          followed us vs p left h = let r = follows_permutation (λ y x. Gives x y) us vs p left (given_forth us left h) in (r.0, r.1, given_back vs r.0 r.2)
+
+      from : MatchedUncollapsed Collapses R xs zs → l ≡ m
+      from w =
+          let left : AllZip Gives w.left fs = subst (λ s. AllZip Gives s fs) (stand_once xs a.0 w.left a.1 w.uncollapsed_left) a.2 in
+          let right : AllZip Gives w.right gs = subst (λ s. AllZip Gives s gs) (stand_once zs b.0 w.right b.1 w.uncollapsed_right) b.2 in
+          let f = follows_permutation Gives w.left w.matched.order w.matched.same fs left in
+          let same : f.0 ≡ gs = answered_alike w.matched.order w.right f.0 gs f.2 right w.matched.pairs in
+          let moves : IsPermutation fs gs = subst (IsPermutation fs) same f.1 in
+          in_one_order AtMost decide itself antisym l m (IsPermutation-trans l fs m (IsPermutation-sym fs l to_l) (IsPermutation-trans fs gs m moves to_m)) up down

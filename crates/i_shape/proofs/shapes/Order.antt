@@ -1,0 +1,73 @@
+-- The order of shapes, contour by contour.
+use Rattle.std.proofs.Common.{◌≡◌, ◌⊎◌, inl, inr, List, [], ◌∷◌, refl, sym, ◌∙◌, subst}
+use Rattle.i_shape_core.specs.Point.{Point}
+use Rattle.i_shape_core.specs.Canonical.{IsBefore, IsAtMost}
+use Rattle.i_shape_core.proofs.least_rotation.Order.{Order3, comes_before, comes_level, comes_after, order3, before_clash, at_most_total, at_most_trans, at_most_antisym}
+use Rattle.i_shape.specs.CanonicalShapes.{IsShapeAtMost}
+
+-- equality of points, of lists and so on is decided
+point_decided : (p q : Point) → Dec (p ≡ q)
+point_decided p q = go (order3 p q)
+  where
+    go : Order3 p q → Dec (p ≡ q)
+    go (comes_before h) = no (λ e. let x = subst (λ (z : Point). IsBefore p z) (sym e) h in before_clash p p x x)
+    go (comes_level e) = yes e
+    go (comes_after h) = no (λ e. let x = subst (λ (z : Point). IsBefore z p) (sym e) h in before_clash p p x x)
+
+module _ {X : Type 0} (decide : (x y : X) → Dec (x ≡ y)) where
+  list_decided : (xs ys : List X) → Dec (xs ≡ ys)
+  list_decided [] [] = yes refl
+  list_decided [] (y ∷ ys) = no (λ e. cc)
+  list_decided (x ∷ xs) [] = no (λ e. cc)
+  list_decided (x ∷ xs) (y ∷ ys) = go (decide x y) (list_decided xs ys)
+    where
+      go : Dec (x ≡ y) → Dec (xs ≡ ys) → Dec (x ∷ xs ≡ y ∷ ys)
+      go (yes e) (yes f) = yes (λ i. e i ∷ f i)
+      go (yes e) (no f) = no (λ h. f cc)
+      go (no e) f = no (λ h. e cc)
+
+-- two contours are one, or they are not
+pub contour_decided : (c d : List Point) → Dec (c ≡ d)
+contour_decided = list_decided point_decided
+
+-- two shapes are one, or they are not
+pub shape_decided : (s t : List (List Point)) → Dec (s ≡ t)
+shape_decided = list_decided contour_decided
+
+-- a shape is at most itself
+pub shape_itself : (s : List (List Point)) → IsShapeAtMost s s
+shape_itself [] = tt
+shape_itself (c ∷ s) = inr (refl, shape_itself s)
+
+-- two shapes that are each at most the other are one
+pub shape_antisym : (s t : List (List Point)) → IsShapeAtMost s t → IsShapeAtMost t s → s ≡ t
+shape_antisym [] [] h k = refl
+shape_antisym [] (d ∷ t) h k = absurd k
+shape_antisym (c ∷ s) [] h k = absurd h
+shape_antisym (c ∷ s) (d ∷ t) (inl h) (inl k) = absurd (h.1 (at_most_antisym c d h.0 k.0))
+shape_antisym (c ∷ s) (d ∷ t) (inl h) (inr k) = absurd (h.1 (sym k.0))
+shape_antisym (c ∷ s) (d ∷ t) (inr h) (inl k) = absurd (k.1 (sym h.0))
+shape_antisym (c ∷ s) (d ∷ t) (inr h) (inr k) = let rest = shape_antisym s t h.1 k.1 in λ i. h.0 i ∷ rest i
+
+-- of two shapes one is at most the other
+pub shape_total : (s t : List (List Point)) → IsShapeAtMost s t ⊎ IsShapeAtMost t s
+shape_total [] t = inl tt
+shape_total (c ∷ s) [] = inr tt
+shape_total (c ∷ s) (d ∷ t) = go (contour_decided c d) (at_most_total c d) (shape_total s t)
+  where
+    go : Dec (c ≡ d) → IsAtMost c d ⊎ IsAtMost d c → IsShapeAtMost s t ⊎ IsShapeAtMost t s → IsShapeAtMost (c ∷ s) (d ∷ t) ⊎ IsShapeAtMost (d ∷ t) (c ∷ s)
+    go (yes e) h (inl k) = inl (inr (e, k))
+    go (yes e) h (inr k) = inr (inr (sym e, k))
+    go (no n) (inl h) k = inl (inl (h, n))
+    go (no n) (inr h) k = inr (inl (h, λ e. n (sym e)))
+
+-- a shape is at most a third where it is at most a second, and that at most the third
+pub shape_trans : (s t u : List (List Point)) → IsShapeAtMost s t → IsShapeAtMost t u → IsShapeAtMost s u
+shape_trans [] t u h k = tt
+shape_trans (c ∷ s) [] u h k = absurd h
+shape_trans (c ∷ s) (d ∷ t) [] h k = absurd k
+shape_trans (c ∷ s) (d ∷ t) (e ∷ u) (inl h) (inl k) =
+    inl (at_most_trans c d e h.0 k.0, λ comes_level. h.1 (at_most_antisym c d h.0 (subst (λ (w : List Point). IsAtMost d w) (sym comes_level) k.0)))
+shape_trans (c ∷ s) (d ∷ t) (e ∷ u) (inl h) (inr k) = inl (subst (λ (w : List Point). IsAtMost c w × (c ≡ w → ⊥)) k.0 h)
+shape_trans (c ∷ s) (d ∷ t) (e ∷ u) (inr h) (inl k) = inl (subst (λ (w : List Point). IsAtMost w e × (w ≡ e → ⊥)) (sym h.0) k)
+shape_trans (c ∷ s) (d ∷ t) (e ∷ u) (inr h) (inr k) = inr (h.0 ∙ k.0, shape_trans s t u h.1 k.1)

@@ -1,0 +1,17 @@
+-- What is told of contours that offsets part.
+use Rattle.std.proofs.Common.{◌≡◌, ℕ, ◌+◌, ◌<◌, List, map, length, take, set, slice_range, sym, subst, subst₂, arith}
+use Rattle.std.specs.List.{AllZip, range_with_len}
+use Rattle.std.proofs.lemmas.List.{take_more_set}
+use Rattle.std.proofs.lemmas.List.FromFn.{map-range_with_len_more}
+use Rattle.std.proofs.lemmas.Slice.Zip.{all_zipped_more}
+use Rattle.i_shape_c.specs.Batch.{offset, nth_contour}
+
+-- one contour more is told of
+pub told_more : {P X : Type 0} (R : List P → X → Type 0) (points : List P) (offsets : List ℕ) (out : List X) (n place : ℕ) (item : X) → place ≡ n + 1 → n < length out
+    → AllZip R (map (nth_contour points offsets) (range_with_len 0 n)) (take n out)
+    → R (slice_range points (offset offsets n) (offset offsets place)) item
+    → AllZip R (map (nth_contour points offsets) (range_with_len 0 (n + 1))) (take (n + 1) (set out n item))
+told_more R points offsets out n place item next room told here =
+    let last : R (nth_contour points offsets n) item = subst (λ k. R (slice_range points (offset offsets n) (offset offsets k)) item) next here in
+    subst₂ (λ contours items. AllZip R contours items) (sym (map-range_with_len_more (nth_contour points offsets) 0 n n (let same : 0 + n ≡ n = omega arith in same))) (sym (take_more_set out n item room))
+    (all_zipped_more R (map (nth_contour points offsets) (range_with_len 0 n)) (take n out) (nth_contour points offsets n) item told last)

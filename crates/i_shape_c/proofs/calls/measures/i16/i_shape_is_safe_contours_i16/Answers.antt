@@ -1,0 +1,5 @@
+use Rattle.std.proofs.Common.{rules}
+use Rattle.i_shape_c.proofs.calls.measures.i16.i_shape_is_safe_contours_i16.Goals as goal
+
+pub returns-clause-answer : goal.returns-clause-answer
+returns-clause-answer c = search rules

@@ -1,0 +1,10 @@
+use Rattle.std.specs.Int.{w32}
+use Rattle.std.proofs.lemmas.Int.{to_z-of_z}
+use Rattle.i_shape_c.specs.Points.{point_i16}
+use Rattle.i_shape_c.proofs.Areas.{area_or_zero}
+use Rattle.i_shape_c.proofs.measures.DoubleAreaContourMeasurePointI16.measure.Goals as goal
+
+pub returns : goal.returns
+returns c =
+    rw (to_z-of_z w32 c.unwrap_or.result (record { sfits = c.unwrap_or.type_inv }), c.unwrap_or.ensures)
+    (area_or_zero w32 point_i16 c.args.contour.now c.area_two.result c.area_two.ensures.some c.area_two.ensures.area)

@@ -1,0 +1,5 @@
+//! Tests and areas of many contours, a file for each width.
+
+mod i16;
+mod i32;
+mod i64;

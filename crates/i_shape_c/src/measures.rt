@@ -1,0 +1,177 @@
+//! What is told of each of many contours: the answer of a test, or the area. It takes no memory.
+
+ghost use Rattle.std.specs.Prelude.{◌≡◌, ◌↔◌, ◌-◌, List, length, map, slice_range, IsTrue};
+ghost use Rattle.std.specs.Int.{int_wrap, w32, w64, w128};
+ghost use Rattle.std.specs.List.{All};
+ghost use Rattle.i_shape.specs.Edges.{shoelace};
+ghost use Rattle.i_shape.specs.IntPoint.{point_of, IsSafe};
+ghost use Rattle.i_shape.specs.Point.{Point};
+ghost use Rattle.i_shape_c.specs.Areas.{AreHalves};
+ghost use Rattle.i_shape_c.specs.Batch.{offset};
+ghost use Rattle.i_shape_c.specs.Cleaned.{unsafe_code, unfit_code};
+ghost use Rattle.i_shape_c.specs.Measures.{CanMeasure, MeasuresAnswer, IsByteOf};
+
+use crate::area::{Halves, area_two};
+use crate::batch::{can_clean, part};
+use crate::codes::{UNFIT_TEST, UNSAFE_TEST};
+use crate::lists::are_safe;
+use crate::point::{CPoint, PointI16, PointI32, PointI64};
+use crate::tests::ContourTest;
+
+/// What is told of a contour: the answer of a test, or the area.
+pub trait ContourMeasure<P: CPoint>: Copy {
+    type Answer: Copy;
+
+    /// What is asked of the measure.
+    ghost can_measure: { Self → Type 0 };
+
+    /// What is asked of each point.
+    ghost asked: { Self → P → Type 0 };
+
+    /// Relates a contour to what is told of it.
+    ghost gives: { Self → List Point → Self.Answer → Type 0 };
+
+    /// Whether each point is as it is asked.
+    fn admits(self, points: &[P]) -> bool
+        ensures { IsTrue result ↔ All (asked self) points.now };
+
+    fn measure(self, contour: &[P]) -> Self::Answer
+        requires can { can_measure self }
+        requires points { All (asked self) contour.now }
+        ensures { gives self (map (λ p. point_of P.Coordinate.value (P.point p)) contour.now) result };
+}
+
+/// The answer of a test of safe points, 1 or 0.
+#[derive(Clone, Copy)]
+pub struct Tested<T> {
+    pub test: T,
+}
+
+impl<P: CPoint, T: ContourTest<P::Coordinate>> ContourMeasure<P> for Tested<T> {
+    type Answer = u8;
+
+    ghost can_measure = { λ measure. T.can_test measure.test };
+
+    ghost asked = { λ measure p. IsSafe P.Coordinate.width (point_of P.Coordinate.value (P.point p)) };
+
+    ghost gives = { λ measure. IsByteOf (T.holds measure.test) };
+
+    fn admits(self, points: &[P]) -> bool {
+        are_safe(points)
+    }
+
+    fn measure(self, contour: &[P]) -> u8 {
+        if self.test.test(contour) { 1 } else { 0 }
+    }
+}
+
+/// Whether each point is safe, 1 or 0.
+#[derive(Clone, Copy)]
+pub struct SafeRange {}
+
+impl<P: CPoint> ContourMeasure<P> for SafeRange {
+    type Answer = u8;
+
+    ghost can_measure = { λ measure. Unit {0} };
+
+    ghost asked = { λ measure p. Unit {0} };
+
+    ghost gives = { λ measure. IsByteOf (All (IsSafe P.Coordinate.width)) };
+
+    fn admits(self, _points: &[P]) -> bool {
+        true
+    }
+
+    fn measure(self, contour: &[P]) -> u8 {
+        if are_safe(contour) { 1 } else { 0 }
+    }
+}
+
+/// Twice the area, 0 where there is no point. A sum that doesn't fit wraps.
+#[derive(Clone, Copy)]
+pub struct DoubleArea {}
+
+impl ContourMeasure<PointI16> for DoubleArea {
+    type Answer = i32;
+
+    ghost can_measure = { λ measure. Unit {0} };
+
+    ghost asked = { λ measure p. Unit {0} };
+
+    ghost gives = { λ measure contour area. area ≡ int_wrap w32 (shoelace contour) };
+
+    fn admits(self, _points: &[PointI16]) -> bool {
+        true
+    }
+
+    fn measure(self, contour: &[PointI16]) -> i32 {
+        area_two(contour).unwrap_or(0)
+    }
+}
+
+impl ContourMeasure<PointI32> for DoubleArea {
+    type Answer = i64;
+
+    ghost can_measure = { λ measure. Unit {0} };
+
+    ghost asked = { λ measure p. Unit {0} };
+
+    ghost gives = { λ measure contour area. area ≡ int_wrap w64 (shoelace contour) };
+
+    fn admits(self, _points: &[PointI32]) -> bool {
+        true
+    }
+
+    fn measure(self, contour: &[PointI32]) -> i64 {
+        area_two(contour).unwrap_or(0)
+    }
+}
+
+impl ContourMeasure<PointI64> for DoubleArea {
+    type Answer = Halves;
+
+    ghost can_measure = { λ measure. Unit {0} };
+
+    ghost asked = { λ measure p. Unit {0} };
+
+    ghost gives = { λ measure contour area. AreHalves (int_wrap w128 (shoelace contour)) area };
+
+    fn admits(self, _points: &[PointI64]) -> bool {
+        true
+    }
+
+    fn measure(self, contour: &[PointI64]) -> Halves {
+        Halves::of(area_two(contour).unwrap_or(0))
+    }
+}
+
+/// Writes what is told of each contour to the front of `out`. Answers 0, or a code below 0.
+pub fn measure_contours<P: CPoint, M: ContourMeasure<P>>(
+    points: &[P],
+    offsets: &[usize],
+    measure: M,
+    out: &mut [M::Answer],
+) -> i32
+    requires { M.can_measure measure }
+    ensures answer { MeasuresAnswer (M.gives measure) (λ p. point_of P.Coordinate.value (P.point p)) points.now offsets.now out.old out.new result }
+    ensures unfit { result ≡ unfit_code ↔ (CanMeasure (length points.now) offsets.now (length out.old) → ⊥) }
+    ensures unsafe_points { result ≡ unsafe_code ↔ (CanMeasure (length points.now) offsets.now (length out.old) × (All (M.asked measure) (slice_range points.now (offset offsets.now 0) (offset offsets.now (length offsets.now - 1))) → ⊥)) }
+{
+    if !can_measure(points.len(), offsets, out.len()) {
+        return UNFIT_TEST;
+    }
+    if !measure.admits(part(points, offsets[0], offsets[offsets.len() - 1])) {
+        return UNSAFE_TEST;
+    }
+    for place in 1..offsets.len() {
+        out[place - 1] = measure.measure(part(points, offsets[place - 1], offsets[place]));
+    }
+    0
+}
+
+/// Whether the offsets part the points, and there is room for an item of each contour.
+fn can_measure(points: usize, offsets: &[usize], room: usize) -> bool
+    ensures { IsTrue result ↔ CanMeasure points offsets.now room }
+{
+    can_clean(points, offsets, points, offsets.len()) && offsets.len() - 1 <= room
+}

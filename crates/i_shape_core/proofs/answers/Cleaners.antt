@@ -1,0 +1,70 @@
+-- What shapes and lists take of the answers of each cleaner.
+use Rattle.std.proofs.Common.{◌≡◌, ◌<◌, ◌≤◌, inl, inr, List, length, reverse, Some, sym, subst, arith}
+use Rattle.std.specs.Int.{Width}
+use Rattle.std.specs.List.{All}
+use Rattle.std.proofs.lemmas.List.{length-reverse}
+use Rattle.i_shape_core.specs.Point.{Point}
+use Rattle.i_shape_core.specs.IntPoint.{IsSafe}
+use Rattle.i_shape_core.specs.Contour.{IsSimple}
+use Rattle.i_shape_core.specs.Convex.{NoSpikes}
+use Rattle.i_shape_core.specs.Cleaners.{SimpleAnswer, DespikeAnswer}
+use Rattle.i_shape_core.specs.Canonical.{CanonicalAnswer, UnorientedAnswer}
+use Rattle.i_shape_core.proofs.removal.Ends.{reach_shrinks}
+use Rattle.i_shape_core.proofs.removal.Rotations.{rotation_length}
+use Rattle.i_shape_core.proofs.answers.Kept.{spikes_decided, spikeless_long, simple_left, despike_left}
+use Rattle.i_shape_core.proofs.forms.Unoriented.{canonical_left, unoriented_left}
+
+-- safe points are left safe
+pub simple_safe : (width : Width) (c e : List Point) → SimpleAnswer c (Some e) → All (IsSafe width) c → All (IsSafe width) e
+simple_safe width = simple_left (IsSafe width)
+
+-- what the removal of spikes leaves of safe points is safe
+pub despike_safe : (width : Width) (c e : List Point) → DespikeAnswer c (Some e) → All (IsSafe width) c → All (IsSafe width) e
+despike_safe width = despike_left (IsSafe width)
+
+-- the canonical form of a contour of safe points has safe points alone
+pub canonical_safe : (width : Width) (c l : List Point) → CanonicalAnswer c (Some l) → All (IsSafe width) c → All (IsSafe width) l
+canonical_safe width = canonical_left (IsSafe width)
+
+-- the unoriented form of a contour of safe points has safe points alone
+pub unoriented_safe : (width : Width) (c l : List Point) → UnorientedAnswer c (Some l) → All (IsSafe width) c → All (IsSafe width) l
+unoriented_safe width = unoriented_left (IsSafe width)
+
+-- no more points are left than there were
+pub simple_fewer : (c e : List Point) → SimpleAnswer c (Some e) → length e ≤ length c
+simple_fewer c e one = reach_shrinks one.ended.reached
+
+-- the removal of spikes leaves no more points than there were
+pub despike_fewer : (c e : List Point) → DespikeAnswer c (Some e) → length e ≤ length c
+despike_fewer c e a = go (spikes_decided c)
+  where
+    go : Dec (NoSpikes c) → length e ≤ length c
+    go (yes s) = let same : e ≡ c = cc (a.clean s) in subst (λ d. length d ≤ length c) (sym same) (omega arith)
+    go (no n) = reach_shrinks (a.cleaned n).ended.reached
+
+-- the canonical form has no more points than the contour
+pub canonical_fewer : (c l : List Point) → CanonicalAnswer c (Some l) → length l ≤ length c
+canonical_fewer c l one = omega (arith, rotation_length one.least.rotation, reach_shrinks one.ends.ended.reached)
+
+-- the unoriented form has no more points than the contour
+pub unoriented_fewer : (c l : List Point) → UnorientedAnswer c (Some l) → length l ≤ length c
+unoriented_fewer c l one = elim one.one [
+  | inl same ↦ subst (λ d. length d ≤ length c) (sym same) (canonical_fewer c one.forwards one.is_forwards)
+  | inr same ↦ subst (λ d. length d ≤ length c) (sym same) (omega (arith, length-reverse c, canonical_fewer (reverse c) one.backwards one.is_backwards))
+]
+
+-- a clean contour has points, and so has what is left of another
+pub simple_points : (c : List Point) → IsSimple c → 0 < length c
+simple_points c s = omega (arith, s.enough)
+
+-- what `simplified` leaves of a contour that is not simple has points
+pub simple_left_points : (c e : List Point) → (IsSimple c → ⊥) → SimpleAnswer c (Some e) → 0 < length e
+simple_left_points c e n one = omega (arith, one.enough)
+
+-- a contour without spikes has points
+pub spikeless_points : (c : List Point) → NoSpikes c → 0 < length c
+spikeless_points c s = omega (arith, spikeless_long c s)
+
+-- what the removal of spikes leaves of a contour that has some has points
+pub despike_left_points : (c e : List Point) → (NoSpikes c → ⊥) → DespikeAnswer c (Some e) → 0 < length e
+despike_left_points c e n a = omega (arith, (a.cleaned n).enough)

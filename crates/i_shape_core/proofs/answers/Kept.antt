@@ -1,0 +1,112 @@
+-- What an answer of a cleaner keeps of its contour, whatever gave it.
+use Rattle.std.proofs.Common.{◌≡◌, ℕ, zero, suc, ◌<◌, ◌≤◌, ◌⊎◌, List, [], length, Option, Some, None, Bool, true, false, inl, inr, refl, sym, ◌∙◌, not, is_some, ◌↔◌, IsTrue, subst, arith, eq-or-lt_of_le, le_of_suc-le-suc}
+use Rattle.std.specs.List.{All}
+use native.Mathlib.Decide.{dec_le, dec_lt}
+use Rattle.i_shape_core.specs.Point.{Point, IsBack}
+use Rattle.i_shape_core.specs.Contour.{point_at, place_before, place_after}
+use Rattle.i_shape_core.specs.Convex.{dedup, cross_at, is_reversal, IsReversal, NoSpikes}
+use Rattle.i_shape_core.specs.Cleaners.{SimpleAnswer, SpikelessAnswer, DespikeAnswer, IsDespikedAlready, EachEndCollapses, KeptAnswer, IsKept, IsFlat}
+use Rattle.i_shape_core.specs.Walks.{FirstAnswer}
+use Rattle.i_shape_core.proofs.removal.Ends.{has_end, all_left, reach_by_weaker, reach_shrinks}
+use Rattle.i_shape_core.proofs.lists.FirstPlaces.{none_found}
+use Rattle.i_shape_core.proofs.removal.Repeats.{dedup_leads}
+use Rattle.i_shape_core.proofs.removal.ZeroTurns.{zero_turn_decided}
+use Rattle.i_shape_core.proofs.removal.WithoutBack.{back_straightens}
+use Rattle.i_shape_core.proofs.walks.Found.{reach_keeps, collapsed_is_flat, no_area, spikeless_answer}
+use Rattle.i_shape_core.proofs.measure.Windings.{winding_none}
+use Rattle.i_shape_core.proofs.measure.RationalWindings.{between_none}
+use Rattle.i_shape_core.proofs.measure.Inside.{inside_laws}
+use Rattle.i_shape_core.proofs.walks.Spikes.{reversal_yes, reversal_no}
+
+-- a number that passes, or none below m
+find_number : (P : ℕ → Type 0) → ((k : ℕ) → Dec (P k)) → (m : ℕ) → ((k : ℕ) × P k) ⊎ ((k : ℕ) → k < m → P k → ⊥)
+find_number P dec zero = inr (λ k h p. absurd (omega arith))
+find_number P dec (suc m) = go (find_number P dec m) (dec m)
+  where
+    go : ((k : ℕ) × P k) ⊎ ((k : ℕ) → k < m → P k → ⊥) → Dec (P m) → ((k : ℕ) × P k) ⊎ ((k : ℕ) → k < suc m → P k → ⊥)
+    go (inl x) d = inl x
+    go (inr n) (yes p) = inl (m, p)
+    go (inr n) (no q) = inr (λ k h p. elim (eq-or-lt_of_le (le_of_suc-le-suc h)) [ inl e ↦ q (subst P e p) | inr l ↦ n k l p ])
+
+reversal_decided : (c : List Point) (k : ℕ) → Dec (IsReversal c k)
+unfolding cross_at
+reversal_decided c k = go (dec_lt k (length c)) (is_reversal before here after) refl
+  where
+    before : Point
+    before = point_at c (place_before (length c) k)
+
+    here : Point
+    here = point_at c k
+
+    after : Point
+    after = point_at c (place_after (length c) k)
+
+    go : Dec (k < length c) → (b : Bool) → is_reversal before here after ≡ b → Dec (IsReversal c k)
+    go (yes h) true e = let r = reversal_yes before here after e in yes (record { within = h; straight = r.0; back = r.1 })
+    go (yes h) false e = no (λ r. reversal_no before here after e (r.straight, r.back))
+    go (no n) b e = no (λ r. n r.within)
+
+-- a contour has no spikes, or has some
+pub spikes_decided : (c : List Point) → Dec (NoSpikes c)
+spikes_decided c = go (dec_le 3 (length (dedup c))) (find_number (IsReversal (dedup c)) (reversal_decided (dedup c)) (length (dedup c)))
+  where
+    go : Dec (3 ≤ length (dedup c)) → ((k : ℕ) × IsReversal (dedup c) k) ⊎ ((k : ℕ) → k < length (dedup c) → IsReversal (dedup c) k → ⊥) → Dec (NoSpikes c)
+    go (yes h) (inl r) = no (λ s. s.none r.0 r.1)
+    go (yes h) (inr n) = yes (record { enough = h; none = λ k r. n k r.within r })
+    go (no h) f = no (λ s. h s.enough)
+
+-- a contour keeps what it has
+pub keeps_itself : (c : List Point) → IsKept c c
+keeps_itself c = record { area = refl; inside = λ p. (λ i. i, λ i. i); winding = λ p. refl; between = λ n p. refl }
+
+-- where it has no area, and no point inside, nothing keeps it
+pub nothing_keeps : (c : List Point) → IsFlat c → IsKept c []
+nothing_keeps c f = record { area = no_area [] (omega arith) ∙ sym f.area; inside = λ p. (λ i. absurd ((inside_laws [] []).none (omega arith) p i), λ i. absurd (f.inside p i)); winding = λ p. winding_none [] (omega arith) p ∙ sym (f.winding p); between = λ n p. between_none [] (omega arith) n p ∙ sym (f.between n p) }
+
+-- what collapses has no area, and no point inside
+pub collapsed_flat : (c : List Point) → EachEndCollapses c → IsFlat c
+collapsed_flat c h = let w = has_end zero_turn_decided c in collapsed_is_flat c w.0 w.1.reached (h w.0 w.1)
+
+-- what a simple answer keeps
+pub simple_kept : (c : List Point) (r : Option (List Point)) → SimpleAnswer c r → KeptAnswer c r
+simple_kept c None a = collapsed_flat c a
+simple_kept c (Some e) a = reach_keeps c e a.ended.reached
+
+spikeless_kept : (c : List Point) (r : Option (List Point)) → SpikelessAnswer c r → KeptAnswer c r
+spikeless_kept c None a = collapsed_flat c a
+spikeless_kept c (Some d) a = reach_keeps c d (reach_by_weaker back_straightens.weaker a.ended.reached)
+
+-- what a despike answer keeps
+pub despike_kept : (c : List Point) (r : Option (List Point)) → DespikeAnswer c r → KeptAnswer c r
+despike_kept c r a = go (spikes_decided c)
+  where
+    go : Dec (NoSpikes c) → KeptAnswer c r
+    go (yes s) = rw (a.clean s) (keeps_itself c)
+    go (no n) = spikeless_kept c r (a.cleaned n)
+
+-- what holds of each point of the contour holds of each that a simple answer lists
+pub simple_left : (Q : Point → Type 0) (c e : List Point) → SimpleAnswer c (Some e) → All Q c → All Q e
+simple_left Q c e a h = all_left Q a.ended.reached h
+
+-- and of each that a despike answer lists
+pub despike_left : (Q : Point → Type 0) (c e : List Point) → DespikeAnswer c (Some e) → All Q c → All Q e
+despike_left Q c e a h = go (spikes_decided c)
+  where
+    go : Dec (NoSpikes c) → All Q e
+    go (yes s) = let same : e ≡ c = cc (a.clean s) in rw same h
+    go (no n) = all_left Q (a.cleaned n).ended.reached h
+
+-- a contour without spikes has three points or more
+pub spikeless_long : (c : List Point) → NoSpikes c → 3 ≤ length c
+spikeless_long c s = omega (arith, s.enough, reach_shrinks (dedup_leads c s.enough))
+
+-- a contour that has no spikes is what the removal of spikes answers
+pub spikeless_stays : (c : List Point) → NoSpikes c → DespikeAnswer c (Some c)
+spikeless_stays c s = record { clean = λ _. refl; cleaned = λ spiked. absurd (spiked s) }
+
+-- the search for a place at which the way goes back tells whether despiking leaves the contour as it is
+pub despiked_told : (c : List Point) (found : Option ℕ) (visits : ℕ) (none : Bool) → 3 ≤ length c → FirstAnswer IsBack c found visits → is_some found ≡ not none → IsTrue none ↔ IsDespikedAlready c
+despiked_told c None visits true long answer told = (λ t. spikeless_answer c (Some c) visits (none_found c visits long answer.0 answer.1), λ d. refl)
+despiked_told c None visits false long answer told = absurd (cc)
+despiked_told c (Some k) visits true long answer told = absurd (cc)
+despiked_told c (Some k) visits false long answer told = (λ t. absurd (cc), λ d. absurd (d.ended.none_left k answer.0.here))

@@ -1,0 +1,197 @@
+-- What a cleaner writes into a list of a caller's.
+use Rattle.std.proofs.Common.{◌≡◌, ℕ, ◌<◌, List, [], ◌∷◌, length, take, drop, Option, Some, None, refl, arith, ◌≤◌, ◌++◌, subst, ◌∙◌, ◌⊎◌, inl, inr, ap, reverse, Ok, Err, option_map}
+use Rattle.std.specs.Int.{Width}
+use Rattle.std.specs.List.{All}
+use Rattle.std.specs.Result.{IfOk, IsOkUnless}
+use Rattle.std.specs.declared.result.Result.{Result}
+use Rattle.std.proofs.lemmas.List.{length-take-le}
+use Rattle.std.proofs.Math.Seq.{take-append_seam, drop-append_seam}
+use Rattle.i_shape_core.specs.Point.{Point}
+use Rattle.i_shape_core.specs.IntPoint.{IsSafe}
+use Rattle.i_shape_core.specs.Contour.{Test, Rotation, Sublist, RotatedSublist, SublistEitherWay}
+use Rattle.i_shape_core.specs.Cleaners.{SimpleAnswer, SpikelessAnswer, DespikeAnswer, IsDespikedAlready, KeptAnswer}
+use Rattle.i_shape_core.specs.Convex.{NoSpikes}
+use Rattle.i_shape_core.specs.Canonical.{IsCanonical, CanonicalAnswer, UnorientedAnswer, KeptEitherWay, IsLeast, IsLesserWay}
+use Rattle.i_shape_core.specs.Walks.{WalkAnswer}
+use Rattle.i_shape_core.specs.Refusals.{OkUnlessMemory}
+use Rattle.i_shape_core.specs.Written.{slot, IsCleanedInOrder, IsWritten, CleansInto}
+use Rattle.i_shape_core.specs.declared.error.ShapeError.{ShapeError}
+use Rattle.i_shape_core.specs.declared.error.ShapeError.TheVariants.{OutOfMemory}
+use Rattle.i_shape_core.proofs.walks.Found.{all_answered, in_order_answered, kept_by_rotation}
+use Rattle.i_shape_core.proofs.removal.Ends.{reach_shrinks}
+use Rattle.i_shape_core.proofs.removal.Rotations.{all_rotated, rotation_refl, rotation_trans}
+use Rattle.i_shape_core.proofs.removal.Reversal.{rotation_of_reversed}
+use Rattle.i_shape_core.proofs.lists.Sublists.{sublist_refl, sublist_none}
+use Rattle.i_shape_core.proofs.forms.Unoriented.{unoriented_lesser_way, unoriented_kept, unoriented_left}
+
+-- a list with a point stands for an answer
+pub slot_some : (e : List Point) → 0 < length e → slot e ≡ Some e
+slot_some [] some = absurd (omega (arith, some))
+slot_some (p ∷ e) some = refl
+
+slot_none : (e : List Point) → length e ≡ 0 → slot e ≡ None
+slot_none [] none = refl
+slot_none (p ∷ e) none = absurd (omega (arith, none))
+
+-- a result of which this holds where it is Ok, and which is want of memory otherwise
+pub unless_memory : {T : Type 0} (result : Result T ShapeError) (Holds : T → Type 0) → IfOk result Holds → IsOkUnless result OutOfMemory → OkUnlessMemory result Holds
+unless_memory (Ok t) Holds ok memory = ok
+unless_memory (Err e) Holds ok memory = memory
+
+-- a walk by the test T gives what a cleaner answers in the contour's order
+pub walked : {X : Type 0} (width : Width) (T : Test) (Answer : List Point → Option (List Point) → Type 0) (c : List Point) (read : X → List Point) (r : Option X) (visits : ℕ)
+    → (WalkAnswer T c (option_map read r) visits → Answer c (option_map read r)) → (WalkAnswer T c (option_map read r) visits → KeptAnswer c (option_map read r))
+    → All (IsSafe width) c → WalkAnswer T c (option_map read r) visits → IsCleanedInOrder Answer width c (option_map read r)
+walked width T Answer c read None visits answers keeps safe walk = record { cleaned = record { answer = answers walk; kept = keeps walk; safe = tt }; in_order = tt }
+walked width T Answer c read (Some x) visits answers keeps safe walk = record {
+  cleaned = record { answer = answers walk; kept = keeps walk; safe = all_answered T (IsSafe width) read c (Some x) visits walk safe };
+  in_order = in_order_answered T read c (Some x) visits walk;
+}
+
+-- the points of a list are read from `given`, and a walk by the test T gives what `Answer` says and keeps what `KeptAnswer` says
+module _ {X : Type 0} (width : Width) (read : List X → List Point) (counts : (list : List X) → length (read list) ≡ length list) (given old : List X) (T : Test)
+    (Answer : List Point → Option (List Point) → Type 0) (answers : (r : Option (List Point)) (visits : ℕ) → WalkAnswer T (read given) r visits → Answer (read given) r)
+    (keeps : (r : Option (List Point)) (visits : ℕ) → WalkAnswer T (read given) r visits → KeptAnswer (read given) r) where
+  -- where it finds nothing, nothing is written
+  pub nothing_written : (visits : ℕ) → WalkAnswer T (read given) None visits → IsWritten Answer KeptAnswer Sublist width read given old old 0
+  nothing_written visits walk = record {
+    fewer = omega arith;
+    picked = sublist_none given;
+    cleaned = rw (slot_none (read []) (counts [])) (record { answer = answers None visits walk; kept = keeps None visits walk; safe = tt });
+    rest = refl;
+  }
+
+  -- what it finds is written
+  pub points_written : (new : List X) (n : ℕ) (e : List Point) (visits : ℕ) → All (IsSafe width) (read given) → Sublist given (take n new) → read (take n new) ≡ e → n ≡ length e → drop n new ≡ drop n old
+      → WalkAnswer T (read given) (Some e) visits → IsWritten Answer KeptAnswer Sublist width read given old new n
+  points_written new n e visits safe picked is many rest walk =
+      let some : slot e ≡ Some e = slot_some e (omega (arith, walk.enough)) in
+      record {
+        fewer = omega (arith, many, reach_shrinks walk.ended.reached, counts given);
+        picked = picked;
+        cleaned = rw (is, some) (record {
+          answer = answers (Some e) visits walk;
+          kept = keeps (Some e) visits walk;
+          safe = all_answered T (IsSafe width) (λ l. l) (read given) (Some e) visits walk safe;
+        });
+        rest = rest;
+      }
+
+-- what a canonical form leaves, where the points that the removal of zero turns wrote are turned
+pub canonical_written : {X : Type 0} (width : Width) (read : List X → List Point) (counts : (list : List X) → length (read list) ≡ length list) (given old simple rotated : List X) (n : ℕ) → 0 < n → n ≤ length simple
+    → IsWritten SimpleAnswer KeptAnswer Sublist width read given old simple n → length rotated ≡ length (take n simple) → IsLeast (read (take n simple)) (read rotated) → Rotation (take n simple) rotated
+    → IsWritten CanonicalAnswer KeptAnswer RotatedSublist width read given old (rotated ++ drop n simple) n
+canonical_written width read counts given old simple rotated n some within written many least rotation =
+    let long : length rotated ≡ n = many ∙ length-take-le n simple within in
+    let front : take n (rotated ++ drop n simple) ≡ rotated = subst (λ m. take m (rotated ++ drop n simple) ≡ rotated) long (take-append_seam rotated (drop n simple)) in
+    let back : drop n (rotated ++ drop n simple) ≡ drop n simple = subst (λ m. drop m (rotated ++ drop n simple) ≡ drop n simple) long (drop-append_seam rotated (drop n simple)) in
+    let before = slot_some (read (take n simple)) (omega (arith, counts (take n simple), length-take-le n simple within, some)) in
+    let after : slot (read rotated) ≡ Some (read rotated) = slot_some (read rotated) (omega (arith, counts rotated, long, some)) in
+    let cleaned = rw before at written.cleaned in
+    record {
+      fewer = written.fewer;
+      picked = rw front (take n simple, written.picked, rotation);
+      cleaned = rw (front, after) (record {
+        answer = record { end = read (take n simple); ends = cleaned.answer; least = least };
+        kept = kept_by_rotation (read given) (read (take n simple)) (read rotated) cleaned.kept least.rotation;
+        safe = all_rotated (IsSafe width) least.rotation cleaned.safe;
+      });
+      rest = back ∙ written.rest;
+    }
+
+-- a contour that collapses has no canonical form
+pub nothing_canonical : {X : Type 0} (width : Width) (read : List X → List Point) (counts : (list : List X) → length (read list) ≡ length list) (given old new : List X) (n : ℕ) → n ≡ 0
+    → IsWritten SimpleAnswer KeptAnswer Sublist width read given old new n → IsWritten CanonicalAnswer KeptAnswer RotatedSublist width read given old new n
+nothing_canonical width read counts given old new n nothing written =
+    let none : slot (read (take n new)) ≡ None = rw nothing (slot_none (read []) (counts [])) in
+    let cleaned = rw none at written.cleaned in
+    record {
+      fewer = written.fewer;
+      picked = (take n new, written.picked, rotation_refl (take n new));
+      cleaned = rw none (record { answer = cleaned.answer; kept = cleaned.kept; safe = tt });
+      rest = written.rest;
+    }
+
+-- a list that is a rotation of what was picked, or of that read backwards, is picked either way
+picked_either_way : {X : Type 0} (given canonical rotated : List X) → RotatedSublist given canonical → (rotated ≡ canonical) ⊎ Rotation (reverse canonical) rotated → SublistEitherWay given rotated
+picked_either_way given canonical rotated (s, picked, rotation) (inl same) = (s, picked, inl (rw same rotation))
+picked_either_way given canonical rotated (s, picked, rotation) (inr other) = (s, picked, inr (rotation_trans (rotation_of_reversed rotation) other))
+
+-- what an unoriented form leaves, where a canonical form that was written is rotated to the lesser way
+pub unoriented_written : {X : Type 0} (width : Width) (read : List X → List Point) (counts : (list : List X) → length (read list) ≡ length list) (given old canonical rotated : List X) (n : ℕ) → 0 < n → n ≤ length canonical
+    → All (IsSafe width) (read given) → IsWritten CanonicalAnswer KeptAnswer RotatedSublist width read given old canonical n → length rotated ≡ length (take n canonical) → IsLesserWay (read (take n canonical)) (read rotated)
+    → (rotated ≡ take n canonical) ⊎ Rotation (reverse (take n canonical)) rotated → IsWritten UnorientedAnswer KeptEitherWay SublistEitherWay width read given old (rotated ++ drop n canonical) n
+unoriented_written width read counts given old canonical rotated n some within safe written many lesser way =
+    let long : length rotated ≡ n = many ∙ length-take-le n canonical within in
+    let front : take n (rotated ++ drop n canonical) ≡ rotated = subst (λ m. take m (rotated ++ drop n canonical) ≡ rotated) long (take-append_seam rotated (drop n canonical)) in
+    let back : drop n (rotated ++ drop n canonical) ≡ drop n canonical = subst (λ m. drop m (rotated ++ drop n canonical) ≡ drop n canonical) long (drop-append_seam rotated (drop n canonical)) in
+    let before = slot_some (read (take n canonical)) (omega (arith, counts (take n canonical), length-take-le n canonical within, some)) in
+    let after : slot (read rotated) ≡ Some (read rotated) = slot_some (read rotated) (omega (arith, counts rotated, long, some)) in
+    let form : IsCanonical (read given) (read (take n canonical)) = rw before at written.cleaned.answer in
+    let answer : UnorientedAnswer (read given) (Some (read rotated)) = unoriented_lesser_way (read given) (read (take n canonical)) (read rotated) form lesser in
+    record {
+      fewer = written.fewer;
+      picked = rw front (picked_either_way given (take n canonical) rotated written.picked way);
+      cleaned = rw (front, after) (record {
+        answer = answer;
+        kept = unoriented_kept (read given) (Some (read rotated)) answer;
+        safe = unoriented_left (IsSafe width) (read given) (read rotated) answer safe;
+      });
+      rest = back ∙ written.rest;
+    }
+
+-- a contour that collapses has no form either way
+pub nothing_unoriented : {X : Type 0} (width : Width) (read : List X → List Point) (counts : (list : List X) → length (read list) ≡ length list) (given old new : List X) (n : ℕ) → n ≡ 0
+    → IsWritten CanonicalAnswer KeptAnswer RotatedSublist width read given old new n → IsWritten UnorientedAnswer KeptEitherWay SublistEitherWay width read given old new n
+nothing_unoriented width read counts given old new n nothing written =
+    let none : slot (read (take n new)) ≡ None = rw nothing (slot_none (read []) (counts [])) in
+    let cleaned = rw none at written.cleaned in
+    record {
+      fewer = written.fewer;
+      picked = picked_either_way given (take n new) (take n new) written.picked (inl refl);
+      cleaned = rw none (record { answer = cleaned.answer; kept = cleaned.kept; safe = tt });
+      rest = written.rest;
+    }
+
+-- a contour that is its own answer, and is written whole
+pub whole_written : {X : Type 0} (width : Width) (read : List X → List Point) (Answer Kept : List Point → Option (List Point) → Type 0) (given old new : List X) (n : ℕ) → n ≡ length given → take n new ≡ given → drop n new ≡ drop n old
+    → 0 < length (read given) → Answer (read given) (Some (read given)) → Kept (read given) (Some (read given)) → All (IsSafe width) (read given) → IsWritten Answer Kept Sublist width read given old new n
+whole_written width read Answer Kept given old new n many is rest some answer kept safe =
+    let whole : slot (read given) ≡ Some (read given) = slot_some (read given) some in
+    record {
+      fewer = omega (arith, many);
+      picked = rw is (sublist_refl given);
+      cleaned = rw (is, whole) (record { answer = answer; kept = kept; safe = safe });
+      rest = rest;
+    }
+
+module _ {X : Type 0} {Clean : List Point → Type 0} {Answer Kept : List Point → Option (List Point) → Type 0} {Picks : List X → List X → Type 0} {width : Width} {read : List X → List Point} {given old new : List X} where
+  -- what a call answers that writes n points
+  pub into : (n : ℕ) → IsWritten Answer Kept Picks width read given old new n → length new ≡ length old → (length given < 3 → n ≡ 0) → CleansInto Clean Answer Kept Picks width read given old new (Ok n)
+  into n written len few = record { written = written; len = len; memory = tt; unclean = tt; err = tt; short = λ h. ap (λ m. Ok m) (few h) }
+
+  -- what it answers where memory is refused
+  pub into_refused : (e : ShapeError) → e ≡ OutOfMemory → (Clean (read given) → ⊥) → 3 ≤ length given → new ≡ old → CleansInto Clean Answer Kept Picks width read given old new (Err e)
+  into_refused e memory unclean long err = record { written = tt; len = ap length err; memory = memory; unclean = unclean; err = err; short = λ h. absurd (omega (arith, h, long)) }
+
+-- what the removal of spikes writes of a contour with spikes is what `ContourDeSpiker` does
+pub spikes_removed : {X : Type 0} {width : Width} {read : List X → List Point} {given old new : List X} (result : Result ℕ ShapeError) → (NoSpikes (read given) → ⊥)
+    → CleansInto IsDespikedAlready SpikelessAnswer KeptAnswer Sublist width read given old new result → CleansInto NoSpikes DespikeAnswer KeptAnswer Sublist width read given old new result
+spikes_removed (Ok n) spiked r = record {
+  written = record {
+    fewer = r.written.fewer;
+    picked = r.written.picked;
+    cleaned = record {
+      answer = record { clean = λ s. absurd (spiked s); cleaned = λ _. r.written.cleaned.answer };
+      kept = r.written.cleaned.kept;
+      safe = r.written.cleaned.safe;
+    };
+    rest = r.written.rest;
+  };
+  len = r.len;
+  memory = tt;
+  unclean = tt;
+  err = tt;
+  short = r.short;
+}
+spikes_removed (Err e) spiked r = record { written = tt; len = r.len; memory = r.memory; unclean = spiked; err = r.err; short = r.short }

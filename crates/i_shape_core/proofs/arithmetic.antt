@@ -1,0 +1,7 @@
+-- Numbers.
+pub mod WholeNumbers
+pub mod Polynomials
+pub mod Products
+pub mod Coordinates
+pub mod Lanes
+pub mod Comparisons

@@ -1,0 +1,6 @@
+-- Convexity, and the walk that tells it.
+pub mod Removal
+pub mod Ends
+pub mod Laws
+pub mod Around
+pub mod BendWalk

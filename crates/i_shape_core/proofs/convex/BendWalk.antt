@@ -1,0 +1,336 @@
+-- The walk that tells how a contour bends.
+use Rattle.std.proofs.Common.{◌≡◌, ◌≢◌, ℕ, ◌+◌, ◌-◌, ◌<◌, ◌≤◌, ◌<ℤ◌, ◌≤ℤ◌, List, [], ◌∷◌, length, drop, get_or, Some, None, ℤ, pos, refl, sym, ap, subst, ◌∙◌, arith, ◌⊎◌, inl, inr, ◌↔◌, Bool, true, false, IsTrue, T}
+use Rattle.std.proofs.lemmas.Int.{ints}
+use lib.Dec.{leb, leb→le, le→leb}
+use Rattle.i_shape_core.specs.Point.{Point, origin, vector, cross, dot, cross_of, dot_of}
+use Rattle.i_shape_core.specs.Contour.{Test, point_at}
+use Rattle.i_shape_core.specs.Convex.{is_same, last_of, dedup, Bulges, Convex}
+use Rattle.i_shape_core.specs.IntPoint.{point_of, contour_of}
+use Rattle.i_shape_core.specs.declared.point.IntPoint.{IntPoint}
+use Rattle.i_shape_core.specs.Walks.{IsBend, bend_of_both}
+use Rattle.i_shape_core.specs.declared.bend.Bend.{Bend}
+use Rattle.i_shape_core.specs.declared.bend.Bend.TheVariants.{Straight, Left, Right, Reversal}
+use Rattle.i_shape_core.proofs.arithmetic.Polynomials.{number, by_polynomials}
+use Rattle.i_shape_core.proofs.plane.CrossProducts.{A, B, cross_term, dot_term, coordinates, cross-same}
+use Rattle.i_shape_core.proofs.convex.Laws.{IsLeft, IsRight, IsReversed}
+use Rattle.i_shape_core.proofs.convex.Around.{Passed, Met, Changed, changed_start, changed_skip, changed_on, changed_end, met_is, last_of_dedup, bulges_by_walk}
+use Rattle.i_shape_core.proofs.plane.Contours.{rest-read, rest-none}
+use Rattle.i_shape_core.proofs.removal.Dedup.{same_yes}
+use Rattle.i_shape_core.proofs.walks.Spikes.{first_behind, Told, told-start, told-on, told-skip, told-met, last_but_one_differs, found_differing, holds_at_start, few_differ}
+
+-- ---- the kinds of bend
+is-left : (o p q : Point) (b : Bend) → IsBend o p q b → (b ≡ Left) ↔ IsLeft o p q
+is-left o p q Straight h = (λ e. absurd (cc), λ l. let z = h.0 in absurd (omega (arith, ints)))
+is-left o p q Left h = (λ e. h, λ l. refl)
+is-left o p q Right h = (λ e. absurd (cc), λ l. absurd (omega (arith, ints)))
+is-left o p q Reversal h = (λ e. absurd (cc), λ l. let z = h.0 in absurd (omega (arith, ints)))
+
+is-right : (o p q : Point) (b : Bend) → IsBend o p q b → (b ≡ Right) ↔ IsRight o p q
+is-right o p q Straight h = (λ e. absurd (cc), λ l. let z = h.0 in absurd (omega (arith, ints)))
+is-right o p q Left h = (λ e. absurd (cc), λ l. absurd (omega (arith, ints)))
+is-right o p q Right h = (λ e. h, λ l. refl)
+is-right o p q Reversal h = (λ e. absurd (cc), λ l. let z = h.0 in absurd (omega (arith, ints)))
+
+is-reversed : (o p q : Point) (b : Bend) → IsBend o p q b → (b ≡ Reversal) ↔ IsReversed o p q
+is-reversed o p q Straight h = (λ e. absurd (cc), λ l. let z = h.1 in let k = l.1 in absurd (omega (arith, ints)))
+is-reversed o p q Left h = (λ e. absurd (cc), λ l. let z = l.0 in absurd (omega (arith, ints)))
+is-reversed o p q Right h = (λ e. absurd (cc), λ l. let z = l.0 in absurd (omega (arith, ints)))
+is-reversed o p q Reversal h = (λ e. h, λ l. refl)
+
+-- of two bends that join, the one or the other is of a kind where both together are
+joins : (kind s b t : Bend) → kind ≢ Straight → bend_of_both s b ≡ Some t → (t ≡ kind) ↔ ((s ≡ kind) ⊎ (b ≡ kind))
+joins kind Straight b t n e = let h : b ≡ t = cc in (λ f. inr (h ∙ f), λ x. elim x [ inl f ↦ absurd (n (sym f)) | inr f ↦ sym h ∙ f ])
+joins kind Left Straight t n e = let h : Left ≡ t = cc in (λ f. inl (h ∙ f), λ x. elim x [ inl f ↦ sym h ∙ f | inr f ↦ absurd (n (sym f)) ])
+joins kind Right Straight t n e = let h : Right ≡ t = cc in (λ f. inl (h ∙ f), λ x. elim x [ inl f ↦ sym h ∙ f | inr f ↦ absurd (n (sym f)) ])
+joins kind Reversal Straight t n e = let h : Reversal ≡ t = cc in (λ f. inl (h ∙ f), λ x. elim x [ inl f ↦ sym h ∙ f | inr f ↦ absurd (n (sym f)) ])
+joins kind Left Left t n e = let h : Left ≡ t = cc in (λ f. inl (h ∙ f), λ x. elim x [ inl f ↦ sym h ∙ f | inr f ↦ sym h ∙ f ])
+joins kind Right Right t n e = let h : Right ≡ t = cc in (λ f. inl (h ∙ f), λ x. elim x [ inl f ↦ sym h ∙ f | inr f ↦ sym h ∙ f ])
+joins kind Reversal Reversal t n e = let h : Reversal ≡ t = cc in (λ f. inl (h ∙ f), λ x. elim x [ inl f ↦ sym h ∙ f | inr f ↦ sym h ∙ f ])
+joins kind Left Right t n e = absurd (cc)
+joins kind Left Reversal t n e = absurd (cc)
+joins kind Right Left t n e = absurd (cc)
+joins kind Right Reversal t n e = absurd (cc)
+joins kind Reversal Left t n e = absurd (cc)
+joins kind Reversal Right t n e = absurd (cc)
+
+-- two bends that do not join: one to each side, or a reversal and one to a side
+abbrev Clashes : Bend → Bend → Type 0
+Clashes s b = (((s ≡ Left) ⊎ (b ≡ Left)) × ((s ≡ Right) ⊎ (b ≡ Right)))
+    ⊎ (((s ≡ Reversal) ⊎ (b ≡ Reversal)) × (((s ≡ Left) ⊎ (b ≡ Left)) ⊎ ((s ≡ Right) ⊎ (b ≡ Right))))
+
+clashes : (s b : Bend) → bend_of_both s b ≡ None → Clashes s b
+clashes Straight b e = absurd (cc)
+clashes Left Straight e = absurd (cc)
+clashes Left Left e = absurd (cc)
+clashes Left Right e = inl (inl refl, inr refl)
+clashes Left Reversal e = inr (inr refl, inl (inl refl))
+clashes Right Straight e = absurd (cc)
+clashes Right Left e = inl (inr refl, inl refl)
+clashes Right Right e = absurd (cc)
+clashes Right Reversal e = inr (inr refl, inr (inl refl))
+clashes Reversal Straight e = absurd (cc)
+clashes Reversal Left e = inr (inl refl, inl (inr refl))
+clashes Reversal Right e = inr (inl refl, inr (inr refl))
+clashes Reversal Reversal e = absurd (cc)
+
+-- ---- a contour that bends to a side has three points that differ
+flat_back : (a b : Point) → cross a b a ≡ pos 0
+unfolding cross
+flat_back a b = by_polynomials (coordinates (a ∷ b ∷ [])) (cross_term A B A) (number (pos 0)) refl
+
+three_passed : (P : Test) → ((a b c : Point) → P a b c → cross a b c ≡ pos 0 → ⊥) → (d : List Point) (o p : Point) → Passed P o p d
+    → (1 ≤ length d → point_at d (length d - 1) ≡ p) → (1 ≤ length d → o ≡ point_at d (length d - 2)) → 3 ≤ length d
+three_passed P bends [] o p x last behind = absurd x
+three_passed P bends (a ∷ []) o p (inl x) last behind =
+    let e : a ≡ p = last (omega arith) in absurd (bends o p a x (ap (λ (q : Point). cross o p q) e ∙ cross-same o p))
+three_passed P bends (a ∷ []) o p (inr x) last behind = absurd x
+three_passed P bends (a ∷ b ∷ []) o p (inl x) last behind =
+    let e : o ≡ a = behind (omega arith) in absurd (bends o p a x (ap (λ (q : Point). cross o p q) (sym e) ∙ flat_back o p))
+three_passed P bends (a ∷ b ∷ []) o p (inr (inl x)) last behind =
+    let e : b ≡ p = last (omega arith) in absurd (bends p a b x (ap (λ (q : Point). cross p a q) e ∙ flat_back p a))
+three_passed P bends (a ∷ b ∷ []) o p (inr (inr x)) last behind = absurd x
+three_passed P bends (a ∷ b ∷ r ∷ d) o p x last behind = omega arith
+
+three_met : (P : Test) → ((a b c : Point) → P a b c → cross a b c ≡ pos 0 → ⊥) → (c : List Point) → Met P (first_behind c) (last_of origin c) c → 3 ≤ length (dedup c)
+unfolding dedup
+three_met P bends c m = three_passed P bends (dedup c) (first_behind c) (last_of origin c) (subst (λ (X : Type 0). X) (met_is P (first_behind c) (last_of origin c) c) m)
+    (last_of_dedup c) (last_but_one_differs c (last_of origin c))
+
+left_bends : (a b c : Point) → IsLeft a b c → cross a b c ≡ pos 0 → ⊥
+left_bends a b c l e = omega (arith, ints)
+
+right_bends : (a b c : Point) → IsRight a b c → cross a b c ≡ pos 0 → ⊥
+right_bends a b c l e = omega (arith, ints)
+
+-- what a walk over the whole contour tells
+bulges_met : (c : List Point) → 3 ≤ length (dedup c)
+    → Bulges (dedup c) ↔ ((Met IsReversed (first_behind c) (last_of origin c) c → ⊥) × (Met IsLeft (first_behind c) (last_of origin c) c → Met IsRight (first_behind c) (last_of origin c) c → ⊥))
+bulges_met c h = bulges_by_walk c (first_behind c) h (last_but_one_differs c (last_of origin c) (omega arith))
+
+-- ---- the walk: n points have changed so far, o and p are the last two that differ, `seen` is how it has bent, and the rest is still to come
+pub record Bending (c : List Point) (seen : Bend) (n : ℕ) (o p : Point) (rest : List Point) : Type 0 where
+  pub changes : Changed c n p rest
+  pub left : Told IsLeft c (seen ≡ Left) o p rest
+  pub right : Told IsRight c (seen ≡ Right) o p rest
+  pub reversed : Told IsReversed c (seen ≡ Reversal) o p rest
+
+bending_start : (c : List Point) → Bending c Straight 0 (first_behind c) (last_of origin c) c
+bending_start c = record {
+  changes = changed_start c;
+  left = told-start IsLeft c (Straight ≡ Left) (λ e. cc);
+  right = told-start IsRight c (Straight ≡ Right) (λ e. cc);
+  reversed = told-start IsReversed c (Straight ≡ Reversal) (λ e. cc);
+}
+
+bending_skip : (c : List Point) (seen : Bend) (n : ℕ) (o p q : Point) (rest : List Point) → is_same p q ≡ true → Bending c seen n o p (q ∷ rest) → Bending c seen n o p rest
+bending_skip c seen n o p q rest e w = record {
+  changes = changed_skip c n p q rest e w.changes;
+  left = told-skip IsLeft c (seen ≡ Left) o p q rest e w.left;
+  right = told-skip IsRight c (seen ≡ Right) o p q rest e w.right;
+  reversed = told-skip IsReversed c (seen ≡ Reversal) o p q rest e w.reversed;
+}
+
+bending_on : (c : List Point) (seen b both : Bend) (n : ℕ) (o p q : Point) (rest : List Point) → is_same p q ≡ false → IsBend o p q b → bend_of_both seen b ≡ Some both
+    → Bending c seen n o p (q ∷ rest) → Bending c both (n + 1) p q rest
+bending_on c seen b both n o p q rest e h j w = record {
+  changes = changed_on c n p q rest e w.changes;
+  left = told-on IsLeft c (seen ≡ Left) (both ≡ Left) (b ≡ Left) o p q rest e (is-left o p q b h) (joins Left seen b both (λ f. absurd (cc)) j) w.left;
+  right = told-on IsRight c (seen ≡ Right) (both ≡ Right) (b ≡ Right) o p q rest e (is-right o p q b h) (joins Right seen b both (λ f. absurd (cc)) j) w.right;
+  reversed = told-on IsReversed c (seen ≡ Reversal) (both ≡ Reversal) (b ≡ Reversal) o p q rest e (is-reversed o p q b h) (joins Reversal seen b both (λ f. absurd (cc)) j) w.reversed;
+}
+
+-- two bends that do not join
+bending_clash : (c : List Point) (seen b : Bend) (n : ℕ) (o p q : Point) (rest : List Point) → is_same p q ≡ false → IsBend o p q b → bend_of_both seen b ≡ None
+    → Bending c seen n o p (q ∷ rest) → Convex c → ⊥
+bending_clash c seen b n o p q rest e h j w convex = go (clashes seen b j)
+  where
+    left : (seen ≡ Left) ⊎ (b ≡ Left) → Met IsLeft (first_behind c) (last_of origin c) c
+    left x = told-met IsLeft c (seen ≡ Left) (b ≡ Left) o p q rest e (is-left o p q b h).0 w.left x
+
+    right : (seen ≡ Right) ⊎ (b ≡ Right) → Met IsRight (first_behind c) (last_of origin c) c
+    right x = told-met IsRight c (seen ≡ Right) (b ≡ Right) o p q rest e (is-right o p q b h).0 w.right x
+
+    reversed : (seen ≡ Reversal) ⊎ (b ≡ Reversal) → Met IsReversed (first_behind c) (last_of origin c) c
+    reversed x = told-met IsReversed c (seen ≡ Reversal) (b ≡ Reversal) o p q rest e (is-reversed o p q b h).0 w.reversed x
+
+    bulging : 3 ≤ length (dedup c) → Convex c → Bulges (dedup c)
+    bulging three (inl few) = absurd (omega arith)
+    bulging three (inr b) = b
+
+    go : Clashes seen b → ⊥
+    go (inl (x, y)) =
+        let three = three_met IsLeft left_bends c (left x) in
+        ((bulges_met c three).0 (bulging three convex)).1 (left x) (right y)
+    go (inr (x, inl y)) =
+        let three = three_met IsLeft left_bends c (left y) in
+        ((bulges_met c three).0 (bulging three convex)).0 (reversed x)
+    go (inr (x, inr y)) =
+        let three = three_met IsRight right_bends c (right y) in
+        ((bulges_met c three).0 (bulging three convex)).0 (reversed x)
+
+few_or_more : (m : ℕ) → (m ≤ 2) ⊎ (3 ≤ m)
+few_or_more m = grind arith
+
+-- at the end
+bending_end : (c : List Point) (seen : Bend) (n : ℕ) (o p : Point) → Bending c seen n o p [] → ((n ≤ 2) ⊎ (seen ≢ Reversal)) ↔ Convex c
+bending_end c seen n o p w = (to, from)
+  where
+    count : n ≡ length (dedup c)
+    count = changed_end c n p w.changes
+
+    only : {S : Type 0} → S ⊎ ⊥ → S
+    only (inl s) = s
+    only (inr x) = absurd x
+
+    many : seen ≢ Reversal → (length (dedup c) ≤ 2) ⊎ (3 ≤ length (dedup c)) → Convex c
+    many s (inl few) = inl few
+    many s (inr three) = inr ((bulges_met c three).1 (
+      λ r. s (only (w.reversed.0 r)),
+      λ l r. let a : seen ≡ Left = only (w.left.0 l) in let b : seen ≡ Right = only (w.right.0 r) in absurd (cc),
+    ))
+
+    to : (n ≤ 2) ⊎ (seen ≢ Reversal) → Convex c
+    to (inl few) = inl (subst (λ (m : ℕ). m ≤ 2) count few)
+    to (inr s) = many s (few_or_more (length (dedup c)))
+
+    bulging : Bulges (dedup c) → (length (dedup c) ≤ 2) ⊎ (3 ≤ length (dedup c)) → (n ≤ 2) ⊎ (seen ≢ Reversal)
+    bulging b (inl few) = inl (subst (λ (m : ℕ). m ≤ 2) (sym count) few)
+    bulging b (inr three) = inr (λ s. ((bulges_met c three).0 b).0 (w.reversed.1 (inl s)))
+
+    from : Convex c → (n ≤ 2) ⊎ (seen ≢ Reversal)
+    from (inl few) = inl (subst (λ (m : ℕ). m ≤ 2) (sym count) few)
+    from (inr b) = bulging b (few_or_more (length (dedup c)))
+
+-- ---- over the points of a program: what the walk knows at place i, after the edge e that leads to p, where so many of the i points repeat the one before
+pub record IsBending {I : Type 0} (value : I → ℤ) (cs : List (IntPoint I)) (seen : Bend) (repeats i : ℕ) (e p : Point) : Type 0 where
+  pub behind : Point
+  pub passed : ℕ
+  pub counted : passed + repeats ≡ i
+  pub edge : e ≡ vector behind p
+  pub bending : Bending (contour_of value cs) seen passed behind p (contour_of value (drop i cs))
+
+-- it begins at the last point
+pub bending_begins : {I : Type 0} (value : I → ℤ) (cs : List (IntPoint I)) (last behind : IntPoint I) (e : Point) → 0 < length cs → last ≡ get_or cs (length cs - 1) last
+    → Some behind ≡ found_differing value last cs → e ≡ vector (point_of value behind) (point_of value last) → IsBending value cs Straight 0 0 e (point_of value last)
+bending_begins value cs last behind e h r f k = record {
+  behind = point_of value behind;
+  passed = 0;
+  counted = refl;
+  edge = k;
+  bending = holds_at_start value cs last behind h r f (λ o p. Bending (contour_of value cs) Straight 0 o p (contour_of value cs)) (bending_start (contour_of value cs));
+}
+
+-- the walk stays as it is at a repeated point
+pub bending_repeat : {I : Type 0} (value : I → ℤ) (cs : List (IntPoint I)) (seen : Bend) (repeats i : ℕ) (e : Point) (p x : IntPoint I) → i < length cs → x ≡ get_or cs i x
+    → is_same (point_of value p) (point_of value x) ≡ true
+    → IsBending value cs seen repeats i e (point_of value p) → IsBending value cs seen (repeats + 1) (i + 1) e (point_of value p)
+bending_repeat value cs seen repeats i e p x h r a w = record {
+  behind = w.behind;
+  passed = w.passed;
+  counted = omega (arith, w.counted);
+  edge = w.edge;
+  bending = bending_skip (contour_of value cs) seen w.passed w.behind (point_of value p) (point_of value x) (contour_of value (drop (i + 1) cs)) a
+      (subst (Bending (contour_of value cs) seen w.passed w.behind (point_of value p)) (rest-read value cs i x h r) w.bending);
+}
+
+dot_still : (o p : Point) → dot o p p ≡ pos 0
+unfolding dot
+dot_still o p = by_polynomials (coordinates (o ∷ p ∷ [])) (dot_term A B B) (number (pos 0)) refl
+
+-- the way over a point to the same point goes straight on
+straight_still : (o p : Point) (b : Bend) → IsBend o p p b → b ≡ Straight
+straight_still o p Straight h = refl
+straight_still o p Left h = let z = cross-same o p in absurd (omega (arith, ints))
+straight_still o p Right h = let z = cross-same o p in absurd (omega (arith, ints))
+straight_still o p Reversal h = let z = dot_still o p in let k = h.1 in absurd (omega (arith, ints))
+
+-- so where a way bends, its edge leads to another point
+differ : (o p q : Point) (b : Bend) → IsBend o p q b → (b ≡ Straight → is_same p q ≡ false) → is_same p q ≡ false
+differ o p q b h n = go (is_same p q) refl
+  where
+    go : (t : Bool) → is_same p q ≡ t → is_same p q ≡ false
+    go false e = e
+    go true e = n (straight_still o p b (subst (λ (r : Point). IsBend o p r b) (sym (same_yes p q e)) h))
+
+-- what a test of the way from the edge e to the edge n tells
+abbrev pub TellsBend : Point → Point → Bend → Type 0
+TellsBend e n b = (o p q : Point) → e ≡ vector o p → n ≡ vector p q → IsBend o p q b
+
+-- the kind of bend by the two products of the edges
+abbrev pub BendsBy : ℤ → ℤ → Bend → Type 0
+BendsBy c d Straight = (c ≡ pos 0) × (pos 0 ≤ℤ d)
+BendsBy c d Left = pos 0 <ℤ c
+BendsBy c d Right = c <ℤ pos 0
+BendsBy c d Reversal = (c ≡ pos 0) × (d <ℤ pos 0)
+
+by_products : (o p q : Point) (b : Bend) → BendsBy (cross o p q) (dot o p q) b → IsBend o p q b
+by_products o p q Straight h = h
+by_products o p q Left h = h
+by_products o p q Right h = h
+by_products o p q Reversal h = h
+
+-- the products of the edges tell the bend
+pub tells_bend : (e n : Point) (b : Bend) → BendsBy (cross_of e n) (dot_of e n) b → TellsBend e n b
+unfolding cross dot
+tells_bend e n b h o p q f k = by_products o p q b
+    (subst (λ (w : Point). BendsBy (cross_of (vector o p) w) (dot_of (vector o p) w) b) k (subst (λ (v : Point). BendsBy (cross_of v n) (dot_of v n) b) f h))
+
+-- the walk takes the bend at a point in
+pub bending_item : {I : Type 0} (value : I → ℤ) (cs : List (IntPoint I)) (seen b both : Bend) (repeats i : ℕ) (e n : Point) (p x : IntPoint I) → i < length cs → x ≡ get_or cs i x
+    → (b ≡ Straight → is_same (point_of value p) (point_of value x) ≡ false) → TellsBend e n b → n ≡ vector (point_of value p) (point_of value x) → bend_of_both seen b ≡ Some both
+    → IsBending value cs seen repeats i e (point_of value p) → IsBending value cs both repeats (i + 1) n (point_of value x)
+bending_item value cs seen b both repeats i e n p x h r a tells k j w =
+    let bend : IsBend w.behind (point_of value p) (point_of value x) b = tells w.behind (point_of value p) (point_of value x) w.edge k in
+    record {
+      behind = point_of value p;
+      passed = w.passed + 1;
+      counted = omega (arith, w.counted);
+      edge = k;
+      bending = bending_on (contour_of value cs) seen b both w.passed w.behind (point_of value p) (point_of value x) (contour_of value (drop (i + 1) cs))
+          (differ w.behind (point_of value p) (point_of value x) b bend a) bend j
+          (subst (Bending (contour_of value cs) seen w.passed w.behind (point_of value p)) (rest-read value cs i x h r) w.bending);
+    }
+
+-- bends that clash make the contour not convex
+pub clash_item : {I : Type 0} (value : I → ℤ) (cs : List (IntPoint I)) (seen b : Bend) (repeats i : ℕ) (e n : Point) (p x : IntPoint I) → i < length cs → x ≡ get_or cs i x
+    → (b ≡ Straight → is_same (point_of value p) (point_of value x) ≡ false) → TellsBend e n b → n ≡ vector (point_of value p) (point_of value x) → bend_of_both seen b ≡ None
+    → IsBending value cs seen repeats i e (point_of value p) → IsTrue false ↔ Convex (contour_of value cs)
+clash_item value cs seen b repeats i e n p x h r a tells k j w =
+    let bend : IsBend w.behind (point_of value p) (point_of value x) b = tells w.behind (point_of value p) (point_of value x) w.edge k in (
+      λ t. absurd (cc),
+      λ s. absurd (bending_clash (contour_of value cs) seen b w.passed w.behind (point_of value p) (point_of value x) (contour_of value (drop (i + 1) cs))
+          (differ w.behind (point_of value p) (point_of value x) b bend a) bend j
+          (subst (Bending (contour_of value cs) seen w.passed w.behind (point_of value p)) (rest-read value cs i x h r) w.bending) s),
+    )
+
+-- after the last point the walk tells whether the contour is convex
+pub bending_over : {I : Type 0} (value : I → ℤ) (cs : List (IntPoint I)) (seen : Bend) (repeats i : ℕ) (e p : Point) → i ≡ length cs
+    → IsBending value cs seen repeats i e p → (repeats ≤ length cs) × (((length cs - repeats ≤ 2) ⊎ (seen ≢ Reversal)) ↔ Convex (contour_of value cs))
+bending_over value cs seen repeats i e p h w =
+    let n : w.passed ≡ length cs - repeats = omega (arith, w.counted, h) in (
+      omega (arith, w.counted, h),
+      subst (λ (m : ℕ). ((m ≤ 2) ⊎ (seen ≢ Reversal)) ↔ Convex (contour_of value cs)) n
+          (bending_end (contour_of value cs) seen w.passed w.behind p (subst (Bending (contour_of value cs) seen w.passed w.behind p) (rest-none value cs i (omega (arith, h))) w.bending)),
+    )
+
+-- a test of a number for being two at most
+pub few_tells : (m : ℕ) → IsTrue (leb m 2) ↔ (m ≤ 2)
+few_tells m = (λ t. leb→le m 2 (subst T (sym t) tt), λ k. is_so (leb m 2) (le→leb m 2 k))
+  where
+    is_so : (t : Bool) → T t → t ≡ true
+    is_so true h = refl
+    is_so false h = absurd h
+
+-- without points
+pub convex_without : {I : Type 0} (value : I → ℤ) (cs : List (IntPoint I)) → length cs ≤ 0 → IsTrue true ↔ Convex (contour_of value cs)
+unfolding dedup
+convex_without value [] h = (λ t. inl (omega arith), λ s. refl)
+convex_without value (x ∷ xs) h = absurd (omega arith)
+
+-- where no point differs from the last
+pub convex_alike : {I : Type 0} (value : I → ℤ) (cs : List (IntPoint I)) (last : IntPoint I) → 0 < length cs → last ≡ get_or cs (length cs - 1) last
+    → None ≡ found_differing value last cs → IsTrue true ↔ Convex (contour_of value cs)
+convex_alike value cs last h e f = (λ t. inl (few (length (dedup (contour_of value cs))) (few_differ value cs last h e f)), λ s. refl)
+  where
+    few : (m : ℕ) → (3 ≤ m → ⊥) → m ≤ 2
+    few m n = elim (few_or_more m) [ inl k ↦ k | inr k ↦ absurd (n k) ]

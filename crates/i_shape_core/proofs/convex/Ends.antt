@@ -1,0 +1,71 @@
+-- What the ends of a contour without spikes have in common with it.
+use Rattle.std.proofs.Common.{◌≡◌, ℕ, ◌≤◌, List, length, pos, ◌<ℤ◌, sym, ap, subst, arith, ◌⊎◌, inl, inr, ◌↔◌}
+use Rattle.i_shape_core.specs.Point.{Point, cross, dot, IsZeroTurn, IsBack}
+use Rattle.i_shape_core.specs.Contour.{point_at, place_before, place_after, IsRemovable, End}
+use Rattle.i_shape_core.specs.Convex.{dedup, cross_at, IsReversal, NoSpikes, BendsOneWay, Bulges, Convex}
+use Rattle.i_shape_core.proofs.plane.Back.{back_cases, cross_same-first}
+use Rattle.i_shape_core.proofs.removal.WithoutBack.{HasNoBack, no_back_kept}
+use Rattle.i_shape_core.proofs.convex.Removal.{one_way_kept}
+use Rattle.i_shape_core.proofs.removal.Dedup.{IsApart, dedup_apart, dedup-same, apart_places, apart_from_places, next_differs}
+
+no_back : (c : List Point) → 3 ≤ length c → IsApart c → ((k : ℕ) → IsReversal c k → ⊥) → HasNoBack c
+unfolding cross_at
+no_back c h a r = record { enough = h; none = λ k b. go k b (back_cases (point_at c (place_before (length c) k)) (point_at c k) (point_at c (place_after (length c) k)) b.passes) }
+  where
+    go : (k : ℕ) → IsRemovable IsBack c k → (point_at c (place_before (length c) k) ≡ point_at c k) ⊎ ((point_at c k ≡ point_at c (place_after (length c) k))
+        ⊎ ((cross (point_at c (place_before (length c) k)) (point_at c k) (point_at c (place_after (length c) k)) ≡ pos 0) × (dot (point_at c (place_before (length c) k)) (point_at c k) (point_at c (place_after (length c) k)) <ℤ pos 0))) → ⊥
+    go k b (inl e) = apart_places c k a b.within e
+    go k b (inr (inl e)) = next_differs c k a b.within e
+    go k b (inr (inr e)) = r k (record { within = b.within; straight = e.0; back = e.1 })
+
+-- without spikes and repeated points no path goes back
+pub spikeless_no_back : (c : List Point) → NoSpikes c → HasNoBack (dedup c)
+spikeless_no_back c h = no_back (dedup c) h.enough (dedup_apart c) h.none
+
+-- a contour without zero turns has no repeated points and no reversals
+apart_end : (e : List Point) → 3 ≤ length e → ((k : ℕ) → IsRemovable IsZeroTurn e k → ⊥) → IsApart e
+apart_end e h none = apart_from_places e (λ k l f. none k (record {
+  enough = h;
+  within = l;
+  passes = subst (λ (q : Point). cross (point_at e (place_before (length e) k)) q (point_at e (place_after (length e) k)) ≡ pos 0) f
+      (cross_same-first (point_at e (place_before (length e) k)) (point_at e (place_after (length e) k)));
+}))
+
+no_reversal : (e : List Point) → 3 ≤ length e → ((k : ℕ) → IsRemovable IsZeroTurn e k → ⊥) → (k : ℕ) → IsReversal e k → ⊥
+unfolding cross_at
+no_reversal e h none k r = none k (record { enough = h; within = r.within; passes = r.straight })
+
+-- an end is convex exactly where it turns to one side
+pub convex_of_end : (e : List Point) → 3 ≤ length e → ((k : ℕ) → IsRemovable IsZeroTurn e k → ⊥) → Convex e ↔ BendsOneWay e
+convex_of_end e h none = (to, λ w. inr (subst Bulges (sym same) (record { none = no_reversal e h none; bends = w })))
+  where
+    same : dedup e ≡ e
+    same = dedup-same e (apart_end e h none)
+
+    to : Convex e → BendsOneWay e
+    to (inl l) = absurd (omega (arith, ap length same))
+    to (inr b) = (subst Bulges same b).bends
+
+-- and so is a contour without spikes, once its repeated points are gone
+pub convex_of_spikeless : (c : List Point) → NoSpikes c → Convex c ↔ BendsOneWay (dedup c)
+convex_of_spikeless c h = (to, λ w. inr (record { none = h.none; bends = w }))
+  where
+    to : Convex c → BendsOneWay (dedup c)
+    to (inl l) = let g = h.enough in absurd (omega arith)
+    to (inr b) = b.bends
+
+-- an end that is reached over the contour without repeated points doesn't collapse, and is convex where the contour is
+pub convex_of_reached : (c e : List Point) → NoSpikes c → End IsZeroTurn (dedup c) e → (3 ≤ length e) × (Convex c ↔ Convex e)
+convex_of_reached c e h r = (left.enough, (λ x. b.1 (a.0 (d.0 x)), λ x. d.1 (a.1 (b.0 x))))
+  where
+    left : HasNoBack e
+    left = no_back_kept (dedup c) e (spikeless_no_back c h) r.reached
+
+    a : BendsOneWay (dedup c) ↔ BendsOneWay e
+    a = one_way_kept (dedup c) e (spikeless_no_back c h) r.reached
+
+    b : Convex e ↔ BendsOneWay e
+    b = convex_of_end e left.enough r.none_left
+
+    d : Convex c ↔ BendsOneWay (dedup c)
+    d = convex_of_spikeless c h

@@ -1,0 +1,3 @@
+-- The definitions at contours that are written out.
+pub mod Definitions
+pub mod ShortContours

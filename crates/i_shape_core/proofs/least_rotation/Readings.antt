@@ -1,0 +1,118 @@
+-- What the search reads.
+use Rattle.std.proofs.Common.{Fits, not, false, ◌≡◌, ◌⊎◌, ℕ, ◌+◌, ◌-◌, ◌<◌, ◌≤◌, ℤ, List, ◌++◌, take, drop, get_or, length, inl, inr, refl, sym, ap, subst, subst₂, ◌∙◌, arith}
+use Rattle.std.specs.Bool.{◌==◌}
+use Rattle.std.specs.Int.{w128}
+use Rattle.std.specs.Ordering.{MatchOrdering, ordering_index}
+use Rattle.std.specs.declared.cmp.Ordering.{Ordering}
+use Rattle.std.specs.declared.cmp.Ordering.TheVariants.{Less, Equal, Greater}
+use Rattle.std.proofs.lemmas.Bool.{cases_lt}
+use Rattle.std.specs.Global.{Vec}
+use Rattle.std.specs.Vec.{with_items}
+use Rattle.std.proofs.lemmas.List.{with_items_is}
+use Rattle.i_shape_core.specs.Point.{Point}
+use Rattle.i_shape_core.specs.Contour.{point_at}
+use Rattle.i_shape_core.specs.Walks.{point_round, Agree, Precedes, IsOrder}
+use Rattle.i_shape_core.specs.Canonical.{IsBefore, IsLeast, IsLesserWay, started_at}
+use Rattle.i_shape_core.specs.IntPoint.{point_of, contour_of}
+use Rattle.i_shape_core.specs.declared.point.IntPoint.{IntPoint}
+use Rattle.i_shape_core.proofs.plane.Contours.{read-point}
+use Rattle.i_shape_core.proofs.plane.PointLists.{map-rotated}
+use Rattle.i_shape_core.proofs.least_rotation.Rounds.{round-first, round-place}
+
+-- rotations of which the first points are compared alone
+agree-first : (c : List Point) (i j : ℕ) → i < length c → j < length c → point_at c i ≡ point_at c j → Agree c i j 1
+agree-first c i j wi wj e t l =
+    let z : 0 ≡ t = omega arith in
+    subst (λ (u : ℕ). point_round c (i + u) ≡ point_round c (j + u)) z (sym (round-first c i wi) ∙ e ∙ round-first c j wj)
+
+precedes-first : (c : List Point) (i j : ℕ) → i < length c → j < length c → IsBefore (point_at c i) (point_at c j) → Precedes c i j 1
+precedes-first c i j wi wj h = record {
+  matched = 0;
+  last = refl;
+  within = omega arith;
+  agree = λ t l. absurd (omega arith);
+  before = subst₂ IsBefore (round-first c i wi) (round-first c j wj) h;
+}
+
+-- where the first points differ, their order is that of the rotations
+pub first-tells : (c : List Point) (i j : ℕ) (Q : Type 0) (order : Ordering) → i < length c → j < length c → IsOrder c i j order → (order ≡ Equal → ⊥)
+    → MatchOrdering order (Precedes c i j 1) Q (Precedes c j i 1)
+first-tells c i j Q Less wi wj h n = precedes-first c i j wi wj h
+first-tells c i j Q Equal wi wj h n = absurd (n refl)
+first-tells c i j Q Greater wi wj h n = precedes-first c j i wj wi h
+
+-- where they don't, the rotations agree so far
+pub first-agrees : (c : List Point) (i j : ℕ) (order : Ordering) → i < length c → j < length c → IsOrder c i j order → not (ordering_index order == 1) ≡ false
+    → Agree c i j 1
+first-agrees c i j Less wi wj h e = absurd (cc)
+first-agrees c i j Equal wi wj h e = agree-first c i j wi wj h
+first-agrees c i j Greater wi wj h e = absurd (cc)
+
+-- one more comparison can be counted
+pub count_fits : (count shown : ℕ) → count ≡ shown → shown < 340282366920938463463374607431768211455 → Fits w128 (count + 1)
+count_fits count shown e room = omega arith
+
+-- how two points that were read are ordered
+pub read-order : {I : Type 0} (value : I → ℤ) (xs : List (IntPoint I)) (i j : ℕ) (p q : IntPoint I) (order : Ordering) → i < length xs → j < length xs → p ≡ get_or xs i p → q ≡ get_or xs j q
+    → MatchOrdering order (IsBefore (point_of value p) (point_of value q)) (point_of value p ≡ point_of value q) (IsBefore (point_of value q) (point_of value p)) → IsOrder (contour_of value xs) i j order
+read-order value xs i j p q order wi wj first second told =
+    subst₂ (λ (a b : Point). MatchOrdering order (IsBefore a b) (a ≡ b) (IsBefore b a)) (read-point value xs i p wi first) (read-point value xs j q wj second) told
+
+-- place a is that of step m from place s, where n places go round twice
+abbrev pub IsStep : ℕ → ℕ → ℕ → ℕ → Type 0
+IsStep n s m a = (a ≡ s + m) ⊎ (a + n ≡ s + m)
+
+-- the points of a run from there on are those of the rotation from s
+pub run-point : (c : List Point) (s m a t : ℕ) → IsStep (length c) s m a → a + t < length c → point_at c (a + t) ≡ point_round c (s + (m + t))
+run-point c s m a t (inl h) within = sym (round-place c (s + (m + t)) (a + t) within (inl (omega arith)))
+run-point c s m a t (inr h) within = sym (round-place c (s + (m + t)) (a + t) within (inr (omega arith)))
+
+-- the points of c from places a and b on agree k times
+abbrev pub RunsAgree : List Point → ℕ → ℕ → ℕ → Type 0
+RunsAgree c a b k = (t : ℕ) → t < k → point_at c (a + t) ≡ point_at c (b + t)
+
+-- rotations that agree, and agree over a run, agree so much longer
+pub agree-on : (c : List Point) (i j m a b k : ℕ) → IsStep (length c) i m a → IsStep (length c) j m b
+    → a + k ≤ length c → b + k ≤ length c → Agree c i j m → RunsAgree c a b k → Agree c i j (m + k)
+agree-on c i j m a b k ours theirs wa wb before run t l = go (cases_lt t m)
+  where
+    go : (t < m) ⊎ (m ≤ t) → point_round c (i + t) ≡ point_round c (j + t)
+    go (inl h) = before t h
+    go (inr h) =
+        let e : m + (t - m) ≡ t = omega arith in
+        ap (λ (u : ℕ). point_round c (i + u)) (sym e) ∙ sym (run-point c i m a (t - m) ours (omega arith))
+        ∙ run (t - m) (omega arith) ∙ run-point c j m b (t - m) theirs (omega arith) ∙ ap (λ (u : ℕ). point_round c (j + u)) e
+
+-- where they differ behind that run, the lesser point tells the lesser rotation
+pub precedes-on : (c : List Point) (i j m a b k : ℕ) → IsStep (length c) i m a → IsStep (length c) j m b
+    → a + k < length c → b + k < length c → m + k < length c → Agree c i j m → RunsAgree c a b k
+    → IsBefore (point_at c (a + k)) (point_at c (b + k)) → Precedes c i j (m + k + 1)
+precedes-on c i j m a b k ours theirs wa wb wm before run h = record {
+  matched = m + k;
+  last = refl;
+  within = wm;
+  agree = agree-on c i j m a b k ours theirs (omega arith) (omega arith) before run;
+  before = subst₂ IsBefore (run-point c i m a k ours wa) (run-point c j m b k theirs wb) h;
+}
+
+-- rotating the program's list starts the contour at another place
+pub contour-rotated : {I : Type 0} (value : I → ℤ) (xs zs : List (IntPoint I)) (k : ℕ) → zs ≡ drop k xs ++ take k xs → contour_of value zs ≡ started_at (contour_of value xs) k
+contour-rotated value xs zs k e = ap (contour_of value) e ∙ map-rotated (point_of value) k xs
+
+-- rotating the program's list rotates the contour
+pub contour-started : {I : Type 0} (value : I → ℤ) (xs zs : List (IntPoint I)) (k : ℕ) → zs ≡ drop k xs ++ take k xs
+    → IsLeast (contour_of value xs) (started_at (contour_of value xs) k) → IsLeast (contour_of value xs) (contour_of value zs)
+contour-started {I} value xs zs k e least =
+    subst (IsLeast (contour_of value xs)) (sym (contour-rotated value xs zs k e)) least
+
+-- a contour whose slice is rotated to its least rotation is rotated to it
+pub least-written : {I : Type 0} (value : I → ℤ) (v : Vec (IntPoint I)) (read ws : List (IntPoint I)) → read ≡ v.items → length ws ≡ length read
+    → IsLeast (contour_of value read) (contour_of value ws) → IsLeast (contour_of value v.items) (contour_of value (with_items v ws).items)
+least-written value v read ws same long least =
+    rw (with_items_is v ws (long ∙ ap length same ∙ sym v.ok.0)) (rw same at least)
+
+-- and so is one whose slice is rotated to the lesser of its two ways
+pub lesser-written : {I : Type 0} (value : I → ℤ) (v : Vec (IntPoint I)) (read ws : List (IntPoint I)) → read ≡ v.items → length ws ≡ length read
+    → IsLesserWay (contour_of value read) (contour_of value ws) → IsLesserWay (contour_of value v.items) (contour_of value (with_items v ws).items)
+lesser-written value v read ws same long lesser =
+    rw (with_items_is v ws (long ∙ ap length same ∙ sym v.ok.0)) (rw same at lesser)

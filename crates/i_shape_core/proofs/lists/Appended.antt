@@ -1,0 +1,27 @@
+-- Facts on lists end to end.
+use Rattle.std.proofs.Common.{◌≡◌, ◌⊎◌, List, [], ◌∷◌, ◌++◌, inl, inr, refl, sym}
+
+-- equal lists begin with the same member
+pub same_head : {A : Type 0} (a b : A) (x y : List A) → a ∷ x ≡ b ∷ y → a ≡ b
+same_head a b x y e = cc
+
+-- and have the same members after it
+pub same_tail : {A : Type 0} (a b : A) (x y : List A) → a ∷ x ≡ b ∷ y → x ≡ y
+same_tail a b x y e = cc
+
+-- where u ++ t is x ++ y, the seam of one lies within a part of the other
+abbrev pub Seams : {A : Type 0} (u t x y : List A) → Type 0
+Seams {A} u t x y = ((w : List A) × (x ≡ u ++ w) × (t ≡ w ++ y)) ⊎ ((w : List A) × (u ≡ x ++ w) × (y ≡ w ++ t))
+
+-- two ways to cut a list: one cut lies within a part of the other
+pub two_seams : {A : Type 0} (u t x y : List A) → u ++ t ≡ x ++ y → Seams u t x y
+two_seams [] t x y e = inl (x, refl, e)
+two_seams (a ∷ u) t [] y e = inr (a ∷ u, refl, sym e)
+two_seams {A} (a ∷ u) t (b ∷ x) y e = go (two_seams u t x y (same_tail a b (u ++ t) (x ++ y) e))
+  where
+    head : a ≡ b
+    head = same_head a b (u ++ t) (x ++ y) e
+
+    go : Seams u t x y → Seams (a ∷ u) t (b ∷ x) y
+    go (inl r) = let p = r.1 in inl (r.0, cc, r.2)
+    go (inr r) = let p = r.1 in inr (r.0, cc, r.2)

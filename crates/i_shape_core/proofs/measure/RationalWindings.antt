@@ -1,0 +1,33 @@
+-- How often a contour winds about a point of rational coordinates, where zero turns are taken out, from another start, and backwards.
+use Rattle.std.proofs.Common.{◌≡◌, ℤ, pos, neg_ℤ, List, [], ◌∷◌, ◌++◌, map, reverse, refl, sym, ap, ◌∙◌, arith}
+use Rattle.std.proofs.lemmas.List.{length-map, map-append, reverse-append}
+use Rattle.i_shape_core.specs.Point.{Point}
+use Rattle.i_shape_core.specs.Contour.{Rotation, IsCollapsed}
+use Rattle.i_shape_core.specs.Winding.{winding, winding_of_edge}
+use Rattle.i_shape_core.specs.Moves.{moved_point, moved, scaling}
+use Rattle.i_shape_core.specs.RationalPoints.{WindingBetween}
+use Rattle.i_shape_core.proofs.measure.RotatedEdges.{same_sum}
+use Rattle.i_shape_core.proofs.measure.Windings.{winding_kept, winding_none, winding_reversed}
+use Rattle.i_shape_core.proofs.moved.Mapped.{reach_mapped, rotation_mapped}
+use Rattle.i_shape_core.proofs.moved.ZeroTurns.{zero_moved}
+
+-- removals keep how often a contour winds about each point of rational coordinates
+pub winding_between : (c d : List Point) → WindingBetween c d
+winding_between c d r n = winding_kept (moved (scaling n) c) (moved (scaling n) d) (reach_mapped (moved_point (scaling n)) (zero_moved (scaling n)) r)
+
+-- fewer than three points wind about none
+pub between_none : (d : List Point) → IsCollapsed d → (n : ℤ) (p : Point) → winding (moved (scaling n) d) p ≡ pos 0
+between_none d h n p = winding_none (moved (scaling n) d) (omega (arith, length-map d (moved_point (scaling n)), h)) p
+
+-- rotations wind equally often about each point of rational coordinates
+pub between_rotated : {e l : List Point} → Rotation e l → (n : ℤ) (p : Point) → winding (moved (scaling n) e) p ≡ winding (moved (scaling n) l) p
+unfolding winding
+between_rotated {e} {l} r n p = same_sum (winding_of_edge p) (moved (scaling n) e) (moved (scaling n) l) (rotation_mapped (moved_point (scaling n)) r)
+
+map_reversed : (f : Point → Point) (c : List Point) → map f (reverse c) ≡ reverse (map f c)
+map_reversed f [] = refl
+map_reversed f (a ∷ c) = ap (map f) (reverse-append (a ∷ []) c) ∙ map-append f (reverse c) (a ∷ []) ∙ ap (λ (l : List Point). l ++ f a ∷ []) (map_reversed f c) ∙ sym (reverse-append (f a ∷ []) (map f c))
+
+-- a contour read backwards winds about each point of rational coordinates as often the other way
+pub between_reversed : (c : List Point) (n : ℤ) (p : Point) → winding (moved (scaling n) (reverse c)) p ≡ neg_ℤ (winding (moved (scaling n) c) p)
+between_reversed c n p = ap (λ (d : List Point). winding d p) (map_reversed (moved_point (scaling n)) c) ∙ winding_reversed (moved (scaling n) c) p

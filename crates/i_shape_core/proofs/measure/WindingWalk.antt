@@ -1,0 +1,190 @@
+-- The walk over a contour that starts from its last point, and adds what each edge adds to the winding number.
+use Rattle.std.proofs.Common.{◌≡◌, ◌⊎◌, ℕ, suc, ◌+◌, ◌-◌, ◌^◌, ◌<◌, ◌≤◌, List, [], ◌∷◌, length, drop, get_or, ℤ, pos, negsuc, ◌+ℤ◌, ◌-ℤ◌, ◌≤ℤ◌, int_lt, FitsSigned, w64, to_z, of_z, refl, sym, ap, subst, ◌∙◌, arith, inl, inr, eq-or-lt_of_le, Bool, true, false, cond}
+use Rattle.std.proofs.lemmas.Int.{ints, to_z-of_z}
+use Rattle.std.proofs.lemmas.List.{get_or_default}
+use Rattle.i_shape_core.specs.Point.{Point}
+use Rattle.i_shape_core.specs.IntPoint.{point_of, contour_of}
+use Rattle.i_shape_core.specs.declared.point.IntPoint.{IntPoint}
+use Rattle.i_shape_core.specs.Edges.{edges_between, sum_of, is_right}
+use Rattle.i_shape_core.specs.Winding.{level, winding_of_edge, winding, IsWithinHalf}
+use Rattle.i_shape_core.specs.Convex.{last_of}
+use Rattle.i_shape_core.proofs.plane.Contours.{rest-read, rest-none}
+use Rattle.i_shape_core.proofs.measure.Edges.{sum_push}
+use Rattle.i_shape_core.proofs.plane.CrossProducts.{edge}
+use Rattle.i_shape_core.proofs.measure.Inside.{right_when}
+use Rattle.i_shape_core.proofs.arithmetic.Products.{InReach, reach-fits}
+use Rattle.i_shape_core.proofs.measure.InsideWalk.{path_over, between_is, last_point}
+
+-- ---- one edge
+-- an edge that isn't right of p adds nothing
+pub adds_nothing : (p a b : Point) (r : Bool) → r ≡ is_right p (edge a b) → r ≡ false → pos 0 ≡ winding_of_edge p (edge a b)
+unfolding winding_of_edge
+adds_nothing p a b r e f = rw (sym e ∙ f) refl
+
+-- one that is adds 1 where its end lies above p, and else takes it away
+adds_or_takes_one : (p a b : Point) (r s : Bool) → r ≡ is_right p (edge a b) → r ≡ true → s ≡ int_lt p.y b.y → cond s (pos 1) (negsuc 0) ≡ winding_of_edge p (edge a b)
+unfolding winding_of_edge
+adds_or_takes_one p a b r s e f g = go (int_lt p.y a.y) (int_lt p.y b.y) refl refl
+  where
+    go : (t u : Bool) → int_lt p.y a.y ≡ t → int_lt p.y b.y ≡ u → cond s (pos 1) (negsuc 0) ≡ winding_of_edge p (edge a b)
+    go true true h k = let no = right_when p a b true true h k in absurd (cc)
+    go false false h k = let no = right_when p a b false false h k in absurd (cc)
+    go true false h k = rw (g, sym e ∙ f, h, k) refl
+    go false true h k = rw (g, sym e ∙ f, h, k) refl
+
+-- an edge right of p adds 1 where its end lies above p
+pub adds_one : (p a b : Point) (r s : Bool) → r ≡ is_right p (edge a b) → r ≡ true → s ≡ int_lt p.y b.y → s ≡ true → pos 1 ≡ winding_of_edge p (edge a b)
+adds_one p a b r s e f g h = ap (λ (t : Bool). cond t (pos 1) (negsuc 0)) (sym h) ∙ adds_or_takes_one p a b r s e f g
+
+-- an edge right of p takes 1 away where its end does not lie above p
+pub takes_one : (p a b : Point) (r s : Bool) → r ≡ is_right p (edge a b) → r ≡ true → s ≡ int_lt p.y b.y → s ≡ false → negsuc 0 ≡ winding_of_edge p (edge a b)
+takes_one p a b r s e f g h = ap (λ (t : Bool). cond t (pos 1) (negsuc 0)) (sym h) ∙ adds_or_takes_one p a b r s e f g
+
+-- how far the winding number so far can be from its place: half the number of edges, and less at the point that the walk came from
+pub record IsNear (i : ℕ) (first here total : ℤ) : Type 0 where
+  pub most : (total +ℤ total +ℤ first) ≤ℤ (pos i +ℤ here)
+  pub least : here ≤ℤ (total +ℤ total +ℤ first +ℤ pos i)
+
+record IsEdgeNear (a b w : ℤ) : Type 0 where
+  most : (w +ℤ w +ℤ a) ≤ℤ (pos 1 +ℤ b)
+  least : b ≤ℤ (w +ℤ w +ℤ a +ℤ pos 1)
+
+edge_near : (p a b : Point) → IsEdgeNear (level p a) (level p b) (winding_of_edge p (edge a b))
+unfolding winding_of_edge
+edge_near p a b = go (is_right p (edge a b)) (int_lt p.y a.y) (int_lt p.y b.y) refl refl refl
+  where
+    made : (r s t : Bool) → IsEdgeNear (cond s (pos 1) (pos 0)) (cond t (pos 1) (pos 0)) (cond r (cond t (pos 1) (pos 0) -ℤ cond s (pos 1) (pos 0)) (pos 0))
+    made true true true = record { most = omega (arith, ints); least = omega (arith, ints) }
+    made true true false = record { most = omega (arith, ints); least = omega (arith, ints) }
+    made true false true = record { most = omega (arith, ints); least = omega (arith, ints) }
+    made true false false = record { most = omega (arith, ints); least = omega (arith, ints) }
+    made false true true = record { most = omega (arith, ints); least = omega (arith, ints) }
+    made false true false = record { most = omega (arith, ints); least = omega (arith, ints) }
+    made false false true = record { most = omega (arith, ints); least = omega (arith, ints) }
+    made false false false = record { most = omega (arith, ints); least = omega (arith, ints) }
+
+    go : (r s t : Bool) → is_right p (edge a b) ≡ r → int_lt p.y a.y ≡ s → int_lt p.y b.y ≡ t → IsEdgeNear (level p a) (level p b) (winding_of_edge p (edge a b))
+    go r s t e f g = rw (e, f, g) (made r s t)
+
+one_nearer : (i : ℕ) (first a b total w : ℤ) → IsNear i first a total → IsEdgeNear a b w → IsNear (i + 1) first b (total +ℤ w)
+one_nearer i first a b total w n e =
+    let m = n.most in
+    let l = n.least in
+    let x = e.most in
+    let y = e.least in
+    record { most = omega (arith, ints); least = omega (arith, ints) }
+
+-- one edge more
+pub near_step : (p a b : Point) (i : ℕ) (first total : ℤ) → IsNear i first (level p a) total → IsNear (i + 1) first (level p b) (total +ℤ winding_of_edge p (edge a b))
+near_step p a b i first total n = one_nearer i first (level p a) (level p b) total (winding_of_edge p (edge a b)) n (edge_near p a b)
+
+-- before the first edge the winding number so far is 0, and so is near its place
+pub near_first : (first : ℤ) → IsNear 0 first first (pos 0)
+near_first first = record { most = omega (arith, ints); least = omega (arith, ints) }
+
+-- a path is so near
+path_near : (p a : Point) (bs : List Point) (z : Point) → IsNear (suc (length bs)) (level p a) (level p z) (sum_of (winding_of_edge p) (edges_between a bs z))
+path_near p a [] z =
+    let one = edge_near p a z in
+    let most = one.most in
+    let least = one.least in
+    record { most = omega (arith, ints); least = omega (arith, ints) }
+path_near p a (b ∷ bs) z =
+    let one = edge_near p a b in
+    let rest = path_near p b bs z in
+    let most = one.most in
+    let least = one.least in
+    let rest_most = rest.most in
+    let rest_least = rest.least in
+    record { most = omega (arith, ints); least = omega (arith, ints) }
+
+-- a contour winds at most half as often as it has points
+pub winding_half : (c : List Point) (p : Point) → IsWithinHalf (length c) (winding c p)
+unfolding winding
+winding_half [] p = record { most = omega (arith, ints); least = omega (arith, ints) }
+winding_half (a ∷ bs) p =
+    let near = path_near p a bs a in
+    let most = near.most in
+    let least = near.least in
+    record { most = omega (arith, ints); least = omega (arith, ints) }
+
+-- ---- the walk
+abbrev total_over : Point → Point → List Point → ℤ
+total_over p q ps = sum_of (winding_of_edge p) (path_over q ps)
+
+-- a contour without points winds about none
+pub no_points : {I : Type 0} (value : I → ℤ) (p : Point) (cs : List (IntPoint I)) → length cs ≤ 0 → pos 0 ≡ winding (contour_of value cs) p
+unfolding winding
+no_points value p [] h = refl
+no_points value p (x ∷ xs) h = absurd (omega arith)
+
+-- the walk starts its sum at 0
+pub walk_first : (s : ℤ) → pos 0 +ℤ s ≡ s
+walk_first s = omega (arith, ints)
+
+-- a point more is walked to
+pub walk_edge : {I : Type 0} (value : I → ℤ) (p : Point) (cs : List (IntPoint I)) (i : ℕ) (start x : IntPoint I) (t w s : ℤ) → i < length cs → x ≡ get_or cs i x
+    → w ≡ winding_of_edge p (edge (point_of value start) (point_of value x)) → t +ℤ total_over p (point_of value start) (contour_of value (drop i cs)) ≡ s
+    → t +ℤ w +ℤ total_over p (point_of value x) (contour_of value (drop (i + 1) cs)) ≡ s
+walk_edge value p cs i start x t w s h e f g =
+    let k = subst (λ (ps : List Point). t +ℤ total_over p (point_of value start) ps ≡ s) (rest-read value cs i x h e) g in
+    rw f (grouped t (winding_of_edge p (edge (point_of value start) (point_of value x))) (total_over p (point_of value x) (contour_of value (drop (i + 1) cs))) ∙ k)
+  where
+    grouped : (a b c : ℤ) → a +ℤ b +ℤ c ≡ a +ℤ (b +ℤ c)
+    grouped a b c = omega (arith, ints)
+
+-- the walk from the last point over all points winds as the contour does
+pub walk_all : {I : Type 0} (value : I → ℤ) (p : Point) (cs : List (IntPoint I)) (last : IntPoint I) → 0 < length cs → last ≡ get_or cs (length cs - 1) last
+    → total_over p (point_of value last) (contour_of value cs) ≡ winding (contour_of value cs) p
+unfolding winding
+walk_all value p [] last h e = absurd (omega arith)
+walk_all value p (x ∷ xs) last h e =
+    let q = point_of value x in
+    let ps = contour_of value xs in
+    ap (λ (r : Point). total_over p r (q ∷ ps)) (last_point value (x ∷ xs) last h e)
+    ∙ swap (winding_of_edge p (edge (last_of q ps) q)) (total_over p q ps)
+    ∙ sym (sum_push (winding_of_edge p) (path_over q ps) (edge (last_of q ps) q))
+    ∙ ap (sum_of (winding_of_edge p)) (sym (between_is q ps q))
+  where
+    swap : (a b : ℤ) → a +ℤ b ≡ b +ℤ a
+    swap a b = omega (arith, ints)
+
+-- after the last point the winding number is told
+pub walk_over : {I : Type 0} (value : I → ℤ) (p : Point) (cs : List (IntPoint I)) (i : ℕ) (start last : IntPoint I) (t : ℤ) → length cs ≤ i → 0 < length cs → last ≡ get_or cs (length cs - 1) last
+    → t +ℤ total_over p (point_of value start) (contour_of value (drop i cs)) ≡ total_over p (point_of value last) (contour_of value cs) → t ≡ winding (contour_of value cs) p
+walk_over value p cs i start last t h some e f =
+    plus_none t ∙ ap (λ (ps : List Point). t +ℤ total_over p (point_of value start) ps) (sym (rest-none value cs i h)) ∙ f ∙ walk_all value p cs last some e
+  where
+    plus_none : (t : ℤ) → t ≡ t +ℤ pos 0
+    plus_none t = omega (arith, ints)
+
+-- ---- the winding number fits
+level_cases : (p a : Point) → (level p a ≡ pos 0) ⊎ (level p a ≡ pos 1)
+level_cases p a = go (int_lt p.y a.y) refl
+  where
+    go : (t : Bool) → int_lt p.y a.y ≡ t → (level p a ≡ pos 0) ⊎ (level p a ≡ pos 1)
+    go true e = inr (rw e refl)
+    go false e = inl (rw e refl)
+
+-- the last point that is walked to is the one that the walk came from
+back_at_last : {I : Type 0} (cs : List (IntPoint I)) (i : ℕ) (last x : IntPoint I) → last ≡ get_or cs (length cs - 1) last → i < length cs → x ≡ get_or cs i x → i + 1 ≡ length cs → x ≡ last
+back_at_last cs i last x e h f g = f ∙ get_or_default cs i x last h ∙ ap (λ (j : ℕ). get_or cs j last) (omega arith) ∙ sym e
+
+total_bounded : (i n : ℕ) (first here total : ℤ) → IsNear (i + 1) first here total → (first ≡ pos 0) ⊎ (first ≡ pos 1) → (here ≡ pos 0) ⊎ (here ≡ pos 1) → (i + 1 ≡ n → here ≡ first) → i < n → n < 2 ^ 64 → InReach (2 ^ 63) total
+total_bounded i n first here total near f g same h room = elim (eq-or-lt_of_le (let l : i + 1 ≤ n = omega arith in l)) [
+  | inl e ↦ let m = near.most in let l = near.least in let s = same e in record { from = omega (arith, ints); below = omega (arith, ints) }
+  | inr k ↦ let m = near.most in let l = near.least in record { from = omega (arith, ints); below = omega (arith, ints) }
+]
+
+-- what the walk adds up fits into 64 bits with a sign
+pub total_fits : {I : Type 0} (value : I → ℤ) (p : Point) (cs : List (IntPoint I)) (i : ℕ) (start last x : IntPoint I) (t w : ℤ) → last ≡ get_or cs (length cs - 1) last → i < length cs → length cs < 2 ^ 64 → x ≡ get_or cs i x
+    → w ≡ winding_of_edge p (edge (point_of value start) (point_of value x)) → IsNear i (level p (point_of value last)) (level p (point_of value start)) t → FitsSigned w64 (t +ℤ w)
+total_fits value p cs i start last x t w e h room f g near =
+    reach-fits w64 (t +ℤ w) (total_bounded i (length cs) (level p (point_of value last)) (level p (point_of value x)) (t +ℤ w)
+    (rw g (near_step p (point_of value start) (point_of value x) i (level p (point_of value last)) t near))
+    (level_cases p (point_of value last)) (level_cases p (point_of value x))
+    (λ k. ap (λ (y : IntPoint _). level p (point_of value y)) (back_at_last cs i last x e h f k)) h room)
+
+-- the sum as the program computes it
+pub total_added : (t r : ℤ) → FitsSigned w64 (t +ℤ r) → FitsSigned w64 r → to_z w64 (of_z w64 (t +ℤ to_z w64 (of_z w64 r))) ≡ t +ℤ r
+total_added t r f g = rw (to_z-of_z w64 r g) (to_z-of_z w64 (t +ℤ r) f)

@@ -1,0 +1,11 @@
+use Rattle.std.proofs.Common.{refl, lit≤}
+use Rattle.std.specs.Int.{w32, w64}
+use Rattle.i_shape_core.specs.IntPoint.{point_of}
+use Rattle.i_shape_core.proofs.arithmetic.Lanes.{four_told}
+use Rattle.i_shape_core.proofs.number.lanes.has_zero_turn_i32.Goals as goal
+
+pub returns : goal.returns
+returns c =
+    rw (c.vectors_of_i32-first.ensures, c.vectors_of_i32-second.ensures)
+    (four_told w32 w64 refl (lit≤ tt) refl 63 18446744073709551615 refl refl (point_of (λ z. z) c.args.a) (point_of (λ z. z) c.args.b) (point_of (λ z. z) c.args.c) (point_of (λ z. z) c.args.d) (point_of (λ z. z) c.args.e) (point_of (λ z. z) c.args.f)
+    c.requires.a_safe c.requires.b_safe c.requires.c_safe c.requires.d_safe c.requires.e_safe c.requires.f_safe)

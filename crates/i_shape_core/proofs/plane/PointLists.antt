@@ -1,0 +1,77 @@
+-- Lists of a caller's points, read as lists of the library's.
+use Rattle.std.proofs.Common.{◌≡◌, ◌∙◌, ℕ, ◌<◌, List, [], ◌∷◌, ◌++◌, map, take, drop, length, get_or, slice_get, reverse, Bool, true, false, cond, Some, option_map, refl, sym, ap, ap₂}
+use Rattle.std.specs.List.{find}
+use Rattle.std.proofs.lemmas.Option.{slice_get-map}
+use Rattle.std.proofs.lemmas.Simd.{map-map}
+use Rattle.std.proofs.lemmas.List.{get_or-map, length-map, map-append, take-map, drop-map, reverse-append}
+
+-- what is made of each item of a list that starts at another place
+pub map-rotated : {A B : Type 0} (f : A → B) (k : ℕ) (list : List A) → map f (drop k list ++ take k list) ≡ drop k (map f list) ++ take k (map f list)
+map-rotated f k list = map-append f (drop k list) (take k list) ∙ ap (λ l. l ++ map f (take k list)) (sym (drop-map f k list)) ∙ ap (λ l. drop k (map f list) ++ l) (sym (take-map f k list))
+
+module _ {A B : Type 0} (point : A → B) (points : List A → List B) (each : (list : List A) → points list ≡ map point list) where
+  -- they are as many
+  pub points-length : (list : List A) → length (points list) ≡ length list
+  points-length list = ap length (each list) ∙ length-map list point
+
+  -- what stands at a place
+  pub points-read : (list : List A) (k : ℕ) (a : A) (b : B) → k < length list → get_or (points list) k b ≡ point (get_or list k a)
+  points-read list k a b within = ap (λ l. get_or l k b) (each list) ∙ get_or-map point list k a b within
+
+  -- so a point that stands at a place, read as the library's, stands there
+  pub points-at : (list : List A) (k : ℕ) (a : A) → k < length list → a ≡ get_or list k a → point a ≡ get_or (points list) k (point a)
+  points-at list k a within e = ap point e ∙ sym (points-read list k a (point a) within)
+
+  -- one more at the end
+  pub points-push : (list longer : List A) (a : A) → longer ≡ list ++ a ∷ [] → points longer ≡ points list ++ point a ∷ []
+  points-push list longer a e = ap points e ∙ each (list ++ a ∷ []) ∙ map-append point list (a ∷ []) ∙ ap (λ l. l ++ point a ∷ []) (sym (each list))
+
+  -- the same list, started at another place
+  pub points-rotated : (list rotated : List A) (k : ℕ) → rotated ≡ drop k list ++ take k list → points rotated ≡ drop k (points list) ++ take k (points list)
+  points-rotated list rotated k e = ap points e ∙ each (drop k list ++ take k list) ∙ map-rotated point k list ∙ ap (λ l. drop k l ++ take k l) (sym (each list))
+
+  -- the first ones, and the others
+  pub points-take : (list front : List A) (n : ℕ) → front ≡ take n list → points front ≡ take n (points list)
+  points-take list front n e = ap points e ∙ each (take n list) ∙ sym (take-map point n list) ∙ ap (take n) (sym (each list))
+
+  -- the points of a list without its first items are those behind the first points
+  pub points-drop : (list rest : List A) (n : ℕ) → rest ≡ drop n list → points rest ≡ drop n (points list)
+  points-drop list rest n e = ap points e ∙ each (drop n list) ∙ sym (drop-map point n list) ∙ ap (drop n) (sym (each list))
+
+  -- two lists end to end
+  pub points-append : (whole front back : List A) → whole ≡ front ++ back → points whole ≡ points front ++ points back
+  points-append whole front back e = ap points e ∙ each (front ++ back) ∙ map-append point front back ∙ ap₂ (λ (l m : List B). l ++ m) (sym (each front)) (sym (each back))
+
+  -- the points at these places are read from those at them
+  pub points-at-places : (list picked : List A) (places : List ℕ) → map (λ p. Some p) picked ≡ map (slice_get list) places → map (λ p. Some p) (points picked) ≡ map (slice_get (points list)) places
+  points-at-places list picked places at =
+      ap (map (λ p. Some p)) (each picked) ∙ map-map (λ p. Some p) point picked ∙ sym (map-map (option_map point) (λ p. Some p) picked) ∙ ap (map (option_map point)) at
+      ∙ map-map (option_map point) (slice_get list) places ∙ sym (λ i. map (λ k. slice_get-map point list k i) places) ∙ ap (λ l. map (slice_get l) places) (sym (each list))
+
+  -- a point that was read at a place, as the library's
+  pub points-item : (list : List A) (k : ℕ) (a : A) (b : B) → b ≡ point a → k < length list → a ≡ get_or list k a → b ≡ get_or (points list) k b
+  points-item list k a b is within e = rw is (points-at list k a within e)
+
+-- what is made of each item of a list read backwards
+pub map-reversed : {A B : Type 0} (f : A → B) (list : List A) → map f (reverse list) ≡ reverse (map f list)
+map-reversed f [] = refl
+map-reversed f (a ∷ list) =
+    ap (map f) (reverse-append (a ∷ []) list) ∙ map-append f (reverse list) (a ∷ []) ∙ ap (λ l. l ++ f a ∷ []) (map-reversed f list) ∙ sym (reverse-append (f a ∷ []) (map f list))
+
+-- the first item of a list made of another that passes a test is made of the first that does
+find-map : {A B : Type 0} (f : A → B) (q : B → Bool) (list : List A) → find q (map f list) ≡ option_map f (find (λ a. q (f a)) list)
+find-map f q [] = refl
+find-map f q (a ∷ list) = go (q (f a)) (find-map f q list)
+  where
+    go : (t : Bool) → find q (map f list) ≡ option_map f (find (λ b. q (f b)) list) → cond t (Some (f a)) (find q (map f list)) ≡ option_map f (cond t (Some a) (find (λ b. q (f b)) list))
+    go true later = refl
+    go false later = later
+
+module _ {A B : Type 0} (point : A → B) (points : List A → List B) (each : (list : List A) → points list ≡ map point list) where
+  -- the last point that passes a test
+  pub points-found : (q : B → Bool) (list : List A) → find q (reverse (points list)) ≡ option_map point (find (λ a. q (point a)) (reverse list))
+  points-found q list = ap (λ l. find q (reverse l)) (each list) ∙ ap (find q) (sym (map-reversed point list)) ∙ find-map point q (reverse list)
+
+  -- the same list, read backwards
+  pub points-reversed : (list back : List A) → back ≡ reverse list → points back ≡ reverse (points list)
+  points-reversed list back e = ap points e ∙ each (reverse list) ∙ map-reversed point list ∙ ap reverse (sym (each list))

@@ -1,0 +1,56 @@
+-- A contour without back points keeps at least three points, and none that go back, whatever zero turns are taken out.
+use Rattle.std.proofs.Common.{◌≡◌, ℕ, ◌<◌, ◌≤◌, List, length, pos, ◌≤ℤ◌, ◌<ℤ◌, ◌⊎◌, inl, inr}
+use Rattle.i_shape_core.specs.Point.{Point, cross, dot, IsZeroTurn, IsBack}
+use Rattle.i_shape_core.specs.Contour.{point_at, IsRemovable, Step, Reach, stay, step}
+use Rattle.i_shape_core.proofs.removal.Tests.{Straightens}
+use Rattle.i_shape_core.proofs.plane.Back.{back_before_straight, back_after_straight, flat_triangle, low_or_above}
+use Rattle.i_shape_core.proofs.removal.Places.{Follows, before_from, after_from}
+use Rattle.i_shape_core.proofs.removal.BackFirst.{keeps_none}
+
+-- a zero turn that doesn't go back goes straight on
+onward : (a p q : Point) → IsZeroTurn a p q → (IsBack a p q → ⊥) → pos 0 <ℤ dot a p q
+onward a p q z n = go (low_or_above (dot a p q))
+  where
+    go : (dot a p q ≤ℤ pos 0) ⊎ (pos 0 <ℤ dot a p q) → pos 0 <ℤ dot a p q
+    go (inl d) = absurd (n (z, d))
+    go (inr d) = d
+
+-- back points and zero turns are such tests as Straightens wants
+pub back_straightens : Straightens IsBack IsZeroTurn
+back_straightens = record {
+  weaker = λ a p q b. b.0;
+  keeps_ahead = λ x a p q z n m b. m (back_before_straight x a p q z (onward a p q z n) b);
+  keeps_behind = λ a p q b z n m k. m (back_after_straight a p q b z (onward a p q z n) k);
+  flat_triangle = λ a p q z n m k. triangle n m k (flat_triangle a p q z);
+}
+  where
+    triangle : {A B C : Type 0} → (A → ⊥) → (B → ⊥) → (C → ⊥) → A ⊎ (B ⊎ C) → ⊥
+    triangle f g h (inl x) = f x
+    triangle f g h (inr (inl x)) = g x
+    triangle f g h (inr (inr x)) = h x
+
+-- a contour of at least three points, none of which goes back
+pub record HasNoBack (c : List Point) : Type 0 where
+  pub enough : 3 ≤ length c
+  pub none : (k : ℕ) → IsRemovable IsBack c k → ⊥
+
+-- removals of zero turns make no back point
+pub no_back_kept : (c d : List Point) → HasNoBack c → Reach IsZeroTurn c d → HasNoBack d
+no_back_kept c d h r = let m = keeps_none back_straightens h.enough h.none r in record { enough = m.0; none = m.1 }
+
+-- and neither does one of them
+pub no_back_after_step : (c d : List Point) → HasNoBack c → Step IsZeroTurn c d → HasNoBack d
+no_back_after_step c d h s = no_back_kept c d h (step s stay)
+
+-- no three points in a row go back
+pub none_in_a_row : (c : List Point) → HasNoBack c → (q m s : ℕ) → q < length c → m < length c → Follows (length c) q m → Follows (length c) m s
+    → IsBack (point_at c q) (point_at c m) (point_at c s) → ⊥
+none_in_a_row c h q m s i l Q S back = h.none m (record { enough = h.enough; within = l; passes = rw (before_from (length c) q m i l Q, after_from (length c) m s l S) back })
+
+-- a zero turn goes straight on
+pub zero_turn_straight : (c : List Point) (k b a : ℕ) → HasNoBack c → IsRemovable IsZeroTurn c k → b < length c → Follows (length c) b k → Follows (length c) k a
+    → (cross (point_at c b) (point_at c k) (point_at c a) ≡ pos 0) × (pos 0 <ℤ dot (point_at c b) (point_at c k) (point_at c a))
+zero_turn_straight c k b a h r i B A = (zero, onward (point_at c b) (point_at c k) (point_at c a) zero (none_in_a_row c h b k a i r.within B A))
+  where
+    zero : cross (point_at c b) (point_at c k) (point_at c a) ≡ pos 0
+    zero = rw (← before_from (length c) b k i r.within B, ← after_from (length c) k a r.within A) r.passes

@@ -1,0 +1,132 @@
+-- What a walk finds, and the answer that it gives.
+use Rattle.std.proofs.Common.{◌≡◌, ℕ, ◌%◌, ◌<◌, ◌≤◌, List, [], ◌∷◌, length, Option, Some, None, option_map, sym, ◌∙◌, pos, refl, arith, ◌⊎◌, inl, inr, ap}
+use Rattle.std.specs.List.{All, count_by}
+use Rattle.std.specs.Option.{IfSome}
+use Rattle.std.proofs.lemmas.Bool.{cases_lt}
+use Rattle.std.proofs.lemmas.Result.{IfOk-weaker}
+use Rattle.std.specs.Result.{IfOk}
+use Rattle.std.specs.declared.result.Result.{Result}
+use Rattle.i_shape_core.specs.Point.{Point, IsZeroTurn, IsBack}
+use Rattle.i_shape_core.specs.Contour.{Test, Rotation, Reach, stay, End, IsCollapsed, IsSimple, Sublist}
+use Rattle.i_shape_core.specs.Walks.{WalkAnswer}
+use Rattle.i_shape_core.specs.Edges.{edges, shoelace, area_of_edge, is_right, Inside}
+use Rattle.i_shape_core.specs.Winding.{winding, winding_of_edge}
+use Rattle.i_shape_core.specs.Cleaners.{SimpleAnswer, SpikelessAnswer, KeptAnswer, VisitsAnswer, IsKept, IsFlat}
+use Rattle.i_shape_core.proofs.removal.ZeroTurns.{every_order, ends_agree}
+use Rattle.i_shape_core.proofs.removal.Ends.{all_left, reach_by_weaker}
+use Rattle.i_shape_core.proofs.lists.Sublists.{sublist_reached}
+use Rattle.i_shape_core.proofs.removal.WithoutBack.{back_straightens}
+use Rattle.i_shape_core.proofs.walks.Spikes.{spikeless_end}
+use Rattle.i_shape_core.proofs.measure.Edges.{area_kept}
+use Rattle.i_shape_core.proofs.measure.RotatedEdges.{same_sum, same_count}
+use Rattle.i_shape_core.proofs.measure.RationalWindings.{winding_between, between_none, between_rotated}
+use Rattle.i_shape_core.proofs.measure.Inside.{inside_laws}
+use Rattle.i_shape_core.proofs.measure.Windings.{winding_kept, winding_none}
+use Rattle.i_shape_core.proofs.arithmetic.Polynomials.{by_polynomials, plus, number}
+use Rattle.i_shape_core.proofs.plane.CrossProducts.{coordinates, area_term, A, B}
+
+-- what is reached has the same double area, the same points inside and the same winding numbers
+pub reach_keeps : (c e : List Point) → Reach IsZeroTurn c e → IsKept c e
+reach_keeps c e r = record {
+  area = sym (area_kept c e r);
+  inside = λ p. let same = (inside_laws c e).kept r p in (same.1, same.0);
+  winding = λ p. sym (winding_kept c e r p);
+  between = λ n p. sym (winding_between c e r n p);
+}
+
+-- fewer than three points have no area
+pub no_area : (d : List Point) → IsCollapsed d → shoelace d ≡ pos 0
+unfolding shoelace area_of_edge
+no_area [] h = refl
+no_area (a ∷ []) h = by_polynomials (coordinates (a ∷ [])) (plus (area_term A A) (number (pos 0))) (number (pos 0)) refl
+no_area (a ∷ b ∷ []) h = by_polynomials (coordinates (a ∷ b ∷ [])) (plus (area_term A B) (plus (area_term B A) (number (pos 0)))) (number (pos 0)) refl
+no_area (a ∷ b ∷ d ∷ ds) h = absurd (omega arith)
+
+-- a contour that collapses has no area and no point inside, and winds about none
+pub collapsed_is_flat : (c d : List Point) → Reach IsZeroTurn c d → IsCollapsed d → IsFlat c
+collapsed_is_flat c d r h = record {
+  area = area_kept c d r ∙ no_area d h;
+  inside = λ p i. (inside_laws d d).none h p (((inside_laws c d).kept r p).0 i);
+  winding = λ p. winding_kept c d r p ∙ winding_none d h p;
+  between = λ n p. winding_between c d r n p ∙ between_none d h n p;
+}
+
+-- what a contour keeps, each rotation of that keeps
+pub kept_by_rotation : (c e l : List Point) → IsKept c e → Rotation e l → IsKept c l
+unfolding shoelace Inside winding
+kept_by_rotation c e l k r = record {
+  area = sym (same_sum area_of_edge e l r) ∙ k.area;
+  inside = λ p. let s : count_by (is_right p) (edges e) % 2 ≡ count_by (is_right p) (edges l) % 2 = ap (λ (n : ℕ). n % 2) (same_count p e l r) in
+      (λ h. (k.inside p).0 (s ∙ h), λ h. sym s ∙ (k.inside p).1 h);
+  winding = λ p. sym (same_sum (winding_of_edge p) e l r) ∙ k.winding p;
+  between = λ n p. sym (between_rotated r n p) ∙ k.between n p;
+}
+
+-- an end that has not collapsed is the one
+one_answer : (c e : List Point) → End IsZeroTurn c e → 3 ≤ length e → SimpleAnswer c (Some e)
+one_answer c e ended enough = record { ended = ended; enough = enough; alone = λ f g. ((every_order c).some e f ended enough g).1 }
+
+-- what a walk by zero turns answers is the one end
+pub simple_answer : (c : List Point) (r : Option (List Point)) (visits : ℕ) → WalkAnswer IsZeroTurn c r visits → SimpleAnswer c r
+simple_answer c None visits w = λ e f. (every_order c).none w.rest e w.reached w.few f
+simple_answer c (Some e) visits w = one_answer c e w.ended w.enough
+
+-- a simple contour is its own answer
+pub simple_stays : (c : List Point) → IsSimple c → SimpleAnswer c (Some c)
+simple_stays c s = one_answer c c (record { reached = stay; none_left = s.none }) s.enough
+
+-- what it answers keeps double area and containment
+pub kept_answer : (c : List Point) (r : Option (List Point)) (visits : ℕ) → WalkAnswer IsZeroTurn c r visits → KeptAnswer c r
+kept_answer c None visits w = collapsed_is_flat c w.rest w.reached w.few
+kept_answer c (Some e) visits w = reach_keeps c e w.ended.reached
+
+-- what holds of each point of the contour holds of each that is answered
+pub all_answered : (P : Test) {X : Type 0} (Q : Point → Type 0) (f : X → List Point) (c : List Point) (r : Option X) (visits : ℕ) → WalkAnswer P c (option_map f r) visits → All Q c → IfSome r (λ x. All Q (f x))
+all_answered P Q f c None visits w h = tt
+all_answered P Q f c (Some x) visits w h = all_left Q w.ended.reached h
+
+-- what is answered is a sublist of the contour
+pub in_order_answered : (P : Test) {X : Type 0} (f : X → List Point) (c : List Point) (r : Option X) (visits : ℕ) → WalkAnswer P c (option_map f r) visits → IfSome r (λ x. Sublist c (f x))
+in_order_answered P f c None visits w = tt
+in_order_answered P f c (Some x) visits w = sublist_reached w.ended.reached
+
+-- its visits are within the bounds
+pub visits_answer : (P : Test) (c : List Point) (r : Option (List Point)) (visits : ℕ) → WalkAnswer P c r visits → VisitsAnswer c r visits
+visits_answer P c None visits w = record { least = w.least; most = w.most }
+visits_answer P c (Some e) visits w = record { least = w.least; most = w.most }
+
+-- fewer than three points have collapsed before the first visit
+pub short_answer : (P : Test) (c : List Point) → length c < 3 → WalkAnswer P c None 0
+short_answer P c h = record { rest = c; reached = stay; few = h; least = omega arith; most = omega arith }
+
+-- the same where points are removed at which the way turns back
+pub spikeless_answer : (c : List Point) (r : Option (List Point)) (visits : ℕ) → WalkAnswer IsBack c r visits → SpikelessAnswer c r
+spikeless_answer c None visits w = λ e f. (every_order c).none w.rest e (reach_by_weaker back_straightens.weaker w.reached) w.few f
+spikeless_answer c (Some d) visits w = record {
+  ended = w.ended;
+  enough = w.enough;
+  spikeless = spikeless_end d w.enough w.ended.none_left;
+  uncollapsed = uncollapsed;
+  ends = λ e f a b. (ends_agree c).ends d e f w.ended w.enough a b;
+}
+  where
+    uncollapsed : (e : List Point) → End IsZeroTurn c e → 3 ≤ length e
+    uncollapsed e a = go (cases_lt (length e) 3)
+      where
+        go : IsCollapsed e ⊎ (3 ≤ length e) → 3 ≤ length e
+        go (inl h) = absurd (omega (arith, w.enough, ((ends_agree c).alike d e w.ended a).1 h))
+        go (inr h) = h
+
+-- and so does what a walk by back vertices answers
+pub kept_spikeless : (c : List Point) (r : Option (List Point)) (visits : ℕ) → WalkAnswer IsBack c r visits → KeptAnswer c r
+kept_spikeless c None visits w = collapsed_is_flat c w.rest (reach_by_weaker back_straightens.weaker w.reached) w.few
+kept_spikeless c (Some d) visits w = reach_keeps c d (reach_by_weaker back_straightens.weaker w.ended.reached)
+
+-- a contour without a removable vertex is found after one visit of each
+pub whole_found : (P : Test) (c : List Point) (visits : ℕ) → End P c c → 3 ≤ length c → visits ≡ length c → WalkAnswer P c (Some c) visits
+whole_found P c visits ended enough all = record { ended = ended; enough = enough; least = omega (arith, all); most = omega (arith, all) }
+
+-- an answer that keeps what a walk has left answers what the walk does
+pub walk_kept : {X E : Type 0} (P : Test) (c : List Point) (shown : X → Option (List Point)) (count : X → ℕ) (result : Result X E) (left : Option (List Point)) (visits : ℕ)
+    → IfOk result (λ r. (shown r ≡ left) × (count r ≡ visits)) → WalkAnswer P c left visits → IfOk result (λ r. WalkAnswer P c (shown r) (count r))
+walk_kept P c shown count result left visits reach_keeps answer = IfOk-weaker result _ _ (λ r w. rw (w.0, w.1) answer) reach_keeps

@@ -1,0 +1,500 @@
+-- The walk that looks for spikes.
+use Rattle.std.proofs.Common.{◌≡◌, ◌≢◌, ℕ, ◌-◌, ◌<◌, ◌≤◌, List, [], ◌∷◌, ◌++◌, reverse, length, get_or, Option, Some, None, option_map, unwrap_or, not, ℤ, pos, int_lt, ◌<ℤ◌, ◌≤ℤ◌, T, refl, sym, ap, subst, subst₂, ◌∙◌, arith, ◌⊎◌, inl, inr, ◌↔◌, Bool, true, false, cond, ◌&&◌, IsTrue, IsNone, is_some}
+use Rattle.std.proofs.lemmas.Int.{ints}
+use Rattle.std.proofs.lemmas.List.{reverse-append, append-nil, map-append}
+use Rattle.std.proofs.lemmas.List.Elements.{All-head, All-tail, All-push}
+use Rattle.std.proofs.lemmas.List.Folds.{find-append}
+use Rattle.std.specs.List.{All, find}
+use Rattle.std.specs.Int.{Width}
+use Rattle.std.specs.Option.{option_or}
+use Rattle.std.specs.Ordering.{int_eq}
+use Rattle.std.specs.Cmp.{signed_Decides}
+use Rattle.i_shape_core.specs.Point.{Point, origin, vector, cross, cross_of, dot, dot_of, IsBack}
+use Rattle.i_shape_core.specs.Contour.{Test, point_at, place_before, place_after, IsRemovable, IsSimple}
+use Rattle.i_shape_core.specs.Blocks.{Reverses, GoesBack, last_change}
+use Rattle.i_shape_core.specs.Convex.{is_same, is_reversal, changes_after, last_of, dedup, NoSpikes, IsReversal, cross_at}
+use Rattle.i_shape_core.specs.IntPoint.{point_of, contour_of, IsSafe}
+use Rattle.i_shape_core.specs.declared.point.IntPoint.{IntPoint}
+use Rattle.i_shape_core.proofs.convex.Laws.{Has, IsReversed}
+use Rattle.i_shape_core.proofs.measure.InsideWalk.{last_point}
+use Rattle.i_shape_core.proofs.convex.Around.{Met, Passed, AllSame, met_is, has_met, last_but_one, none_change}
+use Rattle.i_shape_core.proofs.removal.Dedup.{IsApart, AllApart, changes_apart, changes_last, last_again, same_yes, same_no, last_of_append, apart_from_places, dedup-same}
+use Rattle.i_shape_core.proofs.plane.Back.{back_cases, there_and_back, back_from_cases}
+use Rattle.i_shape_core.proofs.plane.Contours.{safe-at}
+
+-- what is told a reversal is one
+pub reversal_yes : (a b c : Point) → is_reversal a b c ≡ true → IsReversed a b c
+unfolding is_reversal
+reversal_yes a b c e = go (int_eq (cross a b c) (pos 0)) refl (int_lt (dot a b c) (pos 0)) refl e
+  where
+    go : (s : Bool) → int_eq (cross a b c) (pos 0) ≡ s → (t : Bool) → int_lt (dot a b c) (pos 0) ≡ t → s && t ≡ true → IsReversed a b c
+    go true e true f h = ((signed_Decides (cross a b c) (pos 0)).0 e, omega (arith, ints))
+    go true e false f h = absurd (cc)
+    go false e t f h = absurd (cc)
+
+-- what isn't told a reversal is none
+pub reversal_no : (a b c : Point) → is_reversal a b c ≡ false → IsReversed a b c → ⊥
+unfolding is_reversal
+reversal_no a b c e h = go (int_eq (cross a b c) (pos 0)) ((signed_Decides (cross a b c) (pos 0)).1 h.0) (int_lt (dot a b c) (pos 0)) (below (dot a b c) h.1) e
+  where
+    below : (d : ℤ) → d <ℤ pos 0 → true ≡ int_lt d (pos 0)
+    below d h = omega (arith, ints)
+
+    go : (s : Bool) → s ≡ true → (t : Bool) → true ≡ t → s && t ≡ false → ⊥
+    go true e true f h = cc
+    go true e false f h = cc
+    go false e t f h = cc
+
+-- the last point that differs from p, or o
+abbrev pub last_differing : Point → Point → List Point → Point
+last_differing p o [] = o
+last_differing p o (q ∷ qs) = cond (is_same p q) (last_differing p o qs) (last_differing p q qs)
+
+-- where it stands
+abbrev IsLastDiffering : Point → Point → List Point → Point → Type 0
+IsLastDiffering p o c r = ((r ≡ o) × AllSame p c) ⊎ ((u : List Point) × (v : List Point) × (c ≡ u ++ r ∷ v) × AllSame p v × (r ≢ p))
+
+is_last_differing : (p o : Point) (c : List Point) → IsLastDiffering p o c (last_differing p o c)
+is_last_differing p o [] = inl (refl, tt)
+is_last_differing p o (q ∷ qs) = go (is_last_differing p o qs) (is_last_differing p q qs) (is_same p q) refl
+  where
+    go : IsLastDiffering p o qs (last_differing p o qs) → IsLastDiffering p q qs (last_differing p q qs) → (t : Bool) → is_same p q ≡ t → IsLastDiffering p o (q ∷ qs) (cond t (last_differing p o qs) (last_differing p q qs))
+    go (inl x) y true e = inl (x.0, (sym (same_yes p q e), x.1))
+    go (inr x) y true e = inr (q ∷ x.0, x.1, ap (λ (xs : List Point). q ∷ xs) x.2, x.3, x.4)
+    go x (inl y) false e = inr ([], qs, ap (λ (r : Point). r ∷ qs) (sym y.0), y.1, λ f. same_no p q e (sym f ∙ y.0))
+    go x (inr y) false e = inr (q ∷ y.0, y.1, ap (λ (xs : List Point). q ∷ xs) y.2, y.3, y.4)
+
+all_same : (c : List Point) → AllSame (last_of origin c) c → length (dedup c) ≡ 0
+unfolding dedup
+all_same c a = ap length (none_change (last_of origin c) c a)
+
+at_parts : (u v : List Point) (r : Point) → AllSame (last_of origin (u ++ r ∷ v)) v → r ≢ last_of origin (u ++ r ∷ v) → r ≡ point_at (dedup (u ++ r ∷ v)) (length (dedup (u ++ r ∷ v)) - 2)
+at_parts u [] r a n = absurd (n (sym (last_of_append origin u (r ∷ []))))
+at_parts u (x ∷ v) r a n = (last_but_one u (x ∷ v) r (last_of origin (u ++ r ∷ x ∷ v)) refl (omega arith) a n).1
+
+-- the last but one of the points without repeats is the last that differs from the last
+pub last_but_one_differs : (c : List Point) (o : Point) → 1 ≤ length (dedup c) → last_differing (last_of origin c) o c ≡ point_at (dedup c) (length (dedup c) - 2)
+last_but_one_differs c o h = go (last_differing (last_of origin c) o c) (is_last_differing (last_of origin c) o c)
+  where
+    parts : (r : Point) (d : List Point) (u v : List Point) → d ≡ u ++ r ∷ v → AllSame (last_of origin d) v → r ≢ last_of origin d → r ≡ point_at (dedup d) (length (dedup d) - 2)
+    parts r d u v e a n = subst (λ (x : List Point). r ≡ point_at (dedup x) (length (dedup x) - 2)) (sym e)
+        (at_parts u v r (subst (λ (x : List Point). AllSame (last_of origin x) v) e a) (subst (λ (x : List Point). r ≢ last_of origin x) e n))
+
+    go : (r : Point) → IsLastDiffering (last_of origin c) o c r → r ≡ point_at (dedup c) (length (dedup c) - 2)
+    go r (inl x) = absurd (omega (arith, all_same c x.1))
+    go r (inr (u, v, e, a, n)) = parts r c u v e a n
+
+-- ---- where the walk starts: at the last point, and behind it the last that differs
+abbrev pub first_behind : List Point → Point
+first_behind c = last_differing (last_of origin c) (last_of origin c) c
+
+-- a turn of the contour passes the test where S says that one did so far, or one does in what is left
+abbrev pub Told : Test → List Point → Type 0 → Point → Point → List Point → Type 0
+Told P c S o p rest = Met P (first_behind c) (last_of origin c) c ↔ (S ⊎ Met P o p rest)
+
+-- before the first point nothing is told
+pub told-start : (P : Test) (c : List Point) (S : Type 0) → (S → ⊥) → Told P c S (first_behind c) (last_of origin c) c
+told-start P c S n = (λ m. inr m, λ x. elim x [ inl s ↦ absurd (n s) | inr m ↦ m ])
+
+-- another point adds what the test says there
+pub told-on : (P : Test) (c : List Point) (S T N : Type 0) (o p q : Point) (rest : List Point) → is_same p q ≡ false → N ↔ P o p q → T ↔ (S ⊎ N)
+    → Told P c S o p (q ∷ rest) → Told P c T p q rest
+told-on P c S T N o p q rest e n t w = (λ m. to (w.0 m), λ x. w.1 (from x))
+  where
+    same : Met P o p (q ∷ rest) ≡ (P o p q ⊎ Met P p q rest)
+    same = ap (λ (b : Bool). cond b (Met P o p rest) (P o p q ⊎ Met P p q rest)) e
+
+    now : P o p q ⊎ Met P p q rest → T ⊎ Met P p q rest
+    now (inl x) = inl (t.1 (inr (n.1 x)))
+    now (inr m) = inr m
+
+    to : S ⊎ Met P o p (q ∷ rest) → T ⊎ Met P p q rest
+    to (inl s) = inl (t.1 (inl s))
+    to (inr m) = now (subst (λ (X : Type 0). X) same m)
+
+    earlier : S ⊎ N → S ⊎ Met P o p (q ∷ rest)
+    earlier (inl s) = inl s
+    earlier (inr y) = inr (subst (λ (X : Type 0). X) (sym same) (inl (n.0 y)))
+
+    from : T ⊎ Met P p q rest → S ⊎ Met P o p (q ∷ rest)
+    from (inl y) = earlier (t.0 y)
+    from (inr m) = inr (subst (λ (X : Type 0). X) (sym same) (inr m))
+
+-- a repeated point adds nothing
+pub told-skip : (P : Test) (c : List Point) (S : Type 0) (o p q : Point) (rest : List Point) → is_same p q ≡ true → Told P c S o p (q ∷ rest) → Told P c S o p rest
+told-skip P c S o p q rest e w = subst (λ (X : Type 0). Met P (first_behind c) (last_of origin c) c ↔ (S ⊎ X)) same w
+  where
+    same : Met P o p (q ∷ rest) ≡ Met P o p rest
+    same = ap (λ (b : Bool). cond b (Met P o p rest) (P o p q ⊎ Met P p q rest)) e
+
+-- one was met, before or here
+pub told-met : (P : Test) (c : List Point) (S N : Type 0) (o p q : Point) (rest : List Point) → is_same p q ≡ false → (N → P o p q)
+    → Told P c S o p (q ∷ rest) → S ⊎ N → Met P (first_behind c) (last_of origin c) c
+told-met P c S N o p q rest e n w (inl s) = w.1 (inl s)
+told-met P c S N o p q rest e n w (inr y) =
+    w.1 (inr (subst (λ (X : Type 0). X) (sym (ap (λ (b : Bool). cond b (Met P o p rest) (P o p q ⊎ Met P p q rest)) e)) (inl (n y))))
+
+-- ---- how many points are left without repeats
+
+-- the way to another point and back reverses
+back_reversed : (p q : Point) → p ≢ q → IsReversed p q p
+back_reversed p q n = go (back_cases p q p (there_and_back p q))
+  where
+    go : (p ≡ q) ⊎ ((q ≡ p) ⊎ IsReversed p q p) → IsReversed p q p
+    go (inl e) = absurd (n e)
+    go (inr (inl e)) = absurd (n (sym e))
+    go (inr (inr r)) = r
+
+two_parts : (u v : List Point) (r : Point) → AllSame (last_of origin (u ++ r ∷ v)) v → r ≢ last_of origin (u ++ r ∷ v) → 2 ≤ length (dedup (u ++ r ∷ v))
+two_parts u [] r a n = absurd (n (sym (last_of_append origin u (r ∷ []))))
+two_parts u (x ∷ v) r a n = (last_but_one u (x ∷ v) r (last_of origin (u ++ r ∷ x ∷ v)) refl (omega arith) a n).0
+
+-- where a point differs from the last one, at least two are left
+two_left : (c : List Point) → first_behind c ≢ last_of origin c → 2 ≤ length (dedup c)
+two_left c n = go (first_behind c) (is_last_differing (last_of origin c) (last_of origin c) c) n
+  where
+    parts : (r : Point) (d u v : List Point) → d ≡ u ++ r ∷ v → AllSame (last_of origin d) v → r ≢ last_of origin d → 2 ≤ length (dedup d)
+    parts r d u v e a n = subst (λ (x : List Point). 2 ≤ length (dedup x)) (sym e)
+        (two_parts u v r (subst (λ (x : List Point). AllSame (last_of origin x) v) e a) (subst (λ (x : List Point). r ≢ last_of origin x) e n))
+
+    go : (r : Point) → IsLastDiffering (last_of origin c) (last_of origin c) c r → r ≢ last_of origin c → 2 ≤ length (dedup c)
+    go r (inl x) n = absurd (n x.0)
+    go r (inr (u, v, e, a, m)) n = parts r c u v e a m
+
+-- two points are a way there and back: without a reversal there are at least three
+three_left : (c : List Point) (o : Point) → 2 ≤ length (dedup c) → (Met IsReversed o (last_of origin c) c → ⊥) → 3 ≤ length (dedup c)
+unfolding dedup
+three_left c o h none = go (changes_after p c) h (changes_apart p c) (changes_last p c ∙ last_again origin c) (λ x. none (subst (λ (X : Type 0). X) (sym (met_is IsReversed o p c)) x))
+  where
+    p : Point
+    p = last_of origin c
+
+    go : (d : List Point) → 2 ≤ length d → AllApart p d → last_of p d ≡ p → (Passed IsReversed o p d → ⊥) → 3 ≤ length d
+    go [] h a e none = absurd (omega arith)
+    go (x ∷ []) h a e none = absurd (omega arith)
+    go (x ∷ y ∷ []) h a e none = absurd (none (inr (inl (subst (λ (z : Point). IsReversed p x z) (sym e) (back_reversed p x a.0)))))
+    go (x ∷ y ∷ z ∷ d) h a e none = omega arith
+
+-- ---- the walk over a contour of which not all points are the same: o and p are the last two that differ, no turn so far reverses, and the rest is still to come
+pub record Walking (c : List Point) (o p : Point) (rest : List Point) : Type 0 where
+  pub differ : first_behind c ≢ last_of origin c
+  pub met : Told IsReversed c ⊥ o p rest
+
+walking_start : (c : List Point) → first_behind c ≢ last_of origin c → Walking c (first_behind c) (last_of origin c) c
+walking_start c n = record { differ = n; met = told-start IsReversed c ⊥ (λ x. x) }
+
+walking_skip : (c : List Point) (o p q : Point) (rest : List Point) → is_same p q ≡ true → Walking c o p (q ∷ rest) → Walking c o p rest
+walking_skip c o p q rest e w = record { differ = w.differ; met = told-skip IsReversed c ⊥ o p q rest e w.met }
+
+walking_on : (c : List Point) (o p q : Point) (rest : List Point) → is_same p q ≡ false → is_reversal o p q ≡ false → Walking c o p (q ∷ rest) → Walking c p q rest
+walking_on c o p q rest e f w = record {
+  differ = w.differ;
+  met = told-on IsReversed c ⊥ ⊥ (IsReversed o p q) o p q rest e (λ x. x, λ x. x) (λ x. absurd x, λ x. elim x [ inl y ↦ y | inr y ↦ reversal_no o p q f y ]) w.met;
+}
+
+-- with a reversal it has spikes
+spike_found : (c : List Point) (o p q : Point) (rest : List Point) → is_same p q ≡ false → is_reversal o p q ≡ true → Walking c o p (q ∷ rest) → NoSpikes c → ⊥
+unfolding Has cross_at
+spike_found c o p q rest e f w h =
+    let m = told-met IsReversed c ⊥ (IsReversed o p q) o p q rest e (λ x. x) w.met (inr (reversal_yes o p q f)) in
+    let k = (has_met IsReversed c (first_behind c) h.enough (last_but_one_differs c (last_of origin c) (omega (arith, h.enough)))).1 m in
+    h.none k.0 (record { within = k.1.within; straight = k.1.passes.0; back = k.1.passes.1 })
+
+-- at the end it has none
+no_spike_found : (c : List Point) (o p : Point) → Walking c o p [] → NoSpikes c
+unfolding Has cross_at
+no_spike_found c o p w = record {
+  enough = enough;
+  none = λ k r. none ((has_met IsReversed c (first_behind c) enough (last_but_one_differs c (last_of origin c) (omega (arith, enough)))).0 (k, record { enough = enough; within = r.within; passes = (r.straight, r.back) }));
+}
+  where
+    none : Met IsReversed (first_behind c) (last_of origin c) c → ⊥
+    none m = elim (w.met.0 m) [ inl x ↦ x | inr x ↦ x ]
+
+    enough : 3 ≤ length (dedup c)
+    enough = three_left c (first_behind c) (two_left c w.differ) none
+
+-- ---- over the points of a program
+-- without points a contour isn't one without spikes
+pub none_without_points : {I : Type 0} (value : I → ℤ) (cs : List (IntPoint I)) → length cs ≤ 0 → NoSpikes (contour_of value cs) → ⊥
+unfolding dedup
+none_without_points value [] h s = let e = s.enough in omega arith
+none_without_points value (x ∷ xs) h s = omega arith
+
+-- without points the answer is no
+pub nothing_told : {I : Type 0} (value : I → ℤ) (cs : List (IntPoint I)) → length cs ≤ 0 → IsTrue false ↔ NoSpikes (contour_of value cs)
+nothing_told value cs h = (λ t. absurd (cc), λ s. absurd (none_without_points value cs h s))
+
+-- points are the same where their coordinates are
+pub same-told : {I : Type 0} (value : I → ℤ) (equal : I → I → Bool) → ((a b : I) → IsTrue (equal a b) ↔ (value a ≡ value b))
+    → (p q : IntPoint I) → equal p.x q.x && equal p.y q.y ≡ is_same (point_of value p) (point_of value q)
+unfolding is_same
+same-told {I} value equal law p q = ap (λ (b : Bool). b && equal p.y q.y) (alike p.x q.x) ∙ ap (λ (b : Bool). int_eq (value p.x) (value q.x) && b) (alike p.y q.y)
+  where
+    alike : (a b : I) → equal a b ≡ int_eq (value a) (value b)
+    alike a b = go (equal a b) (int_eq (value a) (value b)) (law a b) (signed_Decides (value a) (value b))
+      where
+        go : (s t : Bool) → IsTrue s ↔ (value a ≡ value b) → IsTrue t ↔ (value a ≡ value b) → s ≡ t
+        go true true f h = refl
+        go false false f h = refl
+        go true false f h = sym (h.1 (f.0 refl))
+        go false true f h = f.1 (h.0 refl)
+
+-- ---- a search from the end
+
+-- what a search from the end for a point that differs from p finds
+abbrev pub found_differing : {I : Type 0} → (I → ℤ) → IntPoint I → List (IntPoint I) → Option (IntPoint I)
+found_differing value p xs = find (λ q. not (is_same (point_of value p) (point_of value q))) (reverse xs)
+
+-- the last point that differs is the one that a search from behind finds
+pub differing-found : {I : Type 0} (value : I → ℤ) (p : IntPoint I) (o : Point) (xs : List (IntPoint I))
+    → last_differing (point_of value p) o (contour_of value xs) ≡ unwrap_or (option_map (point_of value) (found_differing value p xs)) o
+differing-found value p o [] = refl
+differing-found {I} value p o (x ∷ xs) =
+    go (found_differing value p xs) (differing-found value p o xs) (differing-found value p (point_of value x) xs) (is_same (point_of value p) (point_of value x))
+    ∙ ap (λ (r : Option (IntPoint I)). unwrap_or (option_map (point_of value) r) o) (sym parts)
+  where
+    differs : IntPoint I → Bool
+    differs q = not (is_same (point_of value p) (point_of value q))
+
+    parts : found_differing value p (x ∷ xs) ≡ option_or (found_differing value p xs) (cond (differs x) (Some x) None)
+    parts = ap (find differs) (reverse-append (x ∷ []) xs) ∙ find-append differs (reverse xs) (x ∷ [])
+
+    go : (r : Option (IntPoint I)) → last_differing (point_of value p) o (contour_of value xs) ≡ unwrap_or (option_map (point_of value) r) o
+        → last_differing (point_of value p) (point_of value x) (contour_of value xs) ≡ unwrap_or (option_map (point_of value) r) (point_of value x) → (t : Bool)
+        → cond t (last_differing (point_of value p) o (contour_of value xs)) (last_differing (point_of value p) (point_of value x) (contour_of value xs))
+        ≡ unwrap_or (option_map (point_of value) (option_or r (cond (not t) (Some x) None))) o
+    go None e f true = e
+    go None e f false = f
+    go (Some q) e f true = e
+    go (Some q) e f false = f
+
+-- what holds where the walk starts, over the last point and the one that is found behind it
+pub holds_at_start : {I : Type 0} (value : I → ℤ) (cs : List (IntPoint I)) (last behind : IntPoint I) → 0 < length cs → last ≡ get_or cs (length cs - 1) last
+    → Some behind ≡ found_differing value last cs → (F : Point → Point → Type 0) → F (first_behind (contour_of value cs)) (last_of origin (contour_of value cs)) → F (point_of value behind) (point_of value last)
+holds_at_start value cs last behind h e f F x =
+    subst (λ (o : Point). F o (point_of value last)) at (subst (λ (p : Point). F (last_differing p p (contour_of value cs)) p) (sym (last_point value cs last h e)) x)
+  where
+    at : last_differing (point_of value last) (point_of value last) (contour_of value cs) ≡ point_of value behind
+    at = differing-found value last (point_of value last) cs ∙ ap (λ r. unwrap_or (option_map (point_of value) r) (point_of value last)) (sym f)
+
+-- where no point differs from the last, fewer than three are left without repeats
+pub few_differ : {I : Type 0} (value : I → ℤ) (cs : List (IntPoint I)) (last : IntPoint I) → 0 < length cs → last ≡ get_or cs (length cs - 1) last
+    → None ≡ found_differing value last cs → 3 ≤ length (dedup (contour_of value cs)) → ⊥
+few_differ {I} value cs last h e f three =
+    let a : Point = record { x = pos 0; y = pos 0 } in
+    let b : Point = record { x = pos 1; y = pos 0 } in
+    let at = λ (o : Point). sym (same o) ∙ last_but_one_differs (contour_of value cs) o (omega (arith, three)) in
+    let k : a ≡ b = at a ∙ sym (at b) in
+    two_numbers (ap (λ (p : Point). p.x) k)
+  where
+    same : (o : Point) → last_differing (last_of origin (contour_of value cs)) o (contour_of value cs) ≡ o
+    same o = ap (λ (p : Point). last_differing p o (contour_of value cs)) (sym (last_point value cs last h e))
+        ∙ (differing-found value last o cs ∙ ap (λ (r : Option (IntPoint I)). unwrap_or (option_map (point_of value) r) o) (sym f))
+
+    two_numbers : pos 0 ≡ pos 1 → ⊥
+    two_numbers k = omega (arith, ints)
+
+-- so there are spikes
+pub none_differs : {I : Type 0} (value : I → ℤ) (cs : List (IntPoint I)) (last : IntPoint I) → 0 < length cs → last ≡ get_or cs (length cs - 1) last
+    → None ≡ found_differing value last cs → IsTrue false ↔ NoSpikes (contour_of value cs)
+none_differs value cs last h e f = (λ t. absurd (cc), λ s. absurd (few_differ value cs last h e f s.enough))
+
+found_one : {X : Type 0} (test : X → Bool) (P : X → Type 0) (ys : List X) (r : X) → Some r ≡ find test ys → All P ys → P r × (test r ≡ true)
+found_one test P [] r e a = absurd (cc)
+found_one {X} test P (y ∷ ys) r e a = go (test y) refl (λ f. found_one test P ys r f (All-tail P y ys a)) e
+  where
+    go : (b : Bool) → test y ≡ b → (Some r ≡ find test ys → P r × (test r ≡ true)) → Some r ≡ cond b (Some y) (find test ys) → P r × (test r ≡ true)
+    go true f later g = let h : r ≡ y = cc in (subst P (sym h) (All-head P y ys a), ap test h ∙ f)
+    go false f later g = later g
+
+all_backwards : {X : Type 0} (P : X → Type 0) (xs : List X) → All P xs → All P (reverse xs)
+all_backwards P [] a = a
+all_backwards P (x ∷ xs) a = subst (All P) (sym (reverse-append (x ∷ []) xs)) (All-push P (reverse xs) x (all_backwards P xs (All-tail P x xs a)) (All-head P x xs a))
+
+-- the point that the search finds is another
+found_differs : {I : Type 0} (value : I → ℤ) (cs : List (IntPoint I)) (last behind : IntPoint I) → Some behind ≡ found_differing value last cs → point_of value behind ≢ point_of value last
+found_differs {I} value cs last behind e = apart (is_same (point_of value last) (point_of value behind)) refl told
+  where
+    told : not (is_same (point_of value last) (point_of value behind)) ≡ true
+    told = (found_one (λ q. not (is_same (point_of value last) (point_of value q))) (λ q. Unit {0}) (reverse cs) behind e (λ k d h. tt)).1
+
+    apart : (b : Bool) → is_same (point_of value last) (point_of value behind) ≡ b → not b ≡ true → point_of value behind ≢ point_of value last
+    apart true f h = absurd (cc)
+    apart false f h = λ x. same_no (point_of value last) (point_of value behind) f (sym x)
+
+-- the points of a contour that is safe are safe
+pub points_safe : {I : Type 0} (w : Width) (value : I → ℤ) (cs : List (IntPoint I)) → All (IsSafe w) (contour_of value cs) → All (λ p. IsSafe w (point_of value p)) cs
+points_safe w value cs a = λ k d h. safe-at w value cs k d a h
+
+-- the point that the search finds is safe
+pub found_safe : {I : Type 0} (w : Width) (value : I → ℤ) (cs : List (IntPoint I)) (last behind : IntPoint I) → All (IsSafe w) (contour_of value cs)
+    → Some behind ≡ found_differing value last cs → IsSafe w (point_of value behind)
+found_safe {I} w value cs last behind safe e =
+    let P : IntPoint I → Type 0 = λ p. IsSafe w (point_of value p) in
+    (found_one (λ q. not (is_same (point_of value last) (point_of value q))) P (reverse cs) behind e (all_backwards P cs (points_safe w value cs safe))).0
+
+-- the walk begins with the last point, and the last that differs from it
+pub walking_begins : {I : Type 0} (value : I → ℤ) (cs : List (IntPoint I)) (last behind : IntPoint I) → 0 < length cs → last ≡ get_or cs (length cs - 1) last
+    → Some behind ≡ found_differing value last cs → Walking (contour_of value cs) (point_of value behind) (point_of value last) (contour_of value cs)
+walking_begins value cs last behind h e f =
+    holds_at_start value cs last behind h e f (λ o p. o ≢ p → Walking (contour_of value cs) o p (contour_of value cs)) (walking_start (contour_of value cs)) (found_differs value cs last behind f)
+
+-- ---- the walk that carries the edge by which it came, in place of the point before
+pub record EdgeWalking (c : List Point) (e p : Point) (rest : List Point) : Type 0 where
+  pub from : Point
+  pub edge : e ≡ vector from p
+  pub walking : Walking c from p rest
+
+-- a repeated point changes nothing
+edge_skips : (c : List Point) (e p q : Point) (rest : List Point) → is_same p q ≡ true → EdgeWalking c e p (q ∷ rest) → EdgeWalking c e p rest
+edge_skips c e p q rest f w = record { from = w.from; edge = w.edge; walking = walking_skip c w.from p q rest f w.walking }
+
+-- another point at which the way doesn't go back
+edge_goes_on : (c : List Point) (e p q : Point) (rest : List Point) → is_same p q ≡ false
+    → (cross_of e (vector p q) ≡ pos 0 → dot_of e (vector p q) <ℤ pos 0 → ⊥) → EdgeWalking c e p (q ∷ rest) → EdgeWalking c (vector p q) q rest
+unfolding cross dot
+edge_goes_on c e p q rest f onward w = record { from = p; edge = refl; walking = walking_on c w.from p q rest f (go (is_reversal w.from p q) refl) w.walking }
+  where
+    none : IsReversed w.from p q → ⊥
+    none r = subst (λ (v : Point). (cross_of v (vector p q) ≡ pos 0 → dot_of v (vector p q) <ℤ pos 0 → ⊥)) w.edge onward r.0 r.1
+
+    go : (b : Bool) → is_reversal w.from p q ≡ b → b ≡ false
+    go false g = refl
+    go true g = absurd (none (reversal_yes w.from p q g))
+
+-- where it goes back, there is a spike
+edge_stops : (c : List Point) (e p q : Point) (rest : List Point) → is_same p q ≡ false
+    → cross_of e (vector p q) ≡ pos 0 → dot_of e (vector p q) <ℤ pos 0 → EdgeWalking c e p (q ∷ rest) → NoSpikes c → ⊥
+unfolding cross dot
+edge_stops c e p q rest f flat back w = spike_found c w.from p q rest f (go (is_reversal w.from p q) refl) w.walking
+  where
+    reversed : IsReversed w.from p q
+    reversed = subst (λ (v : Point). (cross_of v (vector p q) ≡ pos 0) × (dot_of v (vector p q) <ℤ pos 0)) w.edge (flat, back)
+
+    go : (b : Bool) → is_reversal w.from p q ≡ b → b ≡ true
+    go true g = refl
+    go false g = absurd (reversal_no w.from p q g reversed)
+
+-- it passes a block of points among which the way doesn't go back
+edge_over : (c : List Point) (e p : Point) (qs rs : List Point) → (GoesBack e p qs → ⊥) → EdgeWalking c e p (qs ++ rs) → EdgeWalking c (last_change e p qs) (last_of p qs) rs
+edge_over c e p [] rs n w = w
+edge_over c e p (q ∷ qs) rs n w = go (λ v m x. edge_over c v q qs rs m x) (is_same p q) refl n
+  where
+    go : ((v : Point) → (GoesBack v q qs → ⊥) → EdgeWalking c v q (qs ++ rs) → EdgeWalking c (last_change v q qs) (last_of q qs) rs) → (t : Bool) → is_same p q ≡ t
+        → (cond t (GoesBack e q qs) (Reverses e p q ⊎ GoesBack (vector p q) q qs) → ⊥) → EdgeWalking c (cond t (last_change e q qs) (last_change (vector p q) q qs)) (last_of q qs) rs
+    go later true s m = later e m (subst (λ (r : Point). EdgeWalking c e r (qs ++ rs)) (same_yes p q s) (edge_skips c e p q (qs ++ rs) s w))
+    go later false s m = later (vector p q) (λ b. m (inr b)) (edge_goes_on c e p q (qs ++ rs) s (λ z d. m (inl (z, d))) w)
+
+-- where it goes back among them, there is a spike
+edge_ends : (c : List Point) (e p : Point) (qs rs : List Point) → GoesBack e p qs → EdgeWalking c e p (qs ++ rs) → NoSpikes c → ⊥
+edge_ends c e p [] rs b w h = absurd b
+edge_ends c e p (q ∷ qs) rs b w h = go (λ v m x. edge_ends c v q qs rs m x h) (is_same p q) refl b
+  where
+    go : ((v : Point) → GoesBack v q qs → EdgeWalking c v q (qs ++ rs) → ⊥) → (t : Bool) → is_same p q ≡ t → cond t (GoesBack e q qs) (Reverses e p q ⊎ GoesBack (vector p q) q qs) → ⊥
+    go later true s m = later e m (subst (λ (r : Point). EdgeWalking c e r (qs ++ rs)) (same_yes p q s) (edge_skips c e p q (qs ++ rs) s w))
+    go later false s (inl (z, d)) = edge_stops c e p q (qs ++ rs) s z d w h
+    go later false s (inr m) = later (vector p q) m (edge_goes_on c e p q (qs ++ rs) s (λ z d. edge_stops c e p q (qs ++ rs) s z d w h) w)
+
+-- ---- within a block: what the walk knows at the edge e and the point p, with the rest of the block still to come
+pub record IsOnward (block : List Point) (first start e p : Point) (rest : List Point) : Type 0 where
+  pub told : GoesBack e p rest ↔ GoesBack first start block
+  pub edge : last_change e p rest ≡ last_change first start block
+  pub here : last_of p rest ≡ last_of start block
+
+-- it starts with the whole block
+pub onward_start : (block : List Point) (first start : Point) → IsOnward block first start first start block
+onward_start block first start = record { told = (λ b. b, λ b. b); edge = refl; here = refl }
+
+-- at a repeated point it is asked of the rest alone
+back_at_repeat : (e p q : Point) (rest : List Point) → is_same p q ≡ true → GoesBack e p (q ∷ rest) ≡ GoesBack e q rest
+back_at_repeat e p q rest s = ap (λ (t : Bool). cond t (GoesBack e q rest) (Reverses e p q ⊎ GoesBack (vector p q) q rest)) s
+
+-- at another point it is asked of this point too
+back_at_other : (e p q : Point) (rest : List Point) → is_same p q ≡ false → GoesBack e p (q ∷ rest) ≡ (Reverses e p q ⊎ GoesBack (vector p q) q rest)
+back_at_other e p q rest s = ap (λ (t : Bool). cond t (GoesBack e q rest) (Reverses e p q ⊎ GoesBack (vector p q) q rest)) s
+
+-- passes over a repeated point
+pub onward_skips : (block : List Point) (first start e p q : Point) (rest : List Point) → is_same p q ≡ true → IsOnward block first start e p (q ∷ rest) → IsOnward block first start e q rest
+onward_skips block first start e p q rest s w = record {
+  told = (λ b. w.told.0 (subst (λ (X : Type 0). X) (sym (back_at_repeat e p q rest s)) b), λ b. subst (λ (X : Type 0). X) (back_at_repeat e p q rest s) (w.told.1 b));
+  edge = sym (ap (λ (t : Bool). cond t (last_change e q rest) (last_change (vector p q) q rest)) s) ∙ w.edge;
+  here = w.here;
+}
+
+-- passes another point at which the way doesn't go back
+pub onward_on : (block : List Point) (first start e p q : Point) (rest : List Point) → is_same p q ≡ false → (cross_of e (vector p q) ≡ pos 0 → dot_of e (vector p q) <ℤ pos 0 → ⊥)
+    → IsOnward block first start e p (q ∷ rest) → IsOnward block first start (vector p q) q rest
+onward_on block first start e p q rest s n w = record {
+  told = (λ b. w.told.0 (subst (λ (X : Type 0). X) (sym (back_at_other e p q rest s)) (inr b)), λ b. later (subst (λ (X : Type 0). X) (back_at_other e p q rest s) (w.told.1 b)));
+  edge = sym (ap (λ (t : Bool). cond t (last_change e q rest) (last_change (vector p q) q rest)) s) ∙ w.edge;
+  here = w.here;
+}
+  where
+    later : Reverses e p q ⊎ GoesBack (vector p q) q rest → GoesBack (vector p q) q rest
+    later (inl (z, d)) = absurd (n z d)
+    later (inr b) = b
+
+-- and stops at one at which it does
+pub onward_stops : (block : List Point) (first start e p q : Point) (rest : List Point) → is_same p q ≡ false → cross_of e (vector p q) ≡ pos 0 → dot_of e (vector p q) <ℤ pos 0
+    → IsOnward block first start e p (q ∷ rest) → GoesBack first start block
+onward_stops block first start e p q rest s z d w = w.told.0 (subst (λ (X : Type 0). X) (sym (back_at_other e p q rest s)) (inl (z, d)))
+
+-- ---- the same over the points of a program
+-- after a block among which the way doesn't go back the walk goes on
+pub block_goes_on : {I : Type 0} (value : I → ℤ) (c : List Point) (e p after end : Point) (rest block later : List (IntPoint I)) → rest ≡ block ++ later
+    → after ≡ last_change e p (contour_of value block) → end ≡ last_of p (contour_of value block) → (GoesBack e p (contour_of value block) → ⊥)
+    → EdgeWalking c e p (contour_of value rest) → EdgeWalking c after end (contour_of value later)
+block_goes_on value c e p after end rest block later r f g n w =
+    subst₂ (λ (v q : Point). EdgeWalking c v q (contour_of value later)) (sym f) (sym g)
+    (edge_over c e p (contour_of value block) (contour_of value later) n (subst (EdgeWalking c e p) (ap (contour_of value) r ∙ map-append (point_of value) block later) w))
+
+-- at one in which it does there is a spike
+pub block_goes_back : {I : Type 0} (value : I → ℤ) (c : List Point) (e p : Point) (rest block later : List (IntPoint I)) → rest ≡ block ++ later
+    → GoesBack e p (contour_of value block) → EdgeWalking c e p (contour_of value rest) → NoSpikes c → ⊥
+block_goes_back value c e p rest block later r b w =
+    edge_ends c e p (contour_of value block) (contour_of value later) b (subst (EdgeWalking c e p) (ap (contour_of value) r ∙ map-append (point_of value) block later) w)
+
+-- the last block tells whether the contour has spikes
+pub last_block_tells : {I A : Type 0} (value : I → ℤ) (c : List Point) (e p : Point) (rest : List (IntPoint I)) (last_but_one_differs : Option A) (onward : Bool) → onward ≡ is_some last_but_one_differs
+    → IsNone last_but_one_differs ↔ GoesBack e p (contour_of value rest) → EdgeWalking c e p (contour_of value rest) → IsTrue onward ↔ NoSpikes c
+last_block_tells {I} {A} value c e p rest last_but_one_differs onward same told w = go last_but_one_differs same told
+  where
+    whole : EdgeWalking c e p (contour_of value rest ++ [])
+    whole = subst (EdgeWalking c e p) (sym (append-nil (contour_of value rest))) w
+
+    free : (GoesBack e p (contour_of value rest) → ⊥) → NoSpikes c
+    free n = let w = edge_over c e p (contour_of value rest) [] n whole in no_spike_found c w.from (last_of p (contour_of value rest)) w.walking
+
+    go : (f : Option A) → onward ≡ is_some f → IsNone f ↔ GoesBack e p (contour_of value rest) → IsTrue onward ↔ NoSpikes c
+    go (Some r) s h = (λ x. free (λ b. let f = h.1 b in absurd (cc)), λ x. s)
+    go None s h = (λ x. absurd (cc), λ x. absurd (edge_ends c e p (contour_of value rest) [] (h.0 refl) whole x))
+
+not_above : (d : ℤ) → d <ℤ pos 0 → d ≤ℤ pos 0
+not_above d h = omega (arith, ints)
+
+-- a contour of which no point turns back has no spikes
+pub spikeless_end : (d : List Point) → 3 ≤ length d → ((k : ℕ) → IsRemovable IsBack d k → ⊥) → NoSpikes d
+unfolding cross_at
+spikeless_end d h none = subst (λ (c : List Point). 3 ≤ length c → ((k : ℕ) → IsReversal c k → ⊥) → NoSpikes d) same (λ m n. record { enough = m; none = n }) h reversal
+  where
+    apart : IsApart d
+    apart = apart_from_places d (λ k l e. none k (record {
+      enough = h;
+      within = l;
+      passes = back_from_cases (point_at d (place_before (length d) k)) (point_at d k) (point_at d (place_after (length d) k)) (inl e);
+    }))
+
+    same : dedup d ≡ d
+    same = dedup-same d apart
+
+    reversal : (k : ℕ) → IsReversal d k → ⊥
+    reversal k r = none k (record {
+      enough = h;
+      within = r.within;
+      passes = (r.straight, not_above (dot (point_at d (place_before (length d) k)) (point_at d k) (point_at d (place_after (length d) k))) r.back);
+    })
+
+-- a contour without zero turns has none
+pub simple_spikeless : (c : List Point) → IsSimple c → NoSpikes c
+simple_spikeless c s = spikeless_end c s.enough (λ k r. s.none k (record { enough = r.enough; within = r.within; passes = r.passes.0 }))

@@ -1,0 +1,74 @@
+//! The way over the points of a contour, four turns at a time.
+
+ghost use Rattle.std.specs.Prelude.{◌↔◌, ◌+◌, ◌-◌, ◌<◌, ◌≤◌, length, IsTrue};
+ghost use Rattle.i_shape_core.specs.Contour.{point_at};
+ghost use Rattle.i_shape_core.specs.FourTurns.{HasZeroTurnFrom, IsTurning};
+ghost use Rattle.i_shape_core.specs.IntPoint.{contour_of, IsSafeContour};
+ghost use Rattle.i_shape_core.specs.Point.{IsZeroTurn};
+
+use crate::number::IntNumber;
+use crate::point::ContourPoint;
+
+/// How many turns from the first on are no zero turns, as far as blocks of four tell: all, or those before a block that has one. The
+/// closing turns aren't looked at. Below six points it is 0.
+#[inline(always)]
+pub(crate) fn count_turning<P: ContourPoint>(points: &[P]) -> usize
+    requires { IsSafeContour P.Coordinate.width (contour_of P.Coordinate.value (P.points points.now)) }
+    ensures turning { IsTurning (contour_of P.Coordinate.value (P.points points.now)) result }
+    ensures within { 2 ≤ length points.now → result + 2 ≤ length points.now }
+    ensures stops { 6 ≤ length points.now → result + 2 < length points.now → IsTurning (contour_of P.Coordinate.value (P.points points.now)) (length points.now - 2) → ⊥ }
+{
+    if points.len() < 6 {
+        return 0;
+    }
+    let turns = points.len() - 2;
+    let blocks = turns / 4;
+    for block in 0..blocks {
+        if has_zero_turn_from(points, block * 4) {
+            return block * 4;
+        }
+    }
+    if turns % 4 == 0 {
+        return turns;
+    }
+    // The last block overlaps the one before it.
+    if has_zero_turn_from(points, turns - 4) {
+        return blocks * 4;
+    }
+    turns
+}
+
+/// Whether one of the four turns of the six points from a place on is a zero turn.
+#[inline(always)]
+fn has_zero_turn_from<P: ContourPoint>(points: &[P], place: usize) -> bool
+    requires safe { IsSafeContour P.Coordinate.width (contour_of P.Coordinate.value (P.points points.now)) }
+    requires within { place + 5 < length points.now }
+    ensures { IsTrue result ↔ HasZeroTurnFrom (contour_of P.Coordinate.value (P.points points.now)) place }
+{
+    P::Coordinate::has_zero_turn(
+        points[place].to_point(),
+        points[place + 1].to_point(),
+        points[place + 2].to_point(),
+        points[place + 3].to_point(),
+        points[place + 4].to_point(),
+        points[place + 5].to_point(),
+    )
+}
+
+/// Whether the turn of the points at three places is a zero turn.
+pub(crate) fn is_zero_turn<P: ContourPoint>(
+    points: &[P],
+    previous: usize,
+    place: usize,
+    next: usize,
+) -> bool
+    requires safe { IsSafeContour P.Coordinate.width (contour_of P.Coordinate.value (P.points points.now)) }
+    requires previous_within { previous < length points.now }
+    requires place_within { place < length points.now }
+    requires next_within { next < length points.now }
+    ensures { let c = contour_of P.Coordinate.value (P.points points.now) in IsTrue result ↔ IsZeroTurn (point_at c previous) (point_at c place) (point_at c next) }
+{
+    let here = points[place].to_point();
+    let edge = here - points[previous].to_point();
+    edge.is_parallel_to(points[next].to_point() - here)
+}

@@ -1,0 +1,3 @@
+-- Showing a number and a contour.
+pub mod Decimals
+pub mod Contours

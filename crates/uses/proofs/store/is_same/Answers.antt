@@ -1,0 +1,12 @@
+use Rattle.std.proofs.Common.{ℤ}
+use Rattle.std.proofs.lemmas.Bool.Decides.{Decides-at}
+use Rattle.i_shape.specs.IntPoint.{point_of}
+use Rattle.uses.proofs.SamePoints.{points_decided, lists_decided}
+use Rattle.uses.proofs.store.is_same.Goals as goal
+
+pub returns : goal.returns
+returns g c =
+    let value : g.row.I.Denot → ℤ = g.I.IntNumber.value in
+    rw c.as_slice.ensures.value at
+    (Decides-at c.eq.result _ c.eq.ensures
+    (lists_decided _ (point_of value) (points_decided value _ g.met.I.IntNumber.equality) c.as_slice.result.now c.args.points.now))

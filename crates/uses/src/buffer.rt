@@ -1,0 +1,87 @@
+//! Flat buffers that are tested, and then cleaned.
+
+ghost use Rattle.std.specs.Prelude.{◌≡◌, [], ◌∷◌, OnOk, OnErr};
+ghost use Rattle.i_shape_core.specs.IntPoint.{contour_of};
+ghost use Rattle.i_shape.specs.Paths.{concatenated};
+ghost use Rattle.i_shape.specs.ShapeLists.{shape_of, shapes_of};
+ghost use Rattle.i_shape.specs.Buffers.{Compact, contours_in};
+
+use crate::refusal::Refusal;
+use i_shape::IntNumber;
+use i_shape::flat::buffer::FlatContoursBuffer;
+use i_shape::int::IntPoint;
+use i_shape::int::safe_range::IntSafeRange;
+use i_shape::int::shape::{IntContour, IntShape};
+
+/// Removes zero turns inside the buffer, whatever ranges it was given.
+pub fn simplify<I: IntNumber>(buffer: &mut FlatContoursBuffer<I>) -> Result<bool, Refusal>
+    ensures compact { OnOk result (Compact (contours_in I.value buffer.old) (contours_in I.value buffer.new)) }
+    ensures err { OnErr result (buffer.new ≡ buffer.old) }
+{
+    if !buffer.can_read_contours() {
+        return Err(Refusal::Unreadable);
+    }
+    if !buffer.is_in_safe_range() {
+        return Err(Refusal::OutOfRange);
+    }
+    Ok(buffer.simplify_contours()?)
+}
+
+/// Puts the contour into the buffer, and removes zero turns there.
+pub fn set_contour<I: IntNumber>(
+    buffer: &mut FlatContoursBuffer<I>,
+    contour: &[IntPoint<I>],
+) -> Result<bool, Refusal>
+    ensures compact { OnOk result (Compact (contour_of I.value contour.now ∷ []) (contours_in I.value buffer.new)) }
+{
+    if !contour.is_in_safe_range() {
+        return Err(Refusal::OutOfRange);
+    }
+    buffer.set_with_contour(contour)?;
+    Ok(buffer.simplify_contours()?)
+}
+
+/// Puts the contours of the shape into the buffer, and removes zero turns there.
+#[tactic(auto, using(i_shape::proofs::CallerLemmas::contours_held))]
+pub fn set_shape<I: IntNumber>(
+    buffer: &mut FlatContoursBuffer<I>,
+    shape: &[IntContour<I>],
+) -> Result<bool, Refusal>
+    ensures compact { OnOk result (Compact (shape_of I.value shape.now) (contours_in I.value buffer.new)) }
+{
+    if !shape.is_in_safe_range() {
+        return Err(Refusal::OutOfRange);
+    }
+    buffer.set_with_shape(shape)?;
+    Ok(buffer.simplify_contours()?)
+}
+
+/// The same of a shape in a vector.
+#[tactic(auto, using(i_shape::proofs::CallerLemmas::contours_held))]
+pub fn set_shape_vector<I: IntNumber>(
+    buffer: &mut FlatContoursBuffer<I>,
+    shape: &IntShape<I>,
+) -> Result<bool, Refusal>
+    ensures compact { OnOk result (Compact (shape_of I.value shape.now.items) (contours_in I.value buffer.new)) }
+{
+    if !shape.is_in_safe_range() {
+        return Err(Refusal::OutOfRange);
+    }
+    buffer.set_with_shape(shape.as_slice())?;
+    Ok(buffer.simplify_contours()?)
+}
+
+/// Puts the contours of the shapes into the buffer, and removes zero turns there.
+#[tactic(auto, using(i_shape::proofs::CallerLemmas::shapes_held))]
+pub fn set_shapes<I: IntNumber>(
+    buffer: &mut FlatContoursBuffer<I>,
+    shapes: &[IntShape<I>],
+) -> Result<bool, Refusal>
+    ensures compact { OnOk result (Compact (concatenated (shapes_of I.value shapes.now)) (contours_in I.value buffer.new)) }
+{
+    if !shapes.is_in_safe_range() {
+        return Err(Refusal::OutOfRange);
+    }
+    buffer.set_with_shapes(shapes)?;
+    Ok(buffer.simplify_contours()?)
+}

@@ -1,0 +1,102 @@
+//! Contours that are cleaned from one slice into another, over the library's points or the caller's own. The double area stays what it
+//! was.
+
+ghost use Rattle.std.specs.Prelude.{◌≡◌, ◌↔◌, ◌⊎◌, ◌<◌, length, take, IsTrue, IfOk, IsErrOf};
+ghost use Rattle.std.specs.List.{All};
+ghost use Rattle.std.specs.Int.{int_wrap};
+ghost use Rattle.i_shape_core.specs.IntPoint.{point_of, contour_of, IsSafe};
+ghost use Rattle.i_shape_core.specs.Edges.{shoelace};
+ghost use Rattle.i_shape_core.specs.Cleaners.{SimpleAnswer, EachEndCollapses};
+ghost use Rattle.i_shape_core.specs.Written.{slot};
+
+use crate::refusal::Refusal;
+use i_shape::IntNumber;
+use i_shape::int::despike::ContourDeSpiker;
+use i_shape::int::safe_range::IntSafeRange;
+use i_shape::int::simple::{ContourSimplifier, SimpleContour};
+use i_shape::int::{ContourPoint, IntPoint};
+use i_shape_core::area::area_of;
+
+/// Twice the area of a contour, told by what is left of it without zero turns at the front of `out`.
+pub fn area_into<I: IntNumber>(
+    simplifier: &mut ContourSimplifier,
+    contour: &[IntPoint<I>],
+    out: &mut [IntPoint<I>],
+) -> Result<I::Wide, Refusal>
+    ensures range { IsErrOf result Refusal.OutOfRange ↔ (All (IsSafe I.width) (contour_of I.value contour.now) → ⊥) }
+    ensures room { IsErrOf result Refusal.NoRoom ↔ (All (IsSafe I.width) (contour_of I.value contour.now) × (length out.old < length contour.now)) }
+    ensures area { IfOk result (λ area. I.Wide.value area ≡ int_wrap I.Wide.width (shoelace (contour_of I.value contour.now))) }
+{
+    if !contour.is_in_safe_range() {
+        return Err(Refusal::OutOfRange);
+    }
+    if out.len() < contour.len() {
+        return Err(Refusal::NoRoom);
+    }
+    let count = simplifier.simplify_into(contour, out)?;
+    Ok(area_of(&out[..count]))
+}
+
+/// Whether something is left of a contour without zero turns, told by a test of what is written.
+pub fn is_left_into<I: IntNumber>(
+    simplifier: &mut ContourSimplifier,
+    contour: &[IntPoint<I>],
+    out: &mut [IntPoint<I>],
+) -> Result<bool, Refusal>
+    ensures range { IsErrOf result Refusal.OutOfRange ↔ (All (IsSafe I.width) (contour_of I.value contour.now) → ⊥) }
+    ensures room { IsErrOf result Refusal.NoRoom ↔ (All (IsSafe I.width) (contour_of I.value contour.now) × (length out.old < length contour.now)) }
+    ensures uncollapsed { IfOk result (λ r. IsTrue r ↔ (EachEndCollapses (contour_of I.value contour.now) → ⊥)) }
+{
+    if !contour.is_in_safe_range() {
+        return Err(Refusal::OutOfRange);
+    }
+    if out.len() < contour.len() {
+        return Err(Refusal::NoRoom);
+    }
+    let count = simplifier.simplify_into(contour, out)?;
+    let left: &[IntPoint<I>] = &out[..count];
+    Ok(left.is_simple())
+}
+
+fn is_safe<P: ContourPoint>(point: &P) -> bool
+    ensures { IsTrue result ↔ IsSafe P.Coordinate.width (point_of P.Coordinate.value (P.point point.now)) }
+{
+    point.to_point().is_in_safe_range()
+}
+
+fn each_is_safe<P: ContourPoint>(points: &[P]) -> bool
+    ensures { IsTrue result ↔ All (λ p. IsSafe P.Coordinate.width (point_of P.Coordinate.value (P.point p))) points.now }
+{
+    points.iter().all(|point| is_safe(point))
+}
+
+/// Whether each of these points is safe.
+pub fn are_safe<P: ContourPoint>(points: &[P]) -> bool
+    ensures { IsTrue result ↔ All (IsSafe P.Coordinate.width) (contour_of P.Coordinate.value (P.points points.now)) }
+{
+    each_is_safe(points)
+}
+
+/// Removes zero turns from a contour into `between`, and then spikes into `out`, of which none is left by then. It answers how many
+/// points are left, 0 where the contour collapses.
+pub fn clean_into<P: ContourPoint>(
+    simplifier: &mut ContourSimplifier,
+    despiker: &mut ContourDeSpiker,
+    contour: &[P],
+    between: &mut [P],
+    out: &mut [P],
+) -> Result<usize, Refusal>
+    ensures range { IsErrOf result Refusal.OutOfRange ↔ (All (IsSafe P.Coordinate.width) (contour_of P.Coordinate.value (P.points contour.now)) → ⊥) }
+    ensures room { IsErrOf result Refusal.NoRoom ↔ (All (IsSafe P.Coordinate.width) (contour_of P.Coordinate.value (P.points contour.now)) × ((length between.old < length contour.now) ⊎ (length out.old < length contour.now))) }
+    ensures answer { IfOk result (λ n. SimpleAnswer (contour_of P.Coordinate.value (P.points contour.now)) (slot (contour_of P.Coordinate.value (P.points (take n out.new))))) }
+    ensures area { IfOk result (λ n. shoelace (contour_of P.Coordinate.value (P.points (take n out.new))) ≡ shoelace (contour_of P.Coordinate.value (P.points contour.now))) }
+{
+    if !are_safe(contour) {
+        return Err(Refusal::OutOfRange);
+    }
+    if between.len() < contour.len() || out.len() < contour.len() {
+        return Err(Refusal::NoRoom);
+    }
+    let count = simplifier.simplify_into(contour, between)?;
+    Ok(despiker.despike_into(&between[..count], out)?)
+}

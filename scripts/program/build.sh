@@ -1,0 +1,90 @@
+#!/usr/bin/env bash
+# Builds the program i_shape_tool for another machine or processor, into a folder of that name below crates/i_shape_tool_main/out. ./i_shape_tool builds the
+# default first, and over its kept proofs the program is proved for the other. That for aarch64 is linked by Debian's compiler, with an allocator and functions of
+# the system in C, since the kit has none for it.
+#
+# usage: build.sh [--is-built] --target aarch64 | --cpu NAME
+#
+# With --is-built it builds nothing, and its status says whether there is nothing to build.
+set -eu
+here=$(cd "$(dirname "$0")" && pwd)
+top=$(cd "$here/../.." && pwd)
+module=$top/bindings/module
+crate=$top/crates/i_shape_tool_main
+allocator=$top/bindings/c/allocator.c
+only_asks='' target='' cpu=''
+while [ $# -gt 0 ]; do
+    case $1 in
+    --is-built) only_asks=yes ;;
+    --target) target=${2:?a machine} && shift ;;
+    --cpu) cpu=${2:?a processor} && shift ;;
+    *) echo "build.sh: what is $1?" >&2 && exit 2 ;;
+    esac
+    shift
+done
+case $target:$cpu in
+aarch64: | :?*) ;;
+*) echo "make program: TARGET is aarch64, or CPU a processor of x86-64, and not ${target:-neither}${cpu:+ with $cpu}" >&2 && exit 2 ;;
+esac
+out=$crate/out/$target$cpu
+
+is_built() {
+    [ -x "$out/i_shape_tool" ] && "$top/i_shape_tool" --is-built &&
+        [ -z "$(find "$here" "$module" "$allocator" "$crate/out/i_shape_tool_main" -type f -newer "$out/i_shape_tool" -print -quit)" ]
+}
+
+# The object file, in the folder $work: rt proves and compiles the crate and hands that to a linker, in whose place is one that links nothing.
+compile() {
+    sh "$module/copy_crates.sh" "$top" "$work" i_shape_tool_main
+    sh "$module/link_kit.sh" "$work/kit" bin/rattle-link
+    cat > "$work/kit/bin/rattle-link" << LINKER
+#!/usr/bin/env bash
+for word; do
+    [ "\${before-}" != -o ] || { echo '#!/bin/sh' > "\$word" && chmod +x "\$word"; }
+    [[ \$word != *.o ]] || cp "\$word" "$work/program.o"
+    before=\$word
+done
+LINKER
+    chmod +x "$work/kit/bin/rattle-link"
+    (cd "$work/crates/i_shape_tool_main" && "$work/kit/bin/rt" run --jobs 1 ${target:+--target "$target-unknown-linux-gnu"} ${cpu:+--cpu "$cpu"} \
+        < /dev/null > "$work/log" 2>&1) && grep -q "^logic=proved .* target=${target:-x86_64}-unknown-linux-gnu " "$work/log" && [ -e "$work/program.o" ] && return
+    cat "$work/log" >&2
+    return 1
+}
+
+link() {
+    if [ "$target" = aarch64 ]; then
+        aarch64-linux-gnu-gcc -std=c11 -O2 -s -Wall -Wextra -Werror "$work/program.o" "$allocator" "$here/os.c" -o "$work/i_shape_tool"
+    else
+        "$kit/bin/rattle-link" --target x86_64-unknown-linux-gnu --toolchain "$kit/toolchain" -o "$work/i_shape_tool" "$work/program.o" "$kit"/c/lib{os,libc}_c.a
+    fi
+}
+
+if [ -n "$only_asks" ]; then
+    is_built
+    exit
+fi
+printf '' | "$top/i_shape_tool" simplify
+if is_built; then
+    exit
+fi
+if ! command -v rt > /dev/null; then
+    echo 'make program: the program is proved and built by the Rattle kit, and there is no rt of it on the path' >&2
+    exit 1
+fi
+if [ "$target" = aarch64 ] && ! command -v aarch64-linux-gnu-gcc > /dev/null; then
+    echo "make program: TARGET=aarch64 needs Debian's gcc-aarch64-linux-gnu and libc6-dev-arm64-cross" >&2
+    exit 1
+fi
+echo "make program: proving and building it for ${target:-$cpu}" >&2
+kit=$(dirname "$(rt doc)")
+work=$(mktemp -d)
+trap 'rm -rf "$work"' EXIT
+touch "$work/started"
+compile
+link
+mkdir -p "$out"
+# what was changed meanwhile is newer than the program
+touch -r "$work/started" "$work/i_shape_tool"
+mv "$work/log" "$out/build.log"
+mv "$work/i_shape_tool" "$out"
