@@ -52,6 +52,21 @@ start:
 }
 
 ; Function Attrs: nounwind
+define internal i1 @"toy::lanes"(ptr noundef %a0, i32 noundef %a1) #0 {
+start:
+  %v0 = load <4 x i32>, ptr %a0, align 4
+  %v1 = insertelement <4 x i32> %v0, i32 %a1, i64 3
+  %v2 = shufflevector <4 x i32> %v1, <4 x i32> poison, <4 x i32> <i32 1, i32 2, i32 3, i32 0>
+  store <4 x i32> %v2, ptr %a0, align 4
+  %v3 = icmp eq <4 x i32> %v2, zeroinitializer
+  %v4 = bitcast <4 x i1> %v3 to i4
+  %v5 = icmp ne i4 %v4, 0
+  %v6 = extractelement <4 x i1> %v3, i64 0
+  %v7 = or i1 %v5, %v6
+  ret i1 %v7
+}
+
+; Function Attrs: nounwind
 define internal i64 @"toy::held"(i64 noundef %a0, ptr noundef %a1) #0 {
 start:
   %v0 = call { i64, i64 } @rattle_alloc(i64 %a0, i64 8)
@@ -112,7 +127,9 @@ UNKNOWN = [
     ("assembly of the module", "source_filename", 'module asm "nop"\nsource_filename'),
     ("a float of one processor", FIRST, FIRST + "  %f = load x86_fp80, ptr %r0, align 16\n"),
     ("a float", FIRST, FIRST + "  %f = load double, ptr %r0, align 8\n"),
-    ("a vector operation", FIRST, FIRST + "  %f = shufflevector <2 x i64> %a, <2 x i64> %b, <2 x i32> zeroinitializer\n"),
+    ("lanes whose number the processor says", FIRST, FIRST + "  %f = load <vscale x 2 x i64>, ptr %r0, align 8\n"),
+    ("an operation on lanes of one processor", "declare void @llvm.trap()", "declare <4 x i32> @llvm.x86.ssse3.phadd.d.128(<4 x i32>, <4 x i32>)"),
+    ("a float's lanes", FIRST, FIRST + "  %f = load <2 x double>, ptr %r0, align 8\n"),
     ("a phi", FIRST, FIRST + "  %f = phi i64 [ 0, %start ]\n"),
     ("an atomic operation", FIRST, FIRST + "  fence seq_cst\n"),
     ("an argument on the stack", "i64 @toy_kept(ptr noundef", "i64 @toy_kept(ptr byval(i64) noundef"),
@@ -132,6 +149,7 @@ UNKNOWN_POINTERS = [
     ("a triple with a pointer in memory", FIRST, FIRST + "  %f = load { i64, ptr, i64 }, ptr %r0, align 8\n"),
     ("a slot for two pointers", "  %r1 = alloca i64, align 8\n", "  %r1 = alloca [2 x ptr], align 8\n"),
     ("a step by another type", FIRST, FIRST + "  %f = getelementptr ptr, ptr %a0, i64 1\n"),
+    ("lanes of pointers", FIRST, FIRST + "  %f = load <2 x ptr>, ptr %r0, align 8\n"),
     ("a choice of pointers", FIRST, FIRST + "  %f = select i1 %v3, ptr %a0, ptr %v1\n"),
 ]
 
