@@ -5,7 +5,7 @@ use Rattle.std.specs.declared.ops.Range.{Range}
 use Rattle.i_shape_core.specs.declared.point.IntPoint.{IntPoint}
 use Rattle.i_shape.specs.declared.flat.buffer.contours.FlatContoursBuffer.{FlatContoursBuffer}
 use Rattle.i_shape_source.specs.Paths.{concatenated}
-use Rattle.i_shape.specs.Flat.{InOrder, part_of, slices, end_to_end, IsReadableShape, shapes}
+use Rattle.i_shape.specs.Flat.{InOrder, part_of, slices, behind, end_to_end, IsReadableShape, shapes}
 use Rattle.i_shape.specs.declared.flat.buffer.shapes.FlatShapesBuffer.{FlatShapesBuffer}
 use Rattle.i_shape_core.specs.Point.{Point}
 use Rattle.i_shape_core.specs.IntPoint.{contour_of}
@@ -32,6 +32,10 @@ CanReadFirst (range ∷ ranges) n = InOrder n range
 abbrev pub first_contour : {P : Type 0} → List P → List (Range ℕ) → List P
 first_contour points [] = points
 first_contour points (range ∷ ranges) = part_of points range
+
+-- every contour can be read
+abbrev pub CanReadContours : {T : Type 0} → FlatContoursBuffer T → Type 0
+CanReadContours buffer = All (InOrder (length buffer.points.items)) buffer.ranges.items
 
 -- every shape can be read
 abbrev pub CanReadShapes : {T : Type 0} → FlatShapesBuffer T → Type 0
@@ -61,14 +65,18 @@ pub record SameShapeLists {T : Type 0} (old new : FlatShapesBuffer T) : Type 0 w
 pub record AddsShape {T : Type 0} (old new : FlatShapesBuffer T) (shape : List (List (IntPoint T))) : Type 0 where
   pub points : new.points.items ≡ old.points.items ++ concatenated shape
   pub contour_ranges : new.contour_ranges.items ≡ old.contour_ranges.items ++ end_to_end (length old.points.items) shape
-  pub shape_ranges : new.shape_ranges.items ≡ old.shape_ranges.items ++ record { start = length old.contour_ranges.items; end = length old.contour_ranges.items + length shape } ∷ []
+  pub shape_ranges : new.shape_ranges.items ≡ old.shape_ranges.items ++ behind (length old.contour_ranges.items) (length shape) ∷ []
   -- where the shapes could be read, they can be read still, with this one at the end
   pub readable : CanReadShapes old → CanReadShapes new
   pub shapes : CanReadShapes old → shapes_in new ≡ shapes_in old ++ shape ∷ []
 
--- the contours that the ranges of a buffer name, over whole numbers, where `value` is what a coordinate stands for
+-- the contours that ranges name in points, over whole numbers, where `value` is what a coordinate stands for
+abbrev pub read_contours : {T : Type 0} → (T → ℤ) → List (IntPoint T) → List (Range ℕ) → List (List Point)
+read_contours value points ranges = map (contour_of value) (slices points ranges)
+
+-- the contours that the ranges of a buffer name, over whole numbers
 abbrev pub contours_in : {T : Type 0} → (T → ℤ) → FlatContoursBuffer T → List (List Point)
-contours_in value buffer = map (contour_of value) (slices buffer.points.items buffer.ranges.items)
+contours_in value buffer = read_contours value buffer.points.items buffer.ranges.items
 
 -- how many points a range names: none where it runs backwards
 abbrev pub range_len : Range ℕ → ℕ
@@ -77,6 +85,10 @@ range_len range = range.end - range.start
 -- contours over whole numbers, where `value` is what a coordinate stands for
 abbrev pub contours_of : {T : Type 0} → (T → ℤ) → List (List (IntPoint T)) → List (List Point)
 contours_of value contours = map (contour_of value) contours
+
+-- the shapes that ranges of ranges name in points, over whole numbers
+abbrev pub read_shapes : {T : Type 0} → (T → ℤ) → List (IntPoint T) → List (Range ℕ) → List (Range ℕ) → List (List (List Point))
+read_shapes value points contour_ranges shape_ranges = map (contours_of value) (shapes points contour_ranges shape_ranges)
 
 -- the shapes that a buffer names, over whole numbers
 abbrev pub named_shapes : {T : Type 0} → (T → ℤ) → FlatShapesBuffer T → List (List (List Point))

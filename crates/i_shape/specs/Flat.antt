@@ -24,6 +24,10 @@ abbrev pub IsReadableShape : ℕ → List (Range ℕ) → Range ℕ → Type 0
 IsReadableShape n contour_ranges range =
     range.start < range.end → (range.end ≤ length contour_ranges) × All (InOrder n) (part_of contour_ranges range)
 
+-- the range of n members behind the first k
+abbrev pub behind : ℕ → ℕ → Range ℕ
+behind k n = record { start = k; end = k + n }
+
 -- the ranges of lists that lie end to end from a place on
 abbrev pub end_to_end : {P : Type 0} → ℕ → List (List P) → List (Range ℕ)
 end_to_end start [] = []

@@ -26,6 +26,10 @@ pub record HasShapeLists {P : Type 0} (buffer : FloatFlatShapesBuffer P) (held :
   pub contour_ranges : buffer.contour_ranges.items ≡ named
   pub shape_ranges : buffer.shape_ranges.items ≡ grouped
 
+-- the two shapes forms have the same points and the same ranges
+abbrev pub SameGroups : {P : Type 0} → FloatFlatShapesBuffer P → FloatFlatShapesBuffer P → Type 0
+SameGroups old new = HasShapeLists new old.points.items old.contour_ranges.items old.shape_ranges.items
+
 -- the points are the paths end to end, and one range names each path
 pub record LieEndToEnd {P : Type 0} (held : List P) (named : List (Range ℕ)) (paths : List (List P)) : Type 0 where
   pub points : held ≡ concatenated paths

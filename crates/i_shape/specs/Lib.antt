@@ -21,6 +21,7 @@ pub mod Flat
 pub mod ShapeAnswers
 pub mod InPlace
 pub mod Buffers
+pub mod CleanedBuffers
 pub mod Lending
 pub mod IntPoints
 pub mod AppendedAnswers

@@ -11,12 +11,14 @@ use i_shape_core::number::IntNumber;
 
 /// Buffers of contours are told equal exactly where they have the same points and the same ranges.
 pub fn contours_buffers_equal<T: IntNumber>(_a: &FlatContoursBuffer<T>, _b: &FlatContoursBuffer<T>)
-    ensures { IsTrue (⟦<FlatContoursBuffer<T> as PartialEq>⟧.eq _a.now _b.now) ↔ SameLists _a.now _b.now }
+    ensures { IsTrue (⟦<FlatContoursBuffer<T> as PartialEq>⟧.eq _a.now _b.now)
+        ↔ SameLists _a.now _b.now }
 {}
 
 /// Buffers of shapes are told equal exactly where they have the same points, the same contour ranges and the same shape ranges.
 pub fn shapes_buffers_equal<T: IntNumber>(_a: &FlatShapesBuffer<T>, _b: &FlatShapesBuffer<T>)
-    ensures { IsTrue (⟦<FlatShapesBuffer<T> as PartialEq>⟧.eq _a.now _b.now) ↔ SameShapeLists _a.now _b.now }
+    ensures { IsTrue (⟦<FlatShapesBuffer<T> as PartialEq>⟧.eq _a.now _b.now)
+        ↔ SameShapeLists _a.now _b.now }
 {}
 
 /// Buffers of contours over points of any kind are told equal exactly where their points are equal pair by pair, and their

@@ -1,8 +1,14 @@
 -- A whole number of 128 bits, as C is given it.
-use Rattle.std.specs.Prelude.{◌≡◌, ◌+◌, ◌*◌, ◌^◌, ℤ}
-use Rattle.std.specs.Int.{w128, cast_unsigned}
+use Rattle.std.specs.Prelude.{◌≡◌, ◌+◌, ◌*◌, ◌^◌, ℤ, List}
+use Rattle.std.specs.Int.{w128, cast_unsigned, int_wrap}
+use Rattle.i_shape.specs.Point.{Point}
+use Rattle.i_shape.specs.Edges.{shoelace}
 use Rattle.i_shape_c.specs.declared.area.Halves.{Halves}
 
 -- the two halves of its bits, where a number below 0 stands for itself and 2^128
 abbrev pub AreHalves : ℤ → Halves → Type 0
 AreHalves z halves = halves.low + halves.high * 2 ^ 64 ≡ cast_unsigned w128 z
+
+-- the halves are those of twice the area of the contour, wrapped where it doesn't fit
+abbrev pub AreDoubleAreaHalves : List Point → Halves → Type 0
+AreDoubleAreaHalves contour halves = AreHalves (int_wrap w128 (shoelace contour)) halves

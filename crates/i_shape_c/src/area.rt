@@ -3,8 +3,8 @@
 ghost use Rattle.std.specs.Prelude.{◌≡◌, ◌↔◌, ◌<◌, length, map, IfSome, IsSome};
 ghost use Rattle.std.specs.Int.{int_wrap};
 ghost use Rattle.i_shape.specs.Edges.{shoelace};
-ghost use Rattle.i_shape.specs.IntPoint.{point_of};
 ghost use Rattle.i_shape_c.specs.Areas.{AreHalves};
+ghost use Rattle.i_shape_c.specs.Points.{point_by};
 
 use crate::point::CPoint;
 use i_shape::IntNumber;
@@ -14,7 +14,9 @@ use i_shape_core::number::WideIntNumber;
 /// doesn't fit wraps. It takes no memory.
 pub fn area_two<P: CPoint>(points: &[P]) -> Option<<P::Coordinate as IntNumber>::Wide>
     ensures some { IsSome result ↔ (0 < length points.now) }
-    ensures area { IfSome result (λ area. P.Coordinate.Wide.value area ≡ int_wrap P.Coordinate.Wide.width (shoelace (map (λ p. point_of P.Coordinate.value (P.point p)) points.now))) }
+    ensures area { IfSome result (λ area. P.Coordinate.Wide.value area
+        ≡ int_wrap P.Coordinate.Wide.width
+        (shoelace (map (point_by P.Coordinate.value P.point) points.now))) }
 {
     let (start, rest) = points.split_first()?;
     let first = (*start).to_point();

@@ -1,8 +1,8 @@
 //! The cleaning of many contours, which lie end to end in one array and are parted by offsets.
 
 ghost use Rattle.std.specs.Prelude.{◌≡◌, ◌↔◌, ◌+◌, ◌^◌, ◌<◌, ◌≤◌, length, slice_range, IsTrue, IfOk, OnErr};
-ghost use Rattle.i_shape.specs.IntPoint.{point_of};
 ghost use Rattle.i_shape_c.specs.Batch.{AreRising, IsLongest, CanClean, AreSafeContours, NoneTakesMemory, IsCleanedBatch, IsWithin, CleansContours};
+ghost use Rattle.i_shape_c.specs.Points.{point_by};
 
 use crate::codes::{NO_MEMORY, UNFIT, UNSAFE};
 use crate::contour::clean_into;
@@ -23,7 +23,7 @@ pub fn clean_contours<P: CPoint, C: ContourCleaner>(
 ) -> isize
     requires { length out_points.old < 2 ^ 63 }
     ensures { CleansContours C.clean C.answers C.keeps P.Coordinate.width
-        (λ p. point_of P.Coordinate.value (P.point p)) points.now offsets.now
+        (point_by P.Coordinate.value P.point) points.now offsets.now
         out_points.old out_points.new out_offsets.old out_offsets.new result }
 {
     if !can_clean(points.len(), offsets, out_points.len(), out_offsets.len()) {
@@ -61,11 +61,19 @@ fn clean_all<P: CPoint, C: ContourCleaner>(
     out_points: &mut [P],
     out_offsets: &mut [usize],
 ) -> Result<usize, ShapeError>
-    requires can { CanClean (length points.now) offsets.now (length out_points.old) (length out_offsets.old) }
-    requires points_safe { AreSafeContours P.Coordinate.width (λ p. point_of P.Coordinate.value (P.point p)) points.now offsets.now }
-    ensures ok { IfOk result (λ n. IsCleanedBatch C.answers C.keeps P.Coordinate.width (λ p. point_of P.Coordinate.value (P.point p)) points.now offsets.now out_points.old out_points.new out_offsets.old out_offsets.new n) }
-    ensures err { OnErr result (IsWithin (length points.now) (length offsets.now) out_points.old out_points.new out_offsets.old out_offsets.new) }
-    ensures memory { OnErr result (NoneTakesMemory C.clean (λ p. point_of P.Coordinate.value (P.point p)) points.now offsets.now → ⊥) }
+    requires can { CanClean (length points.now) offsets.now
+        (length out_points.old) (length out_offsets.old) }
+    requires points_safe { AreSafeContours P.Coordinate.width
+        (point_by P.Coordinate.value P.point) points.now offsets.now }
+    ensures ok { IfOk result
+        (λ n. IsCleanedBatch C.answers C.keeps P.Coordinate.width
+        (point_by P.Coordinate.value P.point) points.now
+        offsets.now out_points.old out_points.new out_offsets.old out_offsets.new n) }
+    ensures err { OnErr result
+        (IsWithin (length points.now) (length offsets.now)
+        out_points.old out_points.new out_offsets.old out_offsets.new) }
+    ensures memory { OnErr result
+        (NoneTakesMemory C.clean (point_by P.Coordinate.value P.point) points.now offsets.now → ⊥) }
 {
     let mut cleaner = C::with_room(alloc, longest(offsets));
     let mut written: usize = 0;

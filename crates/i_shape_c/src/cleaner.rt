@@ -29,7 +29,8 @@ pub trait ShapesCleaner<I: IntNumber> {
         requires held { HoldsShapes shapes.old (shapes_in shapes.old) }
         requires safe { IsSafeList I.width (named_shapes I.value shapes.old) }
         ensures held { OnOk result (HoldsShapes shapes.new (shapes_in shapes.new)) }
-        ensures left { OnOk result (gives (named_shapes I.value shapes.old) (named_shapes I.value shapes.new)) };
+        ensures left { OnOk result
+            (gives (named_shapes I.value shapes.old) (named_shapes I.value shapes.new)) };
 
     /// Of no polygon none is left.
     ghost nothing: { gives [] [] };

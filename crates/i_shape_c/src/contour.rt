@@ -1,9 +1,9 @@
 //! The cleaning of one contour, at any width and by any cleaner.
 
-ghost use Rattle.std.specs.Prelude.{◌≡◌, ◌↔◌, ◌+◌, ◌^◌, ◌<◌, ◌≤◌, length, map, take, drop, slice_range, IfOk, OnErr};
-ghost use Rattle.i_shape.specs.IntPoint.{point_of};
+ghost use Rattle.std.specs.Prelude.{◌≡◌, ◌+◌, ◌^◌, ◌<◌, ◌≤◌, length, map, take, drop, slice_range, IfOk, OnErr};
 ghost use Rattle.i_shape.specs.Written.{IsCleaned, slot};
 ghost use Rattle.i_shape_c.specs.Cleaned.{AreSafe, TakesNoMemory, CleansContour};
+ghost use Rattle.i_shape_c.specs.Points.{point_by};
 
 use crate::codes::{NO_MEMORY, UNFIT, UNSAFE};
 use crate::lists::are_safe;
@@ -20,7 +20,7 @@ pub fn clean_contour<P: CPoint, C: ContourCleaner>(
 ) -> isize
     requires { length out.old < 2 ^ 63 }
     ensures { CleansContour C.clean C.answers C.keeps (C.picks P) P.Coordinate.width
-        (λ p. point_of P.Coordinate.value (P.point p)) points.now out.old out.new result }
+        (point_by P.Coordinate.value P.point) points.now out.old out.new result }
 {
     if out.len() < points.len() {
         return UNFIT;
@@ -42,16 +42,21 @@ pub fn clean_into<P: CPoint, C: ContourCleaner>(
     out: &mut [P],
     at: usize,
 ) -> Result<usize, ShapeError>
-    requires points_safe { AreSafe P.Coordinate.width (λ p. point_of P.Coordinate.value (P.point p)) given.now }
+    requires points_safe { AreSafe P.Coordinate.width (point_by P.Coordinate.value P.point)
+        given.now }
     requires room { at + length given.now ≤ length out.old }
     ensures end { IfOk result (λ end. (at ≤ end) × (end ≤ at + length given.now)) }
-    ensures cleaned { IfOk result (λ end. IsCleaned C.answers C.keeps P.Coordinate.width (map (λ p. point_of P.Coordinate.value (P.point p)) given.now) (slot (map (λ p. point_of P.Coordinate.value (P.point p)) (slice_range out.new at end)))) }
+    ensures cleaned { IfOk result
+        (λ end. IsCleaned C.answers C.keeps P.Coordinate.width
+        (map (point_by P.Coordinate.value P.point) given.now)
+        (slot (map (point_by P.Coordinate.value P.point) (slice_range out.new at end)))) }
     ensures picked { IfOk result (λ end. C.picks P given.now (slice_range out.new at end)) }
     ensures before { take at out.new ≡ take at out.old }
     ensures after { IfOk result (λ end. drop end out.new ≡ drop end out.old) }
     ensures len { length out.new ≡ length out.old }
     ensures err { OnErr result (out.new ≡ out.old) }
-    ensures memory { OnErr result (TakesNoMemory C.clean (λ p. point_of P.Coordinate.value (P.point p)) given.now → ⊥) }
+    ensures memory { OnErr result
+        (TakesNoMemory C.clean (point_by P.Coordinate.value P.point) given.now → ⊥) }
 {
     let count = cleaner.clean_into(given, &mut out[at..])?;
     Ok(at + count)

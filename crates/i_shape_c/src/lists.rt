@@ -1,8 +1,8 @@
 //! Points of C, and points of the library.
 
 ghost use Rattle.std.specs.Prelude.{◌≡◌, ◌+◌, ◌≤◌, ◌++◌, ◌↔◌, length, map, take, drop, slice_range, IfOk, IsTrue};
-ghost use Rattle.i_shape.specs.IntPoint.{point_of};
 ghost use Rattle.i_shape_c.specs.Cleaned.{AreSafe};
+ghost use Rattle.i_shape_c.specs.Points.{point_by};
 
 use crate::point::CPoint;
 use i_shape::int::IntPoint;
@@ -38,7 +38,8 @@ pub fn copy_out<P: CPoint>(points: &[IntPoint<P::Coordinate>], out: &mut [P], at
 
 /// Whether each point is safe. It looks at all of them, since a test that can end early takes one point after the other.
 pub fn are_safe<P: CPoint>(points: &[P]) -> bool
-    ensures { IsTrue result ↔ AreSafe P.Coordinate.width (λ p. point_of P.Coordinate.value (P.point p)) points.now }
+    ensures { IsTrue result ↔ AreSafe P.Coordinate.width
+        (point_by P.Coordinate.value P.point) points.now }
 {
     let mut safe = true;
     for given in points {

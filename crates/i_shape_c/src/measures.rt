@@ -10,6 +10,7 @@ ghost use Rattle.i_shape_c.specs.Areas.{AreHalves};
 ghost use Rattle.i_shape_c.specs.Batch.{offset};
 ghost use Rattle.i_shape_c.specs.Cleaned.{unsafe_code, unfit_code};
 ghost use Rattle.i_shape_c.specs.Measures.{CanMeasure, MeasuresAnswer, IsByteOf};
+ghost use Rattle.i_shape_c.specs.Points.{point_by};
 
 use crate::area::{Halves, area_two};
 use crate::batch::{can_clean, part};
@@ -38,7 +39,7 @@ pub trait ContourMeasure<P: CPoint>: Copy {
     fn measure(self, contour: &[P]) -> Self::Answer
         requires can { can_measure self }
         requires points { All (asked self) contour.now }
-        ensures { gives self (map (λ p. point_of P.Coordinate.value (P.point p)) contour.now) result };
+        ensures { gives self (map (point_by P.Coordinate.value P.point) contour.now) result };
 }
 
 /// The answer of a test of safe points, 1 or 0.
@@ -153,9 +154,15 @@ pub fn measure_contours<P: CPoint, M: ContourMeasure<P>>(
     out: &mut [M::Answer],
 ) -> i32
     requires { M.can_measure measure }
-    ensures answer { MeasuresAnswer (M.gives measure) (λ p. point_of P.Coordinate.value (P.point p)) points.now offsets.now out.old out.new result }
-    ensures unfit { result ≡ unfit_code ↔ (CanMeasure (length points.now) offsets.now (length out.old) → ⊥) }
-    ensures unsafe_points { result ≡ unsafe_code ↔ (CanMeasure (length points.now) offsets.now (length out.old) × (All (M.asked measure) (slice_range points.now (offset offsets.now 0) (offset offsets.now (length offsets.now - 1))) → ⊥)) }
+    ensures answer { MeasuresAnswer (M.gives measure) (point_by P.Coordinate.value P.point)
+        points.now offsets.now out.old out.new result }
+    ensures unfit { result ≡ unfit_code
+        ↔ (CanMeasure (length points.now) offsets.now (length out.old) → ⊥) }
+    ensures unsafe_points { result ≡ unsafe_code
+        ↔ (CanMeasure (length points.now) offsets.now (length out.old)
+        × (All (M.asked measure)
+        (slice_range points.now (offset offsets.now 0)
+        (offset offsets.now (length offsets.now - 1))) → ⊥)) }
 {
     if !can_measure(points.len(), offsets, out.len()) {
         return UNFIT_TEST;

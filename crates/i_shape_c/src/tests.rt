@@ -9,6 +9,7 @@ ghost use Rattle.i_shape.specs.IntPoint.{contour_of, point_of, IsSafe};
 ghost use Rattle.i_shape.specs.Point.{Point};
 ghost use Rattle.i_shape_c.specs.Cleaned.{AreSafe, unsafe_code};
 ghost use Rattle.i_shape_c.specs.Tests.{IsTold, TestAnswer};
+ghost use Rattle.i_shape_c.specs.Points.{point_by};
 
 use crate::codes::UNSAFE_TEST;
 use crate::lists::are_safe;
@@ -94,8 +95,10 @@ impl<I: IntNumber> ContourTest<I> for Around<I> {
 /// The answer of a test of the points.
 pub fn test_contour<P: CPoint, T: ContourTest<P::Coordinate>>(points: &[P], test: T) -> i32
     requires { T.can_test test }
-    ensures answer { TestAnswer (T.holds test (map (λ p. point_of P.Coordinate.value (P.point p)) points.now)) result }
-    ensures unsafe_points { result ≡ unsafe_code ↔ (AreSafe P.Coordinate.width (λ p. point_of P.Coordinate.value (P.point p)) points.now → ⊥) }
+    ensures answer { TestAnswer
+        (T.holds test (map (point_by P.Coordinate.value P.point) points.now)) result }
+    ensures unsafe_points { result ≡ unsafe_code
+        ↔ (AreSafe P.Coordinate.width (point_by P.Coordinate.value P.point) points.now → ⊥) }
 {
     if !are_safe(points) {
         return UNSAFE_TEST;
@@ -105,8 +108,12 @@ pub fn test_contour<P: CPoint, T: ContourTest<P::Coordinate>>(points: &[P], test
 
 /// Whether the point is inside the contour.
 pub fn contains<P: CPoint>(points: &[P], given: P) -> i32
-    ensures answer { TestAnswer (Inside (map (λ p. point_of P.Coordinate.value (P.point p)) points.now) (point_of P.Coordinate.value (P.point given))) result }
-    ensures unsafe_points { result ≡ unsafe_code ↔ ((AreSafe P.Coordinate.width (λ p. point_of P.Coordinate.value (P.point p)) points.now × IsSafe P.Coordinate.width (point_of P.Coordinate.value (P.point given))) → ⊥) }
+    ensures answer { TestAnswer
+        (Inside (map (point_by P.Coordinate.value P.point) points.now)
+        (point_by P.Coordinate.value P.point given)) result }
+    ensures unsafe_points { result ≡ unsafe_code
+        ↔ ((AreSafe P.Coordinate.width (point_by P.Coordinate.value P.point) points.now
+        × IsSafe P.Coordinate.width (point_by P.Coordinate.value P.point given)) → ⊥) }
 {
     let point = given.to_point();
     if !point.is_in_safe_range() {
@@ -117,7 +124,8 @@ pub fn contains<P: CPoint>(points: &[P], given: P) -> i32
 
 /// Whether each point is safe. It takes no memory.
 pub fn is_safe<P: CPoint>(points: &[P]) -> i32
-    ensures { IsTold (AreSafe P.Coordinate.width (λ p. point_of P.Coordinate.value (P.point p)) points.now) result }
+    ensures { IsTold (AreSafe P.Coordinate.width (point_by P.Coordinate.value P.point) points.now)
+        result }
 {
     if are_safe(points) { 1 } else { 0 }
 }

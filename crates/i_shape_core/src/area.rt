@@ -17,7 +17,8 @@ pub trait UnsafeArea<I: IntNumber>: Iterator<Item = IntPoint<I>> + Sized {
         requires can { Self.can_next self }
         requires ends { IsFinite (Self.remaining self) }
         requires more { (rest : Self) → ¬ (Self.next_gives self None rest) }
-        ensures { (points : List (IntPoint I)) × Drains Self.next_gives self points × (I.Wide.value result ≡ int_wrap I.Wide.width (shoelace (contour_of I.value points))) };
+        ensures { (points : List (IntPoint I)) × Drains Self.next_gives self points
+            × (I.Wide.value result ≡ int_wrap I.Wide.width (shoelace (contour_of I.value points))) };
 }
 
 impl<I: IntNumber, T: Iterator<Item = IntPoint<I>>> UnsafeArea<I> for T {
@@ -42,14 +43,17 @@ pub trait IteratorArea<I: IntNumber>: Iterator<Item = IntPoint<I>> + Sized {
         requires can { Self.can_next self }
         requires ends { IsFinite (Self.remaining self) }
         requires more { (rest : Self) → ¬ (Self.next_gives self None rest) }
-        ensures { (points : List (IntPoint I)) × Drains Self.next_gives self points × (I.Wide.value result ≡ int_wrap I.Wide.width (shoelace (contour_of I.value points))) };
+        ensures { (points : List (IntPoint I)) × Drains Self.next_gives self points
+            × (I.Wide.value result ≡ int_wrap I.Wide.width (shoelace (contour_of I.value points))) };
 
     /// Half of `area_two`, rounded towards zero.
     fn area(self) -> I::Wide
         requires can { Self.can_next self }
         requires ends { IsFinite (Self.remaining self) }
         requires more { (rest : Self) → ¬ (Self.next_gives self None rest) }
-        ensures { (points : List (IntPoint I)) × Drains Self.next_gives self points × (I.Wide.value result ≡ int_div (int_wrap I.Wide.width (shoelace (contour_of I.value points))) (pos 2)) };
+        ensures { (points : List (IntPoint I)) × Drains Self.next_gives self points
+            × (I.Wide.value result
+            ≡ int_div (int_wrap I.Wide.width (shoelace (contour_of I.value points))) (pos 2)) };
 }
 
 impl<I: IntNumber, T: Iterator<Item = IntPoint<I>>> IteratorArea<I> for T {
@@ -65,7 +69,9 @@ impl<I: IntNumber, T: Iterator<Item = IntPoint<I>>> IteratorArea<I> for T {
 /// The double area of the contour of the points, above zero where it is wound counter-clockwise, and zero where there are none. No
 /// safe range is asked: a sum that doesn't fit wraps. One pass; it takes no memory.
 pub fn area_of<P: ContourPoint>(points: &[P]) -> <P::Coordinate as IntNumber>::Wide
-    ensures { P.Coordinate.Wide.value result ≡ int_wrap P.Coordinate.Wide.width (shoelace (contour_of P.Coordinate.value (P.points points.now))) }
+    ensures { P.Coordinate.Wide.value result
+        ≡ int_wrap P.Coordinate.Wide.width
+        (shoelace (contour_of P.Coordinate.value (P.points points.now))) }
 {
     if points.is_empty() {
         return <P::Coordinate as IntNumber>::Wide::ZERO;

@@ -40,7 +40,8 @@ impl Bend {
 /// How a way bends from the edge `edge` to the edge `next`, where the `x` of `next` is not the least number.
 pub fn bend_of<I: IntNumber>(edge: IntPoint<I>, next: IntPoint<I>) -> Bend
     requires { ¬ (next.x ≡ I.MIN) }
-    ensures { (a b c : Point) → point_of I.value edge ≡ vector a b → point_of I.value next ≡ vector b c → IsBend a b c result }
+    ensures { (a b c : Point) → point_of I.value edge ≡ vector a b
+        → point_of I.value next ≡ vector b c → IsBend a b c result }
 {
     let cross = edge.cross_product(next);
     if cross > I::Wide::ZERO {

@@ -44,7 +44,8 @@ impl ContourSimplifier {
         contour: &[P],
         out: &mut [P],
     ) -> Result<usize, ShapeError>
-        requires points_safe { IsSafeContour P.Coordinate.width (contour_of P.Coordinate.value (P.points contour.now)) }
+        requires points_safe { IsSafeContour P.Coordinate.width
+            (contour_of P.Coordinate.value (P.points contour.now)) }
         requires room { length contour.now ≤ length out.old }
         ensures { CleansInto IsSimple CanonicalAnswer KeptAnswer RotatedSublist P.Coordinate.width
             (λ list. contour_of P.Coordinate.value (P.points list)) contour.now out.old out.new result }
@@ -60,7 +61,8 @@ impl ContourSimplifier {
 /// Rotates a contour in place to its least rotation.
 pub(crate) fn rotate_to_least<P: ContourPoint>(contour: &mut [P])
     requires { 0 < length contour.old }
-    ensures least { IsLeast (contour_of P.Coordinate.value (P.points contour.old)) (contour_of P.Coordinate.value (P.points contour.new)) }
+    ensures least { IsLeast (contour_of P.Coordinate.value (P.points contour.old))
+        (contour_of P.Coordinate.value (P.points contour.new)) }
     ensures rotated { Rotation contour.old contour.new }
     ensures len { length contour.new ≡ length contour.old }
 {
@@ -72,7 +74,8 @@ pub(crate) fn rotate_to_least<P: ContourPoint>(contour: &mut [P])
 pub(crate) fn least_start<P: ContourPoint>(contour: &[P]) -> usize
     requires { 0 < length contour.now }
     ensures within { result < length contour.now }
-    ensures least { let c = contour_of P.Coordinate.value (P.points contour.now) in IsLeast c (started_at c result) }
+    ensures least { let c = contour_of P.Coordinate.value
+        (P.points contour.now) in IsLeast c (started_at c result) }
 {
     let mut comparer = Comparer::new(contour);
     search_starts(&mut comparer)
@@ -100,7 +103,8 @@ fn search_starts<P: ContourPoint>(comparer: &mut Comparer<'_, P>) -> usize
     requires some { 0 < length comparer.old.contour }
     requires fresh { comparer.old.comparisons ≡ 0 }
     ensures within { result < length comparer.old.contour }
-    ensures least { let c = contour_of P.Coordinate.value comparer.old.contour in IsLeast c (started_at c result) }
+    ensures least { let c = contour_of P.Coordinate.value
+        comparer.old.contour in IsLeast c (started_at c result) }
     ensures fewest { length comparer.old.contour - 1 ≤ comparer.new.comparisons }
     ensures most { comparer.new.comparisons ≤ 3 * length comparer.old.contour - 4 }
 {
@@ -141,9 +145,12 @@ fn next_rival<P: ContourPoint>(
     requires room { comparer.old.comparisons + length comparer.old.contour ≤ u128.MAX }
     ensures contour { comparer.new.contour ≡ comparer.old.contour }
     ensures within { (from ≤ result.0) × (result.0 ≤ length comparer.old.contour) }
-    ensures passed { let c = contour_of P.Coordinate.value comparer.old.contour in AreAfter c (point_at c kept) from result.0 }
-    ensures first { result.0 < length comparer.old.contour → IsOrder (contour_of P.Coordinate.value comparer.old.contour) kept result.0 result.1 }
-    ensures counted { comparer.new.comparisons + from ≡ comparer.old.comparisons + min (result.0 + 1) (length comparer.old.contour) }
+    ensures passed { let c = contour_of P.Coordinate.value
+        comparer.old.contour in AreAfter c (point_at c kept) from result.0 }
+    ensures first { result.0 < length comparer.old.contour
+        → IsOrder (contour_of P.Coordinate.value comparer.old.contour) kept result.0 result.1 }
+    ensures counted { comparer.new.comparisons + from
+        ≡ comparer.old.comparisons + min (result.0 + 1) (length comparer.old.contour) }
 {
     for place in from..comparer.len() {
         match comparer.compare(kept, place) {
@@ -167,7 +174,10 @@ fn compare_starts<P: ContourPoint>(
     requires first { IsOrder (contour_of P.Coordinate.value comparer.old.contour) kept rival first }
     requires room { comparer.old.comparisons + length comparer.old.contour ≤ u128.MAX }
     ensures contour { comparer.new.contour ≡ comparer.old.contour }
-    ensures order { let c = contour_of P.Coordinate.value comparer.old.contour in MatchOrdering result.1 (Precedes c kept rival result.0) (Agree c kept rival (length comparer.old.contour) × (result.0 ≡ length comparer.old.contour)) (Precedes c rival kept result.0) }
+    ensures order { let c = contour_of P.Coordinate.value
+        comparer.old.contour in MatchOrdering result.1 (Precedes c kept rival result.0)
+        (Agree c kept rival (length comparer.old.contour)
+        × (result.0 ≡ length comparer.old.contour)) (Precedes c rival kept result.0) }
     ensures counted { comparer.new.comparisons + 1 ≡ comparer.old.comparisons + result.0 }
 {
     if first != Ordering::Equal {
@@ -200,9 +210,16 @@ fn compare_runs<P: ContourPoint>(
     requires theirs_within { theirs < length comparer.old.contour }
     requires room { comparer.old.comparisons + most ≤ u128.MAX }
     ensures contour { comparer.new.contour ≡ comparer.old.contour }
-    ensures agree { let c = contour_of P.Coordinate.value comparer.old.contour in (t : ℕ) → t < result.0 → point_at c (ours + t) ≡ point_at c (theirs + t) }
-    ensures order { let c = contour_of P.Coordinate.value comparer.old.contour in let k = result.0 in let room = min (length comparer.old.contour - max ours theirs) most in MatchOrdering result.1 ((k < room) × IsBefore (point_at c (ours + k)) (point_at c (theirs + k))) (k ≡ room) ((k < room) × IsBefore (point_at c (theirs + k)) (point_at c (ours + k))) }
-    ensures counted { comparer.new.comparisons ≡ comparer.old.comparisons + min (result.0 + 1) (min (length comparer.old.contour - max ours theirs) most) }
+    ensures agree { let c = contour_of P.Coordinate.value comparer.old.contour in (t : ℕ)
+        → t < result.0 → point_at c (ours + t) ≡ point_at c (theirs + t) }
+    ensures order { let c = contour_of P.Coordinate.value
+        comparer.old.contour in let k = result.0 in let
+        room = min (length comparer.old.contour - max ours theirs)
+        most in MatchOrdering result.1
+        ((k < room) × IsBefore (point_at c (ours + k)) (point_at c (theirs + k)))
+        (k ≡ room) ((k < room) × IsBefore (point_at c (theirs + k)) (point_at c (ours + k))) }
+    ensures counted { comparer.new.comparisons ≡ comparer.old.comparisons
+        + min (result.0 + 1) (min (length comparer.old.contour - max ours theirs) most) }
 {
     let room = (comparer.len() - ours.max(theirs)).min(most);
     for step in 0..room {

@@ -40,7 +40,8 @@ pub trait ContourCleaner: Drop {
 
     /// Whether the contour is clean. It takes no memory.
     fn is_clean<P: ContourPoint>(contour: &[P]) -> bool
-        requires { IsSafeContour P.Coordinate.width (contour_of P.Coordinate.value (P.points contour.now)) }
+        requires { IsSafeContour P.Coordinate.width
+            (contour_of P.Coordinate.value (P.points contour.now)) }
         ensures { IsTrue result ↔ clean (contour_of P.Coordinate.value (P.points contour.now)) };
 
     /// The cleaned contour. The only error is `OutOfMemory`.
@@ -75,7 +76,8 @@ pub trait ContourCleaner: Drop {
         contour: &[P],
         out: &mut [P],
     ) -> Result<usize, ShapeError>
-        requires points_safe { IsSafeContour P.Coordinate.width (contour_of P.Coordinate.value (P.points contour.now)) }
+        requires points_safe { IsSafeContour P.Coordinate.width
+            (contour_of P.Coordinate.value (P.points contour.now)) }
         requires room { length contour.now ≤ length out.old }
         ensures { CleansInto clean answers keeps (picks P) P.Coordinate.width
             (λ list. contour_of P.Coordinate.value (P.points list)) contour.now out.old out.new result };

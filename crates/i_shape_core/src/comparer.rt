@@ -48,7 +48,8 @@ impl<'a, P: ContourPoint> Comparer<'a, P> {
         requires first_within { first < length self.old.contour }
         requires second_within { second < length self.old.contour }
         requires room { self.old.comparisons < u128.MAX }
-        ensures order { IsOrder (contour_of P.Coordinate.value self.old.contour) first second result }
+        ensures order { IsOrder (contour_of P.Coordinate.value self.old.contour)
+            first second result }
         ensures contour { self.new.contour ≡ self.old.contour }
         ensures comparisons { self.new.comparisons ≡ self.old.comparisons + 1 }
     {
@@ -75,7 +76,8 @@ impl<'a, P: ContourPoint> Comparer<'a, P> {
 
 /// How two points are ordered: by x, then by y.
 fn compare_points<I: IntNumber>(a: IntPoint<I>, b: IntPoint<I>) -> Ordering
-    ensures { let p = point_of I.value a in let q = point_of I.value b in MatchOrdering result (IsBefore p q) (p ≡ q) (IsBefore q p) }
+    ensures { let p = point_of I.value a in let q = point_of
+        I.value b in MatchOrdering result (IsBefore p q) (p ≡ q) (IsBefore q p) }
 {
     a.cmp(&b)
 }

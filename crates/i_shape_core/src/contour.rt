@@ -52,7 +52,8 @@ pub trait ContourExtension<I: IntNumber> {
     fn contains_by(&self, point: IntPoint<I>, rule: FillRule) -> bool
         requires points_safe { IsSafeContour I.width (contour self.now) }
         requires point_safe { IsSafe I.width (point_of I.value point) }
-        ensures { IsTrue result ↔ IsFilled rule (winding (contour self.now) (point_of I.value point)) };
+        ensures { IsTrue result
+            ↔ IsFilled rule (winding (contour self.now) (point_of I.value point)) };
 
     /// Writes the winding number about each of the points, which may be of any type, to the front of `out`, which is at least as
     /// long. What stands behind stays as it was.
@@ -60,7 +61,8 @@ pub trait ContourExtension<I: IntNumber> {
         requires contour_safe { IsSafeContour I.width (contour self.now) }
         requires points_safe { IsSafeContour I.width (contour_of I.value (P.points points.now)) }
         requires room { length points.now ≤ length out.old }
-        ensures { out.new ≡ map (winding (contour self.now)) (contour_of I.value (P.points points.now)) ++ drop (length points.now) out.old };
+        ensures { out.new ≡ map (winding (contour self.now))
+            (contour_of I.value (P.points points.now)) ++ drop (length points.now) out.old };
 }
 
 impl<I: IntNumber> ContourExtension<I> for &[IntPoint<I>] {
@@ -78,7 +80,8 @@ impl<I: IntNumber> ContourExtension<I> for &[IntPoint<I>] {
     fn contains_point(&self, point: IntPoint<I>) -> bool
         requires points_safe { IsSafeContour I.width (contour_of I.value self.now.now) }
         requires point_safe { IsSafe I.width (point_of I.value point) }
-        ensures { IsTrue result ↔ Inside (contour_of I.value self.now.now) (point_of I.value point) }
+        ensures { IsTrue result ↔ Inside (contour_of I.value self.now.now)
+            (point_of I.value point) }
     {
         contains_point(*self, point)
     }
@@ -94,7 +97,8 @@ impl<I: IntNumber> ContourExtension<I> for &[IntPoint<I>] {
     fn contains_by(&self, point: IntPoint<I>, rule: FillRule) -> bool
         requires points_safe { IsSafeContour I.width (contour_of I.value self.now.now) }
         requires point_safe { IsSafe I.width (point_of I.value point) }
-        ensures { IsTrue result ↔ IsFilled rule (winding (contour_of I.value self.now.now) (point_of I.value point)) }
+        ensures { IsTrue result
+            ↔ IsFilled rule (winding (contour_of I.value self.now.now) (point_of I.value point)) }
     {
         rule.fills(winding_about(*self, point) as i128)
     }
@@ -103,7 +107,8 @@ impl<I: IntNumber> ContourExtension<I> for &[IntPoint<I>] {
         requires contour_safe { IsSafeContour I.width (contour_of I.value self.now.now) }
         requires points_safe { IsSafeContour I.width (contour_of I.value (P.points points.now)) }
         requires room { length points.now ≤ length out.old }
-        ensures { out.new ≡ map (winding (contour_of I.value self.now.now)) (contour_of I.value (P.points points.now)) ++ drop (length points.now) out.old }
+        ensures { out.new ≡ map (winding (contour_of I.value self.now.now))
+            (contour_of I.value (P.points points.now)) ++ drop (length points.now) out.old }
     {
         windings_about(*self, points, out);
     }
@@ -112,7 +117,8 @@ impl<I: IntNumber> ContourExtension<I> for &[IntPoint<I>] {
 /// Whether, without the points that equal the one before them on the cycle, at most two are left, or the way over them nowhere goes back
 /// the way it came and does not bend to the left at one place and to the right at another.
 pub fn is_convex<P: ContourPoint>(points: &[P]) -> bool
-    requires { IsSafeContour P.Coordinate.width (contour_of P.Coordinate.value (P.points points.now)) }
+    requires { IsSafeContour P.Coordinate.width
+        (contour_of P.Coordinate.value (P.points points.now)) }
     ensures { IsTrue result ↔ Convex (contour_of P.Coordinate.value (P.points points.now)) }
 {
     let Some(last) = points.last() else {
@@ -145,9 +151,11 @@ pub fn is_convex<P: ContourPoint>(points: &[P]) -> bool
 
 /// Whether an odd number of edges pass the height of `point` strictly to the right of it. A contour without points contains none.
 pub fn contains_point<P: ContourPoint>(contour: &[P], point: IntPoint<P::Coordinate>) -> bool
-    requires points_safe { IsSafeContour P.Coordinate.width (contour_of P.Coordinate.value (P.points contour.now)) }
+    requires points_safe { IsSafeContour P.Coordinate.width
+        (contour_of P.Coordinate.value (P.points contour.now)) }
     requires point_safe { IsSafe P.Coordinate.width (point_of P.Coordinate.value point) }
-    ensures { IsTrue result ↔ Inside (contour_of P.Coordinate.value (P.points contour.now)) (point_of P.Coordinate.value point) }
+    ensures { IsTrue result ↔ Inside (contour_of P.Coordinate.value (P.points contour.now))
+        (point_of P.Coordinate.value point) }
 {
     let Some(last) = contour.last() else {
         return false;
@@ -176,8 +184,11 @@ fn is_inside_after<P: ContourPoint>(
 ) -> bool
     requires point_safe { IsSafe P.Coordinate.width (point_of P.Coordinate.value point) }
     requires first_safe { IsSafe P.Coordinate.width (point_of P.Coordinate.value first) }
-    requires points_safe { IsSafeContour P.Coordinate.width (contour_of P.Coordinate.value (P.points points.now)) }
-    ensures { result ≡ inside_after (point_of P.Coordinate.value point) was_inside (point_of P.Coordinate.value first) (contour_of P.Coordinate.value (P.points points.now)) }
+    requires points_safe { IsSafeContour P.Coordinate.width
+        (contour_of P.Coordinate.value (P.points points.now)) }
+    ensures { result ≡ inside_after (point_of P.Coordinate.value point)
+        was_inside (point_of P.Coordinate.value first)
+        (contour_of P.Coordinate.value (P.points points.now)) }
 {
     let mut is_inside = was_inside;
     let mut start = first;
@@ -200,7 +211,8 @@ pub(crate) fn passes_right<I: IntNumber>(
     requires point_safe { IsSafe I.width (point_of I.value point) }
     requires start_safe { IsSafe I.width (point_of I.value start) }
     requires end_safe { IsSafe I.width (point_of I.value end) }
-    ensures { result ≡ is_right (point_of I.value point) (record { start = point_of I.value start; end = point_of I.value end }) }
+    ensures { result ≡ is_right (point_of I.value point)
+        (record { start = point_of I.value start; end = point_of I.value end }) }
 {
     let is_start_above = start.y > point.y;
     let is_end_above = end.y > point.y;

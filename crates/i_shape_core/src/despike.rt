@@ -53,7 +53,8 @@ pub trait DeSpikeContour<I: IntNumber> {
         requires { IsSafeContour I.width (contour self.now) }
         ensures answer { OkUnlessMemory result
             (λ r. CleansInOrder SpikelessAnswer I.width I.value (contour self.now) r.0) }
-        ensures visits { IfOk result (λ r. VisitsAnswer (contour self.now) (answered (contour_of I.value) r.0) r.1) }
+        ensures visits { IfOk result
+            (λ r. VisitsAnswer (contour self.now) (answered (contour_of I.value) r.0) r.1) }
         ensures short { length (contour self.now) < 3 → result ≡ Ok (None, 0) };
 }
 
@@ -141,7 +142,9 @@ impl ContourDeSpiker {
         requires { IsSafeContour I.width (contour_of I.value contour.now) }
         ensures answer { let c = contour_of I.value contour.now in
             OkUnlessMemory result (λ r. CleansInOrder SpikelessAnswer I.width I.value c r.0) }
-        ensures visits { IfOk result (λ r. VisitsAnswer (contour_of I.value contour.now) (answered (contour_of I.value) r.0) r.1) }
+        ensures visits { IfOk result
+            (λ r. VisitsAnswer (contour_of I.value contour.now)
+            (answered (contour_of I.value) r.0) r.1) }
         ensures short { length contour.now < 3 → result ≡ Ok (None, 0) }
     {
         if contour.len() < 3 {
@@ -158,7 +161,8 @@ impl ContourDeSpiker {
         contour: &[P],
         out: &mut [P],
     ) -> Result<usize, ShapeError>
-        requires points_safe { IsSafeContour P.Coordinate.width (contour_of P.Coordinate.value (P.points contour.now)) }
+        requires points_safe { IsSafeContour P.Coordinate.width
+            (contour_of P.Coordinate.value (P.points contour.now)) }
         requires room { length contour.now ≤ length out.old }
         ensures { CleansInto IsDespikedAlready SpikelessAnswer KeptAnswer Sublist P.Coordinate.width
             (λ list. contour_of P.Coordinate.value (P.points list)) contour.now out.old out.new result }
@@ -184,7 +188,9 @@ impl ContourDeSpiker {
     ) -> Result<(Option<Vec<P>>, u128), ShapeError>
         requires enough { 3 ≤ length probe.contour }
         requires fresh { probe.visits ≡ 0 }
-        ensures answer { IfOk result (λ r. WalkAnswer IsBack (contour_of P.Coordinate.value probe.entry.contour) (answered (λ list. contour_of P.Coordinate.value (P.points list)) r.0) r.1) }
+        ensures answer { IfOk result
+            (λ r. WalkAnswer IsBack (contour_of P.Coordinate.value probe.entry.contour)
+            (answered (λ list. contour_of P.Coordinate.value (P.points list)) r.0) r.1) }
         ensures memory { IsOkUnless result ShapeError.OutOfMemory }
     {
         let alloc = *self.places.allocator();
@@ -202,10 +208,15 @@ impl ContourDeSpiker {
         mut probe: Probe<'a, P::Coordinate, P>,
         place: usize,
     ) -> Result<(Probe<'a, P::Coordinate, P>, Option<&[usize]>), ShapeError>
-        requires first { FirstAnswer IsBack (contour_of P.Coordinate.value probe.contour) (Some place) probe.visits }
+        requires first { FirstAnswer IsBack (contour_of P.Coordinate.value probe.contour)
+            (Some place) probe.visits }
         ensures contour { IfOk result (λ r. r.0.contour ≡ probe.entry.contour) }
-        ensures answer { let c = contour_of P.Coordinate.value probe.entry.contour in IfOk result (λ r. WalkAnswer IsBack c (option_map (λ places. map (point_at c) places.now) r.1) r.0.visits) }
-        ensures rising { IfOk result (λ r. IfSome r.1 (λ places. RisingPlaces (length probe.entry.contour) places.now)) }
+        ensures answer { let c = contour_of P.Coordinate.value
+            probe.entry.contour in IfOk result
+            (λ r. WalkAnswer IsBack c (option_map (λ places. map (point_at c) places.now) r.1)
+            r.0.visits) }
+        ensures rising { IfOk result
+            (λ r. IfSome r.1 (λ places. RisingPlaces (length probe.entry.contour) places.now)) }
         ensures memory { IsOkUnless result ShapeError.OutOfMemory }
     {
         let count = probe.len();
@@ -238,7 +249,8 @@ fn is_back_between<P: ContourPoint>(
     requires place_within { place < length probe.old.contour }
     requires next_within { next < length probe.old.contour }
     requires room { probe.old.visits < u128.MAX }
-    ensures test { let c = contour_of P.Coordinate.value probe.old.contour in IsTrue result ↔ IsBack (point_at c previous) (point_at c place) (point_at c next) }
+    ensures test { let c = contour_of P.Coordinate.value probe.old.contour in IsTrue result
+        ↔ IsBack (point_at c previous) (point_at c place) (point_at c next) }
     ensures contour { probe.new.contour ≡ probe.old.contour }
     ensures visits { probe.new.visits ≡ probe.old.visits + 1 }
 {
@@ -249,7 +261,8 @@ fn is_back_between<P: ContourPoint>(
 fn first_back<P: ContourPoint>(probe: &mut Probe<'_, P::Coordinate, P>) -> Option<usize>
     requires enough { 3 ≤ length probe.old.contour }
     requires fresh { probe.old.visits ≡ 0 }
-    ensures answer { FirstAnswer IsBack (contour_of P.Coordinate.value probe.old.contour) result probe.new.visits }
+    ensures answer { FirstAnswer IsBack (contour_of P.Coordinate.value probe.old.contour)
+        result probe.new.visits }
     ensures contour { probe.new.contour ≡ probe.old.contour }
 {
     let last = probe.len() - 1;
@@ -271,7 +284,8 @@ fn is_back_at<P: ContourPoint>(probe: &mut Probe<'_, P::Coordinate, P>, ring: &R
     requires enough { 1 < length ring.now.places }
     requires below { All (λ k. k < length probe.old.contour) ring.now.places }
     requires room { probe.old.visits < u128.MAX }
-    ensures test { IsTrue result ↔ PassesAtPlace IsBack (contour_of P.Coordinate.value probe.old.contour) ring.now.places }
+    ensures test { IsTrue result ↔ PassesAtPlace IsBack
+        (contour_of P.Coordinate.value probe.old.contour) ring.now.places }
     ensures contour { probe.new.contour ≡ probe.old.contour }
     ensures visits { probe.new.visits ≡ probe.old.visits + 1 }
 {
@@ -280,12 +294,17 @@ fn is_back_at<P: ContourPoint>(probe: &mut Probe<'_, P::Coordinate, P>, ring: &R
 
 /// Walks round the ring until each place of it is tested, and takes out those that turn back. Whether three are left.
 fn walk<P: ContourPoint>(probe: &mut Probe<'_, P::Coordinate, P>, ring: &mut Ring) -> bool
-    requires state { IsRingState IsBack (contour_of P.Coordinate.value probe.old.contour) ring.old probe.old.visits }
+    requires state { IsRingState IsBack (contour_of P.Coordinate.value probe.old.contour)
+        ring.old probe.old.visits }
     requires room { length probe.old.contour ≤ usize.MAX }
     ensures contour { probe.new.contour ≡ probe.old.contour }
-    ensures uncollapsed { let c = contour_of P.Coordinate.value probe.old.contour in IsTrue result → Finds IsBack c (map (point_at c) (from_contour_first ring.new.places ring.new.lead)) probe.new.visits }
-    ensures rising { IsTrue result → RisingPlaces (length probe.old.contour) (from_contour_first ring.new.places ring.new.lead) }
-    ensures falls { result ≡ false → Falls IsBack (contour_of P.Coordinate.value probe.old.contour) probe.new.visits }
+    ensures uncollapsed { let c = contour_of P.Coordinate.value probe.old.contour in IsTrue result
+        → Finds IsBack c (map (point_at c) (from_contour_first ring.new.places ring.new.lead))
+        probe.new.visits }
+    ensures rising { IsTrue result → RisingPlaces (length probe.old.contour)
+        (from_contour_first ring.new.places ring.new.lead) }
+    ensures falls { result ≡ false → Falls IsBack (contour_of P.Coordinate.value probe.old.contour)
+        probe.new.visits }
 {
     while ring.untested() > 0 {
         if !is_back_at(probe, ring) {
@@ -302,8 +321,10 @@ fn walk<P: ContourPoint>(probe: &mut Probe<'_, P::Coordinate, P>, ring: &mut Rin
 /// Whether there are at least three points, and the way over them nowhere goes back or stands still: the removal of spikes leaves such a
 /// contour as it is.
 pub fn is_despiked<P: ContourPoint>(points: &[P]) -> bool
-    requires { IsSafeContour P.Coordinate.width (contour_of P.Coordinate.value (P.points points.now)) }
-    ensures { IsTrue result ↔ IsDespikedAlready (contour_of P.Coordinate.value (P.points points.now)) }
+    requires { IsSafeContour P.Coordinate.width
+        (contour_of P.Coordinate.value (P.points points.now)) }
+    ensures { IsTrue result
+        ↔ IsDespikedAlready (contour_of P.Coordinate.value (P.points points.now)) }
 {
     if points.len() < 3 {
         return false;
@@ -313,7 +334,8 @@ pub fn is_despiked<P: ContourPoint>(points: &[P]) -> bool
 
 /// Whether at least three points are left without repeated ones, and the way over them nowhere goes back.
 pub fn has_no_spikes<P: ContourPoint>(points: &[P]) -> bool
-    requires { IsSafeContour P.Coordinate.width (contour_of P.Coordinate.value (P.points points.now)) }
+    requires { IsSafeContour P.Coordinate.width
+        (contour_of P.Coordinate.value (P.points points.now)) }
     ensures { IsTrue result ↔ NoSpikes (contour_of P.Coordinate.value (P.points points.now)) }
 {
     // The test of all turns at once pays for itself but where products take several steps.
@@ -351,11 +373,18 @@ fn walk_onward<P: ContourPoint>(
     block: &[P],
 ) -> Option<(IntPoint<P::Coordinate>, IntPoint<P::Coordinate>)>
     requires start_safe { IsSafe P.Coordinate.width (point_of P.Coordinate.value start) }
-    requires block_safe { IsSafeContour P.Coordinate.width (contour_of P.Coordinate.value (P.points block.now)) }
-    ensures back { IsNone result ↔ GoesBack (point_of P.Coordinate.value first) (point_of P.Coordinate.value start) (contour_of P.Coordinate.value (P.points block.now)) }
-    ensures edge { IfSome result (λ r. point_of P.Coordinate.value r.0 ≡ last_change (point_of P.Coordinate.value first) (point_of P.Coordinate.value start) (contour_of P.Coordinate.value (P.points block.now))) }
-    ensures end { IfSome result (λ r. point_of P.Coordinate.value r.1 ≡ last_of (point_of P.Coordinate.value start) (contour_of P.Coordinate.value (P.points block.now))) }
-    ensures end_safe { IfSome result (λ r. IsSafe P.Coordinate.width (point_of P.Coordinate.value r.1)) }
+    requires block_safe { IsSafeContour P.Coordinate.width
+        (contour_of P.Coordinate.value (P.points block.now)) }
+    ensures back { IsNone result ↔ GoesBack (point_of P.Coordinate.value first)
+        (point_of P.Coordinate.value start) (contour_of P.Coordinate.value (P.points block.now)) }
+    ensures edge { IfSome result (λ r. point_of P.Coordinate.value r.0
+        ≡ last_change (point_of P.Coordinate.value first)
+        (point_of P.Coordinate.value start) (contour_of P.Coordinate.value (P.points block.now))) }
+    ensures end { IfSome result (λ r. point_of P.Coordinate.value r.1
+        ≡ last_of (point_of P.Coordinate.value start)
+        (contour_of P.Coordinate.value (P.points block.now))) }
+    ensures end_safe { IfSome result
+        (λ r. IsSafe P.Coordinate.width (point_of P.Coordinate.value r.1)) }
 {
     let mut edge = first;
     let mut here = start;

@@ -13,10 +13,13 @@ use crate::point::ContourPoint;
 /// closing turns aren't looked at. Below six points it is 0.
 #[inline(always)]
 pub(crate) fn count_turning<P: ContourPoint>(points: &[P]) -> usize
-    requires { IsSafeContour P.Coordinate.width (contour_of P.Coordinate.value (P.points points.now)) }
+    requires { IsSafeContour P.Coordinate.width
+        (contour_of P.Coordinate.value (P.points points.now)) }
     ensures turning { IsTurning (contour_of P.Coordinate.value (P.points points.now)) result }
     ensures within { 2 ≤ length points.now → result + 2 ≤ length points.now }
-    ensures stops { 6 ≤ length points.now → result + 2 < length points.now → IsTurning (contour_of P.Coordinate.value (P.points points.now)) (length points.now - 2) → ⊥ }
+    ensures stops { 6 ≤ length points.now → result + 2 < length points.now
+        → IsTurning (contour_of P.Coordinate.value (P.points points.now)) (length points.now - 2)
+        → ⊥ }
 {
     if points.len() < 6 {
         return 0;
@@ -41,9 +44,11 @@ pub(crate) fn count_turning<P: ContourPoint>(points: &[P]) -> usize
 /// Whether one of the four turns of the six points from a place on is a zero turn.
 #[inline(always)]
 fn has_zero_turn_from<P: ContourPoint>(points: &[P], place: usize) -> bool
-    requires safe { IsSafeContour P.Coordinate.width (contour_of P.Coordinate.value (P.points points.now)) }
+    requires safe { IsSafeContour P.Coordinate.width
+        (contour_of P.Coordinate.value (P.points points.now)) }
     requires within { place + 5 < length points.now }
-    ensures { IsTrue result ↔ HasZeroTurnFrom (contour_of P.Coordinate.value (P.points points.now)) place }
+    ensures { IsTrue result ↔ HasZeroTurnFrom (contour_of P.Coordinate.value (P.points points.now))
+        place }
 {
     P::Coordinate::has_zero_turn(
         points[place].to_point(),
@@ -62,11 +67,13 @@ pub(crate) fn is_zero_turn<P: ContourPoint>(
     place: usize,
     next: usize,
 ) -> bool
-    requires safe { IsSafeContour P.Coordinate.width (contour_of P.Coordinate.value (P.points points.now)) }
+    requires safe { IsSafeContour P.Coordinate.width
+        (contour_of P.Coordinate.value (P.points points.now)) }
     requires previous_within { previous < length points.now }
     requires place_within { place < length points.now }
     requires next_within { next < length points.now }
-    ensures { let c = contour_of P.Coordinate.value (P.points points.now) in IsTrue result ↔ IsZeroTurn (point_at c previous) (point_at c place) (point_at c next) }
+    ensures { let c = contour_of P.Coordinate.value (P.points points.now) in IsTrue result
+        ↔ IsZeroTurn (point_at c previous) (point_at c place) (point_at c next) }
 {
     let here = points[place].to_point();
     let edge = here - points[previous].to_point();

@@ -85,7 +85,8 @@ pub fn winding_kept<I: IntNumber>(_c: &[IntPoint<I>], _d: &[IntPoint<I>])
 
 /// A point is inside exactly where the contour winds about it an odd number of times.
 pub fn winding_parity<I: IntNumber>(_c: &[IntPoint<I>])
-    ensures { (p : Point) → Inside (contour_of I.value _c.now) p ↔ IsOdd (winding (contour_of I.value _c.now) p) }
+    ensures { (p : Point) → Inside (contour_of I.value _c.now) p
+        ↔ IsOdd (winding (contour_of I.value _c.now) p) }
 {}
 
 /// The start of a contour doesn't matter, and read backwards it winds the other way.
@@ -147,17 +148,23 @@ pub fn unoriented_joined<I: IntNumber>(_c: &[IntPoint<I>], _d: &[IntPoint<I>])
 
 /// Points are told equal by `==` exactly where they are the same point.
 pub fn points_equal<I: IntNumber>(_a: &IntPoint<I>, _b: &IntPoint<I>)
-    ensures same_value { IsTrue (⟦<IntPoint<I> as PartialEq>⟧.eq _a.now _b.now) ↔ (_a.now ≡ _b.now) }
-    ensures same_point { IsTrue (⟦<IntPoint<I> as PartialEq>⟧.eq _a.now _b.now) ↔ (point_of I.value _a.now ≡ point_of I.value _b.now) }
+    ensures same_value { IsTrue (⟦<IntPoint<I> as PartialEq>⟧.eq _a.now _b.now)
+        ↔ (_a.now ≡ _b.now) }
+    ensures same_point { IsTrue (⟦<IntPoint<I> as PartialEq>⟧.eq _a.now _b.now)
+        ↔ (point_of I.value _a.now ≡ point_of I.value _b.now) }
 {}
 
 /// Points are ordered by `cmp` by x, and then by y, as whole numbers.
 pub fn points_ordered<I: IntNumber>(_a: &IntPoint<I>, _b: &IntPoint<I>)
-    ensures { let a = point_of I.value _a.now in let b = point_of I.value _b.now in MatchOrdering (⟦<IntPoint<I> as Ord>⟧.cmp _a.now _b.now) (IsBefore a b) (a ≡ b) (IsBefore b a) }
+    ensures { let a = point_of I.value _a.now in let b = point_of
+        I.value _b.now in MatchOrdering (⟦<IntPoint<I> as Ord>⟧.cmp _a.now _b.now)
+        (IsBefore a b) (a ≡ b) (IsBefore b a) }
 {}
 
 /// `partial_cmp` says of two points what `cmp` says, and `<` is told exactly where the first comes before the second.
 pub fn points_compared<I: IntNumber>(_a: &IntPoint<I>, _b: &IntPoint<I>)
-    ensures partial { ⟦<IntPoint<I> as PartialOrd>⟧.partial_cmp _a.now _b.now ≡ Some (⟦<IntPoint<I> as Ord>⟧.cmp _a.now _b.now) }
-    ensures less { IsTrue (partial_lt ⟦<IntPoint<I> as PartialOrd>⟧.partial_cmp _a.now _b.now) ↔ IsBefore (point_of I.value _a.now) (point_of I.value _b.now) }
+    ensures partial { ⟦<IntPoint<I> as PartialOrd>⟧.partial_cmp _a.now _b.now
+        ≡ Some (⟦<IntPoint<I> as Ord>⟧.cmp _a.now _b.now) }
+    ensures less { IsTrue (partial_lt ⟦<IntPoint<I> as PartialOrd>⟧.partial_cmp _a.now _b.now)
+        ↔ IsBefore (point_of I.value _a.now) (point_of I.value _b.now) }
 {}

@@ -125,12 +125,15 @@ pub trait IntNumber: Copy + Ord {
         requires d_safe { IsSafe width (point_of value d) }
         requires e_safe { IsSafe width (point_of value e) }
         requires f_safe { IsSafe width (point_of value f) }
-        ensures { IsTrue result ↔ HasZeroTurn (point_of value a) (point_of value b) (point_of value c) (point_of value d) (point_of value e) (point_of value f) };
+        ensures { IsTrue result ↔ HasZeroTurn (point_of value a)
+            (point_of value b) (point_of value c) (point_of value d)
+            (point_of value e) (point_of value f) };
 
     /// Does nothing. Its clauses say why safe coordinates are called so: the difference of two of them fits the type, and the product of
     /// two such differences fits the wider type.
     fn safe_differences_fit()
-        ensures differences { (a b : ℤ) → IsSafeCoordinate width a → IsSafeCoordinate width b → FitsSigned width (a -ℤ b) }
+        ensures differences { (a b : ℤ) → IsSafeCoordinate width a
+            → IsSafeCoordinate width b → FitsSigned width (a -ℤ b) }
         ensures products { (a b c d : ℤ) → IsSafeCoordinate width a → IsSafeCoordinate width b → IsSafeCoordinate width c → IsSafeCoordinate width d
             → FitsSigned Self.Wide.width ((a -ℤ b) *ℤ (c -ℤ d)) }
     {}

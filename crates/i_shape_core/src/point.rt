@@ -43,7 +43,8 @@ impl<I: IntNumber> IntPoint<I> {
 
     /// Whether the cross product of two vectors is zero: they point the same way or opposite ways, or one of them is zero.
     pub fn is_parallel_to(self, other: IntPoint<I>) -> bool
-        ensures { IsTrue result ↔ (cross_of (point_of I.value self) (point_of I.value other) ≡ pos 0) }
+        ensures { IsTrue result
+            ↔ (cross_of (point_of I.value self) (point_of I.value other) ≡ pos 0) }
     {
         I::are_products_equal(self.x, other.y, self.y, other.x)
     }

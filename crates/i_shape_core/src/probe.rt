@@ -58,7 +58,8 @@ impl<'a, I: IntNumber, P: ContourPoint<Coordinate = I>> Probe<'a, I, P> {
         requires place_within { place < length self.old.contour }
         requires next_within { next < length self.old.contour }
         requires room { self.old.visits < u128.MAX }
-        ensures turn { let c = contour_of I.value self.old.contour in IsTurn (point_at c previous) (point_at c place) (point_at c next) result }
+        ensures turn { let c = contour_of I.value self.old.contour
+            in IsTurn (point_at c previous) (point_at c place) (point_at c next) result }
         ensures contour { self.new.contour ≡ self.old.contour }
         ensures visits { self.new.visits ≡ self.old.visits + 1 }
     {
@@ -119,7 +120,8 @@ impl<'a, I: IntNumber, P: ContourPoint<Coordinate = I>> Probe<'a, I, P> {
     /// The points at these places, in the order given, and the number of visits. The only error is `OutOfMemory`.
     pub fn keep(self, alloc: Global, indices: &[usize]) -> Result<(Vec<P>, u128), ShapeError>
         requires { All (λ k. k < length self.contour) indices.now }
-        ensures points { IfOk result (λ kept. map (λ p. Some p) (P.points kept.0.items) ≡ map (slice_get self.entry.contour) indices.now) }
+        ensures points { IfOk result (λ kept. map (λ p. Some p) (P.points kept.0.items)
+            ≡ map (slice_get self.entry.contour) indices.now) }
         ensures visits { IfOk result (λ kept. kept.1 ≡ self.entry.visits) }
         ensures memory { IsOkUnless result ShapeError.OutOfMemory }
     {
@@ -132,7 +134,9 @@ impl<'a, I: IntNumber, P: ContourPoint<Coordinate = I>> Probe<'a, I, P> {
 
     /// All points, as what is left of the contour, and the number of visits. The only error is `OutOfMemory`.
     pub(crate) fn keep_whole(self, alloc: Global) -> Result<(Option<Vec<P>>, u128), ShapeError>
-        ensures kept { IfOk result (λ kept. (answered (λ list. contour_of I.value (P.points list)) kept.0 ≡ Some (contour_of I.value self.entry.contour)) × (kept.1 ≡ self.entry.visits)) }
+        ensures kept { IfOk result
+            (λ kept. (answered (λ list. contour_of I.value (P.points list)) kept.0
+            ≡ Some (contour_of I.value self.entry.contour)) × (kept.1 ≡ self.entry.visits)) }
         ensures memory { IsOkUnless result ShapeError.OutOfMemory }
     {
         let (kept, visits) = self.keep_all(alloc)?;
@@ -147,7 +151,11 @@ impl<'a, I: IntNumber, P: ContourPoint<Coordinate = I>> Probe<'a, I, P> {
         left: Option<&[usize]>,
     ) -> Result<(Option<Vec<P>>, u128), ShapeError>
         requires { IfSome left (λ places. All (λ k. k < length self.contour) places.now) }
-        ensures kept { let c = contour_of I.value self.entry.contour in IfOk result (λ kept. (answered (λ list. contour_of I.value (P.points list)) kept.0 ≡ option_map (λ places. map (point_at c) places.now) left.entry) × (kept.1 ≡ self.entry.visits)) }
+        ensures kept { let c = contour_of I.value self.entry.contour
+            in IfOk result
+            (λ kept. (answered (λ list. contour_of I.value (P.points list)) kept.0
+            ≡ option_map (λ places. map (point_at c) places.now) left.entry)
+            × (kept.1 ≡ self.entry.visits)) }
         ensures memory { IsOkUnless result ShapeError.OutOfMemory }
     {
         let Some(places) = left else {

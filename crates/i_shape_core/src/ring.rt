@@ -33,7 +33,10 @@ impl Ring {
         requires within { place < count }
         requires empty { vec_len memory ≡ 0 }
         requires room { count ≤ vec_capacity memory }
-        ensures { result ≡ record { places = drop place (range_with_len 0 count) ++ take place (range_with_len 0 count); untested = count - place; lead = count - place } }
+        ensures { result
+            ≡ record { places = drop place (range_with_len 0 count)
+            ++ take place (range_with_len 0 count); untested = count
+            - place; lead = count - place } }
     {
         let mut places = memory;
         for each in 0..count {
@@ -96,7 +99,8 @@ impl Ring {
     /// Keeps the walk's place as tested. The walk moves on.
     pub fn keep(&mut self)
         requires { 0 < self.old.untested }
-        ensures places { self.new.places ≡ drop 1 self.old.places ++ slice_index self.old.places 0 ∷ [] }
+        ensures places { self.new.places ≡ drop 1 self.old.places
+            ++ slice_index self.old.places 0 ∷ [] }
         ensures untested { self.new.untested + 1 ≡ self.old.untested }
         ensures lead { LeadKept (length self.old.places) self.old.lead self.new.lead }
     {
@@ -114,8 +118,10 @@ impl Ring {
     /// Takes the walk's place out. The walk moves back, and its new place and the one after it are to be tested.
     pub fn remove(&mut self)
         requires { 1 < length self.old.places }
-        ensures places { self.new.places ≡ slice_index self.old.places (length self.old.places - 1) ∷ drop 1 (take (length self.old.places - 1) self.old.places) }
-        ensures untested { self.new.untested ≡ min (length self.old.places - 1) (max self.old.untested 2) }
+        ensures places { self.new.places ≡ slice_index self.old.places (length self.old.places - 1)
+            ∷ drop 1 (take (length self.old.places - 1) self.old.places) }
+        ensures untested { self.new.untested
+            ≡ min (length self.old.places - 1) (max self.old.untested 2) }
         ensures lead { LeadRemoved (length self.old.places) self.old.lead self.new.lead }
     {
         let before = self.before();
@@ -148,7 +154,8 @@ fn first_without(first: usize, behind: usize, left: usize) -> usize
     requires first { first ≤ left }
     requires behind { behind ≤ left }
     ensures within { result < left }
-    ensures lead { LeadRemoved (left + 1) (lead_over_gap (left + 1) first behind) (lead_over_gap left result (behind - 1)) }
+    ensures lead { LeadRemoved (left + 1) (lead_over_gap (left + 1) first behind)
+        (lead_over_gap left result (behind - 1)) }
 {
     let moved = if behind == 0 {
         first.max(1)

@@ -9,7 +9,9 @@ use crate::point::ContourPoint;
 /// Whether each point is safe: both its coordinates lie strictly between -2^(BITS-2) and 2^(BITS-2). One pass, which ends after a
 /// block of 16 points with one that isn't; it takes no memory.
 pub fn are_safe<P: ContourPoint>(points: &[P]) -> bool
-    ensures { IsTrue result ↔ All (λ p. IsSafe P.Coordinate.width (point_of P.Coordinate.value (P.point p))) points.now }
+    ensures { IsTrue result
+        ↔ All (λ p. IsSafe P.Coordinate.width (point_of P.Coordinate.value (P.point p)))
+        points.now }
 {
     let count = points.len();
     if count < 8 {
@@ -29,7 +31,8 @@ pub fn are_safe<P: ContourPoint>(points: &[P]) -> bool
 /// The same, without an early end.
 #[inline(always)]
 fn is_safe_block<P: ContourPoint>(block: &[P]) -> bool
-    ensures { IsTrue result ↔ All (λ p. IsSafe P.Coordinate.width (point_of P.Coordinate.value (P.point p))) block.now }
+    ensures { IsTrue result
+        ↔ All (λ p. IsSafe P.Coordinate.width (point_of P.Coordinate.value (P.point p))) block.now }
 {
     let mut is_safe = true;
     for given in block {

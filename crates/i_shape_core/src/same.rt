@@ -20,7 +20,10 @@ pub fn last_other<P: ContourPoint>(
     points: &[P],
     point: IntPoint<P::Coordinate>,
 ) -> Option<IntPoint<P::Coordinate>>
-    ensures { result ≡ find (λ other. not (is_same (point_of P.Coordinate.value point) (point_of P.Coordinate.value other))) (reverse (P.points points.now)) }
+    ensures { result
+        ≡ find
+        (λ other. not (is_same (point_of P.Coordinate.value point)
+        (point_of P.Coordinate.value other))) (reverse (P.points points.now)) }
 {
     match last_given(points, point) {
         Some(other) => Some(other.to_point()),
@@ -30,7 +33,10 @@ pub fn last_other<P: ContourPoint>(
 
 /// The same, as it was given.
 fn last_given<P: ContourPoint>(points: &[P], point: IntPoint<P::Coordinate>) -> Option<P>
-    ensures { result ≡ find (λ other. not (is_same (point_of P.Coordinate.value point) (point_of P.Coordinate.value (P.point other)))) (reverse points.now) }
+    ensures { result
+        ≡ find
+        (λ other. not (is_same (point_of P.Coordinate.value point)
+        (point_of P.Coordinate.value (P.point other)))) (reverse points.now) }
 {
     points
         .iter()

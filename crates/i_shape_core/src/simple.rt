@@ -83,7 +83,8 @@ impl<I: IntNumber> SimpleContour<I> for &[IntPoint<I>] {
 
 /// Whether there are at least three points and no zero turn, the closing edge included. One pass; it takes no memory.
 pub fn is_simple<P: ContourPoint>(contour: &[P]) -> bool
-    requires { IsSafeContour P.Coordinate.width (contour_of P.Coordinate.value (P.points contour.now)) }
+    requires { IsSafeContour P.Coordinate.width
+        (contour_of P.Coordinate.value (P.points contour.now)) }
     ensures { IsTrue result ↔ IsSimple (contour_of P.Coordinate.value (P.points contour.now)) }
 {
     if contour.len() < 3 {

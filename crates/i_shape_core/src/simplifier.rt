@@ -66,7 +66,9 @@ impl ContourSimplifier {
         requires { IsSafeContour I.width (contour_of I.value contour.now) }
         ensures answer { let c = contour_of I.value contour.now in
             OkUnlessMemory result (λ r. CleansInOrder SimpleAnswer I.width I.value c r.0) }
-        ensures visits { IfOk result (λ r. VisitsAnswer (contour_of I.value contour.now) (answered (contour_of I.value) r.0) r.1) }
+        ensures visits { IfOk result
+            (λ r. VisitsAnswer (contour_of I.value contour.now)
+            (answered (contour_of I.value) r.0) r.1) }
         ensures short { length contour.now < 3 → result ≡ Ok (None, 0) }
     {
         if contour.len() < 3 {
@@ -89,7 +91,8 @@ impl ContourSimplifier {
         contour: &[P],
         out: &mut [P],
     ) -> Result<usize, ShapeError>
-        requires points_safe { IsSafeContour P.Coordinate.width (contour_of P.Coordinate.value (P.points contour.now)) }
+        requires points_safe { IsSafeContour P.Coordinate.width
+            (contour_of P.Coordinate.value (P.points contour.now)) }
         requires room { length contour.now ≤ length out.old }
         ensures { CleansInto IsSimple SimpleAnswer KeptAnswer Sublist P.Coordinate.width
             (λ list. contour_of P.Coordinate.value (P.points list)) contour.now out.old out.new result }
@@ -114,13 +117,18 @@ impl ContourSimplifier {
         probe: Probe<'a, P::Coordinate, P>,
         start: (usize, usize, usize),
     ) -> Result<(Probe<'a, P::Coordinate, P>, Option<&[usize]>), ShapeError>
-        requires walked { IsWalked IsZeroTurn (contour_of P.Coordinate.value probe.contour) (range_with_len start.0 (start.1 - start.0)) start.2 probe.visits }
+        requires walked { IsWalked IsZeroTurn (contour_of P.Coordinate.value probe.contour)
+            (range_with_len start.0 (start.1 - start.0)) start.2 probe.visits }
         requires rising { start.0 ≤ start.1 }
         requires end_within { start.1 ≤ length probe.contour }
         requires place_within { start.2 ≤ length probe.contour }
         ensures contour { IfOk result (λ r. r.0.contour ≡ probe.entry.contour) }
-        ensures answer { let c = contour_of P.Coordinate.value probe.entry.contour in IfOk result (λ r. WalkAnswer IsZeroTurn c (option_map (λ places. map (point_at c) places.now) r.1) r.0.visits) }
-        ensures rising { IfOk result (λ r. IfSome r.1 (λ places. RisingPlaces (length probe.entry.contour) places.now)) }
+        ensures answer { let c = contour_of P.Coordinate.value
+            probe.entry.contour in IfOk result
+            (λ r. WalkAnswer IsZeroTurn c (option_map (λ places. map (point_at c) places.now) r.1)
+            r.0.visits) }
+        ensures rising { IfOk result
+            (λ r. IfSome r.1 (λ places. RisingPlaces (length probe.entry.contour) places.now)) }
         ensures memory { IsOkUnless result ShapeError.OutOfMemory }
     {
         let (first, end, place) = start;
@@ -138,8 +146,10 @@ fn clean_prefix<P: ContourPoint>(probe: &mut Probe<'_, P::Coordinate, P>) -> usi
     ensures contour { probe.new.contour ≡ probe.old.contour }
     ensures least { 2 ≤ result }
     ensures most { result ≤ length probe.old.contour }
-    ensures clean { IsStacked IsZeroTurn (contour_of P.Coordinate.value probe.old.contour) (range_with_len 0 result) result }
-    ensures zero_turn { let c = contour_of P.Coordinate.value probe.old.contour in result < length c → IsZeroTurn (point_at c (result - 2)) (point_at c (result - 1)) (point_at c result) }
+    ensures clean { IsStacked IsZeroTurn (contour_of P.Coordinate.value probe.old.contour)
+        (range_with_len 0 result) result }
+    ensures zero_turn { let c = contour_of P.Coordinate.value probe.old.contour in result < length c
+        → IsZeroTurn (point_at c (result - 2)) (point_at c (result - 1)) (point_at c result) }
     ensures visits { probe.new.visits + 2 ≡ min (result + 1) (length probe.old.contour) }
 {
     let count = probe.len();
@@ -160,12 +170,16 @@ fn start_of_walk<P: ContourPoint>(
     requires fresh { probe.old.visits ≡ 0 }
     requires enough { 3 ≤ length probe.old.contour }
     ensures contour { probe.new.contour ≡ probe.old.contour }
-    ensures walked { IfSome result (λ s. IsWalked IsZeroTurn (contour_of P.Coordinate.value probe.old.contour) (range_with_len s.0 (s.1 - s.0)) s.2 probe.new.visits) }
+    ensures walked { IfSome result
+        (λ s. IsWalked IsZeroTurn (contour_of P.Coordinate.value probe.old.contour)
+        (range_with_len s.0 (s.1 - s.0)) s.2 probe.new.visits) }
     ensures rising { IfSome result (λ s. s.0 ≤ s.1) }
     ensures end_within { IfSome result (λ s. s.1 ≤ length probe.old.contour) }
     ensures place_within { IfSome result (λ s. s.2 ≤ length probe.old.contour) }
-    ensures clean { let c = contour_of P.Coordinate.value probe.old.contour in result ≡ None → End IsZeroTurn c c }
-    ensures unclean { IfSome result (λ _. IsSimple (contour_of P.Coordinate.value probe.old.contour) → ⊥) }
+    ensures clean { let c = contour_of P.Coordinate.value probe.old.contour in result ≡ None
+        → End IsZeroTurn c c }
+    ensures unclean { IfSome result (λ _. IsSimple (contour_of P.Coordinate.value probe.old.contour)
+        → ⊥) }
     ensures visits { result ≡ None → probe.new.visits ≡ length probe.old.contour }
 {
     let place = clean_prefix(probe);
@@ -210,7 +224,8 @@ fn is_zero_at<P: ContourPoint>(
     requires place_within { place < length probe.old.contour }
     requires next_within { next < length probe.old.contour }
     requires room { probe.old.visits < u128.MAX }
-    ensures test { let c = contour_of P.Coordinate.value probe.old.contour in IsTrue result ↔ IsZeroTurn (point_at c previous) (point_at c place) (point_at c next) }
+    ensures test { let c = contour_of P.Coordinate.value probe.old.contour in IsTrue result
+        ↔ IsZeroTurn (point_at c previous) (point_at c place) (point_at c next) }
     ensures contour { probe.new.contour ≡ probe.old.contour }
     ensures visits { probe.new.visits ≡ probe.old.visits + 1 }
 {
@@ -224,10 +239,13 @@ fn pop_zero_turns<P: ContourPoint>(
     place: usize,
 )
     requires within { place < length probe.old.contour }
-    requires walked { IsWalked IsZeroTurn (contour_of P.Coordinate.value probe.old.contour) stack.old.items place probe.old.visits }
+    requires walked { IsWalked IsZeroTurn (contour_of P.Coordinate.value probe.old.contour)
+        stack.old.items place probe.old.visits }
     ensures contour { probe.new.contour ≡ probe.old.contour }
-    ensures stacked { IsStacked IsZeroTurn (contour_of P.Coordinate.value probe.old.contour) stack.new.items place }
-    ensures settled { IsSettled IsZeroTurn (contour_of P.Coordinate.value probe.old.contour) stack.new.items place }
+    ensures stacked { IsStacked IsZeroTurn (contour_of P.Coordinate.value probe.old.contour)
+        stack.new.items place }
+    ensures settled { IsSettled IsZeroTurn (contour_of P.Coordinate.value probe.old.contour)
+        stack.new.items place }
     ensures short { vec_len stack.new ≤ place }
     ensures room { vec_capacity stack.new ≡ vec_capacity stack.old }
     ensures most { probe.new.visits + vec_len stack.new ≤ 2 * place + 1 }
@@ -249,10 +267,12 @@ fn stack_places<'a, P: ContourPoint>(
     start: usize,
 ) -> Probe<'a, P::Coordinate, P>
     requires within { start ≤ length probe.contour }
-    requires walked { IsWalked IsZeroTurn (contour_of P.Coordinate.value probe.contour) stack.old.items start probe.visits }
+    requires walked { IsWalked IsZeroTurn (contour_of P.Coordinate.value probe.contour)
+        stack.old.items start probe.visits }
     requires room { length probe.contour ≤ vec_capacity stack.old }
     ensures contour { result.contour ≡ probe.entry.contour }
-    ensures walked { let c = contour_of P.Coordinate.value probe.entry.contour in IsWalked IsZeroTurn c stack.new.items (length c) result.visits }
+    ensures walked { let c = contour_of P.Coordinate.value
+        probe.entry.contour in IsWalked IsZeroTurn c stack.new.items (length c) result.visits }
 {
     for place in start..probe.len() {
         pop_zero_turns(&mut probe, stack, place);
@@ -267,11 +287,15 @@ fn close<'a, 's, P: ContourPoint>(
     mut probe: Probe<'a, P::Coordinate, P>,
     stack: &'s [usize],
 ) -> (Probe<'a, P::Coordinate, P>, Option<&'s [usize]>)
-    requires walked { let c = contour_of P.Coordinate.value probe.contour in IsWalked IsZeroTurn c stack.now (length c) probe.visits }
+    requires walked { let c = contour_of P.Coordinate.value
+        probe.contour in IsWalked IsZeroTurn c stack.now (length c) probe.visits }
     requires room { length probe.contour ≤ usize.MAX }
     ensures contour { result.0.contour ≡ probe.entry.contour }
-    ensures answer { let c = contour_of P.Coordinate.value probe.entry.contour in WalkAnswer IsZeroTurn c (option_map (λ places. map (point_at c) places.now) result.1) result.0.visits }
-    ensures rising { IfSome result.1 (λ places. RisingPlaces (length probe.entry.contour) places.now) }
+    ensures answer { let c = contour_of P.Coordinate.value
+        probe.entry.contour in WalkAnswer IsZeroTurn c
+        (option_map (λ places. map (point_at c) places.now) result.1) result.0.visits }
+    ensures rising { IfSome result.1
+        (λ places. RisingPlaces (length probe.entry.contour) places.now) }
 {
     let mut left = stack;
     while left.len() >= 3 {

@@ -17,7 +17,8 @@ impl Triangle {
         requires a_safe { IsSafe I.width (point_of I.value a) }
         requires b_safe { IsSafe I.width (point_of I.value b) }
         requires c_safe { IsSafe I.width (point_of I.value c) }
-        ensures { IsTrue result ↔ (cross (point_of I.value a) (point_of I.value b) (point_of I.value c) <ℤ pos 0) }
+        ensures { IsTrue result
+            ↔ (cross (point_of I.value a) (point_of I.value b) (point_of I.value c) <ℤ pos 0) }
     {
         (b - a).cross_product(c - b) < I::Wide::ZERO
     }

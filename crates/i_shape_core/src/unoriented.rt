@@ -42,7 +42,8 @@ impl ContourSimplifier {
         contour: &[P],
         out: &mut [P],
     ) -> Result<usize, ShapeError>
-        requires points_safe { IsSafeContour P.Coordinate.width (contour_of P.Coordinate.value (P.points contour.now)) }
+        requires points_safe { IsSafeContour P.Coordinate.width
+            (contour_of P.Coordinate.value (P.points contour.now)) }
         requires room { length contour.now ≤ length out.old }
         ensures { CleansInto IsSimple UnorientedAnswer KeptEitherWay SublistEitherWay P.Coordinate.width
             (λ list. contour_of P.Coordinate.value (P.points list)) contour.now out.old out.new result }
@@ -58,7 +59,8 @@ impl ContourSimplifier {
 /// Brings a contour in place to the least rotation of the contour read backwards, where that comes first; otherwise it stays.
 fn rotate_to_lesser<P: ContourPoint>(contour: &mut [P])
     requires { 0 < length contour.old }
-    ensures lesser { IsLesserWay (contour_of P.Coordinate.value (P.points contour.old)) (contour_of P.Coordinate.value (P.points contour.new)) }
+    ensures lesser { IsLesserWay (contour_of P.Coordinate.value (P.points contour.old))
+        (contour_of P.Coordinate.value (P.points contour.new)) }
     ensures picked { (contour.new ≡ contour.old) ⊎ Rotation (reverse contour.old) contour.new }
     ensures len { length contour.new ≡ length contour.old }
 {
@@ -74,8 +76,10 @@ fn rotate_to_lesser<P: ContourPoint>(contour: &mut [P])
 /// Whether the rotation of a contour that starts at `start` comes before the contour read backwards, and isn't equal to it.
 fn comes_before_reversed<P: ContourPoint>(contour: &[P], start: usize) -> bool
     requires { start < length contour.now }
-    ensures before { let c = contour_of P.Coordinate.value (P.points contour.now) in IsTrue result → IsAtMost (reverse c) (started_at c start) → ⊥ }
-    ensures not_before { let c = contour_of P.Coordinate.value (P.points contour.now) in result ≡ false → IsAtMost (reverse c) (started_at c start) }
+    ensures before { let c = contour_of P.Coordinate.value (P.points contour.now) in IsTrue result
+        → IsAtMost (reverse c) (started_at c start) → ⊥ }
+    ensures not_before { let c = contour_of P.Coordinate.value (P.points contour.now) in result
+        ≡ false → IsAtMost (reverse c) (started_at c start) }
 {
     let mut comparer = Comparer::new(contour);
     let count = comparer.len();

@@ -12,9 +12,11 @@ use crate::point::{ContourPoint, IntPoint};
 /// right of it, less those that do so downwards. That is at most half the number of points away from 0. A contour without points
 /// winds about none.
 pub fn winding_about<P: ContourPoint>(contour: &[P], point: IntPoint<P::Coordinate>) -> isize
-    requires points_safe { IsSafeContour P.Coordinate.width (contour_of P.Coordinate.value (P.points contour.now)) }
+    requires points_safe { IsSafeContour P.Coordinate.width
+        (contour_of P.Coordinate.value (P.points contour.now)) }
     requires point_safe { IsSafe P.Coordinate.width (point_of P.Coordinate.value point) }
-    ensures answer { result ≡ winding (contour_of P.Coordinate.value (P.points contour.now)) (point_of P.Coordinate.value point) }
+    ensures answer { result ≡ winding (contour_of P.Coordinate.value (P.points contour.now))
+        (point_of P.Coordinate.value point) }
     ensures half { IsWithinHalf (length contour.now) result }
 {
     let Some(last) = contour.last() else {
@@ -37,10 +39,13 @@ pub fn windings_about<P: ContourPoint, Q: ContourPoint<Coordinate = P::Coordinat
     points: &[Q],
     out: &mut [isize],
 )
-    requires contour_safe { IsSafeContour P.Coordinate.width (contour_of P.Coordinate.value (P.points contour.now)) }
-    requires points_safe { IsSafeContour P.Coordinate.width (contour_of P.Coordinate.value (Q.points points.now)) }
+    requires contour_safe { IsSafeContour P.Coordinate.width
+        (contour_of P.Coordinate.value (P.points contour.now)) }
+    requires points_safe { IsSafeContour P.Coordinate.width
+        (contour_of P.Coordinate.value (Q.points points.now)) }
     requires room { length points.now ≤ length out.old }
-    ensures { out.new ≡ map (winding (contour_of P.Coordinate.value (P.points contour.now))) (contour_of P.Coordinate.value (Q.points points.now)) ++ drop (length points.now) out.old }
+    ensures { out.new ≡ map (winding (contour_of P.Coordinate.value (P.points contour.now)))
+        (contour_of P.Coordinate.value (Q.points points.now)) ++ drop (length points.now) out.old }
 {
     for (place, point) in points.iter().enumerate() {
         out[place] = winding_about(contour, (*point).to_point());
@@ -52,7 +57,8 @@ fn edge_winding<I: IntNumber>(point: IntPoint<I>, start: IntPoint<I>, end: IntPo
     requires point_safe { IsSafe I.width (point_of I.value point) }
     requires start_safe { IsSafe I.width (point_of I.value start) }
     requires end_safe { IsSafe I.width (point_of I.value end) }
-    ensures { result ≡ winding_of_edge (point_of I.value point) (record { start = point_of I.value start; end = point_of I.value end }) }
+    ensures { result ≡ winding_of_edge (point_of I.value point)
+        (record { start = point_of I.value start; end = point_of I.value end }) }
 {
     if !passes_right(point, start, end) {
         0

@@ -20,7 +20,8 @@ pub(crate) fn write_at<T: Copy>(items: &[T], places: &[usize], out: &mut [T]) ->
     requires below { All (λ k. k < length items.now) places.now }
     requires room { length places.now ≤ length out.old }
     ensures count { result ≡ length places.now }
-    ensures items { map (λ item. Some item) (take result out.new) ≡ map (slice_get items.now) places.now }
+    ensures items { map (λ item. Some item) (take result out.new)
+        ≡ map (slice_get items.now) places.now }
     ensures rest { drop result out.new ≡ drop result out.old }
     ensures len { length out.new ≡ length out.old }
 {

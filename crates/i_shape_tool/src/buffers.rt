@@ -21,8 +21,10 @@ pub fn clean_through_buffer<I: IntNumber>(
     shapes: &[IntShape<I>],
 ) -> Result<IntShapes<I>, ShapeError>
     requires { IsSafeList I.width (shapes_of I.value shapes.now) }
-    ensures clean { IfOk result (λ r. ListClean SimpleAnswer (shapes_of I.value shapes.now) (shapes_of I.value r.items)) }
-    ensures kept { IfOk result (λ r. ListKept SimpleAnswer (shapes_of I.value shapes.now) (shapes_of I.value r.items)) }
+    ensures clean { IfOk result
+        (λ r. ListClean SimpleAnswer (shapes_of I.value shapes.now) (shapes_of I.value r.items)) }
+    ensures kept { IfOk result
+        (λ r. ListKept SimpleAnswer (shapes_of I.value shapes.now) (shapes_of I.value r.items)) }
     ensures safe { IfOk result (λ r. IsSafeList I.width (shapes_of I.value r.items)) }
     ensures too_many { IsErrOf result ShapeError.TooManyPoints
         ↔ ((usize.MAX < length (concatenated (concatenated (shape_lists shapes.now))))
@@ -38,8 +40,10 @@ pub fn despike_through_buffer<I: IntNumber>(
     shapes: &[IntShape<I>],
 ) -> Result<IntShapes<I>, ShapeError>
     requires { IsSafeList I.width (shapes_of I.value shapes.now) }
-    ensures clean { IfOk result (λ r. ListClean DespikeAnswer (shapes_of I.value shapes.now) (shapes_of I.value r.items)) }
-    ensures kept { IfOk result (λ r. ListKept DespikeAnswer (shapes_of I.value shapes.now) (shapes_of I.value r.items)) }
+    ensures clean { IfOk result
+        (λ r. ListClean DespikeAnswer (shapes_of I.value shapes.now) (shapes_of I.value r.items)) }
+    ensures kept { IfOk result
+        (λ r. ListKept DespikeAnswer (shapes_of I.value shapes.now) (shapes_of I.value r.items)) }
     ensures safe { IfOk result (λ r. IsSafeList I.width (shapes_of I.value r.items)) }
     ensures too_many { IsErrOf result ShapeError.TooManyPoints
         ↔ ((usize.MAX < length (concatenated (concatenated (shape_lists shapes.now))))

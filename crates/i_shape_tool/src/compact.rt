@@ -31,8 +31,10 @@ pub fn compact_lines(alloc: Global, text: &str) -> Result<String, ToolFault>
 
 /// The contours of all lines, in one buffer.
 fn read_lines(alloc: Global, text: &str) -> Result<FlatContoursBuffer<i32>, ToolFault>
-    ensures readable { IfOk result (λ buffer. All (InOrder (length buffer.points.items)) buffer.ranges.items) }
-    ensures read { IfOk result (λ buffer. AllZip (Gives Compact) (lines_of text.now) (contours_in buffer)) }
+    ensures readable { IfOk result
+        (λ buffer. All (InOrder (length buffer.points.items)) buffer.ranges.items) }
+    ensures read { IfOk result
+        (λ buffer. AllZip (Gives Compact) (lines_of text.now) (contours_in buffer)) }
     ensures err { IfErr result (IsFirstFault Compact text.now) }
 {
     let mut buffer = FlatContoursBuffer::new(alloc);
@@ -52,7 +54,8 @@ fn read_lines(alloc: Global, text: &str) -> Result<FlatContoursBuffer<i32>, Tool
 /// The contours of a buffer, each on a line of its own.
 fn show_contours(alloc: Global, buffer: &FlatContoursBuffer<i32>) -> Result<String, AllocError>
     requires { All (InOrder (length buffer.now.points.items)) buffer.now.ranges.items }
-    ensures { IfOk result (λ output. string_bytes output ≡ flat_map shown_line (contours_in buffer.now)) }
+    ensures { IfOk result (λ output. string_bytes output
+        ≡ flat_map shown_line (contours_in buffer.now)) }
 {
     let mut output = String::new(alloc);
     for contour in buffer.iter_paths() {

@@ -46,7 +46,8 @@ fn write_digits(number: u32, text: &mut [u8], end: usize) -> usize
 #[inline(always)]
 fn write_pair(pair: u32, text: &mut [u8], start: usize)
     requires { (pair < 100) × (start + 2 ≤ length text.old) }
-    ensures { drop start text.new ≡ (48 + pair / 10) ∷ (48 + pair % 10) ∷ drop (start + 2) text.old }
+    ensures { drop start text.new ≡ (48 + pair / 10) ∷ (48 + pair % 10)
+        ∷ drop (start + 2) text.old }
 {
     text[start] = b'0' + (pair / 10) as u8;
     text[start + 1] = b'0' + (pair % 10) as u8;

@@ -51,7 +51,9 @@ fn is_safe(contour: &IntContour<i32>) -> bool
 
 /// Puts the contour that a line reads in place of what `contour` held, and tells whether it reads one.
 fn read_contour(line: &str, contour: &mut IntContour<i32>) -> Result<bool, AllocError>
-    ensures { IfOk result (λ reads. MatchBool reads (Reads line.now (contour_of contour.new.items)) (ReadsNone line.now)) }
+    ensures { IfOk result
+        (λ reads. MatchBool reads (Reads line.now (contour_of contour.new.items))
+        (ReadsNone line.now)) }
 {
     contour.clear();
     if line.is_empty() {

@@ -12,8 +12,10 @@ const LARGEST: u64 = 1 << 31;
 
 /// The number that the first word of a text says, and the text after the space behind it.
 pub(crate) fn first_number(text: &[u8]) -> Option<(i32, Option<&[u8]>)>
-    ensures says { IfSome result (λ r. SaysNumber (words_of text.now) r.0 (words_left (option_copied r.1))) }
-    ensures no_decimal { IfNone result ((word : List ℕ) (more : List (List ℕ)) (z : ℤ) → words_of text.now ≡ word ∷ more → IsDecimal word z → ⊥) }
+    ensures says { IfSome result
+        (λ r. SaysNumber (words_of text.now) r.0 (words_left (option_copied r.1))) }
+    ensures no_decimal { IfNone result ((word : List ℕ) (more : List (List ℕ)) (z : ℤ)
+        → words_of text.now ≡ word ∷ more → IsDecimal word z → ⊥) }
     ensures shorter { IfSome result (λ r. IfSome r.1 (λ rest. length rest.now < length text.now)) }
 {
     let (negative, digits) = without_sign(text);
@@ -46,7 +48,9 @@ fn without_sign(text: &[u8]) -> (bool, &[u8])
 fn first_digits(text: &[u8]) -> Option<(u64, &[u8])>
     ensures writes { IfSome result (λ r. HasDigits text.now r.0 r.1.now) }
     ensures fits { IfSome result (λ r. r.0 ≤ 2 ^ 31) }
-    ensures none { IfNone result ((digits rest : List ℕ) → text.now ≡ digits ++ rest → EndsWord rest → IsNumeral 10 digits → 2 ^ 31 < digits_value 10 digits) }
+    ensures none { IfNone result ((digits rest : List ℕ)
+        → text.now ≡ digits ++ rest → EndsWord rest → IsNumeral 10 digits
+        → 2 ^ 31 < digits_value 10 digits) }
 {
     let mut size = 0;
     let mut rest = text;

@@ -44,7 +44,8 @@ impl Complaint {
 
     /// Writes it as a line of its own.
     pub fn tell<W: Write>(self, errors: &mut W) -> io::Result<()>
-        ensures { OnOk result (Appends (W.contents errors.old) (W.contents errors.new) (told self ++ newline ∷ [])) }
+        ensures { OnOk result
+            (Appends (W.contents errors.old) (W.contents errors.new) (told self ++ newline ∷ [])) }
     {
         writeln!(errors, "{self}")
     }

@@ -13,7 +13,8 @@ use std::alloc::AllocError;
 
 /// Appends the coordinates of the points in turn, parted by single spaces.
 pub fn show_contour(output: &mut String, contour: &[IntPoint<i32>]) -> Result<(), AllocError>
-    ensures { OnOk result (string_bytes output.new ≡ string_bytes output.old ++ shown (contour_of contour.now)) }
+    ensures { OnOk result (string_bytes output.new ≡ string_bytes output.old
+        ++ shown (contour_of contour.now)) }
 {
     let Some((first, others)) = contour.split_first() else {
         return Ok(());
@@ -27,7 +28,8 @@ pub fn show_contour(output: &mut String, contour: &[IntPoint<i32>]) -> Result<()
 
 /// Appends a point's coordinates, with a space before each.
 fn push_point(output: &mut String, point: IntPoint<i32>) -> Result<(), AllocError>
-    ensures { OnOk result (string_bytes output.new ≡ string_bytes output.old ++ spaced (point_of point)) }
+    ensures { OnOk result (string_bytes output.new ≡ string_bytes output.old
+        ++ spaced (point_of point)) }
 {
     let mut text = [0; POINT_ROOM];
     let middle = write_number(point.y, &mut text, POINT_ROOM);
@@ -37,7 +39,8 @@ fn push_point(output: &mut String, point: IntPoint<i32>) -> Result<(), AllocErro
 
 /// Appends a contour, on a line of its own.
 pub fn show_line(output: &mut String, contour: &[IntPoint<i32>]) -> Result<(), AllocError>
-    ensures { OnOk result (string_bytes output.new ≡ string_bytes output.old ++ shown_line (contour_of contour.now)) }
+    ensures { OnOk result (string_bytes output.new ≡ string_bytes output.old
+        ++ shown_line (contour_of contour.now)) }
 {
     show_contour(output, contour)?;
     output.push('\n')
@@ -59,7 +62,8 @@ pub fn show_cleaned(
 
 /// Appends twice the area of a contour, or a word where it has no points.
 pub fn show_area(output: &mut String, contour: &[IntPoint<i32>]) -> Result<(), AllocError>
-    ensures { OnOk result (string_bytes output.new ≡ string_bytes output.old ++ shown_area (contour_of contour.now)) }
+    ensures { OnOk result (string_bytes output.new ≡ string_bytes output.old
+        ++ shown_area (contour_of contour.now)) }
 {
     if contour.is_empty() {
         return output.push_str("empty");

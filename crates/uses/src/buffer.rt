@@ -15,7 +15,8 @@ use i_shape::int::shape::{IntContour, IntShape};
 
 /// Removes zero turns inside the buffer, whatever ranges it was given.
 pub fn simplify<I: IntNumber>(buffer: &mut FlatContoursBuffer<I>) -> Result<bool, Refusal>
-    ensures compact { OnOk result (Compact (contours_in I.value buffer.old) (contours_in I.value buffer.new)) }
+    ensures compact { OnOk result
+        (Compact (contours_in I.value buffer.old) (contours_in I.value buffer.new)) }
     ensures err { OnErr result (buffer.new ≡ buffer.old) }
 {
     if !buffer.can_read_contours() {
@@ -32,7 +33,8 @@ pub fn set_contour<I: IntNumber>(
     buffer: &mut FlatContoursBuffer<I>,
     contour: &[IntPoint<I>],
 ) -> Result<bool, Refusal>
-    ensures compact { OnOk result (Compact (contour_of I.value contour.now ∷ []) (contours_in I.value buffer.new)) }
+    ensures compact { OnOk result
+        (Compact (contour_of I.value contour.now ∷ []) (contours_in I.value buffer.new)) }
 {
     if !contour.is_in_safe_range() {
         return Err(Refusal::OutOfRange);
@@ -47,7 +49,8 @@ pub fn set_shape<I: IntNumber>(
     buffer: &mut FlatContoursBuffer<I>,
     shape: &[IntContour<I>],
 ) -> Result<bool, Refusal>
-    ensures compact { OnOk result (Compact (shape_of I.value shape.now) (contours_in I.value buffer.new)) }
+    ensures compact { OnOk result
+        (Compact (shape_of I.value shape.now) (contours_in I.value buffer.new)) }
 {
     if !shape.is_in_safe_range() {
         return Err(Refusal::OutOfRange);
@@ -62,7 +65,8 @@ pub fn set_shape_vector<I: IntNumber>(
     buffer: &mut FlatContoursBuffer<I>,
     shape: &IntShape<I>,
 ) -> Result<bool, Refusal>
-    ensures compact { OnOk result (Compact (shape_of I.value shape.now.items) (contours_in I.value buffer.new)) }
+    ensures compact { OnOk result
+        (Compact (shape_of I.value shape.now.items) (contours_in I.value buffer.new)) }
 {
     if !shape.is_in_safe_range() {
         return Err(Refusal::OutOfRange);
@@ -77,7 +81,8 @@ pub fn set_shapes<I: IntNumber>(
     buffer: &mut FlatContoursBuffer<I>,
     shapes: &[IntShape<I>],
 ) -> Result<bool, Refusal>
-    ensures compact { OnOk result (Compact (concatenated (shapes_of I.value shapes.now)) (contours_in I.value buffer.new)) }
+    ensures compact { OnOk result
+        (Compact (concatenated (shapes_of I.value shapes.now)) (contours_in I.value buffer.new)) }
 {
     if !shapes.is_in_safe_range() {
         return Err(Refusal::OutOfRange);

@@ -29,9 +29,13 @@ pub fn cleaned_area<I: IntNumber>(
     alloc: Global,
     contour: &[IntPoint<I>],
 ) -> Result<Option<I::Wide>, Refusal>
-    ensures range { IsErrOf result Refusal.OutOfRange ↔ (All (IsSafe I.width) (contour_of I.value contour.now) → ⊥) }
-    ensures none { IfOk result (λ r. (r ≡ None) ↔ EachEndCollapses (contour_of I.value contour.now)) }
-    ensures area { IfOk result (λ r. IfSome r (λ area. I.Wide.value area ≡ int_wrap I.Wide.width (shoelace (contour_of I.value contour.now)))) }
+    ensures range { IsErrOf result Refusal.OutOfRange
+        ↔ (All (IsSafe I.width) (contour_of I.value contour.now) → ⊥) }
+    ensures none { IfOk result (λ r. (r ≡ None)
+        ↔ EachEndCollapses (contour_of I.value contour.now)) }
+    ensures area { IfOk result
+        (λ r. IfSome r (λ area. I.Wide.value area
+        ≡ int_wrap I.Wide.width (shoelace (contour_of I.value contour.now)))) }
 {
     if !contour.is_in_safe_range() {
         return Err(Refusal::OutOfRange);
@@ -48,8 +52,11 @@ pub fn cleaned_contains<I: IntNumber>(
     contour: &[IntPoint<I>],
     point: IntPoint<I>,
 ) -> Result<bool, Refusal>
-    ensures range { IsErrOf result Refusal.OutOfRange ↔ (All (IsSafe I.width) (contour_of I.value contour.now) × IsSafe I.width (point_of I.value point) → ⊥) }
-    ensures inside { IfOk result (λ r. IsTrue r ↔ Inside (contour_of I.value contour.now) (point_of I.value point)) }
+    ensures range { IsErrOf result Refusal.OutOfRange
+        ↔ (All (IsSafe I.width) (contour_of I.value contour.now)
+        × IsSafe I.width (point_of I.value point) → ⊥) }
+    ensures inside { IfOk result (λ r. IsTrue r
+        ↔ Inside (contour_of I.value contour.now) (point_of I.value point)) }
 {
     if !contour.is_in_safe_range() || !point.is_in_safe_range() {
         return Err(Refusal::OutOfRange);
@@ -63,12 +70,20 @@ pub fn cleaned_contains<I: IntNumber>(
 /// Removes zero turns from a contour in place, and then spikes, of which none is left by then. It answers what the first call did.
 #[tactic(auto, using(i_shape::proofs::CallerLemmas::contour_cleaned, i_shape::proofs::CallerLemmas::contour_never_refused))]
 pub fn clean_contour<I: IntNumber>(contour: &mut IntContour<I>) -> Result<bool, Refusal>
-    ensures range { IsErrOf result Refusal.OutOfRange ↔ (All (IsSafe I.width) (contour_of I.value contour.old.items) → ⊥) }
-    ensures cleaned { OnOk result (Leaves SimpleAnswer (contour_of I.value contour.old.items) (contour_of I.value contour.new.items)) }
-    ensures err { OnErr result (contour_of I.value contour.new.items ≡ contour_of I.value contour.old.items) }
-    ensures area { shoelace (contour_of I.value contour.new.items) ≡ shoelace (contour_of I.value contour.old.items) }
-    ensures inside { (p : Point) → Inside (contour_of I.value contour.new.items) p ↔ Inside (contour_of I.value contour.old.items) p }
-    ensures flag { result ≡ Ok false ↔ (All (IsSafe I.width) (contour_of I.value contour.old.items) × IsSimple (contour_of I.value contour.old.items)) }
+    ensures range { IsErrOf result Refusal.OutOfRange
+        ↔ (All (IsSafe I.width) (contour_of I.value contour.old.items) → ⊥) }
+    ensures cleaned { OnOk result
+        (Leaves SimpleAnswer (contour_of I.value contour.old.items)
+        (contour_of I.value contour.new.items)) }
+    ensures err { OnErr result (contour_of I.value contour.new.items
+        ≡ contour_of I.value contour.old.items) }
+    ensures area { shoelace (contour_of I.value contour.new.items)
+        ≡ shoelace (contour_of I.value contour.old.items) }
+    ensures inside { (p : Point) → Inside (contour_of I.value contour.new.items) p
+        ↔ Inside (contour_of I.value contour.old.items) p }
+    ensures flag { result ≡ Ok false
+        ↔ (All (IsSafe I.width) (contour_of I.value contour.old.items)
+        × IsSimple (contour_of I.value contour.old.items)) }
 {
     if !contour.is_in_safe_range() {
         return Err(Refusal::OutOfRange);
@@ -81,11 +96,19 @@ pub fn clean_contour<I: IntNumber>(contour: &mut IntContour<I>) -> Result<bool, 
 /// Removes zero turns from a shape in place, and then spikes. The shape is empty where its first contour collapses.
 #[tactic(auto, using(i_shape::proofs::CallerLemmas::shape_cleaned, i_shape::proofs::CallerLemmas::shape_never_refused))]
 pub fn clean_shape<I: IntNumber>(shape: &mut IntShape<I>) -> Result<bool, Refusal>
-    ensures range { IsErrOf result Refusal.OutOfRange ↔ (IsSafeShape I.width (shape_of I.value shape.old.items) → ⊥) }
-    ensures cleaned { OnOk result (Leaves (ShapeClean SimpleAnswer) (shape_of I.value shape.old.items) (shape_of I.value shape.new.items)) }
-    ensures err { OnErr result (shape_of I.value shape.new.items ≡ shape_of I.value shape.old.items) }
-    ensures area { 0 < length (shape_of I.value shape.new.items) → shape_shoelace (shape_of I.value shape.new.items) ≡ shape_shoelace (shape_of I.value shape.old.items) }
-    ensures flag { result ≡ Ok false ↔ (IsSafeShape I.width (shape_of I.value shape.old.items) × EachContour IsSimple (shape_of I.value shape.old.items)) }
+    ensures range { IsErrOf result Refusal.OutOfRange
+        ↔ (IsSafeShape I.width (shape_of I.value shape.old.items) → ⊥) }
+    ensures cleaned { OnOk result
+        (Leaves (ShapeClean SimpleAnswer) (shape_of I.value shape.old.items)
+        (shape_of I.value shape.new.items)) }
+    ensures err { OnErr result (shape_of I.value shape.new.items
+        ≡ shape_of I.value shape.old.items) }
+    ensures area { 0 < length (shape_of I.value shape.new.items)
+        → shape_shoelace (shape_of I.value shape.new.items)
+        ≡ shape_shoelace (shape_of I.value shape.old.items) }
+    ensures flag { result ≡ Ok false
+        ↔ (IsSafeShape I.width (shape_of I.value shape.old.items)
+        × EachContour IsSimple (shape_of I.value shape.old.items)) }
 {
     if !shape.is_in_safe_range() {
         return Err(Refusal::OutOfRange);
@@ -98,11 +121,20 @@ pub fn clean_shape<I: IntNumber>(shape: &mut IntShape<I>) -> Result<bool, Refusa
 /// Removes zero turns from each shape in place, and then spikes. The double area is kept where as many shapes are left.
 #[tactic(auto, using(i_shape::proofs::CallerLemmas::list_cleaned, i_shape::proofs::CallerLemmas::list_never_refused, i_shape::proofs::CallerLemmas::list_cleaned_area))]
 pub fn clean_list<I: IntNumber>(shapes: &mut IntShapes<I>) -> Result<bool, Refusal>
-    ensures range { IsErrOf result Refusal.OutOfRange ↔ (IsSafeList I.width (shapes_of I.value shapes.old.items) → ⊥) }
-    ensures kept { OnOk result (ListKept SimpleAnswer (shapes_of I.value shapes.old.items) (shapes_of I.value shapes.new.items)) }
-    ensures err { OnErr result (shapes_of I.value shapes.new.items ≡ shapes_of I.value shapes.old.items) }
-    ensures area { length (shapes_of I.value shapes.new.items) ≡ length (shapes_of I.value shapes.old.items) → shapes_shoelace (shapes_of I.value shapes.new.items) ≡ shapes_shoelace (shapes_of I.value shapes.old.items) }
-    ensures flag { result ≡ Ok false ↔ (IsSafeList I.width (shapes_of I.value shapes.old.items) × EachShape IsSimple (shapes_of I.value shapes.old.items)) }
+    ensures range { IsErrOf result Refusal.OutOfRange
+        ↔ (IsSafeList I.width (shapes_of I.value shapes.old.items) → ⊥) }
+    ensures kept { OnOk result
+        (ListKept SimpleAnswer (shapes_of I.value shapes.old.items)
+        (shapes_of I.value shapes.new.items)) }
+    ensures err { OnErr result (shapes_of I.value shapes.new.items
+        ≡ shapes_of I.value shapes.old.items) }
+    ensures area { length (shapes_of I.value shapes.new.items)
+        ≡ length (shapes_of I.value shapes.old.items)
+        → shapes_shoelace (shapes_of I.value shapes.new.items)
+        ≡ shapes_shoelace (shapes_of I.value shapes.old.items) }
+    ensures flag { result ≡ Ok false
+        ↔ (IsSafeList I.width (shapes_of I.value shapes.old.items)
+        × EachShape IsSimple (shapes_of I.value shapes.old.items)) }
 {
     if !shapes.is_in_safe_range() {
         return Err(Refusal::OutOfRange);
@@ -118,9 +150,12 @@ pub fn cleaned_by_buffer<I: IntNumber>(
     buffer: &mut FlatContoursBuffer<I>,
     shape: &[IntContour<I>],
 ) -> Result<IntShape<I>, Refusal>
-    ensures range { IsErrOf result Refusal.OutOfRange ↔ (IsSafeShape I.width (shape_of I.value shape.now) → ⊥) }
-    ensures area { IfOk result (λ kept. shape_shoelace (shape_of I.value kept.items) ≡ shape_shoelace (shape_of I.value shape.now)) }
-    ensures inside { IfOk result (λ kept. (p : Point) → inside_count (shape_of I.value kept.items) p ≡ inside_count (shape_of I.value shape.now) p) }
+    ensures range { IsErrOf result Refusal.OutOfRange
+        ↔ (IsSafeShape I.width (shape_of I.value shape.now) → ⊥) }
+    ensures area { IfOk result (λ kept. shape_shoelace (shape_of I.value kept.items)
+        ≡ shape_shoelace (shape_of I.value shape.now)) }
+    ensures inside { IfOk result (λ kept. (p : Point) → inside_count (shape_of I.value kept.items) p
+        ≡ inside_count (shape_of I.value shape.now) p) }
 {
     if !shape.is_in_safe_range() {
         return Err(Refusal::OutOfRange);
@@ -136,8 +171,10 @@ pub fn area_by_buffer<I: IntNumber>(
     buffer: &mut FlatContoursBuffer<I>,
     shape: &[IntContour<I>],
 ) -> Result<I::Wide, Refusal>
-    ensures range { IsErrOf result Refusal.OutOfRange ↔ (IsSafeShape I.width (shape_of I.value shape.now) → ⊥) }
-    ensures area { IfOk result (λ area. I.Wide.value area ≡ int_wrap I.Wide.width (shape_shoelace (shape_of I.value shape.now))) }
+    ensures range { IsErrOf result Refusal.OutOfRange
+        ↔ (IsSafeShape I.width (shape_of I.value shape.now) → ⊥) }
+    ensures area { IfOk result (λ area. I.Wide.value area
+        ≡ int_wrap I.Wide.width (shape_shoelace (shape_of I.value shape.now))) }
 {
     if !shape.is_in_safe_range() {
         return Err(Refusal::OutOfRange);
@@ -154,8 +191,11 @@ pub fn contains_by_buffer<I: IntNumber>(
     contour: &[IntPoint<I>],
     point: IntPoint<I>,
 ) -> Result<bool, Refusal>
-    ensures range { IsErrOf result Refusal.OutOfRange ↔ (All (IsSafe I.width) (contour_of I.value contour.now) × IsSafe I.width (point_of I.value point) → ⊥) }
-    ensures inside { IfOk result (λ r. IsTrue r ↔ Inside (contour_of I.value contour.now) (point_of I.value point)) }
+    ensures range { IsErrOf result Refusal.OutOfRange
+        ↔ (All (IsSafe I.width) (contour_of I.value contour.now)
+        × IsSafe I.width (point_of I.value point) → ⊥) }
+    ensures inside { IfOk result (λ r. IsTrue r
+        ↔ Inside (contour_of I.value contour.now) (point_of I.value point)) }
 {
     if !contour.is_in_safe_range() || !point.is_in_safe_range() {
         return Err(Refusal::OutOfRange);

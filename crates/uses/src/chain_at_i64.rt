@@ -24,7 +24,9 @@ use std::alloc::Global;
 
 /// Twice the area of a contour, told by its copy without zero turns. `None` where the contour collapses.
 pub fn cleaned_area(alloc: Global, contour: &[IntPoint<i64>]) -> Result<Option<i128>, Refusal>
-    ensures area { IfOk result (λ r. IfSome r (λ area. area ≡ int_wrap w128 (shoelace (contour_of (λ z. z) contour.now)))) }
+    ensures area { IfOk result
+        (λ r. IfSome r
+        (λ area. area ≡ int_wrap w128 (shoelace (contour_of (λ z. z) contour.now)))) }
 {
     if !contour.is_in_safe_range() {
         return Err(Refusal::OutOfRange);
@@ -41,7 +43,8 @@ pub fn cleaned_contains(
     contour: &[IntPoint<i64>],
     point: IntPoint<i64>,
 ) -> Result<bool, Refusal>
-    ensures inside { IfOk result (λ r. IsTrue r ↔ Inside (contour_of (λ z. z) contour.now) (point_of (λ z. z) point)) }
+    ensures inside { IfOk result (λ r. IsTrue r
+        ↔ Inside (contour_of (λ z. z) contour.now) (point_of (λ z. z) point)) }
 {
     if !contour.is_in_safe_range() || !point.is_in_safe_range() {
         return Err(Refusal::OutOfRange);
@@ -55,10 +58,15 @@ pub fn cleaned_contains(
 /// Removes zero turns from a contour in place, and then spikes, of which none is left by then. It answers what the first call did.
 #[tactic(auto, using(i_shape::proofs::CallerLemmas::contour_cleaned, i_shape::proofs::CallerLemmas::contour_never_refused))]
 pub fn clean_contour(contour: &mut IntContour<i64>) -> Result<bool, Refusal>
-    ensures cleaned { OnOk result (Leaves SimpleAnswer (contour_of (λ z. z) contour.old.items) (contour_of (λ z. z) contour.new.items)) }
-    ensures err { OnErr result (contour_of (λ z. z) contour.new.items ≡ contour_of (λ z. z) contour.old.items) }
-    ensures area { shoelace (contour_of (λ z. z) contour.new.items) ≡ shoelace (contour_of (λ z. z) contour.old.items) }
-    ensures inside { (p : Point) → Inside (contour_of (λ z. z) contour.new.items) p ↔ Inside (contour_of (λ z. z) contour.old.items) p }
+    ensures cleaned { OnOk result
+        (Leaves SimpleAnswer (contour_of (λ z. z) contour.old.items)
+        (contour_of (λ z. z) contour.new.items)) }
+    ensures err { OnErr result (contour_of (λ z. z) contour.new.items
+        ≡ contour_of (λ z. z) contour.old.items) }
+    ensures area { shoelace (contour_of (λ z. z) contour.new.items)
+        ≡ shoelace (contour_of (λ z. z) contour.old.items) }
+    ensures inside { (p : Point) → Inside (contour_of (λ z. z) contour.new.items) p
+        ↔ Inside (contour_of (λ z. z) contour.old.items) p }
 {
     if !contour.is_in_safe_range() {
         return Err(Refusal::OutOfRange);
@@ -71,9 +79,14 @@ pub fn clean_contour(contour: &mut IntContour<i64>) -> Result<bool, Refusal>
 /// Removes zero turns from a shape in place, and then spikes, by the call that serves each width. The shape is empty where its first
 /// contour collapses.
 pub fn clean_shape(shape: &mut IntShape<i64>) -> Result<bool, Refusal>
-    ensures cleaned { OnOk result (Leaves (ShapeClean SimpleAnswer) (shape_of (λ z. z) shape.old.items) (shape_of (λ z. z) shape.new.items)) }
-    ensures err { OnErr result (shape_of (λ z. z) shape.new.items ≡ shape_of (λ z. z) shape.old.items) }
-    ensures area { 0 < length (shape_of (λ z. z) shape.new.items) → shape_shoelace (shape_of (λ z. z) shape.new.items) ≡ shape_shoelace (shape_of (λ z. z) shape.old.items) }
+    ensures cleaned { OnOk result
+        (Leaves (ShapeClean SimpleAnswer) (shape_of (λ z. z) shape.old.items)
+        (shape_of (λ z. z) shape.new.items)) }
+    ensures err { OnErr result (shape_of (λ z. z) shape.new.items
+        ≡ shape_of (λ z. z) shape.old.items) }
+    ensures area { 0 < length (shape_of (λ z. z) shape.new.items)
+        → shape_shoelace (shape_of (λ z. z) shape.new.items)
+        ≡ shape_shoelace (shape_of (λ z. z) shape.old.items) }
 {
     chain::clean_shape(shape)
 }
@@ -81,9 +94,15 @@ pub fn clean_shape(shape: &mut IntShape<i64>) -> Result<bool, Refusal>
 /// Removes zero turns from each shape in place, and then spikes. The double area is kept where as many shapes are left.
 #[tactic(auto, using(i_shape::proofs::CallerLemmas::list_cleaned, i_shape::proofs::CallerLemmas::list_never_refused, i_shape::proofs::CallerLemmas::list_cleaned_area))]
 pub fn clean_list(shapes: &mut IntShapes<i64>) -> Result<bool, Refusal>
-    ensures kept { OnOk result (ListKept SimpleAnswer (shapes_of (λ z. z) shapes.old.items) (shapes_of (λ z. z) shapes.new.items)) }
-    ensures err { OnErr result (shapes_of (λ z. z) shapes.new.items ≡ shapes_of (λ z. z) shapes.old.items) }
-    ensures area { length (shapes_of (λ z. z) shapes.new.items) ≡ length (shapes_of (λ z. z) shapes.old.items) → shapes_shoelace (shapes_of (λ z. z) shapes.new.items) ≡ shapes_shoelace (shapes_of (λ z. z) shapes.old.items) }
+    ensures kept { OnOk result
+        (ListKept SimpleAnswer (shapes_of (λ z. z) shapes.old.items)
+        (shapes_of (λ z. z) shapes.new.items)) }
+    ensures err { OnErr result (shapes_of (λ z. z) shapes.new.items
+        ≡ shapes_of (λ z. z) shapes.old.items) }
+    ensures area { length (shapes_of (λ z. z) shapes.new.items)
+        ≡ length (shapes_of (λ z. z) shapes.old.items)
+        → shapes_shoelace (shapes_of (λ z. z) shapes.new.items)
+        ≡ shapes_shoelace (shapes_of (λ z. z) shapes.old.items) }
 {
     if !shapes.is_in_safe_range() {
         return Err(Refusal::OutOfRange);
@@ -99,8 +118,11 @@ pub fn cleaned_by_buffer(
     buffer: &mut FlatContoursBuffer<i64>,
     shape: &[IntContour<i64>],
 ) -> Result<IntShape<i64>, Refusal>
-    ensures area { IfOk result (λ kept. shape_shoelace (shape_of (λ z. z) kept.items) ≡ shape_shoelace (shape_of (λ z. z) shape.now)) }
-    ensures inside { IfOk result (λ kept. (p : Point) → inside_count (shape_of (λ z. z) kept.items) p ≡ inside_count (shape_of (λ z. z) shape.now) p) }
+    ensures area { IfOk result (λ kept. shape_shoelace (shape_of (λ z. z) kept.items)
+        ≡ shape_shoelace (shape_of (λ z. z) shape.now)) }
+    ensures inside { IfOk result (λ kept. (p : Point)
+        → inside_count (shape_of (λ z. z) kept.items) p
+        ≡ inside_count (shape_of (λ z. z) shape.now) p) }
 {
     if !shape.is_in_safe_range() {
         return Err(Refusal::OutOfRange);
@@ -115,7 +137,8 @@ pub fn area_by_buffer(
     buffer: &mut FlatContoursBuffer<i64>,
     shape: &[IntContour<i64>],
 ) -> Result<i128, Refusal>
-    ensures area { IfOk result (λ area. area ≡ int_wrap w128 (shape_shoelace (shape_of (λ z. z) shape.now))) }
+    ensures area { IfOk result
+        (λ area. area ≡ int_wrap w128 (shape_shoelace (shape_of (λ z. z) shape.now))) }
 {
     chain::area_by_buffer(buffer, shape)
 }
@@ -126,7 +149,8 @@ pub fn contains_by_buffer(
     contour: &[IntPoint<i64>],
     point: IntPoint<i64>,
 ) -> Result<bool, Refusal>
-    ensures inside { IfOk result (λ r. IsTrue r ↔ Inside (contour_of (λ z. z) contour.now) (point_of (λ z. z) point)) }
+    ensures inside { IfOk result (λ r. IsTrue r
+        ↔ Inside (contour_of (λ z. z) contour.now) (point_of (λ z. z) point)) }
 {
     chain::contains_by_buffer(buffer, contour, point)
 }

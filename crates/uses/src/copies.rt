@@ -18,7 +18,9 @@ pub fn copied_paths<'a, P: ShapePoint + 'a, R: ShapeResource<'a, P> + Copy>(
 ) -> Result<Vec<Contour<P>>, ShapeError>
     requires { R.can_read resource }
     ensures copies { IfOk result (λ copies. paths_of_shape copies.items ≡ R.paths resource) }
-    ensures too_many { IsErrOf result ShapeError.TooManyPoints ↔ ((usize.MAX < length (concatenated (R.paths resource))) ⊎ (usize.MAX < length (R.paths resource))) }
+    ensures too_many { IsErrOf result ShapeError.TooManyPoints
+        ↔ ((usize.MAX < length (concatenated (R.paths resource)))
+        ⊎ (usize.MAX < length (R.paths resource))) }
 {
     let mut buffer = FloatFlatContoursBuffer::new(alloc);
     buffer.set_with_resource(resource)?;
@@ -31,8 +33,11 @@ pub fn copied_as_one_shape<'a, P: ShapePoint + 'a, R: ShapeResource<'a, P> + Cop
     resource: R,
 ) -> Result<Shapes<P>, ShapeError>
     requires { R.can_read resource }
-    ensures copies { IfOk result (λ list. shape_lists list.items ≡ in_one_shape (R.paths resource)) }
-    ensures too_many { IsErrOf result ShapeError.TooManyPoints ↔ ((usize.MAX < length (concatenated (R.paths resource))) ⊎ (usize.MAX < length (R.paths resource))) }
+    ensures copies { IfOk result (λ list. shape_lists list.items
+        ≡ in_one_shape (R.paths resource)) }
+    ensures too_many { IsErrOf result ShapeError.TooManyPoints
+        ↔ ((usize.MAX < length (concatenated (R.paths resource)))
+        ⊎ (usize.MAX < length (R.paths resource))) }
 {
     let mut buffer = FloatFlatShapesBuffer::new(alloc);
     buffer.set_with_resource(resource)?;

@@ -18,9 +18,14 @@ pub fn cleaned<I: IntNumber>(
     alloc: Global,
     contour: &[IntPoint<I>],
 ) -> Result<Option<IntContour<I>>, ShapeError>
-    ensures answer { All (IsSafe I.width) (contour_of I.value contour.now) → IfOk result (λ r. SimpleAnswer (contour_of I.value contour.now) (answered (contour_of I.value) r)) }
-    ensures unsafe_points { (All (IsSafe I.width) (contour_of I.value contour.now) → ⊥) → IfOk result (λ r. r ≡ None) }
-    ensures area { IfOk result (λ r. IfSome r (λ kept. shoelace (contour_of I.value kept.items) ≡ shoelace (contour_of I.value contour.now))) }
+    ensures answer { All (IsSafe I.width) (contour_of I.value contour.now)
+        → IfOk result (λ r. SimpleAnswer (contour_of I.value contour.now)
+        (answered (contour_of I.value) r)) }
+    ensures unsafe_points { (All (IsSafe I.width) (contour_of I.value contour.now) → ⊥)
+        → IfOk result (λ r. r ≡ None) }
+    ensures area { IfOk result
+        (λ r. IfSome r (λ kept. shoelace (contour_of I.value kept.items)
+        ≡ shoelace (contour_of I.value contour.now))) }
 {
     if !contour.is_in_safe_range() {
         return Ok(None);

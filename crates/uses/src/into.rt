@@ -23,9 +23,13 @@ pub fn area_into<I: IntNumber>(
     contour: &[IntPoint<I>],
     out: &mut [IntPoint<I>],
 ) -> Result<I::Wide, Refusal>
-    ensures range { IsErrOf result Refusal.OutOfRange ↔ (All (IsSafe I.width) (contour_of I.value contour.now) → ⊥) }
-    ensures room { IsErrOf result Refusal.NoRoom ↔ (All (IsSafe I.width) (contour_of I.value contour.now) × (length out.old < length contour.now)) }
-    ensures area { IfOk result (λ area. I.Wide.value area ≡ int_wrap I.Wide.width (shoelace (contour_of I.value contour.now))) }
+    ensures range { IsErrOf result Refusal.OutOfRange
+        ↔ (All (IsSafe I.width) (contour_of I.value contour.now) → ⊥) }
+    ensures room { IsErrOf result Refusal.NoRoom
+        ↔ (All (IsSafe I.width) (contour_of I.value contour.now)
+        × (length out.old < length contour.now)) }
+    ensures area { IfOk result (λ area. I.Wide.value area
+        ≡ int_wrap I.Wide.width (shoelace (contour_of I.value contour.now))) }
 {
     if !contour.is_in_safe_range() {
         return Err(Refusal::OutOfRange);
@@ -43,9 +47,13 @@ pub fn is_left_into<I: IntNumber>(
     contour: &[IntPoint<I>],
     out: &mut [IntPoint<I>],
 ) -> Result<bool, Refusal>
-    ensures range { IsErrOf result Refusal.OutOfRange ↔ (All (IsSafe I.width) (contour_of I.value contour.now) → ⊥) }
-    ensures room { IsErrOf result Refusal.NoRoom ↔ (All (IsSafe I.width) (contour_of I.value contour.now) × (length out.old < length contour.now)) }
-    ensures uncollapsed { IfOk result (λ r. IsTrue r ↔ (EachEndCollapses (contour_of I.value contour.now) → ⊥)) }
+    ensures range { IsErrOf result Refusal.OutOfRange
+        ↔ (All (IsSafe I.width) (contour_of I.value contour.now) → ⊥) }
+    ensures room { IsErrOf result Refusal.NoRoom
+        ↔ (All (IsSafe I.width) (contour_of I.value contour.now)
+        × (length out.old < length contour.now)) }
+    ensures uncollapsed { IfOk result (λ r. IsTrue r
+        ↔ (EachEndCollapses (contour_of I.value contour.now) → ⊥)) }
 {
     if !contour.is_in_safe_range() {
         return Err(Refusal::OutOfRange);
@@ -59,20 +67,24 @@ pub fn is_left_into<I: IntNumber>(
 }
 
 fn is_safe<P: ContourPoint>(point: &P) -> bool
-    ensures { IsTrue result ↔ IsSafe P.Coordinate.width (point_of P.Coordinate.value (P.point point.now)) }
+    ensures { IsTrue result ↔ IsSafe P.Coordinate.width
+        (point_of P.Coordinate.value (P.point point.now)) }
 {
     point.to_point().is_in_safe_range()
 }
 
 fn each_is_safe<P: ContourPoint>(points: &[P]) -> bool
-    ensures { IsTrue result ↔ All (λ p. IsSafe P.Coordinate.width (point_of P.Coordinate.value (P.point p))) points.now }
+    ensures { IsTrue result
+        ↔ All (λ p. IsSafe P.Coordinate.width (point_of P.Coordinate.value (P.point p)))
+        points.now }
 {
     points.iter().all(|point| is_safe(point))
 }
 
 /// Whether each of these points is safe.
 pub fn are_safe<P: ContourPoint>(points: &[P]) -> bool
-    ensures { IsTrue result ↔ All (IsSafe P.Coordinate.width) (contour_of P.Coordinate.value (P.points points.now)) }
+    ensures { IsTrue result ↔ All (IsSafe P.Coordinate.width)
+        (contour_of P.Coordinate.value (P.points points.now)) }
 {
     each_is_safe(points)
 }
@@ -86,10 +98,18 @@ pub fn clean_into<P: ContourPoint>(
     between: &mut [P],
     out: &mut [P],
 ) -> Result<usize, Refusal>
-    ensures range { IsErrOf result Refusal.OutOfRange ↔ (All (IsSafe P.Coordinate.width) (contour_of P.Coordinate.value (P.points contour.now)) → ⊥) }
-    ensures room { IsErrOf result Refusal.NoRoom ↔ (All (IsSafe P.Coordinate.width) (contour_of P.Coordinate.value (P.points contour.now)) × ((length between.old < length contour.now) ⊎ (length out.old < length contour.now))) }
-    ensures answer { IfOk result (λ n. SimpleAnswer (contour_of P.Coordinate.value (P.points contour.now)) (slot (contour_of P.Coordinate.value (P.points (take n out.new))))) }
-    ensures area { IfOk result (λ n. shoelace (contour_of P.Coordinate.value (P.points (take n out.new))) ≡ shoelace (contour_of P.Coordinate.value (P.points contour.now))) }
+    ensures range { IsErrOf result Refusal.OutOfRange
+        ↔ (All (IsSafe P.Coordinate.width) (contour_of P.Coordinate.value (P.points contour.now))
+        → ⊥) }
+    ensures room { IsErrOf result Refusal.NoRoom
+        ↔ (All (IsSafe P.Coordinate.width) (contour_of P.Coordinate.value (P.points contour.now))
+        × ((length between.old < length contour.now) ⊎ (length out.old < length contour.now))) }
+    ensures answer { IfOk result
+        (λ n. SimpleAnswer (contour_of P.Coordinate.value (P.points contour.now))
+        (slot (contour_of P.Coordinate.value (P.points (take n out.new))))) }
+    ensures area { IfOk result
+        (λ n. shoelace (contour_of P.Coordinate.value (P.points (take n out.new)))
+        ≡ shoelace (contour_of P.Coordinate.value (P.points contour.now))) }
 {
     if !are_safe(contour) {
         return Err(Refusal::OutOfRange);

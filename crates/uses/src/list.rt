@@ -17,14 +17,18 @@ use std::alloc::Global;
 
 /// Whether the points are safe, and each contour of each shape simple.
 pub fn is_simple<I: IntNumber>(shapes: &[IntShape<I>]) -> bool
-    ensures { IsTrue result ↔ (IsSafeList I.width (shapes_of I.value shapes.now) × EachShape IsSimple (shapes_of I.value shapes.now)) }
+    ensures { IsTrue result
+        ↔ (IsSafeList I.width (shapes_of I.value shapes.now)
+        × EachShape IsSimple (shapes_of I.value shapes.now)) }
 {
     shapes.is_in_safe_range() && shapes.is_simple()
 }
 
 /// Whether the points are safe, and no contour of any shape has spikes.
 pub fn has_no_spikes<I: IntNumber>(shapes: &IntShapes<I>) -> bool
-    ensures { IsTrue result ↔ (IsSafeList I.width (shapes_of I.value shapes.now.items) × EachShape NoSpikes (shapes_of I.value shapes.now.items)) }
+    ensures { IsTrue result
+        ↔ (IsSafeList I.width (shapes_of I.value shapes.now.items)
+        × EachShape NoSpikes (shapes_of I.value shapes.now.items)) }
 {
     shapes.is_in_safe_range() && shapes.has_no_spikes()
 }
@@ -34,7 +38,9 @@ pub fn simplified<I: IntNumber>(
     alloc: Global,
     shapes: &[IntShape<I>],
 ) -> Result<IntShapes<I>, Refusal>
-    ensures kept { IfOk result (λ kept. ListKept SimpleAnswer (shapes_of I.value shapes.now) (shapes_of I.value kept.items)) }
+    ensures kept { IfOk result
+        (λ kept. ListKept SimpleAnswer (shapes_of I.value shapes.now)
+        (shapes_of I.value kept.items)) }
 {
     if !shapes.is_in_safe_range() {
         return Err(Refusal::OutOfRange);
@@ -47,7 +53,9 @@ pub fn simplified_vector<I: IntNumber>(
     alloc: Global,
     shapes: &IntShapes<I>,
 ) -> Result<IntShapes<I>, Refusal>
-    ensures kept { IfOk result (λ kept. ListKept SimpleAnswer (shapes_of I.value shapes.now.items) (shapes_of I.value kept.items)) }
+    ensures kept { IfOk result
+        (λ kept. ListKept SimpleAnswer (shapes_of I.value shapes.now.items)
+        (shapes_of I.value kept.items)) }
 {
     if !shapes.is_in_safe_range() {
         return Err(Refusal::OutOfRange);
@@ -57,7 +65,9 @@ pub fn simplified_vector<I: IntNumber>(
 
 /// The shapes without spikes.
 pub fn despiked<I: IntNumber>(alloc: Global, shapes: &IntShapes<I>) -> Result<IntShapes<I>, Refusal>
-    ensures kept { IfOk result (λ kept. ListKept DespikeAnswer (shapes_of I.value shapes.now.items) (shapes_of I.value kept.items)) }
+    ensures kept { IfOk result
+        (λ kept. ListKept DespikeAnswer (shapes_of I.value shapes.now.items)
+        (shapes_of I.value kept.items)) }
 {
     if !shapes.is_in_safe_range() {
         return Err(Refusal::OutOfRange);
@@ -68,10 +78,18 @@ pub fn despiked<I: IntNumber>(alloc: Global, shapes: &IntShapes<I>) -> Result<In
 /// Removes zero turns in place. The double area is kept where as many shapes are left.
 #[tactic(auto, using(i_shape::proofs::CallerLemmas::simplified_list_area))]
 pub fn simplify<I: IntNumber>(shapes: &mut IntShapes<I>) -> Result<bool, Refusal>
-    ensures kept { OnOk result (ListKept SimpleAnswer (shapes_of I.value shapes.old.items) (shapes_of I.value shapes.new.items)) }
-    ensures err { OnErr result (shapes_of I.value shapes.new.items ≡ shapes_of I.value shapes.old.items) }
-    ensures area { length (shapes_of I.value shapes.new.items) ≡ length (shapes_of I.value shapes.old.items) → shapes_shoelace (shapes_of I.value shapes.new.items) ≡ shapes_shoelace (shapes_of I.value shapes.old.items) }
-    ensures flag { result ≡ Ok false ↔ (IsSafeList I.width (shapes_of I.value shapes.old.items) × EachShape IsSimple (shapes_of I.value shapes.old.items)) }
+    ensures kept { OnOk result
+        (ListKept SimpleAnswer (shapes_of I.value shapes.old.items)
+        (shapes_of I.value shapes.new.items)) }
+    ensures err { OnErr result (shapes_of I.value shapes.new.items
+        ≡ shapes_of I.value shapes.old.items) }
+    ensures area { length (shapes_of I.value shapes.new.items)
+        ≡ length (shapes_of I.value shapes.old.items)
+        → shapes_shoelace (shapes_of I.value shapes.new.items)
+        ≡ shapes_shoelace (shapes_of I.value shapes.old.items) }
+    ensures flag { result ≡ Ok false
+        ↔ (IsSafeList I.width (shapes_of I.value shapes.old.items)
+        × EachShape IsSimple (shapes_of I.value shapes.old.items)) }
 {
     if !shapes.is_in_safe_range() {
         return Err(Refusal::OutOfRange);
@@ -82,10 +100,18 @@ pub fn simplify<I: IntNumber>(shapes: &mut IntShapes<I>) -> Result<bool, Refusal
 /// Removes spikes in place. The double area is kept where as many shapes are left.
 #[tactic(auto, using(i_shape::proofs::CallerLemmas::despiked_list_area))]
 pub fn despike<I: IntNumber>(shapes: &mut IntShapes<I>) -> Result<bool, Refusal>
-    ensures kept { OnOk result (ListKept DespikeAnswer (shapes_of I.value shapes.old.items) (shapes_of I.value shapes.new.items)) }
-    ensures err { OnErr result (shapes_of I.value shapes.new.items ≡ shapes_of I.value shapes.old.items) }
-    ensures area { length (shapes_of I.value shapes.new.items) ≡ length (shapes_of I.value shapes.old.items) → shapes_shoelace (shapes_of I.value shapes.new.items) ≡ shapes_shoelace (shapes_of I.value shapes.old.items) }
-    ensures flag { result ≡ Ok false ↔ (IsSafeList I.width (shapes_of I.value shapes.old.items) × EachShape NoSpikes (shapes_of I.value shapes.old.items)) }
+    ensures kept { OnOk result
+        (ListKept DespikeAnswer (shapes_of I.value shapes.old.items)
+        (shapes_of I.value shapes.new.items)) }
+    ensures err { OnErr result (shapes_of I.value shapes.new.items
+        ≡ shapes_of I.value shapes.old.items) }
+    ensures area { length (shapes_of I.value shapes.new.items)
+        ≡ length (shapes_of I.value shapes.old.items)
+        → shapes_shoelace (shapes_of I.value shapes.new.items)
+        ≡ shapes_shoelace (shapes_of I.value shapes.old.items) }
+    ensures flag { result ≡ Ok false
+        ↔ (IsSafeList I.width (shapes_of I.value shapes.old.items)
+        × EachShape NoSpikes (shapes_of I.value shapes.old.items)) }
 {
     if !shapes.is_in_safe_range() {
         return Err(Refusal::OutOfRange);

@@ -17,8 +17,10 @@ pub fn cleaned_contours<I: IntNumber>(
     contours: &[IntContour<I>],
 ) -> Result<IntShape<I>, ShapeError>
     requires { IsSafeShape I.width (shape_of I.value contours.now) }
-    ensures compact { IfOk result (λ kept. Compact (shape_of I.value contours.now) (shape_of I.value kept.items)) }
-    ensures too_many { IsErrOf result ShapeError.TooManyPoints ↔ (usize.MAX < length (concatenated (paths_of_shape contours.now))) }
+    ensures compact { IfOk result
+        (λ kept. Compact (shape_of I.value contours.now) (shape_of I.value kept.items)) }
+    ensures too_many { IsErrOf result ShapeError.TooManyPoints
+        ↔ (usize.MAX < length (concatenated (paths_of_shape contours.now))) }
 {
     let mut buffer = FlatContoursBuffer::new(alloc);
     buffer.set_with_shape(contours)?;

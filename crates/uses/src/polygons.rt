@@ -48,7 +48,8 @@ impl<I: IntNumber> PolygonStore<I> {
     /// whatever order its holes come. Never so where its outer contour collapses. The only error is `OutOfMemory`.
     pub fn contains(&self, polygon: &[IntContour<I>]) -> Result<bool, ShapeError>
         requires { IsSafeShape I.width (shape_of I.value polygon.now) }
-        ensures found { IfOk result (λ found. IsTrue found ↔ IsPolygonFound self.now (shape_of I.value polygon.now)) }
+        ensures found { IfOk result (λ found. IsTrue found
+            ↔ IsPolygonFound self.now (shape_of I.value polygon.now)) }
         ensures memory { IsOkUnless result ShapeError.OutOfMemory }
     {
         match polygon.canonical(self.alloc)? {
@@ -61,7 +62,8 @@ impl<I: IntNumber> PolygonStore<I> {
     /// The only error is `OutOfMemory`; the store then stays as it was.
     pub fn insert(&mut self, polygon: &[IntContour<I>]) -> Result<Insertion, ShapeError>
         requires { IsSafeShape I.width (shape_of I.value polygon.now) }
-        ensures ok { IfOk result (λ r. PolygonInserted self.old (shape_of I.value polygon.now) r self.new) }
+        ensures ok { IfOk result
+            (λ r. PolygonInserted self.old (shape_of I.value polygon.now) r self.new) }
         ensures err { OnErr result (self.new ≡ self.old) }
         ensures memory { IsOkUnless result ShapeError.OutOfMemory }
     {

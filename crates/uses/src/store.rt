@@ -58,7 +58,8 @@ impl<I: IntNumber> CanonicalStore<I> {
     /// to the other. Never so where this one collapses. The only error is `OutOfMemory`.
     pub fn contains(&self, contour: &[IntPoint<I>]) -> Result<bool, ShapeError>
         requires { All (IsSafe I.width) (contour_of I.value contour.now) }
-        ensures found { IfOk result (λ found. IsTrue found ↔ IsFound self.now (contour_of I.value contour.now)) }
+        ensures found { IfOk result (λ found. IsTrue found
+            ↔ IsFound self.now (contour_of I.value contour.now)) }
         ensures memory { IsOkUnless result ShapeError.OutOfMemory }
     {
         match contour.canonical(*self.forms.allocator())? {
@@ -71,8 +72,10 @@ impl<I: IntNumber> CanonicalStore<I> {
     /// The only error is `OutOfMemory`; the store then stays as it was.
     pub fn insert(&mut self, contour: &[IntPoint<I>]) -> Result<Insertion, ShapeError>
         requires { All (IsSafe I.width) (contour_of I.value contour.now) }
-        ensures ok { IfOk result (λ r. InsertAnswer self.old (contour_of I.value contour.now) r self.new) }
-        ensures finds { IfOk result (λ r. r ≢ Insertion.Collapsed → AlsoFinds self.old (contour_of I.value contour.now) self.new) }
+        ensures ok { IfOk result
+            (λ r. InsertAnswer self.old (contour_of I.value contour.now) r self.new) }
+        ensures finds { IfOk result (λ r. r ≢ Insertion.Collapsed
+            → AlsoFinds self.old (contour_of I.value contour.now) self.new) }
         ensures err { OnErr result (self.new ≡ self.old) }
         ensures memory { IsOkUnless result ShapeError.OutOfMemory }
     {
@@ -96,7 +99,8 @@ fn has_form<I: IntNumber>(forms: &[IntContour<I>], form: &[IntPoint<I>]) -> bool
 
 /// Whether a contour has these points.
 fn is_same<I: IntNumber>(contour: &IntContour<I>, points: &[IntPoint<I>]) -> bool
-    ensures { IsTrue result ↔ (contour_of I.value contour.now.items ≡ contour_of I.value points.now) }
+    ensures { IsTrue result
+        ↔ (contour_of I.value contour.now.items ≡ contour_of I.value points.now) }
 {
     contour.as_slice() == points
 }

@@ -3,7 +3,7 @@
 ghost use Rattle.std.specs.Prelude.{◌≡◌, ◌+◌, ◌<◌, ◌≤◌, ◌++◌, ◌∷◌, ◌⊎◌, ◌↔◌, IsTrue, [], length, vec_len, vec_capacity, OnOk, IfOk, IsOkUnless, MatchOption};
 ghost use Rattle.std.specs.List.{All};
 ghost use Rattle.i_shape_source.specs.Paths.{paths_of_shape, shape_lists, concatenated, paths_of_shapes};
-ghost use Rattle.i_shape.specs.Flat.{InOrder, IsReadableShape, end_to_end, slices, shapes};
+ghost use Rattle.i_shape.specs.Flat.{InOrder, IsReadableShape, end_to_end, slices, shapes, behind};
 
 use crate::ShapeError;
 use std::alloc::{AllocError, Global};
@@ -11,7 +11,8 @@ use std::ops::Range;
 
 /// The number of points of some contours, and `None` where it exceeds `usize::MAX`.
 pub fn checked_points_count<P>(contours: &[Vec<P>]) -> Option<usize>
-    ensures { MatchOption result (usize.MAX < length (concatenated (paths_of_shape contours.now))) (λ n. n ≡ length (concatenated (paths_of_shape contours.now))) }
+    ensures { MatchOption result (usize.MAX < length (concatenated (paths_of_shape contours.now)))
+        (λ n. n ≡ length (concatenated (paths_of_shape contours.now))) }
 {
     let mut total: usize = 0;
     for contour in contours {
@@ -37,7 +38,8 @@ pub fn append_contour<P: Copy>(points: &mut Vec<P>, ranges: &mut Vec<Range<usize
     requires points_room { vec_len points.old + length contour.now ≤ vec_capacity points.old }
     requires ranges_room { vec_len ranges.old < vec_capacity ranges.old }
     ensures points { points.new.items ≡ points.old.items ++ contour.now }
-    ensures ranges { ranges.new.items ≡ ranges.old.items ++ record { start = vec_len points.old; end = vec_len points.old + length contour.now } ∷ [] }
+    ensures ranges { ranges.new.items ≡ ranges.old.items
+        ++ behind (vec_len points.old) (length contour.now) ∷ [] }
     ensures points_len { vec_len points.new ≡ vec_len points.old + length contour.now }
     ensures ranges_len { vec_len ranges.new ≡ vec_len ranges.old + 1 }
     ensures points_capacity { vec_capacity points.old ≤ vec_capacity points.new }
@@ -54,11 +56,15 @@ pub fn append_contours<P: Copy>(
     ranges: &mut Vec<Range<usize>>,
     contours: &[Vec<P>],
 )
-    requires points_room { vec_len points.old + length (concatenated (paths_of_shape contours.now)) ≤ vec_capacity points.old }
+    requires points_room { vec_len points.old + length (concatenated (paths_of_shape contours.now))
+        ≤ vec_capacity points.old }
     requires ranges_room { vec_len ranges.old + length contours.now ≤ vec_capacity ranges.old }
-    ensures points { points.new.items ≡ points.old.items ++ concatenated (paths_of_shape contours.now) }
-    ensures ranges { ranges.new.items ≡ ranges.old.items ++ end_to_end (vec_len points.old) (paths_of_shape contours.now) }
-    ensures points_len { vec_len points.new ≡ vec_len points.old + length (concatenated (paths_of_shape contours.now)) }
+    ensures points { points.new.items ≡ points.old.items
+        ++ concatenated (paths_of_shape contours.now) }
+    ensures ranges { ranges.new.items ≡ ranges.old.items
+        ++ end_to_end (vec_len points.old) (paths_of_shape contours.now) }
+    ensures points_len { vec_len points.new ≡ vec_len points.old
+        + length (concatenated (paths_of_shape contours.now)) }
     ensures ranges_len { vec_len ranges.new ≡ vec_len ranges.old + length contours.now }
     ensures points_capacity { vec_capacity points.old ≤ vec_capacity points.new }
     ensures ranges_capacity { vec_capacity ranges.old ≤ vec_capacity ranges.new }
@@ -87,7 +93,10 @@ pub struct Counts {
 
 /// The counts of some shapes, and `None` where one of them exceeds `usize::MAX`.
 pub fn checked_counts<P>(shapes: &[Vec<Vec<P>>]) -> Option<Counts>
-    ensures { MatchOption result ((usize.MAX < length (concatenated (paths_of_shapes shapes.now))) ⊎ (usize.MAX < length (paths_of_shapes shapes.now))) (λ counts. (counts.points ≡ length (concatenated (paths_of_shapes shapes.now))) × (counts.contours ≡ length (paths_of_shapes shapes.now))) }
+    ensures { MatchOption result ((usize.MAX < length (concatenated (paths_of_shapes shapes.now)))
+        ⊎ (usize.MAX < length (paths_of_shapes shapes.now)))
+        (λ counts. (counts.points ≡ length (concatenated (paths_of_shapes shapes.now)))
+        × (counts.contours ≡ length (paths_of_shapes shapes.now))) }
 {
     let mut points: usize = 0;
     let mut contours: usize = 0;
@@ -104,10 +113,14 @@ pub fn append_all_contours<P: Copy>(
     ranges: &mut Vec<Range<usize>>,
     shapes: &[Vec<Vec<P>>],
 )
-    requires points_room { vec_len points.old + length (concatenated (paths_of_shapes shapes.now)) ≤ vec_capacity points.old }
-    requires ranges_room { vec_len ranges.old + length (paths_of_shapes shapes.now) ≤ vec_capacity ranges.old }
-    ensures points { points.new.items ≡ points.old.items ++ concatenated (paths_of_shapes shapes.now) }
-    ensures ranges { ranges.new.items ≡ ranges.old.items ++ end_to_end (vec_len points.old) (paths_of_shapes shapes.now) }
+    requires points_room { vec_len points.old + length (concatenated (paths_of_shapes shapes.now))
+        ≤ vec_capacity points.old }
+    requires ranges_room { vec_len ranges.old + length (paths_of_shapes shapes.now)
+        ≤ vec_capacity ranges.old }
+    ensures points { points.new.items ≡ points.old.items
+        ++ concatenated (paths_of_shapes shapes.now) }
+    ensures ranges { ranges.new.items ≡ ranges.old.items
+        ++ end_to_end (vec_len points.old) (paths_of_shapes shapes.now) }
 {
     for shape in shapes {
         append_contours(points, ranges, shape.as_slice());
@@ -152,14 +165,21 @@ pub fn append_shape<P: Copy>(
     shape_ranges: &mut Vec<Range<usize>>,
     shape: &[Vec<P>],
 )
-    requires points_room { vec_len points.old + length (concatenated (paths_of_shape shape.now)) ≤ vec_capacity points.old }
-    requires contours_room { vec_len contour_ranges.old + length shape.now ≤ vec_capacity contour_ranges.old }
+    requires points_room { vec_len points.old + length (concatenated (paths_of_shape shape.now))
+        ≤ vec_capacity points.old }
+    requires contours_room { vec_len contour_ranges.old + length shape.now
+        ≤ vec_capacity contour_ranges.old }
     requires shapes_room { vec_len shape_ranges.old < vec_capacity shape_ranges.old }
-    ensures points { points.new.items ≡ points.old.items ++ concatenated (paths_of_shape shape.now) }
-    ensures contour_ranges { contour_ranges.new.items ≡ contour_ranges.old.items ++ end_to_end (vec_len points.old) (paths_of_shape shape.now) }
-    ensures shape_ranges { shape_ranges.new.items ≡ shape_ranges.old.items ++ record { start = vec_len contour_ranges.old; end = vec_len contour_ranges.old + length shape.now } ∷ [] }
-    ensures points_len { vec_len points.new ≡ vec_len points.old + length (concatenated (paths_of_shape shape.now)) }
-    ensures contours_len { vec_len contour_ranges.new ≡ vec_len contour_ranges.old + length shape.now }
+    ensures points { points.new.items ≡ points.old.items
+        ++ concatenated (paths_of_shape shape.now) }
+    ensures contour_ranges { contour_ranges.new.items ≡ contour_ranges.old.items
+        ++ end_to_end (vec_len points.old) (paths_of_shape shape.now) }
+    ensures shape_ranges { shape_ranges.new.items ≡ shape_ranges.old.items
+        ++ behind (vec_len contour_ranges.old) (length shape.now) ∷ [] }
+    ensures points_len { vec_len points.new ≡ vec_len points.old
+        + length (concatenated (paths_of_shape shape.now)) }
+    ensures contours_len { vec_len contour_ranges.new
+        ≡ vec_len contour_ranges.old + length shape.now }
     ensures shapes_len { vec_len shape_ranges.new ≡ vec_len shape_ranges.old + 1 }
     ensures points_capacity { vec_capacity points.old ≤ vec_capacity points.new }
     ensures contours_capacity { vec_capacity contour_ranges.old ≤ vec_capacity contour_ranges.new }
@@ -177,12 +197,18 @@ pub fn append_shapes<P: Copy>(
     shape_ranges: &mut Vec<Range<usize>>,
     shapes: &[Vec<Vec<P>>],
 )
-    requires points_room { vec_len points.old + length (concatenated (paths_of_shapes shapes.now)) ≤ vec_capacity points.old }
-    requires contours_room { vec_len contour_ranges.old + length (paths_of_shapes shapes.now) ≤ vec_capacity contour_ranges.old }
-    requires shapes_room { vec_len shape_ranges.old + length shapes.now ≤ vec_capacity shape_ranges.old }
-    ensures points { points.new.items ≡ points.old.items ++ concatenated (paths_of_shapes shapes.now) }
-    ensures contour_ranges { contour_ranges.new.items ≡ contour_ranges.old.items ++ end_to_end (vec_len points.old) (paths_of_shapes shapes.now) }
-    ensures shape_ranges { shape_ranges.new.items ≡ shape_ranges.old.items ++ end_to_end (vec_len contour_ranges.old) (shape_lists shapes.now) }
+    requires points_room { vec_len points.old + length (concatenated (paths_of_shapes shapes.now))
+        ≤ vec_capacity points.old }
+    requires contours_room { vec_len contour_ranges.old + length (paths_of_shapes shapes.now)
+        ≤ vec_capacity contour_ranges.old }
+    requires shapes_room { vec_len shape_ranges.old + length shapes.now
+        ≤ vec_capacity shape_ranges.old }
+    ensures points { points.new.items ≡ points.old.items
+        ++ concatenated (paths_of_shapes shapes.now) }
+    ensures contour_ranges { contour_ranges.new.items ≡ contour_ranges.old.items
+        ++ end_to_end (vec_len points.old) (paths_of_shapes shapes.now) }
+    ensures shape_ranges { shape_ranges.new.items ≡ shape_ranges.old.items
+        ++ end_to_end (vec_len contour_ranges.old) (shape_lists shapes.now) }
 {
     for shape in shapes {
         append_shape(points, contour_ranges, shape_ranges, shape.as_slice());
@@ -207,7 +233,8 @@ pub fn copied_shapes<P: Copy>(
     shape_ranges: &[Range<usize>],
 ) -> Result<Vec<Vec<Vec<P>>>, ShapeError>
     requires { All (IsReadableShape (length points.now) contour_ranges.now) shape_ranges.now }
-    ensures ok { IfOk result (λ list. shape_lists list.items ≡ shapes points.now contour_ranges.now shape_ranges.now) }
+    ensures ok { IfOk result (λ list. shape_lists list.items
+        ≡ shapes points.now contour_ranges.now shape_ranges.now) }
     ensures memory { IsOkUnless result ShapeError.OutOfMemory }
 {
     let mut list = Vec::with_capacity(alloc, shape_ranges.len())?;

@@ -31,7 +31,8 @@ pub trait Area<I: IntNumber> {
     /// Half of `area_two`, rounded towards zero: of the whole sum, and not the sum of halves.
     fn area(&self) -> I::Wide
         requires { has_points self.now }
-        ensures { I.Wide.value result ≡ int_div (int_wrap I.Wide.width (double_area self.now)) (pos 2) }
+        ensures { I.Wide.value result
+            ≡ int_div (int_wrap I.Wide.width (double_area self.now)) (pos 2) }
     {
         self.area_two().divide(I::Wide::TWO)
     }

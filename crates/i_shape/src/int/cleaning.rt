@@ -121,7 +121,10 @@ pub fn append_contour<I: IntNumber, C: ContourCleaner>(
     contour: &[IntPoint<I>],
 ) -> Result<(), ShapeError>
     requires { IsSafeContour I.width (contour_of I.value contour.now) }
-    ensures ok { OnOk result ((answer : Option (List Point)) × C.answers (contour_of I.value contour.now) answer × (shape_of I.value kept.new.items ≡ shape_of I.value kept.old.items ++ option_to_list answer)) }
+    ensures ok { OnOk result ((answer : Option (List Point))
+        × C.answers (contour_of I.value contour.now) answer
+        × (shape_of I.value kept.new.items ≡ shape_of I.value kept.old.items
+        ++ option_to_list answer)) }
     ensures memory { IsOkUnless result ShapeError.OutOfMemory }
 {
     match cleaner.cleaned(contour)? {
@@ -140,7 +143,9 @@ fn append_holes<I: IntNumber, C: ContourCleaner>(
     contours: &[IntContour<I>],
 ) -> Result<(), ShapeError>
     requires { IsSafeShape I.width (shape_of I.value contours.now) }
-    ensures ok { OnOk result ((more : List (List Point)) × Survivors C.answers (shape_of I.value contours.now) more × (shape_of I.value kept.new.items ≡ shape_of I.value kept.old.items ++ more)) }
+    ensures ok { OnOk result ((more : List (List Point))
+        × Survivors C.answers (shape_of I.value contours.now) more
+        × (shape_of I.value kept.new.items ≡ shape_of I.value kept.old.items ++ more)) }
     ensures memory { IsOkUnless result ShapeError.OutOfMemory }
 {
     for contour in contours {
@@ -178,7 +183,10 @@ fn push_cleaned_shape<I: IntNumber, C: InPlaceCleaner>(
     shape: &[IntContour<I>],
 ) -> Result<(), ShapeError>
     requires { IsSafeShape I.width (shape_of I.value shape.now) }
-    ensures ok { OnOk result ((answer : Option (List (List Point))) × ShapeClean C.answers (shape_of I.value shape.now) answer × (shapes_of I.value kept.new.items ≡ shapes_of I.value kept.old.items ++ option_to_list answer)) }
+    ensures ok { OnOk result ((answer : Option (List (List Point)))
+        × ShapeClean C.answers (shape_of I.value shape.now) answer
+        × (shapes_of I.value kept.new.items ≡ shapes_of I.value kept.old.items
+        ++ option_to_list answer)) }
     ensures memory { IsOkUnless result ShapeError.OutOfMemory }
 {
     let alloc = *kept.allocator();
@@ -214,7 +222,8 @@ pub fn clean_shape_in_place<I: IntNumber, C: InPlaceCleaner>(
     shape: &mut IntShape<I>,
 ) -> Result<bool, ShapeError>
     requires { IsSafeShape I.width (shape_of I.value shape.old.items) }
-    ensures gives { CleansShape C.clean C.answers (shape_of I.value shape.old.items) (shape_of I.value shape.new.items) result }
+    ensures gives { CleansShape C.clean C.answers (shape_of I.value shape.old.items)
+        (shape_of I.value shape.new.items) result }
     ensures safe { IsSafeShape I.width (shape_of I.value shape.new.items) }
 {
     let alloc = *shape.allocator();
@@ -236,7 +245,8 @@ pub fn clean_list_in_place<I: IntNumber, C: InPlaceCleaner>(
     shapes: &mut IntShapes<I>,
 ) -> Result<bool, ShapeError>
     requires { IsSafeList I.width (shapes_of I.value shapes.old.items) }
-    ensures gives { CleansList C.clean C.answers (shapes_of I.value shapes.old.items) (shapes_of I.value shapes.new.items) result }
+    ensures gives { CleansList C.clean C.answers (shapes_of I.value shapes.old.items)
+        (shapes_of I.value shapes.new.items) result }
     ensures safe { IsSafeList I.width (shapes_of I.value shapes.new.items) }
 {
     let alloc = *shapes.allocator();

@@ -28,7 +28,8 @@ pub trait ShapeExtension<I: IntNumber> {
     fn contains_by(&self, point: IntPoint<I>, rule: FillRule) -> bool
         requires points_safe { IsSafeShape I.width (shape self.now) }
         requires point_safe { IsSafe I.width (point_of I.value point) }
-        ensures { IsTrue result ↔ IsFilled rule (shape_winding (shape self.now) (point_of I.value point)) };
+        ensures { IsTrue result
+            ↔ IsFilled rule (shape_winding (shape self.now) (point_of I.value point)) };
 }
 
 impl<I: IntNumber> ShapeExtension<I> for &[IntContour<I>] {
@@ -50,7 +51,9 @@ impl<I: IntNumber> ShapeExtension<I> for &[IntContour<I>] {
     fn contains_by(&self, point: IntPoint<I>, rule: FillRule) -> bool
         requires points_safe { IsSafeShape I.width (shape_of I.value self.now.now) }
         requires point_safe { IsSafe I.width (point_of I.value point) }
-        ensures { IsTrue result ↔ IsFilled rule (shape_winding (shape_of I.value self.now.now) (point_of I.value point)) }
+        ensures { IsTrue result
+            ↔ IsFilled rule
+            (shape_winding (shape_of I.value self.now.now) (point_of I.value point)) }
     {
         rule.fills(self.winding_number(point))
     }

@@ -1,6 +1,6 @@
 //! The calls at 16 bits.
 
-ghost use Rattle.std.specs.Prelude.{◌≡◌, ◌↔◌, ◌<◌, ◌≤◌, length, map, IsTrue};
+ghost use Rattle.std.specs.Prelude.{◌≡◌, ◌↔◌, ◌<◌, length, map, IsTrue};
 ghost use Rattle.std.specs.Int.{int_wrap, w16, w32};
 ghost use Rattle.i_shape.specs.Cleaners.{SimpleAnswer, SpikelessAnswer, DespikeAnswer, KeptAnswer, IsDespikedAlready};
 ghost use Rattle.i_shape.specs.Canonical.{CanonicalAnswer, UnorientedAnswer, KeptEitherWay};
@@ -8,15 +8,13 @@ ghost use Rattle.i_shape.specs.CanonicalShapes.{ListForm};
 ghost use Rattle.i_shape.specs.ShapeAnswers.{ListClean};
 ghost use Rattle.i_shape.specs.Contour.{IsSimple, Sublist, RotatedSublist, SublistEitherWay};
 ghost use Rattle.i_shape.specs.Convex.{Convex, NoSpikes};
-ghost use Rattle.i_shape.specs.Edges.{Inside, shoelace};
-ghost use Rattle.i_shape.specs.IntPoint.{IsSafe};
+ghost use Rattle.i_shape.specs.Edges.{shoelace};
 ghost use Rattle.i_shape_c.specs.Points.{point_i16};
-ghost use Rattle.i_shape_c.specs.Cleaned.{AreSafe, unsafe_code, unfit_code, CleansContour};
-ghost use Rattle.i_shape_c.specs.Batch.{AreSafeContours, CleansContours};
-ghost use Rattle.i_shape_c.specs.Tests.{IsTold, TestAnswer};
-ghost use Rattle.i_shape.specs.Winding.{winding as winding_of};
-ghost use Rattle.i_shape_c.specs.Windings.{no_winding, CanWind, WindingsAnswer};
+ghost use Rattle.i_shape_c.specs.Cleaned.{AreSafe, CleansContour};
+ghost use Rattle.i_shape_c.specs.Batch.{CleansContours};
+ghost use Rattle.i_shape_c.specs.Tests.{IsTold, TestsContour, TestsPoint};
 ghost use Rattle.i_shape_c.specs.Polygons.{CleansPolygons};
+ghost use Rattle.i_shape_c.specs.Windings.{WindsAbout, WindsAboutEach};
 
 use crate::area::area_two;
 use crate::batch::clean_contours;
@@ -95,7 +93,8 @@ pub extern "C" fn i_shape_simplify_contours_i16(
     out_points: &mut [PointI16],
     out_offsets: &mut [usize],
 ) -> isize
-    ensures { CleansContours IsSimple SimpleAnswer KeptAnswer w16 point_i16 points.now offsets.now
+    ensures { CleansContours IsSimple SimpleAnswer KeptAnswer w16 point_i16
+        points.now offsets.now
         out_points.old out_points.new out_offsets.old out_offsets.new result }
 {
     clean_contours::<PointI16, ContourSimplifier>(alloc, points, offsets, out_points, out_offsets)
@@ -110,7 +109,8 @@ pub extern "C" fn i_shape_despike_contours_i16(
     out_points: &mut [PointI16],
     out_offsets: &mut [usize],
 ) -> isize
-    ensures { CleansContours IsDespikedAlready SpikelessAnswer KeptAnswer w16 point_i16 points.now offsets.now
+    ensures { CleansContours IsDespikedAlready SpikelessAnswer KeptAnswer w16 point_i16
+        points.now offsets.now
         out_points.old out_points.new out_offsets.old out_offsets.new result }
 {
     clean_contours::<PointI16, ContourDeSpiker>(alloc, points, offsets, out_points, out_offsets)
@@ -125,7 +125,8 @@ pub extern "C" fn i_shape_canonical_contours_i16(
     out_points: &mut [PointI16],
     out_offsets: &mut [usize],
 ) -> isize
-    ensures { CleansContours IsSimple CanonicalAnswer KeptAnswer w16 point_i16 points.now offsets.now
+    ensures { CleansContours IsSimple CanonicalAnswer KeptAnswer w16 point_i16
+        points.now offsets.now
         out_points.old out_points.new out_offsets.old out_offsets.new result }
 {
     clean_contours::<PointI16, Canonicalizer>(alloc, points, offsets, out_points, out_offsets)
@@ -140,7 +141,8 @@ pub extern "C" fn i_shape_canonical_unoriented_contours_i16(
     out_points: &mut [PointI16],
     out_offsets: &mut [usize],
 ) -> isize
-    ensures { CleansContours IsSimple UnorientedAnswer KeptEitherWay w16 point_i16 points.now offsets.now
+    ensures { CleansContours IsSimple UnorientedAnswer KeptEitherWay w16 point_i16
+        points.now offsets.now
         out_points.old out_points.new out_offsets.old out_offsets.new result }
 {
     clean_contours::<PointI16, UnorientedCanonicalizer>(
@@ -259,8 +261,7 @@ pub extern "C" fn i_shape_canonical_unoriented_shapes_i16(
 /// Whether there are at least three points, and none of them is a zero turn. Answers 1 or 0, or a code below 0.
 #[unsafe(no_mangle)]
 pub extern "C" fn i_shape_is_simple_i16(points: &[PointI16]) -> i32
-    ensures answer { TestAnswer (IsSimple (map point_i16 points.now)) result }
-    ensures unsafe_points { result ≡ unsafe_code ↔ (AreSafe w16 point_i16 points.now → ⊥) }
+    ensures { TestsContour IsSimple w16 point_i16 points.now result }
 {
     test_contour(points, Simple {})
 }
@@ -268,8 +269,7 @@ pub extern "C" fn i_shape_is_simple_i16(points: &[PointI16]) -> i32
 /// Whether at least three points are left without repeated ones, and the way over them nowhere goes back. Answers 1 or 0, or a code below 0.
 #[unsafe(no_mangle)]
 pub extern "C" fn i_shape_has_no_spikes_i16(points: &[PointI16]) -> i32
-    ensures answer { TestAnswer (NoSpikes (map point_i16 points.now)) result }
-    ensures unsafe_points { result ≡ unsafe_code ↔ (AreSafe w16 point_i16 points.now → ⊥) }
+    ensures { TestsContour NoSpikes w16 point_i16 points.now result }
 {
     test_contour(points, Spikeless {})
 }
@@ -277,8 +277,7 @@ pub extern "C" fn i_shape_has_no_spikes_i16(points: &[PointI16]) -> i32
 /// Whether at most two points are left without repeated ones, or the way over them nowhere goes back or bends to both sides. Answers 1 or 0, or a code below 0.
 #[unsafe(no_mangle)]
 pub extern "C" fn i_shape_is_convex_i16(points: &[PointI16]) -> i32
-    ensures answer { TestAnswer (Convex (map point_i16 points.now)) result }
-    ensures unsafe_points { result ≡ unsafe_code ↔ (AreSafe w16 point_i16 points.now → ⊥) }
+    ensures { TestsContour Convex w16 point_i16 points.now result }
 {
     test_contour(points, Bulging {})
 }
@@ -286,8 +285,7 @@ pub extern "C" fn i_shape_is_convex_i16(points: &[PointI16]) -> i32
 /// Whether the point (x, y) is inside. Answers 1 or 0, or a code below 0.
 #[unsafe(no_mangle)]
 pub extern "C" fn i_shape_contains_i16(points: &[PointI16], x: i16, y: i16) -> i32
-    ensures answer { TestAnswer (Inside (map point_i16 points.now) (record { x = x; y = y })) result }
-    ensures unsafe_points { result ≡ unsafe_code ↔ ((AreSafe w16 point_i16 points.now × IsSafe w16 (record { x = x; y = y })) → ⊥) }
+    ensures { TestsPoint w16 point_i16 points.now (record { x = x; y = y }) result }
 {
     contains(points, PointI16 { x, y })
 }
@@ -295,8 +293,7 @@ pub extern "C" fn i_shape_contains_i16(points: &[PointI16], x: i16, y: i16) -> i
 /// How often the contour winds about the point (x, y), to the left. Answers that number, or a code below the range of these numbers.
 #[unsafe(no_mangle)]
 pub extern "C" fn i_shape_winding_i16(points: &[PointI16], x: i16, y: i16) -> isize
-    ensures answer { (AreSafe w16 point_i16 points.now × IsSafe w16 (record { x = x; y = y })) → result ≡ winding_of (map point_i16 points.now) (record { x = x; y = y }) }
-    ensures unsafe_points { result ≡ no_winding ↔ ((AreSafe w16 point_i16 points.now × IsSafe w16 (record { x = x; y = y })) → ⊥) }
+    ensures { WindsAbout w16 point_i16 points.now (record { x = x; y = y }) result }
 {
     winding(points, PointI16 { x, y })
 }
@@ -309,9 +306,8 @@ pub extern "C" fn i_shape_windings_i16(
     about: &[PointI16],
     out: &mut [isize],
 ) -> i32
-    ensures answer { WindingsAnswer point_i16 points.now offsets.now about.now out.old out.new result }
-    ensures unfit { result ≡ unfit_code ↔ (CanWind (length points.now) offsets.now (length about.now) (length out.old) → ⊥) }
-    ensures unsafe_points { result ≡ unsafe_code ↔ (CanWind (length points.now) offsets.now (length about.now) (length out.old) × ((AreSafeContours w16 point_i16 points.now offsets.now × AreSafe w16 point_i16 about.now) → ⊥)) }
+    ensures { WindsAboutEach w16 point_i16
+        points.now offsets.now about.now out.old out.new result }
 {
     windings(points, offsets, about, out)
 }

@@ -1,6 +1,6 @@
 //! The calls at 64 bits.
 
-ghost use Rattle.std.specs.Prelude.{◌≡◌, ◌↔◌, ◌<◌, ◌≤◌, length, map, IsTrue};
+ghost use Rattle.std.specs.Prelude.{◌≡◌, ◌↔◌, ◌<◌, length, map, IsTrue};
 ghost use Rattle.std.specs.Int.{int_wrap, w64, w128};
 ghost use Rattle.i_shape.specs.Cleaners.{SimpleAnswer, SpikelessAnswer, DespikeAnswer, KeptAnswer, IsDespikedAlready};
 ghost use Rattle.i_shape.specs.Canonical.{CanonicalAnswer, UnorientedAnswer, KeptEitherWay};
@@ -8,16 +8,14 @@ ghost use Rattle.i_shape.specs.CanonicalShapes.{ListForm};
 ghost use Rattle.i_shape.specs.ShapeAnswers.{ListClean};
 ghost use Rattle.i_shape.specs.Contour.{IsSimple, Sublist, RotatedSublist, SublistEitherWay};
 ghost use Rattle.i_shape.specs.Convex.{Convex, NoSpikes};
-ghost use Rattle.i_shape.specs.Edges.{Inside, shoelace};
-ghost use Rattle.i_shape.specs.IntPoint.{IsSafe};
+ghost use Rattle.i_shape.specs.Edges.{shoelace};
 ghost use Rattle.i_shape_c.specs.Points.{point_i64};
-ghost use Rattle.i_shape_c.specs.Cleaned.{AreSafe, unsafe_code, unfit_code, CleansContour};
-ghost use Rattle.i_shape_c.specs.Batch.{AreSafeContours, CleansContours};
-ghost use Rattle.i_shape_c.specs.Tests.{IsTold, TestAnswer};
+ghost use Rattle.i_shape_c.specs.Cleaned.{AreSafe, CleansContour};
+ghost use Rattle.i_shape_c.specs.Batch.{CleansContours};
+ghost use Rattle.i_shape_c.specs.Tests.{IsTold, TestsContour, TestsPoint};
 ghost use Rattle.i_shape_c.specs.Areas.{AreHalves};
-ghost use Rattle.i_shape.specs.Winding.{winding as winding_of};
-ghost use Rattle.i_shape_c.specs.Windings.{no_winding, CanWind, WindingsAnswer};
 ghost use Rattle.i_shape_c.specs.Polygons.{CleansPolygons};
+ghost use Rattle.i_shape_c.specs.Windings.{WindsAbout, WindsAboutEach};
 
 use crate::area::{Halves, area_two};
 use crate::batch::clean_contours;
@@ -96,7 +94,8 @@ pub extern "C" fn i_shape_simplify_contours_i64(
     out_points: &mut [PointI64],
     out_offsets: &mut [usize],
 ) -> isize
-    ensures { CleansContours IsSimple SimpleAnswer KeptAnswer w64 point_i64 points.now offsets.now
+    ensures { CleansContours IsSimple SimpleAnswer KeptAnswer w64 point_i64
+        points.now offsets.now
         out_points.old out_points.new out_offsets.old out_offsets.new result }
 {
     clean_contours::<PointI64, ContourSimplifier>(alloc, points, offsets, out_points, out_offsets)
@@ -111,7 +110,8 @@ pub extern "C" fn i_shape_despike_contours_i64(
     out_points: &mut [PointI64],
     out_offsets: &mut [usize],
 ) -> isize
-    ensures { CleansContours IsDespikedAlready SpikelessAnswer KeptAnswer w64 point_i64 points.now offsets.now
+    ensures { CleansContours IsDespikedAlready SpikelessAnswer KeptAnswer w64 point_i64
+        points.now offsets.now
         out_points.old out_points.new out_offsets.old out_offsets.new result }
 {
     clean_contours::<PointI64, ContourDeSpiker>(alloc, points, offsets, out_points, out_offsets)
@@ -126,7 +126,8 @@ pub extern "C" fn i_shape_canonical_contours_i64(
     out_points: &mut [PointI64],
     out_offsets: &mut [usize],
 ) -> isize
-    ensures { CleansContours IsSimple CanonicalAnswer KeptAnswer w64 point_i64 points.now offsets.now
+    ensures { CleansContours IsSimple CanonicalAnswer KeptAnswer w64 point_i64
+        points.now offsets.now
         out_points.old out_points.new out_offsets.old out_offsets.new result }
 {
     clean_contours::<PointI64, Canonicalizer>(alloc, points, offsets, out_points, out_offsets)
@@ -141,7 +142,8 @@ pub extern "C" fn i_shape_canonical_unoriented_contours_i64(
     out_points: &mut [PointI64],
     out_offsets: &mut [usize],
 ) -> isize
-    ensures { CleansContours IsSimple UnorientedAnswer KeptEitherWay w64 point_i64 points.now offsets.now
+    ensures { CleansContours IsSimple UnorientedAnswer KeptEitherWay w64 point_i64
+        points.now offsets.now
         out_points.old out_points.new out_offsets.old out_offsets.new result }
 {
     clean_contours::<PointI64, UnorientedCanonicalizer>(
@@ -260,8 +262,7 @@ pub extern "C" fn i_shape_canonical_unoriented_shapes_i64(
 /// Whether there are at least three points, and none of them is a zero turn. Answers 1 or 0, or a code below 0.
 #[unsafe(no_mangle)]
 pub extern "C" fn i_shape_is_simple_i64(points: &[PointI64]) -> i32
-    ensures answer { TestAnswer (IsSimple (map point_i64 points.now)) result }
-    ensures unsafe_points { result ≡ unsafe_code ↔ (AreSafe w64 point_i64 points.now → ⊥) }
+    ensures { TestsContour IsSimple w64 point_i64 points.now result }
 {
     test_contour(points, Simple {})
 }
@@ -269,8 +270,7 @@ pub extern "C" fn i_shape_is_simple_i64(points: &[PointI64]) -> i32
 /// Whether at least three points are left without repeated ones, and the way over them nowhere goes back. Answers 1 or 0, or a code below 0.
 #[unsafe(no_mangle)]
 pub extern "C" fn i_shape_has_no_spikes_i64(points: &[PointI64]) -> i32
-    ensures answer { TestAnswer (NoSpikes (map point_i64 points.now)) result }
-    ensures unsafe_points { result ≡ unsafe_code ↔ (AreSafe w64 point_i64 points.now → ⊥) }
+    ensures { TestsContour NoSpikes w64 point_i64 points.now result }
 {
     test_contour(points, Spikeless {})
 }
@@ -278,8 +278,7 @@ pub extern "C" fn i_shape_has_no_spikes_i64(points: &[PointI64]) -> i32
 /// Whether at most two points are left without repeated ones, or the way over them nowhere goes back or bends to both sides. Answers 1 or 0, or a code below 0.
 #[unsafe(no_mangle)]
 pub extern "C" fn i_shape_is_convex_i64(points: &[PointI64]) -> i32
-    ensures answer { TestAnswer (Convex (map point_i64 points.now)) result }
-    ensures unsafe_points { result ≡ unsafe_code ↔ (AreSafe w64 point_i64 points.now → ⊥) }
+    ensures { TestsContour Convex w64 point_i64 points.now result }
 {
     test_contour(points, Bulging {})
 }
@@ -287,8 +286,7 @@ pub extern "C" fn i_shape_is_convex_i64(points: &[PointI64]) -> i32
 /// Whether the point (x, y) is inside. Answers 1 or 0, or a code below 0.
 #[unsafe(no_mangle)]
 pub extern "C" fn i_shape_contains_i64(points: &[PointI64], x: i64, y: i64) -> i32
-    ensures answer { TestAnswer (Inside (map point_i64 points.now) (record { x = x; y = y })) result }
-    ensures unsafe_points { result ≡ unsafe_code ↔ ((AreSafe w64 point_i64 points.now × IsSafe w64 (record { x = x; y = y })) → ⊥) }
+    ensures { TestsPoint w64 point_i64 points.now (record { x = x; y = y }) result }
 {
     contains(points, PointI64 { x, y })
 }
@@ -296,8 +294,7 @@ pub extern "C" fn i_shape_contains_i64(points: &[PointI64], x: i64, y: i64) -> i
 /// How often the contour winds about the point (x, y), to the left. Answers that number, or a code below the range of these numbers.
 #[unsafe(no_mangle)]
 pub extern "C" fn i_shape_winding_i64(points: &[PointI64], x: i64, y: i64) -> isize
-    ensures answer { (AreSafe w64 point_i64 points.now × IsSafe w64 (record { x = x; y = y })) → result ≡ winding_of (map point_i64 points.now) (record { x = x; y = y }) }
-    ensures unsafe_points { result ≡ no_winding ↔ ((AreSafe w64 point_i64 points.now × IsSafe w64 (record { x = x; y = y })) → ⊥) }
+    ensures { WindsAbout w64 point_i64 points.now (record { x = x; y = y }) result }
 {
     winding(points, PointI64 { x, y })
 }
@@ -310,9 +307,8 @@ pub extern "C" fn i_shape_windings_i64(
     about: &[PointI64],
     out: &mut [isize],
 ) -> i32
-    ensures answer { WindingsAnswer point_i64 points.now offsets.now about.now out.old out.new result }
-    ensures unfit { result ≡ unfit_code ↔ (CanWind (length points.now) offsets.now (length about.now) (length out.old) → ⊥) }
-    ensures unsafe_points { result ≡ unsafe_code ↔ (CanWind (length points.now) offsets.now (length about.now) (length out.old) × ((AreSafeContours w64 point_i64 points.now offsets.now × AreSafe w64 point_i64 about.now) → ⊥)) }
+    ensures { WindsAboutEach w64 point_i64
+        points.now offsets.now about.now out.old out.new result }
 {
     windings(points, offsets, about, out)
 }
@@ -329,7 +325,8 @@ pub extern "C" fn i_shape_is_safe_i64(points: &[PointI64]) -> i32
 #[unsafe(no_mangle)]
 pub extern "C" fn i_shape_area_two_i64(points: &[PointI64], area: &mut Halves) -> bool
     ensures some { IsTrue result ↔ (0 < length points.now) }
-    ensures area { IsTrue result → AreHalves (int_wrap w128 (shoelace (map point_i64 points.now))) area.new }
+    ensures area { IsTrue result → AreHalves (int_wrap w128 (shoelace (map point_i64 points.now)))
+        area.new }
     ensures none { (IsTrue result → ⊥) → area.new ≡ area.old }
 {
     let Some(twice) = area_two(points) else {

@@ -66,7 +66,9 @@ impl IntNumber for i16 {
         requires d_safe { IsSafe w16 (point_of (λ x. x) d) }
         requires e_safe { IsSafe w16 (point_of (λ x. x) e) }
         requires f_safe { IsSafe w16 (point_of (λ x. x) f) }
-        ensures { IsTrue result ↔ HasZeroTurn (point_of (λ x. x) a) (point_of (λ x. x) b) (point_of (λ x. x) c) (point_of (λ x. x) d) (point_of (λ x. x) e) (point_of (λ x. x) f) }
+        ensures { IsTrue result ↔ HasZeroTurn (point_of (λ x. x) a)
+            (point_of (λ x. x) b) (point_of (λ x. x) c)
+            (point_of (λ x. x) d) (point_of (λ x. x) e) (point_of (λ x. x) f) }
     {
         has_zero_turn_i16(a, b, c, d, e, f)
     }
@@ -149,7 +151,9 @@ impl IntNumber for i32 {
         requires d_safe { IsSafe w32 (point_of (λ x. x) d) }
         requires e_safe { IsSafe w32 (point_of (λ x. x) e) }
         requires f_safe { IsSafe w32 (point_of (λ x. x) f) }
-        ensures { IsTrue result ↔ HasZeroTurn (point_of (λ x. x) a) (point_of (λ x. x) b) (point_of (λ x. x) c) (point_of (λ x. x) d) (point_of (λ x. x) e) (point_of (λ x. x) f) }
+        ensures { IsTrue result ↔ HasZeroTurn (point_of (λ x. x) a)
+            (point_of (λ x. x) b) (point_of (λ x. x) c)
+            (point_of (λ x. x) d) (point_of (λ x. x) e) (point_of (λ x. x) f) }
     {
         has_zero_turn_i32(a, b, c, d, e, f)
     }
@@ -234,7 +238,9 @@ impl IntNumber for i64 {
         requires d_safe { IsSafe w64 (point_of (λ x. x) d) }
         requires e_safe { IsSafe w64 (point_of (λ x. x) e) }
         requires f_safe { IsSafe w64 (point_of (λ x. x) f) }
-        ensures { IsTrue result ↔ HasZeroTurn (point_of (λ x. x) a) (point_of (λ x. x) b) (point_of (λ x. x) c) (point_of (λ x. x) d) (point_of (λ x. x) e) (point_of (λ x. x) f) }
+        ensures { IsTrue result ↔ HasZeroTurn (point_of (λ x. x) a)
+            (point_of (λ x. x) b) (point_of (λ x. x) c)
+            (point_of (λ x. x) d) (point_of (λ x. x) e) (point_of (λ x. x) f) }
     {
         has_zero_turn_i64(a, b, c, d, e, f)
     }

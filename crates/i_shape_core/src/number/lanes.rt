@@ -22,7 +22,8 @@ fn vectors_of_i16(
     requires c_safe { IsSafe w16 (point_of (λ z. z) c) }
     requires d_safe { IsSafe w16 (point_of (λ z. z) d) }
     requires e_safe { IsSafe w16 (point_of (λ z. z) e) }
-    ensures { result ≡ (b.x -ℤ a.x) ∷ (b.y -ℤ a.y) ∷ (c.x -ℤ b.x) ∷ (c.y -ℤ b.y) ∷ (d.x -ℤ c.x) ∷ (d.y -ℤ c.y) ∷ (e.x -ℤ d.x) ∷ (e.y -ℤ d.y) ∷ [] }
+    ensures { result ≡ (b.x -ℤ a.x) ∷ (b.y -ℤ a.y) ∷ (c.x -ℤ b.x)
+        ∷ (c.y -ℤ b.y) ∷ (d.x -ℤ c.x) ∷ (d.y -ℤ c.y) ∷ (e.x -ℤ d.x) ∷ (e.y -ℤ d.y) ∷ [] }
 {
     let from = i16x8::from_array([a.x, a.y, b.x, b.y, c.x, c.y, d.x, d.y]);
     let to = i16x8::from_array([b.x, b.y, c.x, c.y, d.x, d.y, e.x, e.y]);
@@ -43,7 +44,8 @@ fn vectors_of_i32(
     requires c_safe { IsSafe w32 (point_of (λ z. z) c) }
     requires d_safe { IsSafe w32 (point_of (λ z. z) d) }
     requires e_safe { IsSafe w32 (point_of (λ z. z) e) }
-    ensures { result ≡ (b.x -ℤ a.x) ∷ (b.y -ℤ a.y) ∷ (c.x -ℤ b.x) ∷ (c.y -ℤ b.y) ∷ (d.x -ℤ c.x) ∷ (d.y -ℤ c.y) ∷ (e.x -ℤ d.x) ∷ (e.y -ℤ d.y) ∷ [] }
+    ensures { result ≡ (b.x -ℤ a.x) ∷ (b.y -ℤ a.y) ∷ (c.x -ℤ b.x)
+        ∷ (c.y -ℤ b.y) ∷ (d.x -ℤ c.x) ∷ (d.y -ℤ c.y) ∷ (e.x -ℤ d.x) ∷ (e.y -ℤ d.y) ∷ [] }
 {
     let from = i32x8::from_array([a.x, a.y, b.x, b.y, c.x, c.y, d.x, d.y]);
     let to = i32x8::from_array([b.x, b.y, c.x, c.y, d.x, d.y, e.x, e.y]);
@@ -66,7 +68,9 @@ pub(super) fn has_zero_turn_i16(
     requires d_safe { IsSafe w16 (point_of (λ z. z) d) }
     requires e_safe { IsSafe w16 (point_of (λ z. z) e) }
     requires f_safe { IsSafe w16 (point_of (λ z. z) f) }
-    ensures { IsTrue result ↔ HasZeroTurn (point_of (λ z. z) a) (point_of (λ z. z) b) (point_of (λ z. z) c) (point_of (λ z. z) d) (point_of (λ z. z) e) (point_of (λ z. z) f) }
+    ensures { IsTrue result ↔ HasZeroTurn (point_of (λ z. z) a)
+        (point_of (λ z. z) b) (point_of (λ z. z) c) (point_of (λ z. z) d)
+        (point_of (λ z. z) e) (point_of (λ z. z) f) }
 {
     let first = vectors_of_i16(a, b, c, d, e);
     let second = vectors_of_i16(b, c, d, e, f);
@@ -95,7 +99,9 @@ pub(super) fn has_zero_turn_i32(
     requires d_safe { IsSafe w32 (point_of (λ z. z) d) }
     requires e_safe { IsSafe w32 (point_of (λ z. z) e) }
     requires f_safe { IsSafe w32 (point_of (λ z. z) f) }
-    ensures { IsTrue result ↔ HasZeroTurn (point_of (λ z. z) a) (point_of (λ z. z) b) (point_of (λ z. z) c) (point_of (λ z. z) d) (point_of (λ z. z) e) (point_of (λ z. z) f) }
+    ensures { IsTrue result ↔ HasZeroTurn (point_of (λ z. z) a)
+        (point_of (λ z. z) b) (point_of (λ z. z) c) (point_of (λ z. z) d)
+        (point_of (λ z. z) e) (point_of (λ z. z) f) }
 {
     let first = vectors_of_i32(a, b, c, d, e);
     let second = vectors_of_i32(b, c, d, e, f);

@@ -25,7 +25,9 @@ pub(super) fn has_zero_turn_i64(
     requires d_safe { IsSafe w64 (point_of (λ z. z) d) }
     requires e_safe { IsSafe w64 (point_of (λ z. z) e) }
     requires f_safe { IsSafe w64 (point_of (λ z. z) f) }
-    ensures { IsTrue result ↔ HasZeroTurn (point_of (λ z. z) a) (point_of (λ z. z) b) (point_of (λ z. z) c) (point_of (λ z. z) d) (point_of (λ z. z) e) (point_of (λ z. z) f) }
+    ensures { IsTrue result ↔ HasZeroTurn (point_of (λ z. z) a)
+        (point_of (λ z. z) b) (point_of (λ z. z) c) (point_of (λ z. z) d)
+        (point_of (λ z. z) e) (point_of (λ z. z) f) }
 {
     let may_have = may_be_zero(a, b, c)
         | may_be_zero(b, c, d)
@@ -43,7 +45,8 @@ fn may_be_zero(a: IntPoint<i64>, b: IntPoint<i64>, c: IntPoint<i64>) -> bool
     requires a_safe { IsSafe w64 (point_of (λ z. z) a) }
     requires b_safe { IsSafe w64 (point_of (λ z. z) b) }
     requires c_safe { IsSafe w64 (point_of (λ z. z) c) }
-    ensures { IsZeroTurn (point_of (λ z. z) a) (point_of (λ z. z) b) (point_of (λ z. z) c) → IsTrue result }
+    ensures { IsZeroTurn (point_of (λ z. z) a) (point_of (λ z. z) b) (point_of (λ z. z) c)
+        → IsTrue result }
 {
     are_wrapped_products_equal::<i64>(b.x - a.x, c.y - b.y, b.y - a.y, c.x - b.x)
 }
@@ -53,7 +56,8 @@ fn is_zero(a: IntPoint<i64>, b: IntPoint<i64>, c: IntPoint<i64>) -> bool
     requires a_safe { IsSafe w64 (point_of (λ z. z) a) }
     requires b_safe { IsSafe w64 (point_of (λ z. z) b) }
     requires c_safe { IsSafe w64 (point_of (λ z. z) c) }
-    ensures { IsTrue result ↔ IsZeroTurn (point_of (λ z. z) a) (point_of (λ z. z) b) (point_of (λ z. z) c) }
+    ensures { IsTrue result ↔ IsZeroTurn (point_of (λ z. z) a)
+        (point_of (λ z. z) b) (point_of (λ z. z) c) }
 {
     are_wrapped_products_equal(
         (b.x - a.x) as i128,

@@ -8,7 +8,8 @@ use crate::number::WideIntNumber;
 
 /// Whether `a` times `b` is `c` times `d`, as the type wraps them.
 pub(super) fn are_wrapped_products_equal<W: WideIntNumber>(a: W, b: W, c: W, d: W) -> bool
-    ensures { IsTrue result ↔ (int_wrap W.width (W.value a *ℤ W.value b) ≡ int_wrap W.width (W.value c *ℤ W.value d)) }
+    ensures { IsTrue result
+        ↔ (int_wrap W.width (W.value a *ℤ W.value b) ≡ int_wrap W.width (W.value c *ℤ W.value d)) }
 {
     a.wrapping_mul(b) == c.wrapping_mul(d)
 }

@@ -1,14 +1,15 @@
 //! The cleaning inside a flat buffer of contours.
 
-ghost use Rattle.std.specs.Prelude.{◌≡◌, ◌<◌, ◌↔◌, true, false, map, length, IfOk, OnOk, OnErr, IsErrOf};
+ghost use Rattle.std.specs.Prelude.{◌<◌, ◌↔◌, length, IfOk, IsErrOf};
 ghost use Rattle.std.specs.List.{All, sum_by};
-ghost use Rattle.i_shape_core.specs.IntPoint.{contour_of, IsSafe};
+ghost use Rattle.i_shape_core.specs.IntPoint.{IsSafe};
 ghost use Rattle.i_shape_core.specs.Contour.{IsSimple};
 ghost use Rattle.i_shape_core.specs.Convex.{NoSpikes};
-ghost use Rattle.i_shape_core.specs.Cleaners.{DespikeAnswer};
-ghost use Rattle.i_shape.specs.ShapeAnswers.{Survivors, AreKept};
+ghost use Rattle.i_shape_core.specs.Cleaners.{DespikeAnswer, SimpleAnswer};
+ghost use Rattle.i_shape.specs.ShapeAnswers.{Survivors};
 ghost use Rattle.i_shape.specs.Flat.{InOrder, slices};
-ghost use Rattle.i_shape.specs.Buffers.{HoldsContours, Compact, contours_in, range_len};
+ghost use Rattle.i_shape.specs.Buffers.{HoldsContours, contours_in, range_len, CanReadContours, read_contours};
+ghost use Rattle.i_shape.specs.CleanedBuffers.{CleansBuffer};
 
 mod parts;
 mod shapes;
@@ -30,16 +31,10 @@ impl<T: IntNumber> FlatContoursBuffer<T> {
     /// together, tested before any memory is taken; else `OutOfMemory`. After an error the lists are as they were.
     /// Whatever it answers, the contours can be read still, have safe points, and keep double area and containment together.
     pub fn simplify_contours(&mut self) -> Result<bool, ShapeError>
-        requires readable { All (InOrder (length self.old.points.items)) self.old.ranges.items }
+        requires readable { CanReadContours self.old }
         requires safe { All (All (IsSafe T.width)) (contours_in T.value self.old) }
-        ensures compact { OnOk result (Compact (contours_in T.value self.old) (contours_in T.value self.new)) }
-        ensures clean { result ≡ Ok false ↔ All IsSimple (contours_in T.value self.old) }
-        ensures kept { AreKept (contours_in T.value self.old) (contours_in T.value self.new) }
-        ensures unchanged { result ≡ Ok false → self.new ≡ self.old }
-        ensures end_to_end { result ≡ Ok true → HoldsContours self.new (slices self.new.points.items self.new.ranges.items) }
-        ensures readable { All (InOrder (length self.new.points.items)) self.new.ranges.items }
-        ensures safe { All (All (IsSafe T.width)) (contours_in T.value self.new) }
-        ensures err { OnErr result (self.new ≡ self.old) }
+        ensures gives { CleansBuffer IsSimple SimpleAnswer
+            T.width T.value self.old self.new result }
         ensures too_many { IsErrOf result ShapeError.TooManyPoints
             ↔ ((usize.MAX < sum_by range_len self.old.ranges.items)
             × (All IsSimple (contours_in T.value self.old) → ⊥)) }
@@ -50,16 +45,10 @@ impl<T: IntNumber> FlatContoursBuffer<T> {
     /// Removes spikes from each contour that has some, and contours that collapse, in the same way. Answers whether any had to be
     /// cleaned.
     pub fn remove_spikes(&mut self) -> Result<bool, ShapeError>
-        requires readable { All (InOrder (length self.old.points.items)) self.old.ranges.items }
+        requires readable { CanReadContours self.old }
         requires safe { All (All (IsSafe T.width)) (contours_in T.value self.old) }
-        ensures cleaned { OnOk result (Survivors DespikeAnswer (contours_in T.value self.old) (contours_in T.value self.new)) }
-        ensures clean { result ≡ Ok false ↔ All NoSpikes (contours_in T.value self.old) }
-        ensures kept { AreKept (contours_in T.value self.old) (contours_in T.value self.new) }
-        ensures unchanged { result ≡ Ok false → self.new ≡ self.old }
-        ensures end_to_end { result ≡ Ok true → HoldsContours self.new (slices self.new.points.items self.new.ranges.items) }
-        ensures readable { All (InOrder (length self.new.points.items)) self.new.ranges.items }
-        ensures safe { All (All (IsSafe T.width)) (contours_in T.value self.new) }
-        ensures err { OnErr result (self.new ≡ self.old) }
+        ensures gives { CleansBuffer NoSpikes DespikeAnswer
+            T.width T.value self.old self.new result }
         ensures too_many { IsErrOf result ShapeError.TooManyPoints
             ↔ ((usize.MAX < sum_by range_len self.old.ranges.items)
             × (All NoSpikes (contours_in T.value self.old) → ⊥)) }
@@ -72,16 +61,9 @@ impl<T: IntNumber> FlatContoursBuffer<T> {
 fn clean_contours<T: IntNumber, C: InPlaceCleaner>(
     buffer: &mut FlatContoursBuffer<T>,
 ) -> Result<bool, ShapeError>
-    requires readable { All (InOrder (length buffer.old.points.items)) buffer.old.ranges.items }
+    requires readable { CanReadContours buffer.old }
     requires safe { All (All (IsSafe T.width)) (contours_in T.value buffer.old) }
-    ensures cleaned { OnOk result (Survivors C.answers (contours_in T.value buffer.old) (contours_in T.value buffer.new)) }
-    ensures clean { result ≡ Ok false ↔ All C.clean (contours_in T.value buffer.old) }
-    ensures kept { AreKept (contours_in T.value buffer.old) (contours_in T.value buffer.new) }
-    ensures unchanged { result ≡ Ok false → buffer.new ≡ buffer.old }
-    ensures end_to_end { result ≡ Ok true → HoldsContours buffer.new (slices buffer.new.points.items buffer.new.ranges.items) }
-    ensures readable { All (InOrder (length buffer.new.points.items)) buffer.new.ranges.items }
-    ensures safe { All (All (IsSafe T.width)) (contours_in T.value buffer.new) }
-    ensures err { OnErr result (buffer.new ≡ buffer.old) }
+    ensures gives { CleansBuffer C.clean C.answers T.width T.value buffer.old buffer.new result }
     ensures too_many { IsErrOf result ShapeError.TooManyPoints
         ↔ ((usize.MAX < sum_by range_len buffer.old.ranges.items)
         × (All C.clean (contours_in T.value buffer.old) → ⊥)) }
@@ -101,10 +83,14 @@ fn cleaned_parts<T: IntNumber, C: ContourCleaner>(
     ranges: &[Range<usize>],
 ) -> Result<FlatContoursBuffer<T>, ShapeError>
     requires readable { All (InOrder (length points.now)) ranges.now }
-    requires safe { All (All (IsSafe T.width)) (map (contour_of T.value) (slices points.now ranges.now)) }
-    ensures cleaned { IfOk result (λ kept. Survivors C.answers (map (contour_of T.value) (slices points.now ranges.now)) (contours_in T.value kept)) }
-    ensures end_to_end { IfOk result (λ kept. HoldsContours kept (slices kept.points.items kept.ranges.items)) }
-    ensures too_many { IsErrOf result ShapeError.TooManyPoints ↔ (usize.MAX < sum_by range_len ranges.now) }
+    requires safe { All (All (IsSafe T.width)) (read_contours T.value points.now ranges.now) }
+    ensures cleaned { IfOk result
+        (λ kept. Survivors C.answers (read_contours T.value points.now ranges.now)
+        (contours_in T.value kept)) }
+    ensures end_to_end { IfOk result
+        (λ kept. HoldsContours kept (slices kept.points.items kept.ranges.items)) }
+    ensures too_many { IsErrOf result ShapeError.TooManyPoints
+        ↔ (usize.MAX < sum_by range_len ranges.now) }
 {
     let count = checked_total(ranges).ok_or(ShapeError::TooManyPoints)?;
     let mut kept = FlatContoursBuffer::new(alloc);

@@ -1,11 +1,10 @@
 //! The flat buffer whose ranges name contours.
 
 ghost use Rattle.std.specs.Prelude.{◌≡◌, ◌+◌, ◌<◌, ◌≤◌, ◌++◌, ◌∷◌, ◌↔◌, ◌⊎◌, [], length, vec_len, vec_capacity, IfOk, OnOk, OnErr, IsOkUnless, IsErrOf, IsTrue};
-ghost use Rattle.std.specs.List.{All};
 ghost use Rattle.std.specs.Borrow.{sem};
 ghost use Rattle.i_shape_source.specs.Paths.{paths_of_shape, concatenated, paths_of_shapes};
 ghost use Rattle.i_shape.specs.Flat.{InOrder, part_of, slices};
-ghost use Rattle.i_shape.specs.Buffers.{HoldsContours, SameLists, CanReadFirst, first_contour};
+ghost use Rattle.i_shape.specs.Buffers.{HoldsContours, SameLists, CanReadFirst, first_contour, CanReadContours};
 ghost use Rattle.i_shape.specs.Lending.{LendsFirst, first_start};
 
 use crate::ShapeError;
@@ -81,7 +80,8 @@ impl<T: IntNumber> FlatContoursBuffer<T> {
 
     /// Whether `as_first_contour` may be called: there is no range, or the first is in order and within the points.
     pub fn can_read_first(&self) -> bool
-        ensures { IsTrue result ↔ CanReadFirst self.now.ranges.items (length self.now.points.items) }
+        ensures { IsTrue result ↔ CanReadFirst self.now.ranges.items
+            (length self.now.points.items) }
     {
         match self.ranges.first() {
             None => true,
@@ -91,7 +91,7 @@ impl<T: IntNumber> FlatContoursBuffer<T> {
 
     /// Whether `to_contours` may be called: each range is in order and within the points.
     pub fn can_read_contours(&self) -> bool
-        ensures { IsTrue result ↔ All (InOrder (length self.now.points.items)) self.now.ranges.items }
+        ensures { IsTrue result ↔ CanReadContours self.now }
     {
         all_in_order(self.ranges.as_slice(), self.points.len())
     }
@@ -104,7 +104,8 @@ impl<T: IntNumber> FlatContoursBuffer<T> {
     pub fn clear_and_reserve(&mut self, points: usize, contours: usize) -> Result<(), ShapeError>
         ensures ok { OnOk result (HoldsContours self.new []) }
         ensures err { OnErr result (SameLists self.old self.new) }
-        ensures room { OnOk result ((points ≤ vec_capacity self.new.points) × (contours ≤ vec_capacity self.new.ranges)) }
+        ensures room { OnOk result ((points ≤ vec_capacity self.new.points)
+            × (contours ≤ vec_capacity self.new.ranges)) }
         ensures memory { IsOkUnless result ShapeError.OutOfMemory }
     {
         reserve_total(&mut self.points, points)?;
@@ -130,7 +131,8 @@ impl<T: IntNumber> FlatContoursBuffer<T> {
     pub fn set_with_shape(&mut self, shape: &[IntContour<T>]) -> Result<(), ShapeError>
         ensures ok { OnOk result (HoldsContours self.new (paths_of_shape shape.now)) }
         ensures err { OnErr result (SameLists self.old self.new) }
-        ensures too_many { IsErrOf result ShapeError.TooManyPoints ↔ (usize.MAX < length (concatenated (paths_of_shape shape.now))) }
+        ensures too_many { IsErrOf result ShapeError.TooManyPoints
+            ↔ (usize.MAX < length (concatenated (paths_of_shape shape.now))) }
     {
         let count = checked_points_count(shape).ok_or(ShapeError::TooManyPoints)?;
         self.clear_and_reserve(count, shape.len())?;
@@ -156,7 +158,8 @@ impl<T: IntNumber> FlatContoursBuffer<T> {
     /// Appends the points of a contour, and their range. `TooManyPoints` where there would be more than `usize::MAX` points,
     /// tested first; else `OutOfMemory`. After an error the lists are as they were.
     pub fn add_contour(&mut self, contour: &[IntPoint<T>]) -> Result<(), ShapeError>
-        ensures points { OnOk result (self.new.points.items ≡ self.old.points.items ++ contour.now) }
+        ensures points { OnOk result (self.new.points.items
+            ≡ self.old.points.items ++ contour.now) }
         ensures ranges { let start = vec_len self.old.points in
             OnOk result (self.new.ranges.items
             ≡ self.old.ranges.items ++ record { start = start; end = start + length contour.now } ∷ []) }
@@ -178,8 +181,9 @@ impl<T: IntNumber> FlatContoursBuffer<T> {
 impl<T: IntNumber> FlatContoursBuffer<T> {
     /// A copy of each contour, in the order of the ranges. The only error is `OutOfMemory`.
     pub fn to_contours(&self) -> Result<IntShape<T>, ShapeError>
-        requires { All (InOrder (length self.now.points.items)) self.now.ranges.items }
-        ensures ok { IfOk result (λ contours. paths_of_shape contours.items ≡ slices self.now.points.items self.now.ranges.items) }
+        requires { CanReadContours self.now }
+        ensures ok { IfOk result (λ contours. paths_of_shape contours.items
+            ≡ slices self.now.points.items self.now.ranges.items) }
         ensures memory { IsOkUnless result ShapeError.OutOfMemory }
     {
         copied_parts(
@@ -213,7 +217,8 @@ impl<T: IntNumber> FlatContoursBuffer<T> {
         requires { CanReadFirst self.now.ranges.items (length self.now.points.items) }
         ensures in_order { InOrder (length self.now.points.items) result }
         ensures start { result.start ≡ first_start self.now.ranges.items }
-        ensures part { part_of self.now.points.items result ≡ first_contour self.now.points.items self.now.ranges.items }
+        ensures part { part_of self.now.points.items result
+            ≡ first_contour self.now.points.items self.now.ranges.items }
     {
         match self.ranges.first() {
             None => 0..self.points.len(),

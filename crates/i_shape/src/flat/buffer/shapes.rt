@@ -3,7 +3,7 @@
 ghost use Rattle.std.specs.Prelude.{◌≡◌, ◌+◌, ◌<◌, ◌≤◌, ◌∷◌, ◌↔◌, ◌⊎◌, [], length, vec_len, vec_capacity, IfOk, OnOk, OnErr, IsOkUnless, IsErrOf, IsTrue};
 ghost use Rattle.std.specs.List.{All};
 ghost use Rattle.i_shape_source.specs.Paths.{paths_of_shape, shape_lists, concatenated, paths_of_shapes};
-ghost use Rattle.i_shape.specs.Flat.{InOrder, slices};
+ghost use Rattle.i_shape.specs.Flat.{InOrder, slices, shapes};
 ghost use Rattle.i_shape.specs.Buffers.{HoldsShapes, SameShapeLists, AddsShape, CanReadShapes, shapes_in};
 
 use crate::ShapeError;
@@ -51,7 +51,9 @@ impl<T: IntNumber> FlatShapesBuffer<T> {
         shapes: usize,
     ) -> Result<Self, ShapeError>
         ensures ok { IfOk result (λ buffer. HoldsShapes buffer []) }
-        ensures room { IfOk result (λ buffer. (points ≤ vec_capacity buffer.points) × (contours ≤ vec_capacity buffer.contour_ranges) × (shapes ≤ vec_capacity buffer.shape_ranges)) }
+        ensures room { IfOk result (λ buffer. (points ≤ vec_capacity buffer.points)
+            × (contours ≤ vec_capacity buffer.contour_ranges)
+            × (shapes ≤ vec_capacity buffer.shape_ranges)) }
         ensures memory { IsOkUnless result ShapeError.OutOfMemory }
     {
         Ok(FlatShapesBuffer {
@@ -83,7 +85,8 @@ impl<T: IntNumber> FlatShapesBuffer<T> {
 
     /// Whether `to_contours` may be called: each contour range is in order and within the points.
     pub fn can_read_contours(&self) -> bool
-        ensures { IsTrue result ↔ All (InOrder (length self.now.points.items)) self.now.contour_ranges.items }
+        ensures { IsTrue result ↔ All (InOrder (length self.now.points.items))
+            self.now.contour_ranges.items }
     {
         all_in_order(self.contour_ranges.as_slice(), self.points.len())
     }
@@ -111,7 +114,9 @@ impl<T: IntNumber> FlatShapesBuffer<T> {
     ) -> Result<(), ShapeError>
         ensures ok { OnOk result (HoldsShapes self.new []) }
         ensures err { OnErr result (SameShapeLists self.old self.new) }
-        ensures room { OnOk result ((points ≤ vec_capacity self.new.points) × (contours ≤ vec_capacity self.new.contour_ranges) × (shapes ≤ vec_capacity self.new.shape_ranges)) }
+        ensures room { OnOk result ((points ≤ vec_capacity self.new.points)
+            × (contours ≤ vec_capacity self.new.contour_ranges)
+            × (shapes ≤ vec_capacity self.new.shape_ranges)) }
         ensures memory { IsOkUnless result ShapeError.OutOfMemory }
     {
         reserve_total(&mut self.points, points)?;
@@ -141,7 +146,8 @@ impl<T: IntNumber> FlatShapesBuffer<T> {
     pub fn set_with_shape(&mut self, shape: &[IntContour<T>]) -> Result<(), ShapeError>
         ensures ok { OnOk result (HoldsShapes self.new (paths_of_shape shape.now ∷ [])) }
         ensures err { OnErr result (SameShapeLists self.old self.new) }
-        ensures too_many { IsErrOf result ShapeError.TooManyPoints ↔ (usize.MAX < length (concatenated (paths_of_shape shape.now))) }
+        ensures too_many { IsErrOf result ShapeError.TooManyPoints
+            ↔ (usize.MAX < length (concatenated (paths_of_shape shape.now))) }
     {
         let count = checked_points_count(shape).ok_or(ShapeError::TooManyPoints)?;
         self.clear_and_reserve(count, shape.len(), 1)?;
@@ -207,7 +213,8 @@ impl<T: IntNumber> FlatShapesBuffer<T> {
     /// A copy of each contour, in the order of the contour ranges. The only error is `OutOfMemory`.
     pub fn to_contours(&self) -> Result<IntShape<T>, ShapeError>
         requires { All (InOrder (length self.now.points.items)) self.now.contour_ranges.items }
-        ensures ok { IfOk result (λ contours. paths_of_shape contours.items ≡ slices self.now.points.items self.now.contour_ranges.items) }
+        ensures ok { IfOk result (λ contours. paths_of_shape contours.items
+            ≡ slices self.now.points.items self.now.contour_ranges.items) }
         ensures memory { IsOkUnless result ShapeError.OutOfMemory }
     {
         copied_parts(

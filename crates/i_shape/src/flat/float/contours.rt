@@ -4,7 +4,7 @@ ghost use Rattle.std.specs.Prelude.{◌≡◌, ◌+◌, ◌<◌, ◌≤◌, ◌+
 ghost use Rattle.std.specs.List.{All};
 ghost use Rattle.std.specs.Iterator.{Drains, IsFinite};
 ghost use Rattle.i_shape_source.specs.Paths.{paths_of_shape, concatenated};
-ghost use Rattle.i_shape.specs.Flat.{InOrder, slices};
+ghost use Rattle.i_shape.specs.Flat.{InOrder, slices, behind};
 ghost use Rattle.i_shape.specs.FloatBuffers.{HasLists, LieEndToEnd};
 
 use super::fill::{append_items, append_paths, append_ranges, checked_path_counts, greatest_end};
@@ -42,7 +42,8 @@ impl<P: Copy> FloatFlatContoursBuffer<P> {
     /// An empty buffer with room for so many points and contours. The only error is `OutOfMemory`.
     pub fn with_capacity(alloc: Global, points: usize, contours: usize) -> Result<Self, ShapeError>
         ensures ok { IfOk result (λ buffer. HasLists buffer [] []) }
-        ensures room { IfOk result (λ buffer. (points ≤ vec_capacity buffer.points) × (contours ≤ vec_capacity buffer.ranges)) }
+        ensures room { IfOk result (λ buffer. (points ≤ vec_capacity buffer.points)
+            × (contours ≤ vec_capacity buffer.ranges)) }
         ensures memory { IsOkUnless result ShapeError.OutOfMemory }
     {
         Ok(FloatFlatContoursBuffer {
@@ -53,7 +54,8 @@ impl<P: Copy> FloatFlatContoursBuffer<P> {
 
     /// A buffer with the same points and ranges. The only error is `OutOfMemory`.
     pub fn clone(&self) -> Result<Self, ShapeError>
-        ensures ok { IfOk result (λ copy. HasLists copy self.now.points.items self.now.ranges.items) }
+        ensures ok { IfOk result
+            (λ copy. HasLists copy self.now.points.items self.now.ranges.items) }
         ensures memory { IsOkUnless result ShapeError.OutOfMemory }
     {
         let alloc = *self.points.allocator();
@@ -72,7 +74,8 @@ impl<P: Copy> FloatFlatContoursBuffer<P> {
 
     /// Whether `to_contours` may be called: each range is in order and within the points.
     pub fn can_read_contours(&self) -> bool
-        ensures { IsTrue result ↔ All (InOrder (length self.now.points.items)) self.now.ranges.items }
+        ensures { IsTrue result ↔ All (InOrder (length self.now.points.items))
+            self.now.ranges.items }
     {
         all_in_order(self.ranges.as_slice(), self.points.len())
     }
@@ -80,7 +83,8 @@ impl<P: Copy> FloatFlatContoursBuffer<P> {
     /// A copy of each range's points. The only error is `OutOfMemory`.
     pub fn to_contours(&self) -> Result<Vec<Contour<P>>, ShapeError>
         requires { All (InOrder (length self.now.points.items)) self.now.ranges.items }
-        ensures ok { IfOk result (λ contours. paths_of_shape contours.items ≡ slices self.now.points.items self.now.ranges.items) }
+        ensures ok { IfOk result (λ contours. paths_of_shape contours.items
+            ≡ slices self.now.points.items self.now.ranges.items) }
         ensures memory { IsOkUnless result ShapeError.OutOfMemory }
     {
         let alloc = *self.points.allocator();
@@ -104,7 +108,8 @@ impl<P: Copy> FloatFlatContoursBuffer<P> {
     pub fn clear_and_reserve(&mut self, points: usize, contours: usize) -> Result<(), ShapeError>
         ensures ok { OnOk result (HasLists self.new [] []) }
         ensures err { OnErr result (HasLists self.new self.old.points.items self.old.ranges.items) }
-        ensures room { OnOk result ((points ≤ vec_capacity self.new.points) × (contours ≤ vec_capacity self.new.ranges)) }
+        ensures room { OnOk result ((points ≤ vec_capacity self.new.points)
+            × (contours ≤ vec_capacity self.new.ranges)) }
         ensures memory { IsOkUnless result ShapeError.OutOfMemory }
     {
         reserve_total(&mut self.points, points)?;
@@ -116,9 +121,13 @@ impl<P: Copy> FloatFlatContoursBuffer<P> {
     /// Appends a contour. `TooManyPoints` where there were more than `usize::MAX` points then, tested first; else `OutOfMemory`.
     /// After an error the lists are as they were.
     pub fn add_contour(&mut self, contour: &[P]) -> Result<(), ShapeError>
-        ensures ok { OnOk result (HasLists self.new (self.old.points.items ++ contour.now) (self.old.ranges.items ++ record { start = length self.old.points.items; end = length self.old.points.items + length contour.now } ∷ [])) }
+        ensures ok { OnOk result
+            (HasLists self.new (self.old.points.items ++ contour.now)
+            (self.old.ranges.items ++ behind (length self.old.points.items) (length contour.now)
+            ∷ [])) }
         ensures err { OnErr result (HasLists self.new self.old.points.items self.old.ranges.items) }
-        ensures too_many { IsErrOf result ShapeError.TooManyPoints ↔ (usize.MAX < length self.old.points.items + length contour.now) }
+        ensures too_many { IsErrOf result ShapeError.TooManyPoints
+            ↔ (usize.MAX < length self.old.points.items + length contour.now) }
     {
         if self.points.len().checked_add(contour.len()).is_none() {
             return Err(ShapeError::TooManyPoints);
@@ -136,7 +145,9 @@ impl<P: Copy> FloatFlatContoursBuffer<P> {
     ) -> Result<(), ShapeError>
         requires can { I.can_next iter }
         requires ends { IsFinite (I.remaining iter) }
-        ensures ok { OnOk result ((items : List P) × Drains I.next_gives iter items × HasLists self.new (self.old.points.items ++ items) (self.old.ranges.items ++ record { start = length self.old.points.items; end = length self.old.points.items + length items } ∷ [])) }
+        ensures ok { OnOk result ((items : List P) × Drains I.next_gives iter items
+            × HasLists self.new (self.old.points.items ++ items)
+            (self.old.ranges.items ++ behind (length self.old.points.items) (length items) ∷ [])) }
         ensures err { OnErr result (HasLists self.new self.old.points.items self.old.ranges.items) }
         ensures memory { IsOkUnless result ShapeError.OutOfMemory }
     {
@@ -171,9 +182,11 @@ impl<P: Copy> FloatFlatContoursBuffer<P> {
     ) -> Result<(), ShapeError>
         requires can { I.can_next iter }
         requires ends { IsFinite (I.remaining iter) }
-        ensures ok { OnOk result ((items : List P) × Drains I.next_gives iter items × HasLists self.new items ranges.now) }
+        ensures ok { OnOk result ((items : List P) × Drains I.next_gives iter items
+            × HasLists self.new items ranges.now) }
         ensures err { OnErr result (HasLists self.new [] []) }
-        ensures room { OnOk result (All (λ range. range.end ≤ vec_capacity self.new.points) ranges.now) }
+        ensures room { OnOk result
+            (All (λ range. range.end ≤ vec_capacity self.new.points) ranges.now) }
         ensures memory { IsOkUnless result ShapeError.OutOfMemory }
     {
         self.clear();
@@ -197,9 +210,12 @@ impl<P: ShapePoint> FloatFlatContoursBuffer<P> {
     where
         P: 'a,
         requires { R.can_read resource }
-        ensures ok { OnOk result (LieEndToEnd self.new.points.items self.new.ranges.items (R.paths resource)) }
+        ensures ok { OnOk result
+            (LieEndToEnd self.new.points.items self.new.ranges.items (R.paths resource)) }
         ensures err { OnErr result (HasLists self.new self.old.points.items self.old.ranges.items) }
-        ensures too_many { IsErrOf result ShapeError.TooManyPoints ↔ ((usize.MAX < length (concatenated (R.paths resource))) ⊎ (usize.MAX < length (R.paths resource))) }
+        ensures too_many { IsErrOf result ShapeError.TooManyPoints
+            ↔ ((usize.MAX < length (concatenated (R.paths resource)))
+            ⊎ (usize.MAX < length (R.paths resource))) }
     {
         let counts = checked_path_counts(resource).ok_or(ShapeError::TooManyPoints)?;
         self.clear_and_reserve(counts.points, counts.contours)?;

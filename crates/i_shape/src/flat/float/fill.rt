@@ -36,7 +36,8 @@ pub fn append_items<P: Copy, I: Iterator<Item = P> + Drop>(
 ) -> Result<(), ShapeError>
     requires can { I.can_next iter }
     requires ends { IsFinite (I.remaining iter) }
-    ensures ok { OnOk result ((items : List P) × Drains I.next_gives iter items × (points.new.items ≡ points.old.items ++ items)) }
+    ensures ok { OnOk result ((items : List P) × Drains I.next_gives iter items
+        × (points.new.items ≡ points.old.items ++ items)) }
     ensures err { OnErr result (points.new.items ≡ points.old.items) }
     ensures room { vec_capacity points.old ≤ vec_capacity points.new }
     ensures memory { IsOkUnless result ShapeError.OutOfMemory }
@@ -58,7 +59,10 @@ pub fn checked_path_counts<'a, P: ShapePoint + 'a, R: ShapeResource<'a, P> + Cop
     resource: R,
 ) -> Option<Counts>
     requires { R.can_read resource }
-    ensures { MatchOption result ((usize.MAX < length (concatenated (R.paths resource))) ⊎ (usize.MAX < length (R.paths resource))) (λ counts. (counts.points ≡ length (concatenated (R.paths resource))) × (counts.contours ≡ length (R.paths resource))) }
+    ensures { MatchOption result ((usize.MAX < length (concatenated (R.paths resource)))
+        ⊎ (usize.MAX < length (R.paths resource)))
+        (λ counts. (counts.points ≡ length (concatenated (R.paths resource)))
+        × (counts.contours ≡ length (R.paths resource))) }
 {
     let mut points: usize = 0;
     let mut contours: usize = 0;
@@ -76,10 +80,13 @@ pub fn append_paths<'a, P: ShapePoint + 'a, R: ShapeResource<'a, P> + Copy>(
     resource: R,
 )
     requires can { R.can_read resource }
-    requires points_room { vec_len points.old + length (concatenated (R.paths resource)) ≤ vec_capacity points.old }
-    requires ranges_room { vec_len ranges.old + length (R.paths resource) ≤ vec_capacity ranges.old }
+    requires points_room { vec_len points.old + length (concatenated (R.paths resource))
+        ≤ vec_capacity points.old }
+    requires ranges_room { vec_len ranges.old + length (R.paths resource)
+        ≤ vec_capacity ranges.old }
     ensures points { points.new.items ≡ points.old.items ++ concatenated (R.paths resource) }
-    ensures ranges { ranges.new.items ≡ ranges.old.items ++ end_to_end (vec_len points.old) (R.paths resource) }
+    ensures ranges { ranges.new.items ≡ ranges.old.items
+        ++ end_to_end (vec_len points.old) (R.paths resource) }
 {
     for path in resource.iter_paths() {
         append_contour(points, ranges, path);

@@ -4,8 +4,8 @@ ghost use Rattle.std.specs.Prelude.{◌≡◌, ◌+◌, ◌<◌, ◌≤◌, ◌+
 ghost use Rattle.std.specs.List.{All};
 ghost use Rattle.std.specs.Iterator.{Drains, IsFinite};
 ghost use Rattle.i_shape_source.specs.Paths.{paths_of_shape, shape_lists, concatenated};
-ghost use Rattle.i_shape.specs.Flat.{InOrder, IsReadableShape, slices, shapes};
-ghost use Rattle.i_shape.specs.FloatBuffers.{HasShapeLists, LieEndToEnd, FormOneShape};
+ghost use Rattle.i_shape.specs.Flat.{InOrder, IsReadableShape, slices, shapes, behind};
+ghost use Rattle.i_shape.specs.FloatBuffers.{HasShapeLists, LieEndToEnd, FormOneShape, SameGroups};
 
 use super::fill::{append_items, append_paths, append_ranges, checked_path_counts, greatest_end};
 use crate::ShapeError;
@@ -51,7 +51,9 @@ impl<P: Copy> FloatFlatShapesBuffer<P> {
         shapes: usize,
     ) -> Result<Self, ShapeError>
         ensures ok { IfOk result (λ buffer. HasShapeLists buffer [] [] []) }
-        ensures room { IfOk result (λ buffer. (points ≤ vec_capacity buffer.points) × (contours ≤ vec_capacity buffer.contour_ranges) × (shapes ≤ vec_capacity buffer.shape_ranges)) }
+        ensures room { IfOk result (λ buffer. (points ≤ vec_capacity buffer.points)
+            × (contours ≤ vec_capacity buffer.contour_ranges)
+            × (shapes ≤ vec_capacity buffer.shape_ranges)) }
         ensures memory { IsOkUnless result ShapeError.OutOfMemory }
     {
         Ok(FloatFlatShapesBuffer {
@@ -63,7 +65,7 @@ impl<P: Copy> FloatFlatShapesBuffer<P> {
 
     /// A buffer with the same points and ranges. The only error is `OutOfMemory`.
     pub fn clone(&self) -> Result<Self, ShapeError>
-        ensures ok { IfOk result (λ copy. HasShapeLists copy self.now.points.items self.now.contour_ranges.items self.now.shape_ranges.items) }
+        ensures ok { IfOk result (λ copy. SameGroups self.now copy) }
         ensures memory { IsOkUnless result ShapeError.OutOfMemory }
     {
         let alloc = *self.points.allocator();
@@ -83,7 +85,8 @@ impl<P: Copy> FloatFlatShapesBuffer<P> {
 
     /// Whether `to_contours` may be called: each contour range is in order and within the points.
     pub fn can_read_contours(&self) -> bool
-        ensures { IsTrue result ↔ All (InOrder (length self.now.points.items)) self.now.contour_ranges.items }
+        ensures { IsTrue result ↔ All (InOrder (length self.now.points.items))
+            self.now.contour_ranges.items }
     {
         all_in_order(self.contour_ranges.as_slice(), self.points.len())
     }
@@ -91,7 +94,9 @@ impl<P: Copy> FloatFlatShapesBuffer<P> {
     /// Whether `to_shapes` may be called: each shape range that isn't empty or reversed ends within the contour ranges,
     /// and those that it names are in order and within the points.
     pub fn can_read_shapes(&self) -> bool
-        ensures { IsTrue result ↔ All (IsReadableShape (length self.now.points.items) self.now.contour_ranges.items) self.now.shape_ranges.items }
+        ensures { IsTrue result
+            ↔ All (IsReadableShape (length self.now.points.items) self.now.contour_ranges.items)
+            self.now.shape_ranges.items }
     {
         self.shape_ranges.iter().all(|range| {
             shape_in_order(range, self.contour_ranges.as_slice(), self.points.len())
@@ -101,7 +106,8 @@ impl<P: Copy> FloatFlatShapesBuffer<P> {
     /// A copy of each contour range's points. The only error is `OutOfMemory`.
     pub fn to_contours(&self) -> Result<Vec<Contour<P>>, ShapeError>
         requires { All (InOrder (length self.now.points.items)) self.now.contour_ranges.items }
-        ensures ok { IfOk result (λ contours. paths_of_shape contours.items ≡ slices self.now.points.items self.now.contour_ranges.items) }
+        ensures ok { IfOk result (λ contours. paths_of_shape contours.items
+            ≡ slices self.now.points.items self.now.contour_ranges.items) }
         ensures memory { IsOkUnless result ShapeError.OutOfMemory }
     {
         let alloc = *self.points.allocator();
@@ -112,8 +118,12 @@ impl<P: Copy> FloatFlatShapesBuffer<P> {
     /// A copy of each shape, in the order of the shape ranges; an empty shape where the range is empty or reversed.
     /// The only error is `OutOfMemory`.
     pub fn to_shapes(&self) -> Result<Shapes<P>, ShapeError>
-        requires { All (IsReadableShape (length self.now.points.items) self.now.contour_ranges.items) self.now.shape_ranges.items }
-        ensures ok { IfOk result (λ list. shape_lists list.items ≡ shapes self.now.points.items self.now.contour_ranges.items self.now.shape_ranges.items) }
+        requires { All
+            (IsReadableShape (length self.now.points.items) self.now.contour_ranges.items)
+            self.now.shape_ranges.items }
+        ensures ok { IfOk result (λ list. shape_lists list.items
+            ≡ shapes self.now.points.items self.now.contour_ranges.items
+            self.now.shape_ranges.items) }
         ensures memory { IsOkUnless result ShapeError.OutOfMemory }
     {
         copied_shapes(
@@ -130,8 +140,10 @@ impl<P: Copy> FloatFlatShapesBuffer<P> {
     fn clear(&mut self)
         ensures lists { HasShapeLists self.new [] [] [] }
         ensures points_room { vec_capacity self.new.points ≡ vec_capacity self.old.points }
-        ensures contours_room { vec_capacity self.new.contour_ranges ≡ vec_capacity self.old.contour_ranges }
-        ensures shapes_room { vec_capacity self.new.shape_ranges ≡ vec_capacity self.old.shape_ranges }
+        ensures contours_room { vec_capacity self.new.contour_ranges
+            ≡ vec_capacity self.old.contour_ranges }
+        ensures shapes_room { vec_capacity self.new.shape_ranges
+            ≡ vec_capacity self.old.shape_ranges }
     {
         self.points.clear();
         self.contour_ranges.clear();
@@ -147,8 +159,10 @@ impl<P: Copy> FloatFlatShapesBuffer<P> {
         shapes: usize,
     ) -> Result<(), ShapeError>
         ensures ok { OnOk result (HasShapeLists self.new [] [] []) }
-        ensures err { OnErr result (HasShapeLists self.new self.old.points.items self.old.contour_ranges.items self.old.shape_ranges.items) }
-        ensures room { OnOk result ((points ≤ vec_capacity self.new.points) × (contours ≤ vec_capacity self.new.contour_ranges) × (shapes ≤ vec_capacity self.new.shape_ranges)) }
+        ensures err { OnErr result (SameGroups self.old self.new) }
+        ensures room { OnOk result ((points ≤ vec_capacity self.new.points)
+            × (contours ≤ vec_capacity self.new.contour_ranges)
+            × (shapes ≤ vec_capacity self.new.shape_ranges)) }
         ensures memory { IsOkUnless result ShapeError.OutOfMemory }
     {
         reserve_total(&mut self.points, points)?;
@@ -161,9 +175,14 @@ impl<P: Copy> FloatFlatShapesBuffer<P> {
     /// Appends a shape of this one contour. `TooManyPoints` where there were more than `usize::MAX` points then, tested first;
     /// else `OutOfMemory`. After an error the lists are as they were.
     pub fn add_contour(&mut self, contour: &[P]) -> Result<(), ShapeError>
-        ensures ok { OnOk result (HasShapeLists self.new (self.old.points.items ++ contour.now) (self.old.contour_ranges.items ++ record { start = length self.old.points.items; end = length self.old.points.items + length contour.now } ∷ []) (self.old.shape_ranges.items ++ record { start = length self.old.contour_ranges.items; end = length self.old.contour_ranges.items + 1 } ∷ [])) }
-        ensures err { OnErr result (HasShapeLists self.new self.old.points.items self.old.contour_ranges.items self.old.shape_ranges.items) }
-        ensures too_many { IsErrOf result ShapeError.TooManyPoints ↔ (usize.MAX < length self.old.points.items + length contour.now) }
+        ensures ok { OnOk result
+            (HasShapeLists self.new (self.old.points.items ++ contour.now)
+            (self.old.contour_ranges.items
+            ++ behind (length self.old.points.items) (length contour.now) ∷ [])
+            (self.old.shape_ranges.items ++ behind (length self.old.contour_ranges.items) 1 ∷ [])) }
+        ensures err { OnErr result (SameGroups self.old self.new) }
+        ensures too_many { IsErrOf result ShapeError.TooManyPoints
+            ↔ (usize.MAX < length self.old.points.items + length contour.now) }
     {
         if self.points.len().checked_add(contour.len()).is_none() {
             return Err(ShapeError::TooManyPoints);
@@ -185,8 +204,12 @@ impl<P: Copy> FloatFlatShapesBuffer<P> {
     ) -> Result<(), ShapeError>
         requires can { I.can_next iter }
         requires ends { IsFinite (I.remaining iter) }
-        ensures ok { OnOk result ((items : List P) × Drains I.next_gives iter items × HasShapeLists self.new (self.old.points.items ++ items) (self.old.contour_ranges.items ++ record { start = length self.old.points.items; end = length self.old.points.items + length items } ∷ []) (self.old.shape_ranges.items ++ record { start = length self.old.contour_ranges.items; end = length self.old.contour_ranges.items + 1 } ∷ [])) }
-        ensures err { OnErr result (HasShapeLists self.new self.old.points.items self.old.contour_ranges.items self.old.shape_ranges.items) }
+        ensures ok { OnOk result ((items : List P) × Drains I.next_gives iter items
+            × HasShapeLists self.new (self.old.points.items ++ items)
+            (self.old.contour_ranges.items ++ behind (length self.old.points.items) (length items)
+            ∷ []) (self.old.shape_ranges.items ++ behind (length self.old.contour_ranges.items) 1
+            ∷ [])) }
+        ensures err { OnErr result (SameGroups self.old self.new) }
         ensures memory { IsOkUnless result ShapeError.OutOfMemory }
     {
         let start = self.points.len();
@@ -208,8 +231,9 @@ impl<P: Copy> FloatFlatShapesBuffer<P> {
         contour_ranges: &[Range<usize>],
         shape_ranges: &[Range<usize>],
     ) -> Result<(), ShapeError>
-        ensures ok { OnOk result (HasShapeLists self.new points.now contour_ranges.now shape_ranges.now) }
-        ensures err { OnErr result (HasShapeLists self.new self.old.points.items self.old.contour_ranges.items self.old.shape_ranges.items) }
+        ensures ok { OnOk result
+            (HasShapeLists self.new points.now contour_ranges.now shape_ranges.now) }
+        ensures err { OnErr result (SameGroups self.old self.new) }
         ensures memory { IsOkUnless result ShapeError.OutOfMemory }
     {
         self.clear_and_reserve(points.len(), contour_ranges.len(), shape_ranges.len())?;
@@ -231,9 +255,11 @@ impl<P: Copy> FloatFlatShapesBuffer<P> {
     ) -> Result<(), ShapeError>
         requires can { I.can_next iter }
         requires ends { IsFinite (I.remaining iter) }
-        ensures ok { OnOk result ((items : List P) × Drains I.next_gives iter items × HasShapeLists self.new items contour_ranges.now shape_ranges.now) }
+        ensures ok { OnOk result ((items : List P) × Drains I.next_gives iter items
+            × HasShapeLists self.new items contour_ranges.now shape_ranges.now) }
         ensures err { OnErr result (HasShapeLists self.new [] [] []) }
-        ensures room { OnOk result (All (λ range. range.end ≤ vec_capacity self.new.points) contour_ranges.now) }
+        ensures room { OnOk result
+            (All (λ range. range.end ≤ vec_capacity self.new.points) contour_ranges.now) }
         ensures memory { IsOkUnless result ShapeError.OutOfMemory }
     {
         self.clear();
@@ -261,11 +287,14 @@ impl<P: ShapePoint> FloatFlatShapesBuffer<P> {
     where
         P: 'a,
         requires { R.can_read resource }
-        ensures ok { OnOk result (LieEndToEnd self.new.points.items self.new.contour_ranges.items (R.paths resource)) }
+        ensures ok { OnOk result
+            (LieEndToEnd self.new.points.items self.new.contour_ranges.items (R.paths resource)) }
         ensures one_shape { OnOk result (FormOneShape self.new (R.paths resource)) }
         ensures no_paths { R.paths resource ≡ [] → IsOk result }
-        ensures err { OnErr result (HasShapeLists self.new self.old.points.items self.old.contour_ranges.items self.old.shape_ranges.items) }
-        ensures too_many { IsErrOf result ShapeError.TooManyPoints ↔ ((usize.MAX < length (concatenated (R.paths resource))) ⊎ (usize.MAX < length (R.paths resource))) }
+        ensures err { OnErr result (SameGroups self.old self.new) }
+        ensures too_many { IsErrOf result ShapeError.TooManyPoints
+            ↔ ((usize.MAX < length (concatenated (R.paths resource)))
+            ⊎ (usize.MAX < length (R.paths resource))) }
     {
         let counts = checked_path_counts(resource).ok_or(ShapeError::TooManyPoints)?;
         if counts.contours == 0 {

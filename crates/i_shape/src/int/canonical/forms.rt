@@ -21,7 +21,9 @@ fn sorted_forms<I: IntNumber, C: CleanerLaws>(
     contours: &[IntContour<I>],
 ) -> Result<IntShape<I>, ShapeError>
     requires { IsSafeShape I.width (shape_of I.value contours.now) }
-    ensures answer { IfOk result (λ sorted. SortedForms C.answers IsAtMost (shape_of I.value contours.now) (shape_of I.value sorted.items)) }
+    ensures answer { IfOk result
+        (λ sorted. SortedForms C.answers IsAtMost (shape_of I.value contours.now)
+        (shape_of I.value sorted.items)) }
     ensures memory { IsOkUnless result ShapeError.OutOfMemory }
 {
     let mut sorted = Vec::with_capacity(alloc, contours.len().saturating_add(1))?;
@@ -39,8 +41,10 @@ pub fn shape_form<I: IntNumber, C: CleanerLaws>(
     shape: &[IntContour<I>],
 ) -> Result<Option<IntShape<I>>, ShapeError>
     requires { IsSafeShape I.width (shape_of I.value shape.now) }
-    ensures answer { IfOk result (λ r. ShapeForm C.answers (shape_of I.value shape.now) (answered (shape_of I.value) r)) }
-    ensures safe { IfOk result (λ r. IfSome r (λ form. IsSafeShape I.width (shape_of I.value form.items))) }
+    ensures answer { IfOk result
+        (λ r. ShapeForm C.answers (shape_of I.value shape.now) (answered (shape_of I.value) r)) }
+    ensures safe { IfOk result
+        (λ r. IfSome r (λ form. IsSafeShape I.width (shape_of I.value form.items))) }
     ensures memory { IsOkUnless result ShapeError.OutOfMemory }
 {
     let Some((outer, holes)) = shape.split_first() else {
@@ -61,7 +65,10 @@ fn push_shape_form<I: IntNumber, C: CleanerLaws>(
     shape: &[IntContour<I>],
 ) -> Result<(), ShapeError>
     requires { IsSafeShape I.width (shape_of I.value shape.now) }
-    ensures ok { OnOk result ((answer : Option (List (List Point))) × ShapeForm C.answers (shape_of I.value shape.now) answer × (shapes_of I.value forms.new.items ≡ shapes_of I.value forms.old.items ++ option_to_list answer)) }
+    ensures ok { OnOk result ((answer : Option (List (List Point)))
+        × ShapeForm C.answers (shape_of I.value shape.now) answer
+        × (shapes_of I.value forms.new.items ≡ shapes_of I.value forms.old.items
+        ++ option_to_list answer)) }
     ensures memory { IsOkUnless result ShapeError.OutOfMemory }
 {
     let alloc = *forms.allocator();
@@ -81,7 +88,8 @@ pub fn list_form<I: IntNumber, C: CleanerLaws>(
     shapes: &[IntShape<I>],
 ) -> Result<IntShapes<I>, ShapeError>
     requires { IsSafeList I.width (shapes_of I.value shapes.now) }
-    ensures answer { IfOk result (λ r. ListForm C.answers (shapes_of I.value shapes.now) (shapes_of I.value r.items)) }
+    ensures answer { IfOk result
+        (λ r. ListForm C.answers (shapes_of I.value shapes.now) (shapes_of I.value r.items)) }
     ensures safe { IfOk result (λ r. IsSafeList I.width (shapes_of I.value r.items)) }
     ensures memory { IsOkUnless result ShapeError.OutOfMemory }
 {

@@ -31,7 +31,8 @@ fn replacement<I: IntNumber, C: InPlaceCleaner>(
 ) -> Result<IntContour<I>, ShapeError>
     requires safe { IsSafeContour I.width (contour_of I.value contour.now) }
     requires unclean { C.clean (contour_of I.value contour.now) → ⊥ }
-    ensures answer { IfOk result (λ r. ComesFor C.answers (contour_of I.value contour.now) (contour_of I.value r.items)) }
+    ensures answer { IfOk result
+        (λ r. ComesFor C.answers (contour_of I.value contour.now) (contour_of I.value r.items)) }
     ensures memory { IsOkUnless result ShapeError.OutOfMemory }
 {
     match cleaner.cleaned_untested(contour)? {
@@ -48,7 +49,9 @@ fn append_changes<I: IntNumber, C: InPlaceCleaner>(
     shape: &[IntContour<I>],
 ) -> Result<(), ShapeError>
     requires { IsSafeShape I.width (shape_of I.value shape.now) }
-    ensures ok { OnOk result ((more : List Edit) × CleansAside C.clean C.answers number (shape_of I.value shape.now) more × (edits_of I.value changes.new.items ≡ edits_of I.value changes.old.items ++ more)) }
+    ensures ok { OnOk result ((more : List Edit)
+        × CleansAside C.clean C.answers number (shape_of I.value shape.now) more
+        × (edits_of I.value changes.new.items ≡ edits_of I.value changes.old.items ++ more)) }
     ensures unclean { OnErr result (EachContour C.clean (shape_of I.value shape.now) → ⊥) }
     ensures memory { IsOkUnless result ShapeError.OutOfMemory }
 {
@@ -74,7 +77,9 @@ pub fn shape_changes<I: IntNumber, C: InPlaceCleaner>(
     shape: &[IntContour<I>],
 ) -> Result<Vec<Change<I>>, ShapeError>
     requires { IsSafeShape I.width (shape_of I.value shape.now) }
-    ensures ok { IfOk result (λ r. CleansAside C.clean C.answers 0 (shape_of I.value shape.now) (edits_of I.value r.items)) }
+    ensures ok { IfOk result
+        (λ r. CleansAside C.clean C.answers 0 (shape_of I.value shape.now)
+        (edits_of I.value r.items)) }
     ensures unclean { OnErr result (EachContour C.clean (shape_of I.value shape.now) → ⊥) }
     ensures memory { IsOkUnless result ShapeError.OutOfMemory }
 {
@@ -89,7 +94,9 @@ pub fn list_changes<I: IntNumber, C: InPlaceCleaner>(
     shapes: &[IntShape<I>],
 ) -> Result<Vec<Change<I>>, ShapeError>
     requires { IsSafeList I.width (shapes_of I.value shapes.now) }
-    ensures ok { IfOk result (λ r. CleansListAside C.clean C.answers (shapes_of I.value shapes.now) (edits_of I.value r.items)) }
+    ensures ok { IfOk result
+        (λ r. CleansListAside C.clean C.answers (shapes_of I.value shapes.now)
+        (edits_of I.value r.items)) }
     ensures unclean { OnErr result (EachShape C.clean (shapes_of I.value shapes.now) → ⊥) }
     ensures memory { IsOkUnless result ShapeError.OutOfMemory }
 {
@@ -115,8 +122,10 @@ pub fn are_left<I: IntNumber>(changes: &[Change<I>]) -> bool
 
 /// Puts each contour in its place in the shape.
 pub fn put_in_shape<I: IntNumber>(shape: &mut IntShape<I>, mut changes: Vec<Change<I>>)
-    requires { AllFit put_contour FitsShape (shape_of I.value shape.old.items) (edits_of I.value changes.items) }
-    ensures { shape_of I.value shape.new.items ≡ all_put put_contour (shape_of I.value shape.old.items) (edits_of I.value changes.items) }
+    requires { AllFit put_contour FitsShape (shape_of I.value shape.old.items)
+        (edits_of I.value changes.items) }
+    ensures { shape_of I.value shape.new.items
+        ≡ all_put put_contour (shape_of I.value shape.old.items) (edits_of I.value changes.items) }
 {
     while let Some(change) = changes.pop() {
         shape[change.place] = change.contour;
@@ -125,8 +134,11 @@ pub fn put_in_shape<I: IntNumber>(shape: &mut IntShape<I>, mut changes: Vec<Chan
 
 /// Puts each contour in its place in the list.
 pub fn put_in_list<I: IntNumber>(shapes: &mut IntShapes<I>, mut changes: Vec<Change<I>>)
-    requires { AllFit put_in_list FitsList (shapes_of I.value shapes.old.items) (edits_of I.value changes.items) }
-    ensures { shapes_of I.value shapes.new.items ≡ all_put put_in_list (shapes_of I.value shapes.old.items) (edits_of I.value changes.items) }
+    requires { AllFit put_in_list FitsList (shapes_of I.value shapes.old.items)
+        (edits_of I.value changes.items) }
+    ensures { shapes_of I.value shapes.new.items
+        ≡ all_put put_in_list (shapes_of I.value shapes.old.items)
+        (edits_of I.value changes.items) }
 {
     while let Some(change) = changes.pop() {
         shapes[change.shape][change.place] = change.contour;
@@ -156,7 +168,8 @@ pub fn take_out_collapsed<I: IntNumber>(shape: &mut IntShape<I>)
 
 /// Takes out the contours without points, and the shapes whose outer one has none.
 pub fn take_out_of_list<I: IntNumber>(shapes: &mut IntShapes<I>)
-    ensures { shapes_of I.value shapes.new.items ≡ kept_shapes (shapes_of I.value shapes.old.items) }
+    ensures { shapes_of I.value shapes.new.items
+        ≡ kept_shapes (shapes_of I.value shapes.old.items) }
 {
     shapes.retain(|shape| keeps_outer(shape.as_slice()));
     for shape in shapes.iter_mut() {

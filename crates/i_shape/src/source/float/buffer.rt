@@ -17,7 +17,9 @@ fn first_readable<'a, P>(
     points: &'a [P],
     ranges: &'a [Range<usize>],
 ) -> Option<(&'a [P], &'a [Range<usize>])>
-    ensures { MatchOption result (readable_slices points.now ranges.now ≡ []) (λ found. readable_slices points.now ranges.now ≡ found.0.now ∷ readable_slices points.now found.1.now) }
+    ensures { MatchOption result (readable_slices points.now ranges.now ≡ [])
+        (λ found. readable_slices points.now ranges.now
+        ≡ found.0.now ∷ readable_slices points.now found.1.now) }
 {
     let mut left = ranges;
     while let Some((range, rest)) = left.split_first() {
@@ -48,8 +50,10 @@ impl<'a, P> Model for FloatContoursBufferResourceIterator<'a, P> {
 impl<'a, P> FloatContoursBufferResourceIterator<'a, P> {
     pub(crate) fn with_ranges(points: &'a [P], ranges: &'a [Range<usize>]) -> Self
         ensures left { result ≡ readable_slices points.now ranges.now }
-        ensures lends { LendsExactly (TakesFirst deref) result (readable_slices points.now ranges.now) }
-        ensures runs { RunsThrough (TakesFirst deref) result (readable_slices points.now ranges.now) }
+        ensures lends { LendsExactly (TakesFirst deref)
+            result (readable_slices points.now ranges.now) }
+        ensures runs { RunsThrough (TakesFirst deref) result
+            (readable_slices points.now ranges.now) }
     {
         FloatContoursBufferResourceIterator { points, ranges }
     }
@@ -88,8 +92,10 @@ impl<'a, P> Model for FloatShapesBufferResourceIterator<'a, P> {
 impl<'a, P> FloatShapesBufferResourceIterator<'a, P> {
     pub(crate) fn with_ranges(points: &'a [P], contour_ranges: &'a [Range<usize>]) -> Self
         ensures left { result ≡ readable_slices points.now contour_ranges.now }
-        ensures lends { LendsExactly (TakesFirst deref) result (readable_slices points.now contour_ranges.now) }
-        ensures runs { RunsThrough (TakesFirst deref) result (readable_slices points.now contour_ranges.now) }
+        ensures lends { LendsExactly (TakesFirst deref)
+            result (readable_slices points.now contour_ranges.now) }
+        ensures runs { RunsThrough (TakesFirst deref) result
+            (readable_slices points.now contour_ranges.now) }
     {
         FloatShapesBufferResourceIterator {
             points,

@@ -1,16 +1,11 @@
 //! Tests and areas of many contours at 16 bits.
 
-ghost use Rattle.std.specs.Prelude.{◌≡◌, ◌↔◌, length};
-ghost use Rattle.std.specs.Int.{int_wrap, w16, w32};
-ghost use Rattle.std.specs.List.{All};
+ghost use Rattle.std.specs.Int.{w16, w32};
 ghost use Rattle.i_shape.specs.Contour.{IsSimple};
 ghost use Rattle.i_shape.specs.Convex.{Convex, NoSpikes};
-ghost use Rattle.i_shape.specs.Edges.{shoelace};
-ghost use Rattle.i_shape.specs.IntPoint.{IsSafe};
 ghost use Rattle.i_shape_c.specs.Points.{point_i16};
-ghost use Rattle.i_shape_c.specs.Cleaned.{unsafe_code, unfit_code};
-ghost use Rattle.i_shape_c.specs.Batch.{AreSafeContours};
-ghost use Rattle.i_shape_c.specs.Measures.{CanMeasure, MeasuresAnswer, IsByteOf};
+ghost use Rattle.i_shape_c.specs.Measures.{IsByteOf, IsDoubleArea, MeasuresEach, TestsEach};
+ghost use Rattle.i_shape_core.specs.IntPoint.{IsSafeContour};
 
 use crate::measures::{DoubleArea, SafeRange, Tested, measure_contours};
 use crate::point::PointI16;
@@ -23,9 +18,7 @@ pub extern "C" fn i_shape_is_simple_contours_i16(
     offsets: &[usize],
     out: &mut [u8],
 ) -> i32
-    ensures answer { MeasuresAnswer (IsByteOf IsSimple) point_i16 points.now offsets.now out.old out.new result }
-    ensures unfit { result ≡ unfit_code ↔ (CanMeasure (length points.now) offsets.now (length out.old) → ⊥) }
-    ensures unsafe_points { result ≡ unsafe_code ↔ (CanMeasure (length points.now) offsets.now (length out.old) × (AreSafeContours w16 point_i16 points.now offsets.now → ⊥)) }
+    ensures { TestsEach IsSimple w16 point_i16 points.now offsets.now out.old out.new result }
 {
     measure_contours(points, offsets, Tested { test: Simple {} }, out)
 }
@@ -37,9 +30,7 @@ pub extern "C" fn i_shape_has_no_spikes_contours_i16(
     offsets: &[usize],
     out: &mut [u8],
 ) -> i32
-    ensures answer { MeasuresAnswer (IsByteOf NoSpikes) point_i16 points.now offsets.now out.old out.new result }
-    ensures unfit { result ≡ unfit_code ↔ (CanMeasure (length points.now) offsets.now (length out.old) → ⊥) }
-    ensures unsafe_points { result ≡ unsafe_code ↔ (CanMeasure (length points.now) offsets.now (length out.old) × (AreSafeContours w16 point_i16 points.now offsets.now → ⊥)) }
+    ensures { TestsEach NoSpikes w16 point_i16 points.now offsets.now out.old out.new result }
 {
     measure_contours(points, offsets, Tested { test: Spikeless {} }, out)
 }
@@ -51,9 +42,7 @@ pub extern "C" fn i_shape_is_convex_contours_i16(
     offsets: &[usize],
     out: &mut [u8],
 ) -> i32
-    ensures answer { MeasuresAnswer (IsByteOf Convex) point_i16 points.now offsets.now out.old out.new result }
-    ensures unfit { result ≡ unfit_code ↔ (CanMeasure (length points.now) offsets.now (length out.old) → ⊥) }
-    ensures unsafe_points { result ≡ unsafe_code ↔ (CanMeasure (length points.now) offsets.now (length out.old) × (AreSafeContours w16 point_i16 points.now offsets.now → ⊥)) }
+    ensures { TestsEach Convex w16 point_i16 points.now offsets.now out.old out.new result }
 {
     measure_contours(points, offsets, Tested { test: Bulging {} }, out)
 }
@@ -65,9 +54,8 @@ pub extern "C" fn i_shape_is_safe_contours_i16(
     offsets: &[usize],
     out: &mut [u8],
 ) -> i32
-    ensures answer { MeasuresAnswer (IsByteOf (All (IsSafe w16))) point_i16 points.now offsets.now out.old out.new result }
-    ensures unfit { result ≡ unfit_code ↔ (CanMeasure (length points.now) offsets.now (length out.old) → ⊥) }
-    ensures any_points { result ≡ unsafe_code → ⊥ }
+    ensures { MeasuresEach (IsByteOf (IsSafeContour w16)) point_i16
+        points.now offsets.now out.old out.new result }
 {
     measure_contours(points, offsets, SafeRange {}, out)
 }
@@ -79,9 +67,8 @@ pub extern "C" fn i_shape_area_two_contours_i16(
     offsets: &[usize],
     out: &mut [i32],
 ) -> i32
-    ensures answer { MeasuresAnswer (λ contour area. area ≡ int_wrap w32 (shoelace contour)) point_i16 points.now offsets.now out.old out.new result }
-    ensures unfit { result ≡ unfit_code ↔ (CanMeasure (length points.now) offsets.now (length out.old) → ⊥) }
-    ensures any_points { result ≡ unsafe_code → ⊥ }
+    ensures { MeasuresEach (IsDoubleArea w32) point_i16
+        points.now offsets.now out.old out.new result }
 {
     measure_contours(points, offsets, DoubleArea {}, out)
 }

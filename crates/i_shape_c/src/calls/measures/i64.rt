@@ -1,17 +1,12 @@
 //! Tests and areas of many contours at 64 bits.
 
-ghost use Rattle.std.specs.Prelude.{◌≡◌, ◌↔◌, length};
-ghost use Rattle.std.specs.Int.{int_wrap, w64, w128};
-ghost use Rattle.std.specs.List.{All};
+ghost use Rattle.std.specs.Int.{w64};
 ghost use Rattle.i_shape.specs.Contour.{IsSimple};
 ghost use Rattle.i_shape.specs.Convex.{Convex, NoSpikes};
-ghost use Rattle.i_shape.specs.Edges.{shoelace};
-ghost use Rattle.i_shape.specs.IntPoint.{IsSafe};
 ghost use Rattle.i_shape_c.specs.Points.{point_i64};
-ghost use Rattle.i_shape_c.specs.Cleaned.{unsafe_code, unfit_code};
-ghost use Rattle.i_shape_c.specs.Batch.{AreSafeContours};
-ghost use Rattle.i_shape_c.specs.Measures.{CanMeasure, MeasuresAnswer, IsByteOf};
-ghost use Rattle.i_shape_c.specs.Areas.{AreHalves};
+ghost use Rattle.i_shape_c.specs.Measures.{IsByteOf, MeasuresEach, TestsEach};
+ghost use Rattle.i_shape_core.specs.IntPoint.{IsSafeContour};
+ghost use Rattle.i_shape_c.specs.Areas.{AreDoubleAreaHalves};
 
 use crate::area::Halves;
 use crate::measures::{DoubleArea, SafeRange, Tested, measure_contours};
@@ -25,9 +20,7 @@ pub extern "C" fn i_shape_is_simple_contours_i64(
     offsets: &[usize],
     out: &mut [u8],
 ) -> i32
-    ensures answer { MeasuresAnswer (IsByteOf IsSimple) point_i64 points.now offsets.now out.old out.new result }
-    ensures unfit { result ≡ unfit_code ↔ (CanMeasure (length points.now) offsets.now (length out.old) → ⊥) }
-    ensures unsafe_points { result ≡ unsafe_code ↔ (CanMeasure (length points.now) offsets.now (length out.old) × (AreSafeContours w64 point_i64 points.now offsets.now → ⊥)) }
+    ensures { TestsEach IsSimple w64 point_i64 points.now offsets.now out.old out.new result }
 {
     measure_contours(points, offsets, Tested { test: Simple {} }, out)
 }
@@ -39,9 +32,7 @@ pub extern "C" fn i_shape_has_no_spikes_contours_i64(
     offsets: &[usize],
     out: &mut [u8],
 ) -> i32
-    ensures answer { MeasuresAnswer (IsByteOf NoSpikes) point_i64 points.now offsets.now out.old out.new result }
-    ensures unfit { result ≡ unfit_code ↔ (CanMeasure (length points.now) offsets.now (length out.old) → ⊥) }
-    ensures unsafe_points { result ≡ unsafe_code ↔ (CanMeasure (length points.now) offsets.now (length out.old) × (AreSafeContours w64 point_i64 points.now offsets.now → ⊥)) }
+    ensures { TestsEach NoSpikes w64 point_i64 points.now offsets.now out.old out.new result }
 {
     measure_contours(points, offsets, Tested { test: Spikeless {} }, out)
 }
@@ -53,9 +44,7 @@ pub extern "C" fn i_shape_is_convex_contours_i64(
     offsets: &[usize],
     out: &mut [u8],
 ) -> i32
-    ensures answer { MeasuresAnswer (IsByteOf Convex) point_i64 points.now offsets.now out.old out.new result }
-    ensures unfit { result ≡ unfit_code ↔ (CanMeasure (length points.now) offsets.now (length out.old) → ⊥) }
-    ensures unsafe_points { result ≡ unsafe_code ↔ (CanMeasure (length points.now) offsets.now (length out.old) × (AreSafeContours w64 point_i64 points.now offsets.now → ⊥)) }
+    ensures { TestsEach Convex w64 point_i64 points.now offsets.now out.old out.new result }
 {
     measure_contours(points, offsets, Tested { test: Bulging {} }, out)
 }
@@ -67,9 +56,8 @@ pub extern "C" fn i_shape_is_safe_contours_i64(
     offsets: &[usize],
     out: &mut [u8],
 ) -> i32
-    ensures answer { MeasuresAnswer (IsByteOf (All (IsSafe w64))) point_i64 points.now offsets.now out.old out.new result }
-    ensures unfit { result ≡ unfit_code ↔ (CanMeasure (length points.now) offsets.now (length out.old) → ⊥) }
-    ensures any_points { result ≡ unsafe_code → ⊥ }
+    ensures { MeasuresEach (IsByteOf (IsSafeContour w64)) point_i64
+        points.now offsets.now out.old out.new result }
 {
     measure_contours(points, offsets, SafeRange {}, out)
 }
@@ -81,9 +69,8 @@ pub extern "C" fn i_shape_area_two_contours_i64(
     offsets: &[usize],
     out: &mut [Halves],
 ) -> i32
-    ensures answer { MeasuresAnswer (λ contour area. AreHalves (int_wrap w128 (shoelace contour)) area) point_i64 points.now offsets.now out.old out.new result }
-    ensures unfit { result ≡ unfit_code ↔ (CanMeasure (length points.now) offsets.now (length out.old) → ⊥) }
-    ensures any_points { result ≡ unsafe_code → ⊥ }
+    ensures { MeasuresEach AreDoubleAreaHalves point_i64
+        points.now offsets.now out.old out.new result }
 {
     measure_contours(points, offsets, DoubleArea {}, out)
 }

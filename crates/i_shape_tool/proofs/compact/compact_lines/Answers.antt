@@ -23,4 +23,4 @@ returns-in_err-show_contours-clause-err c =
 
 pub returns-clause-ok : goal.returns-clause-ok
 returns-clause-ok c =
-    (contours_in c.in_ok-buffer.buffer, contours_in c.simplify_contours.new.self, c.in_ok-buffer.ensures.read, c.in_ok-simplify_contours.ensures.compact, c.in_ok-show_contours.ensures)
+    (contours_in c.in_ok-buffer.buffer, contours_in c.simplify_contours.new.self, c.in_ok-buffer.ensures.read, c.in_ok-simplify_contours.ensures.gives.cleaned, c.in_ok-show_contours.ensures)

@@ -24,4 +24,4 @@ returns-in_err-simplify_contours-clause-too_many g c =
 pub returns-clause-compact : goal.returns-clause-compact
 returns-clause-compact g c =
     compact_read g.I.IntNumber.value c.args.contours.now c.set_with_shape.new.self c.simplify_contours.new.self c.to_contours.result
-    c.in_ok-set_with_shape.ensures.ok c.in_ok-simplify_contours.ensures.compact c.to_contours.ensures.ok
+    c.in_ok-set_with_shape.ensures.ok c.in_ok-simplify_contours.ensures.gives.cleaned c.to_contours.ensures.ok

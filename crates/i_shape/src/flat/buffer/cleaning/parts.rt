@@ -1,13 +1,13 @@
 //! What the cleaning inside both forms of a flat buffer does with contours that ranges name.
 
-ghost use Rattle.std.specs.Prelude.{◌≡◌, ◌<◌, ◌↔◌, ◌∷◌, [], List, Option, map, length, IfOk, OnOk, IsOkUnless, IsTrue, MatchOption, option_map};
+ghost use Rattle.std.specs.Prelude.{◌≡◌, ◌<◌, ◌↔◌, List, Option, length, IfOk, OnOk, IsOkUnless, IsTrue, MatchOption, option_map};
 ghost use Rattle.std.specs.List.{All, sum_by};
 ghost use Rattle.std.specs.Option.{option_to_list, is_some};
 ghost use Rattle.i_shape_core.specs.IntPoint.{contour_of, IsSafe, IsSafeContour};
 ghost use Rattle.i_shape_core.specs.declared.point.IntPoint.{IntPoint};
 ghost use Rattle.i_shape.specs.ShapeAnswers.{Survivors};
-ghost use Rattle.i_shape.specs.Flat.{InOrder, part_of, slices};
-ghost use Rattle.i_shape.specs.Buffers.{range_len, contours_of};
+ghost use Rattle.i_shape.specs.Flat.{InOrder, part_of};
+ghost use Rattle.i_shape.specs.Buffers.{range_len, contours_of, read_contours};
 ghost use Rattle.i_shape.specs.AppendedAnswers.{Grows};
 
 use crate::ShapeError;
@@ -30,8 +30,8 @@ pub fn are_clean<T: IntNumber, C: ContourCleaner>(
     ranges: &[Range<usize>],
 ) -> bool
     requires readable { All (InOrder (length points.now)) ranges.now }
-    requires safe { All (All (IsSafe T.width)) (map (contour_of T.value) (slices points.now ranges.now)) }
-    ensures { IsTrue result ↔ All C.clean (map (contour_of T.value) (slices points.now ranges.now)) }
+    requires safe { All (All (IsSafe T.width)) (read_contours T.value points.now ranges.now) }
+    ensures { IsTrue result ↔ All C.clean (read_contours T.value points.now ranges.now) }
 {
     for range in ranges {
         if !C::is_clean(part(points, range)) {
@@ -43,7 +43,8 @@ pub fn are_clean<T: IntNumber, C: ContourCleaner>(
 
 /// How many points the ranges name together; `None` where that exceeds `usize::MAX`.
 pub fn checked_total(ranges: &[Range<usize>]) -> Option<usize>
-    ensures { MatchOption result (usize.MAX < sum_by range_len ranges.now) (λ n. n ≡ sum_by range_len ranges.now) }
+    ensures { MatchOption result (usize.MAX < sum_by range_len ranges.now)
+        (λ n. n ≡ sum_by range_len ranges.now) }
 {
     let mut total: usize = 0;
     for range in ranges {
@@ -61,7 +62,10 @@ pub fn append_cleaned<T: IntNumber, C: ContourCleaner>(
     contour: &[IntPoint<T>],
 ) -> Result<bool, ShapeError>
     requires { IsSafeContour T.width (contour_of T.value contour.now) }
-    ensures ok { IfOk result (λ left. (answer : Option (List (IntPoint T))) × C.answers (contour_of T.value contour.now) (option_map (contour_of T.value) answer) × Grows points.old.items points.new.items ranges.old.items ranges.new.items (option_to_list answer) × (left ≡ is_some answer)) }
+    ensures ok { IfOk result (λ left. (answer : Option (List (IntPoint T)))
+        × C.answers (contour_of T.value contour.now) (option_map (contour_of T.value) answer)
+        × Grows points.old.items points.new.items ranges.old.items
+        ranges.new.items (option_to_list answer) × (left ≡ is_some answer)) }
     ensures memory { IsOkUnless result ShapeError.OutOfMemory }
 {
     let start = points.len();
@@ -85,8 +89,11 @@ pub fn append_parts<T: IntNumber, C: ContourCleaner>(
     named: &[Range<usize>],
 ) -> Result<(), ShapeError>
     requires readable { All (InOrder (length source.now)) named.now }
-    requires safe { All (All (IsSafe T.width)) (map (contour_of T.value) (slices source.now named.now)) }
-    ensures ok { OnOk result ((more : List (List (IntPoint T))) × Survivors C.answers (map (contour_of T.value) (slices source.now named.now)) (contours_of T.value more) × Grows points.old.items points.new.items ranges.old.items ranges.new.items more) }
+    requires safe { All (All (IsSafe T.width)) (read_contours T.value source.now named.now) }
+    ensures ok { OnOk result ((more : List (List (IntPoint T)))
+        × Survivors C.answers (read_contours T.value source.now named.now)
+        (contours_of T.value more) × Grows points.old.items
+        points.new.items ranges.old.items ranges.new.items more) }
     ensures memory { IsOkUnless result ShapeError.OutOfMemory }
 {
     for range in named {

@@ -1,15 +1,16 @@
 //! The cleaning inside a flat buffer of shapes.
 
-ghost use Rattle.std.specs.Prelude.{◌≡◌, ◌⊎◌, ◌<◌, ◌≤◌, ◌↔◌, true, false, map, length, IfOk, OnOk, OnErr, IsOkUnless, IsErrOf, IsTrue, MatchOption};
+ghost use Rattle.std.specs.Prelude.{◌≡◌, ◌⊎◌, ◌<◌, ◌≤◌, ◌↔◌, length, IfOk, OnOk, IsOkUnless, IsErrOf, IsTrue, MatchOption};
 ghost use Rattle.std.specs.List.{All};
 ghost use Rattle.i_shape_core.specs.Contour.{IsSimple};
 ghost use Rattle.i_shape_core.specs.Convex.{NoSpikes};
 ghost use Rattle.i_shape_core.specs.Cleaners.{SimpleAnswer, DespikeAnswer};
 ghost use Rattle.i_shape.specs.ShapeLists.{IsSafeShape, IsSafeList};
-ghost use Rattle.i_shape.specs.ShapeAnswers.{ListClean, ListKept, EachShape};
-ghost use Rattle.i_shape.specs.Flat.{InOrder, IsReadableShape, part_of, slices, shapes};
-ghost use Rattle.i_shape.specs.Buffers.{CanReadShapes, HoldsShapes, shapes_in, contours_of, named_shapes, named_points, named_contours};
+ghost use Rattle.i_shape.specs.ShapeAnswers.{ListClean, EachShape};
+ghost use Rattle.i_shape.specs.Flat.{InOrder, IsReadableShape, part_of, slices};
+ghost use Rattle.i_shape.specs.Buffers.{CanReadShapes, HoldsShapes, shapes_in, contours_of, named_shapes, named_points, named_contours, read_shapes};
 ghost use Rattle.i_shape.specs.AppendedAnswers.{AppendsShapeAnswer};
+ghost use Rattle.i_shape.specs.CleanedBuffers.{CleansShapesBuffer};
 
 use crate::ShapeError;
 use crate::flat::buffer::FlatShapesBuffer;
@@ -34,14 +35,8 @@ impl<T: IntNumber> FlatShapesBuffer<T> {
     pub fn simplify_shapes(&mut self) -> Result<bool, ShapeError>
         requires readable { CanReadShapes self.old }
         requires safe { IsSafeList T.width (named_shapes T.value self.old) }
-        ensures cleaned { OnOk result (ListClean SimpleAnswer (named_shapes T.value self.old) (named_shapes T.value self.new)) }
-        ensures clean { result ≡ Ok false ↔ EachShape IsSimple (named_shapes T.value self.old) }
-        ensures kept { OnOk result (ListKept SimpleAnswer (named_shapes T.value self.old) (named_shapes T.value self.new)) }
-        ensures unchanged { result ≡ Ok false → self.new ≡ self.old }
-        ensures end_to_end { result ≡ Ok true → HoldsShapes self.new (shapes_in self.new) }
-        ensures readable { CanReadShapes self.new }
-        ensures safe { IsSafeList T.width (named_shapes T.value self.new) }
-        ensures err { OnErr result (self.new ≡ self.old) }
+        ensures gives { CleansShapesBuffer IsSimple SimpleAnswer
+            T.width T.value self.old self.new result }
         ensures too_many { IsErrOf result ShapeError.TooManyPoints
             ↔ (((usize.MAX < named_points self.old.contour_ranges.items self.old.shape_ranges.items)
             ⊎ (usize.MAX < named_contours self.old.contour_ranges.items self.old.shape_ranges.items))
@@ -55,14 +50,8 @@ impl<T: IntNumber> FlatShapesBuffer<T> {
     pub fn remove_spikes(&mut self) -> Result<bool, ShapeError>
         requires readable { CanReadShapes self.old }
         requires safe { IsSafeList T.width (named_shapes T.value self.old) }
-        ensures cleaned { OnOk result (ListClean DespikeAnswer (named_shapes T.value self.old) (named_shapes T.value self.new)) }
-        ensures clean { result ≡ Ok false ↔ EachShape NoSpikes (named_shapes T.value self.old) }
-        ensures kept { OnOk result (ListKept DespikeAnswer (named_shapes T.value self.old) (named_shapes T.value self.new)) }
-        ensures unchanged { result ≡ Ok false → self.new ≡ self.old }
-        ensures end_to_end { result ≡ Ok true → HoldsShapes self.new (shapes_in self.new) }
-        ensures readable { CanReadShapes self.new }
-        ensures safe { IsSafeList T.width (named_shapes T.value self.new) }
-        ensures err { OnErr result (self.new ≡ self.old) }
+        ensures gives { CleansShapesBuffer NoSpikes DespikeAnswer
+            T.width T.value self.old self.new result }
         ensures too_many { IsErrOf result ShapeError.TooManyPoints
             ↔ (((usize.MAX < named_points self.old.contour_ranges.items self.old.shape_ranges.items)
             ⊎ (usize.MAX < named_contours self.old.contour_ranges.items self.old.shape_ranges.items))
@@ -78,14 +67,8 @@ fn clean_shapes<T: IntNumber, C: InPlaceCleaner>(
 ) -> Result<bool, ShapeError>
     requires readable { CanReadShapes buffer.old }
     requires safe { IsSafeList T.width (named_shapes T.value buffer.old) }
-    ensures cleaned { OnOk result (ListClean C.answers (named_shapes T.value buffer.old) (named_shapes T.value buffer.new)) }
-    ensures clean { result ≡ Ok false ↔ EachShape C.clean (named_shapes T.value buffer.old) }
-    ensures kept { OnOk result (ListKept C.answers (named_shapes T.value buffer.old) (named_shapes T.value buffer.new)) }
-    ensures unchanged { result ≡ Ok false → buffer.new ≡ buffer.old }
-    ensures end_to_end { result ≡ Ok true → HoldsShapes buffer.new (shapes_in buffer.new) }
-    ensures readable { CanReadShapes buffer.new }
-    ensures safe { IsSafeList T.width (named_shapes T.value buffer.new) }
-    ensures err { OnErr result (buffer.new ≡ buffer.old) }
+    ensures gives { CleansShapesBuffer C.clean C.answers
+        T.width T.value buffer.old buffer.new result }
     ensures too_many { IsErrOf result ShapeError.TooManyPoints
         ↔ (((usize.MAX < named_points buffer.old.contour_ranges.items buffer.old.shape_ranges.items)
         ⊎ (usize.MAX < named_contours buffer.old.contour_ranges.items buffer.old.shape_ranges.items))
@@ -126,9 +109,12 @@ fn are_clean_shapes<T: IntNumber, C: ContourCleaner>(
     contour_ranges: &[Range<usize>],
     shape_ranges: &[Range<usize>],
 ) -> bool
-    requires readable { All (IsReadableShape (length points.now) contour_ranges.now) shape_ranges.now }
-    requires safe { IsSafeList T.width (map (contours_of T.value) (shapes points.now contour_ranges.now shape_ranges.now)) }
-    ensures { IsTrue result ↔ EachShape C.clean (map (contours_of T.value) (shapes points.now contour_ranges.now shape_ranges.now)) }
+    requires readable { All (IsReadableShape (length points.now) contour_ranges.now)
+        shape_ranges.now }
+    requires safe { IsSafeList T.width
+        (read_shapes T.value points.now contour_ranges.now shape_ranges.now) }
+    ensures { IsTrue result
+        ↔ EachShape C.clean (read_shapes T.value points.now contour_ranges.now shape_ranges.now) }
 {
     for range in shape_ranges {
         if !are_clean::<T, C>(points, named_ranges(contour_ranges, range)) {
@@ -140,8 +126,12 @@ fn are_clean_shapes<T: IntNumber, C: ContourCleaner>(
 
 /// How many points and contours the shapes have together; `None` where one of the numbers exceeds `usize::MAX`.
 fn checked_named(contour_ranges: &[Range<usize>], shape_ranges: &[Range<usize>]) -> Option<Counts>
-    requires { All (λ range. range.start < range.end → range.end ≤ length contour_ranges.now) shape_ranges.now }
-    ensures { MatchOption result ((usize.MAX < named_points contour_ranges.now shape_ranges.now) ⊎ (usize.MAX < named_contours contour_ranges.now shape_ranges.now)) (λ counts. (counts.points ≡ named_points contour_ranges.now shape_ranges.now) × (counts.contours ≡ named_contours contour_ranges.now shape_ranges.now)) }
+    requires { All (λ range. range.start < range.end → range.end ≤ length contour_ranges.now)
+        shape_ranges.now }
+    ensures { MatchOption result ((usize.MAX < named_points contour_ranges.now shape_ranges.now)
+        ⊎ (usize.MAX < named_contours contour_ranges.now shape_ranges.now))
+        (λ counts. (counts.points ≡ named_points contour_ranges.now shape_ranges.now)
+        × (counts.contours ≡ named_contours contour_ranges.now shape_ranges.now)) }
 {
     let mut points: usize = 0;
     let mut contours: usize = 0;
@@ -162,7 +152,8 @@ fn append_cleaned_shape<T: IntNumber, C: ContourCleaner>(
 ) -> Result<(), ShapeError>
     requires readable { All (InOrder (length source.now)) named.now }
     requires safe { IsSafeShape T.width (contours_of T.value (slices source.now named.now)) }
-    ensures ok { OnOk result (AppendsShapeAnswer C.answers T.value (slices source.now named.now) kept.old kept.new) }
+    ensures ok { OnOk result
+        (AppendsShapeAnswer C.answers T.value (slices source.now named.now) kept.old kept.new) }
     ensures memory { IsOkUnless result ShapeError.OutOfMemory }
 {
     let start = kept.contour_ranges.len();
@@ -198,9 +189,14 @@ fn cleaned_shapes<T: IntNumber, C: ContourCleaner>(
     contour_ranges: &[Range<usize>],
     shape_ranges: &[Range<usize>],
 ) -> Result<FlatShapesBuffer<T>, ShapeError>
-    requires readable { All (IsReadableShape (length points.now) contour_ranges.now) shape_ranges.now }
-    requires safe { IsSafeList T.width (map (contours_of T.value) (shapes points.now contour_ranges.now shape_ranges.now)) }
-    ensures cleaned { IfOk result (λ kept. ListClean C.answers (map (contours_of T.value) (shapes points.now contour_ranges.now shape_ranges.now)) (named_shapes T.value kept)) }
+    requires readable { All (IsReadableShape (length points.now) contour_ranges.now)
+        shape_ranges.now }
+    requires safe { IsSafeList T.width
+        (read_shapes T.value points.now contour_ranges.now shape_ranges.now) }
+    ensures cleaned { IfOk result
+        (λ kept. ListClean C.answers
+        (read_shapes T.value points.now contour_ranges.now shape_ranges.now)
+        (named_shapes T.value kept)) }
     ensures end_to_end { IfOk result (λ kept. HoldsShapes kept (shapes_in kept)) }
     ensures too_many { IsErrOf result ShapeError.TooManyPoints
         ↔ ((usize.MAX < named_points contour_ranges.now shape_ranges.now)

@@ -1,5 +1,8 @@
 use Rattle.std.proofs.Common.{rules}
 use Rattle.i_shape_c.proofs.calls.i16.i_shape_is_simple_i16.Goals as goal
 
-pub returns-clause-answer : goal.returns-clause-answer
-returns-clause-answer c = search rules
+pub returns : goal.returns
+returns c = record {
+      answer = search rules;
+      unsafe_points = search rules
+    }

@@ -1,5 +1,9 @@
 use Rattle.std.proofs.Common.{rules}
 use Rattle.i_shape_c.proofs.calls.measures.i16.i_shape_is_safe_contours_i16.Goals as goal
 
-pub returns-clause-answer : goal.returns-clause-answer
-returns-clause-answer c = search rules
+pub returns : goal.returns
+returns c = record {
+      answer = search rules;
+      unfit = search rules;
+      any_points = search rules
+    }

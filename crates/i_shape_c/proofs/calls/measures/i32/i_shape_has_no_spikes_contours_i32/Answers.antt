@@ -1,5 +1,9 @@
 use Rattle.std.proofs.Common.{rules}
 use Rattle.i_shape_c.proofs.calls.measures.i32.i_shape_has_no_spikes_contours_i32.Goals as goal
 
-pub returns-clause-answer : goal.returns-clause-answer
-returns-clause-answer c = search rules
+pub returns : goal.returns
+returns c = record {
+      answer = search rules;
+      unfit = search rules;
+      unsafe_points = search rules
+    }

@@ -1,14 +1,8 @@
 use Rattle.std.proofs.Common.{rules}
 use Rattle.i_shape.proofs.flat.buffer.shapes.FlatShapesBuffer.remove_spikes.Goals as goal
 
-pub returns-clause-cleaned : goal.returns-clause-cleaned
-returns-clause-cleaned g c = search rules
-
-pub returns-clause-clean : goal.returns-clause-clean
-returns-clause-clean g c = search rules
-
-pub returns-clause-kept : goal.returns-clause-kept
-returns-clause-kept g c = search rules
+pub returns-clause-gives : goal.returns-clause-gives
+returns-clause-gives g c = c.clean_shapes.ensures.gives
 
 pub returns-clause-too_many : goal.returns-clause-too_many
 returns-clause-too_many g c = search rules
