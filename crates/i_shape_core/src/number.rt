@@ -134,7 +134,8 @@ pub trait IntNumber: Copy + Ord {
     fn safe_differences_fit()
         ensures differences { (a b : ℤ) → IsSafeCoordinate width a
             → IsSafeCoordinate width b → FitsSigned width (a -ℤ b) }
-        ensures products { (a b c d : ℤ) → IsSafeCoordinate width a → IsSafeCoordinate width b → IsSafeCoordinate width c → IsSafeCoordinate width d
+        ensures products { (a b c d : ℤ) → IsSafeCoordinate width a → IsSafeCoordinate width b
+            → IsSafeCoordinate width c → IsSafeCoordinate width d
             → FitsSigned Self.Wide.width ((a -ℤ b) *ℤ (c -ℤ d)) }
     {}
 

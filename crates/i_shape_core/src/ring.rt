@@ -34,9 +34,11 @@ impl Ring {
         requires empty { vec_len memory ≡ 0 }
         requires room { count ≤ vec_capacity memory }
         ensures { result
-            ≡ record { places = drop place (range_with_len 0 count)
-            ++ take place (range_with_len 0 count); untested = count
-            - place; lead = count - place } }
+            ≡ record {
+              places = drop place (range_with_len 0 count) ++ take place (range_with_len 0 count);
+              untested = count - place;
+              lead = count - place;
+            } }
     {
         let mut places = memory;
         for each in 0..count {

@@ -45,8 +45,8 @@ impl ContourSimplifier {
         requires points_safe { IsSafeContour P.Coordinate.width
             (contour_of P.Coordinate.value (P.points contour.now)) }
         requires room { length contour.now ≤ length out.old }
-        ensures { CleansInto IsSimple UnorientedAnswer KeptEitherWay SublistEitherWay P.Coordinate.width
-            (λ list. contour_of P.Coordinate.value (P.points list)) contour.now out.old out.new result }
+        ensures { CleansInto IsSimple UnorientedAnswer KeptEitherWay SublistEitherWay
+            P.Coordinate.width (λ list. contour_of P.Coordinate.value (P.points list)) contour.now out.old out.new result }
     {
         let count = self.canonical_into(contour, out)?;
         if count > 0 {

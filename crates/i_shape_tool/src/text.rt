@@ -70,7 +70,8 @@ fn answer_contour(
     output: &mut String,
 ) -> Result<(), ToolFault>
     requires { IsCleaner (command_of command) → IsSafe (contour_of contour.now.items) }
-    ensures ok { OnOk result ((answer : List ℕ) × AnswersContour command (contour_of contour.now.items) answer
+    ensures ok { OnOk result ((answer : List ℕ)
+        × AnswersContour command (contour_of contour.now.items) answer
         × (string_bytes output.new ≡ string_bytes output.old ++ answer)) }
     ensures memory { IsOkUnless result ToolFault.OutOfMemory }
 {

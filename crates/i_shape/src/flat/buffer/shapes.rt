@@ -186,7 +186,8 @@ impl<T: IntNumber> FlatShapesBuffer<T> {
         ensures ok { OnOk result (AddsShape self.old self.new (paths_of_shape shape.now)) }
         ensures err { OnErr result (SameShapeLists self.old self.new) }
         ensures too_many { IsErrOf result ShapeError.TooManyPoints
-            ↔ ((usize.MAX < vec_len self.old.points + length (concatenated (paths_of_shape shape.now)))
+            ↔ ((usize.MAX
+            < vec_len self.old.points + length (concatenated (paths_of_shape shape.now)))
             ⊎ (usize.MAX < vec_len self.old.contour_ranges + length shape.now)) }
     {
         let count = checked_points_count(shape).ok_or(ShapeError::TooManyPoints)?;

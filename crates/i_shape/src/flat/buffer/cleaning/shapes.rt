@@ -38,8 +38,10 @@ impl<T: IntNumber> FlatShapesBuffer<T> {
         ensures gives { CleansShapesBuffer IsSimple SimpleAnswer
             T.width T.value self.old self.new result }
         ensures too_many { IsErrOf result ShapeError.TooManyPoints
-            ↔ (((usize.MAX < named_points self.old.contour_ranges.items self.old.shape_ranges.items)
-            ⊎ (usize.MAX < named_contours self.old.contour_ranges.items self.old.shape_ranges.items))
+            ↔ (((usize.MAX
+            < named_points self.old.contour_ranges.items self.old.shape_ranges.items)
+            ⊎ (usize.MAX
+            < named_contours self.old.contour_ranges.items self.old.shape_ranges.items))
             × (EachShape IsSimple (named_shapes T.value self.old) → ⊥)) }
     {
         clean_shapes::<T, ContourSimplifier>(self)
@@ -53,8 +55,10 @@ impl<T: IntNumber> FlatShapesBuffer<T> {
         ensures gives { CleansShapesBuffer NoSpikes DespikeAnswer
             T.width T.value self.old self.new result }
         ensures too_many { IsErrOf result ShapeError.TooManyPoints
-            ↔ (((usize.MAX < named_points self.old.contour_ranges.items self.old.shape_ranges.items)
-            ⊎ (usize.MAX < named_contours self.old.contour_ranges.items self.old.shape_ranges.items))
+            ↔ (((usize.MAX
+            < named_points self.old.contour_ranges.items self.old.shape_ranges.items)
+            ⊎ (usize.MAX
+            < named_contours self.old.contour_ranges.items self.old.shape_ranges.items))
             × (EachShape NoSpikes (named_shapes T.value self.old) → ⊥)) }
     {
         clean_shapes::<T, SpikeRemover>(self)
@@ -70,8 +74,10 @@ fn clean_shapes<T: IntNumber, C: InPlaceCleaner>(
     ensures gives { CleansShapesBuffer C.clean C.answers
         T.width T.value buffer.old buffer.new result }
     ensures too_many { IsErrOf result ShapeError.TooManyPoints
-        ↔ (((usize.MAX < named_points buffer.old.contour_ranges.items buffer.old.shape_ranges.items)
-        ⊎ (usize.MAX < named_contours buffer.old.contour_ranges.items buffer.old.shape_ranges.items))
+        ↔ (((usize.MAX
+        < named_points buffer.old.contour_ranges.items buffer.old.shape_ranges.items)
+        ⊎ (usize.MAX
+        < named_contours buffer.old.contour_ranges.items buffer.old.shape_ranges.items))
         × (EachShape C.clean (named_shapes T.value buffer.old) → ⊥)) }
 {
     if are_clean_shapes::<T, C>(

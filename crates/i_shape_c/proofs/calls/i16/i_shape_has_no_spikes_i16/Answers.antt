@@ -3,6 +3,6 @@ use Rattle.i_shape_c.proofs.calls.i16.i_shape_has_no_spikes_i16.Goals as goal
 
 pub returns : goal.returns
 returns c = record {
-      answer = search rules;
-      unsafe_points = search rules
-    }
+  answer = search rules;
+  unsafe_points = search rules;
+}

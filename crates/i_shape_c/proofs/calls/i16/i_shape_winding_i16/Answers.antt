@@ -7,5 +7,5 @@ pub returns : goal.returns
 returns c =
     let told = rw (to_z-of_z w16 c.args.x c.ranges.x, to_z-of_z w16 c.args.y c.ranges.y) at c.winding.ensures.unsafe_points in record {
       answer = search rules;
-      unsafe_points = rw (to_z-of_z w64 c.winding.result (record { sfits = c.winding.type_inv })) told
+      unsafe_points = rw (to_z-of_z w64 c.winding.result (record { sfits = c.winding.type_inv })) told;
     }

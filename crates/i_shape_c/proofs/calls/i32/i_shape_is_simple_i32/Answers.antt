@@ -3,6 +3,6 @@ use Rattle.i_shape_c.proofs.calls.i32.i_shape_is_simple_i32.Goals as goal
 
 pub returns : goal.returns
 returns c = record {
-      answer = search rules;
-      unsafe_points = search rules
-    }
+  answer = search rules;
+  unsafe_points = search rules;
+}

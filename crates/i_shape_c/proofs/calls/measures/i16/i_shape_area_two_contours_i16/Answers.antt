@@ -3,7 +3,7 @@ use Rattle.i_shape_c.proofs.calls.measures.i16.i_shape_area_two_contours_i16.Goa
 
 pub returns : goal.returns
 returns c = record {
-      answer = search rules;
-      unfit = search rules;
-      any_points = search rules
-    }
+  answer = search rules;
+  unfit = search rules;
+  any_points = search rules;
+}

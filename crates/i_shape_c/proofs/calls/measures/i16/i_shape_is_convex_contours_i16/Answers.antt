@@ -3,7 +3,7 @@ use Rattle.i_shape_c.proofs.calls.measures.i16.i_shape_is_convex_contours_i16.Go
 
 pub returns : goal.returns
 returns c = record {
-      answer = search rules;
-      unfit = search rules;
-      unsafe_points = search rules
-    }
+  answer = search rules;
+  unfit = search rules;
+  unsafe_points = search rules;
+}

@@ -3,7 +3,7 @@ use Rattle.i_shape_c.proofs.calls.measures.i32.i_shape_has_no_spikes_contours_i3
 
 pub returns : goal.returns
 returns c = record {
-      answer = search rules;
-      unfit = search rules;
-      unsafe_points = search rules
-    }
+  answer = search rules;
+  unfit = search rules;
+  unsafe_points = search rules;
+}

@@ -3,7 +3,7 @@ use Rattle.i_shape_c.proofs.calls.measures.i32.i_shape_is_simple_contours_i32.Go
 
 pub returns : goal.returns
 returns c = record {
-      answer = search rules;
-      unfit = search rules;
-      unsafe_points = search rules
-    }
+  answer = search rules;
+  unfit = search rules;
+  unsafe_points = search rules;
+}

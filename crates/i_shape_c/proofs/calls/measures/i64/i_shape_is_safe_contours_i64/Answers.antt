@@ -3,7 +3,7 @@ use Rattle.i_shape_c.proofs.calls.measures.i64.i_shape_is_safe_contours_i64.Goal
 
 pub returns : goal.returns
 returns c = record {
-      answer = search rules;
-      unfit = search rules;
-      any_points = search rules
-    }
+  answer = search rules;
+  unfit = search rules;
+  any_points = search rules;
+}
