@@ -1,5 +1,5 @@
 -- What flat buffers hold and name, and what cleaning inside them leaves.
-use Rattle.std.specs.Prelude.{◌≡◌, ℕ, List, [], ◌∷◌, length, ◌+◌, ◌++◌, ◌-◌, ℤ, map}
+use Rattle.std.specs.Prelude.{◌≡◌, ℕ, List, [], ◌∷◌, length, ◌+◌, ◌++◌, ◌-◌, ◌≤◌, ℤ, map, vec_capacity}
 use Rattle.std.specs.List.{All, sum_by}
 use Rattle.std.specs.declared.ops.Range.{Range}
 use Rattle.i_shape_core.specs.declared.point.IntPoint.{IntPoint}
@@ -22,6 +22,10 @@ pub record HoldsContours {T : Type 0} (buffer : FlatContoursBuffer T) (contours 
 pub record SameLists {T : Type 0} (old new : FlatContoursBuffer T) : Type 0 where
   pub points : new.points.items ≡ old.points.items
   pub ranges : new.ranges.items ≡ old.ranges.items
+
+-- there is room for so many points and contours in all
+abbrev pub HasRoom : {T : Type 0} → FlatContoursBuffer T → ℕ → ℕ → Type 0
+HasRoom buffer points contours = (points ≤ vec_capacity buffer.points) × (contours ≤ vec_capacity buffer.ranges)
 
 -- there is no range, or the first can be read
 abbrev pub CanReadFirst : List (Range ℕ) → ℕ → Type 0
@@ -60,6 +64,11 @@ pub record SameShapeLists {T : Type 0} (old new : FlatShapesBuffer T) : Type 0 w
   pub points : new.points.items ≡ old.points.items
   pub contour_ranges : new.contour_ranges.items ≡ old.contour_ranges.items
   pub shape_ranges : new.shape_ranges.items ≡ old.shape_ranges.items
+
+-- there is room for so many points, contours and shapes in all
+abbrev pub HasShapesRoom : {T : Type 0} → FlatShapesBuffer T → ℕ → ℕ → ℕ → Type 0
+HasShapesRoom buffer points contours shapes =
+    (points ≤ vec_capacity buffer.points) × (contours ≤ vec_capacity buffer.contour_ranges) × (shapes ≤ vec_capacity buffer.shape_ranges)
 
 -- the new buffer is the old one with one shape more at the end
 pub record AddsShape {T : Type 0} (old new : FlatShapesBuffer T) (shape : List (List (IntPoint T))) : Type 0 where

@@ -1,5 +1,5 @@
 -- What a flat buffer over points of any kind holds.
-use Rattle.std.specs.Prelude.{ℕ, List, length, Bool, ◌&&◌, nat_le, ◌≡◌, [], ◌∷◌}
+use Rattle.std.specs.Prelude.{ℕ, List, length, Bool, ◌&&◌, nat_le, ◌≡◌, ◌≤◌, [], ◌∷◌, vec_capacity}
 use Rattle.std.specs.List.{filter, All}
 use Rattle.std.specs.declared.ops.Range.{Range}
 use Rattle.i_shape.specs.Flat.{slices, InOrder, IsReadableShape, shapes, end_to_end}
@@ -25,6 +25,15 @@ pub record HasShapeLists {P : Type 0} (buffer : FloatFlatShapesBuffer P) (held :
   pub points : buffer.points.items ≡ held
   pub contour_ranges : buffer.contour_ranges.items ≡ named
   pub shape_ranges : buffer.shape_ranges.items ≡ grouped
+
+-- the contours form has room for so many points and contours in all
+abbrev pub HasListsRoom : {P : Type 0} → FloatFlatContoursBuffer P → ℕ → ℕ → Type 0
+HasListsRoom buffer points contours = (points ≤ vec_capacity buffer.points) × (contours ≤ vec_capacity buffer.ranges)
+
+-- the shapes form has room for so many points, contours and shapes in all
+abbrev pub HasGroupsRoom : {P : Type 0} → FloatFlatShapesBuffer P → ℕ → ℕ → ℕ → Type 0
+HasGroupsRoom buffer points contours shapes =
+    (points ≤ vec_capacity buffer.points) × (contours ≤ vec_capacity buffer.contour_ranges) × (shapes ≤ vec_capacity buffer.shape_ranges)
 
 -- the two shapes forms have the same points and the same ranges
 abbrev pub SameGroups : {P : Type 0} → FloatFlatShapesBuffer P → FloatFlatShapesBuffer P → Type 0

@@ -1,6 +1,6 @@
 //! Work on the lists that every flat buffer has: points, and ranges of them.
 
-ghost use Rattle.std.specs.Prelude.{◌≡◌, ◌+◌, ◌<◌, ◌≤◌, ◌++◌, ◌∷◌, ◌⊎◌, ◌↔◌, IsTrue, [], length, vec_len, vec_capacity, OnOk, IfOk, IsOkUnless, MatchOption};
+ghost use Rattle.std.specs.Prelude.{◌≡◌, ◌+◌, ◌<◌, ◌≤◌, ◌++◌, ◌∷◌, ◌⊎◌, ◌↔◌, IsTrue, [], length, vec_len, vec_capacity, OnOk, IfOk, IsOkUnless, MatchOption, IsOk};
 ghost use Rattle.std.specs.List.{All};
 ghost use Rattle.i_shape_source.specs.Paths.{paths_of_shape, shape_lists, concatenated, paths_of_shapes};
 ghost use Rattle.i_shape.specs.Flat.{InOrder, IsReadableShape, end_to_end, slices, shapes, behind};
@@ -26,6 +26,7 @@ pub fn reserve_total<T>(list: &mut Vec<T>, total: usize) -> Result<(), ShapeErro
     ensures items { list.new.items ≡ list.old.items }
     ensures len { vec_len list.new ≡ vec_len list.old }
     ensures room { OnOk result (total ≤ vec_capacity list.new) }
+    ensures reserved { total ≤ vec_capacity list.old → IsOk result }
     ensures memory { IsOkUnless result ShapeError.OutOfMemory }
 {
     let additional = total.saturating_sub(list.len());

@@ -1,10 +1,10 @@
 //! The flat buffer whose ranges name contours.
 
-ghost use Rattle.std.specs.Prelude.{◌≡◌, ◌+◌, ◌<◌, ◌≤◌, ◌++◌, ◌∷◌, ◌↔◌, ◌⊎◌, [], length, vec_len, vec_capacity, IfOk, OnOk, OnErr, IsOkUnless, IsErrOf, IsTrue};
+ghost use Rattle.std.specs.Prelude.{◌≡◌, ◌+◌, ◌<◌, ◌≤◌, ◌++◌, ◌∷◌, ◌↔◌, ◌⊎◌, [], length, vec_len, vec_capacity, IfOk, OnOk, OnErr, IsOkUnless, IsErrOf, IsTrue, IsOk};
 ghost use Rattle.std.specs.Borrow.{sem};
 ghost use Rattle.i_shape_source.specs.Paths.{paths_of_shape, concatenated, paths_of_shapes};
 ghost use Rattle.i_shape.specs.Flat.{InOrder, part_of, slices};
-ghost use Rattle.i_shape.specs.Buffers.{HoldsContours, SameLists, CanReadFirst, first_contour, CanReadContours};
+ghost use Rattle.i_shape.specs.Buffers.{HoldsContours, SameLists, CanReadFirst, first_contour, CanReadContours, HasRoom};
 ghost use Rattle.i_shape.specs.Lending.{LendsFirst, first_start};
 
 use crate::ShapeError;
@@ -104,8 +104,8 @@ impl<T: IntNumber> FlatContoursBuffer<T> {
     pub fn clear_and_reserve(&mut self, points: usize, contours: usize) -> Result<(), ShapeError>
         ensures ok { OnOk result (HoldsContours self.new []) }
         ensures err { OnErr result (SameLists self.old self.new) }
-        ensures room { OnOk result ((points ≤ vec_capacity self.new.points)
-            × (contours ≤ vec_capacity self.new.ranges)) }
+        ensures room { OnOk result (HasRoom self.new points contours) }
+        ensures reserved { HasRoom self.old points contours → IsOk result }
         ensures memory { IsOkUnless result ShapeError.OutOfMemory }
     {
         reserve_total(&mut self.points, points)?;
@@ -119,6 +119,7 @@ impl<T: IntNumber> FlatContoursBuffer<T> {
     pub fn set_with_contour(&mut self, contour: &[IntPoint<T>]) -> Result<(), ShapeError>
         ensures ok { OnOk result (HoldsContours self.new (contour.now ∷ [])) }
         ensures err { OnErr result (SameLists self.old self.new) }
+        ensures reserved { HasRoom self.old (length contour.now) 1 → IsOk result }
         ensures memory { IsOkUnless result ShapeError.OutOfMemory }
     {
         self.clear_and_reserve(contour.len(), 1)?;
@@ -133,6 +134,8 @@ impl<T: IntNumber> FlatContoursBuffer<T> {
         ensures err { OnErr result (SameLists self.old self.new) }
         ensures too_many { IsErrOf result ShapeError.TooManyPoints
             ↔ (usize.MAX < length (concatenated (paths_of_shape shape.now))) }
+        ensures reserved { HasRoom self.old (length (concatenated (paths_of_shape shape.now)))
+            (length shape.now) → IsOk result }
     {
         let count = checked_points_count(shape).ok_or(ShapeError::TooManyPoints)?;
         self.clear_and_reserve(count, shape.len())?;
@@ -148,6 +151,8 @@ impl<T: IntNumber> FlatContoursBuffer<T> {
         ensures too_many { IsErrOf result ShapeError.TooManyPoints
             ↔ ((usize.MAX < length (concatenated (paths_of_shapes shapes.now)))
             ⊎ (usize.MAX < length (paths_of_shapes shapes.now))) }
+        ensures reserved { HasRoom self.old (length (concatenated (paths_of_shapes shapes.now)))
+            (length (paths_of_shapes shapes.now)) → IsOk result }
     {
         let counts = checked_counts(shapes).ok_or(ShapeError::TooManyPoints)?;
         self.clear_and_reserve(counts.points, counts.contours)?;
@@ -166,6 +171,8 @@ impl<T: IntNumber> FlatContoursBuffer<T> {
         ensures err { OnErr result (SameLists self.old self.new) }
         ensures too_many { IsErrOf result ShapeError.TooManyPoints
             ↔ (usize.MAX < vec_len self.old.points + length contour.now) }
+        ensures reserved { HasRoom self.old (vec_len self.old.points + length contour.now)
+            (vec_len self.old.ranges + 1) → IsOk result }
     {
         if contour.len() > usize::MAX - self.points.len() {
             return Err(ShapeError::TooManyPoints);

@@ -1,10 +1,10 @@
 //! The flat buffer whose shape ranges name contour ranges.
 
-ghost use Rattle.std.specs.Prelude.{◌≡◌, ◌+◌, ◌<◌, ◌≤◌, ◌∷◌, ◌↔◌, ◌⊎◌, [], length, vec_len, vec_capacity, IfOk, OnOk, OnErr, IsOkUnless, IsErrOf, IsTrue};
+ghost use Rattle.std.specs.Prelude.{◌≡◌, ◌+◌, ◌<◌, ◌∷◌, ◌↔◌, ◌⊎◌, [], length, vec_len, IfOk, OnOk, OnErr, IsOkUnless, IsErrOf, IsTrue, IsOk};
 ghost use Rattle.std.specs.List.{All};
 ghost use Rattle.i_shape_source.specs.Paths.{paths_of_shape, shape_lists, concatenated, paths_of_shapes};
 ghost use Rattle.i_shape.specs.Flat.{InOrder, slices, shapes};
-ghost use Rattle.i_shape.specs.Buffers.{HoldsShapes, SameShapeLists, AddsShape, CanReadShapes, shapes_in};
+ghost use Rattle.i_shape.specs.Buffers.{HoldsShapes, SameShapeLists, AddsShape, CanReadShapes, shapes_in, HasShapesRoom};
 
 use crate::ShapeError;
 use crate::flat::lists::{
@@ -51,9 +51,7 @@ impl<T: IntNumber> FlatShapesBuffer<T> {
         shapes: usize,
     ) -> Result<Self, ShapeError>
         ensures ok { IfOk result (λ buffer. HoldsShapes buffer []) }
-        ensures room { IfOk result (λ buffer. (points ≤ vec_capacity buffer.points)
-            × (contours ≤ vec_capacity buffer.contour_ranges)
-            × (shapes ≤ vec_capacity buffer.shape_ranges)) }
+        ensures room { IfOk result (λ buffer. HasShapesRoom buffer points contours shapes) }
         ensures memory { IsOkUnless result ShapeError.OutOfMemory }
     {
         Ok(FlatShapesBuffer {
@@ -114,9 +112,8 @@ impl<T: IntNumber> FlatShapesBuffer<T> {
     ) -> Result<(), ShapeError>
         ensures ok { OnOk result (HoldsShapes self.new []) }
         ensures err { OnErr result (SameShapeLists self.old self.new) }
-        ensures room { OnOk result ((points ≤ vec_capacity self.new.points)
-            × (contours ≤ vec_capacity self.new.contour_ranges)
-            × (shapes ≤ vec_capacity self.new.shape_ranges)) }
+        ensures room { OnOk result (HasShapesRoom self.new points contours shapes) }
+        ensures reserved { HasShapesRoom self.old points contours shapes → IsOk result }
         ensures memory { IsOkUnless result ShapeError.OutOfMemory }
     {
         reserve_total(&mut self.points, points)?;
@@ -133,6 +130,7 @@ impl<T: IntNumber> FlatShapesBuffer<T> {
     pub fn set_with_contour(&mut self, contour: &[IntPoint<T>]) -> Result<(), ShapeError>
         ensures ok { OnOk result (HoldsShapes self.new ((contour.now ∷ []) ∷ [])) }
         ensures err { OnErr result (SameShapeLists self.old self.new) }
+        ensures reserved { HasShapesRoom self.old (length contour.now) 1 1 → IsOk result }
         ensures memory { IsOkUnless result ShapeError.OutOfMemory }
     {
         self.clear_and_reserve(contour.len(), 1, 1)?;
@@ -148,6 +146,8 @@ impl<T: IntNumber> FlatShapesBuffer<T> {
         ensures err { OnErr result (SameShapeLists self.old self.new) }
         ensures too_many { IsErrOf result ShapeError.TooManyPoints
             ↔ (usize.MAX < length (concatenated (paths_of_shape shape.now))) }
+        ensures reserved { HasShapesRoom self.old (length (concatenated (paths_of_shape shape.now)))
+            (length shape.now) 1 → IsOk result }
     {
         let count = checked_points_count(shape).ok_or(ShapeError::TooManyPoints)?;
         self.clear_and_reserve(count, shape.len(), 1)?;
@@ -168,6 +168,9 @@ impl<T: IntNumber> FlatShapesBuffer<T> {
         ensures too_many { IsErrOf result ShapeError.TooManyPoints
             ↔ ((usize.MAX < length (concatenated (paths_of_shapes shapes.now)))
             ⊎ (usize.MAX < length (paths_of_shapes shapes.now))) }
+        ensures reserved { HasShapesRoom self.old
+            (length (concatenated (paths_of_shapes shapes.now)))
+            (length (paths_of_shapes shapes.now)) (length shapes.now) → IsOk result }
     {
         let counts = checked_counts(shapes).ok_or(ShapeError::TooManyPoints)?;
         self.clear_and_reserve(counts.points, counts.contours, shapes.len())?;
@@ -189,6 +192,10 @@ impl<T: IntNumber> FlatShapesBuffer<T> {
             ↔ ((usize.MAX
             < vec_len self.old.points + length (concatenated (paths_of_shape shape.now)))
             ⊎ (usize.MAX < vec_len self.old.contour_ranges + length shape.now)) }
+        ensures reserved { HasShapesRoom self.old
+            (vec_len self.old.points + length (concatenated (paths_of_shape shape.now)))
+            (vec_len self.old.contour_ranges + length shape.now)
+            (vec_len self.old.shape_ranges + 1) → IsOk result }
     {
         let count = checked_points_count(shape).ok_or(ShapeError::TooManyPoints)?;
         if count > usize::MAX - self.points.len()

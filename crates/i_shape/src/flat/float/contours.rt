@@ -1,11 +1,11 @@
 //! The flat buffer over points of any kind whose ranges name contours.
 
-ghost use Rattle.std.specs.Prelude.{◌≡◌, ◌+◌, ◌<◌, ◌≤◌, ◌++◌, ◌∷◌, ◌↔◌, ◌⊎◌, [], List, length, vec_capacity, IfOk, OnOk, OnErr, IsOkUnless, IsErrOf, IsTrue};
+ghost use Rattle.std.specs.Prelude.{◌≡◌, ◌+◌, ◌<◌, ◌≤◌, ◌++◌, ◌∷◌, ◌↔◌, ◌⊎◌, [], List, length, vec_capacity, IfOk, OnOk, OnErr, IsOkUnless, IsErrOf, IsTrue, IsOk};
 ghost use Rattle.std.specs.List.{All};
 ghost use Rattle.std.specs.Iterator.{Drains, IsFinite};
 ghost use Rattle.i_shape_source.specs.Paths.{paths_of_shape, concatenated};
 ghost use Rattle.i_shape.specs.Flat.{InOrder, slices, behind};
-ghost use Rattle.i_shape.specs.FloatBuffers.{HasLists, LieEndToEnd};
+ghost use Rattle.i_shape.specs.FloatBuffers.{HasLists, LieEndToEnd, HasListsRoom};
 
 use super::fill::{append_items, append_paths, append_ranges, checked_path_counts, greatest_end};
 use crate::ShapeError;
@@ -42,8 +42,7 @@ impl<P: Copy> FloatFlatContoursBuffer<P> {
     /// An empty buffer with room for so many points and contours. The only error is `OutOfMemory`.
     pub fn with_capacity(alloc: Global, points: usize, contours: usize) -> Result<Self, ShapeError>
         ensures ok { IfOk result (λ buffer. HasLists buffer [] []) }
-        ensures room { IfOk result (λ buffer. (points ≤ vec_capacity buffer.points)
-            × (contours ≤ vec_capacity buffer.ranges)) }
+        ensures room { IfOk result (λ buffer. HasListsRoom buffer points contours) }
         ensures memory { IsOkUnless result ShapeError.OutOfMemory }
     {
         Ok(FloatFlatContoursBuffer {
@@ -108,8 +107,8 @@ impl<P: Copy> FloatFlatContoursBuffer<P> {
     pub fn clear_and_reserve(&mut self, points: usize, contours: usize) -> Result<(), ShapeError>
         ensures ok { OnOk result (HasLists self.new [] []) }
         ensures err { OnErr result (HasLists self.new self.old.points.items self.old.ranges.items) }
-        ensures room { OnOk result ((points ≤ vec_capacity self.new.points)
-            × (contours ≤ vec_capacity self.new.ranges)) }
+        ensures room { OnOk result (HasListsRoom self.new points contours) }
+        ensures reserved { HasListsRoom self.old points contours → IsOk result }
         ensures memory { IsOkUnless result ShapeError.OutOfMemory }
     {
         reserve_total(&mut self.points, points)?;
@@ -128,6 +127,8 @@ impl<P: Copy> FloatFlatContoursBuffer<P> {
         ensures err { OnErr result (HasLists self.new self.old.points.items self.old.ranges.items) }
         ensures too_many { IsErrOf result ShapeError.TooManyPoints
             ↔ (usize.MAX < length self.old.points.items + length contour.now) }
+        ensures reserved { HasListsRoom self.old (length self.old.points.items + length contour.now)
+            (length self.old.ranges.items + 1) → IsOk result }
     {
         if self.points.len().checked_add(contour.len()).is_none() {
             return Err(ShapeError::TooManyPoints);
@@ -162,6 +163,8 @@ impl<P: Copy> FloatFlatContoursBuffer<P> {
     /// the lists then stay as they were.
     pub fn set_flat(&mut self, points: &[P], ranges: &[Range<usize>]) -> Result<(), ShapeError>
         ensures ok { OnOk result (HasLists self.new points.now ranges.now) }
+        ensures reserved { HasListsRoom self.old (length points.now) (length ranges.now)
+            → IsOk result }
         ensures err { OnErr result (HasLists self.new self.old.points.items self.old.ranges.items) }
         ensures memory { IsOkUnless result ShapeError.OutOfMemory }
     {
@@ -216,6 +219,8 @@ impl<P: ShapePoint> FloatFlatContoursBuffer<P> {
         ensures too_many { IsErrOf result ShapeError.TooManyPoints
             ↔ ((usize.MAX < length (concatenated (R.paths resource)))
             ⊎ (usize.MAX < length (R.paths resource))) }
+        ensures reserved { HasListsRoom self.old (length (concatenated (R.paths resource)))
+            (length (R.paths resource)) → IsOk result }
     {
         let counts = checked_path_counts(resource).ok_or(ShapeError::TooManyPoints)?;
         self.clear_and_reserve(counts.points, counts.contours)?;

@@ -5,7 +5,7 @@ ghost use Rattle.std.specs.List.{All};
 ghost use Rattle.std.specs.Iterator.{Drains, IsFinite};
 ghost use Rattle.i_shape_source.specs.Paths.{paths_of_shape, shape_lists, concatenated};
 ghost use Rattle.i_shape.specs.Flat.{InOrder, IsReadableShape, slices, shapes, behind};
-ghost use Rattle.i_shape.specs.FloatBuffers.{HasShapeLists, LieEndToEnd, FormOneShape, SameGroups};
+ghost use Rattle.i_shape.specs.FloatBuffers.{HasShapeLists, LieEndToEnd, FormOneShape, SameGroups, HasGroupsRoom};
 
 use super::fill::{append_items, append_paths, append_ranges, checked_path_counts, greatest_end};
 use crate::ShapeError;
@@ -51,9 +51,7 @@ impl<P: Copy> FloatFlatShapesBuffer<P> {
         shapes: usize,
     ) -> Result<Self, ShapeError>
         ensures ok { IfOk result (λ buffer. HasShapeLists buffer [] [] []) }
-        ensures room { IfOk result (λ buffer. (points ≤ vec_capacity buffer.points)
-            × (contours ≤ vec_capacity buffer.contour_ranges)
-            × (shapes ≤ vec_capacity buffer.shape_ranges)) }
+        ensures room { IfOk result (λ buffer. HasGroupsRoom buffer points contours shapes) }
         ensures memory { IsOkUnless result ShapeError.OutOfMemory }
     {
         Ok(FloatFlatShapesBuffer {
@@ -160,9 +158,8 @@ impl<P: Copy> FloatFlatShapesBuffer<P> {
     ) -> Result<(), ShapeError>
         ensures ok { OnOk result (HasShapeLists self.new [] [] []) }
         ensures err { OnErr result (SameGroups self.old self.new) }
-        ensures room { OnOk result ((points ≤ vec_capacity self.new.points)
-            × (contours ≤ vec_capacity self.new.contour_ranges)
-            × (shapes ≤ vec_capacity self.new.shape_ranges)) }
+        ensures room { OnOk result (HasGroupsRoom self.new points contours shapes) }
+        ensures reserved { HasGroupsRoom self.old points contours shapes → IsOk result }
         ensures memory { IsOkUnless result ShapeError.OutOfMemory }
     {
         reserve_total(&mut self.points, points)?;
@@ -183,6 +180,9 @@ impl<P: Copy> FloatFlatShapesBuffer<P> {
         ensures err { OnErr result (SameGroups self.old self.new) }
         ensures too_many { IsErrOf result ShapeError.TooManyPoints
             ↔ (usize.MAX < length self.old.points.items + length contour.now) }
+        ensures reserved { HasGroupsRoom self.old (length self.old.points.items + length contour.now)
+            (length self.old.contour_ranges.items + 1) (length self.old.shape_ranges.items + 1)
+            → IsOk result }
     {
         if self.points.len().checked_add(contour.len()).is_none() {
             return Err(ShapeError::TooManyPoints);
@@ -234,6 +234,8 @@ impl<P: Copy> FloatFlatShapesBuffer<P> {
         ensures ok { OnOk result
             (HasShapeLists self.new points.now contour_ranges.now shape_ranges.now) }
         ensures err { OnErr result (SameGroups self.old self.new) }
+        ensures reserved { HasGroupsRoom self.old (length points.now) (length contour_ranges.now)
+            (length shape_ranges.now) → IsOk result }
         ensures memory { IsOkUnless result ShapeError.OutOfMemory }
     {
         self.clear_and_reserve(points.len(), contour_ranges.len(), shape_ranges.len())?;
@@ -295,6 +297,8 @@ impl<P: ShapePoint> FloatFlatShapesBuffer<P> {
         ensures too_many { IsErrOf result ShapeError.TooManyPoints
             ↔ ((usize.MAX < length (concatenated (R.paths resource)))
             ⊎ (usize.MAX < length (R.paths resource))) }
+        ensures reserved { HasGroupsRoom self.old (length (concatenated (R.paths resource)))
+            (length (R.paths resource)) 1 → IsOk result }
     {
         let counts = checked_path_counts(resource).ok_or(ShapeError::TooManyPoints)?;
         if counts.contours == 0 {
