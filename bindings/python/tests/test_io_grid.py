@@ -246,7 +246,7 @@ class Closing(unittest.TestCase):
         for call in (io.open_rings, io.close_rings):
             for offsets in ([0, 5], [3, 1], [-1, 4], []):
                 with self.assertRaises(i_shape.OffsetsError):
-                    call(samples.SQUARE, np.array(offsets, int))
+                    call(samples.SQUARE, offsets)
             with self.assertRaises(TypeError):
                 call(samples.SQUARE, [0.0, 4.0])
             with self.assertRaises(TypeError):
@@ -296,7 +296,7 @@ class Cleaners(unittest.TestCase):
                     right = self.cleaned(given, lambda ring: plain.tuples(
                         one(plain.array(ring, dtype))))
                     for threads in (1, 3):
-                        left = call(features, threads)
+                        left = call(features, threads=threads)
                         self.assertEqual(samples.lists(left), right)
                         self.assertEqual(left.polygons.points.dtype, dtype)
 
