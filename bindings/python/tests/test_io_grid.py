@@ -182,8 +182,12 @@ class Grids(unittest.TestCase):
         self.assertEqual(
             samples.lists(whole),
             [(True, [[[(-200, 0), (-192, 0), (-192, 8), (-200, 8)], []], []])])
-        self.assertEqual(samples.lists(io.features_from_grid(whole, grid)),
-                         samples.lists(given))
+        for there in (whole, tuple(whole)):
+            self.assertEqual(
+                samples.lists(io.features_from_grid(there, grid)),
+                samples.lists(given))
+        with self.assertRaises(i_shape.OffsetsError):
+            io.features_from_grid(whole._replace(feature_offsets=[3]), grid)
 
 
 class Closing(unittest.TestCase):
