@@ -95,7 +95,7 @@ def main() -> None:
     for grid in GRIDS:
         points = (all_points // grid).astype(np.int32)
         left, spent = best(lambda: i_shape.simplify_rings(
-            points, offsets, given.threads))
+            points, offsets, threads=given.threads))
         each, by_ring = best(lambda: [
             i_shape.simplify(points[start:end])
             for start, end in zip(offsets, offsets[1:])], 3)

@@ -5,7 +5,7 @@ The parcels of the second file are those of the first, in another order, each
 from another start and with a vertex more on an edge, as another program may
 write them. Told is how many are found again by the bytes of their
 coordinates, by shapely's normalize (Debian's python3-shapely), and by
-canonical_features. Nothing is dissolved, and no tolerance is asked.
+canonical_keys. Nothing is dissolved, and no tolerance is asked.
 
     parcels.py [--side N] [--plot FILE]
 """
@@ -21,6 +21,7 @@ from typing import Callable, Hashable
 
 import numpy as np
 
+import i_shape
 from i_shape import io
 
 STEP = 0.01  # of a metre
@@ -65,16 +66,25 @@ def read(path: Path) -> io.Features:
 
 
 def keys_of(features: io.Features) -> list[Hashable]:
-    """The bytes of each feature's points and of where its rings end."""
+    """The bytes of each feature's points, and where rings and polygons end."""
     points, ends, parts = features.polygons
-    rings = parts[features.feature_offsets]
-    return [(points[ends[a]:ends[b]].tobytes(),
-             (ends[a:b + 1] - ends[a]).tobytes())
-            for a, b in zip(rings, rings[1:])]
+    keys: list[Hashable] = []
+    for a, b in zip(features.feature_offsets, features.feature_offsets[1:]):
+        its_parts = parts[a:b + 1]
+        its_ends = ends[its_parts[0]:its_parts[-1] + 1]
+        keys.append((points[its_ends[0]:its_ends[-1]].tobytes(),
+                     (its_ends - its_ends[0]).tobytes(),
+                     (its_parts - its_parts[0]).tobytes()))
+    return keys
 
 
 def canonical_keys(features: io.Features) -> list[Hashable]:
-    return keys_of(io.canonical_features(io.features_to_grid(features, GRID)))
+    """The keys of each feature's polygons, in any order of these."""
+    whole = io.features_to_grid(features, GRID)
+    keys = i_shape.canonical_keys(*whole.polygons).tolist()
+    ends = whole.feature_offsets.tolist()
+    return [tuple(sorted(filter(None, keys[a:b])))
+            for a, b in zip(ends, ends[1:])]
 
 
 def normalized_keys(features: io.Features) -> list[Hashable]:

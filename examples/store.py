@@ -28,20 +28,26 @@ CREATE TABLE IF NOT EXISTS polygons (
 CREATE TABLE IF NOT EXISTS places (
     polygon INTEGER NOT NULL REFERENCES polygons, file TEXT NOT NULL,
     number INTEGER NOT NULL, UNIQUE (file, number));
-CREATE TABLE IF NOT EXISTS grid (step REAL NOT NULL);
+CREATE TABLE IF NOT EXISTS grid (step REAL NOT NULL, version TEXT NOT NULL);
 """
 
 
 def opened(path: str, step: float) -> sqlite3.Connection:
-    """The store, all of whose polygons are on one grid."""
+    """The store, all of whose polygons are on one grid.
+
+    All keys are of one version of the package, since another may make
+    others.
+    """
     store = sqlite3.connect(path)
     store.executescript(TABLES)
-    known = store.execute("SELECT step FROM grid").fetchone()
+    known = store.execute("SELECT step, version FROM grid").fetchone()
+    its = step, i_shape.__version__
     if known is None:
         with store:
-            store.execute("INSERT INTO grid VALUES (?)", (step,))
-    elif known[0] != step:
-        raise ValueError(f"{path} has the step {known[0]}, not {step}")
+            store.execute("INSERT INTO grid VALUES (?, ?)", its)
+    elif known != its:
+        raise ValueError("{} has the step {} and keys of i_shape {}, not {}"
+                         " and {}".format(path, *known, *its))
     return store
 
 

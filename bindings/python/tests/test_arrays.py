@@ -19,7 +19,8 @@ CALLS = (
     i_shape.is_safe,
     lambda points: i_shape.contains(points, (1, 1)),
     lambda points: i_shape.simplify_rings(points, [0, len(points)]),
-    lambda points: i_shape.despike_rings(points, [0, len(points)], 2),
+    lambda points: i_shape.despike_rings(points, [0, len(points)],
+                                         threads=2),
     lambda points: i_shape.canonical_rings(points, [0, len(points)]),
     lambda points: i_shape.canonical(points, oriented=False),
     lambda points: i_shape.canonical_rings(points, [0, len(points)],
@@ -107,7 +108,7 @@ class Layouts(unittest.TestCase):
                 np.testing.assert_array_equal(points, before)
             for threads in (1, 2):
                 for given in ((points, offsets), frozen):
-                    left = i_shape.simplify_rings(*given, threads)
+                    left = i_shape.simplify_rings(*given, threads=threads)
                     self.assertEqual(plain.tuples(left.points), SQUARE)
                     np.testing.assert_array_equal(given[0], before)
                     np.testing.assert_array_equal(given[1], [0, len(RING)])
@@ -204,7 +205,7 @@ class OtherArrays(unittest.TestCase):
             for call in (i_shape.simplify_rings, i_shape.canonical_rings):
                 for threads in (1, 3):
                     with self.assertRaises(TypeError):
-                        call(other, [0, 3], threads)
+                        call(other, [0, 3], threads=threads)
 
     def test_an_empty_list_is_no_points(self):
         self.assertIsNone(i_shape.simplify([]))
@@ -253,7 +254,8 @@ class EmptyBuffers(unittest.TestCase):
                 for call in CALLS[:3]:
                     self.assertIsNone(call(nothing))
                 for threads in (1, 4):
-                    left = i_shape.simplify_rings(nothing, [0, 0, 0], threads)
+                    left = i_shape.simplify_rings(nothing, [0, 0, 0],
+                                                  threads=threads)
                     self.assertEqual(left.points.shape, (0, 2))
                     self.assertEqual(left.points.dtype, dtype)
                     self.assertEqual(left.offsets.tolist(), [0, 0, 0])

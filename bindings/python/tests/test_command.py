@@ -10,8 +10,10 @@ import re
 import subprocess
 import sys
 import tempfile
+import textwrap
 import time
 import unittest
+import warnings
 from pathlib import Path
 from unittest import mock
 
@@ -47,6 +49,10 @@ class CommandCase(unittest.TestCase):
         text = document if isinstance(document, str) else json.dumps(document)
         path.write_text(text)
         return path
+
+    def write_features(self, path, features):
+        with files.writing(path, features, None):
+            pass
 
     def run_command(self, *words, status=0):
         """What it prints, on standard output and on standard error."""
@@ -147,6 +153,50 @@ class Cleaned(CommandCase):
         self.assertEqual(self.geometries(self.given),
                          [samples.polygon(SQUARE)])
 
+    def test_out_keeps_its_mode_and_its_owner(self):
+        self.write(samples.geojson(samples.polygon(SPIKED)))
+        if os.geteuid() == 0:
+            os.chown(self.given, 1, 2)
+        for mode in (0o600, 0o640, 0o666, 0o755):
+            self.given.chmod(mode)
+            before = self.given.stat()
+            self.run_command("simplify", self.given, self.given, "--step",
+                             "0.1")
+            after = self.given.stat()
+            self.assertNotEqual(after.st_ino, before.st_ino)
+            self.assertEqual((after.st_mode, after.st_uid, after.st_gid),
+                             (before.st_mode, before.st_uid, before.st_gid))
+
+    def test_numbers_keep_their_digits(self):
+        members = ('{"big": 1e400, "long": 0.12345678901234567890123,'
+                   ' "short": 1.50, "in": [-2E5, {"a": 1e-400}, "1e400"],'
+                   ' "whole": 123456789012345678901234567890}')
+        square = json.dumps(samples.polygon(
+            [(float(x), float(y)) for x, y in samples.SQUARE]))
+        feature = (f'{{"type": "Feature", "properties": {members}, "geometry":'
+                   f' {square[:-1]}, "tag": {members}}}}}')
+        for text in (f'{{"type": "FeatureCollection", "of": {members},'
+                     f' "features": [\n{feature},\n{feature}\n]}}\n',
+                     feature + "\n"):
+            self.write(text)
+            self.run_command("simplify", self.given, self.out, "--step",
+                             "0.5")
+            self.assertEqual(self.out.read_text(), text)
+
+    def test_digits_beyond_those_of_floats_are_rounded(self):
+        text = json.dumps(samples.polygon(samples.SQUARE)).replace(
+            "[4, ", "[4.00000000000000000000001, ").replace("[0,", "[0.0e400,")
+        self.write(text)
+        self.run_command("simplify", self.given, self.out, "--step", "1")
+        self.assertEqual(json.loads(self.out.read_text()),
+                         samples.polygon(samples.SQUARE))
+
+    def test_negative_numbers_of_each_form(self):
+        self.write(samples.geojson(samples.polygon(SQUARE)))
+        for origin in (("-1e6", "-2.5e-3"), ("-.5E1", "-1."), ("-1", "-.5")):
+            self.run_command("simplify", self.given, self.out, "--step",
+                             "0.5e-4", "--origin", *origin)
+
     def test_the_origin_moves_the_grid(self):
         self.write(samples.geojson(samples.polygon(
             [(0.25, 0.25), (8.25, 0.25), (8.75, 8.25)])))
@@ -210,6 +260,34 @@ collapsed: feature 2, polygon 1, ring 0
             self.assertIn(f"area as given: {cells}\narea before: {cells},"
                           f" {cells} cells of the grid\n", told)
 
+    def test_holes_go_with_the_ring_around_them(self):
+        self.write(samples.geojson(samples.polygon(FLAT, HOLE)))
+        told, _ = self.run_command("simplify", self.given, self.out,
+                                   "--step", "0.1", "--report")
+        self.assertIn("area as given: -0.005\n"
+                      "area before: -0.005, -0.5 cells of the grid\n"
+                      "area after: 0, 0 cells of the grid\n", told)
+
+    def test_a_small_parcel_far_away(self):
+        x, y = 4.5e6, 5.5e6
+        self.write(samples.geojson(samples.polygon(
+            [(x, y), (x + 0.3, y), (x + 0.3, y + 0.3), (x, y + 0.3)])))
+        told, _ = self.run_command("simplify", self.given, self.out,
+                                   "--step", "0.1", "--report")
+        area = re.search("area as given: (.*)", told)[1]
+        self.assertAlmostEqual(float(area), 0.09, places=8)
+
+    def test_areas_beyond_the_floats(self):
+        self.write(samples.geojson(samples.polygon(
+            [(1e200 * x, 1e200 * y) for x, y in samples.SQUARE])))
+        with warnings.catch_warnings():
+            warnings.simplefilter("error")
+            told, _ = self.run_command("simplify", self.given, self.out,
+                                       "--step", "1e200", "--report")
+        self.assertIn("area as given: too great for a float\n"
+                      "area before: too great for a float, 16 cells of the"
+                      " grid\n", told)
+
     def test_great_areas_are_exact(self):
         far = 2 ** 61
         self.write(f"POLYGON ((0 0, {far} 0, {far} {far}, 0 {far}))",
@@ -250,8 +328,8 @@ collapsed: feature 2, polygon 1, ring 0
             shown = mock.MagicMock()
             shown.tqdm.return_value.__enter__.return_value = shown.bar
             with mock.patch.dict(sys.modules, {"tqdm": shown}):
-                files.write(self.folder / out, files.read(self.given)[0],
-                            None)
+                self.write_features(self.folder / out,
+                                    files.read(self.given).features)
             steps = [(call.kwargs["desc"], call.kwargs["total"])
                      for call in shown.tqdm.call_args_list]
             self.assertEqual(steps, [
@@ -345,11 +423,15 @@ class Refused(CommandCase):
                 (second("[0, 0]", "Point"), "feature 1: a Polygon or"),
                 (second("[]", "GeometryCollection"), "feature 1: a Polygon"),
                 (second("[[[0, 0], [1, NaN], [1, 1]]]"),
+                 "NaN isn't a number of JSON: line 1 column"),
+                (second("[[[0, 0]], [[1, 0], [-Infinity, 1]]]"),
+                 "-Infinity isn't a number of JSON: line 1 column"),
+                ('{"type": "Feature", "properties":\n{"NaN": "\\"NaN",'
+                 ' "a": [1, Infinity]}, "geometry": null}',
+                 "Infinity isn't a number of JSON: line 2 column 27"),
+                (second("[[[0, 0], [1, 1e999], [1, 1]]]"),
                  "feature 1, polygon 0, ring 0, point 1: the point is"
-                 " (1.0, nan)"),
-                (second("[[[0, 0]], [[1, 0], [Infinity, 1]]]"),
-                 "feature 1, polygon 0, ring 1, point 1: the point is (inf"),
-                (second("[[[0, 0], [1, 1e999], [1, 1]]]"), "ring 0, point 1"),
+                 " (1.0, inf)"),
                 (second("[[[0, 0, 0], [1, 1, 0], [2, 2, 0]]]"),
                  "feature 1, polygon 0, ring 0, point 0: the position"
                  " [0, 0, 0] has 3 coordinates"),
@@ -371,7 +453,14 @@ class Refused(CommandCase):
 
     def test_hostile_lines(self):
         for text, words in (
-                ("POLYGON EMPTY\nPOINT (0 0)\n", "feature 1: POLYGON or"),
+                ("POLYGON EMPTY\nPOINT (0 0)\n",
+                 "line 2: feature 1: POLYGON or"),
+                ("\nPOLYGON EMPTY\n \nPOINT (0 0)\n",
+                 "line 4: feature 1: POLYGON or"),
+                ("\nPOLYGON ((0 0, 1 1e999))\n\nPOLYGON EMPTY",
+                 "line 2: feature 0, polygon 0, ring 0, point 1: the point"),
+                ("\n\nPOLYGON ((0 0, 1e300 1))",
+                 "line 3: feature 0, polygon 0, ring 0, point 1: x is 1e+300"),
                 ("POLYGON ((0 0, 1 nan))", "ring 0, point 1: 'nan'"),
                 ("POLYGON ((0 0, 1 1)\n", "feature 0: ')' is needed"),
                 ("POLYGON Z ((0 0 0, 1 1 1))", "feature 0: a POLYGON of two"),
@@ -395,7 +484,7 @@ class Refused(CommandCase):
             given = samples.arrays(samples.random_features(numbers, 2))
             name = numbers.choice(["given.geojson", "given.wkt"])
             path = self.folder / name
-            files.write(path, given, None)
+            self.write_features(path, given)
             text = bytearray(path.read_bytes())
             for _ in range(numbers.randrange(1, 4)):
                 text[numbers.randrange(len(text))] = numbers.choice(
@@ -469,6 +558,79 @@ class Refused(CommandCase):
                         status=status)
                 self.assertIn(words, told)
 
+    def test_nothing_is_written_where_the_report_fails(self):
+        self.write(samples.geojson(samples.polygon(SPIKED)))
+        for error in (OSError("no room"), MemoryError()):
+            with mock.patch.object(_command.report, "lines",
+                                   side_effect=error):
+                self.assert_nothing_is_written(
+                    "simplify", self.given, self.out, "--step", "1",
+                    "--report")
+
+    def test_nothing_is_written_where_a_path_is_a_folder(self):
+        self.write(samples.geojson(samples.polygon(SPIKED)))
+        self.out.write_text("as it was")
+        plot, other = self.folder / "plot.svg", self.folder / "other.wkt"
+        plot.mkdir(), other.mkdir()
+        before = sorted(self.folder.iterdir())
+        with mock.patch.object(importlib.util, "find_spec", str):
+            for out, its in ((self.out, plot), (other, "no.svg")):
+                told, error = self.run_command(
+                    "simplify", self.given, out, "--step", "0.1",
+                    "--report", "--plot", its, status=1)
+                self.assertEqual(told, "")
+                self.assertIn("Is a directory", error)
+        self.assertEqual(sorted(self.folder.iterdir()), before)
+        self.assertEqual(self.out.read_text(), "as it was")
+
+    def test_a_file_is_stored_before_it_takes_its_place(self):
+        self.write(samples.geojson(samples.polygon(SPIKED)))
+        calls = mock.Mock()
+        with mock.patch.multiple(os, fsync=calls.fsync,
+                                 replace=calls.replace):
+            self.assert_nothing_is_written("simplify", self.given, self.out,
+                                           "--step", "1", status=0)
+        self.assertEqual([call[0] for call in calls.mock_calls],
+                         ["fsync", "replace"])
+
+    def test_a_new_file_has_a_name_of_its_own(self):
+        self.write(samples.geojson(samples.polygon(SPIKED)))
+        old = self.folder / f".{self.out.name}.{os.getpid()}.part"
+        old.write_text("of another run")
+        self.run_command("simplify", self.given, self.out, "--step", "1")
+        self.assertEqual(old.read_text(), "of another run")
+
+    def test_a_signal_leaves_nothing_behind(self):
+        self.write(samples.geojson(samples.polygon(SPIKED)))
+        self.out.write_text("as it was")
+        before = sorted(self.folder.iterdir())
+        program = textwrap.dedent("""
+            import runpy
+            import time
+            from i_shape._command import files
+            texts = files.texts
+
+            def slow(*words):
+                def features():
+                    print("it writes", flush=True)
+                    time.sleep(60)
+                    yield ""
+                return texts(*words)._replace(features=features())
+
+            files.texts = slow
+            runpy.run_module("i_shape", run_name="__main__", alter_sys=True)
+        """)
+        with subprocess.Popen(
+                [sys.executable, "-c", program, "simplify", self.given,
+                 self.out, "--step", "1"], stdout=subprocess.PIPE,
+                text=True) as run:
+            self.assertEqual(run.stdout.readline(), "it writes\n")
+            self.assertNotEqual(sorted(self.folder.iterdir()), before)
+            run.terminate()
+            self.assertEqual(run.wait(30), 128 + 15)
+        self.assertEqual(sorted(self.folder.iterdir()), before)
+        self.assertEqual(self.out.read_text(), "as it was")
+
     def test_words_that_are_refused(self):
         self.write(samples.geojson())
         for words, told in (
@@ -478,6 +640,8 @@ class Refused(CommandCase):
                 (["simplify", "a", self.out, "--step", "1"], "a doesn't end"),
                 (["simplify", self.given, self.out, "--step", "-1"],
                  "step is -1.0"),
+                (["simplify", self.given, self.out, "--step", "-1e-7"],
+                 "step is -1e-07"),
                 (["simplify", self.given, self.out, "--step", "nan"],
                  "step is nan"),
                 (["simplify", self.given, self.out, "--step", "1",
@@ -495,8 +659,8 @@ class Formats(CommandCase):
         given = samples.arrays(samples.random_features(random.Random(1), 500))
         for name in ("a.geojson", "a.json", "a.wkt"):
             path = self.folder / name
-            files.write(path, given, None)
-            features, _ = files.read(path)
+            self.write_features(path, given)
+            features = files.read(path).features
             self.assertEqual(samples.lists(features), samples.lists(given))
             self.assertEqual(path.stat().st_mode & 0o777,
                              0o666 & ~self.umask())

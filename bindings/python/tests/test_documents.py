@@ -8,7 +8,8 @@ from importlib import metadata
 from pathlib import Path
 
 import i_shape
-from i_shape import _contours, _polygons, _rings, io
+from i_shape import (_contours, _keys, _measures, _polygons, _rings,
+                     _windings, io)
 from i_shape.io import (_cleaners, _closing, _features, _geojson, _grid,
                         _shapely, _wkt)
 
@@ -19,7 +20,8 @@ PAGE = TOP / "docs" / "PYTHON.md"
 class Documents(unittest.TestCase):
 
     def test_the_examples_of_the_docstrings(self):
-        for module in (_contours, _rings, _polygons):
+        for module in (_contours, _rings, _polygons, _measures, _keys,
+                       _windings):
             faults, count = doctest.testmod(module)
             self.assertEqual(faults, 0)
             self.assertGreater(count, 10)
@@ -40,6 +42,17 @@ class Documents(unittest.TestCase):
                                  "Examples"):
                         self.assertIn(f"\n{part}\n-----", text, name)
                     self.assertIn("return", item.__annotations__, name)
+
+    def test_options_are_named(self):
+        for module in (i_shape, io):
+            for name in module.__all__:
+                item = getattr(module, name)
+                if inspect.isfunction(item):
+                    for its in inspect.signature(item).parameters.values():
+                        self.assertEqual(
+                            its.kind is its.KEYWORD_ONLY,
+                            its.name in ("oriented", "rule", "threads"),
+                            (name, its.name))
 
     def test_the_examples_of_the_page(self):
         # A fence would be read as a line of the output before it.

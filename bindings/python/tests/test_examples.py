@@ -122,6 +122,15 @@ class Store(ExampleCase):
         with self.assertRaises(ValueError):
             self.opened(step=0.5)
 
+    def test_keys_of_another_version_are_refused(self):
+        self.opened()
+        version = i_shape.__version__
+        with mock.patch.object(i_shape, "__version__", "0.0.7"):
+            with self.assertRaisesRegex(ValueError,
+                                        f"{version}, not .* and 0.0.7"):
+                self.opened()
+        self.opened()
+
 
 class Parcels(ExampleCase):
 
@@ -160,6 +169,16 @@ class Parcels(ExampleCase):
                              (read([triangle[1:] + triangle[:1]]), 1),
                              (read([hole], [triangle, hole]), 0)):
             self.assertEqual(self.example.found(one, other, keys), count)
+
+    def test_polygons_of_a_feature_are_told_apart(self):
+        hole = [(1, 1), (2, 2), (1, 2)]
+        given, turned, other = (
+            samples.arrays([(True, polygons)]) for polygons in (
+                [[SQUARE, hole]], [[SQUARE], [hole]], [[hole], [SQUARE]]))
+        for keys, count in ((self.example.keys_of, 0),
+                            (self.example.canonical_keys, 1)):
+            self.assertEqual(self.example.found(given, turned, keys), 0)
+            self.assertEqual(self.example.found(turned, other, keys), count)
 
     def test_a_file_is_read_as_it_was_written(self):
         rings = self.example.cadastre(3, random.Random(2))

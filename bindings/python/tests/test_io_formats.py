@@ -161,6 +161,10 @@ class GeoJSON(FormatCase):
                  "a list of positions is needed, not 7", 2, 0, 0),
                 (coordinates("Polygon", [[[0, 0]], "ab"]),
                  "a list of positions is needed, not 'ab'", 2, 0, 1),
+                (coordinates("Polygon", [{}]),
+                 "a list of positions is needed, not {}", 2, 0, 0),
+                (coordinates("Polygon", [[[0, 0]], ""]),
+                 "a list of positions is needed, not ''", 2, 0, 1),
                 (coordinates("Polygon", [{"ab": 1}]),
                  "a list of positions is needed", 2, 0, 0),
                 (coordinates("Polygon", [[[0, 0], 3]]),
@@ -297,6 +301,25 @@ class Arrays(FormatCase):
                 with self.assertRaises(kind):
                     call(given)
 
+    def test_floats_of_each_width_are_written(self):
+        right = samples.arrays([(False, [[[(0, 0), (4.5, 0), (4, -4)]]])])
+        for dtype in (np.float16, np.float32, np.longdouble):
+            points, *offsets = right.polygons
+            given = right._replace(
+                polygons=i_shape.Polygons(points.astype(dtype), *offsets))
+            self.assertEqual(io.to_wkt(given), io.to_wkt(right))
+            self.assertEqual(json.dumps(io.to_geojson(given)),
+                             json.dumps(io.to_geojson(right)))
+        if np.finfo(np.longdouble).max > np.finfo(float).max:
+            given.polygons.points[1, 0] = np.finfo(np.longdouble).max
+            self.assert_fails(io.to_wkt, given, "not finite", 0, 0, 0, 1)
+
+    def test_lists_and_tuples_of_nothing(self):
+        nothing = ([], [0], [0]), [0], []
+        self.assertEqual(io.to_wkt(nothing), [])
+        with self.assertRaisesRegex(ValueError, "one bool a feature"):
+            io.to_wkt((*nothing[:2], [True]))
+
     def test_a_polygon_has_one_polygon(self):
         given = samples.arrays([(True, []), (True, [[samples.SQUARE]] * 2)])
         given = given._replace(are_multi=np.zeros(2, np.bool_))
@@ -335,6 +358,23 @@ class Arrays(FormatCase):
                  for point, _ in enumerate(points)]
         self.assertEqual([features.place(row) for row in range(len(right))],
                          right)
+        for row in (-1, len(right), 10 ** 9):
+            with self.assertRaisesRegex(IndexError, f"row is {row}, and not"):
+                features.place(row)
+        with self.assertRaises(TypeError):
+            features.place(0.5)
+        rings = len(features.polygons.ring_offsets) - 1
+        for ring in (-1, rings):
+            with self.assertRaisesRegex(IndexError, f"ring is {ring}, and"):
+                features.ring_place(ring)
+
+    def test_rows_outside_the_features_have_no_place(self):
+        whole = samples.arrays([(False, [[samples.SQUARE]])] * 3)
+        part = whole._replace(feature_offsets=whole.feature_offsets[1:3],
+                              are_multi=whole.are_multi[1:3])
+        self.assertEqual(part.place(5), (0, 0, 0, 1))
+        with self.assertRaisesRegex(IndexError, "polygon is 0, and not from"):
+            part.place(3)
 
 
 if __name__ == "__main__":

@@ -182,8 +182,12 @@ class Grids(unittest.TestCase):
         self.assertEqual(
             samples.lists(whole),
             [(True, [[[(-200, 0), (-192, 0), (-192, 8), (-200, 8)], []], []])])
-        self.assertEqual(samples.lists(io.features_from_grid(whole, grid)),
-                         samples.lists(given))
+        for there in (whole, tuple(whole)):
+            self.assertEqual(
+                samples.lists(io.features_from_grid(there, grid)),
+                samples.lists(given))
+        with self.assertRaises(i_shape.OffsetsError):
+            io.features_from_grid(whole._replace(feature_offsets=[3]), grid)
 
 
 class Closing(unittest.TestCase):
@@ -246,7 +250,7 @@ class Closing(unittest.TestCase):
         for call in (io.open_rings, io.close_rings):
             for offsets in ([0, 5], [3, 1], [-1, 4], []):
                 with self.assertRaises(i_shape.OffsetsError):
-                    call(samples.SQUARE, np.array(offsets, int))
+                    call(samples.SQUARE, offsets)
             with self.assertRaises(TypeError):
                 call(samples.SQUARE, [0.0, 4.0])
             with self.assertRaises(TypeError):
@@ -296,7 +300,7 @@ class Cleaners(unittest.TestCase):
                     right = self.cleaned(given, lambda ring: plain.tuples(
                         one(plain.array(ring, dtype))))
                     for threads in (1, 3):
-                        left = call(features, threads)
+                        left = call(features, threads=threads)
                         self.assertEqual(samples.lists(left), right)
                         self.assertEqual(left.polygons.points.dtype, dtype)
 

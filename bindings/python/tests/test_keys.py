@@ -1,6 +1,7 @@
 """Keys of rings and polygons, and rings that two lists share."""
 
 import random
+import tracemalloc
 import unittest
 from unittest import mock
 
@@ -52,9 +53,47 @@ class OfRings(unittest.TestCase):
 
     def test_the_numbers_of_a_key(self):
         given = plain.flat([[(4, 4), (0, 4), (-1, 0), (4, 0)]], np.int16)
-        self.assertEqual(
-            np.frombuffer(i_shape.canonical_keys(*given)[0], "<i8").tolist(),
-            [-1, 0, 4, 0, 4, 4, 0, 4])
+        for key, right in (
+                (i_shape.canonical_keys(*given),
+                 [-1, 0, 4, 0, 4, 4, 0, 4]),
+                (i_shape.canonical_keys(*given, [0, 1]),
+                 [2**62 + 1, 4, -1, 0, 4, 0, 4, 4, 0, 4])):
+            self.assertEqual(np.frombuffer(key[0], "<i8").tolist(), right)
+
+    def test_one_block_after_another(self):
+        numbers = random.Random(41)
+        given = plain.flat([numbers.choice(RINGS) for _ in range(99)],
+                           np.int32)
+        right = i_shape.canonical_keys(*given).tolist()
+        same = i_shape.same_rings(given, given).tolist()
+        for block in (1, 2, 7, 98, 99, 100):
+            with mock.patch.object(_keys, "_BLOCK", block):
+                self.assertEqual(i_shape.canonical_keys(*given).tolist(),
+                                 right)
+                self.assertEqual(i_shape.same_rings(given, given).tolist(),
+                                 same)
+
+    def test_many_rings_take_little_memory_beside_their_keys(self):
+        points = np.arange(4 * 10**5, dtype=np.int16).reshape(-1, 2)
+        points = np.repeat(points, 3, axis=0)
+        points[1::3, 0] //= 2
+        points[2::3, 1] //= 2
+        offsets = np.arange(0, len(points) + 1, 3)
+        tracemalloc.start()
+        try:
+            keys = i_shape.canonical_keys(points % 999, offsets)
+            held, peak = tracemalloc.get_traced_memory()
+        finally:
+            tracemalloc.stop()
+        self.assertGreater(sum(map(len, keys)), 9 * 10**6)
+        # All of their numbers at 64 bits, twice, would be 19 MB more.
+        self.assertLess(peak - held, 2 * 10**7)
+
+    def test_what_is_refused(self):
+        given = plain.flat(RINGS, np.int16)
+        for ends in ([], [[0, 7]]):
+            with self.assertRaisesRegex(ValueError, "threads is 0"):
+                i_shape.canonical_keys(*given, *ends, threads=0)
 
     def test_groups_by_numpy_and_by_a_dictionary(self):
         numbers = random.Random(33)
@@ -132,6 +171,16 @@ class OfPolygons(unittest.TestCase):
              [], [flat_ring], [flat_ring, big], [big, flat_ring]], np.int32))
         self.assertEqual(groups(keys.tolist()), [0, 1, 2, 3, 4, 5, 6, 6, 2])
         self.assertEqual(keys[6], b"")
+
+    def test_no_key_is_that_of_a_ring(self):
+        # Without a mark a polygon of one ring of three points would have
+        # the key of a ring that begins at (1, 3).
+        ring = [(2, 2), (6, 2), (2, 6)]
+        of_polygon = i_shape.canonical_keys(*flat([[ring]], np.int16))
+        of_ring = i_shape.canonical_keys(*plain.flat([[(1, 3), *ring]],
+                                                     np.int16))
+        self.assertEqual(len(of_ring[0]), len(of_polygon[0]))
+        self.assertNotEqual(of_ring[0], of_polygon[0])
 
     def test_rings_that_add_up_to_the_same_points(self):
         # Six points as one ring, and as a ring and a hole of three each.

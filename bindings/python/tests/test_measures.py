@@ -88,7 +88,7 @@ class Answers(unittest.TestCase):
                 for many in CALLS:
                     one = many(points, offsets)
                     for threads in (2, 3, 8, np.int8(5)):
-                        other = many(points, offsets, threads)
+                        other = many(points, offsets, threads=threads)
                         self.assertEqual(other.dtype, one.dtype)
                         np.testing.assert_array_equal(other, one)
 
@@ -104,13 +104,13 @@ class Answers(unittest.TestCase):
                 right = many(*plain.flat(rings[4:20], dtype))
                 for threads in (1, 4):
                     np.testing.assert_array_equal(
-                        many(points, part, threads), right)
+                        many(points, part, threads=threads), right)
 
     def test_no_rings_and_no_points(self):
         for dtype in plain.DTYPES:
             for many in CALLS:
                 for offsets in ([0], [3]):
-                    told = many(np.ones((3, 2), dtype), offsets, 4)
+                    told = many(np.ones((3, 2), dtype), offsets, threads=4)
                     self.assertEqual(told.shape, (0,))
             nothing = plain.array([], dtype)
             for many, answer in zip(CALLS, (False, False, True, True, 0)):
@@ -124,7 +124,7 @@ class Answers(unittest.TestCase):
             offsets = np.arange(0, 3 * 10**6 + 1, 3)
             for threads in (1, 4):
                 for many in CALLS:
-                    told = many(points, offsets, threads)
+                    told = many(points, offsets, threads=threads)
                     self.assertEqual(told.shape, (10**6,))
                     self.assertTrue(
                         (told == (16 if many is i_shape.area_two_rings
@@ -161,7 +161,7 @@ class Polygons(unittest.TestCase):
                          % (2 * half) - half for rings in polygons]
                 for threads in (1, 3):
                     areas = i_shape.area_two_polygons(*flat(polygons, dtype),
-                                                      threads)
+                                                      threads=threads)
                     self.assertEqual(areas.dtype, AREAS[dtype])
                     self.assertEqual(areas.tolist(), right)
 
@@ -202,7 +202,7 @@ class Polygons(unittest.TestCase):
                         right.append([ring for ring in left if ring])
                 for threads in (1, 3):
                     answer = i_shape.despike_polygons(
-                        *flat(polygons, dtype), threads)
+                        *flat(polygons, dtype), threads=threads)
                     rings = plain.parted(answer.points, answer.ring_offsets)
                     ends = answer.polygon_offsets
                     self.assertEqual(
@@ -220,7 +220,7 @@ class Errors(unittest.TestCase):
             for many in OF_SAFE_POINTS:
                 for threads in (1, 2, 8):
                     with self.assertRaises(i_shape.UnsafePointError) as told:
-                        many(points, offsets, threads)
+                        many(points, offsets, threads=threads)
                     self.assertEqual(
                         (told.exception.ring, told.exception.point), (4, 14))
             for many in OF_ANY_POINTS:
@@ -234,13 +234,14 @@ class Errors(unittest.TestCase):
                 ([0, 4, 3, 8], "offsets[2] is 3, below 4"),
                 ([-1, 8], "offsets[0] is -1, below 0"),
                 ([0, -1, 8], "offsets[1] is -1, below 0"),
-                (np.array([0, 2 ** 64 - 1], "u8"), "below 0"),
-                (np.array([], int), "are empty")):
+                (np.array([0, 2 ** 64 - 1], "u8"),
+                 "offsets[1] is 18446744073709551615: no array has"),
+                (np.array([], int), "are empty"), ([], "are empty")):
             for many in CALLS:
                 for threads in (1, 2):
                     with self.subTest(offsets=offsets, threads=threads):
                         with self.assertRaises(i_shape.OffsetsError) as told:
-                            many(points, offsets, threads)
+                            many(points, offsets, threads=threads)
                         self.assertIn(words, str(told.exception))
 
     def test_offsets_of_polygons_that_part_nothing(self):
@@ -249,22 +250,26 @@ class Errors(unittest.TestCase):
                 ([0, 3, 6], [0, 3], "polygon_offsets[1] is 3, above"),
                 ([0, 3, 6], [0, 2, 1], "polygon_offsets[2] is 1, below 2"),
                 ([0, 3, 7], [0, 2], "ring_offsets[2] is 7, above"),
-                ([0, 1, 4, 3], [1, 3], "ring_offsets[3] is 3, below 4")):
+                ([0, 1, 4, 3], [1, 3], "ring_offsets[3] is 3, below 4"),
+                ([], [0], "ring_offsets are empty"),
+                ([0, 3, 6], np.array([0, 2 ** 63], "u8"),
+                 "polygon_offsets[1] is 9223372036854775808: no array")):
             for call in (i_shape.area_two_polygons, i_shape.despike_polygons,
                          i_shape.canonical_keys):
-                with self.subTest(words=words):
-                    with self.assertRaises(i_shape.OffsetsError) as told:
-                        call(points, rings, ends)
-                    self.assertIn(words, str(told.exception))
+                for threads in (1, 2):
+                    with self.subTest(words=words, threads=threads):
+                        with self.assertRaises(i_shape.OffsetsError) as told:
+                            call(points, rings, ends, threads=threads)
+                        self.assertIn(words, str(told.exception))
 
     def test_offsets_are_tested_first(self):
         points = np.full((8, 2), np.iinfo(np.int32).min, np.int32)
         for many in OF_SAFE_POINTS:
             for threads in (1, 2):
                 with self.assertRaises(i_shape.OffsetsError):
-                    many(points, [0, 4, 3], threads)
+                    many(points, [0, 4, 3], threads=threads)
                 with self.assertRaises(i_shape.UnsafePointError):
-                    many(points, [0, 4, 4], threads)
+                    many(points, [0, 4, 4], threads=threads)
 
     def test_other_arrays(self):
         points = np.zeros((8, 2), np.int32)
@@ -275,16 +280,18 @@ class Errors(unittest.TestCase):
                           np.ma.masked_array(points)):
                 with self.assertRaises(TypeError):
                     many(other, [0, 8])
-            for offsets in ([0.0, 8.0], [False, True], None, []):
+            for offsets in ([0.0, 8.0], [False, True], None, np.array([])):
                 with self.assertRaises(TypeError):
                     many(points, offsets)
             for given in ((points[:, :1], [0, 8]), (points, 8),
-                          (points, [[0, 8]]), (points, [0, 8], 0)):
+                          (points, [[0, 8]])):
                 with self.assertRaises(ValueError):
                     many(*given)
+            with self.assertRaises(ValueError):
+                many(points, [0, 8], threads=0)
             for threads in (1.5, "2", None):
                 with self.assertRaises(TypeError):
-                    many(points, [0, 8], threads)
+                    many(points, [0, 8], threads=threads)
 
     def test_a_code_of_a_part_is_raised(self):
         points, offsets = np.zeros((8, 2), np.int32), [0, 4, 8]
@@ -294,7 +301,7 @@ class Errors(unittest.TestCase):
             tests = {"is_simple": lambda *_: next(answers)}
             with mock.patch.dict(_library.CALLS[4].test_many, tests):
                 with self.assertRaises(i_shape.UnsafePointError):
-                    i_shape.is_simple_rings(points, offsets, 2)
+                    i_shape.is_simple_rings(points, offsets, threads=2)
 
 
 if __name__ == "__main__":

@@ -80,7 +80,7 @@ class Leaks(unittest.TestCase):
 
         self.assert_no_leak(one_of_them, CALLS)
         self.assert_no_leak(
-            lambda: i_shape.simplify_rings(self.points, offsets, 2),
+            lambda: i_shape.simplify_rings(self.points, offsets, threads=2),
             CALLS // 10)
 
     def test_calls_that_fail(self):

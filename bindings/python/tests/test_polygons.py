@@ -158,7 +158,8 @@ class Polygons(unittest.TestCase):
             oriented = numbers.random() < 0.5
             one, other = (form(p, numbers, oriented) for p in pair)
             answer = i_shape.same_polygons(
-                flat(pair[0], np.int16), flat(pair[1], np.int64), oriented)
+                flat(pair[0], np.int16), flat(pair[1], np.int64),
+                oriented=oriented)
             self.assertIs(answer, one == other)
             told.append(answer)
         self.assertTrue(100 < sum(told) < 2900)

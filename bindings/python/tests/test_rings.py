@@ -58,7 +58,8 @@ class Answers(unittest.TestCase):
                 right = [form(ring, numbers) or [] for ring in rings]
                 for threads in (1, 3):
                     left = i_shape.canonical_rings(
-                        *plain.flat(rings, dtype), threads, oriented)
+                        *plain.flat(rings, dtype), threads=threads,
+                        oriented=oriented)
                     self.assertEqual(plain.parted(*left), right)
 
     def test_simplify_rings_beside_plain_loops(self):
@@ -84,10 +85,9 @@ class Answers(unittest.TestCase):
                 for many in CALLS:
                     one = many(points, offsets)
                     for threads in range(1, 9):
-                        self.assert_same(many(points, offsets, threads), one)
-                        self.assert_same(
-                            many(points, offsets, threads=np.int8(threads)),
-                            one)
+                        for number in (threads, np.int8(threads)):
+                            self.assert_same(
+                                many(points, offsets, threads=number), one)
 
     def test_the_threads_share_the_work(self):
         numbers = random.Random(10)
@@ -125,7 +125,7 @@ class Answers(unittest.TestCase):
                 for threads in (1, 2, 5):
                     for given in (points, unsafe):
                         self.assert_same(i_shape.simplify_rings(
-                            given, part, threads), right)
+                            given, part, threads=threads), right)
 
     def test_offsets_of_other_dtypes_and_layouts(self):
         points, offsets = plain.flat(
@@ -143,14 +143,15 @@ class Answers(unittest.TestCase):
                       offsets[::-1].copy()[::-1]):
             for threads in (1, 2):
                 self.assert_same(
-                    i_shape.simplify_rings(points, other, threads), right)
+                    i_shape.simplify_rings(points, other, threads=threads),
+                    right)
 
     def test_a_million_empty_rings(self):
         for dtype in plain.DTYPES:
             offsets = np.zeros(10 ** 6 + 1, np.int64)
             for threads in (1, 4):
                 left = i_shape.simplify_rings(plain.array([], dtype), offsets,
-                                              threads)
+                                              threads=threads)
                 self.assertEqual(left.points.shape, (0, 2))
                 np.testing.assert_array_equal(left.offsets, offsets)
 
@@ -160,7 +161,7 @@ class Answers(unittest.TestCase):
                 for offsets in ([0], [len(points)]):
                     for threads in (1, 8):
                         for many in CALLS:
-                            left = many(points, offsets, threads)
+                            left = many(points, offsets, threads=threads)
                             self.assertEqual(left.points.shape, (0, 2))
                             self.assertEqual(left.points.dtype, dtype)
                             self.assertEqual(left.offsets.tolist(), [0])
@@ -171,7 +172,7 @@ class Answers(unittest.TestCase):
             offsets = np.arange(10 ** 5 + 1)
             for threads in (1, 3):
                 for many in CALLS:
-                    left = many(points, offsets, threads)
+                    left = many(points, offsets, threads=threads)
                     self.assertEqual(left.points.shape, (0, 2))
                     self.assertFalse(left.offsets.any())
 
@@ -242,7 +243,7 @@ class Errors(unittest.TestCase):
                     for many in CALLS:
                         with self.assertRaises(
                                 i_shape.UnsafePointError) as told:
-                            many(points, offsets, threads)
+                            many(points, offsets, threads=threads)
                         self.assertEqual(told.exception.ring, ring)
                         self.assertEqual(told.exception.point, bad[0])
                         self.assertIn(f"ring {ring}: point {bad[0]} ",
@@ -264,13 +265,15 @@ class Errors(unittest.TestCase):
                 ([3, -2 ** 63, 8], "below 3"),
                 ([3, 2 ** 63 - 1, 8], "offsets[2] is 8, below"),
                 ([0, 8, -1], "offsets[2] is -1, below 8"),
-                (np.array([0, 2 ** 64 - 1], "u8"), "below 0"),
-                (np.array([2 ** 63, 8], "u8"), "below 0"),
-                (np.array([], int), "are empty")):
+                (np.array([0, 2 ** 64 - 1], "u8"),
+                 "offsets[1] is 18446744073709551615: no array has"),
+                (np.array([2 ** 63, 8], "u8"),
+                 "offsets[0] is 9223372036854775808: no array has"),
+                (np.array([], int), "are empty"), ([], "are empty")):
             for threads in (1, 2, 8):
                 with self.subTest(offsets=offsets, threads=threads):
                     fault = self.fails(i_shape.OffsetsError, points, offsets,
-                                       threads)
+                                       threads=threads)
                     self.assertIn(words, str(fault))
 
     def test_random_offsets_are_right_or_refused(self):
@@ -286,26 +289,30 @@ class Errors(unittest.TestCase):
                         and offsets[-1] <= 6)
             threads = numbers.randint(1, 4)
             if is_right:
-                left = i_shape.simplify_rings(points, offsets, threads)
+                left = i_shape.simplify_rings(points, offsets,
+                                              threads=threads)
                 self.assertEqual(left.offsets.tolist(), [0] * len(offsets))
             else:
-                self.fails(i_shape.OffsetsError, points, offsets, threads)
+                self.fails(i_shape.OffsetsError, points, offsets,
+                           threads=threads)
                 refused += 1
         self.assertTrue(500 < refused < 2900)
 
     def test_offsets_are_tested_first(self):
         points = np.full((8, 2), np.iinfo(np.int32).min, np.int32)
         for threads in (1, 2):
-            self.fails(i_shape.OffsetsError, points, [0, 4, 3], threads)
-            self.fails(i_shape.UnsafePointError, points, [0, 4, 4], threads)
+            self.fails(i_shape.OffsetsError, points, [0, 4, 3],
+                       threads=threads)
+            self.fails(i_shape.UnsafePointError, points, [0, 4, 4],
+                       threads=threads)
 
     def test_other_offsets(self):
         points = np.zeros((8, 2), np.int32)
-        for offsets in ([0.0, 8.0], [False, True], ["0", "8"], None, [],
-                        np.array([0, 8], object),
+        for offsets in ([0.0, 8.0], [False, True], ["0", "8"], None,
+                        np.array([]), np.array([0, 8], object),
                         np.ma.masked_array([0, 8, 8], [0, 0, 1])):
             self.fails(TypeError, points, offsets)
-        for offsets in (8, [[0, 8]], np.zeros((0, 2), int)):
+        for offsets in (8, [[0, 8]], [[]], np.zeros((0, 2), int)):
             self.fails(ValueError, points, offsets)
 
     def test_other_numbers_of_threads(self):
@@ -327,7 +334,7 @@ class Errors(unittest.TestCase):
             answers = iter(codes)
             many = {"simplify": lambda *_: next(answers)}
             with mock.patch.dict(_library.CALLS[4].many, many):
-                self.fails(kind, points, offsets, len(codes))
+                self.fails(kind, points, offsets, threads=len(codes))
 
 
 if __name__ == "__main__":

@@ -67,9 +67,18 @@ class Windings(unittest.TestCase):
                       for point in about]
             given = i_shape.Rings(points, offsets[3:31])
             for threads in (1, 2, 7):
-                answer = i_shape.winding_numbers(
-                    given, plain.array(about, dtype), threads=threads)
-                self.assertEqual(answer.tolist(), wanted)
+                for its in (given, tuple(given)):
+                    answer = i_shape.winding_numbers(
+                        its, plain.array(about, dtype), threads=threads)
+                    self.assertEqual(answer.tolist(), wanted)
+
+    def test_a_contour_may_be_a_tuple_of_points(self):
+        about = np.array([(1, 1), (3, 0)])
+        for ring in (((0, 0), (4, 0), (0, 4)), ((0, 0), (4, 0)), ()):
+            self.assertEqual(
+                i_shape.winding_numbers(ring, about).tolist(),
+                [plain.winding(list(ring), (1, 1)),
+                 plain.winding(list(ring), (3, 0))])
 
     def test_the_rules(self):
         for dtype, ring, points in rings_of_each_dtype():

@@ -8,9 +8,12 @@ from __future__ import annotations
 
 import argparse
 import importlib.util
+import re
+import signal
 import sys
+from contextlib import ExitStack
 from pathlib import Path
-from typing import Optional, Sequence
+from typing import Any, NoReturn, Optional, Sequence
 
 from ._command import files, plot, report
 from ._rings import canonical_rings, despike_rings, simplify_rings
@@ -47,6 +50,8 @@ def _options(words: Optional[Sequence[str]]) -> argparse.Namespace:
         description="Cleans the polygons of a file on a grid. Properties"
         " stay, and a feature of which nothing is left is empty. OUT is"
         " written whole or not at all.")
+    # -1e6 is a number too, and no option begins with a digit.
+    parser._negative_number_matcher = re.compile(r"-\.?\d")
     parser.add_argument(
         "cleaner", choices=list(_CLEANERS),
         help="what is removed: points on straight edges, repeated points and"
@@ -54,7 +59,7 @@ def _options(words: Optional[Sequence[str]]) -> argparse.Namespace:
         " feature in its canonical form")
     parser.add_argument("given", metavar="IN", type=_file,
                         help="a file .geojson, .json, or .wkt with a geometry"
-                        " a line")
+                        " a line, in which blank lines count for nothing")
     parser.add_argument("out", metavar="OUT", type=_file,
                         help="the file to write; it may be IN")
     parser.add_argument("--step", type=float, required=True,
@@ -78,28 +83,29 @@ def _options(words: Optional[Sequence[str]]) -> argparse.Namespace:
 
 
 def _run(options: argparse.Namespace) -> None:
-    given, document = files.read(options.given)
-    whole = features_to_grid(given, options.grid)
+    given, document, lines = files.read(options.given)
+    with files.naming_lines(lines):
+        whole = features_to_grid(given, options.grid)
     left, gone = clean(whole, _CLEANERS[options.cleaner])
     if options.cleaner == "canonical":
         left = in_order(left)
     answer = features_from_grid(left, options.grid)
-    if options.plot:
-        with files.replacing(options.plot) as beside:
+    with ExitStack() as last:
+        last.enter_context(files.writing(options.out, answer, document))
+        if options.plot:
+            beside = last.enter_context(files.replacing(options.plot))
             plot.draw(beside, options.plot.suffix[1:].lower(), given, answer)
-            files.write(options.out, answer, document)
-    else:
-        files.write(options.out, answer, document)
-    if options.report:
-        for line in report.lines(given, whole, left, gone, options.grid):
-            print(line)
+        if options.report:
+            for line in report.lines(given, whole, left, gone, options.grid):
+                print(line)
+            sys.stdout.flush()
 
 
 def main(words: Optional[Sequence[str]] = None) -> int:
     """Run the command, and return its status.
 
     It is 0 where all went well, 1 after an error, which is told of on
-    standard error, and 130 where it was interrupted.
+    standard error, and 130 where it was interrupted. OUT is replaced last.
     """
     options = _options(words)
     try:
@@ -120,5 +126,11 @@ def _told(text: str) -> int:
     return 1
 
 
+def _stop(number: int, _: Any) -> NoReturn:
+    """End after a signal by way of what takes new files away."""
+    sys.exit(128 + number)
+
+
 if __name__ == "__main__":
+    signal.signal(signal.SIGTERM, _stop)
     sys.exit(main())

@@ -114,7 +114,7 @@ def despike(points: npt.NDArray[Int]) -> Optional[npt.NDArray[Int]]:
     return _clean("despike", points)
 
 
-def canonical(points: npt.NDArray[Int],
+def canonical(points: npt.NDArray[Int], *,
               oriented: bool = True) -> Optional[npt.NDArray[Int]]:
     """Return the simplified contour from the start that makes it least.
 
@@ -271,7 +271,8 @@ def is_convex(points: npt.NDArray[Int]) -> bool:
     """Return whether the way nowhere turns back nor bends to both sides.
 
     Points that repeat the one before them don't count. Fewer than three
-    others are convex.
+    others are convex. So is a contour that winds round more than once and
+    crosses itself, as a pentagram does.
 
     Parameters
     ----------

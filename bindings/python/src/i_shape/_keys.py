@@ -2,13 +2,15 @@
 
 A key holds whole numbers of 64 bits, the low byte first, so keys of arrays
 of any dtype can be compared. That of a ring is the points of its form; that
-of a polygon is how many rings its form has, and for each ring how many
-points, and these. Nothing is left of what collapses, and its key is empty.
+of a polygon is how many rings its form has, and 2**62 more, and for each
+ring how many points, and these. Nothing is left of what collapses, and its
+key is empty. No coordinate of a form is 2**62 or above, so no other key is
+both a ring's and a polygon's.
 """
 
 from __future__ import annotations
 
-from typing import Any, Optional, Sequence, Tuple, TypeVar, Union
+from typing import Any, Iterator, Optional, Sequence, Tuple, TypeVar, Union
 
 import numpy as np
 import numpy.typing as npt
@@ -21,7 +23,8 @@ Int = TypeVar("Int", np.int16, np.int32, np.int64)
 Pair = Union[Rings, Tuple[npt.NDArray[Any], npt.ArrayLike]]
 
 _WORD = np.dtype("<i8")
-_BLOCK = 1 << 16  # polygons
+_OF_POLYGON = 1 << 62  # what no safe coordinate is
+_BLOCK = 1 << 16  # rings, or polygons
 
 
 def _cut(words: Array, ends: Array) -> list[bytes]:
@@ -31,8 +34,12 @@ def _cut(words: Array, ends: Array) -> list[bytes]:
     return [whole[a:b] for a, b in zip(places, places[1:])]
 
 
-def _keys_of_rings(forms: Rings) -> list[bytes]:
-    return _cut(forms.points.astype(_WORD), 2 * forms.offsets)
+def _keys_of_rings(forms: Rings) -> Iterator[bytes]:
+    # One block after another takes less memory.
+    for start in range(0, len(forms.offsets) - 1, _BLOCK):
+        ends = forms.offsets[start:start + _BLOCK + 1]
+        points = forms.points[ends[0]:ends[-1]]
+        yield from _cut(points.astype(_WORD), 2 * (ends - ends[0]))
 
 
 def _picked(points: Array, offsets: Array, rings: Array) -> Rings:
@@ -54,7 +61,7 @@ def _sort_holes(forms: Rings, rings: Array, firsts: Array,
     several = np.flatnonzero(counts > 2)
     if not len(several):
         return
-    keys = _keys_of_rings(forms)
+    keys = list(_keys_of_rings(forms))
     for first, count in zip(firsts[several].tolist(),
                             counts[several].tolist()):
         holes = rings[first + 1:first + count]
@@ -85,7 +92,7 @@ def _keys_of_forms(forms: Rings, parts: Array) -> list[bytes]:
     is_point = np.ones(len(words), np.bool_)
     polygon_words = ends[:-1][~collapses]
     is_point[polygon_words] = is_point[ring_words] = False
-    words[polygon_words] = counts[~collapses]
+    words[polygon_words] = counts[~collapses] + _OF_POLYGON
     words[ring_words] = np.diff(offsets)
     words[is_point] = points.ravel()
     return _cut(words, ends)
@@ -113,7 +120,7 @@ def _as_array(keys: Sequence[bytes]) -> npt.NDArray[np.object_]:
 
 
 def canonical_keys(points: npt.NDArray[Int], ring_offsets: npt.ArrayLike,
-                   polygon_offsets: Optional[npt.ArrayLike] = None,
+                   polygon_offsets: Optional[npt.ArrayLike] = None, *,
                    oriented: bool = True,
                    threads: int = 1) -> npt.NDArray[np.object_]:
     """Return a key of each ring, or of each polygon.
@@ -144,7 +151,8 @@ def canonical_keys(points: npt.NDArray[Int], ring_offsets: npt.ArrayLike,
     array of shape (m,) or (p,) and dtype object
         In order, each of type ``bytes``. It is empty where the ring, or the
         outer ring of the polygon, collapses; that of a polygon without
-        rings isn't. What else stands in a key may differ between versions.
+        rings isn't. But for the empty one, no key of a polygon is that of a
+        ring. What else stands in a key may differ between versions.
 
     Raises
     ------
@@ -171,15 +179,15 @@ def canonical_keys(points: npt.NDArray[Int], ring_offsets: npt.ArrayLike,
     [0, 0, 2]
     """
     if polygon_offsets is None:
-        keys = _keys_of_rings(
-            canonical_rings(points, ring_offsets, threads, oriented))
+        keys = list(_keys_of_rings(canonical_rings(
+            points, ring_offsets, threads=threads, oriented=oriented)))
     else:
         given = given_polygons(points, ring_offsets, polygon_offsets)
         keys = _keys_of_polygons(given, oriented, threads)
     return _as_array(keys)
 
 
-def same_rings(a: Pair, b: Pair, oriented: bool = True,
+def same_rings(a: Pair, b: Pair, *, oriented: bool = True,
                threads: int = 1) -> npt.NDArray[np.intp]:
     """Return for each ring of one list where the same ring is in another.
 
@@ -217,8 +225,10 @@ def same_rings(a: Pair, b: Pair, oriented: bool = True,
     [1, -1]
     """
     ours, theirs = (
-        _keys_of_rings(canonical_rings(*rings, threads, oriented))
+        canonical_rings(*rings, threads=threads, oriented=oriented)
         for rings in (a, b))
-    place = {key: k for k, key in reversed(list(enumerate(theirs)))}
-    return np.fromiter((place.get(key, -1) for key in ours), np.intp,
-                       len(ours))
+    places: dict[bytes, int] = {}
+    for place, key in enumerate(_keys_of_rings(theirs)):
+        places.setdefault(key, place)
+    return np.fromiter((places.get(key, -1) for key in _keys_of_rings(ours)),
+                       np.intp, len(ours.offsets) - 1)

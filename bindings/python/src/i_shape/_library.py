@@ -149,12 +149,13 @@ def as_offsets(offsets: Any, name: str = "offsets") -> Array:
     """A copy of the offsets, as int64.
 
     What the library has tested can't change before it is used: the array
-    may be mapped from a file, or shared with another thread. An offset of
-    2**63 or more gets below 0, and is out of order as that too.
+    may be mapped from a file, or shared with another thread.
     """
     if isinstance(offsets, np.ma.MaskedArray):
         raise TypeError(f"{name} are a masked array: fill it first")
     array: Array = np.asarray(offsets)
+    if not array.size and not isinstance(offsets, np.ndarray):
+        array = array.astype(np.int64)  # of no number numpy makes floats
     if array.dtype.kind not in "iu":
         raise TypeError(f"{name} have dtype {array.dtype}: whole numbers"
                         " are needed")
@@ -163,7 +164,12 @@ def as_offsets(offsets: Any, name: str = "offsets") -> Array:
                          " needed")
     if not array.size:
         raise OffsetsError(f"{name} are empty: no ring has the offsets [0]")
-    return array.astype(np.int64, order="C")
+    copied: Array = array.astype(np.int64, order="C")
+    if array.dtype.kind == "u" and (copied < 0).any():
+        place = int((copied < 0).argmax())
+        raise OffsetsError(f"{name}[{place}] is {int(copied[place]) + 2**64}:"
+                           " no array has so many items")
+    return copied
 
 
 def as_threads(threads: Any) -> int:

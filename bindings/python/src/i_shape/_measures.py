@@ -54,7 +54,7 @@ def _test_rings(test: str, points: Any, offsets: Any,
                           as_offsets(offsets), np.bool_, threads)
 
 
-def is_simple_rings(points: npt.NDArray[Int], offsets: npt.ArrayLike,
+def is_simple_rings(points: npt.NDArray[Int], offsets: npt.ArrayLike, *,
                     threads: int = 1) -> npt.NDArray[np.bool_]:
     """Return which rings have three points or more and no zero turn.
 
@@ -91,7 +91,7 @@ def is_simple_rings(points: npt.NDArray[Int], offsets: npt.ArrayLike,
     return _test_rings("is_simple", points, offsets, threads)
 
 
-def has_no_spikes_rings(points: npt.NDArray[Int], offsets: npt.ArrayLike,
+def has_no_spikes_rings(points: npt.NDArray[Int], offsets: npt.ArrayLike, *,
                         threads: int = 1) -> npt.NDArray[np.bool_]:
     """Return on which rings the way nowhere turns back.
 
@@ -124,9 +124,12 @@ def has_no_spikes_rings(points: npt.NDArray[Int], offsets: npt.ArrayLike,
     return _test_rings("has_no_spikes", points, offsets, threads)
 
 
-def is_convex_rings(points: npt.NDArray[Int], offsets: npt.ArrayLike,
+def is_convex_rings(points: npt.NDArray[Int], offsets: npt.ArrayLike, *,
                     threads: int = 1) -> npt.NDArray[np.bool_]:
     """Return on which rings the way nowhere turns back nor bends both ways.
+
+    As for :func:`is_convex`, a ring that winds round more than once, as a
+    pentagram does, may be one of them.
 
     Parameters
     ----------
@@ -157,16 +160,18 @@ def is_convex_rings(points: npt.NDArray[Int], offsets: npt.ArrayLike,
     return _test_rings("is_convex", points, offsets, threads)
 
 
-def is_safe_rings(points: npt.NDArray[Int], offsets: npt.ArrayLike,
+def is_safe_rings(points: npt.NDArray[Int], offsets: npt.ArrayLike, *,
                   threads: int = 1) -> npt.NDArray[np.bool_]:
     """Return of which rings each point is safe, as the other calls ask for.
 
     Parameters
     ----------
     points : array of shape (n, 2), int16, int32 or int64
+        As for :func:`simplify_rings`, but of any coordinates: no safe range
+        is asked.
     offsets : array of shape (m + 1,), of whole numbers
     threads : int
-        As for :func:`is_simple_rings`, but points of any coordinates.
+        As for :func:`is_simple_rings`.
 
     Returns
     -------
@@ -201,7 +206,7 @@ def _areas(points: Any, offsets: Array, threads: Any, name: str = "offsets",
     return high * 2**64 + areas["low"]
 
 
-def area_two_rings(points: npt.NDArray[Int], offsets: npt.ArrayLike,
+def area_two_rings(points: npt.NDArray[Int], offsets: npt.ArrayLike, *,
                    threads: int = 1) -> npt.NDArray[Any]:
     """Return twice the signed area of each ring.
 
@@ -240,7 +245,7 @@ def area_two_rings(points: npt.NDArray[Int], offsets: npt.ArrayLike,
 
 
 def area_two_polygons(points: npt.NDArray[Int], ring_offsets: npt.ArrayLike,
-                      polygon_offsets: npt.ArrayLike,
+                      polygon_offsets: npt.ArrayLike, *,
                       threads: int = 1) -> npt.NDArray[Any]:
     """Return twice the signed area of each polygon.
 

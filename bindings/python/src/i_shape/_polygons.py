@@ -26,6 +26,16 @@ class Polygons(NamedTuple):
     Polygon p has the rings ``polygon_offsets[p]`` to
     ``polygon_offsets[p + 1]``, the outer one first, and ring k is
     ``points[ring_offsets[k]:ring_offsets[k + 1]]``.
+
+    Attributes
+    ----------
+    points : array of shape (n, 2), int16, int32 or int64
+        The points of all rings, in the unit that they were given in; of
+        :mod:`i_shape.io` also floats.
+    ring_offsets : array of shape (m + 1,) and dtype int64
+        From 0 to n in an answer. A call takes any whole numbers.
+    polygon_offsets : array of shape (p + 1,) and dtype int64
+        From 0 to m in an answer. A call takes any whole numbers.
     """
 
     points: npt.NDArray[Any]
@@ -115,7 +125,7 @@ def _clean_polygons(cleaner: str, given: Given, parts: int) -> Polygons:
 
 
 def simplify_polygons(points: npt.NDArray[Int], ring_offsets: npt.ArrayLike,
-                      polygon_offsets: npt.ArrayLike,
+                      polygon_offsets: npt.ArrayLike, *,
                       threads: int = 1) -> Polygons:
     """Return each polygon without the zero turns of its rings.
 
@@ -169,7 +179,7 @@ def simplify_polygons(points: npt.NDArray[Int], ring_offsets: npt.ArrayLike,
 
 
 def despike_polygons(points: npt.NDArray[Int], ring_offsets: npt.ArrayLike,
-                     polygon_offsets: npt.ArrayLike,
+                     polygon_offsets: npt.ArrayLike, *,
                      threads: int = 1) -> Polygons:
     """Return each polygon without the spikes of its rings.
 
@@ -214,8 +224,8 @@ def despike_polygons(points: npt.NDArray[Int], ring_offsets: npt.ArrayLike,
 
 
 def canonical_polygons(points: npt.NDArray[Int], ring_offsets: npt.ArrayLike,
-                       polygon_offsets: npt.ArrayLike, oriented: bool = True,
-                       threads: int = 1) -> Polygons:
+                       polygon_offsets: npt.ArrayLike, *,
+                       oriented: bool = True, threads: int = 1) -> Polygons:
     """Return the canonical form of a list of polygons.
 
     The form of a polygon is the canonical form of its outer ring, and after
@@ -272,7 +282,7 @@ def canonical_polygons(points: npt.NDArray[Int], ring_offsets: npt.ArrayLike,
     return _clean_polygons(canonical_cleaner(oriented), given, 1)
 
 
-def same_polygons(a: Triple, b: Triple, oriented: bool = True,
+def same_polygons(a: Triple, b: Triple, *, oriented: bool = True,
                   threads: int = 1) -> bool:
     """Return whether two lists of polygons are the same.
 

@@ -17,7 +17,16 @@ Int = TypeVar("Int", np.int16, np.int32, np.int64)
 
 
 class Rings(NamedTuple):
-    """Rings end to end: ring k is ``points[offsets[k]:offsets[k + 1]]``."""
+    """Rings end to end: ring k is ``points[offsets[k]:offsets[k + 1]]``.
+
+    Attributes
+    ----------
+    points : array of shape (n, 2), int16, int32 or int64
+        The points of all rings, in the unit that they were given in; of
+        :mod:`i_shape.io` also floats.
+    offsets : array of shape (m + 1,) and dtype int64
+        From 0 to n in an answer. A call takes any whole numbers.
+    """
 
     points: npt.NDArray[Any]
     offsets: npt.NDArray[np.int64]
@@ -123,7 +132,7 @@ def canonical_cleaner(oriented: bool) -> str:
     return "canonical" if oriented else "canonical_unoriented"
 
 
-def simplify_rings(points: npt.NDArray[Int], offsets: npt.ArrayLike,
+def simplify_rings(points: npt.NDArray[Int], offsets: npt.ArrayLike, *,
                    threads: int = 1) -> Rings:
     """Return each ring without its zero turns.
 
@@ -181,7 +190,7 @@ def simplify_rings(points: npt.NDArray[Int], offsets: npt.ArrayLike,
     return clean_rings("simplify", points, offsets, threads)
 
 
-def despike_rings(points: npt.NDArray[Int], offsets: npt.ArrayLike,
+def despike_rings(points: npt.NDArray[Int], offsets: npt.ArrayLike, *,
                   threads: int = 1) -> Rings:
     """Return each ring without its back points, as :func:`despike` does.
 
@@ -213,7 +222,7 @@ def despike_rings(points: npt.NDArray[Int], offsets: npt.ArrayLike,
     return clean_rings("despike", points, offsets, threads)
 
 
-def canonical_rings(points: npt.NDArray[Int], offsets: npt.ArrayLike,
+def canonical_rings(points: npt.NDArray[Int], offsets: npt.ArrayLike, *,
                     threads: int = 1, oriented: bool = True) -> Rings:
     """Return the canonical form of each ring, as :func:`canonical` does.
 

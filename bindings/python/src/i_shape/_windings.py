@@ -2,7 +2,7 @@
 
 from __future__ import annotations
 
-from typing import Any, Literal, Sequence, TypeVar, Union
+from typing import Any, Literal, Sequence, Tuple, TypeVar, Union
 
 import numpy as np
 import numpy.typing as npt
@@ -14,7 +14,8 @@ from ._library import (CALLS, NO_WINDING, UNSAFE, Array, address, as_offsets,
 from ._rings import Rings, raise_codes
 
 Int = TypeVar("Int", np.int16, np.int32, np.int64)
-Contours = Union[npt.NDArray[Int], Rings]
+Contours = Union[npt.NDArray[Int], Rings,
+                 Tuple[npt.NDArray[Int], npt.ArrayLike]]
 FillRule = Literal["evenodd", "nonzero", "positive", "negative"]
 
 _RULES: dict[str, Any] = {
@@ -80,16 +81,23 @@ def _raise(code: int, points: Array, offsets: Array, about: Array) -> None:
     raise_codes([code], points, offsets)
 
 
-def winding_numbers(contours: Contours[Int], about: npt.NDArray[Int],
+def _are_many(contours: Any) -> bool:
+    """Whether they are points and offsets, and not one contour."""
+    return isinstance(contours, Rings) or (
+        isinstance(contours, tuple) and len(contours) == 2
+        and np.ndim(contours[0]) == 2)
+
+
+def winding_numbers(contours: Contours[Int], about: npt.NDArray[Int], *,
                     threads: int = 1) -> npt.NDArray[np.intp]:
     """Return how often contours wind about each of many points, together.
 
     Parameters
     ----------
     contours : array of shape (n, 2), int16, int32 or int64, or Rings
-        One contour, as for :func:`simplify`, or many: of these the winding
-        numbers are added up, so that the rings of a polygon tell what its
-        fill rule asks for.
+        One contour, as for :func:`simplify`, or many, as ``Rings`` or a
+        tuple (points, offsets): of these the winding numbers are added up,
+        so that the rings of a polygon tell what its fill rule asks for.
     about : array of shape (m, 2), of the same dtype
         The points.
     threads : int
@@ -111,6 +119,8 @@ def winding_numbers(contours: Contours[Int], about: npt.NDArray[Int],
         As :func:`simplify` does, and where ``about`` has another dtype.
     ValueError
         A shape is another one, or ``threads`` is below 1.
+    MemoryError
+        There is none for the answer, or a thread could not be started.
 
     See also
     --------
@@ -126,9 +136,8 @@ def winding_numbers(contours: Contours[Int], about: npt.NDArray[Int],
     >>> winding_numbers(both, np.array([(1, 1), (4, 4), (9, 9)])).tolist()
     [1, 0, 0]
     """
-    if isinstance(contours, Rings):
-        points = as_points(contours.points)
-        offsets = as_offsets(contours.offsets)
+    if _are_many(contours):
+        points, offsets = as_points(contours[0]), as_offsets(contours[1])
     else:
         points = as_points(contours)
         offsets = np.array([0, len(points)], np.int64)
@@ -154,7 +163,7 @@ def winding_numbers(contours: Contours[Int], about: npt.NDArray[Int],
     return out
 
 
-def contains_points(contours: Contours[Int], about: npt.NDArray[Int],
+def contains_points(contours: Contours[Int], about: npt.NDArray[Int], *,
                     rule: FillRule = "evenodd",
                     threads: int = 1) -> npt.NDArray[np.bool_]:
     """Return which of many points contours fill together, by a fill rule.
@@ -174,7 +183,7 @@ def contains_points(contours: Contours[Int], about: npt.NDArray[Int],
 
     Raises
     ------
-    UnsafePointError, OffsetsError, TypeError
+    UnsafePointError, OffsetsError, TypeError, MemoryError
         As :func:`winding_numbers` does.
     ValueError
         As :func:`winding_numbers` does, and where there is no such rule.
@@ -194,5 +203,5 @@ def contains_points(contours: Contours[Int], about: npt.NDArray[Int],
         raise ValueError(f"rule is {rule!r}: one of {', '.join(_RULES)} is"
                          " needed")
     filled: npt.NDArray[np.bool_] = _RULES[rule](
-        winding_numbers(contours, about, threads))
+        winding_numbers(contours, about, threads=threads))
     return filled

@@ -101,7 +101,14 @@ const _: () = assert!(is_laid_out::<i16>() && is_laid_out::<i32>() && is_laid_ou
 /// i_shape::contour_point!(Labelled { x, y }: i32);
 /// ```
 ///
-/// So are coordinates in another order, of another width, and references:
+/// So are coordinates that aren't aligned, in another order, of another width, and references:
+///
+/// ```compile_fail
+/// #[repr(C, packed)]
+/// #[derive(Clone, Copy)]
+/// struct Packed { x: i32, y: i32 }
+/// i_shape::contour_point!(Packed { x, y }: i32);
+/// ```
 ///
 /// ```compile_fail
 /// #[repr(C)]

@@ -223,6 +223,11 @@ fn rings_wound_about<I: Number>() {
     let mut out = [7; 5];
     rings.winding_numbers_into(&about, &mut out);
     assert_eq!(out, [3, 2, 1, 0, 7]);
+    // the points before the first offset are not read
+    let unsafe_point = IntPoint::new(I::ABOVE, I::ABOVE);
+    let points = [&[unsafe_point; 2], &rings.points()[4..]].concat();
+    let inner = Contours::new(&points, &[2, 5, 10]);
+    assert_eq!(inner.try_winding_numbers(&about), Ok(vec![2, 2, 1, 0]));
     let odd = [true, false, true, false];
     assert_eq!(rings.contains_points(&about, FillRule::EvenOdd), odd);
     assert_eq!(
@@ -244,6 +249,10 @@ fn polygons_cleaned<I: Number>() {
     assert_eq!(flat.shapes(), [0, 3, 5, 5, 6]);
     let polygons = flat.as_shapes();
     assert_eq!((polygons.len(), polygons.is_empty()), (4, false));
+    // no points of the polygons behind it
+    let first = polygons.get(0).expect("there are four");
+    assert_eq!(first.points(), &flat.points()[..11]);
+    assert_eq!(polygons.iter().next(), Some(first));
     let simplified = polygons.simplified();
     assert_eq!(simplified.shapes(), [0, 2, 2, 3]);
     assert_eq!(simplified.contours(), [0, 4, 7, 11]);

@@ -2,13 +2,15 @@
 
 from __future__ import annotations
 
-import json
+import errno
 import os
-from contextlib import contextmanager
+import stat
+import tempfile
+from contextlib import contextmanager, suppress
 from pathlib import Path
-from typing import Any, Iterator, NamedTuple, Optional, TextIO
+from typing import Any, Iterator, NamedTuple, Optional, Sequence, TextIO
 
-from ..io import Features, _geojson, _wkt, from_wkt
+from ..io import FeatureError, Features, _geojson, _wkt, from_wkt
 from ..io._features import as_features
 from .progress import bar, track
 
@@ -21,10 +23,15 @@ def format_of(path: Path) -> Optional[str]:
 
 
 class Given(NamedTuple):
-    """The features of a file, and its document where it is GeoJSON."""
+    """The features of a file.
+
+    Where it is GeoJSON, its document stands beside them, and where it is
+    WKT, the number of the line of each feature.
+    """
 
     features: Features
     document: Optional[dict[str, Any]]
+    lines: Sequence[int]
 
 
 def _document(file: TextIO) -> Any:
@@ -35,21 +42,42 @@ def _document(file: TextIO) -> Any:
             return value
 
         try:
-            return json.load(file, object_hook=counted)
+            return _geojson.loads(file.read(), counted)
         except RecursionError:
             raise ValueError("it is nested too deeply") from None
+
+
+@contextmanager
+def naming_lines(lines: Sequence[int]) -> Iterator[None]:
+    """Name the line of a feature that has a fault, where it has one."""
+    try:
+        yield
+    except FeatureError as error:
+        if not lines or error.feature is None:
+            raise
+        raise ValueError(f"line {lines[error.feature]}: {error}") from error
+
+
+def _lines(file: TextIO, numbers: list[int]) -> Iterator[str]:
+    """The lines that aren't blank; their numbers are added to the list."""
+    for number, line in enumerate(file, 1):
+        if line.strip():
+            numbers.append(number)
+            yield line
 
 
 def read(path: Path) -> Given:
     """The features of a file of GeoJSON, or of WKT with one a line."""
     with open(path, encoding="utf-8-sig") as file:
         if format_of(path) == "WKT":
-            lines = (line for line in file if line.strip())
-            return Given(from_wkt(track(lines, "features read")), None)
+            numbers: list[int] = []
+            with naming_lines(numbers):
+                lines = track(_lines(file, numbers), "features read")
+                return Given(from_wkt(lines), None, numbers)
         document = _document(file)
     geometries = _geojson.geometries_of(document)
     return Given(_geojson.read(track(geometries, "features parsed",
-                                     len(geometries))), document)
+                                     len(geometries))), document, ())
 
 
 def texts(path: Path, features: Features,
@@ -62,32 +90,48 @@ def texts(path: Path, features: Features,
     return _geojson.Texts("", lines, "")
 
 
+def _take_rights(beside: Path, goal: Path) -> None:
+    """Give a file the mode of another, and where one may its owner."""
+    try:
+        rights = os.stat(goal)
+    except FileNotFoundError:
+        return
+    for owner in (-1, rights.st_uid):
+        with suppress(AttributeError, OSError):
+            os.chown(beside, owner, rights.st_gid)
+    os.chmod(beside, stat.S_IMODE(rights.st_mode))
+
+
 @contextmanager
 def replacing(path: Path) -> Iterator[Path]:
-    """A new file beside the path, which takes its place at the end.
+    """A path of a new file, which takes the path's place at the end.
 
-    Where something fails, the path keeps what it had, and the new file is
-    taken away.
+    It has the mode of the file that was there. Where something fails, the
+    path keeps what it had, and the new file is taken away with its folder,
+    which only the user can look into.
     """
     goal = Path(os.path.realpath(path))
-    beside = goal.with_name(f".{goal.name}.{os.getpid()}.part")
-    try:
+    if goal.is_dir():
+        raise IsADirectoryError(errno.EISDIR, os.strerror(errno.EISDIR),
+                                str(path))
+    with tempfile.TemporaryDirectory(".part", ".", goal.parent) as folder:
+        beside = Path(folder, goal.name)
         yield beside
+        _take_rights(beside, goal)
         os.replace(beside, goal)
-    except BaseException:
-        beside.unlink(missing_ok=True)
-        raise
 
 
-def write(path: Path, features: Features,
-          document: Optional[dict[str, Any]]) -> None:
-    """Write a file of features, in the place of one that is there."""
+@contextmanager
+def writing(path: Path, features: Features,
+            document: Optional[dict[str, Any]]) -> Iterator[None]:
+    """Write a file of features, which takes the path's place at the end."""
     with replacing(path) as beside:
         pieces = texts(path, features, document)
-        with open(beside, "x", encoding="utf-8") as file:
+        with open(beside, "w", encoding="utf-8") as file:
             file.write(pieces.head)
             file.writelines(track(pieces.features, "features written",
                                   len(features.are_multi)))
             file.write(pieces.tail)
             file.flush()
             os.fsync(file.fileno())
+        yield

@@ -2,6 +2,7 @@
 
 from __future__ import annotations
 
+import math
 from typing import Iterator, Sequence, TypeVar
 
 import numpy as np
@@ -22,8 +23,8 @@ def _are_outer(features: Features) -> Array:
     return outer
 
 
-def _float_areas(features: Features) -> list[float]:
-    """Twice the signed area of each ring, in floats."""
+def _float_areas(features: Features, step: float) -> list[float]:
+    """Twice the signed area of each ring, in floats, in cells of a grid."""
     points, ends, _ = features.polygons
     lengths = np.diff(ends)
     full = np.flatnonzero(lengths)
@@ -31,7 +32,7 @@ def _float_areas(features: Features) -> list[float]:
     if not len(full):
         return []
     starts = ends[:-1][full]
-    moved = points - np.repeat(points[starts], lengths[full], axis=0)
+    moved = (points - np.repeat(points[starts], lengths[full], axis=0)) / step
     following = np.arange(1, len(points) + 1)
     following[ends[1:][full] - 1] = starts
     after = moved[following]
@@ -55,11 +56,17 @@ def _total(areas: Sequence[Number], features: Features) -> Number:
                for area, is_outer in zip(areas, are_outer))
 
 
-def _area_text(doubled: int, grid: Grid) -> str:
-    """An area of the grid, in the file's unit and in cells of the grid."""
+def _area_text(doubled: float, grid: Grid) -> str:
+    """Half of so many cells of the grid, in the file's unit."""
     area = doubled / 2 * grid.step * grid.step
+    return f"{area:.12g}" if math.isfinite(area) else "too great for a float"
+
+
+def _cells_text(doubled: int, grid: Grid) -> str:
+    """The same, and how many cells these are."""
     sign, half = "-" if doubled < 0 else "", ".5" if doubled % 2 else ""
-    return f"{area:.12g}, {sign}{abs(doubled) // 2}{half} cells of the grid"
+    return (f"{_area_text(doubled, grid)},"
+            f" {sign}{abs(doubled) // 2}{half} cells of the grid")
 
 
 def _collapsed(whole: Features, gone: Array) -> Iterator[str]:
@@ -79,9 +86,9 @@ def lines(given: Features, whole: Features, left: Features, gone: Array,
     names = ("features with polygons", "polygons", "rings", "points")
     for name, before, after in zip(names, counts(given), counts(left)):
         yield f"{name}: {before} before, {after} after"
-    area = _total(_float_areas(given), given) / 2
-    yield f"area as given: {area:.12g}"
+    area = _total(_float_areas(given, grid.step), given)
+    yield f"area as given: {_area_text(area, grid)}"
     for name, features in (("before", whole), ("after", left)):
         doubled = _total(_whole_areas(features, f"areas {name}"), features)
-        yield f"area {name}: {_area_text(doubled, grid)}"
+        yield f"area {name}: {_cells_text(doubled, grid)}"
     yield from (f"collapsed: {place}" for place in _collapsed(whole, gone))

@@ -13,7 +13,27 @@ import numpy as np
 from .._polygons import Polygons
 from ._features import FeatureError, Features, as_finite
 
-_PLAIN = {int, float}
+
+class NumberText:
+    """A number that is written as it was read, in other digits than a float.
+
+    It may be beyond the range of floats, or have more digits than they.
+    """
+
+    __slots__ = ("text",)
+
+    def __init__(self, text: str) -> None:
+        self.text = text
+
+    def __repr__(self) -> str:
+        return self.text
+
+    def __float__(self) -> float:
+        return float(self.text)
+
+
+numbers.Real.register(NumberText)
+_PLAIN = {int, float, NumberText}
 
 
 def is_list(value: Any) -> bool:
@@ -44,6 +64,9 @@ class Builder:
 
     def add_positions(self, ring: Any) -> None:
         """Add a ring by a list of positions, which are tested."""
+        if not is_list(ring):
+            raise self.fault("a list of positions is needed, not"
+                             f" {short(ring)}")
         try:
             coordinates = list(chain.from_iterable(ring))
             if (set(map(len, ring)) <= {2}
@@ -57,9 +80,6 @@ class Builder:
 
     def _require_positions(self, ring: Any) -> None:
         """Raise an error that names the first position that isn't one."""
-        if not is_list(ring):
-            raise self.fault("a list of positions is needed, not"
-                             f" {short(ring)}")
         for place, position in enumerate(ring):
             if not is_list(position) or len(position) != 2:
                 count = len(position) if is_list(position) else "no"

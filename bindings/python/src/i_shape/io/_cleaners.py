@@ -46,7 +46,7 @@ def clean(features: Features, cleaner: Cleaner, threads: int = 1) -> Cleaned:
     """Clean the rings, and leave out what collapses."""
     features = as_features(features)
     points, ends, parts = features.polygons
-    rings = cleaner(points, ends, threads)
+    rings = cleaner(points, ends, threads=threads)
     return Cleaned(_left(features, rings), np.diff(rings.offsets) == 0)
 
 
@@ -71,7 +71,7 @@ def in_order(features: Features) -> Features:
     return features._replace(polygons=Polygons(points, ends, parts))
 
 
-def simplify_features(features: Features, threads: int = 1) -> Features:
+def simplify_features(features: Features, *, threads: int = 1) -> Features:
     """Return each feature without the zero turns of its rings.
 
     A hole that collapses is left out, and so is a polygon whose outer ring
@@ -108,7 +108,7 @@ def simplify_features(features: Features, threads: int = 1) -> Features:
     return clean(features, simplify_rings, threads).features
 
 
-def despike_features(features: Features, threads: int = 1) -> Features:
+def despike_features(features: Features, *, threads: int = 1) -> Features:
     """Return each feature without the back points of its rings.
 
     Parameters
@@ -124,7 +124,9 @@ def despike_features(features: Features, threads: int = 1) -> Features:
 
     Raises
     ------
-    UnsafePointError, OffsetsError, FeatureError, TypeError, ValueError
+    UnsafePointError, OffsetsError, FeatureError
+        As :func:`simplify_features` does.
+    TypeError, ValueError, MemoryError
         As :func:`simplify_features` does.
 
     Examples
@@ -138,7 +140,7 @@ def despike_features(features: Features, threads: int = 1) -> Features:
     return clean(features, despike_rings, threads).features
 
 
-def canonical_features(features: Features, threads: int = 1) -> Features:
+def canonical_features(features: Features, *, threads: int = 1) -> Features:
     """Return the canonical form of each feature.
 
     It is the form of the list of its polygons, as
@@ -157,7 +159,9 @@ def canonical_features(features: Features, threads: int = 1) -> Features:
 
     Raises
     ------
-    UnsafePointError, OffsetsError, FeatureError, TypeError, ValueError
+    UnsafePointError, OffsetsError, FeatureError
+        As :func:`simplify_features` does.
+    TypeError, ValueError, MemoryError
         As :func:`simplify_features` does.
 
     Examples

@@ -2,6 +2,7 @@
 
 from __future__ import annotations
 
+import operator
 from typing import Any, NamedTuple, Optional, Tuple
 
 import numpy as np
@@ -51,8 +52,12 @@ class Place(NamedTuple):
     point: int
 
 
-def _parted(offsets: Array, item: int) -> Tuple[int, int]:
+def _parted(offsets: Array, item: int, name: str) -> Tuple[int, int]:
     """The part that an item lies in, and its place there."""
+    item = operator.index(item)
+    if not offsets[0] <= item < offsets[-1]:
+        raise IndexError(f"{name} is {item}, and not from {offsets[0]} to"
+                         f" {offsets[-1] - 1}")
     part = int(np.searchsorted(offsets, item, side="right")) - 1
     return part, item - int(offsets[part])
 
@@ -72,18 +77,65 @@ class Features(NamedTuple):
     are_multi: npt.NDArray[np.bool_]
 
     def with_points(self, points: Array) -> Features:
-        """Return the same features with other points in the same places."""
+        """Return the same features with other points in the same places.
+
+        Parameters
+        ----------
+        points : array of shape (n, 2), of whole numbers or floats
+            As many as there are. Nothing is tested here; the calls that
+            take features do so.
+
+        Returns
+        -------
+        Features
+            It shares the offsets with this one, and has these points.
+        """
         return self._replace(polygons=self.polygons._replace(points=points))
 
     def place(self, row: int) -> Place:
-        """Return where the point in a row of ``polygons.points`` stands."""
-        ring, point = _parted(self.polygons.ring_offsets, row)
+        """Return where the point in a row of ``polygons.points`` stands.
+
+        Parameters
+        ----------
+        row : int
+            From 0 on, and in a ring of a polygon of a feature.
+
+        Returns
+        -------
+        Place
+
+        Raises
+        ------
+        IndexError
+            No feature has the row.
+        TypeError
+            It isn't a whole number.
+        """
+        ring, point = _parted(self.polygons.ring_offsets, row, "row")
         return Place(*self.ring_place(ring), point)
 
     def ring_place(self, ring: int) -> Tuple[int, int, int]:
-        """Return the feature, the polygon and the ring in it of a ring."""
-        polygon, its_ring = _parted(self.polygons.polygon_offsets, ring)
-        return (*_parted(self.feature_offsets, polygon), its_ring)
+        """Return the feature, the polygon and the ring in it of a ring.
+
+        Parameters
+        ----------
+        ring : int
+            From 0 on, as ``polygons.ring_offsets`` count the rings, and in
+            a polygon of a feature.
+
+        Returns
+        -------
+        tuple of three int
+            The first three of a :class:`Place`.
+
+        Raises
+        ------
+        IndexError, TypeError
+            As :meth:`place` does.
+        """
+        polygon, its_ring = _parted(self.polygons.polygon_offsets, ring,
+                                    "ring")
+        return (*_parted(self.feature_offsets, polygon, "polygon"), its_ring)
 
 
 def as_finite(features: Features) -> Features:
@@ -134,10 +186,15 @@ def as_features(features: Any) -> Features:
     """The features, tested, with offsets from 0 on and nothing besides."""
     (points, rings, parts), offsets, are_multi = features
     points = as_plane_points(points)
+    if points.dtype.kind == "f":
+        with np.errstate(over="ignore"):
+            points = points.astype(np.float64, copy=False)
     rings = _parting(rings, len(points), "ring_offsets", "points")
     parts = _parting(parts, len(rings) - 1, "polygon_offsets", "rings")
     offsets = _parting(offsets, len(parts) - 1, "feature_offsets", "polygons")
     multi: Array = np.asarray(are_multi)
+    if not multi.size and not isinstance(are_multi, np.ndarray):
+        multi = multi.astype(np.bool_)  # of nothing numpy makes floats
     if multi.dtype != np.bool_ or multi.shape != (len(offsets) - 1,):
         raise ValueError(f"are_multi has dtype {multi.dtype} and shape"
                          f" {multi.shape}: one bool a feature is needed")

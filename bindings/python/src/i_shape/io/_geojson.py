@@ -3,14 +3,48 @@
 from __future__ import annotations
 
 import json
+import re
+import secrets
 from itertools import chain, repeat
 from reprlib import repr as short
-from typing import Any, Iterable, Iterator, Mapping, NamedTuple, Optional
+from typing import (Any, Callable, Iterable, Iterator, Mapping, NamedTuple,
+                    NoReturn, Optional, Union)
 
-from ._builder import Builder, is_list
+from ._builder import Builder, NumberText, is_list
 from ._features import FeatureError, Features, as_features
 
 _ARE_MULTI = {"Polygon": False, "MultiPolygon": True}
+_NO_NUMBER = re.compile(r'"(?:[^"\\]|\\.)*"|(NaN|Infinity)')
+_MARK = secrets.token_hex(16)  # stands in no text
+_MARKED = re.compile(f'"{_MARK}([^"]*)"')
+
+
+def _number(text: str) -> Union[float, NumberText]:
+    """What a text stands for, which is written as this text again."""
+    number = float(text)
+    return number if repr(number) == text else NumberText(text)
+
+
+def loads(text: str, object_hook: Callable[[dict[str, Any]], Any]) -> Any:
+    """What a text of JSON stands for; numbers keep their digits."""
+    def refuse(name: str) -> NoReturn:
+        place = next(found.start(1) for found in _NO_NUMBER.finditer(text)
+                     if found[1])
+        raise json.JSONDecodeError(f"{name} isn't a number of JSON", text,
+                                   place)
+
+    return json.loads(text, object_hook=object_hook, parse_float=_number,
+                      parse_constant=refuse)
+
+
+def _marked(number: NumberText) -> str:
+    return _MARK + number.text
+
+
+def _dumps(value: Any) -> str:
+    """The text of what :func:`loads` has answered."""
+    text = json.dumps(value, allow_nan=False, default=_marked)
+    return _MARKED.sub(r"\1", text)
 
 
 def geometries_of(document: Any) -> list[Any]:
@@ -241,10 +275,10 @@ def texts(features: Features,
     if document is None:
         document = _without_document(features)
     if document.get("type") != "FeatureCollection":
-        whole = json.dumps(to_geojson(features, document))
+        whole = _dumps(to_geojson(features, document))
         return Texts("", iter([whole]), "\n")
-    head = json.dumps(_head(document))[1:-1]
+    head = _dumps(_head(document))[1:-1]
     between = chain([""], repeat(",\n"))
-    pieces = (f"{lead}{json.dumps(feature)}" for lead, feature
+    pieces = (f"{lead}{_dumps(feature)}" for lead, feature
               in zip(between, _new_features(features, document)))
     return Texts(f'{{{head}, "features": [\n', pieces, "\n]}\n")

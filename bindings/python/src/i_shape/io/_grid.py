@@ -26,6 +26,12 @@ class Grid:
     origin : pair of float
         Where (0, 0) lies.
 
+    Raises
+    ------
+    ValueError
+        ``step`` isn't finite and above 0, or ``origin`` isn't two finite
+        numbers.
+
     Examples
     --------
     >>> from i_shape.io import Grid
@@ -251,6 +257,8 @@ def features_from_grid(features: Features, grid: Grid) -> Features:
     ------
     TypeError, ValueError
         As :func:`from_grid` does.
+    OffsetsError, FeatureError
+        As :func:`to_wkt` does.
 
     Examples
     --------
@@ -260,4 +268,5 @@ def features_from_grid(features: Features, grid: Grid) -> Features:
     >>> to_wkt(features_from_grid(left, Grid(0.1)))
     ['POLYGON ((0 0, 0.8 0, 0.8 0.8, 0 0))']
     """
+    features = as_features(features)
     return features.with_points(from_grid(features.polygons.points, grid))
