@@ -72,6 +72,17 @@ def blocks(page):
         yield found[1], page.count("\n", 0, found.start()) + 1, found[2]
 
 
+def with_whole_clauses(text):
+    """The text with each clause on one line, which may be broken into several."""
+    lines = []
+    for line in text.splitlines():
+        if lines and re.match(r"\s*(requires|ensures|ghost)\b", lines[-1]) and lines[-1].count("{") > lines[-1].count("}"):
+            lines[-1] += f" {line.strip()}"
+        else:
+            lines.append(line)
+    return "\n".join(lines)
+
+
 def bare(text):
     """The lines of a text without clauses that are promised, attributes, doc lines and blank lines."""
     return [line.strip() for line in text.splitlines() if not LEFT_OUT.match(line)]
@@ -87,7 +98,7 @@ def imports(text):
 
 def items(text):
     """The items of a block of Rattle or Rust, parted by blank lines and by the heads and ends of impls."""
-    text = re.sub(r"^(ghost )?use [^;]*;\n", "", text, flags=re.MULTILINE)
+    text = re.sub(r"^(ghost )?use [^;]*;\n", "", with_whole_clauses(text), flags=re.MULTILINE)
     text = re.sub(r"^(impl\b.*\{|\})$", r"\n\1\n", text, flags=re.MULTILINE)
     return [item for item in re.split(r"\n\s*\n", text) if bare(item)]
 
@@ -106,7 +117,7 @@ def fault_of_rust(text):
     if not items(text):
         return "it has no item"
     for name in files(RUST):
-        source = read(name)
+        source = with_whole_clauses(read(name))
         if all(holds(source, item) for item in items(text)):
             strange = imports(text) - imports(source)
             return f"{name} doesn't import {', '.join(sorted(strange))}" if strange else None
@@ -117,8 +128,8 @@ def fault_of_clauses(text):
     """What of a quoted contract stands in no source. A block without clauses is no quotation."""
     if not re.search(r"^\s*(requires|ensures|ghost)\b", text, re.MULTILINE):
         return None
-    sources = {line.strip().rstrip(";,") for name in files(RUST) for line in read(name).splitlines()}
-    strange = [line for line in text.splitlines() if line.strip() and not line.startswith("//") and line.strip().rstrip(";,") not in sources]
+    sources = {line.strip().rstrip(";,") for name in files(RUST) for line in with_whole_clauses(read(name)).splitlines()}
+    strange = [line for line in with_whole_clauses(text).splitlines() if line.strip() and not line.startswith("//") and line.strip().rstrip(";,") not in sources]
     return f"no source has the line: {strange[0].strip()}" if strange else None
 
 

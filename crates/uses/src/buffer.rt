@@ -1,10 +1,12 @@
 //! Flat buffers that are tested, and then cleaned.
 
-ghost use Rattle.std.specs.Prelude.{◌≡◌, [], ◌∷◌, OnOk, OnErr};
-ghost use Rattle.i_shape_core.specs.IntPoint.{contour_of};
+ghost use Rattle.std.specs.Prelude.{◌≡◌, [], ◌∷◌, OnOk, OnErr, IsErrOf, Ok, false, ◌↔◌};
+ghost use Rattle.i_shape_core.specs.Contour.{IsSimple};
+ghost use Rattle.i_shape_core.specs.IntPoint.{contour_of, IsSafeContour};
 ghost use Rattle.i_shape.specs.Paths.{concatenated};
-ghost use Rattle.i_shape.specs.ShapeLists.{shape_of, shapes_of};
-ghost use Rattle.i_shape.specs.Buffers.{Compact, contours_in};
+ghost use Rattle.i_shape.specs.ShapeLists.{shape_of, shapes_of, IsSafeList, IsSafeShape};
+ghost use Rattle.i_shape.specs.Buffers.{Compact, contours_in, CanReadContours};
+ghost use Rattle.std.specs.List.{All};
 
 use crate::refusal::Refusal;
 use i_shape::IntNumber;
@@ -18,6 +20,13 @@ pub fn simplify<I: IntNumber>(buffer: &mut FlatContoursBuffer<I>) -> Result<bool
     ensures compact { OnOk result
         (Compact (contours_in I.value buffer.old) (contours_in I.value buffer.new)) }
     ensures err { OnErr result (buffer.new ≡ buffer.old) }
+    ensures unreadable { IsErrOf result Refusal.Unreadable ↔ (CanReadContours buffer.old → ⊥) }
+    ensures range { IsErrOf result Refusal.OutOfRange
+        ↔ (CanReadContours buffer.old
+        × (All (IsSafeContour I.width) (contours_in I.value buffer.old) → ⊥)) }
+    ensures flag { result ≡ Ok false
+        ↔ (CanReadContours buffer.old × All (IsSafeContour I.width) (contours_in I.value buffer.old)
+        × All IsSimple (contours_in I.value buffer.old)) }
 {
     if !buffer.can_read_contours() {
         return Err(Refusal::Unreadable);
@@ -33,6 +42,8 @@ pub fn set_contour<I: IntNumber>(
     buffer: &mut FlatContoursBuffer<I>,
     contour: &[IntPoint<I>],
 ) -> Result<bool, Refusal>
+    ensures range { IsErrOf result Refusal.OutOfRange ↔ (IsSafeContour I.width (contour_of I.value contour.now) → ⊥) }
+    ensures untouched { IsErrOf result Refusal.OutOfRange → buffer.new ≡ buffer.old }
     ensures compact { OnOk result
         (Compact (contour_of I.value contour.now ∷ []) (contours_in I.value buffer.new)) }
 {
@@ -49,6 +60,8 @@ pub fn set_shape<I: IntNumber>(
     buffer: &mut FlatContoursBuffer<I>,
     shape: &[IntContour<I>],
 ) -> Result<bool, Refusal>
+    ensures range { IsErrOf result Refusal.OutOfRange ↔ (IsSafeShape I.width (shape_of I.value shape.now) → ⊥) }
+    ensures untouched { IsErrOf result Refusal.OutOfRange → buffer.new ≡ buffer.old }
     ensures compact { OnOk result
         (Compact (shape_of I.value shape.now) (contours_in I.value buffer.new)) }
 {
@@ -65,6 +78,8 @@ pub fn set_shape_vector<I: IntNumber>(
     buffer: &mut FlatContoursBuffer<I>,
     shape: &IntShape<I>,
 ) -> Result<bool, Refusal>
+    ensures range { IsErrOf result Refusal.OutOfRange ↔ (IsSafeShape I.width (shape_of I.value shape.now.items) → ⊥) }
+    ensures untouched { IsErrOf result Refusal.OutOfRange → buffer.new ≡ buffer.old }
     ensures compact { OnOk result
         (Compact (shape_of I.value shape.now.items) (contours_in I.value buffer.new)) }
 {
@@ -81,6 +96,8 @@ pub fn set_shapes<I: IntNumber>(
     buffer: &mut FlatContoursBuffer<I>,
     shapes: &[IntShape<I>],
 ) -> Result<bool, Refusal>
+    ensures range { IsErrOf result Refusal.OutOfRange ↔ (IsSafeList I.width (shapes_of I.value shapes.now) → ⊥) }
+    ensures untouched { IsErrOf result Refusal.OutOfRange → buffer.new ≡ buffer.old }
     ensures compact { OnOk result
         (Compact (concatenated (shapes_of I.value shapes.now)) (contours_in I.value buffer.new)) }
 {

@@ -1,13 +1,14 @@
 //! The same straight programs at one width. A coordinate stands for itself there, and `w128` is the width of an area.
 
-ghost use Rattle.std.specs.Prelude.{◌≡◌, ◌<◌, ◌↔◌, length, IsTrue, IfOk, IfSome, OnOk, OnErr};
-ghost use Rattle.std.specs.Int.{int_wrap, w128};
+ghost use Rattle.std.specs.Prelude.{◌≡◌, ◌<◌, ◌↔◌, length, IsTrue, IfOk, IfSome, OnOk, OnErr, IsErrOf, None, Ok, false};
+ghost use Rattle.std.specs.Int.{int_wrap, w128, w64};
 ghost use Rattle.i_shape_core.specs.Point.{Point};
-ghost use Rattle.i_shape_core.specs.IntPoint.{point_of, contour_of};
+ghost use Rattle.i_shape_core.specs.Contour.{IsSimple};
+ghost use Rattle.i_shape_core.specs.IntPoint.{point_of, contour_of, IsSafe, IsSafeContour};
 ghost use Rattle.i_shape_core.specs.Edges.{shoelace, Inside};
-ghost use Rattle.i_shape_core.specs.Cleaners.{SimpleAnswer};
-ghost use Rattle.i_shape.specs.ShapeLists.{shape_of, shapes_of};
-ghost use Rattle.i_shape.specs.ShapeAnswers.{ShapeClean, ListKept, inside_count, shape_shoelace, shapes_shoelace};
+ghost use Rattle.i_shape_core.specs.Cleaners.{SimpleAnswer, EachEndCollapses};
+ghost use Rattle.i_shape.specs.ShapeLists.{shape_of, shapes_of, IsSafeShape};
+ghost use Rattle.i_shape.specs.ShapeAnswers.{ShapeClean, ListKept, inside_count, shape_shoelace, shapes_shoelace, EachContour};
 ghost use Rattle.i_shape.specs.InPlace.{Leaves};
 
 use crate::chain;
@@ -24,6 +25,7 @@ use std::alloc::Global;
 
 /// Twice the area of a contour, told by its copy without zero turns. `None` where the contour collapses.
 pub fn cleaned_area(alloc: Global, contour: &[IntPoint<i64>]) -> Result<Option<i128>, Refusal>
+    ensures none { IfOk result (λ r. (r ≡ None) ↔ EachEndCollapses (contour_of (λ z. z) contour.now)) }
     ensures area { IfOk result
         (λ r. IfSome r
         (λ area. area ≡ int_wrap w128 (shoelace (contour_of (λ z. z) contour.now)))) }
@@ -67,6 +69,8 @@ pub fn clean_contour(contour: &mut IntContour<i64>) -> Result<bool, Refusal>
         ≡ shoelace (contour_of (λ z. z) contour.old.items) }
     ensures inside { (p : Point) → Inside (contour_of (λ z. z) contour.new.items) p
         ↔ Inside (contour_of (λ z. z) contour.old.items) p }
+    ensures flag { result ≡ Ok false ↔ (IsSafeContour w64 (contour_of (λ z. z) contour.old.items)
+        × IsSimple (contour_of (λ z. z) contour.old.items)) }
 {
     if !contour.is_in_safe_range() {
         return Err(Refusal::OutOfRange);
@@ -79,6 +83,8 @@ pub fn clean_contour(contour: &mut IntContour<i64>) -> Result<bool, Refusal>
 /// Removes zero turns from a shape in place, and then spikes, by the call that serves each width. The shape is empty where its first
 /// contour collapses.
 pub fn clean_shape(shape: &mut IntShape<i64>) -> Result<bool, Refusal>
+    ensures range { IsErrOf result Refusal.OutOfRange
+        ↔ (IsSafeShape w64 (shape_of (λ z. z) shape.old.items) → ⊥) }
     ensures cleaned { OnOk result
         (Leaves (ShapeClean SimpleAnswer) (shape_of (λ z. z) shape.old.items)
         (shape_of (λ z. z) shape.new.items)) }
@@ -87,6 +93,8 @@ pub fn clean_shape(shape: &mut IntShape<i64>) -> Result<bool, Refusal>
     ensures area { 0 < length (shape_of (λ z. z) shape.new.items)
         → shape_shoelace (shape_of (λ z. z) shape.new.items)
         ≡ shape_shoelace (shape_of (λ z. z) shape.old.items) }
+    ensures flag { result ≡ Ok false ↔ (IsSafeShape w64 (shape_of (λ z. z) shape.old.items)
+        × EachContour IsSimple (shape_of (λ z. z) shape.old.items)) }
 {
     chain::clean_shape(shape)
 }
@@ -137,6 +145,8 @@ pub fn area_by_buffer(
     buffer: &mut FlatContoursBuffer<i64>,
     shape: &[IntContour<i64>],
 ) -> Result<i128, Refusal>
+    ensures range { IsErrOf result Refusal.OutOfRange
+        ↔ (IsSafeShape w64 (shape_of (λ z. z) shape.now) → ⊥) }
     ensures area { IfOk result
         (λ area. area ≡ int_wrap w128 (shape_shoelace (shape_of (λ z. z) shape.now))) }
 {
@@ -149,6 +159,9 @@ pub fn contains_by_buffer(
     contour: &[IntPoint<i64>],
     point: IntPoint<i64>,
 ) -> Result<bool, Refusal>
+    ensures range { IsErrOf result Refusal.OutOfRange
+        ↔ (IsSafeContour w64 (contour_of (λ z. z) contour.now)
+        × IsSafe w64 (point_of (λ z. z) point) → ⊥) }
     ensures inside { IfOk result (λ r. IsTrue r
         ↔ Inside (contour_of (λ z. z) contour.now) (point_of (λ z. z) point)) }
 {

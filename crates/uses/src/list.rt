@@ -1,6 +1,6 @@
 //! Lists of shapes that are tested, and then asked about or cleaned.
 
-ghost use Rattle.std.specs.Prelude.{◌≡◌, ◌↔◌, length, IsTrue, IfOk, OnOk, OnErr, Ok, false};
+ghost use Rattle.std.specs.Prelude.{◌≡◌, ◌↔◌, length, IsTrue, IfOk, OnOk, OnErr, Ok, false, IsErrOf};
 ghost use Rattle.i_shape_core.specs.Contour.{IsSimple};
 ghost use Rattle.i_shape_core.specs.Convex.{NoSpikes};
 ghost use Rattle.i_shape_core.specs.Cleaners.{SimpleAnswer, DespikeAnswer};
@@ -38,6 +38,8 @@ pub fn simplified<I: IntNumber>(
     alloc: Global,
     shapes: &[IntShape<I>],
 ) -> Result<IntShapes<I>, Refusal>
+    ensures range { IsErrOf result Refusal.OutOfRange
+        ↔ (IsSafeList I.width (shapes_of I.value shapes.now) → ⊥) }
     ensures kept { IfOk result
         (λ kept. ListKept SimpleAnswer (shapes_of I.value shapes.now)
         (shapes_of I.value kept.items)) }
@@ -53,6 +55,8 @@ pub fn simplified_vector<I: IntNumber>(
     alloc: Global,
     shapes: &IntShapes<I>,
 ) -> Result<IntShapes<I>, Refusal>
+    ensures range { IsErrOf result Refusal.OutOfRange
+        ↔ (IsSafeList I.width (shapes_of I.value shapes.now.items) → ⊥) }
     ensures kept { IfOk result
         (λ kept. ListKept SimpleAnswer (shapes_of I.value shapes.now.items)
         (shapes_of I.value kept.items)) }
@@ -65,6 +69,8 @@ pub fn simplified_vector<I: IntNumber>(
 
 /// The shapes without spikes.
 pub fn despiked<I: IntNumber>(alloc: Global, shapes: &IntShapes<I>) -> Result<IntShapes<I>, Refusal>
+    ensures range { IsErrOf result Refusal.OutOfRange
+        ↔ (IsSafeList I.width (shapes_of I.value shapes.now.items) → ⊥) }
     ensures kept { IfOk result
         (λ kept. ListKept DespikeAnswer (shapes_of I.value shapes.now.items)
         (shapes_of I.value kept.items)) }
@@ -78,6 +84,8 @@ pub fn despiked<I: IntNumber>(alloc: Global, shapes: &IntShapes<I>) -> Result<In
 /// Removes zero turns in place. The double area is kept where as many shapes are left.
 #[tactic(auto, using(i_shape::proofs::CallerLemmas::simplified_list_area))]
 pub fn simplify<I: IntNumber>(shapes: &mut IntShapes<I>) -> Result<bool, Refusal>
+    ensures range { IsErrOf result Refusal.OutOfRange
+        ↔ (IsSafeList I.width (shapes_of I.value shapes.old.items) → ⊥) }
     ensures kept { OnOk result
         (ListKept SimpleAnswer (shapes_of I.value shapes.old.items)
         (shapes_of I.value shapes.new.items)) }
@@ -100,6 +108,8 @@ pub fn simplify<I: IntNumber>(shapes: &mut IntShapes<I>) -> Result<bool, Refusal
 /// Removes spikes in place. The double area is kept where as many shapes are left.
 #[tactic(auto, using(i_shape::proofs::CallerLemmas::despiked_list_area))]
 pub fn despike<I: IntNumber>(shapes: &mut IntShapes<I>) -> Result<bool, Refusal>
+    ensures range { IsErrOf result Refusal.OutOfRange
+        ↔ (IsSafeList I.width (shapes_of I.value shapes.old.items) → ⊥) }
     ensures kept { OnOk result
         (ListKept DespikeAnswer (shapes_of I.value shapes.old.items)
         (shapes_of I.value shapes.new.items)) }
