@@ -68,13 +68,13 @@ ptrdiff_t i_shape_canonical_unoriented_i32(const i_shape_point_i32 *points, size
  * count points and offset_count offsets may be. Where each contour is clean or has fewer than three points, no memory
  * is taken. */
 
-/* Each contour as i_shape_simplify_i32 leaves it. */
+/* For each contour an answer of i_shape_simplify_i32; that it is the same one is tested. */
 ptrdiff_t i_shape_simplify_contours_i32(const i_shape_point_i32 *points, size_t count, const size_t *offsets, size_t offset_count, i_shape_point_i32 *out_points, size_t room, size_t *out_offsets, size_t offset_room);
-/* Each contour as i_shape_despike_i32 leaves it. */
+/* For each contour an answer of i_shape_despike_i32; that it is the same one is tested. */
 ptrdiff_t i_shape_despike_contours_i32(const i_shape_point_i32 *points, size_t count, const size_t *offsets, size_t offset_count, i_shape_point_i32 *out_points, size_t room, size_t *out_offsets, size_t offset_room);
-/* Each contour as i_shape_canonical_i32 leaves it. */
+/* For each contour an answer of i_shape_canonical_i32; that it is the same one is tested. */
 ptrdiff_t i_shape_canonical_contours_i32(const i_shape_point_i32 *points, size_t count, const size_t *offsets, size_t offset_count, i_shape_point_i32 *out_points, size_t room, size_t *out_offsets, size_t offset_room);
-/* Each contour as i_shape_canonical_unoriented_i32 leaves it. */
+/* For each contour an answer of i_shape_canonical_unoriented_i32; that it is the same one is tested. */
 ptrdiff_t i_shape_canonical_unoriented_contours_i32(const i_shape_point_i32 *points, size_t count, const size_t *offsets, size_t offset_count, i_shape_point_i32 *out_points, size_t room, size_t *out_offsets, size_t offset_room);
 
 /* Polygons: contours[] parts the points into contours, as above, and shapes[] parts these into polygons, the outer
@@ -85,13 +85,13 @@ ptrdiff_t i_shape_canonical_unoriented_contours_i32(const i_shape_point_i32 *poi
  * answer nothing is written, nor after a code. */
 
 /* Without zero turns. */
-ptrdiff_t i_shape_simplify_shapes_i32(const i_shape_point_i32 *points, size_t count, const size_t *contours, size_t contour_offsets, const size_t *shapes, size_t shape_offsets, i_shape_point_i32 *out_points, size_t room, size_t *out_contours, size_t contour_room, size_t *out_shapes, size_t shape_room);
+ptrdiff_t i_shape_simplify_shapes_i32(const i_shape_point_i32 *points, size_t count, const size_t *contours, size_t contour_offset_count, const size_t *shapes, size_t shape_offset_count, i_shape_point_i32 *out_points, size_t room, size_t *out_contours, size_t contour_room, size_t *out_shapes, size_t shape_room);
 /* Without spikes. A contour that has none stays as it is. */
-ptrdiff_t i_shape_despike_shapes_i32(const i_shape_point_i32 *points, size_t count, const size_t *contours, size_t contour_offsets, const size_t *shapes, size_t shape_offsets, i_shape_point_i32 *out_points, size_t room, size_t *out_contours, size_t contour_room, size_t *out_shapes, size_t shape_room);
+ptrdiff_t i_shape_despike_shapes_i32(const i_shape_point_i32 *points, size_t count, const size_t *contours, size_t contour_offset_count, const size_t *shapes, size_t shape_offset_count, i_shape_point_i32 *out_points, size_t room, size_t *out_contours, size_t contour_room, size_t *out_shapes, size_t shape_room);
 /* The holes of each polygon sorted, and then the polygons: equal arrays are the same polygons. */
-ptrdiff_t i_shape_canonical_shapes_i32(const i_shape_point_i32 *points, size_t count, const size_t *contours, size_t contour_offsets, const size_t *shapes, size_t shape_offsets, i_shape_point_i32 *out_points, size_t room, size_t *out_contours, size_t contour_room, size_t *out_shapes, size_t shape_room);
+ptrdiff_t i_shape_canonical_shapes_i32(const i_shape_point_i32 *points, size_t count, const size_t *contours, size_t contour_offset_count, const size_t *shapes, size_t shape_offset_count, i_shape_point_i32 *out_points, size_t room, size_t *out_contours, size_t contour_room, size_t *out_shapes, size_t shape_room);
 /* The same where a contour may be read backwards too: the lesser of the forms of both ways. */
-ptrdiff_t i_shape_canonical_unoriented_shapes_i32(const i_shape_point_i32 *points, size_t count, const size_t *contours, size_t contour_offsets, const size_t *shapes, size_t shape_offsets, i_shape_point_i32 *out_points, size_t room, size_t *out_contours, size_t contour_room, size_t *out_shapes, size_t shape_room);
+ptrdiff_t i_shape_canonical_unoriented_shapes_i32(const i_shape_point_i32 *points, size_t count, const size_t *contours, size_t contour_offset_count, const size_t *shapes, size_t shape_offset_count, i_shape_point_i32 *out_points, size_t room, size_t *out_contours, size_t contour_room, size_t *out_shapes, size_t shape_room);
 
 /* Tests of a contour. These answer 1 or 0, or I_SHAPE_UNSAFE, and take no memory. */
 
@@ -150,10 +150,10 @@ ptrdiff_t i_shape_simplify_contours_i16(const i_shape_point_i16 *points, size_t 
 ptrdiff_t i_shape_despike_contours_i16(const i_shape_point_i16 *points, size_t count, const size_t *offsets, size_t offset_count, i_shape_point_i16 *out_points, size_t room, size_t *out_offsets, size_t offset_room);
 ptrdiff_t i_shape_canonical_contours_i16(const i_shape_point_i16 *points, size_t count, const size_t *offsets, size_t offset_count, i_shape_point_i16 *out_points, size_t room, size_t *out_offsets, size_t offset_room);
 ptrdiff_t i_shape_canonical_unoriented_contours_i16(const i_shape_point_i16 *points, size_t count, const size_t *offsets, size_t offset_count, i_shape_point_i16 *out_points, size_t room, size_t *out_offsets, size_t offset_room);
-ptrdiff_t i_shape_simplify_shapes_i16(const i_shape_point_i16 *points, size_t count, const size_t *contours, size_t contour_offsets, const size_t *shapes, size_t shape_offsets, i_shape_point_i16 *out_points, size_t room, size_t *out_contours, size_t contour_room, size_t *out_shapes, size_t shape_room);
-ptrdiff_t i_shape_despike_shapes_i16(const i_shape_point_i16 *points, size_t count, const size_t *contours, size_t contour_offsets, const size_t *shapes, size_t shape_offsets, i_shape_point_i16 *out_points, size_t room, size_t *out_contours, size_t contour_room, size_t *out_shapes, size_t shape_room);
-ptrdiff_t i_shape_canonical_shapes_i16(const i_shape_point_i16 *points, size_t count, const size_t *contours, size_t contour_offsets, const size_t *shapes, size_t shape_offsets, i_shape_point_i16 *out_points, size_t room, size_t *out_contours, size_t contour_room, size_t *out_shapes, size_t shape_room);
-ptrdiff_t i_shape_canonical_unoriented_shapes_i16(const i_shape_point_i16 *points, size_t count, const size_t *contours, size_t contour_offsets, const size_t *shapes, size_t shape_offsets, i_shape_point_i16 *out_points, size_t room, size_t *out_contours, size_t contour_room, size_t *out_shapes, size_t shape_room);
+ptrdiff_t i_shape_simplify_shapes_i16(const i_shape_point_i16 *points, size_t count, const size_t *contours, size_t contour_offset_count, const size_t *shapes, size_t shape_offset_count, i_shape_point_i16 *out_points, size_t room, size_t *out_contours, size_t contour_room, size_t *out_shapes, size_t shape_room);
+ptrdiff_t i_shape_despike_shapes_i16(const i_shape_point_i16 *points, size_t count, const size_t *contours, size_t contour_offset_count, const size_t *shapes, size_t shape_offset_count, i_shape_point_i16 *out_points, size_t room, size_t *out_contours, size_t contour_room, size_t *out_shapes, size_t shape_room);
+ptrdiff_t i_shape_canonical_shapes_i16(const i_shape_point_i16 *points, size_t count, const size_t *contours, size_t contour_offset_count, const size_t *shapes, size_t shape_offset_count, i_shape_point_i16 *out_points, size_t room, size_t *out_contours, size_t contour_room, size_t *out_shapes, size_t shape_room);
+ptrdiff_t i_shape_canonical_unoriented_shapes_i16(const i_shape_point_i16 *points, size_t count, const size_t *contours, size_t contour_offset_count, const size_t *shapes, size_t shape_offset_count, i_shape_point_i16 *out_points, size_t room, size_t *out_contours, size_t contour_room, size_t *out_shapes, size_t shape_room);
 int32_t i_shape_is_simple_i16(const i_shape_point_i16 *points, size_t count);
 int32_t i_shape_has_no_spikes_i16(const i_shape_point_i16 *points, size_t count);
 int32_t i_shape_is_convex_i16(const i_shape_point_i16 *points, size_t count);
@@ -177,10 +177,10 @@ ptrdiff_t i_shape_simplify_contours_i64(const i_shape_point_i64 *points, size_t 
 ptrdiff_t i_shape_despike_contours_i64(const i_shape_point_i64 *points, size_t count, const size_t *offsets, size_t offset_count, i_shape_point_i64 *out_points, size_t room, size_t *out_offsets, size_t offset_room);
 ptrdiff_t i_shape_canonical_contours_i64(const i_shape_point_i64 *points, size_t count, const size_t *offsets, size_t offset_count, i_shape_point_i64 *out_points, size_t room, size_t *out_offsets, size_t offset_room);
 ptrdiff_t i_shape_canonical_unoriented_contours_i64(const i_shape_point_i64 *points, size_t count, const size_t *offsets, size_t offset_count, i_shape_point_i64 *out_points, size_t room, size_t *out_offsets, size_t offset_room);
-ptrdiff_t i_shape_simplify_shapes_i64(const i_shape_point_i64 *points, size_t count, const size_t *contours, size_t contour_offsets, const size_t *shapes, size_t shape_offsets, i_shape_point_i64 *out_points, size_t room, size_t *out_contours, size_t contour_room, size_t *out_shapes, size_t shape_room);
-ptrdiff_t i_shape_despike_shapes_i64(const i_shape_point_i64 *points, size_t count, const size_t *contours, size_t contour_offsets, const size_t *shapes, size_t shape_offsets, i_shape_point_i64 *out_points, size_t room, size_t *out_contours, size_t contour_room, size_t *out_shapes, size_t shape_room);
-ptrdiff_t i_shape_canonical_shapes_i64(const i_shape_point_i64 *points, size_t count, const size_t *contours, size_t contour_offsets, const size_t *shapes, size_t shape_offsets, i_shape_point_i64 *out_points, size_t room, size_t *out_contours, size_t contour_room, size_t *out_shapes, size_t shape_room);
-ptrdiff_t i_shape_canonical_unoriented_shapes_i64(const i_shape_point_i64 *points, size_t count, const size_t *contours, size_t contour_offsets, const size_t *shapes, size_t shape_offsets, i_shape_point_i64 *out_points, size_t room, size_t *out_contours, size_t contour_room, size_t *out_shapes, size_t shape_room);
+ptrdiff_t i_shape_simplify_shapes_i64(const i_shape_point_i64 *points, size_t count, const size_t *contours, size_t contour_offset_count, const size_t *shapes, size_t shape_offset_count, i_shape_point_i64 *out_points, size_t room, size_t *out_contours, size_t contour_room, size_t *out_shapes, size_t shape_room);
+ptrdiff_t i_shape_despike_shapes_i64(const i_shape_point_i64 *points, size_t count, const size_t *contours, size_t contour_offset_count, const size_t *shapes, size_t shape_offset_count, i_shape_point_i64 *out_points, size_t room, size_t *out_contours, size_t contour_room, size_t *out_shapes, size_t shape_room);
+ptrdiff_t i_shape_canonical_shapes_i64(const i_shape_point_i64 *points, size_t count, const size_t *contours, size_t contour_offset_count, const size_t *shapes, size_t shape_offset_count, i_shape_point_i64 *out_points, size_t room, size_t *out_contours, size_t contour_room, size_t *out_shapes, size_t shape_room);
+ptrdiff_t i_shape_canonical_unoriented_shapes_i64(const i_shape_point_i64 *points, size_t count, const size_t *contours, size_t contour_offset_count, const size_t *shapes, size_t shape_offset_count, i_shape_point_i64 *out_points, size_t room, size_t *out_contours, size_t contour_room, size_t *out_shapes, size_t shape_room);
 int32_t i_shape_is_simple_i64(const i_shape_point_i64 *points, size_t count);
 int32_t i_shape_has_no_spikes_i64(const i_shape_point_i64 *points, size_t count);
 int32_t i_shape_is_convex_i64(const i_shape_point_i64 *points, size_t count);

@@ -19,9 +19,8 @@ at_width() {
 # C has no whole number of 128 bits: it is given the two halves of one.
 in_halves() {
     sed -E -e 's/&mut (\[?)i128/\&mut \1Halves/; s/area::area_two;/area::{Halves, area_two};/; s/= twice;/= Halves::of(twice);/' \
-        -e 's/area\.new ≡ (int_wrap .*) \}$/AreHalves (\1) area.new }/; s/area ≡ (int_wrap w128 \(shoelace contour\))/AreHalves (\1) area/' \
-        -e 's/^use crate::measures::/use crate::area::Halves;\n&/' \
-        -e '/specs\.(Tests|Measures)\./a ghost use Rattle.i_shape_c.specs.Areas.{AreHalves};'
+        -e 's/\(IsDoubleArea w128\)/AreDoubleAreaHalves/; s/IsDoubleArea( w128)?/AreDoubleAreaHalves/; s/, w128\}/}/' \
+        -e 's/^use crate::measures::/use crate::area::Halves;\n&/'
 }
 
 # Makes the width $1, whose products have $2 bits, of the module $3 in the folder $4.

@@ -13,7 +13,7 @@ Leaves {Y} Answer old new = (answer : Option (List Y)) × Answer old answer × (
 
 -- a value was seen as `old`, and is seen as `new` after the call answered r. `Passes` is its test, and `Cleans` relates a value to what is left of it
 pub record CleansInPlace {X : Type 0} (Passes : X → Type 0) (Cleans : X → X → Type 0) (old new : X) (r : Result Bool ShapeError) : Type 0 where
-  -- where it passes nothing changes, and no memory is taken
+  -- where it passes nothing changes, and nothing is refused
   pub passes : Passes old → (r ≡ Ok false) × (new ≡ old)
   -- it answers that nothing changed only where the value passes
   pub clean : r ≡ Ok false → Passes old
@@ -26,7 +26,7 @@ pub record CleansInPlace {X : Type 0} (Passes : X → Type 0) (Cleans : X → X 
 pub record CleansContour (Passes : List Point → Type 0) (Answer : List Point → Option (List Point) → Type 0) (old new : List Point) (r : Result Bool ShapeError) : Type 0 where
   pub cleans : CleansInPlace Passes (Leaves Answer) old new r
   pub kept : IsKept old new
-  -- a contour of fewer than three points is left empty, and no memory is taken
+  -- a contour of fewer than three points is left empty, and nothing is refused
   pub short : length old < 3 → (r ≡ Ok true) × (new ≡ [])
 
 -- spikes of a contour are removed in place

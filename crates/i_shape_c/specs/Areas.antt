@@ -1,6 +1,6 @@
--- A whole number of 128 bits, as C is given it.
+-- Double areas, as C is given them.
 use Rattle.std.specs.Prelude.{◌≡◌, ◌+◌, ◌*◌, ◌^◌, ℤ, List}
-use Rattle.std.specs.Int.{w128, cast_unsigned, int_wrap}
+use Rattle.std.specs.Int.{Width, w128, cast_unsigned, int_wrap}
 use Rattle.i_shape.specs.Point.{Point}
 use Rattle.i_shape.specs.Edges.{shoelace}
 use Rattle.i_shape_c.specs.declared.area.Halves.{Halves}
@@ -12,3 +12,7 @@ AreHalves z halves = halves.low + halves.high * 2 ^ 64 ≡ cast_unsigned w128 z
 -- the halves are those of twice the area of the contour, wrapped where it doesn't fit
 abbrev pub AreDoubleAreaHalves : List Point → Halves → Type 0
 AreDoubleAreaHalves contour halves = AreHalves (int_wrap w128 (shoelace contour)) halves
+
+-- the number is twice the area of the contour, wrapped where it doesn't fit
+abbrev pub IsDoubleArea : Width → List Point → ℤ → Type 0
+IsDoubleArea width contour area = area ≡ int_wrap width (shoelace contour)

@@ -1,9 +1,8 @@
 -- What the calls that test or measure each of many contours answer.
 use Rattle.std.specs.Prelude.{◌≡◌, ◌↔◌, ℕ, ℤ, ◌-◌, ◌<◌, ◌≤◌, pos, negsuc, zero, suc, List, map, length, take, drop}
-use Rattle.std.specs.Int.{Width, int_wrap}
+use Rattle.std.specs.Int.{Width}
 use Rattle.std.specs.List.{AllZip}
 use Rattle.i_shape.specs.Point.{Point}
-use Rattle.i_shape.specs.Edges.{shoelace}
 use Rattle.i_shape_c.specs.Batch.{CanClean, AreSafeContours}
 use Rattle.i_shape_c.specs.Cleaned.{unsafe_code, unfit_code}
 use Rattle.i_shape_c.specs.Polygons.{parts}
@@ -28,10 +27,6 @@ MeasuresAnswer Gives point points offsets old new (negsuc n) = (n < 2) × (new �
 -- the byte is 1 where the test holds of the contour, and 0 where it doesn't
 abbrev pub IsByteOf : (List Point → Type 0) → List Point → ℕ → Type 0
 IsByteOf Holds contour byte = IsTold (Holds contour) (pos byte)
-
--- the number is twice the area of the contour, wrapped where it doesn't fit
-abbrev pub IsDoubleArea : Width → List Point → ℤ → Type 0
-IsDoubleArea width contour area = area ≡ int_wrap width (shoelace contour)
 
 -- what a call that asks for safe points writes of the test of each contour, and exactly when it answers with which code
 pub record TestsEach {P : Type 0} (Holds : List Point → Type 0) (width : Width) (point : P → Point) (points : List P) (offsets old new : List ℕ) (result : ℤ) : Type 0 where

@@ -81,7 +81,7 @@ pub(crate) fn least_start<P: ContourPoint>(contour: &[P]) -> usize
     search_starts(&mut comparer)
 }
 
-/// Where the least rotation of a contour starts, and how many pairs of points were compared: at least one for each point
+/// A place where the least rotation of a contour starts, and how many pairs of points were compared: at least one for each point
 /// but one, and fewer than three for each. Lists are compared point by point, points by x and then by y.
 ///
 /// Two starts are compared point by point, and the one that loses takes along each start up to the point where it lost, as

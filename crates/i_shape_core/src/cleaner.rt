@@ -19,8 +19,8 @@ use crate::simplifier::ContourSimplifier;
 use crate::write::write_whole;
 use std::alloc::Global;
 
-/// Cleans contours of safe points. One value cleans any number of them, and keeps its memory from one to the next; no answer depends on
-/// earlier use, nor on an earlier refusal (of the removal of spikes this is tested, and no clause says it).
+/// Cleans contours of safe points. One value cleans any number of them, and keeps its memory from one to the next. Each
+/// answer is one of those that `answers` allows; that which of them it is doesn't depend on earlier use is tested.
 pub trait ContourCleaner: Drop {
     /// The contours of which no point is removed: for these `clean_into` takes no memory. A canonical form still rotates them.
     ghost clean: { List Point → Type 0 };

@@ -118,8 +118,8 @@ impl ContourDeSpiker {
         *self.places.allocator()
     }
 
-    /// The contour without spikes, as `DeSpikeContour::despiked_contour` gives it. The answer doesn't depend on earlier use,
-    /// nor on an earlier refusal. The only error is `OutOfMemory`.
+    /// The contour without spikes, as `DeSpikeContour::despiked_contour` gives it, whatever was cleaned or refused before.
+    /// The only error is `OutOfMemory`.
     pub fn despike_contour<I: IntNumber>(
         &mut self,
         contour: &[IntPoint<I>],

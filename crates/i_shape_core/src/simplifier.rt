@@ -42,8 +42,8 @@ impl ContourSimplifier {
         }
     }
 
-    /// The contour without zero turns, as `SimpleContour::simplified` gives it. The answer doesn't depend on earlier use,
-    /// nor on an earlier refusal. The only error is `OutOfMemory`.
+    /// The contour without zero turns, as `SimpleContour::simplified` gives it, whatever was cleaned or refused before.
+    /// The only error is `OutOfMemory`.
     pub fn simplify_contour<I: IntNumber>(
         &mut self,
         contour: &[IntPoint<I>],

@@ -1,19 +1,18 @@
 //! The calls at 64 bits.
 
 ghost use Rattle.std.specs.Prelude.{◌≡◌, ◌↔◌, ◌<◌, length, map, IsTrue};
-ghost use Rattle.std.specs.Int.{int_wrap, w64, w128};
+ghost use Rattle.std.specs.Int.{w64};
 ghost use Rattle.i_shape.specs.Cleaners.{SimpleAnswer, SpikelessAnswer, DespikeAnswer, KeptAnswer, IsDespikedAlready};
 ghost use Rattle.i_shape.specs.Canonical.{CanonicalAnswer, UnorientedAnswer, KeptEitherWay};
 ghost use Rattle.i_shape.specs.CanonicalShapes.{ListForm};
 ghost use Rattle.i_shape.specs.ShapeAnswers.{ListClean};
 ghost use Rattle.i_shape.specs.Contour.{IsSimple, Sublist, RotatedSublist, SublistEitherWay};
 ghost use Rattle.i_shape.specs.Convex.{Convex, NoSpikes};
-ghost use Rattle.i_shape.specs.Edges.{shoelace};
 ghost use Rattle.i_shape_c.specs.Points.{point_i64};
 ghost use Rattle.i_shape_c.specs.Cleaned.{AreSafe, CleansContour};
 ghost use Rattle.i_shape_c.specs.Batch.{CleansContours};
+ghost use Rattle.i_shape_c.specs.Areas.{AreDoubleAreaHalves};
 ghost use Rattle.i_shape_c.specs.Tests.{IsTold, TestsContour, TestsPoint};
-ghost use Rattle.i_shape_c.specs.Areas.{AreHalves};
 ghost use Rattle.i_shape_c.specs.Polygons.{CleansPolygons};
 ghost use Rattle.i_shape_c.specs.Windings.{WindsAbout, WindsAboutEach};
 
@@ -325,8 +324,7 @@ pub extern "C" fn i_shape_is_safe_i64(points: &[PointI64]) -> i32
 #[unsafe(no_mangle)]
 pub extern "C" fn i_shape_area_two_i64(points: &[PointI64], area: &mut Halves) -> bool
     ensures some { IsTrue result ↔ (0 < length points.now) }
-    ensures area { IsTrue result → AreHalves (int_wrap w128 (shoelace (map point_i64 points.now)))
-        area.new }
+    ensures area { IsTrue result → AreDoubleAreaHalves (map point_i64 points.now) area.new }
     ensures none { (IsTrue result → ⊥) → area.new ≡ area.old }
 {
     let Some(twice) = area_two(points) else {

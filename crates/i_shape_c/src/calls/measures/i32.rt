@@ -4,7 +4,8 @@ ghost use Rattle.std.specs.Int.{w32, w64};
 ghost use Rattle.i_shape.specs.Contour.{IsSimple};
 ghost use Rattle.i_shape.specs.Convex.{Convex, NoSpikes};
 ghost use Rattle.i_shape_c.specs.Points.{point_i32};
-ghost use Rattle.i_shape_c.specs.Measures.{IsByteOf, IsDoubleArea, MeasuresEach, TestsEach};
+ghost use Rattle.i_shape_c.specs.Areas.{IsDoubleArea};
+ghost use Rattle.i_shape_c.specs.Measures.{IsByteOf, MeasuresEach, TestsEach};
 ghost use Rattle.i_shape_core.specs.IntPoint.{IsSafeContour};
 
 use crate::measures::{DoubleArea, SafeRange, Tested, measure_contours};

@@ -4,9 +4,9 @@ ghost use Rattle.std.specs.Int.{w64};
 ghost use Rattle.i_shape.specs.Contour.{IsSimple};
 ghost use Rattle.i_shape.specs.Convex.{Convex, NoSpikes};
 ghost use Rattle.i_shape_c.specs.Points.{point_i64};
+ghost use Rattle.i_shape_c.specs.Areas.{AreDoubleAreaHalves};
 ghost use Rattle.i_shape_c.specs.Measures.{IsByteOf, MeasuresEach, TestsEach};
 ghost use Rattle.i_shape_core.specs.IntPoint.{IsSafeContour};
-ghost use Rattle.i_shape_c.specs.Areas.{AreDoubleAreaHalves};
 
 use crate::area::Halves;
 use crate::measures::{DoubleArea, SafeRange, Tested, measure_contours};
