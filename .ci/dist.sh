@@ -257,13 +257,13 @@ FILES
     else
         skip 'javascript: the files that npm packs' 1 'there is no npm'
     fi
-    if node -e 'process.exit(parseInt(process.versions.node) < 20 ? 1 : 0)' 2> /dev/null; then
+    if node --input-type=module -e 'import.meta.resolve("node:fs")' 2> /dev/null; then
         sed -n '/^```js$/,/^```$/{/^```/!p}' README.md > ../sample.mjs
         mkdir ../node_modules && cd .. && mv package node_modules/i_shape
         [ "$(node sample.mjs)" = '0 0 4 0 4 4 0 4' ]
         count $? 'javascript: what its page shows'
     else
-        skip 'javascript: what its page shows' 1 'there is no Node from 20 on'
+        skip 'javascript: what its page shows' 1 'there is no Node from 20.6 on'
     fi
 }
 
