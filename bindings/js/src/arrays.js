@@ -9,16 +9,10 @@ const KINDS = {
     BigInt64Array: { Points: BigInt64Array, bits: 64, limit: 2n ** 62n },
 };
 
-/** Throws a TypeError where the buffer of an array was handed to another thread, which leaves the array with no items. */
-function checkAttached({ buffer }) {
-    new Uint8Array(buffer);
-}
-
 /** Answers the type of an array of points x0, y0, x1, y1, .. */
 export function kindOf(points) {
     const kind = ArrayBuffer.isView(points) ? KINDS[points[Symbol.toStringTag]] : undefined;
     if (!kind) throw new TypeError("points are no Int16Array, Int32Array or BigInt64Array");
-    if (points.length === 0) checkAttached(points);
     if (points.length % 2 !== 0) throw new RangeError(`points have ${points.length} coordinates: an x without a y`);
     return kind;
 }

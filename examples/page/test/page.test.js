@@ -229,8 +229,8 @@ describe("the page", () => {
                 await browser.move(...(await page.placeOf([2, 3])));
                 await page.texts({ winding: "0", filled: "by no rule" });
                 await browser.read("document.getElementById('board').focus()");
-                await page.press("Escape", "N", "Enter", "Backspace", "Backspace");
-                await page.texts({ given: "6 points in 2 rings" });
+                await page.press("Escape", "N", "Enter");
+                await page.texts({ given: "8 points in 3 rings" });
             });
 
             check("a contour that turns right, twice round", async () => {
