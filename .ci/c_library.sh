@@ -26,14 +26,17 @@ test_names() {
     count $? 'the names of the archive'
 }
 
-# `make c` over what is built: it waits for no other build, takes no TARGET or CPU of the environment, and puts back what a killed build for another
-# processor has left, the archive of the default beside another in its place.
+# `make c` over what is built: it waits for no other build, takes no TARGET or CPU of the environment, sees that a library is gone, and puts back what a
+# killed build for another processor has left, the archive of the default beside another in its place.
 test_build() {
     local left=$library/killed
     flock "$library/build.lock" timeout 60 bash bindings/c/build.sh
     count $? 'what is built, while another build runs'
     [ "$(TARGET=another CPU=another make -s -n c)" = "$(make -s -n c)" ]
     count $? 'TARGET and CPU of the environment'
+    mv "$library/libi_shape.so" "$work" && ! bash bindings/c/build.sh --is-built
+    count $? 'a library that is gone'
+    mv "$work/libi_shape.so" "$library"
     mkdir -p "$left" && cp -p "$archive" "$left/default.a" && cp -p "$archive" "$work/default.a" && rm "$archive" && echo another > "$archive" &&
         bash bindings/c/build.sh > "$work/log" 2>&1 && cmp "$archive" "$work/default.a"
     count $? 'what a killed build has left'
@@ -176,7 +179,7 @@ test_rust() {
 
 if [ "${1-}" = --if-built ] && ! bash bindings/c/build.sh --is-built; then
     echo 'the C library and the crate for Rust are not tested: `make c` builds them'
-    echo "c library: 0 passed, 0 failed, $((55 + $(count_rust_tests))) skipped"
+    echo "c library: 0 passed, 0 failed, $((56 + $(count_rust_tests))) skipped"
     exit 0
 fi
 work=$(mktemp -d) || exit 1
