@@ -1,4 +1,8 @@
 PREFIX ?= /usr/local
+# Words of the command line alone: in an environment these names may mean something else.
+TARGET :=
+CPU :=
+TO = $(DESTDIR)$(PREFIX)
 # Where build.sh of the C library puts what it builds.
 C_OUT := bindings/c/out$(if $(TARGET)$(CPU),/$(TARGET)$(if $(TARGET),$(if $(CPU),-))$(CPU))
 PROGRAM := crates/i_shape_tool_main/out/$(if $(TARGET)$(CPU),$(TARGET)$(CPU)/i_shape_tool,i_shape_tool_main)
@@ -53,18 +57,18 @@ pictures:
 install: install-program install-c
 
 install-program: program
-	install -d $(DESTDIR)$(PREFIX)/bin
-	install -m 755 $(PROGRAM) $(DESTDIR)$(PREFIX)/bin/i_shape_tool
+	install -d "$(TO)/bin"
+	install -m 755 $(PROGRAM) "$(TO)/bin/i_shape_tool"
 
 install-c: c
 	$(if $(filter windows,$(TARGET)),$(error install-c takes no TARGET=windows: bindings/c/out/windows has what make c has built))
-	install -d $(DESTDIR)$(PREFIX)/include $(DESTDIR)$(PREFIX)/lib/pkgconfig $(DESTDIR)$(PREFIX)/lib/cmake/i_shape
-	install -m 644 include/i_shape.h include/i_shape.hpp $(DESTDIR)$(PREFIX)/include
-	install -m 644 $(C_OUT)/libi_shape.a $(DESTDIR)$(PREFIX)/lib
-	install -m 755 $(C_OUT)/libi_shape.so $(DESTDIR)$(PREFIX)/lib
-	sed 's|@PREFIX@|$(PREFIX)|' $(C_OUT)/i_shape.pc.in > $(C_OUT)/i_shape.pc
-	install -m 644 $(C_OUT)/i_shape.pc $(DESTDIR)$(PREFIX)/lib/pkgconfig
-	install -m 644 bindings/c/cmake/*.cmake $(C_OUT)/i_shape-config-version.cmake $(DESTDIR)$(PREFIX)/lib/cmake/i_shape
+	install -d "$(TO)/include" "$(TO)/lib/pkgconfig" "$(TO)/lib/cmake/i_shape"
+	install -m 644 include/i_shape.h include/i_shape.hpp "$(TO)/include"
+	install -m 644 $(C_OUT)/libi_shape.a "$(TO)/lib"
+	install -m 755 $(C_OUT)/libi_shape.so "$(TO)/lib"
+	sed 's|@PREFIX@|$(PREFIX)|' $(C_OUT)/i_shape.pc.in > "$(TO)/lib/pkgconfig/i_shape.pc"
+	chmod 644 "$(TO)/lib/pkgconfig/i_shape.pc"
+	install -m 644 bindings/c/cmake/*.cmake $(C_OUT)/i_shape-config-version.cmake "$(TO)/lib/cmake/i_shape"
 
 clean:
 	rm -rf crates/*/out bindings/c/out bindings/js/out bindings/python/out bindings/rust/target examples/page/out dist

@@ -9,18 +9,39 @@ set -u
 cd "$(dirname "$0")/.." || exit 1
 . .ci/c_tests.sh || exit 1
 library=bindings/c/out
+archive=crates/i_shape_c/out/libi_shape_c.a
 
-# The names that the archive exports are those that the header declares.
+# The names that the archive and the shared library export are those that the header declares.
 test_names() {
+    "${CC:-cc}" -E -Iinclude include/i_shape.h | grep -oE '\bi_shape_[a-z0-9_]+ ?\(' | tr -d ' (' | sort > "$work/declared"
+    nm -D --defined-only "$library/libi_shape.so" | sed -E 's/^[^ ]* //' | sort | diff - <(sed 's/^/T /' "$work/declared")
+    count $? 'the names of the shared library'
     if ! command -v rt > /dev/null; then
         skip 'the names of the archive' 1 'there is no rt of the Rattle kit'
         return
     fi
-    "$(dirname "$(rt doc)")/toolchain/bin/llvm-ar" p crates/i_shape_c/out/libi_shape_c.a > "$work/all.o"
+    "$(dirname "$(rt doc)")/toolchain/bin/llvm-ar" p "$archive" > "$work/all.o"
     nm -g --defined-only "$work/all.o" | sed -nE 's/^.* T (.*)$/\1/p' | sort > "$work/exported"
-    "${CC:-cc}" -E -Iinclude include/i_shape.h | grep -oE '\bi_shape_[a-z0-9_]+ ?\(' | tr -d ' (' | sort > "$work/declared"
     diff "$work/exported" "$work/declared"
-    count $? 'the names'
+    count $? 'the names of the archive'
+}
+
+# `make c` over what is built: it waits for no other build, takes no TARGET or CPU of the environment, sees that a library is gone, and puts back what a
+# killed build for another processor has left, the archive of the default beside another in its place.
+test_build() {
+    local left=$library/killed
+    flock "$library/build.lock" timeout 60 bash bindings/c/build.sh
+    count $? 'what is built, while another build runs'
+    [ "$(TARGET=another CPU=another make -s -n c)" = "$(make -s -n c)" ]
+    count $? 'TARGET and CPU of the environment'
+    mv "$library/libi_shape.so" "$work" && ! bash bindings/c/build.sh --is-built
+    count $? 'a library that is gone'
+    mv "$work/libi_shape.so" "$library"
+    mkdir -p "$left" && cp -p "$archive" "$left/default.a" && cp -p "$archive" "$work/default.a" && rm "$archive" && echo another > "$archive" &&
+        bash bindings/c/build.sh > "$work/log" 2>&1 && cmp "$archive" "$work/default.a"
+    count $? 'what a killed build has left'
+    [ ! -e "$left/default.a" ] || mv "$left/default.a" "$archive"
+    rmdir "$left"
 }
 
 # What the page $1 says that the command with $2 in it prints.
@@ -57,30 +78,63 @@ test_cpp() {
     test_as "i_shape.hpp, $1" "$1" -std=c++17 "$2" bindings/c/test.cpp "$library/libi_shape.a"
 }
 
-# A project of CMake, configured by the words from $2 on, builds, and each of its programs prints the corners.
+# Which of the libraries the program $1 is linked with.
+linked() {
+    if readelf -d "$1" | grep -q 'NEEDED.*libi_shape\.so'; then echo shared; else echo static; fi
+}
+
+# A project of CMake, configured by the words from $3 on, builds, and each of its programs prints the corners, over the library of its name: i_shape is
+# the one $2.
 test_project() {
-    local name=$1 program
-    shift
+    local name=$1 own=$2 program kind
+    shift 2
     cmake -S bindings/c/consumer -B "$work/project" "$@" > "$work/log" 2>&1 && cmake --build "$work/project" >> "$work/log" 2>&1 || cat "$work/log"
     for program in {i_shape,static,shared}_in_{c,cpp}; do
-        [ "$("$work/project/$program")" = "$corners" ]
+        kind=${program%_in_*}
+        [ "$kind" != i_shape ] || kind=$own
+        [ "$("$work/project/$program")" = "$corners" ] && [ "$(linked "$work/project/$program")" = "$kind" ]
         count $? "CMake, $name: $program"
     done
     rm -rf "$work/project"
 }
 
-# The library in a project of CMake, installed and as a folder of a clone; another minor version isn't found.
+# Which requests the version 0.1.5 serves.
+test_versions() {
+    local asked is_found
+    mkdir "$work/versions"
+    sed 's/@VERSION@/0.1.5/' bindings/c/cmake/i_shape-config-version.cmake.in > "$work/versions/i_shape-config-version.cmake"
+    : > "$work/versions/i_shape-config.cmake"
+    printf '%s\n' 'find_package(i_shape ${ASKED} QUIET PATHS "${CMAKE_CURRENT_LIST_DIR}/versions" NO_DEFAULT_PATH)' 'message("${i_shape_FOUND}")' > "$work/ask.cmake"
+    while read -r asked is_found; do
+        [ "$(cmake "-DASKED=$asked" -P "$work/ask.cmake" 2>&1)" = "$is_found" ]
+        count $? "CMake, the version 0.1.5 where it is asked for $asked"
+    done << 'REQUESTS'
+0.1 1
+0.1.6 0
+0.0 0
+0.2 0
+0.1...0.1.5 1
+0.1...<0.1.5 0
+0.1...0.1.4 0
+0.0...0.2 0
+REQUESTS
+}
+
+# The library in a project of CMake, installed into a folder whose name has a space and that a link leads to, and as a folder of a clone; another minor
+# version isn't found.
 test_cmake() {
+    local prefix="$work/a prefix"
     if ! cmake --version > /dev/null 2>&1; then
-        skip 'CMake' 13 'there is no cmake'
+        skip 'CMake' 21 'there is no cmake'
         return
     fi
-    make -s install-c PREFIX="$work/prefix"
-    test_project 'find_package' "-DCMAKE_PREFIX_PATH=$work/prefix" -DI_SHAPE_VERSION=0.1
-    test_project 'add_subdirectory' "-DI_SHAPE_FOLDER=$PWD/bindings/c" -DBUILD_SHARED_LIBS=ON
-    ! cmake -S bindings/c/consumer -B "$work/project" "-DCMAKE_PREFIX_PATH=$work/prefix" -DI_SHAPE_VERSION=0.2 > "$work/log" 2>&1 &&
+    make -s install-c PREFIX="$prefix/usr" && ln -s usr/lib "$prefix/lib"
+    test_project 'find_package' static "-DCMAKE_PREFIX_PATH=$prefix" -DI_SHAPE_VERSION=0.1
+    test_project 'add_subdirectory' shared "-DI_SHAPE_FOLDER=$PWD/bindings/c" -DBUILD_SHARED_LIBS=ON
+    ! cmake -S bindings/c/consumer -B "$work/project" "-DCMAKE_PREFIX_PATH=$prefix" -DI_SHAPE_VERSION=0.2 > "$work/log" 2>&1 &&
         grep -q 'version: 0.1' "$work/log"
     count $? 'CMake, find_package: another minor version'
+    test_versions
 }
 
 # How many tests the crate for Rust has by its sources: those that stand alone, three of each name that is tested at each width, and those of its example, rustdoc,
@@ -125,7 +179,7 @@ test_rust() {
 
 if [ "${1-}" = --if-built ] && ! bash bindings/c/build.sh --is-built; then
     echo 'the C library and the crate for Rust are not tested: `make c` builds them'
-    echo "c library: 0 passed, 0 failed, $((35 + $(count_rust_tests))) skipped"
+    echo "c library: 0 passed, 0 failed, $((56 + $(count_rust_tests))) skipped"
     exit 0
 fi
 work=$(mktemp -d) || exit 1
@@ -139,6 +193,7 @@ c=("${CC:-cc}" -std=c11 bindings/c/test.c)
 cpp=("${CXX:-c++}" -std=c++17 -x c++ bindings/c/test.c -x none)
 corners=$'0 0\n4 0\n4 4\n0 4'
 test_names
+test_build
 test_program README.md bindings/c/sample.c "${CC:-cc}" -std=c11
 test_program docs/C.md bindings/c/codes.c "${CC:-cc}" -std=c11
 test_program docs/C.md examples/clean.c "${CC:-cc}" -std=c11
@@ -152,12 +207,20 @@ test_as 'C++17' "${cpp[@]}" "$library/libi_shape.a"
 test_as 'C11, shared' "${c[@]}" "$library/libi_shape.so" "-Wl,-rpath,$PWD/$library"
 test_as 'the allocator for other machines' "${c[@]}" bindings/c/allocator.c "$library/libi_shape.a"
 test_as 'each growth refused' "${c[@]}" -DOWN_ALLOCATOR "$library/libi_shape.a"
-if echo 'int main(void) { return 0; }' | "${CC:-cc}" -x c -fsanitize=address,undefined -o "$work/probe" - 2> /dev/null && "$work/probe"; then
-    test_as 'address sanitizer' "${c[@]}" bindings/c/allocator.c -fsanitize=address,undefined "$library/libi_shape.a"
-    test_as 'address sanitizer, each growth refused' "${c[@]}" -fsanitize=address,undefined -DOWN_ALLOCATOR "$library/libi_shape.a"
+test_as 'the allocator for other machines, each growth refused' "${c[@]}" -DWRAPPED_MALLOC -Wl,--wrap=malloc,--wrap=realloc,--wrap=free bindings/c/allocator.c \
+    "$library/libi_shape.a"
+sanitizers=(-fsanitize=address,undefined -fno-sanitize-recover=undefined)
+if { echo 'int main(void) { return 0; }' | "${CC:-cc}" -x c "${sanitizers[@]}" -o "$work/probe" - && "$work/probe"; } 2> /dev/null; then
+    test_as 'address sanitizer' "${c[@]}" bindings/c/allocator.c "${sanitizers[@]}" "$library/libi_shape.a"
+    test_as 'address sanitizer, each growth refused' "${c[@]}" "${sanitizers[@]}" -DOWN_ALLOCATOR "$library/libi_shape.a"
+    test_as 'address sanitizer, i_shape.hpp' "${CXX:-c++}" -std=c++17 "${sanitizers[@]}" bindings/c/test.cpp "$library/libi_shape.a"
+else
+    skip 'address sanitizer' 3 'the compiler has none that runs here'
 fi
 if command -v valgrind > /dev/null; then
     runner=(valgrind -q --error-exitcode=9 --leak-check=full)
     test_as 'valgrind' "${c[@]}" -DOWN_ALLOCATOR "$library/libi_shape.a"
+else
+    skip 'valgrind' 1 'there is no valgrind'
 fi
 tell_counts 'c library'

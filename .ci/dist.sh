@@ -1,12 +1,13 @@
 #!/usr/bin/env bash
 # Packs what a release holds, by scripts/dist.sh, and tries each archive as someone who has nothing else of the project: unpacked into an empty folder, with
-# no rt on the path. Packed again, by another user's mask and in another time zone, each has the same bytes. The libraries ask for no symbol of a glibc
-# above 2.17. What needs a tool that isn't there is skipped. With the word --if-built it builds nothing that would be proved, and skips what holds that. The
-# last line is 'dist: N passed, M failed', and ', K skipped' behind it where K is above 0.
+# no rt on the path. Packed again in another time zone, and as another user, where a namespace can be made for that, each has the same bytes. The libraries
+# ask for no symbol of a glibc above 2.17. What needs a tool that isn't there is skipped. With the word --if-built it builds nothing that would be proved, and
+# skips what holds that. The last line is 'dist: N passed, M failed', and ', K skipped' behind it where K is above 0.
 set -u
 cd "$(dirname "$0")/.." || exit 1
 . .ci/c_tests.sh || exit 1
 work=$(mktemp -d) || exit 1
+empty="$work/an empty folder"
 trap 'rm -rf "$work"' EXIT
 only_built=${1-}
 python=${PYTHON:-/usr/bin/python3}
@@ -65,10 +66,10 @@ path_without_kit() {
     echo "${left#:}"
 }
 
-# Unpacks the archive $1 into an empty folder, and goes into it.
+# Unpacks the archive $1 into an empty folder, whose name has a space, and goes into it.
 unpack() {
-    rm -rf "$work/empty"
-    mkdir "$work/empty" && tar -xzf "$work/dist/$1" -C "$work/empty" && cd "$work/empty"/* && return
+    rm -rf "$empty"
+    mkdir "$empty" && tar -xzf "$work/dist/$1" -C "$empty" && cd "$empty"/* && return
     count 1 "$1: unpacked"
     return 1
 }
@@ -140,10 +141,11 @@ FILES
     count $? "linux-$machine: what its library asks for"
 }
 
-# The commands of the archive's page, each of which prints the corners at its end.
+# The four commands of the archive's page, each of which prints the corners at its end.
 test_page() {
-    local command tool
+    local command tool found=0
     while read -r command; do
+        found=$((found + 1))
         for tool in cmake pkg-config; do
             [[ $command == *"$tool "* ]] && ! "$tool" --version > /dev/null 2>&1 || continue
             skip "linux-x86_64: $command" 1 "there is no $tool"
@@ -152,6 +154,7 @@ test_page() {
         bash -c "$command" > "$work/log" 2>&1 < /dev/null && [ "$(tail -n 4 "$work/log")" = "$corners" ] || { cat "$work/log" && false; }
         count $? "linux-x86_64: $command"
     done < <(sed -n 's/^    //p' README.md | sed '/\\$/ { N; s/\\\n *// }')
+    [ $found = 4 ] || count 1 "linux-x86_64: its page has $found commands"
 }
 
 # Its commands have built the project of CMake, if there is one.
@@ -213,7 +216,7 @@ FILES
 # The wheel for the machine $1 says so in its name and within, and holds the library of the archive.
 test_wheel() {
     local wheel=$work/dist/i_shape-$version-py3-none-manylinux_2_17_$1.whl
-    rm -rf "$work/empty" && mkdir "$work/empty" && cd "$work/empty" || return
+    rm -rf "$empty" && mkdir "$empty" && cd "$empty" || return
     "$python" -m zipfile -e "$wheel" . && grep -qx "Tag: py3-none-manylinux_2_17_$1" i_shape-*.dist-info/WHEEL && ! grep -q 'Purelib: true' i_shape-*.dist-info/WHEEL &&
         [ -e i_shape/__init__.py ] && [ -e i_shape/py.typed ] && [ -e "i_shape-$version.dist-info/LICENSE" ] &&
         tar -xzOf "$work/dist/i_shape-$version-linux-$1.tar.gz" "i_shape-$version-linux-$1/lib/libi_shape.so" | cmp - i_shape/libi_shape.so
@@ -227,7 +230,7 @@ test_installed() {
     "$python" -m venv --system-site-packages "$work/environment" > "$work/log" 2>&1
     local pip=("$work/environment/bin/python" -m pip install --isolated --no-index --no-deps) wheels=$work/dist/i_shape-$version-py3-none-manylinux_2_17
     "${pip[@]}" "${wheels}_x86_64.whl" >> "$work/log" 2>&1 || cat "$work/log"
-    cd "$work/empty" && rm -rf i_shape
+    cd "$empty" && rm -rf i_shape
     [ "$("$work/environment/bin/python" -c 'import i_shape; print(i_shape.simplify([(0, 0), (2, 0), (4, 0), (4, 4), (0, 4)]).tolist())')" = \
         '[[0, 0], [4, 0], [4, 4], [0, 4]]' ]
     count $? 'wheel-x86_64: installed'
@@ -257,19 +260,30 @@ FILES
     else
         skip 'javascript: the files that npm packs' 1 'there is no npm'
     fi
-    if node -e 'process.exit(parseInt(process.versions.node) < 20 ? 1 : 0)' 2> /dev/null; then
+    if node --input-type=module -e 'import.meta.resolve("node:fs")' 2> /dev/null; then
         sed -n '/^```js$/,/^```$/{/^```/!p}' README.md > ../sample.mjs
         mkdir ../node_modules && cd .. && mv package node_modules/i_shape
         [ "$(node sample.mjs)" = '0 0 4 0 4 4 0 4' ]
         count $? 'javascript: what its page shows'
     else
-        skip 'javascript: what its page shows' 1 'there is no Node from 20 on'
+        skip 'javascript: what its page shows' 1 'there is no Node from 20.6 on'
     fi
 }
 
-# The crate passes its tests over the library of the other archive.
+# The crate passes its tests over the library of the other archive, where that is packed.
 test_rust() {
     unpack "i_shape-$version-rust.tar.gz" || return
+    holds rust < <(printf '%s\n' LICENSE README.md Cargo.{lock,toml} build.rs examples/{batch,clean,corners,own_points}.rs \
+        src/{base,calls,error,fill_rule,flat,int,lib,macros,memory,source}.rs src/flat/{buffer,contours,measures,offsets,shapes}.rs \
+        src/int/{area,canonical,cleaned,count,despike,number,path,point,safe_range,shape,simple,winding}.rs src/source/int/resource.rs \
+        tests/calls/{contours,errors,flat,main,original_examples,own_points,shapes,shared}.rs tests/refused_memory.rs)
+    if ! is_packed linux-x86_64; then
+        skip 'rust: its tests' 2 'the library is not built for it'
+        return
+    elif ! cargo --version > /dev/null 2>&1; then
+        skip 'rust: its tests' 2 'there is no cargo'
+        return
+    fi
     local library=$work/library
     mkdir "$library" && tar -xzf "$work/dist/i_shape-$version-linux-x86_64.tar.gz" -C "$library" --strip-components=1
     I_SHAPE_C_DIR=$library/lib cargo test --offline --locked --quiet > "$work/cargo" 2>&1
@@ -292,7 +306,7 @@ for machine in x86_64 aarch64; do
     fi
 done
 for machine in x86_64 aarch64; do
-    plan "program-$machine" 4 'it is not built' has_program "$machine"
+    plan "program-$machine" 5 'it is not built' has_program "$machine"
 done
 plan javascript 4 'the modules are not built' has_modules
 parts+=(rust)
@@ -304,13 +318,17 @@ if [ "$status" != 0 ]; then
     tell_counts dist
     exit
 fi
-(umask 077 && TZ=Asia/Kathmandu bash scripts/dist.sh "$work/again" "${parts[@]}") > "$work/log" 2>&1 || cat "$work/log"
+another_user=(unshare --user --map-user=1000 --map-group=1000)
+"${another_user[@]}" true 2> /dev/null || another_user=()
+(umask 077 && TZ=Asia/Kathmandu "${another_user[@]}" bash scripts/dist.sh "$work/again" "${parts[@]}") > "$work/log" 2>&1 || cat "$work/log"
 for archive in "$work"/dist/*; do
     cmp "$archive" "$work/again/${archive##*/}"
     count $? "${archive##*/}: packed again"
 done
 (cd "$work/dist" && sha256sum --quiet -c SHA256SUMS && diff <(ls) <(sed 's/^[0-9a-f]*  //' SHA256SUMS | cat - <(echo SHA256SUMS) | sort))
 count $? 'SHA256SUMS'
+bash scripts/dist.sh "$work/again" rust > "$work/log" 2>&1 && cmp "$work/dist/SHA256SUMS" "$work/again/SHA256SUMS"
+count $? 'SHA256SUMS, after one part is packed again'
 
 PATH=$(path_without_kit)
 ! command -v rt > /dev/null
@@ -326,11 +344,5 @@ is_packed program-x86_64 && test_program x86_64
 runner=(qemu-aarch64 -L /usr/aarch64-linux-gnu)
 is_packed program-aarch64 && test_program aarch64
 is_packed javascript && test_javascript
-if ! is_packed linux-x86_64; then
-    skip 'rust: its tests' 2 'the library is not built for it'
-elif ! cargo --version > /dev/null 2>&1; then
-    skip 'rust: its tests' 2 'there is no cargo'
-else
-    test_rust
-fi
+test_rust
 tell_counts dist

@@ -1,8 +1,9 @@
 #!/usr/bin/env bash
 # Builds the WebAssembly modules and runs the tests of the package for JavaScript and of examples/page by Node: beside the native library and with the tests
 # of C, where there is a C compiler; in a browser, where there is a chromium. The types are checked, where there is a tsc. Of the calls that take no memory
-# the object file is that of the kit's own lowering. With the word --if-built it builds nothing, and leaves the object file out. Where the modules aren't
-# built then, or there is no Node from 20 on, all is skipped. The last line is 'javascript: N passed, M failed', and ', K skipped' behind it where K is above 0.
+# the object file is that of the kit's own lowering. What the kit compiles for the tests is skipped where there is no rt. With the word --if-built it builds
+# nothing, and leaves the object file out. Where the modules aren't built then, or there is no Node from 20.6 on, all is skipped: Debian 12's own is older, and
+# one from NodeSource or nodejs.org serves. The last line is 'javascript: N passed, M failed', and ', K skipped' behind it where K is above 0.
 set -u
 cd "$(dirname "$0")/.." || exit 1
 . .ci/count.sh || exit 1
@@ -14,6 +15,14 @@ skip_all() {
     echo "the package for JavaScript is not tested: $1"
     echo "javascript: 0 passed, 0 failed, $(grep -hoE '\b(test|check)\(' "${tests[@]}" | wc -l) skipped"
     exit 0
+}
+
+# Counts $2 tests as skipped where there is no rt, and says so.
+has_kit() {
+    command -v rt > /dev/null && return
+    echo "$1: skipped, since there is no rt of the Rattle kit"
+    skipped=$((skipped + $2))
+    return 1
 }
 
 # Node counts what it has run.
@@ -66,11 +75,12 @@ test_types() {
     count $? 'the types'
 }
 
-node -e 'process.exit(parseInt(process.versions.node) < 20 ? 1 : 0)' 2> /dev/null || skip_all 'there is no Node from 20 on'
-if [ "${1-}" = --if-built ]; then
-    bash $package/build.sh --is-built || skip_all '`make wasm` builds the modules'
+node --version > /dev/null 2>&1 || skip_all 'there is no Node'
+node --input-type=module -e 'import.meta.resolve("node:fs")' 2> /dev/null || skip_all "it needs Node 20.6 or later, and this one is $(node --version)"
+if ! bash $package/build.sh --is-built; then
+    [ "${1-}" != --if-built ] || skip_all '`make wasm` builds the modules'
+    command -v rt > /dev/null || skip_all 'there is no rt of the Rattle kit, which builds the modules'
 fi
-command -v rt > /dev/null || skip_all 'there is no rt of the Rattle kit'
 work=$(mktemp -d) || exit 1
 trap 'rm -rf "$work"' EXIT
 if ! bash $package/build.sh > "$work/log" 2>&1; then
@@ -84,6 +94,8 @@ node --experimental-wasm-memory64 -e 0 2> /dev/null && flags=(--experimental-was
 if command -v "${CC:-cc}" > /dev/null; then
     build_answers && export I_SHAPE_ANSWERS=$work/answers
     count $? 'the programs of the native library'
+fi
+if has_kit 'the tests of C as modules' 2; then
     for bits in 64 32; do
         sh $package/test/c/build.sh $bits "$work/c_tests$bits.wasm" && export I_SHAPE_C_TESTS=$work/c_tests
         count $? "the tests of C as a module of $bits bits"
@@ -91,8 +103,8 @@ if command -v "${CC:-cc}" > /dev/null; then
 fi
 test_by_node
 test_types
-test_steps
-if [ "${1-}" != --if-built ]; then
+has_kit 'the steps that retarget the module' 1 && test_steps
+if [ "${1-}" != --if-built ] && has_kit "the object file of the kit's own lowering" 1; then
     sh $package/wasm/same_object.sh "$PWD"
     count $? "the object file of the kit's own lowering"
 fi

@@ -6,7 +6,7 @@ cd "$(dirname "$0")/.." || exit 1
 . .ci/count.sh || exit 1
 program=crates/i_shape_tests/out/i_shape_tests_tests
 
-{ [ -x "$program" ] && [ -z "$(find crates crates.txt -name out -prune -o -type f ! -path '*/wrong/*' ! -path '*/must-fail/*' -newer "$program" -print -quit)" ]; } || (cd crates/i_shape_tests && rt test) || {
+{ [ -x "$program" ] && [ -z "$(find crates crates.txt \( -name out -o -name wrong -o -name must-fail \) -prune -o -type f -newer "$program" -print -quit)" ]; } || (cd crates/i_shape_tests && rt test) || {
     echo 'long tests: 0 passed, 1 failed'
     exit 1
 }

@@ -46,13 +46,14 @@ private:
     Code code_;
 };
 
-/* A pointer and a count: items that lie somewhere else. */
+/* A pointer and a count: items that lie somewhere else. Items of a class below Item aren't taken: they lie further apart. */
 template <class Item>
 class Span {
 public:
     constexpr Span(Item *items, std::size_t count) noexcept : items_(items), count_(count) {}
 
-    template <class Items, class = std::enable_if_t<std::is_convertible_v<decltype(std::data(std::declval<Items &>())), Item *>>>
+    template <class Items, class Given = std::remove_pointer_t<decltype(std::data(std::declval<Items &>()))>,
+              class = std::enable_if_t<std::is_convertible_v<Given (*)[], Item (*)[]>>>
     constexpr Span(Items &items) : items_(std::data(items)), count_(std::size(items)) {}
 
     constexpr Item *data() const noexcept { return items_; }
@@ -66,7 +67,9 @@ private:
 /* The type of a point's coordinates, and where in the point they lie. It is here for points with public members x and y,
  * or X and Y; specialise it for a point of yours whose members are private or have other names. */
 template <class Point, class = void>
-struct PointTraits;
+struct PointTraits {
+    static_assert(!std::is_same_v<Point, Point>, "i_shape: a point has public members x and y, or X and Y, of one type, or its PointTraits");
+};
 
 template <class Point>
 struct PointTraits<Point, std::enable_if_t<std::is_member_object_pointer_v<decltype(&Point::x)> &&
@@ -103,7 +106,9 @@ namespace detail {
 
 /* The calls of C at the width of coordinates of so many bytes. */
 template <std::size_t Bytes>
-struct Calls;
+struct Calls {
+    static_assert(Bytes == 4, "i_shape: a coordinate has 16, 32 or 64 bits");
+};
 
 #define I_SHAPE_CALLS(W, AREA) \
     template <> \
@@ -196,6 +201,13 @@ inline std::size_t count_of(std::ptrdiff_t answer) {
     return static_cast<std::size_t>(answer);
 }
 
+/* The vector of an answer, before its points are written. */
+template <class Point>
+std::vector<Point> room_for(std::size_t count) {
+    static_assert(std::is_default_constructible_v<Point>, "i_shape: the points of a vector have a default constructor");
+    return std::vector<Point>(count);
+}
+
 template <class Points, class Call>
 std::size_t clean_into(Call call, const Points &points, Span<PointOf<Points>> out) {
     using Point = typename CallsOf<Points>::Point;
@@ -204,7 +216,7 @@ std::size_t clean_into(Call call, const Points &points, Span<PointOf<Points>> ou
 
 template <class Points, class Call>
 std::vector<PointOf<Points>> clean(Call call, const Points &points) {
-    std::vector<PointOf<Points>> left(std::size(points));
+    auto left = room_for<PointOf<Points>>(std::size(points));
     left.resize(clean_into(call, points, left));
     return left;
 }
@@ -212,7 +224,7 @@ std::vector<PointOf<Points>> clean(Call call, const Points &points) {
 template <class Points, class Offsets, class Call>
 Contours<PointOf<Points>> clean_contours(Call call, const Points &points, const Offsets &offsets) {
     Contours<PointOf<Points>> left;
-    left.points.resize(std::size(points));
+    left.points = room_for<PointOf<Points>>(std::size(points));
     left.offsets.resize(std::size(offsets));
     left.points.resize(count_of(call(read(points), std::size(points), read_offsets(offsets), std::size(offsets), write(left.points),
                                      left.points.size(), address<std::size_t>(left.offsets.data()), left.offsets.size())));
@@ -222,7 +234,7 @@ Contours<PointOf<Points>> clean_contours(Call call, const Points &points, const 
 template <class Points, class Offsets, class ShapeOffsets, class Call>
 Shapes<PointOf<Points>> clean_shapes(Call call, const Points &points, const Offsets &contours, const ShapeOffsets &shapes) {
     Shapes<PointOf<Points>> left;
-    left.points.resize(std::size(points));
+    left.points = room_for<PointOf<Points>>(std::size(points));
     left.contours.resize(std::size(contours));
     left.shapes.resize(std::size(shapes));
     const std::size_t count = count_of(call(read(points), std::size(points), read_offsets(contours), std::size(contours), read_offsets(shapes),

@@ -15,7 +15,8 @@ folder=${1:?the folder to pack into}
 shift
 [ $# -gt 0 ] || set -- linux-x86_64 linux-aarch64 wheel-x86_64 wheel-aarch64 program-x86_64 program-aarch64 javascript rust
 version=$(sed -n 's/^version = "\(.*\)"$/\1/p' "$top/bindings/rust/Cargo.toml")
-export SOURCE_DATE_EPOCH=${SOURCE_DATE_EPOCH:-$(git -C "$top" log -1 --format=%ct)}
+SOURCE_DATE_EPOCH=${SOURCE_DATE_EPOCH:-$(git -C "$top" log -1 --format=%ct)}
+export SOURCE_DATE_EPOCH
 work=$(mktemp -d)
 trap 'rm -rf "$work"' EXIT
 mkdir "$work/packed"
@@ -101,6 +102,8 @@ for part; do
     *) echo "dist.sh: what is $part?" >&2 && exit 2 ;;
     esac
 done
-(cd "$work/packed" && sha256sum -- * > "$work/SHA256SUMS")
 mkdir -p "$folder"
-mv "$work"/packed/* "$work/SHA256SUMS" "$folder"
+mv "$work"/packed/* "$folder"
+# What was packed into the folder before has its line too.
+(cd "$folder" && sha256sum -- i_shape* > "$work/SHA256SUMS")
+mv "$work/SHA256SUMS" "$folder"

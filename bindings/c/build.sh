@@ -41,7 +41,7 @@ proved=${proved:-$archive}
 
 # Whether one of the others is newer than the file $1.
 is_older_than_one_of() {
-    [ -n "$(find "${@:2}" -name out -prune -o -type f ! -path '*/wrong/*' ! -path '*/must-fail/*' -newer "$1" -print | head -n 1)" ]
+    [ -n "$(find "${@:2}" \( -name out -o -name wrong -o -name must-fail \) -prune -o -type f -newer "$1" -print | head -n 1)" ]
 }
 
 is_proved() {
@@ -49,7 +49,7 @@ is_proved() {
 }
 
 is_built() {
-    is_proved && [ -e "$out/i_shape.pc.in" ] &&
+    is_proved && [ -e "$out/libi_shape.a" ] && [ -e "$out/libi_shape.so" ] && [ -e "$out/i_shape-config-version.cmake" ] && [ -e "$out/i_shape.pc.in" ] &&
         ! is_older_than_one_of "$out/i_shape.pc.in" "$proved" "$top/include" "$here/build.sh" "$here/allocator.c" "$here/i_shape.pc.in" "$here/cmake"
 }
 
@@ -63,10 +63,19 @@ prove_all() {
     touch -r "$out/build.started" "$archive"
 }
 
+# What a killed prove_other has left: another's archive in the place of the default's.
+restore_default() {
+    local left
+    for left in "$here"/out/*/default.a; do
+        [ ! -e "$left" ] || mv "$left" "$archive"
+    done
+}
+
 # The same for another machine or processor, over the kept proofs of the default, whose archive is put back into its place afterwards.
 prove_other() {
     touch "$out/build.started"
-    cp -p "$archive" "$out/default.a"
+    cp -p "$archive" "$out/default.part"
+    mv "$out/default.part" "$out/default.a"
     trap 'mv "$out/default.a" "$archive"' EXIT
     prove i_shape_c lib --jobs "$jobs" ${target:+--target "$target-unknown-linux-gnu"} ${cpu:+--cpu "$cpu"} ${backend:+--backend "$backend"}
     touch -r "$out/build.started" "$archive"
@@ -97,9 +106,14 @@ if [ -n "$only_asks" ]; then
 fi
 # Others are proved over what the default has kept.
 [ -z "$kind" ] || bash "$here/build.sh"
+# What is built serves where nothing may be written.
+if is_built; then
+    exit
+fi
 mkdir -p "$out"
 exec 9> "$here/out/build.lock"
 flock 9
+restore_default
 if is_built; then
     exit
 fi

@@ -19,8 +19,14 @@ struct i_shape::PointTraits<Point> {
     using Coordinate = std::int32_t;
     static constexpr std::size_t x_offset = 0, y_offset = 4;
 };
-#elif REFUSED == 7 /* PointTraits<Point */
+#elif REFUSED == 7 /* public members x and y, or X and Y, of one type */
 struct Point { std::int16_t x; std::int32_t y; };
+#elif REFUSED == 8 /* public members x and y, or X and Y, of one type */
+struct Point { std::int32_t across, up; };
+#elif REFUSED == 9 /* a coordinate has 16, 32 or 64 bits */
+struct Point { std::int8_t x, y; };
+#elif REFUSED == 10 /* the points of a vector have a default constructor */
+struct Point { Point(std::int32_t across, std::int32_t up) : x(across), y(up) {} std::int32_t x, y; };
 #endif
 
 std::vector<Point> left(const std::vector<Point> &points);

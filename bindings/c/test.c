@@ -30,9 +30,13 @@ static int is_filled(const void *at, size_t size) {
     return 1;
 }
 
-#ifdef OWN_ALLOCATOR
+#if defined OWN_ALLOCATOR || defined WRAPPED_MALLOC
+#define REFUSES
 /* The growth of this number is refused; none at 0. */
 static size_t refused, growths, blocks;
+#endif
+
+#ifdef OWN_ALLOCATOR
 static char nothing;
 
 struct tried {
@@ -68,7 +72,34 @@ void rattle_dealloc(void *at) {
 #ifdef __cplusplus
 }
 #endif
+#endif
 
+#ifdef WRAPPED_MALLOC
+/* The linker puts these in place of the allocator's malloc, realloc and free, by its word --wrap. */
+void *__real_malloc(size_t size);
+void *__real_realloc(void *at, size_t size);
+void __real_free(void *at);
+void *__wrap_malloc(size_t size);
+void *__wrap_realloc(void *at, size_t size);
+void __wrap_free(void *at);
+
+void *__wrap_malloc(size_t size) {
+    void *at = ++growths == refused ? NULL : __real_malloc(size);
+    if (at) blocks++;
+    return at;
+}
+
+void *__wrap_realloc(void *at, size_t size) {
+    return ++growths == refused ? NULL : __real_realloc(at, size);
+}
+
+void __wrap_free(void *at) {
+    blocks--;
+    __real_free(at);
+}
+#endif
+
+#ifdef REFUSES
 enum { MOST_GROWTHS = 32 };
 
 #define WITH_EACH_GROWTH_REFUSED(CALLED, IS_KEPT, GROWS, WIDTH, NAME) \
@@ -114,7 +145,7 @@ static void test_great_area(void) {
     check(i_shape_area_two_i64(square, 4, &area) && area.low == 0 && area.high == UINT64_C(1) << 59, 64, "area_two", "a great square");
 }
 
-#ifndef OWN_ALLOCATOR
+#ifndef REFUSES
 enum { THREADS = 4, POINTS = 20000, TURNS = 20 };
 
 static i_shape_point_i32 shared[POINTS], expected[POINTS], answers[THREADS][POINTS];

@@ -59,6 +59,13 @@ struct Upper {
     Coordinate X, Y;
 };
 
+/* A point without a default constructor: it can be read, and written over. */
+template <class Coordinate>
+struct Given {
+    Given(Coordinate across, Coordinate up) : x(across), y(up) {}
+    Coordinate x, y;
+};
+
 /* A point as a library with private members has it. */
 template <class Coordinate>
 class Private {
@@ -151,11 +158,22 @@ protected:
             called();
             check(false, call, what);
         } catch (const i_shape::Error &error) {
-            check(error.code() == code && std::string(error.what()).rfind("i_shape: ", 0) == 0, call, what);
+            const std::string said = error.what();
+            check(error.code() == code && said.rfind("i_shape: ", 0) == 0 && said.find(words_of(code)) != std::string::npos, call, what);
         }
     }
 
 private:
+    /* What the text of a code has, and those of the others have not. */
+    static const char *words_of(i_shape::Code code) {
+        switch (code) {
+        case i_shape::Code::unsafe: return "a point isn't in the safe range";
+        case i_shape::Code::unfit: return "the offsets don't part the points";
+        case i_shape::Code::no_memory: break;
+        }
+        return "memory was refused";
+    }
+
     const char *kind_;
 };
 
@@ -255,6 +273,14 @@ private:
         check(i_shape::simplify(i_shape::Span<const Point>(nullptr, 0)).empty(), "simplify", "no pointer, of no point");
         check(i_shape::simplify(Contour()).empty(), "simplify", "no point");
         check(i_shape::simplify_into(Contour(), i_shape::Span<Point>(nullptr, 0)) == 0, "simplify_into", "no point");
+        check(i_shape::detail::read(i_shape::Span<const Point>(nullptr, 0)) != nullptr, "read", "an address where there is no pointer");
+        struct Longer : Point {};
+        check(std::is_constructible_v<i_shape::Span<const Point>, Contour &>, "Span", "items that are read only");
+        check(!std::is_constructible_v<i_shape::Span<Point>, const Contour &>, "Span", "items that aren't to be written");
+        check(!std::is_constructible_v<i_shape::Span<const Point>, std::vector<Longer> &>, "Span", "items of a class below");
+        const std::vector<Given<Coordinate>> given = {{0, 0}, {2, 0}, {4, 0}, {0, 4}};
+        std::vector<Given<Coordinate>> into = given;
+        check(i_shape::simplify_into(given, into) == 3 && into[1].x == 4, "simplify_into", "points without a default constructor");
     }
 
     void test_contours() const {

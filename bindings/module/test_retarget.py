@@ -161,6 +161,8 @@ UNKNOWN_CALLS = [
     ("an exported function that answers a pair", "define noundef i64 @toy_kept", "define { i64, i64 } @toy_kept"),
     ("an allocator that answers another pair", "declare { i64, i64 } @rattle_alloc", "declare { i64, ptr } @rattle_alloc"),
     ("an allocator that is passed more", "@rattle_alloc(i64 noundef,", "@rattle_alloc(ptr noundef, i64 noundef,"),
+    ("a call of the allocator with words of its own", "call { i64, i64 } @rattle_realloc(", "call noundef { i64, i64 } @rattle_realloc("),
+    ("an allocator whose address is kept", FIRST, FIRST + "  store ptr @rattle_alloc, ptr %r0, align 8\n"),
 ]
 
 # The scripts that a module goes through, each with what it stops at, and how clang is told to compile what each writes.
@@ -203,7 +205,9 @@ def main():
         rows.append(("the module", stopped_by(steps, MODULE, folder) is None and compiles(steps, folder)))
         if steps is STEPS["windows"]:
             with open(os.path.join(folder, "1.ll"), encoding="utf-8") as module:
-                rows.append(("what is known of a narrow number", "@toy_narrow(i16 noundef %a0)" in module.read()))
+                text = module.read()
+            rows.append(("what is known of a narrow number", "@toy_narrow(i16 noundef %a0)" in text))
+            rows.append(("how a frame is left", "attributes #0 = { nounwind uwtable " in text and text.count(" #3 uwtable {\n") == 2))
         for script, unknown, _ in steps:
             for name, old, new in unknown:
                 rows.append((name, old in MODULE and stopped_by(steps, MODULE.replace(old, new, 1), folder) == script))

@@ -24,7 +24,7 @@ export function frameOf(polygons) {
     if (isSmall) return DRAWN;
     const [left, right, bottom, top] = [extreme(points, 0, Math.min), extreme(points, 0, Math.max), extreme(points, 1, Math.min), extreme(points, 1, Math.max)];
     const size = Math.max(right - left, top - bottom, 1);
-    const step = 10 ** Math.ceil(Math.log10(size / MOST_LINES));
+    const step = Math.max(1, 10 ** Math.ceil(Math.log10(size / MOST_LINES)));
     const down = (value) => Math.floor(value / step - 1) * step;
     const up = (value) => Math.ceil(value / step + 1) * step;
     return { minX: down(left), minY: down(bottom), maxX: up(right), maxY: up(top), step };

@@ -10,6 +10,13 @@ function readCoast(text) {
     return Int32Array.from(text.trim().split(/\s+/), Number);
 }
 
+/** Answers the text of an island's shoreline. */
+async function fetchCoast(name) {
+    const answer = await fetch(`coastlines/${name}.txt`);
+    if (!answer.ok) throw new Error(`${answer.url}: ${answer.status} ${answer.statusText}`);
+    return answer.text();
+}
+
 /** Answers the mean milliseconds of a call, of so many calls that the clock can tell them. */
 function timeOf(call) {
     const start = performance.now();
@@ -32,8 +39,9 @@ export function startCoast(shapes, byId) {
     const texts = new Map();
     const draw = async () => {
         const name = byId("island").value;
-        if (!texts.has(name)) texts.set(name, fetch(`coastlines/${name}.txt`).then((answer) => answer.text()));
-        const given = readCoast(await texts.get(name));
+        if (!texts.has(name)) texts.set(name, await fetchCoast(name));
+        if (name !== byId("island").value) return; // another one was chosen meanwhile
+        const given = readCoast(texts.get(name));
         const grid = GRIDS[Number(byId("grid").value)];
         const rounded = given.map((each) => Math.floor(each / grid));
         const left = shapes.simplify(rounded);
@@ -43,11 +51,15 @@ export function startCoast(shapes, byId) {
             element("path", { class: "given", d: pathOf([ring]) }),
             element("path", { class: "cleaned", d: pathOf([pointsOn(grid, left)]) }),
         );
+        byId("grid").setAttribute("aria-valuetext", `${grid}`);
         byId("coast-grid").textContent = `${grid}`;
         byId("coast-given").textContent = `${given.length / 2} points`;
         byId("coast-left").textContent = left.length ? `${left.length / 2} points` : "none: it collapses";
         byId("coast-time").textContent = `${timeOf(() => shapes.simplify(rounded)).toPrecision(2)} ms`;
     };
-    for (const id of ["island", "grid"]) byId(id).addEventListener("input", draw);
-    return draw();
+    const show = () => draw().catch((error) => {
+        byId("problem").textContent = error.message;
+    });
+    for (const id of ["island", "grid"]) byId(id).addEventListener("input", show);
+    return show();
 }

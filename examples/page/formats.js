@@ -9,18 +9,23 @@ export function readPolygons(text) {
     if (given === "") return [];
     if (given.startsWith("{")) return readGeoJson(given);
     if (/^[a-z]/i.test(given)) return readWkt(given);
-    return readLines(given);
+    return readLines(text);
 }
 
 /** Each line is a contour, `x y x y ..`: the first one the outer ring of a polygon, the others its holes. An empty line begins another polygon. */
 function readLines(text) {
-    return text.split(/\n\s*\n/).map((part) => part.split("\n").map((line, k) => readLine(line, k + 1)));
+    const polygons = [[]];
+    text.split("\n").forEach((line, k) => {
+        if (line.trim() === "") polygons.push([]);
+        else polygons.at(-1).push(readLine(line, k + 1));
+    });
+    return polygons.filter((rings) => rings.length > 0);
 }
 
 function readLine(line, number) {
     const words = line.trim().split(/[\s,]+/);
     const coordinates = words.map(Number);
-    const wrong = coordinates.findIndex((each) => !Number.isFinite(each));
+    const wrong = coordinates.findIndex((each, k) => words[k] === "" || !Number.isFinite(each));
     if (wrong >= 0) throw new SyntaxError(`line ${number}: "${words[wrong]}" is no number`);
     if (coordinates.length % 2 !== 0) throw new SyntaxError(`line ${number}: the last x has no y`);
     return Array.from({ length: coordinates.length / 2 }, (_, k) => coordinates.slice(2 * k, 2 * k + 2));
@@ -32,7 +37,7 @@ function opened(ring) {
     return ring.length > 1 && first[0] === last[0] && first[1] === last[1] ? ring.slice(0, -1) : ring;
 }
 
-const CHILDREN = { FeatureCollection: "features", GeometryCollection: "geometries" };
+const CHILDREN = { __proto__: null, FeatureCollection: "features", GeometryCollection: "geometries" };
 
 function readGeoJson(text) {
     return polygonsOf(JSON.parse(text));
@@ -40,15 +45,20 @@ function readGeoJson(text) {
 
 function polygonsOf(object) {
     const { type, coordinates } = object ?? {};
-    if (type in CHILDREN) return object[CHILDREN[type]].flatMap(polygonsOf);
+    if (type in CHILDREN) return listOf(CHILDREN[type], object[CHILDREN[type]]).flatMap(polygonsOf);
     if (type === "Feature") return polygonsOf(object.geometry);
     if (type === "Polygon") return [ringsOf(coordinates)];
-    if (type === "MultiPolygon") return coordinates.map(ringsOf);
+    if (type === "MultiPolygon") return listOf("polygons", coordinates).map(ringsOf);
     throw new SyntaxError(`GeoJSON: a ${type} is no polygon`);
 }
 
+function listOf(what, value) {
+    if (!Array.isArray(value)) throw new SyntaxError(`GeoJSON: ${JSON.stringify(value)} is no list of ${what}`);
+    return value;
+}
+
 function ringsOf(rings) {
-    return rings.map((ring) => opened(ring.map(pointOf)));
+    return listOf("rings", rings).map((ring) => opened(listOf("positions", ring).map(pointOf)));
 }
 
 function pointOf(position) {

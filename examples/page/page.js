@@ -18,6 +18,9 @@ const RULES = {
     negative: (winding) => winding < 0,
 };
 
+// The greatest safe coordinate of 32 bits.
+const GREATEST = 2 ** 30 - 1;
+
 const byId = (id) => document.getElementById(id);
 const say = (id, text) => {
     byId(id).textContent = text;
@@ -25,7 +28,10 @@ const say = (id, text) => {
 const board = byId("board");
 
 const bits = supportsMemory64() ? 64 : 32;
-const shapes = await load(fetch(`i_shape/out/i_shape${bits}.wasm`));
+const shapes = await load(fetch(`i_shape/out/i_shape${bits}.wasm`)).catch((error) => {
+    say("problem", `the page has no library: ${error.message}`);
+    throw error;
+});
 let polygons = [[[]]];
 let cursor = [0, 0];
 let left = [];
@@ -115,7 +121,7 @@ function pointAt({ clientX, clientY }) {
 }
 
 function within(least, value, greatest, step) {
-    return Math.max(least, Math.min(greatest, Math.round(value / step) * step)) + 0;
+    return Math.max(least, -GREATEST, Math.min(greatest, GREATEST, Math.round(value / step) * step)) + 0;
 }
 
 function lastPolygon() {
@@ -159,7 +165,7 @@ function polygonsIn(id) {
     return found;
 }
 
-/** Does what a button says, and tells where it fails. */
+/** Does what is asked for, and tells where it fails. */
 function attempt(action) {
     try {
         action();
@@ -192,7 +198,7 @@ function compare() {
 }
 
 const STEPS = { ArrowLeft: [-1, 0], ArrowRight: [1, 0], ArrowUp: [0, 1], ArrowDown: [0, -1] };
-const KEYS = { Enter: () => addPoint(cursor), " ": () => addPoint(cursor), Backspace: undo, n: addRing, Escape: clear };
+const KEYS = { Enter: () => addPoint(cursor), " ": () => addPoint(cursor), Backspace: undo, n: addRing, N: addRing };
 
 function pressKey(event) {
     const direction = STEPS[event.key];
@@ -208,15 +214,18 @@ function moveCursor([x, y], steps) {
     showCursor();
 }
 
-board.addEventListener("click", (event) => {
-    cursor = pointAt(event);
-    addPoint(cursor);
-});
-board.addEventListener("pointermove", (event) => {
-    cursor = pointAt(event);
-    showCursor();
-});
-board.addEventListener("keydown", pressKey);
+const listeners = {
+    click: (event) => {
+        cursor = pointAt(event);
+        addPoint(cursor);
+    },
+    pointermove: (event) => {
+        cursor = pointAt(event);
+        showCursor();
+    },
+    keydown: pressKey,
+};
+for (const [name, listen] of Object.entries(listeners)) board.addEventListener(name, (event) => attempt(() => listen(event)));
 const actions = {
     undo,
     clear,

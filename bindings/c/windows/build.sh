@@ -17,8 +17,9 @@ is_built() {
 
 # The functions that the object file $1 calls are known.
 has_known_calls() {
-    ! "$mingw-nm" --undefined-only --format=just-symbols "$1" |
-        grep -vxE 'rattle_(alloc|realloc|dealloc)|mem(cpy|move|set)|___chkstk_ms'
+    local called
+    called=$("$mingw-nm" --undefined-only --format=just-symbols "$1") || return
+    ! grep -vxE 'rattle_(alloc|realloc|dealloc)|mem(cpy|move|set)|___chkstk_ms' <<< "$called"
 }
 
 if [ "${1-}" = --is-built ]; then

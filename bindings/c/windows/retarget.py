@@ -3,10 +3,11 @@
 
 usage: retarget.py LINUX.ll WINDOWS.ll
 
-It changes the data layout and the triple; how a large frame reaches for the stack, which Windows has a function for; and what Windows
-passes between functions in another way than Linux: a whole number narrower than its register has no known bits above it, and the pair
-that a function of the allocator answers comes back in memory. It stops at whatever it doesn't know to mean the same on Windows, such as an
-exported function that is passed a struct. rattle has no target of Windows, so what it writes can be compared with nothing.
+It changes the data layout and the triple; how a large frame reaches for the stack, which Windows has a function for; whether a table says
+how each frame is left, by which Windows walks the stack; and what Windows passes between functions in another way than Linux: a whole
+number narrower than its register has no known bits above it, and the pair that a function of the allocator answers comes back in memory.
+It stops at whatever it doesn't know to mean the same on Windows, such as an exported function that is passed a struct. rattle has no
+target of Windows, so what it writes can be compared with nothing.
 """
 import os
 import re
@@ -28,6 +29,7 @@ EXTENSION = re.compile(r"\b(zeroext|signext) ?")
 PAIR = "{ i64, i64 }"
 ALLOCATOR_DECLARATION = re.compile(r"declare (?P<result>[^@]*)@rattle_(?P<name>\w+)\((?P<parameters>.*)\) #(?P<attributes>\d+)")
 ALLOCATOR_CALL = re.compile(r"(call \{ i64, i64 \} )@rattle_(alloc|realloc)\(")
+ALLOCATOR_NAME = re.compile(r"@rattle_(alloc|realloc)\b")
 ALLOCATOR = {"alloc": (PAIR, ["i64", "i64"]), "realloc": (PAIR, ["ptr", "i64", "i64", "i64"]), "dealloc": ("void", ["ptr"])}
 
 
@@ -56,7 +58,7 @@ def allocator_calls(line: str) -> list[str]:
     return [
         f"declare void @rattle_{name}(ptr sret({PAIR}), {', '.join(types)}) #{attributes}",
         "",
-        f'define internal {PAIR} @"windows::{name}"({", ".join(f"{each} %a{place}" for place, each in enumerate(types))}) #{attributes} {{',
+        f'define internal {PAIR} @"windows::{name}"({", ".join(f"{each} %a{place}" for place, each in enumerate(types))}) #{attributes} uwtable {{',
         "start:",
         f"  %pair = alloca {PAIR}, align 8",
         f"  call void @rattle_{name}(ptr sret({PAIR}) %pair, {', '.join(f'{each} %a{place}' for place, each in enumerate(types))})",
@@ -75,9 +77,11 @@ def retargeted(text: str) -> str:
         elif line.startswith("declare ") and "@rattle_" in line:
             out += allocator_calls(line)
         elif line.startswith("attributes "):
-            out.append(PROBES.sub("", line))
+            out.append(PROBES.sub("uwtable ", line))
         else:
             out.append(ALLOCATOR_CALL.sub(r'\1@"windows::\2"(', line))
+            if ALLOCATOR_NAME.search(out[-1]):
+                stop(f"the allocator in a form that is not known: {line}")
     return "\n".join(out)
 
 

@@ -1,21 +1,26 @@
+/** What these types name of browsers, as `Response` and `WebAssembly`, is in the `lib` named dom. */
+
 /** An array of points x0, y0, x1, y1, .. */
 export type Points = Int16Array | Int32Array | BigInt64Array;
 
 /** A coordinate of such points. */
 export type Coordinate<P extends Points> = P extends BigInt64Array ? bigint : number;
 
+/** The type of an answer's points: of the width of those that are given, and of no class below it. */
+export type Plain<P extends Points> = P extends BigInt64Array ? BigInt64Array : P extends Int32Array ? Int32Array : Int16Array;
+
 /** Whole numbers from 0 on, each at least the one before it. */
 export type Offsets = ArrayLike<number> | ArrayLike<bigint>;
 
 /** Rings end to end: ring k is the points from `offsets[k]` to before `offsets[k + 1]`. */
 export interface Rings<P extends Points> {
-    points: P;
+    points: Plain<P>;
     offsets: Uint32Array;
 }
 
 /** Polygons: polygon j has the rings from `polygonOffsets[j]` to before `polygonOffsets[j + 1]`, the outer one first. */
 export interface Polygons<P extends Points> {
-    points: P;
+    points: Plain<P>;
     ringOffsets: Uint32Array;
     polygonOffsets: Uint32Array;
 }
@@ -68,16 +73,16 @@ export interface IShape {
      * @throws {UnsafePointError} a point isn't safe
      * @throws {OutOfMemoryError}
      */
-    simplify<P extends Points>(contour: P): P;
+    simplify<P extends Points>(contour: P): Plain<P>;
 
     /** The contour without the points at which the way turns back or stands still. Else as `simplify`. */
-    despike<P extends Points>(contour: P): P;
+    despike<P extends Points>(contour: P): Plain<P>;
 
     /** The simplified contour from the start that makes it least. Else as `simplify`. */
-    canonical<P extends Points>(contour: P): P;
+    canonical<P extends Points>(contour: P): Plain<P>;
 
     /** The lesser of the canonical forms of the contour and of the contour read backwards. Else as `simplify`. */
-    canonicalUnoriented<P extends Points>(contour: P): P;
+    canonicalUnoriented<P extends Points>(contour: P): Plain<P>;
 
     /** Whether there are at least three points, and no zero turn: `simplify` has nothing to remove. */
     isSimple(contour: Points): boolean;
@@ -98,7 +103,7 @@ export interface IShape {
     windingNumber<P extends Points>(contour: P, x: Coordinate<P>, y: Coordinate<P>): number;
 
     /** How often all rings together wind about each of the points `about`, of the type of `points`. */
-    windingNumbers<P extends Points>(points: P, offsets: Offsets, about: P): Int32Array;
+    windingNumbers<P extends Points>(points: P, offsets: Offsets, about: Plain<P>): Int32Array;
 
     /**
      * Twice the area, above 0 where the contour turns left; undefined where there is no point. Any coordinates are

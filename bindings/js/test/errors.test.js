@@ -39,6 +39,8 @@ describeWidths((shapes, { points, number, limit, bits, Points }) => {
             assert.throws(() => call(from, [0, 1, 1, 4]), { name: "UnsafePointError", code: -1, point: 2, ring: 2 });
             assert.throws(() => call(from, [0, 1, 4, 3]), OffsetsError, "offsets are tested first");
             assert.doesNotThrow(() => call(from, [0, 2]), "a point outside the offsets isn't read");
+            from[0] = limit;
+            assert.throws(() => call(from, [1, 4]), { point: 2, ring: 0 }, "nor is one before them");
         });
     }
     for (const name of RINGS_OF_ANY_POINTS) {
@@ -98,6 +100,13 @@ describeWidths((shapes, { points, number, limit, bits, Points }) => {
     test("nothing is held after errors", () => assert.equal(shapes.heldBytes, 0));
 });
 
+/** An array whose buffer another thread has got. */
+function detached() {
+    const points = Int32Array.from(SQUARE);
+    structuredClone(points.buffer, { transfer: [points.buffer] });
+    return points;
+}
+
 describeModules((shapes) => {
     for (const [name, given] of [
         ["an array of numbers", SQUARE],
@@ -108,6 +117,7 @@ describeModules((shapes) => {
         ["a DataView", new DataView(new ArrayBuffer(16))],
         ["null", null],
         ["nothing", undefined],
+        ["of another thread now", detached()],
     ]) {
         test(`points that are ${name}`, () => {
             for (const call of [...ONE, "isSafe", "areaTwo"]) assert.throws(() => shapes[call](given), TypeError, call);

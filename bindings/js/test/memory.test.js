@@ -1,6 +1,7 @@
 import assert from "node:assert/strict";
 import { test } from "node:test";
 import { OutOfMemoryError, load } from "../src/i_shape.js";
+import { borrow } from "../src/memory.js";
 import { limited } from "./support/limited.js";
 import { WIDTHS, bytesOf, describeModules } from "./support/modules.js";
 
@@ -42,6 +43,13 @@ function wrongCallsOf(shapes, { Points, limit, points }) {
         "windingNumbers, offsets": () => shapes.windingNumbers(points(RING), [], points(RING)),
     };
 }
+
+test("an address of 32 bits from 2^31 on comes with a sign", () => {
+    const buffer = new ArrayBuffer(2 ** 31 + 8);
+    const exports = { memory: { buffer }, i_shape_take: () => -(2 ** 31), i_shape_give() {} };
+    borrow(exports, (loan) => loan.copy(Int32Array.of(7, 9), { Points: Int32Array }));
+    assert.deepEqual(new Int32Array(buffer, 2 ** 31), Int32Array.of(7, 9));
+});
 
 describeModules((shapes, bits) => {
     for (const width of WIDTHS) {

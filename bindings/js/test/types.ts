@@ -1,6 +1,10 @@
 /** What i_shape.d.ts lets through, and what it refuses; compiled by tsc, and not run. */
 import { IShapeError, OffsetsError, UnsafePointError, load, supportsMemory64, type IShape, type Polygons, type Rings } from "../src/i_shape.js";
 
+class Own extends Int32Array {
+    readonly owner = "a class of the caller's";
+}
+
 async function contours(): Promise<void> {
     const shapes: IShape = await load(fetch(supportsMemory64() ? "i_shape64.wasm" : "i_shape32.wasm"));
     const narrow: Int16Array = shapes.simplify(Int16Array.of(0, 0));
@@ -17,7 +21,10 @@ async function contours(): Promise<void> {
     shapes.contains(wide, 1, 1);
     // @ts-expect-error: the answer has the width of what is given
     const other: Int32Array = shapes.simplify(wide);
-    console.log(other);
+    const plain: Int32Array = shapes.simplify(new Own(2));
+    // @ts-expect-error: the answer is of no class below the one of its width
+    const own: Own = shapes.simplify(new Own(2));
+    console.log(other, plain, own);
 }
 
 async function rings(shapes: IShape): Promise<void> {
@@ -27,7 +34,7 @@ async function rings(shapes: IShape): Promise<void> {
     const simplified: Rings<Int32Array> = shapes.simplifyRings(points, [0, 1]);
     const left: Rings<Int32Array> = shapes.canonicalUnorientedRings(simplified.points, simplified.offsets);
     const polygons: Polygons<Int32Array> = shapes.canonicalPolygons(left.points, left.offsets, BigInt64Array.of(0n, 1n));
-    const windings: Int32Array = shapes.windingNumbers(points, Uint32Array.of(0, 1), polygons.points);
+    const windings: Int32Array = shapes.windingNumbers(new Own(2), Uint32Array.of(0, 1), polygons.points);
     console.log(told, areas, windings);
     // @ts-expect-error: points of two widths
     shapes.windingNumbers(points, [0, 1], Int16Array.of(0, 0));

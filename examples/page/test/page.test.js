@@ -10,6 +10,7 @@ import path from "node:path";
 import { after, before, describe, test } from "node:test";
 import { fileURLToPath } from "node:url";
 import { Browser, hasChromium, serve } from "../../../bindings/js/test/support/chromium.js";
+import { frameOf } from "../board.js";
 
 const HERE = path.dirname(fileURLToPath(import.meta.url));
 const SCREENSHOTS = process.env.I_SHAPE_SCREENSHOTS;
@@ -76,6 +77,31 @@ function check(name, run) {
     test(name, { skip }, run);
 }
 
+describe("the step of the grid", () => {
+    for (const [name, ring, step] of [
+        ["no point", [], 1],
+        ["a small polygon about 0", [[0, 0], [12, 8]], 1],
+        ["a small polygon far away", [[1000, 1000], [1002, 1001]], 1],
+        ["a polygon as wide as the lines are many", [[1000, 1000], [1025, 1000]], 1],
+        ["a wider one", [[1000, 1000], [1026, 1000]], 10],
+    ]) {
+        test(name, () => assert.equal(frameOf([[ring]]).step, step));
+    }
+});
+
+/** Opens a browser at a file server for what `run` does with the page, and closes both. */
+async function visit(folder, takes, run) {
+    const { server, url } = await serve(folder, takes);
+    const browser = await Browser.open();
+    try {
+        await browser.goTo(url);
+        await run(browser, new Page(browser));
+    } finally {
+        await browser.close();
+        server.close();
+    }
+}
+
 describe("the page", () => {
     let folder;
     let served;
@@ -89,6 +115,42 @@ describe("the page", () => {
         if (skip) return;
         served.server.close();
         rmSync(folder, { recursive: true });
+    });
+
+    check("a module that isn't there is told", () => {
+        const takes = (request, response) => request.url.endsWith(".wasm") && response.writeHead(404).end();
+        return visit(folder, takes, async (browser) => {
+            await browser.until("document.getElementById('problem')?.textContent.endsWith('.wasm: 404 Not Found')");
+            await browser.close(); // and another time, when it has ended
+        });
+    });
+
+    check("a coastline that comes too late isn't shown, and one that failed is asked for again", () => {
+        let hold;
+        let hasFailed = false;
+        const late = new Promise((done) => (hold = done));
+        const takes = ({ url }, response) => {
+            if (url.endsWith("ruegen.txt")) return hold(response) ?? true;
+            if (!url.endsWith("hvar.txt") || hasFailed) return false;
+            hasFailed = true;
+            return response.writeHead(404).end();
+        };
+        return visit(folder, takes, async (browser, page) => {
+            const choose = (island) => browser.read(`(() => {
+                const list = document.getElementById("island");
+                list.value = ${JSON.stringify(island)};
+                list.dispatchEvent(new Event("input"));
+            })()`);
+            await browser.until("document.body?.dataset.ready === 'yes'");
+            await choose("hvar");
+            await browser.until("document.getElementById('problem').textContent.endsWith('hvar.txt: 404 Not Found')");
+            await choose("ruegen");
+            await choose("hvar");
+            await browser.until("document.getElementById('coast-given').textContent === '28 points'");
+            (await late).end("0 0 4000 0 4000 4000");
+            await browser.until("performance.getEntriesByName(new URL('coastlines/ruegen.txt', location).href).length === 1");
+            await page.texts({ "coast-given": "28 points" });
+        });
     });
 
     for (const { name, bits, ...kind } of BROWSERS) {
@@ -167,8 +229,8 @@ describe("the page", () => {
                 await browser.move(...(await page.placeOf([2, 3])));
                 await page.texts({ winding: "0", filled: "by no rule" });
                 await browser.read("document.getElementById('board').focus()");
-                await page.press("Escape");
-                await page.texts({ given: "0 points in 0 rings" });
+                await page.press("Escape", "N", "Enter");
+                await page.texts({ given: "8 points in 3 rings" });
             });
 
             check("a contour that turns right, twice round", async () => {
@@ -191,6 +253,13 @@ describe("the page", () => {
                     await page.texts({ ...wanted, problem: "" });
                 });
             }
+
+            check("a point is put beside polygons that end where coordinates do", async () => {
+                await page.paste("text", "1073741823 0 0 1073741823 -1073741823 0");
+                await browser.clickOn("read");
+                await page.put([1150000000, 0]);
+                await page.texts({ given: "4 points in 1 ring", cursor: "(1073741823, 0)", problem: "" });
+            });
 
             check("what is left is written", async () => {
                 await page.paste("text", "0 0 2 0 4 0 4 4 0 4\n1 1 1 2 2 1");
@@ -240,6 +309,7 @@ describe("the page", () => {
                 await browser.read("document.getElementById('grid').focus()");
                 await page.press("End");
                 await browser.until("document.getElementById('coast-grid').textContent === '3000'");
+                assert.equal(await browser.read("document.getElementById('grid').getAttribute('aria-valuetext')"), "3000");
                 await browser.read("document.getElementById('island').focus()");
                 await page.press("ArrowDown");
                 await browser.until("document.getElementById('coast-given').textContent === '28 points'");

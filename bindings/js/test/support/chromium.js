@@ -38,6 +38,7 @@ const KEY_CODES = { ArrowLeft: 37, ArrowUp: 38, ArrowRight: 39, ArrowDown: 40, B
 /** One page of a browser of its own. */
 export class Browser {
     #process;
+    #ended;
     #home = mkdtempSync(path.join(os.tmpdir(), "chromium-"));
     #waiting = new Map();
     #session;
@@ -67,7 +68,9 @@ export class Browser {
         const stdio = ["ignore", "ignore", "ignore", "pipe", "pipe"];
         this.#process = spawn("chromium", words, { stdio });
         this.#process.stdio[4].on("data", (data) => this.#hear(data));
-        this.#process.once("exit", () => {
+        this.#process.stdio[3].on("error", () => {}); // it has ended
+        this.#ended = new Promise((done) => this.#process.once("exit", done));
+        this.#ended.then(() => {
             for (const { fail } of this.#waiting.values()) fail(new Error("chromium has ended"));
         });
     }
@@ -159,9 +162,8 @@ export class Browser {
 
     async close() {
         this.#session = undefined;
-        const ended = new Promise((done) => this.#process.once("exit", done));
         this.send("Browser.close").catch(() => {});
-        await ended;
+        await this.#ended;
         rmSync(this.#home, { recursive: true, force: true });
     }
 }

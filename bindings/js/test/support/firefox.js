@@ -57,7 +57,11 @@ export async function readInFirefox(folder, script) {
         return answer;
     } finally {
         clearTimeout(clock);
-        process.kill(-firefox.pid);
+        try {
+            process.kill(-firefox.pid);
+        } catch (error) {
+            if (error.code !== "ESRCH") throw error; // it has ended
+        }
         await ended;
         server.closeAllConnections();
         server.close();
