@@ -80,7 +80,7 @@ def with_whole_clauses(text):
             lines[-1] += f" {line.strip()}"
         else:
             lines.append(line)
-    return "\n".join(lines)
+    return "".join(f"{line}\n" for line in lines)
 
 
 def bare(text):

@@ -24,6 +24,7 @@ ROWS = [
     ("a sample with an import too many", f"```rust\nuse std::fmt::Write;\n{SAMPLE}```\n", "failed"),
     ("a sample without an item", "```rust\nuse i_shape::ShapeError;\n```\n", "failed"),
     ("a clause", f"```text\n{CLAUSE}```\n", "passed"),
+    ("a clause that is broken into lines", "```text\n" + CLAUSE.replace("result ", "result\n    ") + "```\n", "passed"),
     ("a clause that is nowhere", "```text\n" + CLAUSE.replace("memory", "room") + "```\n", "failed"),
     ("a text without clauses", "```text\nanything\n```\n", "passed"),
     ("a function of C that is nowhere", "```c\nint nothing(void) {\n```\n", "failed"),

@@ -32,8 +32,8 @@ static int is_filled(const void *at, size_t size) {
 
 #if defined OWN_ALLOCATOR || defined WRAPPED_MALLOC
 #define REFUSES
-/* The growth of this number is refused; none at 0. */
-static size_t refused, growths, blocks;
+/* The growth of this number is refused; none at 0. asked: how many bytes all growths so far have asked for. */
+static size_t refused, growths, blocks, asked;
 #endif
 
 #ifdef OWN_ALLOCATOR
@@ -52,6 +52,7 @@ struct tried rattle_realloc(void *at, size_t kept, size_t size, size_t align);
 void rattle_dealloc(void *at);
 
 struct tried rattle_alloc(size_t size, size_t align) {
+    asked += size;
     void *at = ++growths == refused ? NULL : malloc(size ? size : align);
     struct tried answer = {at != NULL, at ? at : &nothing};
     if (at) blocks++;
@@ -59,7 +60,7 @@ struct tried rattle_alloc(size_t size, size_t align) {
 }
 
 struct tried rattle_realloc(void *before, size_t kept, size_t size, size_t align) {
-    (void)kept;
+    asked += size - kept;
     void *at = ++growths == refused ? NULL : realloc(before, size ? size : align);
     struct tried answer = {at != NULL, at ? at : &nothing};
     return answer;
@@ -84,12 +85,14 @@ void *__wrap_realloc(void *at, size_t size);
 void __wrap_free(void *at);
 
 void *__wrap_malloc(size_t size) {
+    asked += size;
     void *at = ++growths == refused ? NULL : __real_malloc(size);
     if (at) blocks++;
     return at;
 }
 
 void *__wrap_realloc(void *at, size_t size) {
+    asked += size;
     return ++growths == refused ? NULL : __real_realloc(at, size);
 }
 

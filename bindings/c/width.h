@@ -358,7 +358,40 @@ static void AT(test_refusals)(void) {
     WITH_EACH_GROWTH_REFUSED(CALL(windings)(given, 10, offsets, 3, square, 1, &number, 1), 1, growths == 0, W, "windings");
 }
 
+#ifdef REFUSES
+/* How many bytes the calls ask for: one place for each point of the longest contour, and of polygons three lists of all that is given, and
+   three more where a point is removed. A canonical form of polygons has some for each contour. */
+static void AT(test_sizes)(void) {
+    enum { SQUARES = 64, CORNERS = 5, COUNT = SQUARES * CORNERS };
+    const size_t places = CORNERS * sizeof(size_t), range = 2 * sizeof(size_t), all[2] = {0, SQUARES};
+    const size_t lists = COUNT * sizeof(POINT) + SQUARES * range + range;
+    const POINT square[CORNERS] = {{0, 0}, {4, 0}, {4, 0}, {4, 4}, {0, 4}};
+    POINT given[COUNT], out[COUNT];
+    size_t offsets[SQUARES + 1] = {0}, out_offsets[SQUARES + 1], out_shapes[2];
+    for (int k = 0; k < COUNT; k++) {
+        given[k] = square[k % CORNERS];
+        offsets[k / CORNERS + 1] = (size_t)(k + 1);
+    }
+    for (int k = 0; k < CLEANERS; k++) {
+        asked = 0;
+        check(AT(cleaners)[k](given, CORNERS, out, CORNERS) == 4 && asked == places, W, cleaner_names[k], "how much it asks for");
+        asked = 0;
+        check(AT(batches)[k](given, COUNT, offsets, SQUARES + 1, out, COUNT, out_offsets, SQUARES + 1) == 4 * SQUARES && asked == places, W,
+              cleaner_names[k], "how much it asks for of many contours");
+        asked = 0;
+        check(AT(polygons)[k](given, COUNT, offsets, SQUARES + 1, all, 2, out, COUNT, out_offsets, SQUARES + 1, out_shapes, 2) == 1, W,
+              cleaner_names[k], "64 squares of one polygon");
+        /* No square has a spike, so despike cleans nothing. */
+        const size_t most = is_form(k) ? 4 * lists : strcmp(cleaner_names[k], "simplify") == 0 ? 2 * lists + places : lists;
+        check(is_form(k) ? asked <= most : asked == most, W, cleaner_names[k], "how much it asks for of polygons");
+    }
+}
+#endif
+
 static void AT(test_width)(void) {
+#ifdef REFUSES
+    AT(test_sizes)();
+#endif
     AT(test_one)();
     AT(test_codes)();
     AT(clean_all_rows)();
