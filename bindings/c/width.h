@@ -385,6 +385,17 @@ static void AT(test_sizes)(void) {
         const size_t most = is_form(k) ? 4 * lists : strcmp(cleaner_names[k], "simplify") == 0 ? 2 * lists + places : lists;
         check(is_form(k) ? asked <= most : asked == most, W, cleaner_names[k], "how much it asks for of polygons");
     }
+    /* The square wound 300,000 times, in one contour: each time a point goes. */
+    enum { TURNS = 300000, MANY = TURNS * CORNERS };
+    POINT *const wound = (POINT *)malloc(MANY * sizeof(POINT)), *const left = (POINT *)malloc(MANY * sizeof(POINT));
+    if (!wound || !left) abort();
+    for (int k = 0; k < MANY; k++) wound[k] = square[k % CORNERS];
+    for (int k = 0; k < CLEANERS; k++) {
+        asked = 0;
+        check(AT(cleaners)[k](wound, MANY, left, MANY) == 4 * TURNS && asked == MANY * sizeof(size_t), W, cleaner_names[k], "1,500,000 points");
+    }
+    free(wound);
+    free(left);
 }
 #endif
 
