@@ -1,13 +1,13 @@
 // A library for LD_PRELOAD that refuses one growth of the memory of a proved program, which takes it by malloc and realloc alone.
 // REFUSED_GROWTH in the environment is that growth's number, counted from 1 once the libraries are loaded. The refusal is told
-// on standard error, so that a run without one is known. No header is used, since the kit's clang has none: the C library is
+// on standard error, with how many bytes were asked for, so that a run without one is known. No header is used, since the kit's clang has none: the C library is
 // glibc, in which the functions behind malloc and realloc have the names below.
 
 typedef __SIZE_TYPE__ size_t;
 
 char *getenv(const char *name);
 long strtol(const char *text, char **end, int base);
-long write(int file, const void *bytes, size_t count);
+int dprintf(int file, const char *format, ...);
 void *__libc_malloc(size_t size);
 void *__libc_realloc(void *memory, size_t size);
 
@@ -19,20 +19,19 @@ __attribute__((constructor)) static void read_environment(void) {
     growths_left = number ? strtol(number, 0, 10) : 0;
 }
 
-// Counts a growth, and answers whether it is the one to refuse.
-static _Bool is_refused(void) {
-    static const char line[] = "growth refused\n";
+// Counts a growth to so many bytes, and answers whether it is the one to refuse.
+static _Bool is_refused(size_t size) {
     if (growths_left == 0 || --growths_left > 0) {
         return 0;
     }
-    write(2, line, sizeof line - 1);
+    dprintf(2, "growth refused: %zu\n", size);
     return 1;
 }
 
 void *malloc(size_t size) {
-    return is_refused() ? 0 : __libc_malloc(size);
+    return is_refused(size) ? 0 : __libc_malloc(size);
 }
 
 void *realloc(void *memory, size_t size) {
-    return is_refused() ? 0 : __libc_realloc(memory, size);
+    return is_refused(size) ? 0 : __libc_realloc(memory, size);
 }

@@ -610,6 +610,24 @@ fn cleaned_contours_stand_end_to_end(rt: HostRuntime) -> Result<(), Fail> {
     Ok(())
 }
 
+#[test]
+fn a_buffer_of_ten_thousand_contours_is_cleaned(rt: HostRuntime) -> Result<(), Fail> {
+    let alloc = rt.alloc();
+    let [a, b, c, d] = [
+        IntPoint::<i32>::new(0, 0),
+        IntPoint::new(1, 0),
+        IntPoint::new(2, 0),
+        IntPoint::new(0, 2),
+    ];
+    let mut given = FlatContoursBuffer::new(alloc);
+    let mut kept = FlatContoursBuffer::new(alloc);
+    for _ in 0..10_000 {
+        given.add_contour([a, b, c, d].as_slice())?;
+        kept.add_contour([a, c, d].as_slice())?;
+    }
+    cleans(&rt, alloc, "ten thousand triangles", given, true, kept)
+}
+
 /// A triangle with a straight point is cleaned, as points of one width.
 fn cleans_at_width<I: IntNumber>(
     rt: &impl Abort,
