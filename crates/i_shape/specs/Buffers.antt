@@ -1,4 +1,4 @@
--- What flat buffers hold and name, and what cleaning inside them leaves.
+-- What flat buffers hold and name, and what room they have.
 use Rattle.std.specs.Prelude.{◌≡◌, ℕ, List, [], ◌∷◌, length, ◌+◌, ◌++◌, ◌-◌, ◌≤◌, ℤ, map, vec_capacity}
 use Rattle.std.specs.List.{All, sum_by}
 use Rattle.std.specs.declared.ops.Range.{Range}
@@ -26,6 +26,10 @@ pub record SameLists {T : Type 0} (old new : FlatContoursBuffer T) : Type 0 wher
 -- there is room for so many points and contours in all
 abbrev pub HasRoom : {T : Type 0} → FlatContoursBuffer T → ℕ → ℕ → Type 0
 HasRoom buffer points contours = (points ≤ vec_capacity buffer.points) × (contours ≤ vec_capacity buffer.ranges)
+
+-- the new buffer has room for all that the old one had room for
+abbrev pub KeepsRoom : {T : Type 0} → FlatContoursBuffer T → FlatContoursBuffer T → Type 0
+KeepsRoom old new = HasRoom new (vec_capacity old.points) (vec_capacity old.ranges)
 
 -- there is no range, or the first can be read
 abbrev pub CanReadFirst : List (Range ℕ) → ℕ → Type 0
@@ -69,6 +73,10 @@ pub record SameShapeLists {T : Type 0} (old new : FlatShapesBuffer T) : Type 0 w
 abbrev pub HasShapesRoom : {T : Type 0} → FlatShapesBuffer T → ℕ → ℕ → ℕ → Type 0
 HasShapesRoom buffer points contours shapes =
     (points ≤ vec_capacity buffer.points) × (contours ≤ vec_capacity buffer.contour_ranges) × (shapes ≤ vec_capacity buffer.shape_ranges)
+
+-- the new buffer has room for all that the old one had room for
+abbrev pub KeepsShapesRoom : {T : Type 0} → FlatShapesBuffer T → FlatShapesBuffer T → Type 0
+KeepsShapesRoom old new = HasShapesRoom new (vec_capacity old.points) (vec_capacity old.contour_ranges) (vec_capacity old.shape_ranges)
 
 -- the new buffer is the old one with one shape more at the end
 pub record AddsShape {T : Type 0} (old new : FlatShapesBuffer T) (shape : List (List (IntPoint T))) : Type 0 where

@@ -27,6 +27,7 @@ pub fn reserve_total<T>(list: &mut Vec<T>, total: usize) -> Result<(), ShapeErro
     ensures len { vec_len list.new ≡ vec_len list.old }
     ensures room { OnOk result (total ≤ vec_capacity list.new) }
     ensures reserved { total ≤ vec_capacity list.old → IsOk result }
+    ensures capacity { vec_capacity list.old ≤ vec_capacity list.new }
     ensures memory { IsOkUnless result ShapeError.OutOfMemory }
 {
     let additional = total.saturating_sub(list.len());
@@ -122,6 +123,8 @@ pub fn append_all_contours<P: Copy>(
         ++ concatenated (paths_of_shapes shapes.now) }
     ensures ranges { ranges.new.items ≡ ranges.old.items
         ++ end_to_end (vec_len points.old) (paths_of_shapes shapes.now) }
+    ensures points_capacity { vec_capacity points.old ≤ vec_capacity points.new }
+    ensures ranges_capacity { vec_capacity ranges.old ≤ vec_capacity ranges.new }
 {
     for shape in shapes {
         append_contours(points, ranges, shape.as_slice());
@@ -210,6 +213,9 @@ pub fn append_shapes<P: Copy>(
         ++ end_to_end (vec_len points.old) (paths_of_shapes shapes.now) }
     ensures shape_ranges { shape_ranges.new.items ≡ shape_ranges.old.items
         ++ end_to_end (vec_len contour_ranges.old) (shape_lists shapes.now) }
+    ensures points_capacity { vec_capacity points.old ≤ vec_capacity points.new }
+    ensures contours_capacity { vec_capacity contour_ranges.old ≤ vec_capacity contour_ranges.new }
+    ensures shapes_capacity { vec_capacity shape_ranges.old ≤ vec_capacity shape_ranges.new }
 {
     for shape in shapes {
         append_shape(points, contour_ranges, shape_ranges, shape.as_slice());

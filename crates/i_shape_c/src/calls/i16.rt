@@ -84,7 +84,7 @@ pub extern "C" fn i_shape_canonical_unoriented_i16(
     clean_contour::<PointI16, UnorientedCanonicalizer>(alloc, points, out)
 }
 
-/// Each contour as `i_shape_simplify_i16` leaves it, one that collapses empty. Answers how many points are written.
+/// For each contour an answer of `i_shape_simplify_i16`, empty where it collapses. Answers how many points are written, or a code below 0.
 #[unsafe(no_mangle)]
 pub extern "C" fn i_shape_simplify_contours_i16(
     alloc: Global,
@@ -100,7 +100,7 @@ pub extern "C" fn i_shape_simplify_contours_i16(
     clean_contours::<PointI16, ContourSimplifier>(alloc, points, offsets, out_points, out_offsets)
 }
 
-/// Each contour as `i_shape_despike_i16` leaves it, one that collapses empty. Answers how many points are written.
+/// For each contour an answer of `i_shape_despike_i16`, empty where it collapses. Answers how many points are written, or a code below 0.
 #[unsafe(no_mangle)]
 pub extern "C" fn i_shape_despike_contours_i16(
     alloc: Global,
@@ -116,7 +116,7 @@ pub extern "C" fn i_shape_despike_contours_i16(
     clean_contours::<PointI16, ContourDeSpiker>(alloc, points, offsets, out_points, out_offsets)
 }
 
-/// Each contour as `i_shape_canonical_i16` leaves it, one that collapses empty. Answers how many points are written.
+/// For each contour an answer of `i_shape_canonical_i16`, empty where it collapses. Answers how many points are written, or a code below 0.
 #[unsafe(no_mangle)]
 pub extern "C" fn i_shape_canonical_contours_i16(
     alloc: Global,
@@ -132,7 +132,7 @@ pub extern "C" fn i_shape_canonical_contours_i16(
     clean_contours::<PointI16, Canonicalizer>(alloc, points, offsets, out_points, out_offsets)
 }
 
-/// Each contour as `i_shape_canonical_unoriented_i16` leaves it, one that collapses empty. Answers how many points are written.
+/// For each contour an answer of `i_shape_canonical_unoriented_i16`, empty where it collapses. Answers how many points are written, or a code below 0.
 #[unsafe(no_mangle)]
 pub extern "C" fn i_shape_canonical_unoriented_contours_i16(
     alloc: Global,
@@ -154,7 +154,7 @@ pub extern "C" fn i_shape_canonical_unoriented_contours_i16(
     )
 }
 
-/// The polygons without zero turns, without the holes that collapse and the polygons whose outer contour does. Answers how many polygons are left.
+/// The polygons without zero turns, without the holes that collapse and the polygons whose outer contour does. Answers how many polygons are left, or a code below 0.
 #[unsafe(no_mangle)]
 pub extern "C" fn i_shape_simplify_shapes_i16(
     alloc: Global,
@@ -180,7 +180,7 @@ pub extern "C" fn i_shape_simplify_shapes_i16(
     )
 }
 
-/// The same without spikes. Answers how many polygons are left.
+/// The same without spikes. Answers how many polygons are left, or a code below 0.
 #[unsafe(no_mangle)]
 pub extern "C" fn i_shape_despike_shapes_i16(
     alloc: Global,
@@ -206,7 +206,7 @@ pub extern "C" fn i_shape_despike_shapes_i16(
     )
 }
 
-/// The canonical form of the polygons. Answers how many polygons are left.
+/// The canonical form of the polygons. Answers how many polygons are left, or a code below 0.
 #[unsafe(no_mangle)]
 pub extern "C" fn i_shape_canonical_shapes_i16(
     alloc: Global,
@@ -232,7 +232,7 @@ pub extern "C" fn i_shape_canonical_shapes_i16(
     )
 }
 
-/// The canonical form of the polygons where each contour may be read backwards too. Answers how many polygons are left.
+/// The canonical form of the polygons where each contour may be read backwards too. Answers how many polygons are left, or a code below 0.
 #[unsafe(no_mangle)]
 pub extern "C" fn i_shape_canonical_unoriented_shapes_i16(
     alloc: Global,

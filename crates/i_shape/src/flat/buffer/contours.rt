@@ -4,7 +4,7 @@ ghost use Rattle.std.specs.Prelude.{◌≡◌, ◌+◌, ◌<◌, ◌≤◌, ◌+
 ghost use Rattle.std.specs.Borrow.{sem};
 ghost use Rattle.i_shape_source.specs.Paths.{paths_of_shape, concatenated, paths_of_shapes};
 ghost use Rattle.i_shape.specs.Flat.{InOrder, part_of, slices};
-ghost use Rattle.i_shape.specs.Buffers.{HoldsContours, SameLists, CanReadFirst, first_contour, CanReadContours, HasRoom};
+ghost use Rattle.i_shape.specs.Buffers.{HoldsContours, SameLists, CanReadFirst, first_contour, CanReadContours, HasRoom, KeepsRoom};
 ghost use Rattle.i_shape.specs.Lending.{LendsFirst, first_start};
 
 use crate::ShapeError;
@@ -106,6 +106,7 @@ impl<T: IntNumber> FlatContoursBuffer<T> {
         ensures err { OnErr result (SameLists self.old self.new) }
         ensures room { OnOk result (HasRoom self.new points contours) }
         ensures reserved { HasRoom self.old points contours → IsOk result }
+        ensures keeps_room { KeepsRoom self.old self.new }
         ensures memory { IsOkUnless result ShapeError.OutOfMemory }
     {
         reserve_total(&mut self.points, points)?;
@@ -120,6 +121,7 @@ impl<T: IntNumber> FlatContoursBuffer<T> {
         ensures ok { OnOk result (HoldsContours self.new (contour.now ∷ [])) }
         ensures err { OnErr result (SameLists self.old self.new) }
         ensures reserved { HasRoom self.old (length contour.now) 1 → IsOk result }
+        ensures keeps_room { KeepsRoom self.old self.new }
         ensures memory { IsOkUnless result ShapeError.OutOfMemory }
     {
         self.clear_and_reserve(contour.len(), 1)?;
@@ -136,6 +138,7 @@ impl<T: IntNumber> FlatContoursBuffer<T> {
             ↔ (usize.MAX < length (concatenated (paths_of_shape shape.now))) }
         ensures reserved { HasRoom self.old (length (concatenated (paths_of_shape shape.now)))
             (length shape.now) → IsOk result }
+        ensures keeps_room { KeepsRoom self.old self.new }
     {
         let count = checked_points_count(shape).ok_or(ShapeError::TooManyPoints)?;
         self.clear_and_reserve(count, shape.len())?;
@@ -153,6 +156,7 @@ impl<T: IntNumber> FlatContoursBuffer<T> {
             ⊎ (usize.MAX < length (paths_of_shapes shapes.now))) }
         ensures reserved { HasRoom self.old (length (concatenated (paths_of_shapes shapes.now)))
             (length (paths_of_shapes shapes.now)) → IsOk result }
+        ensures keeps_room { KeepsRoom self.old self.new }
     {
         let counts = checked_counts(shapes).ok_or(ShapeError::TooManyPoints)?;
         self.clear_and_reserve(counts.points, counts.contours)?;
@@ -173,6 +177,7 @@ impl<T: IntNumber> FlatContoursBuffer<T> {
             ↔ (usize.MAX < vec_len self.old.points + length contour.now) }
         ensures reserved { HasRoom self.old (vec_len self.old.points + length contour.now)
             (vec_len self.old.ranges + 1) → IsOk result }
+        ensures keeps_room { KeepsRoom self.old self.new }
     {
         if contour.len() > usize::MAX - self.points.len() {
             return Err(ShapeError::TooManyPoints);

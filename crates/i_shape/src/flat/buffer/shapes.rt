@@ -4,7 +4,7 @@ ghost use Rattle.std.specs.Prelude.{◌≡◌, ◌+◌, ◌<◌, ◌∷◌, ◌�
 ghost use Rattle.std.specs.List.{All};
 ghost use Rattle.i_shape_source.specs.Paths.{paths_of_shape, shape_lists, concatenated, paths_of_shapes};
 ghost use Rattle.i_shape.specs.Flat.{InOrder, slices, shapes};
-ghost use Rattle.i_shape.specs.Buffers.{HoldsShapes, SameShapeLists, AddsShape, CanReadShapes, shapes_in, HasShapesRoom};
+ghost use Rattle.i_shape.specs.Buffers.{HoldsShapes, SameShapeLists, AddsShape, CanReadShapes, shapes_in, HasShapesRoom, KeepsShapesRoom};
 
 use crate::ShapeError;
 use crate::flat::lists::{
@@ -114,6 +114,7 @@ impl<T: IntNumber> FlatShapesBuffer<T> {
         ensures err { OnErr result (SameShapeLists self.old self.new) }
         ensures room { OnOk result (HasShapesRoom self.new points contours shapes) }
         ensures reserved { HasShapesRoom self.old points contours shapes → IsOk result }
+        ensures keeps_room { KeepsShapesRoom self.old self.new }
         ensures memory { IsOkUnless result ShapeError.OutOfMemory }
     {
         reserve_total(&mut self.points, points)?;
@@ -131,6 +132,7 @@ impl<T: IntNumber> FlatShapesBuffer<T> {
         ensures ok { OnOk result (HoldsShapes self.new ((contour.now ∷ []) ∷ [])) }
         ensures err { OnErr result (SameShapeLists self.old self.new) }
         ensures reserved { HasShapesRoom self.old (length contour.now) 1 1 → IsOk result }
+        ensures keeps_room { KeepsShapesRoom self.old self.new }
         ensures memory { IsOkUnless result ShapeError.OutOfMemory }
     {
         self.clear_and_reserve(contour.len(), 1, 1)?;
@@ -148,6 +150,7 @@ impl<T: IntNumber> FlatShapesBuffer<T> {
             ↔ (usize.MAX < length (concatenated (paths_of_shape shape.now))) }
         ensures reserved { HasShapesRoom self.old (length (concatenated (paths_of_shape shape.now)))
             (length shape.now) 1 → IsOk result }
+        ensures keeps_room { KeepsShapesRoom self.old self.new }
     {
         let count = checked_points_count(shape).ok_or(ShapeError::TooManyPoints)?;
         self.clear_and_reserve(count, shape.len(), 1)?;
@@ -171,6 +174,7 @@ impl<T: IntNumber> FlatShapesBuffer<T> {
         ensures reserved { HasShapesRoom self.old
             (length (concatenated (paths_of_shapes shapes.now)))
             (length (paths_of_shapes shapes.now)) (length shapes.now) → IsOk result }
+        ensures keeps_room { KeepsShapesRoom self.old self.new }
     {
         let counts = checked_counts(shapes).ok_or(ShapeError::TooManyPoints)?;
         self.clear_and_reserve(counts.points, counts.contours, shapes.len())?;
@@ -196,6 +200,7 @@ impl<T: IntNumber> FlatShapesBuffer<T> {
             (vec_len self.old.points + length (concatenated (paths_of_shape shape.now)))
             (vec_len self.old.contour_ranges + length shape.now)
             (vec_len self.old.shape_ranges + 1) → IsOk result }
+        ensures keeps_room { KeepsShapesRoom self.old self.new }
     {
         let count = checked_points_count(shape).ok_or(ShapeError::TooManyPoints)?;
         if count > usize::MAX - self.points.len()
