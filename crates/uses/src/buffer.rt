@@ -42,7 +42,8 @@ pub fn set_contour<I: IntNumber>(
     buffer: &mut FlatContoursBuffer<I>,
     contour: &[IntPoint<I>],
 ) -> Result<bool, Refusal>
-    ensures range { IsErrOf result Refusal.OutOfRange ↔ (IsSafeContour I.width (contour_of I.value contour.now) → ⊥) }
+    ensures range { IsErrOf result Refusal.OutOfRange
+        ↔ (IsSafeContour I.width (contour_of I.value contour.now) → ⊥) }
     ensures untouched { IsErrOf result Refusal.OutOfRange → buffer.new ≡ buffer.old }
     ensures compact { OnOk result
         (Compact (contour_of I.value contour.now ∷ []) (contours_in I.value buffer.new)) }
@@ -60,7 +61,8 @@ pub fn set_shape<I: IntNumber>(
     buffer: &mut FlatContoursBuffer<I>,
     shape: &[IntContour<I>],
 ) -> Result<bool, Refusal>
-    ensures range { IsErrOf result Refusal.OutOfRange ↔ (IsSafeShape I.width (shape_of I.value shape.now) → ⊥) }
+    ensures range { IsErrOf result Refusal.OutOfRange
+        ↔ (IsSafeShape I.width (shape_of I.value shape.now) → ⊥) }
     ensures untouched { IsErrOf result Refusal.OutOfRange → buffer.new ≡ buffer.old }
     ensures compact { OnOk result
         (Compact (shape_of I.value shape.now) (contours_in I.value buffer.new)) }
@@ -78,7 +80,8 @@ pub fn set_shape_vector<I: IntNumber>(
     buffer: &mut FlatContoursBuffer<I>,
     shape: &IntShape<I>,
 ) -> Result<bool, Refusal>
-    ensures range { IsErrOf result Refusal.OutOfRange ↔ (IsSafeShape I.width (shape_of I.value shape.now.items) → ⊥) }
+    ensures range { IsErrOf result Refusal.OutOfRange
+        ↔ (IsSafeShape I.width (shape_of I.value shape.now.items) → ⊥) }
     ensures untouched { IsErrOf result Refusal.OutOfRange → buffer.new ≡ buffer.old }
     ensures compact { OnOk result
         (Compact (shape_of I.value shape.now.items) (contours_in I.value buffer.new)) }
@@ -96,7 +99,8 @@ pub fn set_shapes<I: IntNumber>(
     buffer: &mut FlatContoursBuffer<I>,
     shapes: &[IntShape<I>],
 ) -> Result<bool, Refusal>
-    ensures range { IsErrOf result Refusal.OutOfRange ↔ (IsSafeList I.width (shapes_of I.value shapes.now) → ⊥) }
+    ensures range { IsErrOf result Refusal.OutOfRange
+        ↔ (IsSafeList I.width (shapes_of I.value shapes.now) → ⊥) }
     ensures untouched { IsErrOf result Refusal.OutOfRange → buffer.new ≡ buffer.old }
     ensures compact { OnOk result
         (Compact (concatenated (shapes_of I.value shapes.now)) (contours_in I.value buffer.new)) }

@@ -25,7 +25,8 @@ use std::alloc::Global;
 
 /// Twice the area of a contour, told by its copy without zero turns. `None` where the contour collapses.
 pub fn cleaned_area(alloc: Global, contour: &[IntPoint<i64>]) -> Result<Option<i128>, Refusal>
-    ensures none { IfOk result (λ r. (r ≡ None) ↔ EachEndCollapses (contour_of (λ z. z) contour.now)) }
+    ensures none { IfOk result (λ r. (r ≡ None)
+        ↔ EachEndCollapses (contour_of (λ z. z) contour.now)) }
     ensures area { IfOk result
         (λ r. IfSome r
         (λ area. area ≡ int_wrap w128 (shoelace (contour_of (λ z. z) contour.now)))) }
