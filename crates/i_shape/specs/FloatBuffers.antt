@@ -15,27 +15,27 @@ is_readable n range = nat_le range.start range.end && nat_le range.end n
 abbrev pub readable_slices : {P : Type 0} → List P → List (Range ℕ) → List (List P)
 readable_slices points ranges = slices points (filter (is_readable (length points)) ranges)
 
--- the contours form has these points and these ranges
+-- the buffer of contours has these points and these ranges
 pub record HasLists {P : Type 0} (buffer : FloatFlatContoursBuffer P) (held : List P) (named : List (Range ℕ)) : Type 0 where
   pub points : buffer.points.items ≡ held
   pub ranges : buffer.ranges.items ≡ named
 
--- the shapes form has these points, these contour ranges and these shape ranges
+-- the buffer of shapes has these points, these contour ranges and these shape ranges
 pub record HasShapeLists {P : Type 0} (buffer : FloatFlatShapesBuffer P) (held : List P) (named grouped : List (Range ℕ)) : Type 0 where
   pub points : buffer.points.items ≡ held
   pub contour_ranges : buffer.contour_ranges.items ≡ named
   pub shape_ranges : buffer.shape_ranges.items ≡ grouped
 
--- the contours form has room for so many points and contours in all
+-- the buffer of contours has room for so many points and contours in all
 abbrev pub HasListsRoom : {P : Type 0} → FloatFlatContoursBuffer P → ℕ → ℕ → Type 0
 HasListsRoom buffer points contours = (points ≤ vec_capacity buffer.points) × (contours ≤ vec_capacity buffer.ranges)
 
--- the shapes form has room for so many points, contours and shapes in all
+-- the buffer of shapes has room for so many points, contours and shapes in all
 abbrev pub HasGroupsRoom : {P : Type 0} → FloatFlatShapesBuffer P → ℕ → ℕ → ℕ → Type 0
 HasGroupsRoom buffer points contours shapes =
     (points ≤ vec_capacity buffer.points) × (contours ≤ vec_capacity buffer.contour_ranges) × (shapes ≤ vec_capacity buffer.shape_ranges)
 
--- the two shapes forms have the same points and the same ranges
+-- the two buffers of shapes have the same points and the same ranges
 abbrev pub SameGroups : {P : Type 0} → FloatFlatShapesBuffer P → FloatFlatShapesBuffer P → Type 0
 SameGroups old new = HasShapeLists new old.points.items old.contour_ranges.items old.shape_ranges.items
 

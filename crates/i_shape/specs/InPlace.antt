@@ -22,7 +22,7 @@ pub record CleansInPlace {X : Type 0} (Passes : X → Type 0) (Cleans : X → X 
   -- after a refusal it is as it was, and only memory is refused
   pub refused : (e : ShapeError) → r ≡ Err e → (e ≡ OutOfMemory) × (new ≡ old)
 
--- a contour is cleaned in place; it keeps its double area and the points inside, whatever the call answered
+-- a contour is cleaned in place; it bounds the same (IsKept), whatever the call answered
 pub record CleansContour (Passes : List Point → Type 0) (Answer : List Point → Option (List Point) → Type 0) (old new : List Point) (r : Result Bool ShapeError) : Type 0 where
   pub cleans : CleansInPlace Passes (Leaves Answer) old new r
   pub kept : IsKept old new
@@ -35,7 +35,7 @@ pub record DespikesContour (old new : List Point) (r : Result Bool ShapeError) :
   -- a second call finds the contour clean exactly where it isn't empty
   pub again : (b : Bool) → r ≡ Ok b → NoSpikes new ↔ (0 < length new)
 
--- a shape is cleaned in place; it keeps its double area and the points inside where a contour is left
+-- a shape is cleaned in place; where a contour is left its contours together keep what AreKept says
 pub record CleansShape (Passes : List Point → Type 0) (Answer : List Point → Option (List Point) → Type 0) (old new : List (List Point)) (r : Result Bool ShapeError) : Type 0 where
   pub cleans : CleansInPlace (EachContour Passes) (Leaves (ShapeClean Answer)) old new r
   pub kept : 0 < length new → AreKept old new

@@ -9,10 +9,10 @@ pub const UNFIT: isize = -2;
 /// Memory was refused.
 pub const NO_MEMORY: isize = -3;
 
-/// `UNSAFE` as a test answers it.
+/// `UNSAFE` as a test answers it, and the winding numbers of many points.
 pub const UNSAFE_TEST: i32 = -1;
 
-/// `UNFIT` as the winding numbers of many points answer it.
+/// `UNFIT` as the winding numbers, tests and areas of many answer it.
 pub const UNFIT_TEST: i32 = -2;
 
 /// Of a winding number: a point isn't safe.

@@ -146,7 +146,9 @@ impl ContourMeasure<PointI64> for DoubleArea {
     }
 }
 
-/// Writes what is told of each contour to the front of `out`. Answers 0, or a code below 0.
+/// Writes the measure of each contour, in order, to the front of `out`, and answers 0. Answers `UNFIT_TEST` where the offsets don't
+/// part the points or `out` is too short, and else `UNSAFE_TEST` where the measure doesn't admit a point between the first offset and the
+/// last; then `out` is as it was.
 pub fn measure_contours<P: CPoint, M: ContourMeasure<P>>(
     points: &[P],
     offsets: &[usize],

@@ -22,10 +22,11 @@ abbrev pub SimpleAnswer : List Point → Option (List Point) → Type 0
 SimpleAnswer c None = EachEndCollapses c
 SimpleAnswer c (Some e) = IsOneEnd c e
 
--- c and e have the same double area and the same points inside, and wind equally often about each point, also where both are scaled by any n; for n above 0, c winds about the point of rational coordinates p.x / n and p.y / n as often as c scaled by n winds about p
+-- c and e bound the same: they have the same double area, the same points inside, and wind equally often about each point
 pub record IsKept (c e : List Point) : Type 0 where
   pub area : shoelace e ≡ shoelace c
   pub inside : (p : Point) → Inside e p ↔ Inside c p
+  -- so do both scaled by any n: for n above 0 they wind equally often about the point of rational coordinates p.x / n and p.y / n
   pub between : (n : ℤ) (p : Point) → winding (moved (scaling n) e) p ≡ winding (moved (scaling n) c) p
   pub winding : (p : Point) → winding e p ≡ winding c p
 

@@ -86,7 +86,7 @@ impl Ring {
         self.places[self.ahead]
     }
 
-    /// The place after the walk's.
+    /// The place after the walk's, of a ring of at least two places.
     pub fn after(&self) -> usize
         requires { 1 < length self.now.places }
         ensures { result ≡ slice_index self.now.places 1 }

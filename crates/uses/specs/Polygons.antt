@@ -11,7 +11,7 @@ use Rattle.uses.specs.declared.store.Insertion.TheVariants.{New, Known, Collapse
 abbrev pub AreOwnForms : List (List (List Point)) → Type 0
 AreOwnForms forms = All (λ form. ShapeForm CanonicalAnswer form (Some form)) forms
 
--- the outer contours are joined, and the holes that don't collapse are, one to one
+-- the outer contours are joined, and the holes that don't collapse are joined one to one; a polygon without contours is the same only as another such
 abbrev pub SamePolygon : List (List Point) → List (List Point) → Type 0
 SamePolygon s t = SameShape (Joined IsZeroTurn) s t
 

@@ -1,4 +1,4 @@
-//! The same at one width.
+//! Calls of `contour`, `shape`, `list` and `buffer` at `i64`. They have no clause, and show only that a call is allowed after the test.
 
 use crate::refusal::Refusal;
 use i_shape::flat::buffer::FlatContoursBuffer;
@@ -56,7 +56,7 @@ pub fn simplify_contour(contour: &mut IntContour<i64>) -> Result<bool, Refusal> 
     Ok(contour.simplify_contour()?)
 }
 
-/// Removes spikes from each shape in place.
+/// Removes spikes from each shape in place. Answers whether any had some.
 pub fn despike_shapes(shapes: &mut IntShapes<i64>) -> Result<bool, Refusal> {
     if !shapes.is_in_safe_range() {
         return Err(Refusal::OutOfRange);

@@ -37,7 +37,7 @@ pub fn simplify<I: IntNumber>(buffer: &mut FlatContoursBuffer<I>) -> Result<bool
     Ok(buffer.simplify_contours()?)
 }
 
-/// Puts the contour into the buffer, and removes zero turns there.
+/// Puts the contour into the buffer, and removes zero turns there. Answers whether any had to be cleaned.
 pub fn set_contour<I: IntNumber>(
     buffer: &mut FlatContoursBuffer<I>,
     contour: &[IntPoint<I>],
@@ -55,7 +55,7 @@ pub fn set_contour<I: IntNumber>(
     Ok(buffer.simplify_contours()?)
 }
 
-/// Puts the contours of the shape into the buffer, and removes zero turns there.
+/// Puts the contours of the shape into the buffer, and removes zero turns there. Answers whether any had to be cleaned.
 #[tactic(auto, using(i_shape::proofs::CallerLemmas::contours_held))]
 pub fn set_shape<I: IntNumber>(
     buffer: &mut FlatContoursBuffer<I>,
@@ -93,7 +93,7 @@ pub fn set_shape_vector<I: IntNumber>(
     Ok(buffer.simplify_contours()?)
 }
 
-/// Puts the contours of the shapes into the buffer, and removes zero turns there.
+/// Puts the contours of the shapes into the buffer, and removes zero turns there. Answers whether any had to be cleaned.
 #[tactic(auto, using(i_shape::proofs::CallerLemmas::shapes_held))]
 pub fn set_shapes<I: IntNumber>(
     buffer: &mut FlatContoursBuffer<I>,

@@ -73,7 +73,7 @@ plain_from_bulges c b = (
   λ l r. b.bends.one_way l.0 r.0 l.1.within r.1.within l.1.passes r.1.passes,
 )
 
--- a contour of three points without a reversal that turns to one side bulges
+-- a contour of at least three points bulges where it has no reversal and doesn't turn both left and right
 pub bulges_from_plain : (c : List Point) → 3 ≤ length c → Plain c → Bulges c
 unfolding Has cross_at
 bulges_from_plain c h p = record {

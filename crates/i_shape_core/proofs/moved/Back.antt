@@ -35,7 +35,7 @@ dot_moved m a b c = by_polynomials (numbers_of_move a b c m)
     (times (square_term A B) (dot_term (new_place A) (new_place B) (new_place C)))
     (plus (times (square_term (new_place A) (new_place B)) (dot_term A B C)) (times skew_term (cross_term A B C))) refl
 
--- where it is not above 0 the points are one
+-- two points whose squared distance is at most 0 are the same
 pub no_way : (a p : Point) → distance_squared a p ≤ℤ pos 0 → a ≡ p
 no_way a p h =
     let z = squares_zero (p.x -ℤ a.x) (p.y -ℤ a.y) (let s = squares_not_negative (p.x -ℤ a.x) (p.y -ℤ a.y) in least (distance_squared a p) s h) in

@@ -75,7 +75,7 @@ simple_answer c (Some e) visits w = one_answer c e w.ended w.enough
 pub simple_stays : (c : List Point) → IsSimple c → SimpleAnswer c (Some c)
 simple_stays c s = one_answer c c (record { reached = stay; none_left = s.none }) s.enough
 
--- what it answers keeps double area and containment
+-- what a walk by zero turns answers keeps double area, containment and winding numbers
 pub kept_answer : (c : List Point) (r : Option (List Point)) (visits : ℕ) → WalkAnswer IsZeroTurn c r visits → KeptAnswer c r
 kept_answer c None visits w = collapsed_is_flat c w.rest w.reached w.few
 kept_answer c (Some e) visits w = reach_keeps c e w.ended.reached
@@ -117,7 +117,7 @@ spikeless_answer c (Some d) visits w = record {
         go (inl h) = absurd (omega (arith, w.enough, ((ends_agree c).alike d e w.ended a).1 h))
         go (inr h) = h
 
--- and so does what a walk by back vertices answers
+-- what a walk by back vertices answers keeps double area, containment and winding numbers
 pub kept_spikeless : (c : List Point) (r : Option (List Point)) (visits : ℕ) → WalkAnswer IsBack c r visits → KeptAnswer c r
 kept_spikeless c None visits w = collapsed_is_flat c w.rest (reach_by_weaker back_straightens.weaker w.reached) w.few
 kept_spikeless c (Some d) visits w = reach_keeps c d (reach_by_weaker back_straightens.weaker w.ended.reached)

@@ -180,7 +180,8 @@ impl<P: Copy> FloatFlatShapesBuffer<P> {
         ensures err { OnErr result (SameGroups self.old self.new) }
         ensures too_many { IsErrOf result ShapeError.TooManyPoints
             ↔ (usize.MAX < length self.old.points.items + length contour.now) }
-        ensures reserved { HasGroupsRoom self.old (length self.old.points.items + length contour.now)
+        ensures reserved { HasGroupsRoom self.old
+            (length self.old.points.items + length contour.now)
             (length self.old.contour_ranges.items + 1) (length self.old.shape_ranges.items + 1)
             → IsOk result }
     {
