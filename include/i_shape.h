@@ -100,7 +100,7 @@ int32_t i_shape_is_simple_i32(const i_shape_point_i32 *points, size_t count);
 /* At least three points without those equal to the one before, and the way over them nowhere goes back. */
 int32_t i_shape_has_no_spikes_i32(const i_shape_point_i32 *points, size_t count);
 /* At most two points without those equal to the one before, or the way over them nowhere goes back or bends to both
- * sides. */
+ * sides. A contour that winds round more than once, as a pentagram does, may be one. */
 int32_t i_shape_is_convex_i32(const i_shape_point_i32 *points, size_t count);
 /* An odd number of edges pass the height of (x, y) strictly to the right of it. I_SHAPE_UNSAFE: that point isn't safe
  * either. */
