@@ -15,6 +15,7 @@ from i_shape.io import (_cleaners, _closing, _features, _geojson, _grid,
 
 TOP = Path(__file__).resolve().parents[3]
 PAGE = TOP / "docs" / "PYTHON.md"
+README = TOP / "README.md"
 
 
 class Documents(unittest.TestCase):
@@ -54,14 +55,15 @@ class Documents(unittest.TestCase):
                             its.name in ("oriented", "rule", "threads"),
                             (name, its.name))
 
-    def test_the_examples_of_the_page(self):
-        # A fence would be read as a line of the output before it.
-        text = re.sub("^```.*$", "", PAGE.read_text(), flags=re.MULTILINE)
-        page = doctest.DocTestParser().get_doctest(
-            text, {}, PAGE.name, str(PAGE), 0)
-        faults, count = doctest.DocTestRunner().run(page)
-        self.assertEqual(faults, 0)
-        self.assertGreater(count, 8)
+    def test_the_examples_of_the_pages(self):
+        for path, fewest in ((PAGE, 9), (README, 5)):
+            # A fence would be read as a line of the output before it.
+            text = re.sub("^```.*$", "", path.read_text(), flags=re.MULTILINE)
+            page = doctest.DocTestParser().get_doctest(
+                text, {}, path.name, str(path), 0)
+            faults, count = doctest.DocTestRunner().run(page)
+            self.assertEqual(faults, 0)
+            self.assertGreaterEqual(count, fewest)
 
     def test_the_page_names_each_call(self):
         page = PAGE.read_text()
