@@ -381,8 +381,8 @@ static void AT(test_sizes)(void) {
         asked = 0;
         check(AT(polygons)[k](given, COUNT, offsets, SQUARES + 1, all, 2, out, COUNT, out_offsets, SQUARES + 1, out_shapes, 2) == 1, W,
               cleaner_names[k], "64 squares of one polygon");
-        /* No square has a spike, so despike cleans nothing. */
-        const size_t most = is_form(k) ? 4 * lists : strcmp(cleaner_names[k], "simplify") == 0 ? 2 * lists + places : lists;
+        /* Of simplify, the first, and of despike, which cleans nothing, since no square has a spike. */
+        const size_t most = is_form(k) ? 4 * lists : k == 0 ? 2 * lists + places : lists;
         check(is_form(k) ? asked <= most : asked == most, W, cleaner_names[k], "how much it asks for of polygons");
     }
     /* The square wound 300,000 times, in one contour: each time a point goes. */
