@@ -2,13 +2,14 @@
 
 use crate::claims::{equal, holds};
 use crate::given::contour;
-use crate::given_shapes::shape;
+use crate::given_shapes::{shape, shapes};
 use crate::resource::WholePoint;
 use i_shape::int::IntPoint;
 use std::test::Fail;
 use uses::consumer::{all_points, count_paths, count_shape_paths, same_safe_range};
 use uses::copies::{copied_as_one_shape, copied_paths};
 use uses::corners::corners;
+use uses::list;
 use uses::pipeline::cleaned_contours;
 use uses::store::{CanonicalStore, Insertion};
 
@@ -51,6 +52,47 @@ fn a_resource_is_read_back_from_the_generic_buffers(rt: HostRuntime) -> Result<(
     );
     let list = copied_as_one_shape(alloc, &paths[..0])?;
     equal(&rt, list.len(), 0, "no paths", "shapes");
+    Ok(())
+}
+
+#[test]
+fn callers_clean_lists_and_tell_it(rt: HostRuntime) -> Result<(), Fail> {
+    let alloc = rt.alloc();
+    let left = shapes::<i32>(&rt, alloc, &[&[&[[0, 0], [4, 0], [4, 4], [0, 4]]]])?;
+    let name = "a square with a straight point";
+    let mut given = shapes::<i32>(&rt, alloc, &[&[&[[0, 0], [2, 0], [4, 0], [4, 4], [0, 4]]]])?;
+    holds(
+        &rt,
+        list::simplify(&mut given).unwrap_or(false),
+        name,
+        "what is told",
+    );
+    holds(&rt, given == left, name, "what is left");
+    holds(
+        &rt,
+        !list::simplify(&mut given).unwrap_or(true),
+        name,
+        "what is told again",
+    );
+    let name = "a square with a spike";
+    let mut given = shapes::<i32>(
+        &rt,
+        alloc,
+        &[&[&[[0, 0], [4, 0], [9, 0], [4, 0], [4, 4], [0, 4]]]],
+    )?;
+    holds(
+        &rt,
+        list::despike(&mut given).unwrap_or(false),
+        name,
+        "what is told",
+    );
+    holds(&rt, given == left, name, "what is left");
+    holds(
+        &rt,
+        !list::despike(&mut given).unwrap_or(true),
+        name,
+        "what is told again",
+    );
     Ok(())
 }
 
