@@ -1,5 +1,5 @@
 -- What flat buffers hold and name, and what room they have.
-use Rattle.std.specs.Prelude.{◌≡◌, ℕ, List, [], ◌∷◌, length, ◌+◌, ◌++◌, ◌-◌, ◌≤◌, ℤ, map, vec_capacity}
+use Rattle.std.specs.Prelude.{◌≡◌, ℕ, List, [], ◌∷◌, length, ◌++◌, ◌-◌, ◌≤◌, ℤ, map, vec_capacity}
 use Rattle.std.specs.List.{All, sum_by}
 use Rattle.std.specs.declared.ops.Range.{Range}
 use Rattle.i_shape_core.specs.declared.point.IntPoint.{IntPoint}

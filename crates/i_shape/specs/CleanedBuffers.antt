@@ -1,5 +1,5 @@
 -- What a call that cleans inside a flat buffer leaves.
-use Rattle.std.specs.Prelude.{◌≡◌, ◌↔◌, Bool, true, false, Option, Result, Ok, List, length, ℤ, OnOk, OnErr}
+use Rattle.std.specs.Prelude.{◌≡◌, ◌↔◌, Bool, true, false, Option, Result, Ok, List, ℤ, OnOk, OnErr}
 use Rattle.std.specs.Int.{Width}
 use Rattle.std.specs.List.{All}
 use Rattle.i_shape_core.specs.Point.{Point}

@@ -1,8 +1,5 @@
 use Rattle.std.proofs.Common.{rules}
 use Rattle.i_shape.proofs.flat.buffer.contours.FlatContoursBuffer.remove_spikes.Goals as goal
 
-pub returns-clause-gives : goal.returns-clause-gives
-returns-clause-gives g c = c.clean_contours.ensures.gives
-
 pub returns-clause-too_many : goal.returns-clause-too_many
 returns-clause-too_many g c = search rules

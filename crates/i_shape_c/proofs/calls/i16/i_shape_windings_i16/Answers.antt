@@ -1,9 +1,0 @@
-use Rattle.std.proofs.Common.{rules}
-use Rattle.i_shape_c.proofs.calls.i16.i_shape_windings_i16.Goals as goal
-
-pub returns : goal.returns
-returns c = record {
-  answer = search rules;
-  unfit = search rules;
-  unsafe_points = search rules;
-}
