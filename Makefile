@@ -13,7 +13,7 @@ PROGRAM := crates/i_shape_tool_main/out/$(if $(TARGET)$(CPU),$(TARGET)$(CPU)/i_s
 test:
 	@sh .ci/test.sh
 
-# The whole gate: proves everything, runs all tests, and checks that wrong bodies are refused and refused memory is told. docs/GATE.md says more.
+# The whole gate: proves everything, runs all tests, and checks that wrong bodies are refused and refused memory is told. docs/develop/GATE.md says more.
 gate:
 	@sh .ci/gate.sh
 
@@ -44,7 +44,7 @@ page: wasm
 wheel: $(if $(I_SHAPE_C_DIR),,c)
 	@sh bindings/python/build.sh
 
-# What a release holds, in dist: docs/RELEASE.md says what that is.
+# What a release holds, in dist: docs/develop/RELEASE.md says what that is.
 dist:
 	@rm -rf dist
 	@bash scripts/dist.sh dist

@@ -1,6 +1,6 @@
 #!/bin/sh
 # The gate: all proofs, all tests, wrong bodies, refused growths and bindings, in a copy of the checkout, so that what is built in the checkout stays as it
-# is. docs/GATE.md says what each part shows. The wrong bodies are tried in a second copy while rt ci runs, and what is proved there to try them is kept:
+# is. docs/develop/GATE.md says what each part shows. The wrong bodies are tried in a second copy while rt ci runs, and what is proved there to try them is kept:
 # the C library is built from it afterwards. The last line adds up the parts' counts.
 cd "$(dirname "$0")/.." || exit 1
 . .ci/parts.sh

@@ -1,5 +1,5 @@
 #!/usr/bin/env python3
-"""Checks what the pages show: README.md, CHANGELOG.md, docs/*.md and the READMEs of examples.
+"""Checks what the pages show: README.md, CHANGELOG.md, docs/*.md, docs/develop/*.md and the READMEs of examples.
 
 usage: .ci/pages.py [PAGE..]
 
@@ -10,8 +10,8 @@ usage: .ci/pages.py [PAGE..]
 - a block `js`: a file of JavaScript is that text;
 - a block `console`: its commands run in order, as in one shell at the top of a clone named raspochre, each printing what stands below it;
 - the links within the repository: the page is there, and the heading;
-- docs/GATE.md has a row for each part of the gate;
-- docs/ARCHITECTURE.md names each file of lemmas, and docs/CONTRACTS.md each edit of must-fail/ and no edit that isn't there;
+- docs/develop/GATE.md has a row for each part of the gate;
+- docs/develop/ARCHITECTURE.md names each file of lemmas, and docs/develop/CONTRACTS.md each edit of must-fail/ and no edit that isn't there;
 - the version: it is that of the header in CHANGELOG.md, in the archive, in the packages for Python and JavaScript and in the crate for Rust.
 
 The sources are proved, compiled and tested by other parts of the gate. A block `console` names what has to be there, as in `console library python`, and is
@@ -27,7 +27,7 @@ import sys
 import tempfile
 
 TOP = os.path.dirname(os.path.dirname(os.path.abspath(__file__)))
-PAGES = ["README.md", "CHANGELOG.md", "docs/*.md", "examples/*/README.md"]
+PAGES = ["README.md", "CHANGELOG.md", "docs/*.md", "docs/develop/*.md", "examples/*/README.md"]
 RUST = ["crates/*/src/**/*.rt", "bindings/rust/**/*.rs", "examples/**/*.rs", "bench/**/*.rs"]
 C = ["bindings/c/*.c", "bindings/c/*.cpp", "bindings/c/*.h", "examples/**/*.c", "bench/**/*.c", "include/*.h", "include/*.hpp"]
 JAVASCRIPT = ["bindings/js/*.js", "examples/*.mjs"]
@@ -214,23 +214,23 @@ def fault_of_version():
 
 def fault_of_lemmas():
     """Each file of lemmas is named."""
-    page = read(f"{TOP}/docs/ARCHITECTURE.md")
+    page = read(f"{TOP}/docs/develop/ARCHITECTURE.md")
     names = {re.sub(r".*/proofs/|\.antt$", "", name) for name in files(["crates/*/proofs/**/*.antt"])} - {"Lib"}
     names = {part for name in names if not name.endswith(("/Answers", "/Invariants", "/Proof")) for part in name.split("/")}
     return ", ".join(sorted(f"{name} isn't named" for name in names if f"`{name}`" not in page)) or None
 
 
 def fault_of_gate():
-    """Each part of the gate has a row in docs/GATE.md, and each script of a row is a part."""
+    """Each part of the gate has a row in docs/develop/GATE.md, and each script of a row is a part."""
     parts = set(re.findall(r"^part (?:python3 )?(?:\./)?(\S+)", read(f"{TOP}/.ci/gate.sh"), re.MULTILINE))
-    rows = set(re.findall(r"^\|[^|]*\| `(\S+?)(?: [^`]*)?` \|", read(f"{TOP}/docs/GATE.md"), re.MULTILINE))
+    rows = set(re.findall(r"^\|[^|]*\| `(\S+?)(?: [^`]*)?` \|", read(f"{TOP}/docs/develop/GATE.md"), re.MULTILINE))
     missing = [f"{name} has no row" for name in parts - rows - {"rt", "wrong_bodies"}] + [f"{name} is no part" for name in rows - parts if name.endswith(".sh")]
     return "; ".join(sorted(missing)) or None
 
 
 def fault_of_edits():
-    """docs/CONTRACTS.md names each edit of must-fail/, and beside each crate's name its edits alone."""
-    page = read(f"{TOP}/docs/CONTRACTS.md")
+    """docs/develop/CONTRACTS.md names each edit of must-fail/, and beside each crate's name its edits alone."""
+    page = read(f"{TOP}/docs/develop/CONTRACTS.md")
     edits = {kind: {tuple(name.removesuffix(".edit").split("/")[-3::2]) for name in files([f"crates/*/{kind}/*.edit"])} for kind in ("must-fail", "wrong")}
     named = set()
     for cell in re.findall(r"^\|[^|]*\| ((?:core|source|shape|tool|uses) `[^|]*) \|", page, re.MULTILINE):
@@ -266,8 +266,8 @@ def main():
     pages = [os.path.abspath(name) for name in sys.argv[1:]] or files(PAGES)
     tests = [(os.path.relpath(name, TOP), *test) for name in pages for test in tests_of(name)]
     if not sys.argv[1:]:
-        tests += [("CHANGELOG.md", "the version", [], fault_of_version), ("docs/ARCHITECTURE.md", "lemma files", [], fault_of_lemmas),
-                  ("docs/CONTRACTS.md", "edits", [], fault_of_edits), ("docs/GATE.md", "parts", [], fault_of_gate)]
+        tests += [("CHANGELOG.md", "the version", [], fault_of_version), ("docs/develop/ARCHITECTURE.md", "lemma files", [], fault_of_lemmas),
+                  ("docs/develop/CONTRACTS.md", "edits", [], fault_of_edits), ("docs/develop/GATE.md", "parts", [], fault_of_gate)]
     for page, place, needed, look in tests:
         missing = [name for name in needed if not is_at_hand(name)]
         fault = MISSING.get(missing[0], f"there is no {missing[0]}") if missing else look()
