@@ -10,7 +10,7 @@ usage: .ci/pages.py [PAGE..]
 - a block `js`: a file of JavaScript is that text;
 - a block `console`: its commands run in order, as in one shell at the top of a clone named raspochre, each printing what stands below it;
 - the links within the repository: the page is there, and the heading;
-- docs/develop/GATE.md has a row for each part of the gate;
+- docs/develop/GATE.md has an item for each part of the gate;
 - docs/develop/ARCHITECTURE.md names each file of lemmas, and docs/develop/CONTRACTS.md each edit of must-fail/ and no edit that isn't there;
 - the version: it is that of the header in CHANGELOG.md, in the archive, in the packages for Python and JavaScript and in the crate for Rust.
 
@@ -221,10 +221,11 @@ def fault_of_lemmas():
 
 
 def fault_of_gate():
-    """Each part of the gate has a row in docs/develop/GATE.md, and each script of a row is a part."""
+    """Each part of the gate has an item in docs/develop/GATE.md, and each script of an item is a part."""
     parts = set(re.findall(r"^part (?:python3 )?(?:\./)?(\S+)", read(f"{TOP}/.ci/gate.sh"), re.MULTILINE))
-    rows = set(re.findall(r"^\|[^|]*\| `(\S+?)(?: [^`]*)?` \|", read(f"{TOP}/docs/develop/GATE.md"), re.MULTILINE))
-    missing = [f"{name} has no row" for name in parts - rows - {"rt", "wrong_bodies"}] + [f"{name} is no part" for name in rows - parts if name.endswith(".sh")]
+    shown = set(re.findall(r"^- \*\*.*?\*\*, `(\S+?)(?: [^`]*)?`", read(f"{TOP}/docs/develop/GATE.md"), re.MULTILINE))
+    missing = [f"{name} has no item" for name in parts - shown - {"rt", "wrong_bodies"}]
+    missing += [f"{name} is no part" for name in shown - parts if name.endswith(".sh")]
     return "; ".join(sorted(missing)) or None
 
 
@@ -233,8 +234,9 @@ def fault_of_edits():
     page = read(f"{TOP}/docs/develop/CONTRACTS.md")
     edits = {kind: {tuple(name.removesuffix(".edit").split("/")[-3::2]) for name in files([f"crates/*/{kind}/*.edit"])} for kind in ("must-fail", "wrong")}
     named = set()
-    for cell in re.findall(r"^\|[^|]*\| ((?:core|source|shape|tool|uses) `[^|]*) \|", page, re.MULTILINE):
-        for crate, names in re.findall(r"\b(core|source|shape|tool|uses) (`[^|]*?)(?=; \w+ `|, \w+ `|$)", cell):
+    for item in re.findall(r"^- (.*(?:\n  (?!Refused by).*)*)\n  Refused by: ", page, re.MULTILINE):
+        listed = " ".join(item.split()).partition(": ")[2]
+        for crate, names in re.findall(r"\b(core|source|shape|tool|uses) (`.*?)(?=; \w+ `|, \w+ `|$)", listed):
             named |= {({"shape": "i_shape", "uses": "uses"}.get(crate, f"i_shape_{crate}"), name) for name in re.findall(r"`(\w+)`", names)}
     missing = [f"{crate}'s {name} isn't named" for crate, name in edits["must-fail"] - named]
     strange = [f"{crate} has no edit {name}" for crate, name in named - edits["must-fail"] - edits["wrong"]]
