@@ -1,6 +1,6 @@
 //! Flat buffers that are tested, and then cleaned.
 
-ghost use Rattle.std.specs.Prelude.{◌≡◌, [], ◌∷◌, OnOk, OnErr, IsErrOf, Ok, false, ◌↔◌};
+ghost use Rattle.std.specs.Prelude.{◌≡◌, [], ◌∷◌, OnOk, OnErr, IfOk, IsErrOf, Ok, false, ◌↔◌};
 ghost use Rattle.i_shape_core.specs.Contour.{IsSimple};
 ghost use Rattle.i_shape_core.specs.IntPoint.{contour_of, IsSafeContour};
 ghost use Rattle.i_shape.specs.Paths.{concatenated};
@@ -47,6 +47,8 @@ pub fn set_contour<I: IntNumber>(
     ensures untouched { IsErrOf result Refusal.OutOfRange → buffer.new ≡ buffer.old }
     ensures compact { OnOk result
         (Compact (contour_of I.value contour.now ∷ []) (contours_in I.value buffer.new)) }
+    ensures flag { IfOk result
+        (λ changed. changed ≡ false ↔ All IsSimple (contour_of I.value contour.now ∷ [])) }
 {
     if !contour.is_in_safe_range() {
         return Err(Refusal::OutOfRange);
@@ -66,6 +68,8 @@ pub fn set_shape<I: IntNumber>(
     ensures untouched { IsErrOf result Refusal.OutOfRange → buffer.new ≡ buffer.old }
     ensures compact { OnOk result
         (Compact (shape_of I.value shape.now) (contours_in I.value buffer.new)) }
+    ensures flag { IfOk result
+        (λ changed. changed ≡ false ↔ All IsSimple (shape_of I.value shape.now)) }
 {
     if !shape.is_in_safe_range() {
         return Err(Refusal::OutOfRange);
@@ -85,6 +89,8 @@ pub fn set_shape_vector<I: IntNumber>(
     ensures untouched { IsErrOf result Refusal.OutOfRange → buffer.new ≡ buffer.old }
     ensures compact { OnOk result
         (Compact (shape_of I.value shape.now.items) (contours_in I.value buffer.new)) }
+    ensures flag { IfOk result
+        (λ changed. changed ≡ false ↔ All IsSimple (shape_of I.value shape.now.items)) }
 {
     if !shape.is_in_safe_range() {
         return Err(Refusal::OutOfRange);
@@ -104,6 +110,8 @@ pub fn set_shapes<I: IntNumber>(
     ensures untouched { IsErrOf result Refusal.OutOfRange → buffer.new ≡ buffer.old }
     ensures compact { OnOk result
         (Compact (concatenated (shapes_of I.value shapes.now)) (contours_in I.value buffer.new)) }
+    ensures flag { IfOk result
+        (λ changed. changed ≡ false ↔ All IsSimple (concatenated (shapes_of I.value shapes.now))) }
 {
     if !shapes.is_in_safe_range() {
         return Err(Refusal::OutOfRange);

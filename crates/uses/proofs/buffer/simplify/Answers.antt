@@ -1,4 +1,4 @@
-use Rattle.std.proofs.Common.{rules, refl}
+use Rattle.std.proofs.Common.{refl}
 use Rattle.uses.proofs.buffer.simplify.Goals as goal
 
 pub returns-clause-range : goal.returns-clause-range
