@@ -1,21 +1,23 @@
 /*
- * main SAMPLES WORD LARGEST LIBRARY..
+ * main SAMPLES WORD LARGEST LIBRARY.. [--limits LIBRARY..]
  *
  * Times the rounds in each library (one for each placement of the code) and prints nanoseconds a point, least and greatest of the
  * placements; each is the least of so many samples. WORD, where it isn't empty, picks the calls and families in whose names it is.
- * LARGEST is the greatest number of points.
+ * LARGEST is the greatest number of points. The libraries behind --limits have rounds of limits and floors, the first one by SSE4.1 and
+ * another one by AVX2: these are printed beside the times of the calls that have a limit.
  */
 #define _GNU_SOURCE
 #include <dlfcn.h>
 #include <malloc.h>
 #include <math.h>
+#include <sched.h>
 #include <stdint.h>
 #include <stdio.h>
 #include <stdlib.h>
 #include <string.h>
 #include <time.h>
 
-enum { MOST_LIBRARIES = 8, SAMPLE_NS = 1500000, POINTS_OF_SHAPE = 10, SHAPES = 1000 };
+enum { MOST_LIBRARIES = 8, MOST_ENTRANTS = 2 * MOST_LIBRARIES, SAMPLE_NS = 1500000, POINTS_OF_SHAPE = 10, SHAPES = 1000 };
 
 typedef struct {
     int64_t x, y;
@@ -24,8 +26,9 @@ typedef struct {
 typedef uint64_t (*rounds_of_contour)(const void *points, size_t n, size_t rounds);
 typedef uint64_t (*rounds_of_list)(const void *points, size_t n, size_t each, size_t contours, size_t rounds);
 
+/* Those of the placements, and behind them those of the limits. */
 static void *libraries[MOST_LIBRARIES];
-static int library_count, samples;
+static int library_count, limit_count, samples;
 static size_t largest;
 static const char *word;
 
@@ -105,14 +108,24 @@ static void nested_spikes(point *points, size_t n, double radius)
     }
 }
 
+/* Points in disorder. */
+static void anywhere(point *points, size_t n, double radius)
+{
+    for (size_t k = 0; k < n; k++) {
+        points[k].x = (int64_t)(radius * ((double)number() / (1 << 23) - 1));
+        points[k].y = (int64_t)(radius * ((double)number() / (1 << 23) - 1));
+    }
+}
+
 static const struct {
     const char *name;
     void (*make)(point *, size_t, double);
 } families[] = {
     {"clean", clean}, {"collinear", collinear}, {"half duplicates", half_duplicates}, {"nested spikes", nested_spikes}, {"circle", circle},
+    {"in disorder", anywhere},
 };
 
-enum { CLEAN = 1, DIRTY = 2, CIRCLE = 4, DUPLICATES = 8 };
+enum { CLEAN = 1, DIRTY = 2, CIRCLE = 4, DUPLICATES = 8, DISORDER = 16 };
 
 static const struct {
     const char *symbol, *name;
@@ -122,14 +135,30 @@ static const struct {
     {"copy", "floor: a copy of the points", CLEAN},
     {"simplified", "SimpleContour::simplified", CLEAN | DIRTY},
     {"simplify_contour", "ContourSimplifier, reused", CLEAN | DIRTY},
+    {"simplify_into", "simplify_into, reused", CLEAN | DIRTY},
     {"despiked_contour", "despiked_contour", CLEAN | DIRTY},
     {"canonical", "canonical", CLEAN | DIRTY},
     {"is_simple", "is_simple", CLEAN},
     {"has_no_spikes", "has_no_spikes", CLEAN | DUPLICATES},
     {"is_convex", "is_convex", CIRCLE},
-    {"contains_point", "contains_point", CLEAN | DUPLICATES},
+    {"contains_point", "contains_point", CLEAN | DUPLICATES | DISORDER},
     {"area_two", "area_two", CLEAN},
     {"is_in_safe_range", "is_in_safe_range", CLEAN},
+};
+
+/* The calls that have a limit, and the floor of each. */
+static const struct {
+    const char *symbol, *name, *floor;
+    int families;
+} limited[] = {
+    {"is_in_safe_range", "is_in_safe_range", "reading", CLEAN},
+    {"is_simple", "is_simple", "reading", CLEAN},
+    {"has_no_spikes", "has_no_spikes", "reading", CLEAN},
+    {"contains_point", "contains_point", "reading", CLEAN | DISORDER},
+    {"area_two", "area_two", "reading", CLEAN},
+    {"simplify_into", "simplify_into", "copy_into", CLEAN},
+    {"c_is_simple", "is_simple of C", "reading", CLEAN},
+    {"c_simplify", "simplify of C", "copy_into", CLEAN},
 };
 
 static const struct {
@@ -170,66 +199,131 @@ static void *given(const point *points, size_t n, int width)
     return list;
 }
 
-static void *find(int library, const char *symbol, int width)
-{
-    char name[80];
-    snprintf(name, sizeof name, "bench_%s_i%d", symbol, width);
-    return must(dlsym(libraries[library], name), name);
-}
-
 typedef struct {
-    const char *symbol;
+    const char *symbol, *floor;
     const void *points;
     size_t n, contours;
     int width;
 } task;
 
+/* The rounds of a library for a task, and the least nanoseconds that they took, and that what comes before them took. */
+typedef struct {
+    void *library, *rounds;
+    double least, least_before;
+} entrant;
+
+static entrant entrant_of(int library, const char *symbol, int width)
+{
+    char name[80];
+    snprintf(name, sizeof name, "bench_%s_i%d", symbol, width);
+    return (entrant){libraries[library], must(dlsym(libraries[library], name), name), INFINITY, INFINITY};
+}
+
+/* The placements, and behind them the limits and the floors. Answers how many. */
+static int enter(const task *t, entrant *entrants)
+{
+    int count = 0, all = library_count + limit_count;
+    for (int k = 0; k < all; k++)
+        entrants[count++] = entrant_of(k, t->symbol, t->width);
+    for (int k = library_count; k < all; k++)
+        entrants[count++] = entrant_of(k, t->floor, t->width);
+    return count;
+}
+
 /* The nanoseconds of so many rounds; of a list, those in which the clock was on. */
-static double timed(const task *t, int library, size_t rounds, uint64_t *sum)
+static double timed(const task *t, const entrant *e, size_t rounds, uint64_t *sum)
 {
     if (t->contours == 0) {
-        rounds_of_contour call = (rounds_of_contour)find(library, t->symbol, t->width);
         double start = now();
-        *sum = call(t->points, t->n, rounds);
+        *sum = ((rounds_of_contour)e->rounds)(t->points, t->n, rounds);
         return now() - start;
     }
-    rounds_of_list call = (rounds_of_list)find(library, t->symbol, t->width);
-    double (*taken)(void) = (double (*)(void))must(dlsym(libraries[library], "bench_clock_taken"), "no clock");
+    double (*taken)(void) = (double (*)(void))must(dlsym(e->library, "bench_clock_taken"), "no clock");
     taken();
-    *sum = call(t->points, t->n, POINTS_OF_SHAPE, t->contours, rounds);
+    *sum = ((rounds_of_list)e->rounds)(t->points, t->n, POINTS_OF_SHAPE, t->contours, rounds);
     return taken();
 }
 
-/* Prints least..greatest nanoseconds a point of the placements, `!` where they answer differently, or `-` where a test ends early. */
+/* Takes a sample, and one of what comes before the rounds, such as a copy of the points. */
+static void sample(const task *t, entrant *e, size_t rounds)
+{
+    uint64_t sum;
+    e->least = fmin(e->least, timed(t, e, rounds, &sum));
+    e->least_before = t->contours == 0 ? fmin(e->least_before, timed(t, e, 0, &sum)) : 0;
+}
+
+static size_t rounds_of_sample(const task *t, const entrant *e)
+{
+    uint64_t sum;
+    size_t rounds = (size_t)(SAMPLE_NS / (timed(t, e, 4, &sum) / 4 + 1)) / 2 * 2;
+    return rounds < 2 ? 2 : rounds > 200000 ? 200000 : rounds;
+}
+
+static double ns_a_point(const task *t, const entrant *e, size_t rounds)
+{
+    return (e->least - e->least_before) / (double)rounds / (double)t->n;
+}
+
+/* Writes least..greatest nanoseconds a point of the placements, and behind them those of each limit and of the lesser floor. */
+static void write_times(char *text, size_t room, const task *t, const entrant *entrants, size_t rounds, int differs)
+{
+    double low = INFINITY, high = 0, least_floor = INFINITY;
+    int all = library_count + limit_count;
+    for (int k = 0; k < library_count; k++) {
+        low = fmin(low, ns_a_point(t, &entrants[k], rounds));
+        high = fmax(high, ns_a_point(t, &entrants[k], rounds));
+    }
+    int end = snprintf(text, room, "%.2f..%.2f%s", low, high, differs ? "!" : "");
+    for (int k = library_count; k < all; k++)
+        end += snprintf(text + end, room - (size_t)end, " / %.2f", ns_a_point(t, &entrants[k], rounds));
+    for (int k = all; k < all + limit_count; k++)
+        least_floor = fmin(least_floor, ns_a_point(t, &entrants[k], rounds));
+    if (limit_count > 0)
+        snprintf(text + end, room - (size_t)end, " / %.2f", least_floor);
+}
+
+static void print_cell(const char *text)
+{
+    printf(" | %-*s", limit_count > 0 ? 32 : 13, text);
+}
+
+/* Whether two rounds of a placement or of a limit answer otherwise. */
+static int differs_from(uint64_t answer, const task *t, const entrant *entrants)
+{
+    int differs = 0;
+    for (int k = 0; k < library_count + limit_count; k++) {
+        uint64_t sum;
+        timed(t, &entrants[k], 2, &sum);
+        differs |= sum != answer;
+    }
+    return differs;
+}
+
+/* Prints the times, with `!` where the placements or the limits answer differently, or `-` where a test ends early. */
 static void cell(const task *t, int wants_true)
 {
-    double best[MOST_LIBRARIES], low = INFINITY, high = 0;
-    uint64_t sum, first;
-    timed(t, 0, 2, &first);
+    entrant entrants[MOST_ENTRANTS];
+    int count = enter(t, entrants);
+    uint64_t first;
+    timed(t, entrants, 2, &first);
     if (wants_true && first != 2) {
-        printf(" | %-13s", "-");
+        print_cell("-");
         return;
     }
-    size_t rounds = (size_t)(SAMPLE_NS / (timed(t, 0, 4, &sum) / 4 + 1)) / 2 * 2;
-    rounds = rounds < 2 ? 2 : rounds > 200000 ? 200000 : rounds;
-    int differs = 0;
-    for (int k = 0; k < library_count; k++) {
-        best[k] = INFINITY;
-        timed(t, k, 2, &sum);
-        differs |= sum != first;
-    }
+    int differs = differs_from(first, t, entrants);
+    size_t rounds = rounds_of_sample(t, entrants);
     for (int s = 0; s < samples; s++)
-        for (int k = 0; k < library_count; k++) {
-            double taken = timed(t, k, rounds, &sum) / (double)rounds;
-            best[k] = taken < best[k] ? taken : best[k];
-        }
-    for (int k = 0; k < library_count; k++) {
-        low = best[k] < low ? best[k] : low;
-        high = best[k] > high ? best[k] : high;
-    }
-    char text[40];
-    snprintf(text, sizeof text, "%.2f..%.2f%s", low / (double)t->n, high / (double)t->n, differs ? "!" : "");
-    printf(" | %-13s", text);
+        for (int k = 0; k < count; k++)
+            sample(t, &entrants[k], rounds);
+    char text[80];
+    write_times(text, sizeof text, t, entrants, rounds, differs);
+    print_cell(text);
+}
+
+/* Whether the calls of this name end at the first point that decides against it. */
+static int is_test(const char *symbol)
+{
+    return strncmp(symbol, "is_", 3) == 0 || strncmp(symbol, "has_", 4) == 0 || strncmp(symbol, "c_is_", 5) == 0;
 }
 
 static int is_picked(const char *name, const char *family)
@@ -237,19 +331,19 @@ static int is_picked(const char *name, const char *family)
     return strstr(name, word) != NULL || strstr(family, word) != NULL;
 }
 
-static void contour_row(size_t call, size_t family, size_t n)
+static void contour_row(const char *name, const char *symbol, const char *floor, size_t family, size_t n)
 {
-    printf("%-29s | %-23s | %8zu", calls[call].name, families[family].name, n);
+    printf("%-29s | %-23s | %8zu", name, families[family].name, n);
     point *points = must(malloc(n * sizeof *points), "no memory");
     for (int w = 0; w < WIDTHS; w++) {
-        if (widths[w] == 16 && n > 1000) {
-            printf(" | %-13s", "-");
+        if (widths[w] == 16 && n > 1000 && families[family].make != anywhere) {
+            print_cell("-");
             continue;
         }
         families[family].make(points, n, radius_of(widths[w]));
         void *list = given(points, n, widths[w]);
-        task t = {calls[call].symbol, list, n, 0, widths[w]};
-        cell(&t, strncmp(t.symbol, "is_", 3) == 0 || strncmp(t.symbol, "has_", 4) == 0);
+        task t = {symbol, floor, list, n, 0, widths[w]};
+        cell(&t, is_test(symbol));
         free(list);
     }
     free(points);
@@ -268,7 +362,7 @@ static void list_row(size_t call, size_t layout)
             (is_dirty ? half_duplicates : clean)(points + k * POINTS_OF_SHAPE, POINTS_OF_SHAPE, radius_of(widths[w]));
         }
         void *list = given(points, n, widths[w]);
-        task t = {list_calls[call].symbol, list, n, layouts[layout].contours, widths[w]};
+        task t = {list_calls[call].symbol, NULL, list, n, layouts[layout].contours, widths[w]};
         cell(&t, 0);
         free(list);
     }
@@ -279,34 +373,87 @@ static void list_row(size_t call, size_t layout)
 
 static int belongs(int wanted, size_t family)
 {
-    int kind = family == 0 ? CLEAN : family == 4 ? CIRCLE : family == 2 ? DIRTY | DUPLICATES : DIRTY;
-    return (wanted & kind) != 0;
+    static const int kinds[] = {CLEAN, DIRTY, DIRTY | DUPLICATES, DIRTY, CIRCLE, DISORDER};
+    return (wanted & kinds[family]) != 0;
 }
 
-int main(int count, char **words)
+/* The rows of a call on contours. */
+static void contour_rows(const char *name, const char *symbol, const char *floor, int wanted)
 {
-    if (count < 5 || count - 4 > MOST_LIBRARIES)
-        return 2;
-    samples = atoi(words[1]);
-    word = words[2];
-    largest = strtoull(words[3], NULL, 10);
-    library_count = count - 4;
-    for (int k = 0; k < library_count; k++)
-        libraries[k] = must(dlopen(words[4 + k], RTLD_NOW), "a library can't be opened");
-    /* Freed memory stays with the process: otherwise who runs after whom decides who meets the page faults. */
-    mallopt(M_TRIM_THRESHOLD, 1 << 30);
-    mallopt(M_MMAP_THRESHOLD, 32 << 20);
-    printf("Nanoseconds a point, least..greatest of %d placements of the code; each the least of %d samples.\n", library_count, samples);
-    printf("%-29s | %-23s | %8s | %-13s | %-13s | %-13s\n", "call", "family", "n", "i16", "i32", "i64");
     static const size_t sizes[] = {10, 1000, 100000, 10000000};
-    for (size_t c = 0; c < sizeof calls / sizeof *calls; c++)
-        for (size_t f = 0; f < sizeof families / sizeof *families; f++)
-            for (size_t s = 0; s < sizeof sizes / sizeof *sizes; s++)
-                if (belongs(calls[c].families, f) && sizes[s] <= largest && is_picked(calls[c].name, families[f].name))
-                    contour_row(c, f, sizes[s]);
+    for (size_t f = 0; f < sizeof families / sizeof *families; f++)
+        for (size_t s = 0; s < sizeof sizes / sizeof *sizes; s++)
+            if (belongs(wanted, f) && sizes[s] <= largest && is_picked(name, families[f].name))
+                contour_row(name, symbol, floor, f, sizes[s]);
+}
+
+static void list_rows(void)
+{
     for (size_t c = 0; c < sizeof list_calls / sizeof *list_calls; c++)
         for (size_t l = 0; l < sizeof layouts / sizeof *layouts; l++)
             if (is_picked(list_calls[c].name, layouts[l].name))
                 list_row(c, l);
+}
+
+static void print_head(void)
+{
+    printf("Nanoseconds a point, least..greatest of %d placements of the code; each the least of %d samples.\n", library_count, samples);
+    if (limit_count > 0)
+        printf("Each cell: the call / its limit by SSE4.1%s / its floor.\n", limit_count > 1 ? " / its limit by AVX2" : "");
+    printf("%-29s | %-23s | %8s", "call", "family", "n");
+    print_cell("i16");
+    print_cell("i32");
+    print_cell("i64");
+    printf("\n");
+}
+
+/* Opens the libraries of the command line, from the fourth word on. */
+static void open_libraries(int count, char **words)
+{
+    int *counted = &library_count;
+    for (int k = 4; k < count; k++) {
+        if (strcmp(words[k], "--limits") == 0) {
+            counted = &limit_count;
+            continue;
+        }
+        if (library_count + limit_count == MOST_LIBRARIES)
+            must(NULL, "too many libraries");
+        libraries[library_count + limit_count] = must(dlopen(words[k], RTLD_NOW), "a library can't be opened");
+        *counted += 1;
+    }
+}
+
+/* Stays on the processor on which it runs. */
+static void stay(void)
+{
+    cpu_set_t one;
+    CPU_ZERO(&one);
+    CPU_SET((size_t)sched_getcpu(), &one);
+    sched_setaffinity(0, sizeof one, &one);
+}
+
+int main(int count, char **words)
+{
+    if (count < 5)
+        return 2;
+    samples = atoi(words[1]);
+    word = words[2];
+    largest = strtoull(words[3], NULL, 10);
+    open_libraries(count, words);
+    if (library_count == 0)
+        return 2;
+    stay();
+    /* Freed memory stays with the process: otherwise who runs after whom decides who meets the page faults. */
+    mallopt(M_TRIM_THRESHOLD, 1 << 30);
+    mallopt(M_MMAP_THRESHOLD, 32 << 20);
+    print_head();
+    if (limit_count > 0) {
+        for (size_t c = 0; c < sizeof limited / sizeof *limited; c++)
+            contour_rows(limited[c].name, limited[c].symbol, limited[c].floor, limited[c].families);
+        return 0;
+    }
+    for (size_t c = 0; c < sizeof calls / sizeof *calls; c++)
+        contour_rows(calls[c].name, calls[c].symbol, NULL, calls[c].families);
+    list_rows();
     return 0;
 }

@@ -1,8 +1,8 @@
 #!/bin/sh
-# bench/run.sh [--quick] [--only WORD] [--largest N]
+# bench/run.sh [--quick] [--only WORD] [--largest N] [--build]
 # Times the library's own calls: nanoseconds a point at each width, least and greatest of four placements of the code, beside a copy and a
 # reading of the points in the same run. docs/PERFORMANCE.md says how to read the table. --quick takes fewer samples, and at most 1,000 points; --only
-# picks the calls and families in whose names WORD is; --largest takes contours up to N points (100,000 if it isn't given).
+# picks the calls and families in whose names WORD is; --largest takes contours up to N points (100,000 if it isn't given); --build times nothing.
 # It needs rt and a C compiler. What it builds lies in ${BENCH_DIR:-${TMPDIR:-/tmp}/i_shape_bench}, with a copy of the crates and of the proofs
 # that their out/ keeps: 2 GB.
 set -eu
@@ -11,11 +11,13 @@ top=$(dirname "$bench")
 samples=31
 largest=100000
 only=
+builds_alone=
 while [ $# -gt 0 ]; do
     case $1 in
         --quick) samples=9 largest=1000 ;;
         --only) shift; only=${1:?--only wants a word} ;;
         --largest) shift; largest=${1:?--largest wants a number} ;;
+        --build) builds_alone=yes ;;
         *) sed -n '2,7s/^# //p' "$0" >&2; exit 2 ;;
     esac
     shift
@@ -62,8 +64,8 @@ link_placements() {
     $CC -O2 -fPIC -c "$bench/clock.c" -o "$work/clock.o"
     for place in 0 1 2 3; do
         printf '.section .note.GNU-stack,"",@progbits\n.text\n.p2align 4\n.fill %d,1,0x90\n' $((place * 16)) > "$work/place.s"
-        $CC -c "$work/place.s" -o "$work/place.o"
-        $CC -shared -o "$work/rounds$place.so" -Wl,-Bsymbolic "$work/place.o" -Wl,--whole-archive "$rounds/out/libbench_rounds.a" \
+        $CC -c "$work/place.s" -o "$work/place$place.o"
+        $CC -shared -o "$work/rounds$place.so" -Wl,-Bsymbolic "$work/place$place.o" -Wl,--whole-archive "$rounds/out/libbench_rounds.a" \
             -Wl,--no-whole-archive "$work/clock.o" "$kit/c/liblibc_c.a"
     done
     $CC -std=c11 -O2 -Wall -Wextra -o "$work/main" "$bench/main.c" -ldl -lm
@@ -72,5 +74,6 @@ link_placements() {
 copy_crates
 echo 'bench: building (minutes where the libraries are not proved yet)' >&2
 build_rounds > "$work/log" 2>&1 && link_placements >> "$work/log" 2>&1 || { tail -n 30 "$work/log" >&2; exit 1; }
+[ -z "$builds_alone" ] || exit 0
 echo "$(sed -n 's/^model name[^:]*: //p' /proc/cpuinfo | head -n 1); $(git -C "$top" rev-parse --short HEAD); load $(cut -d ' ' -f 1 /proc/loadavg)"
 exec "$work/main" "$samples" "$only" "$largest" "$work/rounds0.so" "$work/rounds1.so" "$work/rounds2.so" "$work/rounds3.so"
