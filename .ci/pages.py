@@ -1,5 +1,5 @@
 #!/usr/bin/env python3
-"""Checks what the pages show: README.md, CHANGELOG.md, docs/*.md, docs/develop/*.md and the READMEs of examples.
+"""Checks what the pages show: README.md, CHANGELOG.md, docs/*.md, docs/develop/*.md and the READMEs of examples and of bench.
 
 usage: .ci/pages.py [PAGE..]
 
@@ -27,7 +27,7 @@ import sys
 import tempfile
 
 TOP = os.path.dirname(os.path.dirname(os.path.abspath(__file__)))
-PAGES = ["README.md", "CHANGELOG.md", "docs/*.md", "docs/develop/*.md", "examples/*/README.md"]
+PAGES = ["README.md", "CHANGELOG.md", "docs/*.md", "docs/develop/*.md", "examples/*/README.md", "bench/*/README.md"]
 RUST = ["crates/*/src/**/*.rt", "bindings/rust/**/*.rs", "examples/**/*.rs", "bench/**/*.rs"]
 C = ["bindings/c/*.c", "bindings/c/*.cpp", "bindings/c/*.h", "examples/**/*.c", "bench/**/*.c", "include/*.h", "include/*.hpp"]
 JAVASCRIPT = ["bindings/js/*.js", "examples/*.mjs"]
