@@ -7,6 +7,9 @@ use crate::width::Width;
 /// So many points in disorder are learnt by a processor that meets them over and over: it foresees which edges pass the height.
 const LEARNT: usize = 4096;
 
+/// Behind two blocks of which edges pass the height, so many blocks are taken for such ones.
+const UNTESTED: usize = 8;
+
 /// Whether an odd number of edges pass the height of the point strictly to the right of it: four lanes of points at a time, of which those are passed over
 /// that lie all above the height, or none, and for the others products.
 #[inline(always)]
@@ -16,19 +19,32 @@ pub fn contains_point<W: Width>(points: &[Point<W>], point: Point<W>) -> bool {
     };
     let many = (4 * lanes::points_of::<W>()).max(8);
     let mut is_inside = passes_right(point, last, first);
-    let mut rest = points;
+    let (mut rest, mut was_passed) = (points, false);
     while points.len() > 2 * many && rest.len() > many {
-        let block = &rest[..=many];
-        if passes_height(point, block) {
-            is_inside ^= if points.len() > LEARNT {
-                W::passes_right_oddly_unforeseen(point, block)
+        let is_passed = passes_height(point, &rest[..=many]);
+        let mut taken = many;
+        if is_passed {
+            let blocks = if was_passed {
+                UNTESTED.min((rest.len() - 1) / many)
             } else {
-                W::passes_right_oddly(point, block)
+                1
             };
+            taken = blocks * many;
+            is_inside ^= passes_right_oddly(point, &rest[..=taken], points.len() <= LEARNT);
         }
-        rest = &rest[many..];
+        was_passed = is_passed;
+        rest = &rest[taken..];
     }
     is_inside ^ W::passes_right_oddly(point, rest)
+}
+
+#[inline(always)]
+fn passes_right_oddly<W: Width>(point: Point<W>, points: &[Point<W>], is_foreseen: bool) -> bool {
+    if is_foreseen {
+        W::passes_right_oddly(point, points)
+    } else {
+        W::passes_right_oddly_unforeseen(point, points)
+    }
 }
 
 /// Whether one of the points behind the first one lies above the height and it doesn't, or the other way round.
