@@ -6,10 +6,10 @@ ghost use Rattle.i_shape_c.specs.Points.{point_by};
 
 use crate::codes::{NO_MEMORY, UNFIT, UNSAFE};
 use crate::contour::clean_into;
-use crate::lists::are_safe;
 use crate::point::CPoint;
 use i_shape::ShapeError;
 use i_shape::int::cleaner::ContourCleaner;
+use i_shape_core::safe_range::are_safe;
 use std::alloc::Global;
 
 /// Writes what is left of each contour to the front of `out_points`, and to `out_offsets` where it starts and ends. Answers how many

@@ -1,8 +1,6 @@
 //! Points of C, and points of the library.
 
-ghost use Rattle.std.specs.Prelude.{◌≡◌, ◌+◌, ◌≤◌, ◌++◌, ◌↔◌, length, map, take, drop, slice_range, IfOk, IsTrue};
-ghost use Rattle.i_shape_c.specs.Cleaned.{AreSafe};
-ghost use Rattle.i_shape_c.specs.Points.{point_by};
+ghost use Rattle.std.specs.Prelude.{◌≡◌, ◌+◌, ◌≤◌, ◌++◌, length, map, take, drop, slice_range, IfOk};
 
 use crate::point::CPoint;
 use i_shape::int::IntPoint;
@@ -34,16 +32,4 @@ pub fn copy_out<P: CPoint>(points: &[IntPoint<P::Coordinate>], out: &mut [P], at
     for place in 0..points.len() {
         out[at + place] = P::of_point(points[place]);
     }
-}
-
-/// Whether each point is safe. It looks at all of them, since a test that can end early takes one point after the other.
-pub fn are_safe<P: CPoint>(points: &[P]) -> bool
-    ensures { IsTrue result ↔ AreSafe P.Coordinate.width
-        (point_by P.Coordinate.value P.point) points.now }
-{
-    let mut safe = true;
-    for given in points {
-        safe &= (*given).to_point().is_in_safe_range();
-    }
-    safe
 }

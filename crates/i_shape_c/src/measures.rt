@@ -15,9 +15,9 @@ ghost use Rattle.i_shape_c.specs.Points.{point_by};
 use crate::area::{Halves, area_two};
 use crate::batch::{can_clean, part};
 use crate::codes::{UNFIT_TEST, UNSAFE_TEST};
-use crate::lists::are_safe;
 use crate::point::{CPoint, PointI16, PointI32, PointI64};
 use crate::tests::ContourTest;
+use i_shape_core::safe_range::are_safe;
 
 /// What is told of a contour: the answer of a test, or the area.
 pub trait ContourMeasure<P: CPoint>: Copy {

@@ -14,11 +14,12 @@ ghost use Rattle.i_shape_c.specs.Points.{point_by};
 use crate::batch::{can_clean, part};
 use crate::cleaner::ShapesCleaner;
 use crate::codes::{NO_MEMORY, UNFIT, UNSAFE};
-use crate::lists::{append_points, are_safe, copy_out};
+use crate::lists::{append_points, copy_out};
 use crate::point::CPoint;
 use i_shape::ShapeError;
 use i_shape::flat::buffer::FlatShapesBuffer;
 use i_shape::int::shape::IntContour;
+use i_shape_core::safe_range::are_safe;
 use std::alloc::Global;
 use std::ops::Range;
 

@@ -12,12 +12,12 @@ ghost use Rattle.i_shape_c.specs.Tests.{IsTold, TestAnswer};
 ghost use Rattle.i_shape_c.specs.Points.{point_by};
 
 use crate::codes::UNSAFE_TEST;
-use crate::lists::are_safe;
 use crate::point::CPoint;
 use i_shape::IntNumber;
 use i_shape::int::{ContourPoint, IntPoint};
 use i_shape_core::contour::{contains_point, is_convex};
 use i_shape_core::despike::has_no_spikes;
+use i_shape_core::safe_range::are_safe;
 use i_shape_core::simple::is_simple;
 
 /// A test of a contour of safe points.

@@ -10,10 +10,10 @@ ghost use Rattle.i_shape_c.specs.Points.{point_by};
 
 use crate::batch::{can_clean, part};
 use crate::codes::{NO_WINDING, UNFIT_TEST, UNSAFE_TEST};
-use crate::lists::are_safe;
 use crate::point::CPoint;
 use i_shape::IntNumber;
 use i_shape::int::IntPoint;
+use i_shape_core::safe_range::are_safe;
 use i_shape_core::winding::winding_about;
 
 /// How often the contour winds about the point, or the code of a point that isn't safe.
