@@ -1,6 +1,6 @@
 -- What a line of text reads, and how a contour is shown.
 use Rattle.std.specs.Prelude.{◌≡◌, ℕ, ℤ, List, [], ◌∷◌, ◌++◌, length, map, Option, Some, None, ◌==◌, if◌then◌else◌}
-use Rattle.std.specs.List.{join_with_byte, slice_split}
+use Rattle.std.specs.List.{join_with_byte, slice_split, flat_map}
 use Rattle.std.specs.Fmt.{signed_decimal}
 use Rattle.std.specs.Int.{w32}
 use Rattle.std.specs.Int.RustNames.{FitsSigned}
@@ -67,6 +67,10 @@ FitPoint p = FitsSigned w32 p.x × FitsSigned w32 p.y
 -- the coordinates of a point, a space before each
 abbrev pub spaced : Point → List ℕ
 spaced p = space ∷ (signed_decimal p.x ++ (space ∷ signed_decimal p.y))
+
+-- the coordinates of the points in turn, a space before each
+abbrev pub spaced_points : List Point → List ℕ
+spaced_points c = flat_map spaced c
 
 -- the parts between the ends of lines are the lines, but an empty last part is none
 abbrev pub lines_of_parts : List (List ℕ) → List (List ℕ)

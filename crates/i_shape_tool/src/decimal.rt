@@ -4,6 +4,13 @@ ghost use Rattle.std.specs.Prelude.{◌≡◌, ◌<◌, ◌≤◌, ◌+◌, ◌/
 ghost use Rattle.std.specs.Fmt.{decimal, signed_decimal};
 ghost use Rattle.i_shape_tool.specs.Text.{space};
 
+/// The two digits of each number below 100, in turn.
+static PAIRS: [u8; 200] = *b"0001020304050607080910111213141516171819\
+    2021222324252627282930313233343536373839\
+    4041424344454647484950515253545556575859\
+    6061626364656667686970717273747576777879\
+    8081828384858687888990919293949596979899";
+
 /// The bytes that two numbers of 32 bits take at most, a space before each.
 pub(crate) const POINT_ROOM: usize = 24;
 
@@ -49,6 +56,7 @@ fn write_pair(pair: u32, text: &mut [u8], start: usize)
     ensures { drop start text.new ≡ (48 + pair / 10) ∷ (48 + pair % 10)
         ∷ drop (start + 2) text.old }
 {
-    text[start] = b'0' + (pair / 10) as u8;
-    text[start + 1] = b'0' + (pair % 10) as u8;
+    let digits = pair as usize * 2;
+    text[start] = PAIRS[digits];
+    text[start + 1] = PAIRS[digits + 1];
 }

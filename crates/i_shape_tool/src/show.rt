@@ -1,8 +1,8 @@
 //! Contours as text.
 
-ghost use Rattle.std.specs.Prelude.{◌≡◌, ◌++◌, option_map, OnOk, string_bytes};
+ghost use Rattle.std.specs.Prelude.{◌≡◌, ◌+◌, ◌*◌, ◌<◌, ◌≤◌, ◌++◌, length, drop, option_map, OnOk, IsAscii, string_bytes};
 ghost use Rattle.i_shape_tool.specs.Points.{contour_of, point_of};
-ghost use Rattle.i_shape_tool.specs.Text.{shown, spaced};
+ghost use Rattle.i_shape_tool.specs.Text.{shown, spaced, spaced_points};
 ghost use Rattle.i_shape_tool.specs.Run.{shown_line, shown_or_none, shown_area};
 
 use crate::decimal::{POINT_ROOM, write_number};
@@ -11,30 +11,52 @@ use i_shape::int::area::Area;
 use i_shape::int::shape::IntContour;
 use std::alloc::AllocError;
 
-/// Appends the coordinates of the points in turn, parted by single spaces.
+/// How many points are written before they are appended. Bytes that were just written one by one are slow to copy.
+const POINTS: usize = 16;
+
+/// Appends the coordinates of the points in turn, parted by single spaces. The space before the first one is skipped.
 pub fn show_contour(output: &mut String, contour: &[IntPoint<i32>]) -> Result<(), AllocError>
     ensures { OnOk result (string_bytes output.new ≡ string_bytes output.old
         ++ shown (contour_of contour.now)) }
 {
-    let Some((first, others)) = contour.split_first() else {
-        return Ok(());
-    };
-    write!(output, "{} {}", first.x, first.y)?;
-    for point in others {
-        push_point(output, *point)?;
+    let mut text = [0; POINTS * POINT_ROOM];
+    let mut left = contour;
+    let mut skipped = 1;
+    while !left.is_empty() {
+        let (points, after) = left.split_at(left.len().min(POINTS));
+        let start = write_points(points, &mut text) + skipped;
+        output.push_str(unsafe { str::from_utf8_unchecked(&text[start..]) })?;
+        left = after;
+        skipped = 0;
     }
     Ok(())
 }
 
-/// Appends a point's coordinates, with a space before each.
-fn push_point(output: &mut String, point: IntPoint<i32>) -> Result<(), AllocError>
-    ensures { OnOk result (string_bytes output.new ≡ string_bytes output.old
-        ++ spaced (point_of point)) }
+/// Writes the coordinates of the points, a space before each, so that they end where the text does, and tells where they start.
+fn write_points(points: &[IntPoint<i32>], text: &mut [u8]) -> usize
+    requires { length points.now * 24 ≤ length text.old }
+    ensures within { 0 < length points.now → result < length text.new }
+    ensures ascii { IsAscii (spaced_points (contour_of points.now)) }
+    ensures written { drop result text.new ≡ spaced_points (contour_of points.now) }
 {
-    let mut text = [0; POINT_ROOM];
-    let middle = write_number(point.y, &mut text, POINT_ROOM);
-    let start = write_number(point.x, &mut text, middle);
-    output.push_str(unsafe { str::from_utf8_unchecked(&text[start..]) })
+    let mut start = text.len();
+    let mut left = points;
+    while let Some((last, others)) = left.split_last() {
+        start = write_point(*last, text, start);
+        left = others;
+    }
+    start
+}
+
+/// Writes the coordinates of a point, a space before each, so that they end at `end`, and tells where they start.
+fn write_point(point: IntPoint<i32>, text: &mut [u8], end: usize) -> usize
+    requires { (24 ≤ end) × (end ≤ length text.old) }
+    ensures room { end ≤ result + 24 }
+    ensures ascii { IsAscii (spaced (point_of point)) }
+    ensures written { drop result text.new ≡ spaced (point_of point) ++ drop end text.old }
+{
+    let middle = write_number(point.y, text, end);
+    write_number(point.x, text, middle)
 }
 
 /// Appends a contour, on a line of its own.

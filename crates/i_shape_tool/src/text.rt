@@ -3,13 +3,14 @@
 ghost use Rattle.std.specs.Prelude.{◌≡◌, ◌++◌, ℕ, List, IfOk, IfErr, OnOk, IsOkUnless, string_bytes};
 ghost use Rattle.i_shape_tool.specs.Points.{contour_of, IsSafe};
 ghost use Rattle.i_shape_tool.specs.Command.{IsCleaner, command_of};
+ghost use Rattle.i_shape_tool.specs.declared.command.LineCommand.TheVariants.{Simplify};
 ghost use Rattle.i_shape_tool.specs.Run.{AnswersContour, AnswersLines, AnswersText, IsFirstFault};
 
 use crate::command::{Command, LineCommand};
 use crate::compact::compact_lines;
 use crate::fault::ToolFault;
 use crate::line::{first_line, read_line};
-use crate::show::{show_area, show_cleaned};
+use crate::show::{show_area, show_cleaned, show_contour};
 use i_shape::int::despike::DeSpikeContour;
 use i_shape::int::shape::IntContour;
 use i_shape::int::simple::{ContourSimplifier, SimpleContour};
@@ -76,10 +77,7 @@ fn answer_contour(
     ensures memory { IsOkUnless result ToolFault.OutOfMemory }
 {
     match command {
-        LineCommand::Simplify => {
-            let cleaned = simplifier.simplify_contour(contour.as_slice())?;
-            show_cleaned(output, &cleaned)?;
-        }
+        LineCommand::Simplify => show_simplified(simplifier, contour, output)?,
         LineCommand::Despike => {
             let cleaned = contour.despiked_contour(alloc)?;
             show_cleaned(output, &cleaned)?;
@@ -91,4 +89,23 @@ fn answer_contour(
         }
     }
     Ok(())
+}
+
+/// Appends what is left of a contour without its zero turns, or a word where it collapses. A contour that has none isn't copied.
+fn show_simplified(
+    simplifier: &mut ContourSimplifier,
+    contour: &IntContour<i32>,
+    output: &mut String,
+) -> Result<(), ToolFault>
+    requires { IsSafe (contour_of contour.now.items) }
+    ensures ok { OnOk result ((answer : List ℕ)
+        × AnswersContour Simplify (contour_of contour.now.items) answer
+        × (string_bytes output.new ≡ string_bytes output.old ++ answer)) }
+    ensures memory { IsOkUnless result ToolFault.OutOfMemory }
+{
+    if contour.as_slice().is_simple() {
+        return Ok(show_contour(output, contour.as_slice())?);
+    }
+    let cleaned = simplifier.simplify_contour(contour.as_slice())?;
+    Ok(show_cleaned(output, &cleaned)?)
 }

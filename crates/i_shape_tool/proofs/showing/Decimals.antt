@@ -1,13 +1,13 @@
 -- The decimal of a number, two digits at a time.
-use Rattle.std.proofs.Common.{◌≡◌, ℕ, ◌+◌, ◌-◌, ◌/◌, ◌%◌, ◌^◌, ◌<◌, ◌≤◌, List, [], ◌∷◌, ◌++◌, length, ℤ, pos, negsuc, FitsSigned, refl, sym, ap, ◌∙◌, subst, arith, append_assoc, append-nil, length-append, unsigned_abs, true, false, true≢false, drop, set, length-set}
+use Rattle.std.proofs.Common.{◌≡◌, ℕ, ◌+◌, ◌-◌, ◌/◌, ◌%◌, ◌^◌, ◌<◌, ◌≤◌, List, [], ◌∷◌, ◌++◌, length, ℤ, pos, negsuc, FitsSigned, refl, ap, ◌∙◌, arith, append_assoc, length-append, unsigned_abs, true, false, true≢false, drop, set, length-set}
 use Rattle.std.specs.Int.{w32}
 use lib.Signed.{lt_z}
 use Rattle.std.proofs.lemmas.Bool.Decides.{nat_tests}
 use Rattle.std.proofs.lemmas.List.{drop-set, drop-set-lt}
 use Rattle.std.specs.Fmt.{decimal, signed_decimal}
-use Rattle.std.specs.Str.{IsAscii, IsUtf8}
+use Rattle.std.specs.Str.{IsAscii}
 use Rattle.std.proofs.lemmas.Fmt.{decimal_digit, decimal_step, length-decimal-le, IsAscii-signed}
-use Rattle.std.proofs.lemmas.Str.{IsAscii-append, IsUtf8-from_ascii}
+use Rattle.std.proofs.lemmas.Str.{IsAscii-append}
 use Rattle.std.proofs.lemmas.Str.Ascii.{IsAscii-cons}
 use Rattle.i_shape_tool.specs.Text.{space}
 
@@ -76,8 +76,6 @@ pub signed_ascii : (z : ℤ) → FitsSigned w32 z → IsAscii (signed_decimal z)
 signed_ascii (pos n) fits = IsAscii-signed (pos n) (omega (arith, fits))
 signed_ascii (negsuc n) fits = IsAscii-signed (negsuc n) (omega (arith, fits))
 
--- and two of them, a space before each, are text
-pub two_are_text : (xs ys : List ℕ) → IsAscii xs → IsAscii ys → IsUtf8 (space ∷ (xs ++ (space ∷ (ys ++ []))))
-two_are_text xs ys x y =
-    let both = IsAscii-cons space _ (omega arith) (IsAscii-append xs (space ∷ ys) x (IsAscii-cons space ys (omega arith) y)) in
-    IsUtf8-from_ascii _ (subst (λ l. IsAscii (space ∷ (xs ++ (space ∷ l)))) (sym (append-nil ys)) both)
+-- and so are two of them, a space before each
+pub spaced_ascii : (xs ys : List ℕ) → IsAscii xs → IsAscii ys → IsAscii (space ∷ (xs ++ (space ∷ ys)))
+spaced_ascii xs ys x y = IsAscii-cons space _ (omega arith) (IsAscii-append xs (space ∷ ys) x (IsAscii-cons space ys (omega arith) y))
