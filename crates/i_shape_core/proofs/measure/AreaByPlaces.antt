@@ -1,5 +1,5 @@
 -- Twice the area as a loop sums it over the places of a slice, and wraps each sum.
-use Rattle.std.proofs.Common.{◌≡◌, ℕ, zero, suc, ◌<◌, List, [], ◌∷◌, length, get_or, ℤ, pos, ◌+ℤ◌, sym, ap, ◌∙◌, ◌+◌, arith, add-one}
+use Rattle.std.proofs.Common.{◌≡◌, ℕ, zero, suc, ◌<◌, List, [], ◌∷◌, length, get_or, ℤ, pos, ◌+ℤ◌, ◌-ℤ◌, ◌*ℤ◌, sym, ap, ◌∙◌, ◌+◌, arith, add-one}
 use Rattle.std.specs.Int.{Width, int_wrap}
 use Rattle.std.proofs.lemmas.Int.{ints}
 use Rattle.i_shape_core.specs.Point.{Point, cross_of}
@@ -35,17 +35,21 @@ path_by_places a (b ∷ bs) z =
     omega (arith, ints)
 
 -- and so is a contour, over its places and the edge from the last one, which is k
-shoelace_by_places : (a : Point) (bs : List Point) (k : ℕ) → k ≡ length bs → shoelace (a ∷ bs) ≡ area_up_to (a ∷ bs) k +ℤ cross_of (point_at (a ∷ bs) k) a
+pub shoelace_by_places : (a : Point) (bs : List Point) (k : ℕ) → k ≡ length bs → shoelace (a ∷ bs) ≡ area_up_to (a ∷ bs) k +ℤ cross_of (point_at (a ∷ bs) k) a
 unfolding shoelace
 shoelace_by_places a bs k same =
     path_by_places a bs a ∙ sym (ap (λ (j : ℕ). area_up_to (a ∷ bs) j +ℤ cross_of (point_at (a ∷ bs) j) a) same)
 
--- a contour without points has no area
-pub summed-empty : {I : Type 0} (value : I → ℤ) (w : Width) (points : List (IntPoint I)) (area : ℤ) → length points ≡ 0 → area ≡ pos 0
+no_edge : (p : Point) → (p.x *ℤ p.y -ℤ p.y *ℤ p.x) +ℤ pos 0 ≡ pos 0
+no_edge p = omega (arith, ints)
+
+-- a contour without a second point has no area
+pub summed-short : {I : Type 0} (value : I → ℤ) (w : Width) (points : List (IntPoint I)) (area : ℤ) → length points < 2 → area ≡ pos 0
     → area ≡ int_wrap w (shoelace (contour_of value points))
-unfolding shoelace
-summed-empty value w [] area none e = wrapped-zero w area e
-summed-empty value w (p ∷ ps) area none e = absurd (omega arith)
+unfolding area_of_edge shoelace
+summed-short value w [] area short e = wrapped-zero w area e
+summed-short value w (p ∷ []) area short e = wrapped-zero w area e ∙ ap (int_wrap w) (sym (no_edge (point_of value p)))
+summed-short value w (p ∷ q ∷ ps) area short e = absurd (omega arith)
 
 -- the edge from the point at place k to the next is summed up
 pub summed-next : {I : Type 0} (value : I → ℤ) (w : Width) (points : List (IntPoint I)) (k : ℕ) (point next : IntPoint I) (before product after : ℤ)

@@ -1,15 +1,13 @@
 use Rattle.std.proofs.Common.{◌≡◌, ◌<◌, ◌-◌, ◌∙◌, ap, get_or, length, arith, rules}
-use Rattle.std.proofs.lemmas.Grind.{common_steps}
 use Rattle.i_shape_core.proofs.plane.PointLists.{points-length, points-item}
-use Rattle.i_shape_core.proofs.measure.AreaByPlaces.{summed-empty, summed-next, summed-closed}
+use Rattle.i_shape_core.proofs.measure.AreaByPlaces.{summed-short, summed-next, summed-closed}
 use Rattle.i_shape_core.proofs.measure.AreaWalk.{wrapped-zero}
 use Rattle.i_shape_core.proofs.area.area_of.Goals as goal
 
-pub returns-then-is_empty : goal.returns-then-is_empty
-returns-then-is_empty g c =
+pub returns-then-points-lt2 : goal.returns-then-points-lt2
+returns-then-points-lt2 g c =
     let count = points-length g.P.ContourPoint.point g.P.ContourPoint.points g.P.ContourPoint.each c.args.points.now in
-    let none : length c.args.points.now ≡ 0 = grind (arith, common_steps) in
-    summed-empty g.P.Coordinate.IntNumber.value g.P.Coordinate.Wide.WideIntNumber.width (g.P.ContourPoint.points c.args.points.now) _ (count ∙ none) (search rules)
+    summed-short g.P.Coordinate.IntNumber.value g.P.Coordinate.Wide.WideIntNumber.width (g.P.ContourPoint.points c.args.points.now) _ (omega (arith, count, c.if-points-lt2.true)) (search rules)
 
 pub loop-place-init : goal.loop-place-init
 loop-place-init g c = wrapped-zero g.P.Coordinate.Wide.WideIntNumber.width _ (search rules)
@@ -33,7 +31,7 @@ returns g c =
     let each = g.P.ContourPoint.each in
     let whole = c.args.points.now in
     let count = points-length point points each whole in
-    let more : 0 < length whole = grind (arith, common_steps) in
+    let more : 0 < length whole = omega (arith, c.if-points-lt2.false) in
     let at : length whole - 1 ≡ c.loop-place.place = omega (arith, more, c.loop-place.auto.place-end, c.loop-place-test.false) in
     let last = points-item point points each whole _ c.index-points-last.result c.to_point-end-2.result c.to_point-end-2.ensures (omega (arith, more)) c.index-points-last.is in
     let first = points-item point points each whole 0 c.index-points-0.result c.to_point.result c.to_point.ensures more c.index-points-0.is in
