@@ -78,7 +78,8 @@ pub fn area_of<P: ContourPoint>(points: &[P]) -> <P::Coordinate as IntNumber>::W
     if points.len() < 2 {
         return <P::Coordinate as IntNumber>::Wide::ZERO;
     }
-    // At 16 bits the products of several edges are made at once, and at 64 a difference of two heights costs as much as a product.
+    // One product a point, and not two an edge. At 16 bits the compiler makes those of several edges at once, and at 64 the difference
+    // of two heights takes 65 bits, so that its product costs more than two others.
     if <P::Coordinate as IntNumber>::BITS == 32 {
         return area_by_points(points);
     }
@@ -93,7 +94,7 @@ pub fn area_of<P: ContourPoint>(points: &[P]) -> <P::Coordinate as IntNumber>::W
     sum.wrapping_add(end.cross_product(points[0].to_point()))
 }
 
-/// The same, by one product a point.
+/// The same of two points or more, as a sum over the points in place of the edges.
 #[inline(always)]
 fn area_by_points<P: ContourPoint>(points: &[P]) -> <P::Coordinate as IntNumber>::Wide
     requires { 2 ≤ length points.now }
@@ -114,10 +115,7 @@ fn area_by_points<P: ContourPoint>(points: &[P]) -> <P::Coordinate as IntNumber>
 
 /// The parts of the points behind the places of the first blocks of four.
 #[inline(always)]
-fn sum_of_blocks<P: ContourPoint>(
-    points: &[P],
-    blocks: usize,
-) -> <P::Coordinate as IntNumber>::Wide
+fn sum_of_blocks<P: ContourPoint>(points: &[P], blocks: usize) -> <P::Coordinate as IntNumber>::Wide
     requires { blocks * 4 + 2 ≤ length points.now }
     ensures { P.Coordinate.Wide.value result ≡ int_wrap P.Coordinate.Wide.width
         (parts_up_to (contour_of P.Coordinate.value (P.points points.now)) (blocks * 4)) }
@@ -131,10 +129,7 @@ fn sum_of_blocks<P: ContourPoint>(
 
 /// The parts of the points behind four places, added up in pairs.
 #[inline(always)]
-fn part_of_block<P: ContourPoint>(
-    points: &[P],
-    place: usize,
-) -> <P::Coordinate as IntNumber>::Wide
+fn part_of_block<P: ContourPoint>(points: &[P], place: usize) -> <P::Coordinate as IntNumber>::Wide
     requires { place + 5 < length points.now }
     ensures { let c = contour_of P.Coordinate.value (P.points points.now) in
         P.Coordinate.Wide.value result ≡ int_wrap P.Coordinate.Wide.width

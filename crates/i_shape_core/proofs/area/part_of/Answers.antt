@@ -1,4 +1,3 @@
-use Rattle.std.proofs.Common.{ℕ}
 use Rattle.i_shape_core.proofs.measure.AreaByPoints.{read_at, wrapped-part}
 use Rattle.i_shape_core.proofs.area.part_of.Goals as goal
 
