@@ -407,7 +407,7 @@ std::vector<std::ptrdiff_t> windings(const Points &points, const Offsets &offset
     return numbers;
 }
 
-/* Twice the area of a contour, above 0 where it turns left; nothing where it has no point. */
+/* Twice the area of a contour, above 0 where it turns left; nothing where it has no point. A sum that doesn't fit wraps. */
 template <class Points>
 std::optional<AreaOf<Points>> area_two(const Points &points) noexcept {
     AreaOf<Points> area;

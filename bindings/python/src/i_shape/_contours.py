@@ -301,7 +301,7 @@ def is_convex(points: npt.NDArray[Int]) -> bool:
 
 
 def is_safe(points: npt.NDArray[Int]) -> bool:
-    """Return whether each point is safe, as the other calls ask for.
+    """Return whether each point is safe, as cleaners and tests ask for.
 
     Parameters
     ----------

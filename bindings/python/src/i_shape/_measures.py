@@ -162,7 +162,7 @@ def is_convex_rings(points: npt.NDArray[Int], offsets: npt.ArrayLike, *,
 
 def is_safe_rings(points: npt.NDArray[Int], offsets: npt.ArrayLike, *,
                   threads: int = 1) -> npt.NDArray[np.bool_]:
-    """Return of which rings each point is safe, as the other calls ask for.
+    """Return of which rings each point is safe, as cleaners and tests ask.
 
     Parameters
     ----------

@@ -42,7 +42,7 @@ def _float_areas(features: Features, step: float) -> list[float]:
 
 
 def _whole_areas(features: Features, name: str) -> list[int]:
-    """Twice the signed area of each ring, exactly."""
+    """Twice the signed area of each ring, as :func:`area_two` answers it."""
     points, ends, _ = features.polygons
     rings = zip(ends.tolist(), ends[1:].tolist())
     return [area_two(points[start:end]) or 0
