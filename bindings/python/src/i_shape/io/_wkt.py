@@ -154,7 +154,7 @@ def from_wkt(texts: Iterable[str]) -> Features:
 
 
 def _shown(number: float) -> str:
-    """The shortest text that is read as the number."""
+    """A text of the fewest digits that is read as the number."""
     text = repr(number)
     return text[:-2] if text.endswith(".0") else text
 
