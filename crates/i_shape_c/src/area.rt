@@ -8,7 +8,7 @@ ghost use Rattle.i_shape_c.specs.Points.{point_by};
 
 use crate::point::CPoint;
 use i_shape::IntNumber;
-use i_shape_core::number::WideIntNumber;
+use i_shape_core::area::area_of;
 
 /// Twice the area, above zero where the contour turns left, and `None` where there is no point. No safe range is asked: a sum that
 /// doesn't fit wraps. It takes no memory.
@@ -18,16 +18,10 @@ pub fn area_two<P: CPoint>(points: &[P]) -> Option<<P::Coordinate as IntNumber>:
         ≡ int_wrap P.Coordinate.Wide.width
         (shoelace (map (point_by P.Coordinate.value P.point) points.now))) }
 {
-    let (start, rest) = points.split_first()?;
-    let first = (*start).to_point();
-    let mut previous = first;
-    let mut area = <<P::Coordinate as IntNumber>::Wide as WideIntNumber>::ZERO;
-    for given in rest {
-        let point = (*given).to_point();
-        area = area.wrapping_add(previous.cross_product(point));
-        previous = point;
+    if points.is_empty() {
+        return None;
     }
-    Some(area.wrapping_add(previous.cross_product(first)))
+    Some(area_of(points))
 }
 
 /// A whole number of 128 bits, as the two halves of its bits.
