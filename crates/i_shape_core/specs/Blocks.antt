@@ -1,8 +1,9 @@
--- What a walk finds in a block of points: one that carries its last edge along, and one that tells whether a point is inside. Private functions alone speak of it.
+-- What a walk finds in a block of points: one that carries its last edge along, one that tells whether a point is inside, and one that looks on which side of a height they are. Private functions alone speak of it.
 use Rattle.std.specs.Prelude.{◌≡◌, ◌<ℤ◌, List, [], ◌∷◌, ◌⊎◌, pos, Bool, cond, not}
 use Rattle.i_shape_core.specs.Point.{Point, vector, cross_of, dot_of}
 use Rattle.i_shape_core.specs.Convex.{is_same}
-use Rattle.i_shape_core.specs.Edges.{is_right}
+use Rattle.std.specs.List.{All}
+use Rattle.i_shape_core.specs.Edges.{is_above, is_right}
 
 -- from p, to which the edge e leads, the way goes back to q
 abbrev pub Reverses : Point → Point → Point → Type 0
@@ -22,3 +23,7 @@ last_change e p (q ∷ qs) = cond (is_same p q) (last_change e q qs) (last_chang
 abbrev pub inside_after : Point → Bool → Point → List Point → Bool
 inside_after p s q [] = s
 inside_after p s q (r ∷ rs) = inside_after p (cond (is_right p (record { start = q; end = r })) (not s) s) r rs
+
+-- all points are on the side of q: above p where q is, and else none of them
+abbrev pub IsOnSide : Point → Point → List Point → Type 0
+IsOnSide p q ps = All (λ a. is_above p a ≡ is_above p q) ps

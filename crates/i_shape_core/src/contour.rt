@@ -1,13 +1,13 @@
 //! Tests of a contour as a whole: its winding, its convexity, and which points it contains.
 
-ghost use Rattle.std.specs.Prelude.{◌≡◌, ◌<◌, ◌↔◌, ◌≤◌, ◌≤ℤ◌, ◌++◌, pos, List, length, map, drop, IsTrue};
+ghost use Rattle.std.specs.Prelude.{◌≡◌, ◌<◌, ◌↔◌, ◌≤◌, ◌≤ℤ◌, ◌++◌, pos, false, List, length, map, drop, IsTrue};
 ghost use Rattle.std.specs.Int.{int_wrap};
 ghost use Rattle.i_shape_core.specs.IntPoint.{point_of, contour_of, IsSafe, IsSafeContour};
 ghost use Rattle.i_shape_core.specs.Point.{Point};
-ghost use Rattle.i_shape_core.specs.Edges.{shoelace, Inside, is_right};
+ghost use Rattle.i_shape_core.specs.Edges.{shoelace, Inside, is_above, is_right};
 ghost use Rattle.i_shape_core.specs.Winding.{winding};
 ghost use Rattle.i_shape_core.specs.Filling.{IsFilled};
-ghost use Rattle.i_shape_core.specs.Blocks.{inside_after};
+ghost use Rattle.i_shape_core.specs.Blocks.{inside_after, IsOnSide};
 ghost use Rattle.i_shape_core.specs.Convex.{Convex};
 
 use crate::area::area_of;
@@ -160,10 +160,67 @@ pub fn contains_point<P: ContourPoint>(contour: &[P], point: IntPoint<P::Coordin
     let Some(last) = contour.last() else {
         return false;
     };
-    let mut start = last.to_point();
+    let start = last.to_point();
+    // Whole products of 128 bits cost more than a branch.
+    if contour.len() < 16 || P::Coordinate::BITS > 32 {
+        return is_inside_by_fours(false, point, start, contour);
+    }
+    is_inside_by_blocks(point, start, contour)
+}
+
+/// The same as `is_inside_after` of a point that isn't inside before. Blocks of 16 points on the side of the point before them, over
+/// which no edge passes the height of `point`, are passed over. After two blocks in a row that aren't, six are walked over without a
+/// look, since a look costs more than it saves where points are in disorder.
+fn is_inside_by_blocks<P: ContourPoint>(
+    point: IntPoint<P::Coordinate>,
+    first: IntPoint<P::Coordinate>,
+    points: &[P],
+) -> bool
+    requires point_safe { IsSafe P.Coordinate.width (point_of P.Coordinate.value point) }
+    requires first_safe { IsSafe P.Coordinate.width (point_of P.Coordinate.value first) }
+    requires points_safe { IsSafeContour P.Coordinate.width
+        (contour_of P.Coordinate.value (P.points points.now)) }
+    ensures { result ≡ inside_after (point_of P.Coordinate.value point)
+        false (point_of P.Coordinate.value first)
+        (contour_of P.Coordinate.value (P.points points.now)) }
+{
+    let mut start = first;
     let mut is_inside = false;
-    let mut rest = contour;
-    // Blocks of four points, which the compiler can write out one after the other.
+    let mut walked: usize = 0;
+    let mut rest = points;
+    while rest.len() >= 16 {
+        let (block, later) = rest.split_at(16);
+        if walked < 2 && is_on_side(point, start, block) {
+            walked = 0;
+        } else {
+            is_inside = is_inside_by_products(is_inside, point, start, block);
+            walked = (walked + 1) % 8;
+        }
+        start = block[15].to_point();
+        rest = later;
+    }
+    is_inside_by_fours(is_inside, point, start, rest)
+}
+
+/// The same as `is_inside_after`, in blocks of four points, which the compiler can write out one after the other.
+#[inline(always)]
+fn is_inside_by_fours<P: ContourPoint>(
+    was_inside: bool,
+    point: IntPoint<P::Coordinate>,
+    first: IntPoint<P::Coordinate>,
+    points: &[P],
+) -> bool
+    requires point_safe { IsSafe P.Coordinate.width (point_of P.Coordinate.value point) }
+    requires first_safe { IsSafe P.Coordinate.width (point_of P.Coordinate.value first) }
+    requires points_safe { IsSafeContour P.Coordinate.width
+        (contour_of P.Coordinate.value (P.points points.now)) }
+    ensures { result ≡ inside_after (point_of P.Coordinate.value point)
+        was_inside (point_of P.Coordinate.value first)
+        (contour_of P.Coordinate.value (P.points points.now)) }
+{
+    let mut start = first;
+    let mut is_inside = was_inside;
+    let mut rest = points;
     while rest.len() >= 4 {
         let (block, later) = rest.split_at(4);
         is_inside = is_inside_after(is_inside, point, start, block);
@@ -202,6 +259,59 @@ fn is_inside_after<P: ContourPoint>(
     is_inside
 }
 
+/// The same without a branch between points.
+#[inline(always)]
+fn is_inside_by_products<P: ContourPoint>(
+    was_inside: bool,
+    point: IntPoint<P::Coordinate>,
+    first: IntPoint<P::Coordinate>,
+    points: &[P],
+) -> bool
+    requires point_safe { IsSafe P.Coordinate.width (point_of P.Coordinate.value point) }
+    requires first_safe { IsSafe P.Coordinate.width (point_of P.Coordinate.value first) }
+    requires points_safe { IsSafeContour P.Coordinate.width
+        (contour_of P.Coordinate.value (P.points points.now)) }
+    ensures { result ≡ inside_after (point_of P.Coordinate.value point)
+        was_inside (point_of P.Coordinate.value first)
+        (contour_of P.Coordinate.value (P.points points.now)) }
+{
+    let mut is_inside = was_inside;
+    let mut start = first;
+    for given in points {
+        let end = given.to_point();
+        is_inside = is_inside ^ passes_right_by_product(point, start, end);
+        start = end;
+    }
+    is_inside
+}
+
+/// Whether the points of a block are all on the side of `start`: all of them above the height of `point` where `start` is, and else none.
+#[inline(always)]
+pub(crate) fn is_on_side<P: ContourPoint>(
+    point: IntPoint<P::Coordinate>,
+    start: IntPoint<P::Coordinate>,
+    block: &[P],
+) -> bool
+    ensures { IsTrue result ↔ IsOnSide (point_of P.Coordinate.value point)
+        (point_of P.Coordinate.value start) (contour_of P.Coordinate.value (P.points block.now)) }
+{
+    let side = start.y > point.y;
+    let mut is_on_side = true;
+    for given in block {
+        is_on_side = is_on_side & is_side_of(side, point, given.to_point());
+    }
+    is_on_side
+}
+
+/// Whether `other` lies above the height of `point` where `side` says so, and else doesn't.
+#[inline(always)]
+fn is_side_of<I: IntNumber>(side: bool, point: IntPoint<I>, other: IntPoint<I>) -> bool
+    ensures { IsTrue result
+        ↔ (is_above (point_of I.value point) (point_of I.value other) ≡ side) }
+{
+    (other.y > point.y) == side
+}
+
 /// Whether the edge from `start` to `end` passes the height of `point` strictly to the right of it.
 pub(crate) fn passes_right<I: IntNumber>(
     point: IntPoint<I>,
@@ -223,4 +333,25 @@ pub(crate) fn passes_right<I: IntNumber>(
     } else {
         Triangle::is_clockwise(start, point, end)
     }
+}
+
+/// The same without a branch, by one product for each edge.
+#[inline(always)]
+fn passes_right_by_product<I: IntNumber>(
+    point: IntPoint<I>,
+    start: IntPoint<I>,
+    end: IntPoint<I>,
+) -> bool
+    requires point_safe { IsSafe I.width (point_of I.value point) }
+    requires start_safe { IsSafe I.width (point_of I.value start) }
+    requires end_safe { IsSafe I.width (point_of I.value end) }
+    ensures { result ≡ is_right (point_of I.value point)
+        (record { start = point_of I.value start; end = point_of I.value end }) }
+{
+    let is_start_above = start.y > point.y;
+    let is_end_above = end.y > point.y;
+    let turn = (point - start).cross_product(end - point);
+    let is_down = is_start_above & !is_end_above & (turn > I::Wide::ZERO);
+    let is_up = is_end_above & !is_start_above & (turn < I::Wide::ZERO);
+    is_down | is_up
 }

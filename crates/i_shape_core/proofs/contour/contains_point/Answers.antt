@@ -1,9 +1,8 @@
-use Rattle.std.proofs.Common.{◌∙◌, ◌≡◌, ◌-◌, ◌<◌, get_or, length, arith, refl}
+use Rattle.std.proofs.Common.{◌∙◌, ◌≡◌, ◌-◌, ◌<◌, get_or, length, arith}
 use Rattle.i_shape_core.specs.IntPoint.{point_of}
 use Rattle.i_shape_core.proofs.plane.Contours.{read-safe}
-use Rattle.i_shape_core.proofs.plane.PointLists.{points-length, points-item, points-take, points-drop, points-append}
-use Rattle.i_shape_core.proofs.plane.SafeParts.{first-safe, later-safe}
-use Rattle.i_shape_core.proofs.measure.InsideWalk.{last_read, block_walked, walk_end, nothing_inside}
+use Rattle.i_shape_core.proofs.plane.PointLists.{points-length, points-item}
+use Rattle.i_shape_core.proofs.measure.InsideWalk.{walk_end, nothing_inside}
 use Rattle.i_shape_core.proofs.contour.contains_point.Goals as goal
 
 pub returns-in_default : goal.returns-in_default
@@ -11,46 +10,33 @@ returns-in_default g c =
     let count = points-length g.P.ContourPoint.point g.P.ContourPoint.points g.P.ContourPoint.each c.args.contour.now in
     nothing_inside g.P.Coordinate.IntNumber.value (point_of g.P.Coordinate.IntNumber.value c.args.point) (g.P.ContourPoint.points c.args.contour.now) (omega (arith, count, c.in_default.ensures.item.3))
 
-pub loop-rest-init : goal.loop-rest-init
-loop-rest-init g c =
+pub is_inside_by_fours-requires-clause-first_safe : goal.is_inside_by_fours-requires-clause-first_safe
+is_inside_by_fours-requires-clause-first_safe g c =
     let points = g.P.ContourPoint.points in
     let whole = c.args.contour.now in
     let count = points-length g.P.ContourPoint.point points g.P.ContourPoint.each whole in
     let within : length whole - 1 < length whole = omega (arith, c.in-Some.ensures.item.3.0) in
     let last = points-item g.P.ContourPoint.point points g.P.ContourPoint.each whole _ c.in-Some.last.now c.to_point-start.result c.to_point-start.ensures within c.in-Some.ensures.item.1 in
-    record {
-      start_safe = read-safe g.P.Coordinate.IntNumber.width g.P.Coordinate.IntNumber.value (points whole) _ c.to_point-start.result c.requires.points_safe (omega (arith, count, within)) last;
-      rest_safe = c.requires.points_safe;
-      told = refl;
-    }
+    read-safe g.P.Coordinate.IntNumber.width g.P.Coordinate.IntNumber.value (points whole) _ c.to_point-start.result c.requires.points_safe (omega (arith, count, within)) last
 
-pub is_inside_after-is_inside-requires-clause-points_safe : goal.is_inside_after-is_inside-requires-clause-points_safe
-is_inside_after-is_inside-requires-clause-points_safe g c =
-    let front = points-take g.P.ContourPoint.point g.P.ContourPoint.points g.P.ContourPoint.each _ _ 4 c.split_at.ensures.front in
-    first-safe g.P.Coordinate.IntNumber.width g.P.Coordinate.IntNumber.value _ _ 4 front c.loop-rest.invariant.rest_safe
-
-pub loop-rest-preserved : goal.loop-rest-preserved
-loop-rest-preserved g c =
-    let value = g.P.Coordinate.IntNumber.value in
-    let width = g.P.Coordinate.IntNumber.width in
-    let point = g.P.ContourPoint.point in
+pub returns-then-contour-lt16 : goal.returns-then-contour-lt16
+returns-then-contour-lt16 g c =
     let points = g.P.ContourPoint.points in
-    let each = g.P.ContourPoint.each in
-    let block = c.split_at.result.0.now in
-    let later = c.split_at.result.1.now in
-    let count = points-length point points each block in
-    let front = points-take point points each c.loop-rest.rest.now block 4 c.split_at.ensures.front in
-    let back = points-drop point points each c.loop-rest.rest.now later 4 c.split_at.ensures.back in
-    let both = points-append point points each c.loop-rest.rest.now block later c.split_at.ensures.by_index.0 in
-    let block_safe = first-safe width value (points c.loop-rest.rest.now) (points block) 4 front c.loop-rest.invariant.rest_safe in
-    let within : 3 < length block = omega (arith, c.split_at.ensures.front_len) in
-    let read = points-item point points each block 3 c.index-block-3.result c.to_point-start-in-loop-rest.result c.to_point-start-in-loop-rest.ensures within c.index-block-3.is in
-    record {
-      start_safe = read-safe width value (points block) 3 c.to_point-start-in-loop-rest.result block_safe (omega (arith, count, within)) read;
-      rest_safe = later-safe width value (points c.loop-rest.rest.now) (points later) 4 back c.loop-rest.invariant.rest_safe;
-      told = block_walked value (point_of value c.args.point) (point_of value c.loop-rest.start) _ c.loop-rest.is_inside _ _ (points c.loop-rest.rest.now) (points block) (points later) both c.is_inside_after-is_inside.ensures
-          (last_read value (point_of value c.loop-rest.start) (points block) 3 c.to_point-start-in-loop-rest.result (omega (arith, count, c.split_at.ensures.front_len)) read) c.loop-rest.invariant.told;
-    }
+    let whole = c.args.contour.now in
+    let count = points-length g.P.ContourPoint.point points g.P.ContourPoint.each whole in
+    let within : length whole - 1 < length whole = omega (arith, c.in-Some.ensures.item.3.0) in
+    let last : c.to_point-start.result ≡ get_or (points whole) (length (points whole) - 1) c.to_point-start.result =
+    rw count (points-item g.P.ContourPoint.point points g.P.ContourPoint.each whole _ c.in-Some.last.now c.to_point-start.result c.to_point-start.ensures within c.in-Some.ensures.item.1) in
+    walk_end g.P.Coordinate.IntNumber.value (point_of g.P.Coordinate.IntNumber.value c.args.point) (points whole) c.to_point-start.result _ (omega (arith, count, within)) last (c.is_inside_by_fours.ensures)
+
+pub is_inside_by_blocks-requires-clause-first_safe : goal.is_inside_by_blocks-requires-clause-first_safe
+is_inside_by_blocks-requires-clause-first_safe g c =
+    let points = g.P.ContourPoint.points in
+    let whole = c.args.contour.now in
+    let count = points-length g.P.ContourPoint.point points g.P.ContourPoint.each whole in
+    let within : length whole - 1 < length whole = omega (arith, c.in-Some.ensures.item.3.0) in
+    let last = points-item g.P.ContourPoint.point points g.P.ContourPoint.each whole _ c.in-Some.last.now c.to_point-start.result c.to_point-start.ensures within c.in-Some.ensures.item.1 in
+    read-safe g.P.Coordinate.IntNumber.width g.P.Coordinate.IntNumber.value (points whole) _ c.to_point-start.result c.requires.points_safe (omega (arith, count, within)) last
 
 pub returns : goal.returns
 returns g c =
@@ -60,4 +46,4 @@ returns g c =
     let within : length whole - 1 < length whole = omega (arith, c.in-Some.ensures.item.3.0) in
     let last : c.to_point-start.result ≡ get_or (points whole) (length (points whole) - 1) c.to_point-start.result =
     rw count (points-item g.P.ContourPoint.point points g.P.ContourPoint.each whole _ c.in-Some.last.now c.to_point-start.result c.to_point-start.ensures within c.in-Some.ensures.item.1) in
-    walk_end g.P.Coordinate.IntNumber.value (point_of g.P.Coordinate.IntNumber.value c.args.point) (points whole) c.to_point-start.result _ (omega (arith, count, within)) last (c.is_inside_after.ensures ∙ c.loop-rest.invariant.told)
+    walk_end g.P.Coordinate.IntNumber.value (point_of g.P.Coordinate.IntNumber.value c.args.point) (points whole) c.to_point-start.result _ (omega (arith, count, within)) last (c.is_inside_by_blocks.ensures)
