@@ -1,9 +1,10 @@
 -- What a walk finds in a block of points: one that carries its last edge along, one that tells whether a point is inside, and one that looks on which side of a height they are. Private functions alone speak of it.
-use Rattle.std.specs.Prelude.{◌≡◌, ◌<ℤ◌, List, [], ◌∷◌, ◌⊎◌, pos, Bool, cond, not}
+use Rattle.std.specs.Prelude.{◌≡◌, ◌<ℤ◌, ℤ, ◌+ℤ◌, List, [], ◌∷◌, ◌⊎◌, pos, Bool, cond, not}
 use Rattle.i_shape_core.specs.Point.{Point, vector, cross_of, dot_of}
 use Rattle.i_shape_core.specs.Convex.{is_same}
 use Rattle.std.specs.List.{All}
 use Rattle.i_shape_core.specs.Edges.{is_above, is_right}
+use Rattle.i_shape_core.specs.Winding.{winding_of_edge}
 
 -- from p, to which the edge e leads, the way goes back to q
 abbrev pub Reverses : Point → Point → Point → Type 0
@@ -27,3 +28,8 @@ inside_after p s q (r ∷ rs) = inside_after p (cond (is_right p (record { start
 -- all points are on the side of q: above p where q is, and else none of them
 abbrev pub IsOnSide : Point → Point → List Point → Type 0
 IsOnSide p q ps = All (λ a. is_above p a ≡ is_above p q) ps
+
+-- what the way from q over the points adds to how often a contour winds about p
+abbrev pub winding_over : Point → Point → List Point → ℤ
+winding_over p q [] = pos 0
+winding_over p q (r ∷ rs) = winding_of_edge p (record { start = q; end = r }) +ℤ winding_over p r rs

@@ -337,7 +337,7 @@ pub(crate) fn passes_right<I: IntNumber>(
 
 /// The same without a branch, by one product for each edge.
 #[inline(always)]
-fn passes_right_by_product<I: IntNumber>(
+pub(crate) fn passes_right_by_product<I: IntNumber>(
     point: IntPoint<I>,
     start: IntPoint<I>,
     end: IntPoint<I>,

@@ -1,18 +1,22 @@
 -- The walk over a contour that starts from its last point, and adds what each edge adds to the winding number.
-use Rattle.std.proofs.Common.{◌≡◌, ◌⊎◌, ℕ, suc, ◌+◌, ◌-◌, ◌^◌, ◌<◌, ◌≤◌, List, [], ◌∷◌, length, drop, get_or, ℤ, pos, negsuc, ◌+ℤ◌, ◌-ℤ◌, ◌≤ℤ◌, int_lt, FitsSigned, w64, to_z, of_z, refl, sym, ap, subst, ◌∙◌, arith, inl, inr, eq-or-lt_of_le, Bool, true, false, cond}
+use Rattle.std.proofs.Common.{◌≡◌, ◌⊎◌, ℕ, suc, ◌+◌, ◌-◌, ◌^◌, ◌<◌, ◌≤◌, List, [], ◌∷◌, ◌++◌, length, drop, get_or, ℤ, pos, negsuc, ◌+ℤ◌, ◌-ℤ◌, ◌≤ℤ◌, int_lt, FitsSigned, w32, w64, to_z, of_z, refl, sym, ap, subst, ◌∙◌, arith, inl, inr, eq-or-lt_of_le, length-append, Bool, true, false, cond}
 use Rattle.std.proofs.lemmas.Int.{ints, to_z-of_z}
-use Rattle.std.proofs.lemmas.List.{get_or_default}
+use Rattle.std.proofs.lemmas.List.{get_or_default, map-append}
 use Rattle.i_shape_core.specs.Point.{Point}
 use Rattle.i_shape_core.specs.IntPoint.{point_of, contour_of}
 use Rattle.i_shape_core.specs.declared.point.IntPoint.{IntPoint}
 use Rattle.i_shape_core.specs.Edges.{edges_between, sum_of, is_right}
 use Rattle.i_shape_core.specs.Winding.{level, winding_of_edge, winding, IsWithinHalf}
 use Rattle.i_shape_core.specs.Convex.{last_of}
+use Rattle.i_shape_core.specs.Blocks.{winding_over}
+use Rattle.std.specs.Int.{Width}
+use Rattle.std.specs.List.{All}
+use Rattle.std.proofs.lemmas.List.Elements.{All-head, All-tail}
 use Rattle.i_shape_core.proofs.plane.Contours.{rest-read, rest-none}
 use Rattle.i_shape_core.proofs.measure.Edges.{sum_push}
 use Rattle.i_shape_core.proofs.plane.CrossProducts.{edge}
 use Rattle.i_shape_core.proofs.measure.Inside.{right_when}
-use Rattle.i_shape_core.proofs.arithmetic.Products.{InReach, reach-fits}
+use Rattle.i_shape_core.proofs.arithmetic.Products.{InReach, fits-reach, reach-fits}
 use Rattle.i_shape_core.proofs.measure.InsideWalk.{path_over, between_is, last_point}
 
 -- ---- one edge
@@ -39,6 +43,11 @@ adds_one p a b r s e f g h = ap (λ (t : Bool). cond t (pos 1) (negsuc 0)) (sym 
 -- an edge right of p takes 1 away where its end does not lie above p
 pub takes_one : (p a b : Point) (r s : Bool) → r ≡ is_right p (edge a b) → r ≡ true → s ≡ int_lt p.y b.y → s ≡ false → negsuc 0 ≡ winding_of_edge p (edge a b)
 takes_one p a b r s e f g h = ap (λ (t : Bool). cond t (pos 1) (negsuc 0)) (sym h) ∙ adds_or_takes_one p a b r s e f g
+
+-- what an edge adds is told by whether it is right of p, and by which of its ends lie above p
+pub by_levels : (p a b : Point) (r s t : Bool) → r ≡ is_right p (edge a b) → s ≡ int_lt p.y a.y → t ≡ int_lt p.y b.y → cond r (cond t (pos 1) (pos 0) -ℤ cond s (pos 1) (pos 0)) (pos 0) ≡ winding_of_edge p (edge a b)
+unfolding winding_of_edge
+by_levels p a b r s t e f g = rw (e, f, g) refl
 
 -- how far the winding number so far can be from its place: half the number of edges, and less at the point that the walk came from
 pub record IsNear (i : ℕ) (first here total : ℤ) : Type 0 where
@@ -170,21 +179,154 @@ level_cases p a = go (int_lt p.y a.y) refl
 back_at_last : {I : Type 0} (cs : List (IntPoint I)) (i : ℕ) (last x : IntPoint I) → last ≡ get_or cs (length cs - 1) last → i < length cs → x ≡ get_or cs i x → i + 1 ≡ length cs → x ≡ last
 back_at_last cs i last x e h f g = f ∙ get_or_default cs i x last h ∙ ap (λ (j : ℕ). get_or cs j last) (omega arith) ∙ sym e
 
-total_bounded : (i n : ℕ) (first here total : ℤ) → IsNear (i + 1) first here total → (first ≡ pos 0) ⊎ (first ≡ pos 1) → (here ≡ pos 0) ⊎ (here ≡ pos 1) → (i + 1 ≡ n → here ≡ first) → i < n → n < 2 ^ 64 → InReach (2 ^ 63) total
-total_bounded i n first here total near f g same h room = elim (eq-or-lt_of_le (let l : i + 1 ≤ n = omega arith in l)) [
-  | inl e ↦ let m = near.most in let l = near.least in let s = same e in record { from = omega (arith, ints); below = omega (arith, ints) }
-  | inr k ↦ let m = near.most in let l = near.least in record { from = omega (arith, ints); below = omega (arith, ints) }
+total_bounded : (m n : ℕ) (first here total : ℤ) → IsNear m first here total → (first ≡ pos 0) ⊎ (first ≡ pos 1) → (here ≡ pos 0) ⊎ (here ≡ pos 1) → (m ≡ n → here ≡ first) → m ≤ n → n < 2 ^ 64 → InReach (2 ^ 63) total
+total_bounded m n first here total near f g same h room = elim (eq-or-lt_of_le h) [
+  | inl e ↦ let most = near.most in let l = near.least in let s = same e in record { from = omega (arith, ints); below = omega (arith, ints) }
+  | inr k ↦ let most = near.most in let l = near.least in record { from = omega (arith, ints); below = omega (arith, ints) }
 ]
 
 -- what the walk adds up fits into 64 bits with a sign
 pub total_fits : {I : Type 0} (value : I → ℤ) (p : Point) (cs : List (IntPoint I)) (i : ℕ) (start last x : IntPoint I) (t w : ℤ) → last ≡ get_or cs (length cs - 1) last → i < length cs → length cs < 2 ^ 64 → x ≡ get_or cs i x
     → w ≡ winding_of_edge p (edge (point_of value start) (point_of value x)) → IsNear i (level p (point_of value last)) (level p (point_of value start)) t → FitsSigned w64 (t +ℤ w)
 total_fits value p cs i start last x t w e h room f g near =
-    reach-fits w64 (t +ℤ w) (total_bounded i (length cs) (level p (point_of value last)) (level p (point_of value x)) (t +ℤ w)
+    reach-fits w64 (t +ℤ w) (total_bounded (i + 1) (length cs) (level p (point_of value last)) (level p (point_of value x)) (t +ℤ w)
     (rw g (near_step p (point_of value start) (point_of value x) i (level p (point_of value last)) t near))
     (level_cases p (point_of value last)) (level_cases p (point_of value x))
-    (λ k. ap (λ (y : IntPoint _). level p (point_of value y)) (back_at_last cs i last x e h f k)) h room)
+    (λ k. ap (λ (y : IntPoint _). level p (point_of value y)) (back_at_last cs i last x e h f k)) (omega arith) room)
 
 -- the sum as the program computes it
-pub total_added : (t r : ℤ) → FitsSigned w64 (t +ℤ r) → FitsSigned w64 r → to_z w64 (of_z w64 (t +ℤ to_z w64 (of_z w64 r))) ≡ t +ℤ r
-total_added t r f g = rw (to_z-of_z w64 r g) (to_z-of_z w64 (t +ℤ r) f)
+pub total_added : (w : Width) (t r : ℤ) → FitsSigned w (t +ℤ r) → FitsSigned w r → to_z w (of_z w (t +ℤ to_z w (of_z w r))) ≡ t +ℤ r
+total_added w t r f g = rw (to_z-of_z w r g) (to_z-of_z w (t +ℤ r) f)
+
+-- what few edges add fits into 32 bits with a sign
+pub few_fit : (p a b : Point) (i : ℕ) (total : ℤ) → IsNear i (level p a) (level p b) total → i ≤ 16 → FitsSigned w32 total
+few_fit p a b i total near few = reach-fits w32 total (bounded (level p a) (level p b) (level_cases p a) (level_cases p b) near)
+  where
+    bounded : (first here : ℤ) → (first ≡ pos 0) ⊎ (first ≡ pos 1) → (here ≡ pos 0) ⊎ (here ≡ pos 1) → IsNear i first here total → InReach (2 ^ 31) total
+    bounded first here f g n = let most = n.most in let least = n.least in record { from = omega (arith, ints); below = omega (arith, ints) }
+
+-- ---- a walk over a part
+-- what a walk adds is the sum over its edges
+pub over_is : (p q : Point) (ps : List Point) → winding_over p q ps ≡ total_over p q ps
+over_is p q [] = refl
+over_is p q (r ∷ rs) = ap (λ (z : ℤ). winding_of_edge p (edge q r) +ℤ z) (over_is p r rs)
+
+-- a walk without edges on the right adds nothing
+pub none_added : (p q : Point) (ps : List Point) → All (λ e. is_right p e ≡ false) (path_over q ps) → winding_over p q ps ≡ pos 0
+unfolding winding_of_edge
+none_added p q [] h = refl
+none_added p q (r ∷ rs) h =
+    let first = All-head (λ e. is_right p e ≡ false) (edge q r) (path_over r rs) h in
+    let rest = none_added p r rs (All-tail (λ e. is_right p e ≡ false) (edge q r) (path_over r rs) h) in
+    rw (first, rest) refl
+
+-- after a part of the walk the winding number so far is as near
+pub near_over : (p q : Point) (ps : List Point) (i : ℕ) (first total : ℤ) → IsNear i first (level p q) total → IsNear (i + length ps) first (level p (last_of q ps)) (total +ℤ winding_over p q ps)
+near_over p q [] i first total n = let most = n.most in let least = n.least in record { most = omega (arith, ints); least = omega (arith, ints) }
+near_over p q (r ∷ rs) i first total n =
+    let w = winding_of_edge p (edge q r) in
+    let rest = near_over p r rs (i + 1) first (total +ℤ w) (near_step p q r i first total n) in
+    let most = rest.most in
+    let least = rest.least in
+    record { most = omega (arith, ints); least = omega (arith, ints) }
+
+-- two parts one after the other
+pub over_both : (p q : Point) (xs ys : List Point) → winding_over p q (xs ++ ys) ≡ winding_over p q xs +ℤ winding_over p (last_of q xs) ys
+over_both p q [] ys = omega (arith, ints)
+over_both p q (x ∷ xs) ys = let rest = over_both p x xs ys in omega (arith, ints)
+
+-- a point more of a part is walked to
+pub over_step : {I : Type 0} (value : I → ℤ) (p : Point) (cs : List (IntPoint I)) (i : ℕ) (start x : IntPoint I) (t w s : ℤ) → i < length cs → x ≡ get_or cs i x
+    → w ≡ winding_of_edge p (edge (point_of value start) (point_of value x)) → t +ℤ winding_over p (point_of value start) (contour_of value (drop i cs)) ≡ s
+    → t +ℤ w +ℤ winding_over p (point_of value x) (contour_of value (drop (i + 1) cs)) ≡ s
+over_step value p cs i start x t w s h e f g =
+    ap (λ (z : ℤ). t +ℤ w +ℤ z) (over_is p (point_of value x) (contour_of value (drop (i + 1) cs)))
+    ∙ walk_edge value p cs i start x t w s h e f (ap (λ (z : ℤ). t +ℤ z) (sym (over_is p (point_of value start) (contour_of value (drop i cs)))) ∙ g)
+
+-- where no point is left nothing more is added
+pub over_none : (p q : Point) (ps : List Point) (t : ℤ) → ps ≡ [] → t ≡ t +ℤ winding_over p q ps
+over_none p q ps t e = rw e (omega (arith, ints))
+
+-- ---- a walk by parts
+-- what is told of a walk over a contour that has come to q and added up the total, where the other points are left
+pub record IsWalked (p first : Point) (whole : List Point) (q : Point) (rest : List Point) (total : ℤ) : Type 0 where
+  pub within : length rest ≤ length whole
+  pub near : (done : ℕ) → done + length rest ≡ length whole → IsNear done (level p first) (level p q) total
+  pub closes : last_of q rest ≡ first
+  pub told : total +ℤ winding_over p q rest ≡ winding_over p first whole
+
+-- before its first part
+pub walked_first : (p first : Point) (whole : List Point) → last_of first whole ≡ first → IsWalked p first whole first whole (pos 0)
+walked_first p first whole e = record {
+  within = omega arith;
+  near = λ done f. let none : done ≡ 0 = omega (arith, f) in rw none (near_first (level p first));
+  closes = e;
+  told = walk_first _;
+}
+
+last_of_both : (q : Point) (xs ys : List Point) → last_of q (xs ++ ys) ≡ last_of (last_of q xs) ys
+last_of_both q [] ys = refl
+last_of_both q (x ∷ xs) ys = last_of_both x xs ys
+
+-- a part more
+walked_part : (p first : Point) (whole : List Point) (q : Point) (xs ys : List Point) (total w : ℤ) → IsWalked p first whole q (xs ++ ys) total → w ≡ winding_over p q xs → IsWalked p first whole (last_of q xs) ys (total +ℤ w)
+walked_part p first whole q xs ys total w k e =
+    let count = length-append xs ys in
+    let within = k.within in
+    record {
+      within = omega (arith, count, within);
+      near = λ done f.
+          let before : (done - length xs) + length (xs ++ ys) ≡ length whole = omega (arith, count, within, f) in
+          let after : (done - length xs) + length xs ≡ done = omega (arith, count, within, f) in
+          subst (λ (i : ℕ). IsNear i (level p first) (level p (last_of q xs)) (total +ℤ w)) after
+          (rw e (near_over p q xs (done - length xs) (level p first) total (k.near (done - length xs) before)));
+      closes = sym (last_of_both q xs ys) ∙ k.closes;
+      told = rw e (grouped total (winding_over p q xs) (winding_over p (last_of q xs) ys) (winding_over p q (xs ++ ys)) (over_both p q xs ys)) ∙ k.told;
+    }
+  where
+    grouped : (a b c d : ℤ) → d ≡ b +ℤ c → a +ℤ b +ℤ c ≡ a +ℤ d
+    grouped a b c d f = omega (arith, ints)
+
+-- the total so far fits into 64 bits with a sign
+pub walked_fits : (p first : Point) (whole : List Point) (q : Point) (rest : List Point) (total : ℤ) → IsWalked p first whole q rest total → length whole < 2 ^ 64 → FitsSigned w64 total
+walked_fits p first whole q rest total k room =
+    let within = k.within in
+    let split : (length whole - length rest) + length rest ≡ length whole = omega (arith, within) in
+    reach-fits w64 total (total_bounded (length whole - length rest) (length whole) (level p first) (level p q) total (k.near _ split) (level_cases p first) (level_cases p q)
+    (λ e. back rest k.closes (omega (arith, e, within, split))) (omega arith) room)
+  where
+    back : (ps : List Point) → last_of q ps ≡ first → length ps ≤ 0 → level p q ≡ level p first
+    back [] e h = ap (level p) e
+    back (x ∷ xs) e h = absurd (omega arith)
+
+-- the same over the points of a program: a block more
+pub walked_block : {I : Type 0} (value : I → ℤ) (p first : Point) (whole : List Point) (q r : Point) (rest block later : List (IntPoint I)) (total w : ℤ) → rest ≡ block ++ later → w ≡ winding_over p q (contour_of value block)
+    → r ≡ last_of q (contour_of value block) → IsWalked p first whole q (contour_of value rest) total → IsWalked p first whole r (contour_of value later) (total +ℤ w)
+walked_block value p first whole q r rest block later total w e f g k =
+    let joined = ap (contour_of value) e ∙ map-append (point_of value) block later in
+    rw g (walked_part p first whole q (contour_of value block) (contour_of value later) total w (subst (λ (ps : List Point). IsWalked p first whole q ps total) joined k) f)
+
+append_none : (xs : List Point) → xs ++ [] ≡ xs
+append_none [] = refl
+append_none (x ∷ xs) = ap (λ (ys : List Point). x ∷ ys) (append_none xs)
+
+-- and the last one
+pub walked_last : (p first : Point) (whole : List Point) (q : Point) (rest : List Point) (total w : ℤ) → IsWalked p first whole q rest total → w ≡ winding_over p q rest → IsWalked p first whole (last_of q rest) [] (total +ℤ w)
+walked_last p first whole q rest total w k f = walked_part p first whole q rest [] total w (subst (λ (ps : List Point). IsWalked p first whole q ps total) (sym (append_none rest)) k) f
+
+wider : (r : ℤ) → FitsSigned w32 r → FitsSigned w64 r
+wider r f = let reach = fits-reach w32 r f in let from = reach.from in let below = reach.below in reach-fits w64 r (record { from = omega (arith, ints); below = omega (arith, ints) })
+
+-- the sum as the program computes it, where what is added has 32 bits
+pub narrow_total : (r : ℤ) → FitsSigned w32 r → to_z w64 (of_z w64 (to_z w32 (of_z w32 r))) ≡ r
+narrow_total r f = rw (to_z-of_z w32 r f) (to_z-of_z w64 r (wider r f))
+
+-- after the last part the winding number is told
+pub winding_walked : {I : Type 0} (value : I → ℤ) (p : Point) (cs : List (IntPoint I)) (last : IntPoint I) (q : Point) (total : ℤ) → 0 < length cs → last ≡ get_or cs (length cs - 1) last
+    → IsWalked p (point_of value last) (contour_of value cs) q [] total → total ≡ winding (contour_of value cs) p
+winding_walked value p cs last q total some e k =
+    over_none p q [] total refl ∙ k.told ∙ over_is p (point_of value last) (contour_of value cs) ∙ walk_all value p cs last some e
+
+-- nothing is added
+pub nothing_more : (t : ℤ) → t +ℤ pos 0 ≡ t
+nothing_more t = omega (arith, ints)
