@@ -169,8 +169,9 @@ pub fn contains_point<P: ContourPoint>(contour: &[P], point: IntPoint<P::Coordin
 }
 
 /// The same as `is_inside_after` of a point that isn't inside before. Blocks of 16 points on the side of the point before them, over
-/// which no edge passes the height of `point`, are passed over. After two blocks in a row that aren't, six are walked over without a
+/// which no edge passes the height of `point`, are passed over. After two blocks in a row that aren't, 14 are walked over without a
 /// look, since a look costs more than it saves where points are in disorder.
+#[inline(never)]
 fn is_inside_by_blocks<P: ContourPoint>(
     point: IntPoint<P::Coordinate>,
     first: IntPoint<P::Coordinate>,
@@ -194,7 +195,7 @@ fn is_inside_by_blocks<P: ContourPoint>(
             walked = 0;
         } else {
             is_inside = is_inside_by_products(is_inside, point, start, block);
-            walked = (walked + 1) % 8;
+            walked = (walked + 1) % 16;
         }
         start = block[15].to_point();
         rest = later;

@@ -49,7 +49,8 @@ fn winding_by_edges<P: ContourPoint>(contour: &[P], point: IntPoint<P::Coordinat
     total
 }
 
-/// The same by blocks of 16 points, over which `contains_point` says when they are passed over.
+/// The same by blocks of 16 points. Those on the side of the point before them are passed over, as by `contains_point`.
+#[inline(never)]
 fn winding_by_blocks<P: ContourPoint>(contour: &[P], point: IntPoint<P::Coordinate>) -> isize
     requires points_safe { IsSafeContour P.Coordinate.width
         (contour_of P.Coordinate.value (P.points contour.now)) }
@@ -70,7 +71,7 @@ fn winding_by_blocks<P: ContourPoint>(contour: &[P], point: IntPoint<P::Coordina
             walked = 0;
         } else {
             total += winding_of_few(point, start, block) as isize;
-            walked = (walked + 1) % 8;
+            walked = (walked + 1) % 16;
         }
         start = block[15].to_point();
         rest = later;

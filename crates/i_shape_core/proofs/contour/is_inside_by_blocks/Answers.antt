@@ -35,7 +35,7 @@ loop-rest-preserved g c =
       | then-walked-lt2+then-is_on_side w ↦ w.is_inside-is ∙ sym (none_turned p c.loop-rest.is_inside q (contour_of value (points block)) (none_right p q (contour_of value (points block)) (w.is_on_side.ensures.0 w.if-is_on_side.true)))
       | else-walked-lt2 w ↦ w.is_inside-is ∙ w.is_inside_by_products-is_inside.ensures
     ] in
-    let few : c.if-walked-lt2.walked < 8 = elim c.if-walked-lt2.branch [
+    let few : c.if-walked-lt2.walked < 16 = elim c.if-walked-lt2.branch [
       | then-walked-lt2+then-is_on_side w ↦ omega (arith, w.walked-is)
       | else-walked-lt2 w ↦ omega (arith, w.walked-is)
     ] in

@@ -8,7 +8,7 @@ abbrev pub invariant-loop-rest : goal.invariant-loop-rest
 invariant-loop-rest g l =
     let value = g.P.Coordinate.IntNumber.value in
     record {
-      few : l.walked < 8;
+      few : l.walked < 16;
       start_safe : IsSafe g.P.Coordinate.IntNumber.width (point_of value l.start);
       rest_safe : All (IsSafe g.P.Coordinate.IntNumber.width) (contour_of value (g.P.ContourPoint.points l.rest));
       told : inside_after (point_of value l.point) l.is_inside (point_of value l.start) (contour_of value (g.P.ContourPoint.points l.rest)) ≡ inside_after (point_of value l.point) false (point_of value l.fn.first) (contour_of value (g.P.ContourPoint.points l.fn.points));

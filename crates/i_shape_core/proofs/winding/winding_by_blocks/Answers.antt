@@ -75,7 +75,7 @@ loop-rest-preserved g c =
     let p = point_of value c.args.point in
     let q = point_of value c.loop-rest.start in
     let last = last_read value q (points block) 15 end (omega (arith, count, c.split_at.ensures.front_len)) read in
-    let few : c.if-walked-lt2.walked < 8 = elim c.if-walked-lt2.branch [
+    let few : c.if-walked-lt2.walked < 16 = elim c.if-walked-lt2.branch [
       | then-walked-lt2+then-is_on_side w ↦ omega (arith, w.walked-is)
       | else-walked-lt2 w ↦ omega (arith, w.walked-is)
     ] in

@@ -10,7 +10,7 @@ invariant-loop-rest g l =
     let p = point_of value l.point in
     let points = g.P.ContourPoint.points in
     record {
-      few : l.walked < 8;
+      few : l.walked < 16;
       start_safe : IsSafe g.P.Coordinate.IntNumber.width (point_of value l.start);
       rest_safe : All (IsSafe g.P.Coordinate.IntNumber.width) (contour_of value (points l.rest));
       walked : IsWalked p (point_of value l.initial.start) (contour_of value (points l.contour)) (point_of value l.start) (contour_of value (points l.rest)) l.total;
