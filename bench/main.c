@@ -142,6 +142,7 @@ static const struct {
     {"has_no_spikes", "has_no_spikes", CLEAN | DUPLICATES},
     {"is_convex", "is_convex", CIRCLE},
     {"contains_point", "contains_point", CLEAN | DUPLICATES | DISORDER},
+    {"winding_number", "winding_number", CLEAN | DISORDER},
     {"area_two", "area_two", CLEAN},
     {"is_in_safe_range", "is_in_safe_range", CLEAN},
 };

@@ -1,4 +1,4 @@
-use Rattle.std.proofs.Common.{◌∙◌, ◌≡◌, ◌<◌, length, arith}
+use Rattle.std.proofs.Common.{◌∙◌, ◌<◌, length, arith}
 use Rattle.i_shape_core.specs.IntPoint.{point_of}
 use Rattle.i_shape_core.proofs.plane.Contours.{read-safe}
 use Rattle.i_shape_core.proofs.plane.PointLists.{points-length, points-item, points-take, points-drop, points-append}

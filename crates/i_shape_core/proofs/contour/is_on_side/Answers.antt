@@ -1,9 +1,9 @@
-use Rattle.std.proofs.Common.{◌≡◌, ◌↔◌, ◌∙◌, sym, ap, Bool, List, IsTrue, int_lt, map, subst}
+use Rattle.std.proofs.Common.{◌≡◌, ◌↔◌, ◌∙◌, sym, ap, Bool, List, IsTrue, map, subst}
 use Rattle.std.specs.List.{All}
 use Rattle.std.proofs.lemmas.Simd.{map-map}
 use Rattle.i_shape_core.specs.Point.{Point}
 use Rattle.i_shape_core.specs.Edges.{is_above}
-use Rattle.i_shape_core.specs.IntPoint.{point_of, contour_of}
+use Rattle.i_shape_core.specs.IntPoint.{point_of}
 use Rattle.i_shape_core.proofs.arithmetic.Comparisons.{gt-tells}
 use Rattle.i_shape_core.proofs.lists.Mapped.{next_told, whole_told, all_mapped}
 use Rattle.i_shape_core.proofs.contour.is_on_side.Goals as goal

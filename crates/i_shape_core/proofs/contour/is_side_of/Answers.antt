@@ -1,6 +1,5 @@
-use Rattle.std.proofs.Common.{◌≡◌, ◌↔◌, ◌∙◌, sym, ap, Bool, true, false, IsTrue, refl, subst}
+use Rattle.std.proofs.Common.{◌≡◌, ◌↔◌, Bool, true, false, IsTrue, refl, subst}
 use mathlib.Core.Bool.{beq}
-use Rattle.i_shape_core.specs.IntPoint.{point_of}
 use Rattle.i_shape_core.proofs.arithmetic.Comparisons.{gt-tells}
 use Rattle.i_shape_core.proofs.contour.is_side_of.Goals as goal
 

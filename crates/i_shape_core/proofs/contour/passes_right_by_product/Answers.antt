@@ -1,4 +1,4 @@
-use Rattle.std.proofs.Common.{◌≡◌, ◌∙◌, int_lt, ap, ap₂, pos}
+use Rattle.std.proofs.Common.{◌≡◌, ◌∙◌, int_lt, ap, ap₂}
 use Rattle.i_shape_core.specs.IntPoint.{point_of}
 use Rattle.i_shape_core.specs.Point.{cross, cross_of}
 use Rattle.i_shape_core.proofs.arithmetic.Comparisons.{gt-tells, below-tells}

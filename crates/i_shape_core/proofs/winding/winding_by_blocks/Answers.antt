@@ -1,4 +1,4 @@
-use Rattle.std.proofs.Common.{◌≡◌, ◌+ℤ◌, ◌-◌, ◌^◌, ◌<◌, ◌∙◌, [], pos, FitsSigned, length, get_or, refl, sym, ap, subst, ℤ, w32, w64, to_z, of_z, arith, rules}
+use Rattle.std.proofs.Common.{◌≡◌, ◌+ℤ◌, ◌-◌, ◌^◌, ◌<◌, ◌∙◌, pos, FitsSigned, length, get_or, refl, sym, subst, ℤ, w32, w64, to_z, of_z, arith, rules}
 use Rattle.std.proofs.lemmas.Int.{to_z-of_z}
 use Rattle.i_shape_core.specs.IntPoint.{point_of, contour_of}
 use Rattle.i_shape_core.specs.Blocks.{winding_over}

@@ -1,10 +1,10 @@
-use Rattle.std.proofs.Common.{◌≡◌, ◌+ℤ◌, ◌-◌, ◌^◌, ◌<◌, FitsSigned, length, get_or, sym, subst₂, ◌∙◌, w64, to_z, of_z, arith, rules}
+use Rattle.std.proofs.Common.{◌≡◌, ◌+ℤ◌, ◌-◌, ◌^◌, ◌<◌, FitsSigned, length, get_or, w64, to_z, of_z, arith, rules}
 use Rattle.std.proofs.lemmas.Int.{to_z-of_z}
-use Rattle.i_shape_core.specs.IntPoint.{point_of, contour_of}
-use Rattle.i_shape_core.specs.Winding.{level, IsWithinHalf}
-use Rattle.i_shape_core.proofs.plane.Contours.{read-safe, length-contour}
+use Rattle.i_shape_core.specs.IntPoint.{point_of}
+use Rattle.i_shape_core.specs.Winding.{level}
+use Rattle.i_shape_core.proofs.plane.Contours.{read-safe}
 use Rattle.i_shape_core.proofs.plane.PointLists.{points-length, points-at}
-use Rattle.i_shape_core.proofs.measure.WindingWalk.{near_first, near_step, no_points, walk_first, walk_edge, walk_over, total_fits, total_added, winding_half}
+use Rattle.i_shape_core.proofs.measure.WindingWalk.{near_first, near_step, no_points, walk_first, walk_edge, walk_over, total_fits, total_added}
 use Rattle.i_shape_core.proofs.winding.winding_by_edges.Goals as goal
 
 pub returns-in_default : goal.returns-in_default

@@ -1,7 +1,6 @@
-use Rattle.std.proofs.Common.{◌≡◌, ◌+ℤ◌, ◌+◌, ◌<◌, ◌∙◌, FitsSigned, length, sym, ap, w32, to_z, of_z, arith}
+use Rattle.std.proofs.Common.{◌≡◌, ◌+ℤ◌, ◌+◌, ◌<◌, ◌∙◌, FitsSigned, length, w32, to_z, of_z, arith}
 use Rattle.std.proofs.lemmas.Int.{to_z-of_z}
 use Rattle.i_shape_core.specs.IntPoint.{point_of}
-use Rattle.i_shape_core.specs.Blocks.{winding_over}
 use Rattle.i_shape_core.specs.Winding.{level}
 use Rattle.i_shape_core.proofs.plane.Contours.{read-safe, rest-none}
 use Rattle.i_shape_core.proofs.plane.PointLists.{points-length, points-item}
