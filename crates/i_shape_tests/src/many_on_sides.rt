@@ -40,24 +40,8 @@ const COUNTS: [[usize; 2]; 17] = [
     [18, 18],
 ];
 
-/// Points of the plane by places in the lists of coordinates, and whether the rectangle contains them: the lower and the left side with
-/// their corner are within, the upper and the right side aren't.
-const PLACES: [(&str, [usize; 2], bool); 14] = [
-    ("the middle", [2, 2], true),
-    ("the left side", [1, 2], true),
-    ("the right side", [3, 2], false),
-    ("to the left", [0, 2], false),
-    ("to the right", [4, 2], false),
-    ("the lower side", [2, 1], true),
-    ("the lower left corner", [1, 1], true),
-    ("the lower right corner", [3, 1], false),
-    ("left of the lower side", [0, 1], false),
-    ("the upper side", [2, 3], false),
-    ("the upper left corner", [1, 3], false),
-    ("left of the upper side", [0, 3], false),
-    ("below", [2, 0], false),
-    ("above", [2, 4], false),
-];
+/// A name, a point, and whether a rectangle contains it.
+type Place<I> = (&'static str, [I; 2], bool);
 
 /// The rectangle with so many points more on its lower and its upper side.
 fn with_points<I: IntNumber>(
@@ -92,43 +76,72 @@ fn from_start<I: IntNumber>(
     Ok(turned)
 }
 
-/// The contour, which winds so often about its inside, contains and winds about the points as `PLACES` tells.
+/// The contour, which winds so often about its inside, contains and winds about these points as they tell.
 fn is_told<I: IntNumber>(
     rt: &impl Abort,
     alloc: Global,
     list: &[[I; 2]],
-    coordinates: &[I; 5],
+    places: &[Place<I>],
     times: isize,
 ) {
     let contour = safe_contour(rt, alloc, list);
-    for (name, [x, y], is_within) in PLACES {
-        let point = IntPoint::new(coordinates[x], coordinates[y]);
+    for (name, [x, y], is_within) in places {
+        let point = IntPoint::new(*x, *y);
         assert!(rt; point.is_in_safe_range());
-        let turns = if is_within { times } else { 0 };
+        let turns = if *is_within { times } else { 0 };
         let kept = contour.as_slice().contains_point(point);
-        equal(rt, kept, is_within, name, "contains");
+        equal(rt, kept, *is_within, name, "contains");
         let kept = contour.as_slice().winding_number(point);
         equal(rt, kept, turns, name, "winds");
     }
 }
 
-/// The same of the square whose sides lie at the second and the fourth of five rising coordinates, in both directions, with so many
-/// points on its sides and from each start.
-fn squares_are_told<I: IntNumber>(rt: &impl Abort, alloc: Global, coordinates: [I; 5]) {
-    let [_, low, middle, high, _] = coordinates;
+/// The same in both directions, and from each start.
+fn is_told_from_each_start<I: IntNumber>(
+    rt: &impl Abort,
+    alloc: Global,
+    list: &[[I; 2]],
+    places: &[Place<I>],
+) {
+    for start in 0..list.len() {
+        let mut turned = from_start(alloc, list, start).expect(rt, "no memory");
+        is_told(rt, alloc, turned.as_slice(), places, 1);
+        turned.reverse();
+        is_told(rt, alloc, turned.as_slice(), places, -1);
+    }
+}
+
+/// The same of the square whose sides lie at the second and the fourth of five rising coordinates, with so many points on its sides. Its
+/// lower and its left side with their corner are within, the upper and the right side aren't.
+fn squares_are_told<I: IntNumber>(
+    rt: &impl Abort,
+    alloc: Global,
+    [before, low, middle, high, behind]: [I; 5],
+) {
     let square = Rectangle {
         corners: [[low, low], [high, low], [high, high], [low, high]],
         lower: [middle, low],
         upper: [middle, high],
     };
+    let places = [
+        ("the middle", [middle, middle], true),
+        ("the left side", [low, middle], true),
+        ("the right side", [high, middle], false),
+        ("to the left", [before, middle], false),
+        ("to the right", [behind, middle], false),
+        ("the lower side", [middle, low], true),
+        ("the lower left corner", [low, low], true),
+        ("the lower right corner", [high, low], false),
+        ("left of the lower side", [before, low], false),
+        ("the upper side", [middle, high], false),
+        ("the upper left corner", [low, high], false),
+        ("left of the upper side", [before, high], false),
+        ("below", [middle, before], false),
+        ("above", [middle, behind], false),
+    ];
     for counts in COUNTS {
         let list = with_points(alloc, &square, counts).expect(rt, "no memory");
-        for start in 0..list.len() {
-            let mut turned = from_start(alloc, list.as_slice(), start).expect(rt, "no memory");
-            is_told(rt, alloc, turned.as_slice(), &coordinates, 1);
-            turned.reverse();
-            is_told(rt, alloc, turned.as_slice(), &coordinates, -1);
-        }
+        is_told_from_each_start(rt, alloc, list.as_slice(), &places);
     }
 }
 
