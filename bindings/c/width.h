@@ -140,6 +140,12 @@ static void AT(test_shapes)(void) {
               W, cleaner_names[k], "polygons");
         check(AT(polygons)[k](given, 24, contours, 8, none, 1, out, 24, out_contours, 8, out_shapes, 1) == 0 && out_shapes[0] == 0
                   && out_contours[0] == 0, W, cleaner_names[k], "no polygon");
+        /* Polygons from the second on: that whose outer contour collapses, the empty one, and the triangle. */
+        const size_t behind_shapes[3] = {0, 0, 1}, behind_contours[2] = {0, 3};
+        if (is_form(k)) continue;
+        check(AT(polygons)[k](given, 24, contours, 8, shapes + 1, 4, out, 24, out_contours, 8, out_shapes, 4) == 2
+                  && memcmp(out, given + 21, 3 * sizeof *out) == 0 && memcmp(out_contours, behind_contours, sizeof behind_contours) == 0
+                  && memcmp(out_shapes, behind_shapes, sizeof behind_shapes) == 0, W, cleaner_names[k], "polygons from the second on");
     }
 }
 
@@ -167,9 +173,9 @@ static void AT(test_shapes_codes)(void) {
         check(CLEAN(contours, 3, shapes, 2, 6, 3, 3) == I_SHAPE_UNSAFE, W, name, "polygons with a point that isn't safe");
         check(IS_UNTOUCHED, W, name, "codes leave the arrays of polygons as they were");
         given[5].y = 4;
-        /* Two clean contours of a polygon: three lists with all points, contours and polygons end to end; for a canonical form four
-           lists of the library's points and four of what is left too. */
-        WITH_EACH_GROWTH_REFUSED(CLEAN(contours, 3, shapes, 2, 6, 3, 3), IS_UNTOUCHED, growths == (is_form(k) ? 11 : 3), W, name);
+        /* Two clean contours of a polygon: for a canonical form three lists with all points, contours and polygons end to end, four of
+           the library's points, and four of what is left. */
+        WITH_EACH_GROWTH_REFUSED(CLEAN(contours, 3, shapes, 2, 6, 3, 3), IS_UNTOUCHED, growths == (is_form(k) ? 11 : 0), W, name);
 #undef IS_UNTOUCHED
 #undef CLEAN
     }
@@ -338,16 +344,31 @@ static void AT(test_refusals)(void) {
         WITH_EACH_GROWTH_REFUSED(AT(batches)[k](given, 10, few, 4, out, 10, out_offsets, 4), 1, growths == 0, W, cleaner_names[k]);
         WITH_EACH_GROWTH_REFUSED(AT(batches)[k](given, 10, none, 1, out, 10, out_offsets, 1), 1, growths == 0, W, cleaner_names[k]);
     }
-    /* Polygons with a spike in each contour: three lists more, and the places of the walk, of which six outgrow the room for four. */
+    /* Polygons with a spike in each contour: what is left of the contours, its offsets, and the places of the longest. A contour that no
+       polygon has takes nothing. */
     const POINT spiked[10] = {{0, 0}, {8, 0}, {4, 0}, {4, 4}, {0, 0}, {8, 0}, {4, 0}, {4, 4}, {0, 4}, {0, 2}};
     for (int k = 0; k < CLEANERS; k++) {
         POINT out[10];
         size_t out_contours[3], out_shapes[3];
-        const size_t one[2] = {0, 1}, both[2] = {0, 2}, apart[3] = {0, 1, 2};
+        const size_t one[2] = {0, 1}, both[2] = {0, 2}, apart[3] = {0, 1, 2}, nothing[2] = {1, 1}, last[2] = {1, 2}, behind[3] = {0, 6, 10};
         if (is_form(k)) continue;
-        WITH_EACH_GROWTH_REFUSED(AT(polygons)[k](spiked, 10, offsets, 2, one, 2, out, 10, out_contours, 3, out_shapes, 3), 1, growths == 7, W, cleaner_names[k]);
-        WITH_EACH_GROWTH_REFUSED(AT(polygons)[k](spiked, 10, offsets, 3, both, 2, out, 10, out_contours, 3, out_shapes, 3), 1, growths == 8, W, cleaner_names[k]);
-        WITH_EACH_GROWTH_REFUSED(AT(polygons)[k](spiked, 10, offsets, 3, apart, 3, out, 10, out_contours, 3, out_shapes, 3), 1, growths == 8, W, cleaner_names[k]);
+#define CLEAN(POINTS, OFFSETS, COUNT, SHAPES, SHAPE_COUNT) AT(polygons)[k](POINTS, 10, OFFSETS, COUNT, SHAPES, SHAPE_COUNT, out, 10, out_contours, 3, out_shapes, 3)
+#define IS_UNTOUCHED (is_filled(out, sizeof out) && is_filled(out_contours, sizeof out_contours) && is_filled(out_shapes, sizeof out_shapes))
+#define WITH_EACH_REFUSED(CALLED, GROWTHS) \
+        fill(out, sizeof out); \
+        fill(out_contours, sizeof out_contours); \
+        fill(out_shapes, sizeof out_shapes); \
+        WITH_EACH_GROWTH_REFUSED(CALLED, IS_UNTOUCHED, growths == (GROWTHS), W, cleaner_names[k])
+        WITH_EACH_REFUSED(CLEAN(spiked, offsets, 2, one, 2), 3);
+        WITH_EACH_REFUSED(CLEAN(spiked, offsets, 3, both, 2), 3);
+        WITH_EACH_REFUSED(CLEAN(spiked, offsets, 3, apart, 3), 3);
+        WITH_EACH_REFUSED(CLEAN(spiked, offsets, 3, nothing, 2), 0);
+        const POINT mixed[10] = {{0, 0}, {8, 0}, {4, 0}, {4, 4}, {0, 4}, {0, 2}, {0, 0}, {4, 0}, {4, 4}, {0, 4}};
+        WITH_EACH_REFUSED(CLEAN(mixed, behind, 3, last, 2), 0);
+        WITH_EACH_REFUSED(CLEAN(mixed, behind, 3, both, 2), 3);
+#undef WITH_EACH_REFUSED
+#undef IS_UNTOUCHED
+#undef CLEAN
     }
     WITH_EACH_GROWTH_REFUSED(CALL(is_simple)(given, 10), 1, growths == 0, W, "is_simple");
     WITH_EACH_GROWTH_REFUSED(CALL(has_no_spikes)(given, 10), 1, growths == 0, W, "has_no_spikes");
@@ -359,8 +380,8 @@ static void AT(test_refusals)(void) {
 }
 
 #ifdef REFUSES
-/* How many bytes the calls ask for: one place for each point of the longest contour, and of polygons three lists of all that is given, and
-   three more where a point is removed. A canonical form of polygons has some for each contour. */
+/* How many bytes the calls ask for: one place for each point of the longest contour, and of polygons where a point is removed two lists
+   too, of the points and of the offsets of the contours. A canonical form of polygons has some for each contour. */
 static void AT(test_sizes)(void) {
     enum { SQUARES = 64, CORNERS = 5, COUNT = SQUARES * CORNERS };
     const size_t places = CORNERS * sizeof(size_t), range = 2 * sizeof(size_t), all[2] = {0, SQUARES};
@@ -382,7 +403,7 @@ static void AT(test_sizes)(void) {
         check(AT(polygons)[k](given, COUNT, offsets, SQUARES + 1, all, 2, out, COUNT, out_offsets, SQUARES + 1, out_shapes, 2) == 1, W,
               cleaner_names[k], "64 squares of one polygon");
         /* Of simplify, the first, and of despike, which cleans nothing, since no square has a spike. */
-        const size_t most = is_form(k) ? 4 * lists : k == 0 ? 2 * lists + places : lists;
+        const size_t most = is_form(k) ? 4 * lists : k == 0 ? sizeof given + sizeof offsets + places : 0;
         check(is_form(k) ? asked <= most : asked == most, W, cleaner_names[k], "how much it asks for of polygons");
     }
     /* The square wound 300,000 times, in one contour: each time a point goes. */

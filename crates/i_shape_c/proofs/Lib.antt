@@ -3,6 +3,9 @@ pub mod Parts
 pub mod Batches
 pub mod Areas
 pub mod PolygonLists
+pub mod Appended
+pub mod PolygonsLeft
+pub mod PolygonAnswers
 pub mod Counts
 pub mod Windings
 pub mod Told

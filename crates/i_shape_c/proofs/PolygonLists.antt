@@ -145,11 +145,12 @@ safe_polygons width point points contours shapes order safe =
     All-take (All (IsSafe width)) (offset shapes (k + 1) - offset shapes k) (drop (offset shapes k) rings) (All-drop (All (IsSafe width)) (offset shapes k) rings each))
 
 -- lists end to end whose items are made into others
-concatenated-map : {X Y : Type 0} (f : X → Y) (xs : List (List X)) → concatenated (map (map f) xs) ≡ map f (concatenated xs)
+pub concatenated-map : {X Y : Type 0} (f : X → Y) (xs : List (List X)) → concatenated (map (map f) xs) ≡ map f (concatenated xs)
 concatenated-map f [] = refl
 concatenated-map f (x ∷ xs) = ap (λ w. map f x ++ w) (concatenated-map f xs) ∙ sym (map-append f x (concatenated xs))
 
-offsets-map : {X Y : Type 0} (f : X → Y) (start : ℕ) (xs : List (List X)) → offsets_of start (map (map f) xs) ≡ offsets_of start xs
+-- and their offsets
+pub offsets-map : {X Y : Type 0} (f : X → Y) (start : ℕ) (xs : List (List X)) → offsets_of start (map (map f) xs) ≡ offsets_of start xs
 offsets-map f start [] = refl
 offsets-map f start (x ∷ xs) = rw (length-map x f) (ap (λ w. start ∷ w) (offsets-map f (start + length x) xs))
 

@@ -2,6 +2,7 @@ pub mod Points
 pub mod Cleaned
 pub mod Batch
 pub mod Polygons
+pub mod Appended
 pub mod Tests
 pub mod Areas
 pub mod Windings

@@ -52,10 +52,14 @@ ShapesAnswer Gives point points contours shapes old_points new_points old_contou
 ShapesAnswer Gives point points contours shapes old_points new_points old_contours new_contours old_shapes new_shapes (negsuc n) =
     (n < 3) × (new_points ≡ old_points) × (new_contours ≡ old_contours) × (new_shapes ≡ old_shapes)
 
--- what a call that cleans polygons answers and leaves, and exactly when it answers with a code; it tells of refused memory only where there is a polygon
-pub record CleansPolygons {P : Type 0} (Gives : List (List (List Point)) → List (List (List Point)) → Type 0) (width : Width) (point : P → Point) (points : List P) (contours shapes : List ℕ)
+-- there is no polygon
+abbrev pub AreNone : List (List (List Point)) → Type 0
+AreNone list = list ≡ []
+
+-- what a call that cleans polygons answers and leaves, and exactly when it answers with a code; it never tells of refused memory where it spares the polygons
+pub record CleansPolygons {P : Type 0} (Spares : List (List (List Point)) → Type 0) (Gives : List (List (List Point)) → List (List (List Point)) → Type 0) (width : Width) (point : P → Point) (points : List P) (contours shapes : List ℕ)
     (old_points new_points : List P) (old_contours new_contours old_shapes new_shapes : List ℕ) (result : ℤ) : Type 0 where
   pub answer : ShapesAnswer Gives point points contours shapes old_points new_points old_contours new_contours old_shapes new_shapes result
   pub unfit : result ≡ unfit_code ↔ (CanCleanShapes (length points) contours shapes (length old_points) (length old_contours) (length old_shapes) → ⊥)
   pub unsafe_points : result ≡ unsafe_code ↔ (CanCleanShapes (length points) contours shapes (length old_points) (length old_contours) (length old_shapes) × (AreSafeContours width point points contours → ⊥))
-  pub memory : result ≡ no_memory_code → 1 < length shapes
+  pub memory : result ≡ no_memory_code → Spares (polygons (map point points) contours shapes) → ⊥

@@ -54,7 +54,7 @@ pub fn can_clean(points: usize, offsets: &[usize], out_points: usize, out_offset
 }
 
 /// Cleans one contour after another. One cleaner serves them all.
-fn clean_all<P: CPoint, C: ContourCleaner>(
+pub fn clean_all<P: CPoint, C: ContourCleaner>(
     alloc: Global,
     points: &[P],
     offsets: &[usize],
@@ -99,12 +99,12 @@ fn longest(offsets: &[usize]) -> usize
     most
 }
 
-/// The points from one place to another.
-pub fn part<P: CPoint>(points: &[P], from: usize, to: usize) -> &[P]
+/// The items from one place to another.
+pub fn part<T: Copy>(items: &[T], from: usize, to: usize) -> &[T]
     requires order { from ≤ to }
-    requires within { to ≤ length points.now }
-    ensures part { result.now ≡ slice_range points.now from to }
+    requires within { to ≤ length items.now }
+    ensures part { result.now ≡ slice_range items.now from to }
     ensures len { length result.now + from ≡ to }
 {
-    &points[from..to]
+    &items[from..to]
 }

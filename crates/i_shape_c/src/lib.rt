@@ -5,7 +5,7 @@
 mod area;
 mod batch;
 mod calls;
-mod cleaner;
+mod canonical;
 mod codes;
 mod contour;
 mod lists;

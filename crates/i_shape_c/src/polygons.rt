@@ -1,30 +1,25 @@
 //! The cleaning of polygons, which lie in three arrays: points, offsets that part these into contours, and offsets that part the contours
 //! into polygons.
 
-ghost use Rattle.std.specs.Prelude.{◌≡◌, ◌↔◌, ◌+◌, ◌-◌, ◌^◌, ◌<◌, ◌≤◌, ◌∷◌, ◌++◌, List, length, map, drop, slice_range, IfOk, OnOk, OnErr, IsTrue};
-ghost use Rattle.std.specs.List.{range_with_len};
-ghost use Rattle.i_shape.specs.IntPoint.{contour_of};
-ghost use Rattle.i_shape.specs.IntPoints.{IntPoint};
-ghost use Rattle.i_shape.specs.Buffers.{HoldsShapes};
-ghost use Rattle.i_shape.specs.AppendedAnswers.{Grows};
-ghost use Rattle.i_shape_c.specs.Batch.{nth_contour, CanClean, AreSafeContours};
-ghost use Rattle.i_shape_c.specs.Polygons.{polygons, CanCleanShapes, CleansPolygons};
+ghost use Rattle.std.specs.Prelude.{◌≡◌, ◌↔◌, ◌+◌, ◌-◌, ◌^◌, ◌<◌, ◌≤◌, length, map, IfOk, OnErr, IsTrue};
+ghost use Rattle.std.specs.List.{filter_map};
+ghost use Rattle.std.specs.Option.{option_to_list};
+ghost use Rattle.i_shape.specs.ShapeAnswers.{ListClean, EachShape};
+ghost use Rattle.i_shape_c.specs.Appended.{PartsPoints, AreClean, CleansRings, RefusesPolygons, AppendsRings, AppendsPolygons, WritesPolygons, filled, left_of, polygons_left};
+ghost use Rattle.i_shape_c.specs.Batch.{offset, AreRising, AreSafeContours};
+ghost use Rattle.i_shape_c.specs.Polygons.{parts, polygons, CanCleanShapes, AreShapesLeft, CleansPolygons};
 ghost use Rattle.i_shape_c.specs.Points.{point_by};
 
-use crate::batch::{can_clean, part};
-use crate::cleaner::ShapesCleaner;
+use crate::batch::{can_clean, clean_all, part};
 use crate::codes::{NO_MEMORY, UNFIT, UNSAFE};
-use crate::lists::{append_points, copy_out};
 use crate::point::CPoint;
 use i_shape::ShapeError;
-use i_shape::flat::buffer::FlatShapesBuffer;
-use i_shape::int::shape::IntContour;
+use i_shape::int::cleaner::{ContourCleaner, InPlaceCleaner};
 use i_shape_core::safe_range::are_safe;
 use std::alloc::Global;
-use std::ops::Range;
 
 /// Writes what is left of the polygons to the front of the three arrays, and answers how many they are, or a code below 0.
-pub fn clean_shapes<P: CPoint, S: ShapesCleaner<P::Coordinate>>(
+pub fn clean_shapes<P: CPoint, C: InPlaceCleaner>(
     alloc: Global,
     points: &[P],
     contours: &[usize],
@@ -34,30 +29,61 @@ pub fn clean_shapes<P: CPoint, S: ShapesCleaner<P::Coordinate>>(
     out_shapes: &mut [usize],
 ) -> isize
     requires { length out_shapes.old < 2 ^ 63 }
-    ensures { CleansPolygons S.gives P.Coordinate.width (point_by P.Coordinate.value P.point)
-        points.now contours.now shapes.now out_points.old out_points.new
-        out_contours.old out_contours.new out_shapes.old out_shapes.new result }
+    ensures { CleansPolygons (EachShape C.clean) (ListClean C.answers) P.Coordinate.width
+        (point_by P.Coordinate.value P.point) points.now contours.now shapes.now
+        out_points.old out_points.new out_contours.old out_contours.new
+        out_shapes.old out_shapes.new result }
 {
-    if !can_clean_shapes(
-        points.len(),
+    if let Some(code) = refusal(
+        points,
         contours,
         shapes,
         out_points.len(),
         out_contours.len(),
         out_shapes.len(),
     ) {
-        return UNFIT;
+        return code;
     }
-    if !are_safe(part(points, contours[0], contours[contours.len() - 1])) {
-        return UNSAFE;
-    }
-    match shapes_left::<P, S>(alloc, points, contours, shapes) {
-        Ok(left) => {
-            write_shapes(&left, out_points, out_contours, out_shapes);
-            left.shape_ranges.len() as isize
-        }
+    match write_cleaned::<P, C>(
+        alloc,
+        points,
+        contours,
+        shapes,
+        out_points,
+        out_contours,
+        out_shapes,
+    ) {
+        Ok(count) => count as isize,
         Err(_) => NO_MEMORY,
     }
+}
+
+/// The code that says why the polygons can't be cleaned, `None` where they can.
+pub fn refusal<P: CPoint>(
+    points: &[P],
+    contours: &[usize],
+    shapes: &[usize],
+    out_points: usize,
+    out_contours: usize,
+    out_shapes: usize,
+) -> Option<isize>
+    ensures { RefusesPolygons P.Coordinate.width (point_by P.Coordinate.value P.point)
+        points.now contours.now shapes.now out_points out_contours out_shapes result }
+{
+    if !can_clean_shapes(
+        points.len(),
+        contours,
+        shapes,
+        out_points,
+        out_contours,
+        out_shapes,
+    ) {
+        return Some(UNFIT);
+    }
+    if !are_safe(part(points, contours[0], contours[contours.len() - 1])) {
+        return Some(UNSAFE);
+    }
+    None
 }
 
 /// Whether the offsets part the points into contours, and these into polygons, and there is room for as many of each.
@@ -76,132 +102,226 @@ fn can_clean_shapes(
         && can_clean(contours.len() - 1, shapes, contours.len() - 1, out_shapes)
 }
 
-/// What is left of the polygons, end to end. Of no polygon nothing is, and no memory is taken.
-fn shapes_left<P: CPoint, S: ShapesCleaner<P::Coordinate>>(
+/// Writes what is left of the polygons to the front of the three arrays, and answers how many they are. Clean contours are read where they
+/// lie. Where one isn't clean, all are cleaned into lists first, so that nothing is written where memory is refused.
+fn write_cleaned<P: CPoint, C: InPlaceCleaner>(
     alloc: Global,
     points: &[P],
     contours: &[usize],
     shapes: &[usize],
-) -> Result<FlatShapesBuffer<P::Coordinate>, ShapeError>
-    requires contours_part { CanClean (length points.now)
-        contours.now (length points.now) (length contours.now) }
-    requires shapes_part { CanClean (length contours.now - 1)
-        shapes.now (length contours.now - 1) (length shapes.now) }
-    requires points_safe { AreSafeContours P.Coordinate.width
-        (point_by P.Coordinate.value P.point) points.now contours.now }
-    ensures left { IfOk result (λ buffer. (list : List (List (List (IntPoint P.Coordinate))))
-        × HoldsShapes buffer list
-        × S.gives (polygons (map (point_by P.Coordinate.value P.point) points.now)
-        contours.now shapes.now) (map (map (contour_of P.Coordinate.value)) list)) }
-    ensures fewer { IfOk result (λ buffer. (length buffer.points.items ≤ length points.now)
-        × (length buffer.contour_ranges.items < length contours.now)
-        × (length buffer.shape_ranges.items < length shapes.now)) }
-    ensures memory { OnErr result (1 < length shapes.now) }
-{
-    if shapes.len() == 1 {
-        return Ok(FlatShapesBuffer::new(alloc));
-    }
-    let mut buffer = polygons_of(alloc, points, contours, shapes)?;
-    S::clean(&mut buffer)?;
-    Ok(buffer)
-}
-
-/// The polygons, end to end.
-fn polygons_of<P: CPoint>(
-    alloc: Global,
-    points: &[P],
-    contours: &[usize],
-    shapes: &[usize],
-) -> Result<FlatShapesBuffer<P::Coordinate>, ShapeError>
-    requires contours_part { CanClean (length points.now)
-        contours.now (length points.now) (length contours.now) }
-    requires shapes_part { CanClean (length contours.now - 1)
-        shapes.now (length contours.now - 1) (length shapes.now) }
-    ensures { IfOk result
-        (λ buffer. HoldsShapes buffer (polygons (map P.point points.now) contours.now shapes.now)) }
-{
-    let mut buffer = FlatShapesBuffer::with_capacity(
-        alloc,
-        points.len(),
-        contours.len() - 1,
-        shapes.len() - 1,
-    )?;
-    for place in 1..shapes.len() {
-        let start = buffer.contour_ranges.len();
-        append_contours(
-            &mut buffer.points,
-            &mut buffer.contour_ranges,
-            points,
-            contours,
-            shapes[place - 1],
-            shapes[place],
-        )?;
-        let end = buffer.contour_ranges.len();
-        buffer.shape_ranges.push(start..end)?;
-    }
-    Ok(buffer)
-}
-
-/// Appends the contours from one number to another, and their ranges.
-fn append_contours<P: CPoint>(
-    list: &mut IntContour<P::Coordinate>,
-    ranges: &mut Vec<Range<usize>>,
-    points: &[P],
-    contours: &[usize],
-    from: usize,
-    to: usize,
-) -> Result<(), ShapeError>
-    requires contours_part { CanClean (length points.now)
-        contours.now (length points.now) (length contours.now) }
-    requires order { from ≤ to }
-    requires within { to < length contours.now }
-    ensures { OnOk result
-        (Grows list.old.items list.new.items ranges.old.items
-        ranges.new.items
-        (map (nth_contour (map P.point points.now) contours.now)
-        (range_with_len from (to - from)))) }
-{
-    for place in from..to {
-        let start = list.len();
-        append_points(part(points, contours[place], contours[place + 1]), list)?;
-        ranges.push(start..list.len())?;
-    }
-    Ok(())
-}
-
-/// Writes polygons to the front of the three arrays.
-fn write_shapes<P: CPoint>(
-    shapes: &FlatShapesBuffer<P::Coordinate>,
     out_points: &mut [P],
     out_contours: &mut [usize],
     out_shapes: &mut [usize],
-)
-    requires points_room { length shapes.now.points.items ≤ length out_points.old }
-    requires contours_room { length shapes.now.contour_ranges.items < length out_contours.old }
-    requires shapes_room { length shapes.now.shape_ranges.items < length out_shapes.old }
-    ensures points { slice_range out_points.new 0 (0 + length shapes.now.points.items)
-        ≡ map P.c_point shapes.now.points.items }
-    ensures rest { drop (0 + length shapes.now.points.items) out_points.new
-        ≡ drop (0 + length shapes.now.points.items) out_points.old }
-    ensures contours { out_contours.new ≡ 0
-        ∷ map (λ range. range.end) shapes.now.contour_ranges.items
-        ++ drop (length shapes.now.contour_ranges.items + 1) out_contours.old }
-    ensures shapes { out_shapes.new ≡ 0 ∷ map (λ range. range.end) shapes.now.shape_ranges.items
-        ++ drop (length shapes.now.shape_ranges.items + 1) out_shapes.old }
+) -> Result<usize, ShapeError>
+    requires can { CanCleanShapes (length points.now) contours.now shapes.now
+        (length out_points.old) (length out_contours.old) (length out_shapes.old) }
+    requires points_safe { AreSafeContours P.Coordinate.width
+        (point_by P.Coordinate.value P.point) points.now contours.now }
+    ensures ok { IfOk result
+        (λ n. AreShapesLeft (ListClean C.answers) (point_by P.Coordinate.value P.point)
+        points.now contours.now shapes.now out_points.old out_points.new
+        out_contours.old out_contours.new out_shapes.old out_shapes.new n) }
+    ensures err { OnErr result ((out_points.new ≡ out_points.old)
+        × (out_contours.new ≡ out_contours.old) × (out_shapes.new ≡ out_shapes.old)) }
+    ensures memory { OnErr result (EachShape C.clean (polygons
+        (map (point_by P.Coordinate.value P.point) points.now) contours.now shapes.now) → ⊥) }
 {
-    copy_out(shapes.points.as_slice(), out_points, 0);
-    write_offsets(shapes.contour_ranges.as_slice(), out_contours);
-    write_offsets(shapes.shape_ranges.as_slice(), out_shapes);
+    let end = shapes[shapes.len() - 1] + 1;
+    let rings = part(contours, shapes[0], end);
+    if are_clean::<P, C>(points, rings) {
+        return Ok(write_polygons(points, rings, shapes, out_points, out_contours, out_shapes));
+    }
+    let (left, left_rings) = clean_rings::<P, C>(alloc, points, rings)?;
+    Ok(write_polygons(
+        left.as_slice(),
+        left_rings.as_slice(),
+        shapes,
+        out_points,
+        out_contours,
+        out_shapes,
+    ))
 }
 
-/// Writes where lists that lie end to end begin, and where the last one ends, to the front of `out`.
-fn write_offsets(ranges: &[Range<usize>], out: &mut [usize])
-    requires { length ranges.now < length out.old }
-    ensures { out.new ≡ 0 ∷ map (λ range. range.end) ranges.now
-        ++ drop (length ranges.now + 1) out.old }
+/// What is left of each contour that the offsets part, end to end, and the offsets of these.
+fn clean_rings<P: CPoint, C: ContourCleaner>(
+    alloc: Global,
+    points: &[P],
+    offsets: &[usize],
+) -> Result<(Vec<P>, Vec<usize>), ShapeError>
+    requires parted { PartsPoints (length points.now) offsets.now }
+    requires points_safe { AreSafeContours P.Coordinate.width
+        (point_by P.Coordinate.value P.point) points.now offsets.now }
+    ensures { IfOk result
+        (λ left. CleansRings C.answers (point_by P.Coordinate.value P.point)
+        points.now offsets.now left.0.items left.1.items) }
 {
-    out[0] = 0;
-    for place in 0..ranges.len() {
-        out[place + 1] = ranges[place].end;
+    let mut left = Vec::from_slice(alloc, points)?;
+    let mut left_offsets = Vec::from_slice(alloc, offsets)?;
+    clean_all::<P, C>(
+        alloc,
+        points,
+        offsets,
+        left.as_mut_slice(),
+        left_offsets.as_mut_slice(),
+    )?;
+    Ok((left, left_offsets))
+}
+
+/// Whether each contour that the offsets part is clean. It takes no memory.
+fn are_clean<P: CPoint, C: ContourCleaner>(points: &[P], offsets: &[usize]) -> bool
+    requires parted { PartsPoints (length points.now) offsets.now }
+    requires points_safe { AreSafeContours P.Coordinate.width
+        (point_by P.Coordinate.value P.point) points.now offsets.now }
+    ensures { IsTrue result ↔ AreClean C.clean (point_by P.Coordinate.value P.point)
+        points.now offsets.now (length offsets.now) }
+{
+    for place in 1..offsets.len() {
+        if !C::is_clean(part(points, offsets[place - 1], offsets[place])) {
+            return false;
+        }
+    }
+    true
+}
+
+/// How many points, contours and polygons are written.
+#[derive(Clone, Copy)]
+pub struct Counts {
+    pub points: usize,
+    pub contours: usize,
+    pub shapes: usize,
+}
+
+/// Writes what is left of polygons of cleaned contours, which are empty where they collapsed, to the front of the three arrays, and answers
+/// how many they are. The offsets begin with those of the first polygon.
+fn write_polygons<P: CPoint>(
+    points: &[P],
+    rings: &[usize],
+    shapes: &[usize],
+    out_points: &mut [P],
+    out_contours: &mut [usize],
+    out_shapes: &mut [usize],
+) -> usize
+    requires parted { PartsPoints (length points.now) rings.now }
+    requires shapes_some { 0 < length shapes.now }
+    requires shapes_order { AreRising shapes.now (length shapes.now) }
+    requires shapes_last { offset shapes.now (length shapes.now - 1)
+        < length rings.now + offset shapes.now 0 }
+    requires points_room { length points.now ≤ length out_points.old }
+    requires contours_room { length rings.now ≤ length out_contours.old }
+    requires shapes_room { length shapes.now ≤ length out_shapes.old }
+    ensures { WritesPolygons (filter_map left_of
+        (polygons_left points.now rings.now shapes.now (length shapes.now - 1)))
+        (length points.now) (length rings.now) (length shapes.now) out_points.old out_points.new
+        out_contours.old out_contours.new out_shapes.old out_shapes.new result }
+{
+    out_contours[0] = 0;
+    out_shapes[0] = 0;
+    let mut counts = Counts {
+        points: 0,
+        contours: 0,
+        shapes: 0,
+    };
+    for place in 1..shapes.len() {
+        let end = shapes[place] - shapes[0] + 1;
+        let polygon = part(rings, shapes[place - 1] - shapes[0], end);
+        counts = append_polygon(
+            points,
+            polygon,
+            out_points,
+            out_contours,
+            out_shapes,
+            counts,
+        );
+    }
+    counts.shapes
+}
+
+/// Writes what is left of a polygon behind those that are written: nothing where its outer contour is empty, and otherwise the contours
+/// that have points.
+fn append_polygon<P: CPoint>(
+    points: &[P],
+    rings: &[usize],
+    out_points: &mut [P],
+    out_contours: &mut [usize],
+    out_shapes: &mut [usize],
+    counts: Counts,
+) -> Counts
+    requires parted { PartsPoints (length points.now) rings.now }
+    requires points_room { counts.points + offset rings.now (length rings.now - 1)
+        ≤ length out_points.old + offset rings.now 0 }
+    requires contours_room { counts.contours + length rings.now ≤ length out_contours.old }
+    requires shapes_room { counts.shapes + 1 < length out_shapes.old }
+    ensures appended { AppendsPolygons (option_to_list (left_of (parts points.now rings.now)))
+        out_points.old out_points.new out_contours.old out_contours.new
+        out_shapes.old out_shapes.new counts result }
+    ensures fewer_points { result.points + offset rings.now 0
+        ≤ counts.points + offset rings.now (length rings.now - 1) }
+    ensures fewer_contours { result.contours < counts.contours + length rings.now }
+    ensures fewer_shapes { result.shapes ≤ counts.shapes + 1 }
+{
+    if rings.len() > 1 && rings[0] == rings[1] {
+        return counts;
+    }
+    let written = append_rings(points, rings, out_points, out_contours, counts);
+    out_shapes[written.shapes + 1] = written.contours;
+    Counts {
+        points: written.points,
+        contours: written.contours,
+        shapes: written.shapes + 1,
+    }
+}
+
+/// Writes the contours that have points behind those that are written.
+fn append_rings<P: CPoint>(
+    points: &[P],
+    rings: &[usize],
+    out_points: &mut [P],
+    out_contours: &mut [usize],
+    counts: Counts,
+) -> Counts
+    requires parted { PartsPoints (length points.now) rings.now }
+    requires points_room { counts.points + offset rings.now (length rings.now - 1)
+        ≤ length out_points.old + offset rings.now 0 }
+    requires contours_room { counts.contours + length rings.now ≤ length out_contours.old }
+    ensures appended { AppendsRings (filter_map filled (parts points.now rings.now))
+        out_points.old out_points.new out_contours.old out_contours.new counts result }
+    ensures fewer_points { result.points + offset rings.now 0
+        ≤ counts.points + offset rings.now (length rings.now - 1) }
+    ensures fewer_contours { result.contours < counts.contours + length rings.now }
+    ensures shapes { result.shapes ≡ counts.shapes }
+{
+    let mut written = counts;
+    for place in 1..rings.len() {
+        let ring = part(points, rings[place - 1], rings[place]);
+        written = append_ring(ring, out_points, out_contours, written);
+    }
+    written
+}
+
+/// Writes a contour behind those that are written, unless it is empty.
+fn append_ring<P: CPoint>(
+    ring: &[P],
+    out_points: &mut [P],
+    out_contours: &mut [usize],
+    counts: Counts,
+) -> Counts
+    requires points_room { counts.points + length ring.now ≤ length out_points.old }
+    requires contours_room { counts.contours + 1 < length out_contours.old }
+    ensures appended { AppendsRings (option_to_list (filled ring.now))
+        out_points.old out_points.new out_contours.old out_contours.new counts result }
+    ensures fewer_points { result.points ≤ counts.points + length ring.now }
+    ensures fewer_contours { result.contours ≤ counts.contours + 1 }
+    ensures shapes { result.shapes ≡ counts.shapes }
+{
+    if ring.is_empty() {
+        return counts;
+    }
+    let end = counts.points + ring.len();
+    out_points[counts.points..end].copy_from_slice(ring);
+    out_contours[counts.contours + 1] = end;
+    Counts {
+        points: end,
+        contours: counts.contours + 1,
+        shapes: counts.shapes,
     }
 }

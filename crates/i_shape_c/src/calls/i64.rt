@@ -5,7 +5,7 @@ ghost use Rattle.std.specs.Int.{w64};
 ghost use Rattle.i_shape.specs.Cleaners.{SimpleAnswer, SpikelessAnswer, DespikeAnswer, KeptAnswer, IsDespikedAlready};
 ghost use Rattle.i_shape.specs.Canonical.{CanonicalAnswer, UnorientedAnswer, KeptEitherWay};
 ghost use Rattle.i_shape.specs.CanonicalShapes.{ListForm};
-ghost use Rattle.i_shape.specs.ShapeAnswers.{ListClean};
+ghost use Rattle.i_shape.specs.ShapeAnswers.{ListClean, EachShape};
 ghost use Rattle.i_shape.specs.Contour.{IsSimple, Sublist, RotatedSublist, SublistEitherWay};
 ghost use Rattle.i_shape.specs.Convex.{Convex, NoSpikes};
 ghost use Rattle.i_shape_c.specs.Points.{point_i64};
@@ -13,11 +13,12 @@ ghost use Rattle.i_shape_c.specs.Cleaned.{AreSafe, CleansContour};
 ghost use Rattle.i_shape_c.specs.Batch.{CleansContours};
 ghost use Rattle.i_shape_c.specs.Areas.{AreDoubleAreaHalves};
 ghost use Rattle.i_shape_c.specs.Tests.{IsTold, TestsContour, TestsPoint};
-ghost use Rattle.i_shape_c.specs.Polygons.{CleansPolygons};
+ghost use Rattle.i_shape_c.specs.Polygons.{AreNone, CleansPolygons};
 ghost use Rattle.i_shape_c.specs.Windings.{WindsAbout, WindsAboutEach};
 
 use crate::area::{Halves, area_two};
 use crate::batch::clean_contours;
+use crate::canonical::form_shapes;
 use crate::contour::clean_contour;
 use crate::point::PointI64;
 use crate::polygons::clean_shapes;
@@ -165,7 +166,7 @@ pub extern "C" fn i_shape_simplify_shapes_i64(
     out_contours: &mut [usize],
     out_shapes: &mut [usize],
 ) -> isize
-    ensures { CleansPolygons (ListClean SimpleAnswer) w64 point_i64
+    ensures { CleansPolygons (EachShape IsSimple) (ListClean SimpleAnswer) w64 point_i64
         points.now contours.now shapes.now out_points.old out_points.new
         out_contours.old out_contours.new out_shapes.old out_shapes.new result }
 {
@@ -191,7 +192,7 @@ pub extern "C" fn i_shape_despike_shapes_i64(
     out_contours: &mut [usize],
     out_shapes: &mut [usize],
 ) -> isize
-    ensures { CleansPolygons (ListClean DespikeAnswer) w64 point_i64
+    ensures { CleansPolygons (EachShape NoSpikes) (ListClean DespikeAnswer) w64 point_i64
         points.now contours.now shapes.now out_points.old out_points.new
         out_contours.old out_contours.new out_shapes.old out_shapes.new result }
 {
@@ -217,11 +218,11 @@ pub extern "C" fn i_shape_canonical_shapes_i64(
     out_contours: &mut [usize],
     out_shapes: &mut [usize],
 ) -> isize
-    ensures { CleansPolygons (ListForm CanonicalAnswer) w64 point_i64
+    ensures { CleansPolygons AreNone (ListForm CanonicalAnswer) w64 point_i64
         points.now contours.now shapes.now out_points.old out_points.new
         out_contours.old out_contours.new out_shapes.old out_shapes.new result }
 {
-    clean_shapes::<PointI64, Canonicalizer>(
+    form_shapes::<PointI64, Canonicalizer>(
         alloc,
         points,
         contours,
@@ -243,11 +244,11 @@ pub extern "C" fn i_shape_canonical_unoriented_shapes_i64(
     out_contours: &mut [usize],
     out_shapes: &mut [usize],
 ) -> isize
-    ensures { CleansPolygons (ListForm UnorientedAnswer) w64 point_i64
+    ensures { CleansPolygons AreNone (ListForm UnorientedAnswer) w64 point_i64
         points.now contours.now shapes.now out_points.old out_points.new
         out_contours.old out_contours.new out_shapes.old out_shapes.new result }
 {
-    clean_shapes::<PointI64, UnorientedCanonicalizer>(
+    form_shapes::<PointI64, UnorientedCanonicalizer>(
         alloc,
         points,
         contours,

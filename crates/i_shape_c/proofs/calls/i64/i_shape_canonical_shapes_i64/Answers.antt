@@ -3,4 +3,4 @@ use Rattle.std.proofs.lemmas.Int.{to_z-of_z}
 use Rattle.i_shape_c.proofs.calls.i64.i_shape_canonical_shapes_i64.Goals as goal
 
 pub returns : goal.returns
-returns c = rw (to_z-of_z w64 c.clean_shapes.result (record { sfits = c.clean_shapes.type_inv })) c.clean_shapes.ensures
+returns c = rw (to_z-of_z w64 c.form_shapes.result (record { sfits = c.form_shapes.type_inv })) c.form_shapes.ensures

@@ -1,0 +1,317 @@
+-- Polygons of cleaned contours that are written one behind the other.
+use Rattle.std.proofs.Common.{◌≡◌, ℕ, suc, ◌+◌, ◌-◌, ◌≤◌, ◌<◌, ◌++◌, List, [], ◌∷◌, map, length, take, drop, set, slice_range, get_or, append-nil, append_assoc, length-append, length-drop, refl, sym, ap, ap₂, subst, subst₂, ◌∙◌, arith, Option, Some, None}
+use Rattle.std.specs.List.{filter_map, range_with_len}
+use Rattle.std.specs.Option.{option_to_list}
+use Rattle.std.proofs.lemmas.List.{take-append-drop, drop-drop, take-set, drop-set, take_at, drop_at, length-take-le, length-set, get_or-take, get_or-drop}
+use Rattle.std.proofs.lemmas.List.Elements.{filter_map-append}
+use Rattle.std.proofs.lemmas.List.FromFn.{map-range_with_len_more, length-map-range_with_len, get_or-map-range_with_len}
+use Rattle.i_shape.specs.Paths.{concatenated}
+use Rattle.i_shape.proofs.lists.EndToEnd.{concatenated-append}
+use Rattle.i_shape_c.specs.Appended.{PartsPoints, filled, left_of, IsPut, ends_from, AppendsRings, AppendsPolygons, WritesPolygons}
+use Rattle.i_shape_c.specs.Batch.{offset, nth_contour, AreRising, CanClean}
+use Rattle.i_shape_c.specs.Polygons.{parts, offsets_of}
+use Rattle.i_shape_c.specs.declared.polygons.Counts.{Counts}
+use Rattle.i_shape_c.proofs.Batches.{rises_to}
+use Rattle.i_shape_c.proofs.Parts.{nothing_between}
+
+-- offsets by which contours can be cleaned part the points
+pub can_part : (points : ℕ) (offsets : List ℕ) (out_points out_offsets : ℕ) → CanClean points offsets out_points out_offsets → PartsPoints points offsets
+can_part points offsets out_points out_offsets can = record { some = can.some; order = can.order; last = can.last }
+
+-- nothing is put where nothing changes
+pub put_none : {X : Type 0} (at : ℕ) (old : List X) → IsPut at [] old old
+put_none at old =
+    let same : at ≡ at + 0 = omega arith in
+    sym (take-append-drop at old) ∙ ap (λ n. take at old ++ drop n old) same
+
+-- one item is put at its place
+pub put_one : {X : Type 0} (old : List X) (n : ℕ) (v : X) → n < length old → IsPut n (v ∷ []) old (set old n v)
+put_one old n v room = sym (take-append-drop n (set old n v)) ∙ ap₂ (λ a b. a ++ b) (take-set old n v) (drop-set old n v room)
+
+-- a part behind a part
+pub put_more : {X : Type 0} (a b : ℕ) (x y old mid new : List X) → IsPut a x old mid → IsPut b y mid new → b ≡ a + length x → a ≤ length old → IsPut a (x ++ y) old new
+put_more a b x y old mid new first second at within =
+    let front = take a old ++ x in
+    let back = drop (a + length x) old in
+    let rest = drop (a + length (x ++ y)) old in
+    let long : length front ≡ b = length-append (take a old) x ∙ ap (λ n. n + length x) (length-take-le a old within) ∙ sym at in
+    let whole : mid ≡ front ++ back = first ∙ sym (append_assoc (take a old) x back) in
+    let before : take b mid ≡ front = ap (take b) whole ∙ take_at front back b long in
+    let left : drop b mid ≡ back = ap (drop b) whole ∙ drop_at front back b long in
+    let sum : a + length x + length y ≡ a + length (x ++ y) = omega (arith, length-append x y) in
+    let behind : drop (b + length y) mid ≡ rest = sym (drop-drop (length y) b mid) ∙ ap (drop (length y)) left ∙ drop-drop (length y) (a + length x) old ∙ ap (λ n. drop n old) sum in
+    second ∙ ap₂ (λ f r. f ++ (y ++ r)) before behind ∙ append_assoc (take a old) x (y ++ rest) ∙ ap (λ w. take a old ++ w) (sym (append_assoc x y rest))
+
+-- what a part is put into keeps its length
+pub put_len : {X : Type 0} (at : ℕ) (part old new : List X) → IsPut at part old new → at + length part ≤ length old → length new ≡ length old
+put_len at part old new put room =
+    let rest = drop (at + length part) old in
+    let front = length-take-le at old (omega (arith, room)) in
+    omega (arith, ap length put, length-append (take at old) (part ++ rest), length-append part rest, front, length-drop (at + length part) old, room)
+
+-- what is put at the start stands there
+pub put_front : {X : Type 0} (part old new : List X) → IsPut 0 part old new → (take (length part) new ≡ part) × (drop (length part) new ≡ drop (length part) old) × (new ≡ part ++ drop (length part) old)
+put_front part old new put =
+    let none : 0 + length part ≡ length part = omega arith in
+    let is : new ≡ part ++ drop (length part) old = put ∙ ap (λ n. part ++ drop n old) none in
+    (ap (take (length part)) is ∙ take_at part (drop (length part) old) (length part) refl, ap (drop (length part)) is ∙ drop_at part (drop (length part) old) (length part) refl, is)
+
+ends-append : {X : Type 0} (start : ℕ) (xs ys : List (List X)) → ends_from start (xs ++ ys) ≡ ends_from start xs ++ ends_from (start + length (concatenated xs)) ys
+ends-append start [] ys =
+    let same : start ≡ start + 0 = omega arith in
+    ap (λ n. ends_from n ys) same
+ends-append start (x ∷ xs) ys =
+    let sum : start + length x + length (concatenated xs) ≡ start + length (x ++ concatenated xs) = omega (arith, length-append x (concatenated xs)) in
+    ap (λ w. (start + length x) ∷ w) (ends-append (start + length x) xs ys ∙ ap (λ n. ends_from (start + length x) xs ++ ends_from n ys) sum)
+
+length-ends : {X : Type 0} (start : ℕ) (xs : List (List X)) → length (ends_from start xs) ≡ length xs
+length-ends start [] = refl
+length-ends start (x ∷ xs) = ap (λ n. suc n) (length-ends (start + length x) xs)
+
+-- offsets are a start and the ends
+pub offsets-ends_from : {X : Type 0} (start : ℕ) (xs : List (List X)) → offsets_of start xs ≡ start ∷ ends_from start xs
+offsets-ends_from start [] = refl
+offsets-ends_from start (x ∷ xs) = ap (λ w. start ∷ w) (offsets-ends_from (start + length x) xs)
+
+-- there is an offset more than there are lists
+pub length-offsets : {X : Type 0} (start : ℕ) (xs : List (List X)) → length (offsets_of start xs) ≡ length xs + 1
+length-offsets start xs = let count = length-ends start xs in omega (arith, ap length (offsets-ends_from start xs), count)
+
+-- before the first contour nothing is written
+pub rings_none : {P : Type 0} (points : List P) (contours : List ℕ) (counts : Counts) → AppendsRings [] points points contours contours counts counts
+rings_none points contours counts = record {
+  points = put_none counts.points points;
+  contours = put_none (counts.contours + 1) contours;
+  points_len = refl;
+  contours_len = refl;
+  points_count = omega arith;
+  contours_count = omega arith;
+}
+
+-- a contour with points is written, with its end
+pub ring_put : {P : Type 0} (ring : List P) (old_points new_points : List P) (contours : List ℕ) (counts : Counts) → IsPut counts.points ring old_points new_points → length new_points ≡ length old_points → counts.contours + 1 < length contours
+    → AppendsRings (ring ∷ []) old_points new_points contours (set contours (counts.contours + 1) (counts.points + length ring)) counts (record { points = counts.points + length ring; contours = counts.contours + 1; shapes = counts.shapes })
+ring_put ring old_points new_points contours counts put len room = record {
+  points = subst (λ w. IsPut counts.points w old_points new_points) (sym (append-nil ring)) put;
+  contours = put_one contours (counts.contours + 1) (counts.points + length ring) room;
+  points_len = len;
+  contours_len = length-set contours (counts.contours + 1) (counts.points + length ring);
+  points_count = ap (λ w. counts.points + length w) (sym (append-nil ring));
+  contours_count = refl;
+}
+
+-- contours behind contours
+pub rings_more : {P : Type 0} (xs ys : List (List P)) (op mp np : List P) (oc mc nc : List ℕ) (before mid after : Counts)
+    → AppendsRings xs op mp oc mc before mid → AppendsRings ys mp np mc nc mid after → before.points ≤ length op → before.contours + 1 ≤ length oc → AppendsRings (xs ++ ys) op np oc nc before after
+rings_more xs ys op mp np oc mc nc before mid after a b points_room contours_room = record {
+  points = subst (λ w. IsPut before.points w op np) (sym (concatenated-append xs ys)) (put_more before.points mid.points (concatenated xs) (concatenated ys) op mp np a.points b.points a.points_count points_room);
+  contours = subst (λ w. IsPut (before.contours + 1) w oc nc) (sym (ends-append before.points xs ys))
+      (put_more (before.contours + 1) (mid.contours + 1) (ends_from before.points xs) (ends_from (before.points + length (concatenated xs)) ys) oc mc nc a.contours
+      (subst (λ n. IsPut (mid.contours + 1) (ends_from n ys) mc nc) a.points_count b.contours) (omega (arith, a.contours_count, length-ends before.points xs)) contours_room);
+  points_len = b.points_len ∙ a.points_len;
+  contours_len = b.contours_len ∙ a.contours_len;
+  points_count = omega (arith, a.points_count, b.points_count, ap length (concatenated-append xs ys), length-append (concatenated xs) (concatenated ys));
+  contours_count = omega (arith, a.contours_count, b.contours_count, length-append xs ys);
+}
+
+-- a polygon that is left out changes nothing
+pub polygons_none : {P : Type 0} (points : List P) (contours shapes : List ℕ) (counts : Counts) → AppendsPolygons [] points points contours contours shapes shapes counts counts
+polygons_none points contours shapes counts = record {
+  rings = rings_none points contours counts;
+  shapes = put_none (counts.shapes + 1) shapes;
+  shapes_len = refl;
+  shapes_count = omega arith;
+}
+
+-- a polygon is written with its end, once its contours are
+pub polygon_put : {P : Type 0} (rings : List (List P)) (old_points new_points : List P) (old_contours new_contours shapes : List ℕ) (before mid : Counts)
+    → AppendsRings rings old_points new_points old_contours new_contours before mid → mid.shapes ≡ before.shapes → before.shapes + 1 < length shapes
+    → AppendsPolygons (rings ∷ []) old_points new_points old_contours new_contours shapes (set shapes (mid.shapes + 1) mid.contours) before (record { points = mid.points; contours = mid.contours; shapes = mid.shapes + 1 })
+polygon_put rings old_points new_points old_contours new_contours shapes before mid a same room =
+    let all : rings ≡ rings ++ [] = sym (append-nil rings) in
+    record {
+      rings = record {
+        points = subst (λ w. IsPut before.points (concatenated w) old_points new_points) all a.points;
+        contours = subst (λ w. IsPut (before.contours + 1) (ends_from before.points w) old_contours new_contours) all a.contours;
+        points_len = a.points_len;
+        contours_len = a.contours_len;
+        points_count = a.points_count ∙ ap (λ w. before.points + length (concatenated w)) all;
+        contours_count = a.contours_count ∙ ap (λ w. before.contours + length w) all;
+      };
+      shapes = rw (same, a.contours_count) (put_one shapes (before.shapes + 1) (before.contours + length rings) room);
+      shapes_len = length-set shapes (mid.shapes + 1) mid.contours;
+      shapes_count = ap (λ n. n + 1) same;
+    }
+
+-- polygons behind polygons
+pub polygons_more : {P : Type 0} (xs ys : List (List (List P))) (op mp np : List P) (oc mc nc os ms ns : List ℕ) (before mid after : Counts)
+    → AppendsPolygons xs op mp oc mc os ms before mid → AppendsPolygons ys mp np mc nc ms ns mid after → before.points ≤ length op → before.contours + 1 ≤ length oc → before.shapes + 1 ≤ length os
+    → AppendsPolygons (xs ++ ys) op np oc nc os ns before after
+polygons_more xs ys op mp np oc mc nc os ms ns before mid after a b points_room contours_room shapes_room = record {
+  rings = subst (λ w. AppendsRings w op np oc nc before after) (sym (concatenated-append xs ys))
+      (rings_more (concatenated xs) (concatenated ys) op mp np oc mc nc before mid after a.rings b.rings points_room contours_room);
+  shapes = subst (λ w. IsPut (before.shapes + 1) w os ns) (sym (ends-append before.contours xs ys))
+      (put_more (before.shapes + 1) (mid.shapes + 1) (ends_from before.contours xs) (ends_from (before.contours + length (concatenated xs)) ys) os ms ns a.shapes
+      (subst (λ n. IsPut (mid.shapes + 1) (ends_from n ys) ms ns) a.rings.contours_count b.shapes) (omega (arith, a.shapes_count, length-ends before.contours xs)) shapes_room);
+  shapes_len = b.shapes_len ∙ a.shapes_len;
+  shapes_count = omega (arith, a.shapes_count, b.shapes_count, length-append xs ys);
+}
+
+-- of one contour the filled ones are it where it has points
+one_filled : {P : Type 0} (ring : List P) → filter_map filled (ring ∷ []) ≡ option_to_list (filled ring)
+one_filled [] = refl
+one_filled (p ∷ ring) = refl
+
+-- of one polygon what is left is what is left of it
+one_left : {P : Type 0} (rings : List (List P)) → filter_map left_of (rings ∷ []) ≡ option_to_list (left_of rings)
+one_left [] = refl
+one_left ([] ∷ rings) = refl
+one_left ((p ∷ ring) ∷ rings) = refl
+
+kept_more : {X Y : Type 0} (h : X → Option Y) (one : (x : X) → filter_map h (x ∷ []) ≡ option_to_list (h x)) (f : ℕ → X) (k : ℕ)
+    → filter_map h (map f (range_with_len 0 (k + 1))) ≡ filter_map h (map f (range_with_len 0 k)) ++ option_to_list (h (f k))
+kept_more h one f k =
+    ap (filter_map h) (map-range_with_len_more f 0 k k (let e : 0 + k ≡ k = omega arith in e)) ∙ filter_map-append h (map f (range_with_len 0 k)) (f k ∷ []) ∙ ap (λ w. filter_map h (map f (range_with_len 0 k)) ++ w) (one (f k))
+
+-- one number more of contours
+pub filled_more : {P : Type 0} (f : ℕ → List P) (k : ℕ) → filter_map filled (map f (range_with_len 0 (k + 1))) ≡ filter_map filled (map f (range_with_len 0 k)) ++ option_to_list (filled (f k))
+filled_more f k = kept_more filled one_filled f k
+
+-- one number more of polygons
+pub left_more : {P : Type 0} (f : ℕ → List (List P)) (k : ℕ) → filter_map left_of (map f (range_with_len 0 (k + 1))) ≡ filter_map left_of (map f (range_with_len 0 k)) ++ option_to_list (left_of (f k))
+left_more f k = kept_more left_of one_left f k
+
+-- a contour without points isn't written
+pub filled_none : {P : Type 0} (ring : List P) → length ring ≡ 0 → option_to_list (filled ring) ≡ []
+filled_none [] none = refl
+filled_none (p ∷ ring) none = absurd (omega (arith, none))
+
+-- and one with points is
+pub filled_some : {P : Type 0} (ring : List P) → 0 < length ring → option_to_list (filled ring) ≡ ring ∷ []
+filled_some [] some = absurd (omega (arith, some))
+filled_some (p ∷ ring) some = refl
+
+collapsed : {P : Type 0} (rings : List (List P)) → 0 < length rings → get_or rings 0 [] ≡ [] → left_of rings ≡ None
+collapsed [] some empty = absurd (omega (arith, some))
+collapsed ([] ∷ rings) some empty = refl
+collapsed ((p ∷ ring) ∷ rings) some empty = absurd (omega (arith, ap length empty))
+
+uncollapsed : {P : Type 0} (rings : List (List P)) → (0 < length rings → 0 < length (get_or rings 0 [])) → left_of rings ≡ Some (filter_map filled rings)
+uncollapsed [] full = refl
+uncollapsed ([] ∷ rings) full = absurd (omega (arith, full (omega arith)))
+uncollapsed ((p ∷ ring) ∷ rings) full = refl
+
+module _ {P : Type 0} (points : List P) (offsets : List ℕ) where
+  first_part : 1 < length offsets → get_or (parts points offsets) 0 [] ≡ nth_contour points offsets 0
+  first_part more =
+      let some : 0 < length offsets - 1 = omega (arith, more) in
+      get_or-map-range_with_len (nth_contour points offsets) 0 (length offsets - 1) 0 0 [] some refl
+
+  count_parts : length (parts points offsets) ≡ length offsets - 1
+  count_parts = length-map-range_with_len (nth_contour points offsets) 0 (length offsets - 1)
+
+  -- nothing is left where the first two offsets are one
+  pub left_out : 1 < length offsets → offset offsets 0 ≡ offset offsets 1 → left_of (parts points offsets) ≡ None
+  left_out more same =
+      let count = count_parts in
+      collapsed (parts points offsets) (omega (arith, more, count)) (first_part more ∙ ap (slice_range points (offset offsets 0)) (sym same) ∙ nothing_between points (offset offsets 0))
+
+  -- and otherwise the contours that have points
+  pub left_in : PartsPoints (length points) offsets → (1 < length offsets → offset offsets 0 ≡ offset offsets 1 → ⊥) → left_of (parts points offsets) ≡ Some (filter_map filled (parts points offsets))
+  left_in parted differ = uncollapsed (parts points offsets) full
+    where
+      full : 0 < length (parts points offsets) → 0 < length (get_or (parts points offsets) 0 [])
+      full some =
+          let count = count_parts in
+          let more : 1 < length offsets = omega (arith, some, count) in
+          let rise : offset offsets 0 ≤ offset offsets 1 = parted.order 0 (omega (arith, more)) in
+          let up = rises_to offsets (length offsets) 1 (length offsets - 1) parted.order (omega (arith, more)) (omega (arith, more)) in
+          let apart = differ more in
+          let less : offset offsets 0 < offset offsets 1 = omega (arith, rise, apart) in
+          let back = length-drop (offset offsets 0) points in
+          let long : length (nth_contour points offsets 0) ≡ offset offsets 1 - offset offsets 0 = length-take-le (offset offsets 1 - offset offsets 0) (drop (offset offsets 0) points) (omega (arith, back, up, parted.last)) in
+          rw (first_part more) (omega (arith, long, less))
+
+module _ (offsets : List ℕ) (a b : ℕ) where
+  -- the offsets of a part of the contours
+  pub offset_part : (k : ℕ) → a + k < b → offset (slice_range offsets a b) k ≡ offset offsets (a + k)
+  offset_part k less = get_or-take (b - a) (drop a offsets) k 0 (let e : k < b - a = omega (arith, less) in e) ∙ get_or-drop a offsets k 0
+
+  -- they are so many
+  pub length_part : a ≤ b → b ≤ length offsets → length (slice_range offsets a b) ≡ b - a
+  length_part order within = let back = length-drop a offsets in length-take-le (b - a) (drop a offsets) (omega (arith, order, within, back))
+
+  -- contour k of them
+  pub nth_part : {P : Type 0} (points : List P) (k : ℕ) → a + k + 1 < b → nth_contour points (slice_range offsets a b) k ≡ nth_contour points offsets (a + k)
+  nth_part points k less =
+      let next : a + (k + 1) ≡ a + k + 1 = omega arith in
+      ap₂ (slice_range points) (offset_part k (omega (arith, less))) (offset_part (k + 1) (omega (arith, less)) ∙ ap (offset offsets) next)
+
+  -- they part the points too
+  pub parted_part : (n : ℕ) → PartsPoints n offsets → a < b → b ≤ length offsets → PartsPoints n (slice_range offsets a b)
+  parted_part n parted less within =
+      let count = length_part (omega (arith, less)) within in
+      let up = rises_to offsets (length offsets) (b - 1) (length offsets - 1) parted.order (omega (arith, within)) (omega (arith, parted.some)) in
+      let end : a + (length (slice_range offsets a b) - 1) ≡ b - 1 = omega (arith, count, less) in
+      record {
+        some = omega (arith, count, less);
+        order = λ k below.
+            let next : a + (k + 1) ≡ a + k + 1 = omega arith in
+            let fits : a + (k + 1) < b = omega (arith, below, count) in
+            let high : offset (slice_range offsets a b) (k + 1) ≡ offset offsets (a + k + 1) = offset_part (k + 1) fits ∙ ap (offset offsets) next in
+            subst₂ (λ x y. x ≤ y) (sym (offset_part k (omega (arith, fits)))) (sym high) (parted.order (a + k) (omega (arith, fits, within)));
+        last = rw (offset_part (length (slice_range offsets a b) - 1) (omega (arith, end, less)) ∙ ap (offset offsets) end) (omega (arith, up, parted.last));
+      }
+
+-- the offsets of a polygon, in those of the contours of all polygons
+module _ (rings shapes : List ℕ) (place : ℕ) (order : AreRising shapes (length shapes)) (some : 0 < place) (within : place < length shapes) (fits : offset shapes (length shapes - 1) < length rings + offset shapes 0) where
+  abbrev from : ℕ
+  from = offset shapes (place - 1) - offset shapes 0
+
+  abbrev end : ℕ
+  end = offset shapes place - offset shapes 0 + 1
+
+  -- they lie there
+  pub rises_in : (offset shapes 0 ≤ offset shapes (place - 1)) × (offset shapes (place - 1) ≤ offset shapes place) × (offset shapes place < length rings + offset shapes 0)
+  rises_in =
+      let up = rises_to shapes (length shapes) place (length shapes - 1) order (omega (arith, within)) (omega (arith, within)) in (
+        rises_to shapes (length shapes) 0 (place - 1) order (omega arith) (omega (arith, within)),
+        rises_to shapes (length shapes) (place - 1) place order (omega arith) within,
+        omega (arith, up, fits),
+      )
+
+  -- and part the points
+  pub parted_in : (n : ℕ) → PartsPoints n rings → PartsPoints n (slice_range rings from end)
+  parted_in n parted = let up = rises_in in parted_part rings from end n parted (omega (arith, up.0, up.1)) (omega (arith, up.0, up.1, up.2))
+
+  -- the first and the last of them
+  pub ends_in : (offset (slice_range rings from end) 0 ≡ offset rings from) × (offset (slice_range rings from end) (length (slice_range rings from end) - 1) ≡ offset rings (offset shapes place - offset shapes 0))
+  ends_in =
+      let up = rises_in in
+      let count = length_part rings from end (omega (arith, up.0, up.1)) (omega (arith, up.0, up.1, up.2)) in
+      let first : from + 0 ≡ from = omega arith in
+      let last : from + (length (slice_range rings from end) - 1) ≡ offset shapes place - offset shapes 0 = omega (arith, count, up.0, up.1) in (
+        offset_part rings from end 0 (omega (arith, up.0, up.1)) ∙ ap (offset rings) first,
+        offset_part rings from end (length (slice_range rings from end) - 1) (omega (arith, last, up.0, up.1)) ∙ ap (offset rings) last,
+      )
+
+-- where polygons are written behind the first offsets, which are 0, the arrays hold them
+pub all_written_out : {P : Type 0} (list : List (List (List P))) (points rings shapes : ℕ) (old_points new_points : List P) (old_contours new_contours old_shapes new_shapes : List ℕ) (counts : Counts)
+    → AppendsPolygons list old_points new_points (set old_contours 0 0) new_contours (set old_shapes 0 0) new_shapes (record { points = 0; contours = 0; shapes = 0 }) counts
+    → 0 < length old_contours → 0 < length old_shapes → counts.points ≤ points → counts.contours < rings → counts.shapes < shapes
+    → WritesPolygons list points rings shapes old_points new_points old_contours new_contours old_shapes new_shapes counts.shapes
+all_written_out list points rings shapes old_points new_points old_contours new_contours old_shapes new_shapes counts all some_contours some_shapes fewer_points fewer_contours fewer_shapes =
+    let points_count = all.rings.points_count in
+    let contours_count = all.rings.contours_count in
+    let shapes_count = all.shapes_count in
+    record {
+      points_are = all.rings.points;
+      contours_are = subst (λ w. IsPut 0 w old_contours new_contours) (sym (offsets-ends_from 0 (concatenated list)))
+          (put_more 0 1 (0 ∷ []) (ends_from 0 (concatenated list)) old_contours (set old_contours 0 0) new_contours (put_one old_contours 0 0 some_contours) all.rings.contours refl (omega arith));
+      shapes_are = subst (λ w. IsPut 0 w old_shapes new_shapes) (sym (offsets-ends_from 0 list))
+          (put_more 0 1 (0 ∷ []) (ends_from 0 list) old_shapes (set old_shapes 0 0) new_shapes (put_one old_shapes 0 0 some_shapes) all.shapes refl (omega arith));
+      count = omega (arith, shapes_count);
+      fewer_points = omega (arith, points_count, fewer_points);
+      fewer_contours = omega (arith, contours_count, fewer_contours);
+      fewer_shapes = omega (arith, shapes_count, fewer_shapes);
+    }
