@@ -4,7 +4,7 @@ use Rattle.std.specs.List.{AllZip, filter_map, sum_by}
 use Rattle.std.proofs.lemmas.List.Sums.{sum_by-cons, sum_by-append}
 use Rattle.i_shape_core.specs.Point.{Point}
 use Rattle.i_shape_source.specs.Paths.{concatenated}
-use Rattle.i_shape.specs.ShapeAnswers.{Survivors, ShapeClean, ListClean}
+use Rattle.i_shape.specs.ShapeAnswers.{Survivors, ShapeClean}
 
 -- a number for each item, summed up over lists end to end
 pub sum_by-concatenated : {X : Type 0} (f : X → ℕ) (lists : List (List X)) → sum_by f (concatenated lists) ≡ sum_by (λ list. sum_by f list) lists
@@ -51,15 +51,3 @@ fewer_by_sums shapes kept fewer_shapes fewer_contours fewer_points = (
   omega (arith, sum_by-concatenated (λ c. 1) kept, sum_by-concatenated (λ c. 1) shapes, sum_by-one (concatenated kept), sum_by-one (concatenated shapes), fewer_contours),
   omega (arith, sum_by-concatenated length kept, sum_by-concatenated length shapes, sum_by-length (concatenated kept), sum_by-length (concatenated shapes), fewer_points),
 )
-
--- a cleaned list has no more of them
-pub list_fewer : (Answer : List Point → Option (List Point) → Type 0) → ((c e : List Point) → Answer c (Some e) → length e ≤ length c) → (shapes kept : List (List (List Point))) → ListClean Answer shapes kept
-    → (length kept ≤ length shapes) × (length (concatenated kept) ≤ length (concatenated shapes)) × (length (concatenated (concatenated kept)) ≤ length (concatenated (concatenated shapes)))
-list_fewer Answer fewer shapes kept clean = fewer_by_sums shapes kept
-    (survivors_fewer (ShapeClean Answer) (λ s. 1) (λ s. 1) (λ s k a. omega arith) shapes kept clean)
-    (survivors_fewer (ShapeClean Answer) (λ s. sum_by (λ c. 1) s) (λ s. sum_by (λ c. 1) s) (shape_fewer Answer (λ c. 1) (λ c e a. omega arith)) shapes kept clean)
-    (survivors_fewer (ShapeClean Answer) (λ s. sum_by length s) (λ s. sum_by length s) (shape_fewer Answer length fewer) shapes kept clean)
-
--- of no shape none is left
-pub nothing_cleaned : (Answer : List Point → Option (List Point) → Type 0) → ListClean Answer [] []
-nothing_cleaned Answer = ([], tt, refl)

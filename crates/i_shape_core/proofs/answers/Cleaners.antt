@@ -1,5 +1,5 @@
 -- What shapes and lists take of the answers of each cleaner.
-use Rattle.std.proofs.Common.{◌≡◌, ◌<◌, ◌≤◌, inl, inr, List, length, reverse, Some, sym, subst, arith}
+use Rattle.std.proofs.Common.{◌<◌, ◌≤◌, inl, inr, List, length, reverse, Some, sym, subst, arith}
 use Rattle.std.specs.Int.{Width}
 use Rattle.std.specs.List.{All}
 use Rattle.std.proofs.lemmas.List.{length-reverse}
@@ -11,7 +11,7 @@ use Rattle.i_shape_core.specs.Cleaners.{SimpleAnswer, DespikeAnswer}
 use Rattle.i_shape_core.specs.Canonical.{CanonicalAnswer, UnorientedAnswer}
 use Rattle.i_shape_core.proofs.removal.Ends.{reach_shrinks}
 use Rattle.i_shape_core.proofs.removal.Rotations.{rotation_length}
-use Rattle.i_shape_core.proofs.answers.Kept.{spikes_decided, spikeless_long, simple_left, despike_left}
+use Rattle.i_shape_core.proofs.answers.Kept.{spikeless_long, simple_left, despike_left}
 use Rattle.i_shape_core.proofs.forms.Unoriented.{canonical_left, unoriented_left}
 
 -- safe points are left safe
@@ -29,18 +29,6 @@ canonical_safe width = canonical_left (IsSafe width)
 -- the unoriented form of a contour of safe points has safe points alone
 pub unoriented_safe : (width : Width) (c l : List Point) → UnorientedAnswer c (Some l) → All (IsSafe width) c → All (IsSafe width) l
 unoriented_safe width = unoriented_left (IsSafe width)
-
--- no more points are left than there were
-pub simple_fewer : (c e : List Point) → SimpleAnswer c (Some e) → length e ≤ length c
-simple_fewer c e one = reach_shrinks one.ended.reached
-
--- the removal of spikes leaves no more points than there were
-pub despike_fewer : (c e : List Point) → DespikeAnswer c (Some e) → length e ≤ length c
-despike_fewer c e a = go (spikes_decided c)
-  where
-    go : Dec (NoSpikes c) → length e ≤ length c
-    go (yes s) = let same : e ≡ c = cc (a.clean s) in subst (λ d. length d ≤ length c) (sym same) (omega arith)
-    go (no n) = reach_shrinks (a.cleaned n).ended.reached
 
 -- the canonical form has no more points than the contour
 pub canonical_fewer : (c l : List Point) → CanonicalAnswer c (Some l) → length l ≤ length c
