@@ -4,7 +4,7 @@ use std::io;
 use std::process::Abort;
 use std::test::Fail;
 
-/// Tells how the command ended on the text, which has the answer `wanted`.
+/// Tells how the command ended on the text, which has the answer `wanted`: that of a clean line is the line itself.
 fn told_of_run(
     rt: &(impl Abort + Print),
     alloc: Global,
@@ -12,13 +12,18 @@ fn told_of_run(
     text: &str,
     wanted: &str,
 ) -> io::Result<()> {
+    let kind = if text == wanted {
+        " of a clean line"
+    } else {
+        ""
+    };
     match run(alloc, command, text) {
         Ok(answer) => {
-            println!(rt; "run of {command:?} done")?;
+            println!(rt; "run of {command:?}{kind} done")?;
             assert_eq!(rt; answer.as_str(), wanted);
         }
         Err(fault) => {
-            println!(rt; "run of {command:?} refused")?;
+            println!(rt; "run of {command:?}{kind} refused")?;
             assert_eq!(rt; fault, ToolFault::OutOfMemory);
         }
     }
@@ -29,6 +34,13 @@ fn told_of_run(
 fn simplify(rt: HostRuntime) -> Result<(), Fail> {
     let text = "0 0 2 0 4 0 4 4\n";
     told_of_run(&rt, rt.alloc(), Command::Simplify, text, "0 0 4 0 4 4\n")?;
+    Ok(())
+}
+
+#[test]
+fn simplify_a_clean_line(rt: HostRuntime) -> Result<(), Fail> {
+    let line = "0 0 4 0 4 4\n";
+    told_of_run(&rt, rt.alloc(), Command::Simplify, line, line)?;
     Ok(())
 }
 
