@@ -1,4 +1,4 @@
--- What a walk finds in a block of points: one that carries its last edge along, one that tells whether a point is inside, and one that looks on which side of a height they are. Private functions alone speak of it.
+-- What a walk finds in a block of points: whether it goes back, whether a point is inside, how often it winds about it, and whether all points of the block are on one side of its height. Only private functions cite this file.
 use Rattle.std.specs.Prelude.{◌≡◌, ◌<ℤ◌, ℤ, ◌+ℤ◌, List, [], ◌∷◌, ◌⊎◌, pos, Bool, cond, not}
 use Rattle.i_shape_core.specs.Point.{Point, vector, cross_of, dot_of}
 use Rattle.i_shape_core.specs.Convex.{is_same}
@@ -20,7 +20,7 @@ abbrev pub last_change : Point → Point → List Point → Point
 last_change e p [] = e
 last_change e p (q ∷ qs) = cond (is_same p q) (last_change e q qs) (last_change (vector p q) q qs)
 
--- whether p is inside after the way from q over the points, where s tells it of the way before: each edge that passes p on its right changes it
+-- whether p is inside after the way from q over the points, where s tells it of the way before: each edge right of p changes it
 abbrev pub inside_after : Point → Bool → Point → List Point → Bool
 inside_after p s q [] = s
 inside_after p s q (r ∷ rs) = inside_after p (cond (is_right p (record { start = q; end = r })) (not s) s) r rs

@@ -78,8 +78,8 @@ pub fn area_of<P: ContourPoint>(points: &[P]) -> <P::Coordinate as IntNumber>::W
     if points.len() < 2 {
         return <P::Coordinate as IntNumber>::Wide::ZERO;
     }
-    // One product a point, and not two an edge. At 16 bits the compiler makes those of several edges at once, and at 64 the difference
-    // of two heights takes 65 bits, so that its product costs more than two others.
+    // At 32 bits one product a point costs less than two an edge. At 16 the compiler makes those of several edges at once, and at 64 the
+    // difference of two heights takes 65 bits, so that its product costs more than two others.
     if <P::Coordinate as IntNumber>::BITS == 32 {
         return area_by_points(points);
     }
@@ -113,7 +113,7 @@ fn area_by_points<P: ContourPoint>(points: &[P]) -> <P::Coordinate as IntNumber>
     sum.wrapping_add(closing).wrapping_add(opening)
 }
 
-/// The parts of the points behind the places of the first blocks of four.
+/// The parts of the points behind the first places, four places to a block, added up.
 #[inline(always)]
 fn sum_of_blocks<P: ContourPoint>(points: &[P], blocks: usize) -> <P::Coordinate as IntNumber>::Wide
     requires { blocks * 4 + 2 ≤ length points.now }
@@ -127,7 +127,7 @@ fn sum_of_blocks<P: ContourPoint>(points: &[P], blocks: usize) -> <P::Coordinate
     sum
 }
 
-/// The parts of the points behind four places, added up in pairs.
+/// The parts of the points behind four places, from `place` on, added up in pairs.
 #[inline(always)]
 fn part_of_block<P: ContourPoint>(points: &[P], place: usize) -> <P::Coordinate as IntNumber>::Wide
     requires { place + 5 < length points.now }

@@ -161,16 +161,22 @@ pub fn contains_point<P: ContourPoint>(contour: &[P], point: IntPoint<P::Coordin
         return false;
     };
     let start = last.to_point();
-    // Whole products of 128 bits cost more than a branch.
+    // Fewer points make no block, and a product of 128 bits costs more than a branch.
     if contour.len() < 16 || P::Coordinate::BITS > 32 {
         return is_inside_by_fours(false, point, start, contour);
     }
     is_inside_by_blocks(point, start, contour)
 }
 
-/// The same as `is_inside_after` of a point that isn't inside before. Blocks of 16 points on the side of the point before them, over
-/// which no edge passes the height of `point`, are passed over. After two blocks in a row that aren't, 14 are walked over without a
-/// look, since a look costs more than it saves where points are in disorder.
+/// How many blocks in a row are looked at, though none can be passed over, before a walk goes on without a look.
+pub(crate) const LOOKS: usize = 2;
+
+/// How many blocks in a row a walk goes over, with those it looked at, before it looks at one again: where points are in disorder a
+/// look costs more than it saves.
+pub(crate) const ROUND: usize = 16;
+
+/// The same as `is_inside_after` of a point that wasn't inside before. A block of 16 points on the side of the point before them, over
+/// which no edge passes the height of `point`, is passed over, where the walk looks at it.
 #[inline(never)]
 fn is_inside_by_blocks<P: ContourPoint>(
     point: IntPoint<P::Coordinate>,
@@ -191,11 +197,11 @@ fn is_inside_by_blocks<P: ContourPoint>(
     let mut rest = points;
     while rest.len() >= 16 {
         let (block, later) = rest.split_at(16);
-        if walked < 2 && is_on_side(point, start, block) {
+        if walked < LOOKS && is_on_side(point, start, block) {
             walked = 0;
         } else {
             is_inside = is_inside_by_products(is_inside, point, start, block);
-            walked = (walked + 1) % 16;
+            walked = (walked + 1) % ROUND;
         }
         start = block[15].to_point();
         rest = later;
@@ -203,7 +209,7 @@ fn is_inside_by_blocks<P: ContourPoint>(
     is_inside_by_fours(is_inside, point, start, rest)
 }
 
-/// The same as `is_inside_after`, in blocks of four points, which the compiler can write out one after the other.
+/// The same as `is_inside_after`, in blocks of four points, whose loop the compiler can unroll.
 #[inline(always)]
 fn is_inside_by_fours<P: ContourPoint>(
     was_inside: bool,
@@ -260,7 +266,7 @@ fn is_inside_after<P: ContourPoint>(
     is_inside
 }
 
-/// The same without a branch between points.
+/// The same without a branch for each point.
 #[inline(always)]
 fn is_inside_by_products<P: ContourPoint>(
     was_inside: bool,
@@ -304,7 +310,7 @@ pub(crate) fn is_on_side<P: ContourPoint>(
     is_on_side
 }
 
-/// Whether `other` lies above the height of `point` where `side` says so, and else doesn't.
+/// Whether `other` lies on a side of the height of `point`: above it where `side` is true, and else not.
 #[inline(always)]
 fn is_side_of<I: IntNumber>(side: bool, point: IntPoint<I>, other: IntPoint<I>) -> bool
     ensures { IsTrue result
@@ -336,7 +342,7 @@ pub(crate) fn passes_right<I: IntNumber>(
     }
 }
 
-/// The same without a branch, by one product for each edge.
+/// The same without a branch, by one cross product for each edge.
 #[inline(always)]
 pub(crate) fn passes_right_by_product<I: IntNumber>(
     point: IntPoint<I>,

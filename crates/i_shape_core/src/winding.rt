@@ -5,7 +5,7 @@ ghost use Rattle.i_shape_core.specs.IntPoint.{point_of, contour_of, IsSafe, IsSa
 ghost use Rattle.i_shape_core.specs.Blocks.{winding_over};
 ghost use Rattle.i_shape_core.specs.Winding.{winding, winding_of_edge, IsWithinHalf};
 
-use crate::contour::{is_on_side, passes_right, passes_right_by_product};
+use crate::contour::{LOOKS, ROUND, is_on_side, passes_right, passes_right_by_product};
 use crate::number::IntNumber;
 use crate::point::{ContourPoint, IntPoint};
 
@@ -20,7 +20,7 @@ pub fn winding_about<P: ContourPoint>(contour: &[P], point: IntPoint<P::Coordina
         (point_of P.Coordinate.value point) }
     ensures half { IsWithinHalf (length contour.now) result }
 {
-    // Whole products of 128 bits cost more than a branch.
+    // Fewer points make no block, and a product of 128 bits costs more than a branch.
     if contour.len() < 16 || P::Coordinate::BITS > 32 {
         return winding_by_edges(contour, point);
     }
@@ -49,7 +49,7 @@ fn winding_by_edges<P: ContourPoint>(contour: &[P], point: IntPoint<P::Coordinat
     total
 }
 
-/// The same by blocks of 16 points. Those on the side of the point before them are passed over, as by `contains_point`.
+/// The same by blocks of 16 points. `contains_point` tells which of them are passed over, and which are looked at.
 #[inline(never)]
 fn winding_by_blocks<P: ContourPoint>(contour: &[P], point: IntPoint<P::Coordinate>) -> isize
     requires points_safe { IsSafeContour P.Coordinate.width
@@ -67,11 +67,11 @@ fn winding_by_blocks<P: ContourPoint>(contour: &[P], point: IntPoint<P::Coordina
     let mut rest = contour;
     while rest.len() >= 16 {
         let (block, later) = rest.split_at(16);
-        if walked < 2 && is_on_side(point, start, block) {
+        if walked < LOOKS && is_on_side(point, start, block) {
             walked = 0;
         } else {
             total += winding_of_few(point, start, block) as isize;
-            walked = (walked + 1) % 16;
+            walked = (walked + 1) % ROUND;
         }
         start = block[15].to_point();
         rest = later;

@@ -49,7 +49,7 @@ pub by_levels : (p a b : Point) (r s t : Bool) → r ≡ is_right p (edge a b) �
 unfolding winding_of_edge
 by_levels p a b r s t e f g = rw (e, f, g) refl
 
--- how far the winding number so far can be from its place: half the number of edges, and less at the point that the walk came from
+-- how far the winding number so far can be from 0 after i edges: half their number, with a half more on one side where the walk is on another side of the height than where it began
 pub record IsNear (i : ℕ) (first here total : ℤ) : Type 0 where
   pub most : (total +ℤ total +ℤ first) ≤ℤ (pos i +ℤ here)
   pub least : here ≤ℤ (total +ℤ total +ℤ first +ℤ pos i)
@@ -87,7 +87,7 @@ one_nearer i first a b total w n e =
 pub near_step : (p a b : Point) (i : ℕ) (first total : ℤ) → IsNear i first (level p a) total → IsNear (i + 1) first (level p b) (total +ℤ winding_of_edge p (edge a b))
 near_step p a b i first total n = one_nearer i first (level p a) (level p b) total (winding_of_edge p (edge a b)) n (edge_near p a b)
 
--- before the first edge the winding number so far is 0, and so is near its place
+-- before the first edge the winding number so far is 0
 pub near_first : (first : ℤ) → IsNear 0 first first (pos 0)
 near_first first = record { most = omega (arith, ints); least = omega (arith, ints) }
 
@@ -220,7 +220,7 @@ none_added p q (r ∷ rs) h =
     let rest = none_added p r rs (All-tail (λ e. is_right p e ≡ false) (edge q r) (path_over r rs) h) in
     rw (first, rest) refl
 
--- after a part of the walk the winding number so far is as near
+-- after a part of the walk the winding number so far is as near to 0
 pub near_over : (p q : Point) (ps : List Point) (i : ℕ) (first total : ℤ) → IsNear i first (level p q) total → IsNear (i + length ps) first (level p (last_of q ps)) (total +ℤ winding_over p q ps)
 near_over p q [] i first total n = let most = n.most in let least = n.least in record { most = omega (arith, ints); least = omega (arith, ints) }
 near_over p q (r ∷ rs) i first total n =
@@ -248,7 +248,7 @@ pub over_none : (p q : Point) (ps : List Point) (t : ℤ) → ps ≡ [] → t �
 over_none p q ps t e = rw e (omega (arith, ints))
 
 -- ---- a walk by parts
--- what is told of a walk over a contour that has come to q and added up the total, where the other points are left
+-- what holds of a walk over the whole contour, from its last point `first`, that has come to q and has added up the total: the rest of the points is left
 pub record IsWalked (p first : Point) (whole : List Point) (q : Point) (rest : List Point) (total : ℤ) : Type 0 where
   pub within : length rest ≤ length whole
   pub near : (done : ℕ) → done + length rest ≡ length whole → IsNear done (level p first) (level p q) total

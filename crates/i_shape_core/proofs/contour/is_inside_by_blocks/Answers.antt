@@ -6,7 +6,7 @@ use Rattle.i_shape_core.proofs.plane.PointLists.{points-length, points-item, poi
 use Rattle.i_shape_core.proofs.plane.SafeParts.{first-safe, later-safe}
 use Rattle.i_shape_core.proofs.measure.InsideWalk.{last_read, block_walked, none_right, none_turned}
 use Rattle.i_shape_core.proofs.contour.is_inside_by_blocks.Goals as goal
-use Rattle.i_shape_core.proofs.contour.is_inside_by_blocks.Goals.{then-walked-lt2+then-is_on_side, else-walked-lt2}
+use Rattle.i_shape_core.proofs.contour.is_inside_by_blocks.Goals.{then-walked-lt-LOOKS+then-is_on_side, else-walked-lt-LOOKS}
 
 pub is_inside_by_products-is_inside-requires-clause-points_safe : goal.is_inside_by_products-is_inside-requires-clause-points_safe
 is_inside_by_products-is_inside-requires-clause-points_safe g c =
@@ -31,13 +31,13 @@ loop-rest-preserved g c =
     let read = points-item point points each block 15 c.index-block-15.result c.to_point-start.result c.to_point-start.ensures within c.index-block-15.is in
     let p = point_of value c.args.point in
     let q = point_of value c.loop-rest.start in
-    let walked : c.if-walked-lt2.is_inside ≡ inside_after p c.loop-rest.is_inside q (contour_of value (points block)) = elim c.if-walked-lt2.branch [
-      | then-walked-lt2+then-is_on_side w ↦ w.is_inside-is ∙ sym (none_turned p c.loop-rest.is_inside q (contour_of value (points block)) (none_right p q (contour_of value (points block)) (w.is_on_side.ensures.0 w.if-is_on_side.true)))
-      | else-walked-lt2 w ↦ w.is_inside-is ∙ w.is_inside_by_products-is_inside.ensures
+    let walked : c.if-walked-lt-LOOKS.is_inside ≡ inside_after p c.loop-rest.is_inside q (contour_of value (points block)) = elim c.if-walked-lt-LOOKS.branch [
+      | then-walked-lt-LOOKS+then-is_on_side w ↦ w.is_inside-is ∙ sym (none_turned p c.loop-rest.is_inside q (contour_of value (points block)) (none_right p q (contour_of value (points block)) (w.is_on_side.ensures.0 w.if-is_on_side.true)))
+      | else-walked-lt-LOOKS w ↦ w.is_inside-is ∙ w.is_inside_by_products-is_inside.ensures
     ] in
-    let few : c.if-walked-lt2.walked < 16 = elim c.if-walked-lt2.branch [
-      | then-walked-lt2+then-is_on_side w ↦ omega (arith, w.walked-is)
-      | else-walked-lt2 w ↦ omega (arith, w.walked-is)
+    let few : c.if-walked-lt-LOOKS.walked < 16 = elim c.if-walked-lt-LOOKS.branch [
+      | then-walked-lt-LOOKS+then-is_on_side w ↦ omega (arith, w.walked-is)
+      | else-walked-lt-LOOKS w ↦ omega (arith, w.walked-is)
     ] in
     record {
       few = few;

@@ -8,7 +8,7 @@ use Rattle.i_shape_core.proofs.plane.SafeParts.{first-safe, later-safe}
 use Rattle.i_shape_core.proofs.measure.InsideWalk.{last_read, none_right}
 use Rattle.i_shape_core.proofs.measure.WindingWalk.{no_points, none_added, nothing_more, IsWalked, walked_first, walked_block, walked_last, walked_fits, narrow_total, winding_walked}
 use Rattle.i_shape_core.proofs.winding.winding_by_blocks.Goals as goal
-use Rattle.i_shape_core.proofs.winding.winding_by_blocks.Goals.{then-walked-lt2+then-is_on_side, else-walked-lt2}
+use Rattle.i_shape_core.proofs.winding.winding_by_blocks.Goals.{then-walked-lt-LOOKS+then-is_on_side, else-walked-lt-LOOKS}
 
 pub returns-in_default : goal.returns-in_default
 returns-in_default g c =
@@ -75,18 +75,18 @@ loop-rest-preserved g c =
     let p = point_of value c.args.point in
     let q = point_of value c.loop-rest.start in
     let last = last_read value q (points block) 15 end (omega (arith, count, c.split_at.ensures.front_len)) read in
-    let few : c.if-walked-lt2.walked < 16 = elim c.if-walked-lt2.branch [
-      | then-walked-lt2+then-is_on_side w ↦ omega (arith, w.walked-is)
-      | else-walked-lt2 w ↦ omega (arith, w.walked-is)
+    let few : c.if-walked-lt-LOOKS.walked < 16 = elim c.if-walked-lt-LOOKS.branch [
+      | then-walked-lt-LOOKS+then-is_on_side w ↦ omega (arith, w.walked-is)
+      | else-walked-lt-LOOKS w ↦ omega (arith, w.walked-is)
     ] in
     let before = to_z w64 c.loop-rest.total-bits in
     let further = λ (added : ℤ) (told : added ≡ winding_over p q (contour_of value (points block))).
     walked_block value p (point_of value c.to_point-start.result) contour q (point_of value end) (points c.loop-rest.rest.now) (points block) (points later) before added both told last c.loop-rest.invariant.walked in
-    let walked : IsWalked p (point_of value c.to_point-start.result) contour (point_of value end) (contour_of value (points later)) (to_z w64 c.if-walked-lt2.total-bits) = elim c.if-walked-lt2.branch [
-      | then-walked-lt2+then-is_on_side w ↦
+    let walked : IsWalked p (point_of value c.to_point-start.result) contour (point_of value end) (contour_of value (points later)) (to_z w64 c.if-walked-lt-LOOKS.total-bits) = elim c.if-walked-lt-LOOKS.branch [
+      | then-walked-lt-LOOKS+then-is_on_side w ↦
           let none = none_added p q (contour_of value (points block)) (none_right p q (contour_of value (points block)) (w.is_on_side.ensures.0 w.if-is_on_side.true)) in
           subst (IsWalked p (point_of value c.to_point-start.result) contour (point_of value end) (contour_of value (points later))) (nothing_more before ∙ sym w.total-is) (further (pos 0) (sym none))
-      | else-walked-lt2 w ↦
+      | else-walked-lt-LOOKS w ↦
           let turn : FitsSigned w32 w.winding_of_few.result = record { sfits = w.winding_of_few.type_inv } in
           let more = further w.winding_of_few.result w.winding_of_few.ensures in
           let sum : to_z w64 (of_z w64 (before +ℤ to_z w64 (of_z w64 (to_z w32 (of_z w32 w.winding_of_few.result))))) ≡ before +ℤ w.winding_of_few.result = rw (narrow_total w.winding_of_few.result turn) (to_z-of_z w64 (before +ℤ w.winding_of_few.result) (walked_fits _ _ _ _ _ _ more room)) in
