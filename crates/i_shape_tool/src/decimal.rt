@@ -22,6 +22,7 @@ pub(crate) fn write_number(number: i32, text: &mut [u8], end: usize) -> usize
     ensures written { drop result text.new ≡ space ∷ (signed_decimal number ++ drop end text.old) }
 {
     let digits = write_digits(number.unsigned_abs(), text, end);
+    // A number without a minus has its space in that place.
     text[digits - 1] = b'-';
     let start = if number < 0 { digits - 2 } else { digits - 1 };
     text[start] = b' ';

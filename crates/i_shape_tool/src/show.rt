@@ -11,7 +11,7 @@ use i_shape::int::area::Area;
 use i_shape::int::shape::IntContour;
 use std::alloc::AllocError;
 
-/// How many points are written before they are appended. Bytes that were just written one by one are slow to copy.
+/// How many points are written before they are appended at once: bytes that were only just written, one by one, are slow to copy.
 const POINTS: usize = 16;
 
 /// Appends the coordinates of the points in turn, parted by single spaces. The space before the first one is skipped.
