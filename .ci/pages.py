@@ -10,6 +10,7 @@ usage: .ci/pages.py [PAGE..]
 - a block `js`: a file of JavaScript is that text;
 - a block `console`: its commands run in order, as in one shell at the top of a clone named raspochre, each printing what stands below it;
 - the links within the repository: the page is there, and the heading;
+- no line of a merge is left that wasn't ended;
 - docs/develop/GATE.md has an item for each part of the gate;
 - docs/develop/ARCHITECTURE.md names each file of lemmas, and docs/develop/CONTRACTS.md each edit of must-fail/ and no edit that isn't there;
 - the version: it is that of the header in CHANGELOG.md, in the archive, in the packages for Python and JavaScript and in the crate for Rust.
@@ -261,6 +262,8 @@ def tests_of(name):
         if kind in FAULTS:
             yield f"line {line} ({kind})", needed, lambda kind=kind, text=text: FAULTS[kind](text)
     yield "links", [], lambda: fault_of_links(name, page)
+    for line in re.findall(r"^(?:<{7}|>{7}) .*", page, re.MULTILINE):
+        yield "merge", [], lambda line=line: f"{line} is left"
 
 
 def main():

@@ -44,6 +44,7 @@ ROWS = [
     ("a link to no page", "[a](nothing.md)\n", "failed"),
     ("a link to no heading", "# One\n[a](#two)\n", "failed"),
     ("a link to no heading of a page", "[a](README.md#no-limits)\n", "failed"),
+    ("a merge that wasn't ended", "<<<<<<< HEAD\none\n=======\ntwo\n>>>>>>> other\n", "failed"),
 ]
 
 
