@@ -179,7 +179,7 @@ test_rust() {
 
 if [ "${1-}" = --if-built ] && ! bash bindings/c/build.sh --is-built; then
     echo 'the C library and the crate for Rust are not tested: `make c` builds them'
-    echo "c library: 0 passed, 0 failed, $((56 + $(count_rust_tests))) skipped"
+    echo "c library: 0 passed, 0 failed, $((57 + $(count_rust_tests))) skipped"
     exit 0
 fi
 work=$(mktemp -d) || exit 1
@@ -197,6 +197,7 @@ test_build
 test_program README.md bindings/c/sample.c "${CC:-cc}" -std=c11
 test_program docs/C.md bindings/c/codes.c "${CC:-cc}" -std=c11
 test_program docs/C.md examples/clean.c "${CC:-cc}" -std=c11
+test_program docs/C.md examples/polygons.c "${CC:-cc}" -std=c11
 test_cpp g++ -O2
 test_cpp clang++ -O0
 test_refused_points
