@@ -3,7 +3,7 @@ use Rattle.std.proofs.Common.{◌≡◌, ℕ, ℤ, zero, suc, ◌+◌, ◌-◌, 
 use Rattle.std.specs.declared.ops.Range.{Range}
 use Rattle.std.specs.Int.{Width}
 use Rattle.std.specs.List.{All, range_with_len}
-use Rattle.std.proofs.lemmas.List.{length-map, map-append}
+use Rattle.std.proofs.lemmas.List.{length-map, map-append, take_at, drop_at}
 use Rattle.std.proofs.lemmas.List.Elements.{All-map, All-take, All-drop}
 use Rattle.std.proofs.lemmas.List.FromFn.{length-map-range_with_len, take-map-range_with_len, get_or-map-range_with_len, map-range_with_len_more}
 use Rattle.std.proofs.lemmas.Simd.{map-map}
@@ -23,7 +23,6 @@ use Rattle.i_shape_c.specs.Batch.{offset, nth_contour, AreRising, AreSafeContour
 use Rattle.i_shape_c.specs.Polygons.{parts, polygons, offsets_of, AreShapesLeft}
 use Rattle.i_shape_c.proofs.Boundary.{same_points}
 use Rattle.i_shape_c.proofs.Batches.{safe_part}
-use Rattle.i_shape_c.proofs.Parts.{from_start}
 
 -- numbers in order, without the first ones
 drop_range : {X : Type 0} (f : ℕ → X) (a n s : ℕ) → a ≤ n → drop a (map f (range_with_len s n)) ≡ map f (range_with_len (s + a) (n - a))
@@ -176,20 +175,20 @@ module _ {P I : Type 0} (Gives : List (List (List Point)) → List (List (List P
   -- arrays into which the lists of a buffer are written hold the shapes of the buffer
   pub shapes_written : (points : List P) (contours shapes : List ℕ) (old_points new_points : List P) (old_contours new_contours old_shapes new_shapes : List ℕ) (buffer : FlatShapesBuffer I) (list : List (List (List (IntPoint I))))
       → HoldsShapes buffer list → Gives (polygons (map (λ p. point_of value (to p)) points) contours shapes) (map (map (contour_of value)) list)
-      → slice_range new_points 0 (0 + length buffer.points.items) ≡ map of buffer.points.items
-      → drop (0 + length buffer.points.items) new_points ≡ drop (0 + length buffer.points.items) old_points
+      → new_points ≡ map of buffer.points.items ++ drop (length buffer.points.items) old_points
       → new_contours ≡ 0 ∷ (map (λ range. range.end) buffer.contour_ranges.items ++ drop (length buffer.contour_ranges.items + 1) old_contours)
       → new_shapes ≡ 0 ∷ (map (λ range. range.end) buffer.shape_ranges.items ++ drop (length buffer.shape_ranges.items + 1) old_shapes)
       → (length buffer.points.items ≤ length points) × (length buffer.contour_ranges.items < length contours) × (length buffer.shape_ranges.items < length shapes)
       → AreShapesLeft Gives (λ p. point_of value (to p)) points contours shapes old_points new_points old_contours new_contours old_shapes new_shapes (length buffer.shape_ranges.items)
-  shapes_written points contours shapes old_points new_points old_contours new_contours old_shapes new_shapes buffer list held left is_points rest is_contours is_shapes fewer =
+  shapes_written points contours shapes old_points new_points old_contours new_contours old_shapes new_shapes buffer list held left is_points is_contours is_shapes fewer =
       let made = map (map (contour_of value)) list in
       let rings : concatenated made ≡ map (contour_of value) (concatenated list) = concatenated-map (contour_of value) list in
       let whole : concatenated (concatenated made) ≡ contour_of value buffer.points.items = ap concatenated rings ∙ concatenated-map (point_of value) (concatenated list) ∙ ap (contour_of value) (sym held.points) in
       let counts = held_counts value buffer list held in
       let count : length (concatenated (concatenated made)) ≡ length buffer.points.items = counts.0 in
-      let zero_more : 0 + length buffer.points.items ≡ length buffer.points.items = omega arith in
-      let front : take (length buffer.points.items) new_points ≡ map of buffer.points.items = sym (from_start new_points (length buffer.points.items)) ∙ rw (← zero_more) is_points in
+      let back = drop (length buffer.points.items) old_points in
+      let long : length (map of buffer.points.items) ≡ length buffer.points.items = length-map buffer.points.items of in
+      let front : take (length buffer.points.items) new_points ≡ map of buffer.points.items = ap (take (length buffer.points.items)) is_points ∙ take_at (map of buffer.points.items) back (length buffer.points.items) long in
       let ring_count : length buffer.contour_ranges.items ≡ length (concatenated made) = sym counts.1 in
       let shape_count : length buffer.shape_ranges.items ≡ length made = sym counts.2 in
       let ring_offsets : 0 ∷ map (λ range. range.end) buffer.contour_ranges.items ≡ offsets_of 0 (concatenated made) =
@@ -204,7 +203,7 @@ module _ {P I : Type 0} (Gives : List (List (List Point)) → List (List (List P
         fewer_contours = omega (arith, fewer.1, ring_count);
         fewer_shapes = fewer.2;
         written = rw count (ap (map (λ p. point_of value (to p))) front ∙ same_points value to of same buffer.points.items ∙ sym whole);
-        rest = rw (count, ← zero_more) rest;
+        rest = rw count (ap (drop (length buffer.points.items)) is_points ∙ drop_at (map of buffer.points.items) back (length buffer.points.items) long);
         contours_are = is_contours ∙ ap (λ w. w ++ drop (length buffer.contour_ranges.items + 1) old_contours) ring_offsets ∙ ap (λ n. offsets_of 0 (concatenated made) ++ drop (n + 1) old_contours) ring_count;
         shapes_are = is_shapes ∙ ap (λ w. w ++ drop (length buffer.shape_ranges.items + 1) old_shapes) shape_offsets ∙ ap (λ n. offsets_of 0 made ++ drop (n + 1) old_shapes) shape_count;
       }

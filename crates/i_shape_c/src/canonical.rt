@@ -1,6 +1,6 @@
 //! The canonical forms of polygons, made in a buffer of shapes.
 
-ghost use Rattle.std.specs.Prelude.{[], ◌≡◌, ◌+◌, ◌-◌, ◌^◌, ◌<◌, ◌≤◌, ◌∷◌, ◌++◌, List, length, map, drop, slice_range, IfOk, OnOk, OnErr};
+ghost use Rattle.std.specs.Prelude.{[], ◌≡◌, ◌+◌, ◌-◌, ◌^◌, ◌<◌, ◌≤◌, ◌∷◌, ◌++◌, List, length, map, drop, IfOk, OnOk, OnErr};
 ghost use Rattle.std.specs.List.{range_with_len};
 ghost use Rattle.i_shape.specs.AppendedAnswers.{Grows};
 ghost use Rattle.i_shape.specs.Buffers.{HoldsShapes, shapes_in, named_shapes};
@@ -215,17 +215,15 @@ fn write_shapes<P: CPoint>(
     requires points_room { length shapes.now.points.items ≤ length out_points.old }
     requires contours_room { length shapes.now.contour_ranges.items < length out_contours.old }
     requires shapes_room { length shapes.now.shape_ranges.items < length out_shapes.old }
-    ensures points { slice_range out_points.new 0 (0 + length shapes.now.points.items)
-        ≡ map P.c_point shapes.now.points.items }
-    ensures rest { drop (0 + length shapes.now.points.items) out_points.new
-        ≡ drop (0 + length shapes.now.points.items) out_points.old }
+    ensures points { out_points.new ≡ map P.c_point shapes.now.points.items
+        ++ drop (length shapes.now.points.items) out_points.old }
     ensures contours { out_contours.new ≡ 0
         ∷ map (λ range. range.end) shapes.now.contour_ranges.items
         ++ drop (length shapes.now.contour_ranges.items + 1) out_contours.old }
     ensures shapes { out_shapes.new ≡ 0 ∷ map (λ range. range.end) shapes.now.shape_ranges.items
         ++ drop (length shapes.now.shape_ranges.items + 1) out_shapes.old }
 {
-    copy_out(shapes.points.as_slice(), out_points, 0);
+    copy_out(shapes.points.as_slice(), out_points);
     write_offsets(shapes.contour_ranges.as_slice(), out_contours);
     write_offsets(shapes.shape_ranges.as_slice(), out_shapes);
 }

@@ -1,6 +1,6 @@
 //! Points of C, and points of the library.
 
-ghost use Rattle.std.specs.Prelude.{◌≡◌, ◌+◌, ◌≤◌, ◌++◌, length, map, take, drop, slice_range, IfOk};
+ghost use Rattle.std.specs.Prelude.{◌≡◌, ◌≤◌, ◌++◌, length, map, drop, IfOk};
 
 use crate::point::CPoint;
 use i_shape::int::IntPoint;
@@ -21,15 +21,12 @@ pub fn append_points<P: CPoint>(
     Ok(())
 }
 
-/// Writes the points from place `at` on.
-pub fn copy_out<P: CPoint>(points: &[IntPoint<P::Coordinate>], out: &mut [P], at: usize)
-    requires { at + length points.now ≤ length out.old }
-    ensures before { take at out.new ≡ take at out.old }
-    ensures out { slice_range out.new at (at + length points.now) ≡ map P.c_point points.now }
-    ensures after { drop (at + length points.now) out.new ≡ drop (at + length points.now) out.old }
-    ensures len { length out.new ≡ length out.old }
+/// Writes the points to the front of `out`.
+pub fn copy_out<P: CPoint>(points: &[IntPoint<P::Coordinate>], out: &mut [P])
+    requires { length points.now ≤ length out.old }
+    ensures { out.new ≡ map P.c_point points.now ++ drop (length points.now) out.old }
 {
     for place in 0..points.len() {
-        out[at + place] = P::of_point(points[place]);
+        out[place] = P::of_point(points[place]);
     }
 }

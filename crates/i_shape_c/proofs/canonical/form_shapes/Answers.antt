@@ -32,7 +32,7 @@ returns-in-Ok g c =
     c.args.out_points.now c.args.out_contours.now c.args.out_shapes.now can.0 can.1 c.write_shapes.new.out_points c.write_shapes.new.out_contours c.write_shapes.new.out_shapes (length left.shape_ranges.items)
     (shapes_written g.S.ShapesForm.gives g.P.Coordinate.IntNumber.value g.P.ContourPoint.point g.P.CPoint.c_point g.met.P.CPoint.same c.args.points.now c.args.contours.now c.args.shapes.now
     c.args.out_points.now c.write_shapes.new.out_points c.args.out_contours.now c.write_shapes.new.out_contours c.args.out_shapes.now c.write_shapes.new.out_shapes
-    left held.0 held.1 held.2 wrote.points wrote.rest wrote.contours wrote.shapes fewer))
+    left held.0 held.1 held.2 wrote.points wrote.contours wrote.shapes fewer))
 
 pub returns-in-Err : goal.returns-in-Err
 returns-in-Err g c =
