@@ -7,16 +7,12 @@ use Rattle.std.proofs.lemmas.List.Elements.{filter_map-append}
 use Rattle.std.proofs.lemmas.List.FromFn.{map-range_with_len_more, length-map-range_with_len, get_or-map-range_with_len}
 use Rattle.i_shape.specs.Paths.{concatenated}
 use Rattle.i_shape.proofs.lists.EndToEnd.{concatenated-append}
-use Rattle.i_shape_c.specs.Appended.{PartsPoints, filled, left_of, IsPut, ends_from, AppendsRings, AppendsPolygons, WritesPolygons}
-use Rattle.i_shape_c.specs.Batch.{offset, nth_contour, AreRising, CanClean}
+use Rattle.i_shape_c.specs.Appended.{filled, left_of, IsPut, ends_from, AppendsRings, AppendsPolygons, WritesPolygons}
+use Rattle.i_shape_c.specs.Batch.{offset, nth_contour, AreRising, PartsPoints}
 use Rattle.i_shape_c.specs.Polygons.{parts, offsets_of}
 use Rattle.i_shape_c.specs.declared.polygons.Counts.{Counts}
 use Rattle.i_shape_c.proofs.Batches.{rises_to}
 use Rattle.i_shape_c.proofs.Parts.{nothing_between}
-
--- offsets by which contours can be cleaned part the points
-pub can_part : (points : ℕ) (offsets : List ℕ) (out_points out_offsets : ℕ) → CanClean points offsets out_points out_offsets → PartsPoints points offsets
-can_part points offsets out_points out_offsets can = record { some = can.some; order = can.order; last = can.last }
 
 -- nothing is put where nothing changes
 pub put_none : {X : Type 0} (at : ℕ) (old : List X) → IsPut at [] old old

@@ -10,8 +10,8 @@ use Rattle.i_shape.specs.Paths.{concatenated}
 use Rattle.i_shape.specs.ShapeAnswers.{HasPoints, Survivors, ShapeClean, ListClean, EachShape}
 use Rattle.i_shape.specs.Written.{slot}
 use Rattle.i_shape.proofs.buffers.ShapeRanges.{slice_range-map}
-use Rattle.i_shape_c.specs.Appended.{PartsPoints, AreClean, CleansRings, filled, left_of, rings_at, polygons_left, WritesPolygons}
-use Rattle.i_shape_c.specs.Batch.{offset, nth_contour, AreRising, AreSafeContours, IsCleanedBatch}
+use Rattle.i_shape_c.specs.Appended.{AreClean, CleansRings, filled, left_of, rings_at, polygons_left, WritesPolygons}
+use Rattle.i_shape_c.specs.Batch.{offset, nth_contour, AreRising, PartsPoints, AreSafeContours, IsCleanedBatch}
 use Rattle.i_shape_c.specs.Cleaned.{AreSafe}
 use Rattle.i_shape_c.specs.Polygons.{parts, polygons, offsets_of, AreShapesLeft}
 use Rattle.i_shape_c.proofs.Appended.{offset_part, nth_part, length_part, parted_part, put_front, length-offsets}

@@ -5,16 +5,10 @@ use Rattle.std.specs.List.{filter_map, range_with_len}
 use Rattle.i_shape.specs.Point.{Point}
 use Rattle.i_shape.specs.Paths.{concatenated}
 use Rattle.i_shape.specs.Written.{slot}
-use Rattle.i_shape_c.specs.Batch.{offset, nth_contour, AreRising, AreSafeContours}
+use Rattle.i_shape_c.specs.Batch.{offset, nth_contour, PartsPoints, AreSafeContours}
 use Rattle.i_shape_c.specs.Cleaned.{unfit_code, unsafe_code}
 use Rattle.i_shape_c.specs.Polygons.{parts, offsets_of, CanCleanShapes}
 use Rattle.i_shape_c.specs.declared.polygons.Counts.{Counts}
-
--- the offsets part a list of so many points
-pub record PartsPoints (points : ℕ) (offsets : List ℕ) : Type 0 where
-  pub some : 0 < length offsets
-  pub order : AreRising offsets (length offsets)
-  pub last : offset offsets (length offsets - 1) ≤ points
 
 -- each contour between the first n offsets is clean
 abbrev pub AreClean : {P : Type 0} → (List Point → Type 0) → (P → Point) → List P → List ℕ → ℕ → Type 0

@@ -22,11 +22,15 @@ pub record IsLongest (offsets : List ℕ) (n m : ℕ) : Type 0 where
   pub most : (k : ℕ) → k + 1 < n → offset offsets (k + 1) ≤ offset offsets k + m
   pub reached : (m ≡ 0) ⊎ ((k : ℕ) × (k + 1 < n) × (offset offsets (k + 1) ≡ offset offsets k + m))
 
--- the offsets part so many points, and there is room for an answer
-pub record CanClean (points : ℕ) (offsets : List ℕ) (out_points out_offsets : ℕ) : Type 0 where
+-- the offsets part a list of so many points
+pub record PartsPoints (points : ℕ) (offsets : List ℕ) : Type 0 where
   pub some : 0 < length offsets
   pub order : AreRising offsets (length offsets)
   pub last : offset offsets (length offsets - 1) ≤ points
+
+-- they part so many points, and there is room for an answer
+pub record CanClean (points : ℕ) (offsets : List ℕ) (out_points out_offsets : ℕ) : Type 0 where
+  pub parted : PartsPoints points offsets
   pub room : points ≤ out_points
   pub offsets_room : length offsets ≤ out_offsets
 

@@ -3,14 +3,14 @@ use Rattle.std.specs.Prelude.{◌≡◌, ◌↔◌, ℕ, ℤ, ◌-◌, ◌<◌, 
 use Rattle.std.specs.Int.{Width}
 use Rattle.std.specs.List.{AllZip}
 use Rattle.i_shape.specs.Point.{Point}
-use Rattle.i_shape_c.specs.Batch.{CanClean, AreSafeContours}
+use Rattle.i_shape_c.specs.Batch.{PartsPoints, AreSafeContours}
 use Rattle.i_shape_c.specs.Cleaned.{unsafe_code, unfit_code}
 use Rattle.i_shape_c.specs.Polygons.{parts}
 use Rattle.i_shape_c.specs.Tests.{IsTold}
 
 -- the offsets part so many points, and there is room for an item of each contour
 pub record CanMeasure (points : ℕ) (offsets : List ℕ) (out : ℕ) : Type 0 where
-  pub parted : CanClean points offsets points (length offsets)
+  pub parted : PartsPoints points offsets
   pub room : length offsets - 1 ≤ out
 
 -- the new items begin with one for each contour, in order, that is given of it, and what stands behind these is as it was

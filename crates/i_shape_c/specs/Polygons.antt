@@ -3,7 +3,7 @@ use Rattle.std.specs.Prelude.{◌≡◌, ◌↔◌, ℕ, ℤ, ◌+◌, ◌-◌, 
 use Rattle.std.specs.List.{range_with_len}
 use Rattle.i_shape.specs.Point.{Point}
 use Rattle.i_shape.specs.Paths.{concatenated}
-use Rattle.i_shape_c.specs.Batch.{nth_contour, CanClean, AreSafeContours}
+use Rattle.i_shape_c.specs.Batch.{nth_contour, PartsPoints, CanClean, AreSafeContours}
 use Rattle.i_shape_c.specs.Cleaned.{unfit_code, unsafe_code, no_memory_code}
 use Rattle.std.specs.Int.{Width}
 
@@ -23,7 +23,8 @@ offsets_of start (part ∷ parts) = start ∷ offsets_of (start + length part) p
 -- the offsets part so many points into contours, and these into polygons, and there is room for as many of each
 pub record CanCleanShapes (points : ℕ) (contours shapes : List ℕ) (out_points out_contours out_shapes : ℕ) : Type 0 where
   pub contours_fit : CanClean points contours out_points out_contours
-  pub shapes_fit : CanClean (length contours - 1) shapes (length contours - 1) out_shapes
+  pub shapes_parted : PartsPoints (length contours - 1) shapes
+  pub shapes_room : length shapes ≤ out_shapes
 
 -- there are no more polygons, contours and points than there were
 pub record AreFewer (given left : List (List (List Point))) : Type 0 where

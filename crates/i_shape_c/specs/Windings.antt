@@ -6,7 +6,7 @@ use Rattle.i_shape.specs.Point.{Point}
 use Rattle.i_shape.specs.IntPoint.{IsSafe}
 use Rattle.i_shape.specs.Edges.{sum_of}
 use Rattle.i_shape.specs.Winding.{winding}
-use Rattle.i_shape_c.specs.Batch.{nth_contour, CanClean, AreSafeContours}
+use Rattle.i_shape_c.specs.Batch.{nth_contour, PartsPoints, AreSafeContours}
 use Rattle.i_shape_c.specs.Cleaned.{unsafe_code, unfit_code, AreSafe}
 
 -- the code of a winding number about a point that isn't safe: the least number of 64 bits, which no winding number is
@@ -15,7 +15,7 @@ no_winding = negsuc 9223372036854775807
 
 -- the offsets part so many points, and there is room for the winding number about each of `about` points
 pub record CanWind (points : ℕ) (offsets : List ℕ) (about out : ℕ) : Type 0 where
-  pub parted : CanClean points offsets points (length offsets)
+  pub parted : PartsPoints points offsets
   pub room : about ≤ out
 
 -- how often the contours that the offsets part wind about p together

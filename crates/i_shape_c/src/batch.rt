@@ -1,7 +1,7 @@
 //! The cleaning of many contours, which lie end to end in one array and are parted by offsets.
 
 ghost use Rattle.std.specs.Prelude.{◌≡◌, ◌↔◌, ◌+◌, ◌^◌, ◌<◌, ◌≤◌, length, slice_range, IsTrue, IfOk, OnErr};
-ghost use Rattle.i_shape_c.specs.Batch.{AreRising, IsLongest, CanClean, AreSafeContours, NoneTakesMemory, IsCleanedBatch, IsWithin, CleansContours};
+ghost use Rattle.i_shape_c.specs.Batch.{AreRising, IsLongest, PartsPoints, CanClean, AreSafeContours, NoneTakesMemory, IsCleanedBatch, IsWithin, CleansContours};
 ghost use Rattle.i_shape_c.specs.Points.{point_by};
 
 use crate::codes::{NO_MEMORY, UNFIT, UNSAFE};
@@ -42,7 +42,14 @@ pub fn clean_contours<P: CPoint, C: ContourCleaner>(
 pub fn can_clean(points: usize, offsets: &[usize], out_points: usize, out_offsets: usize) -> bool
     ensures { IsTrue result ↔ CanClean points offsets.now out_points out_offsets }
 {
-    if offsets.is_empty() || out_offsets < offsets.len() || out_points < points {
+    points <= out_points && offsets.len() <= out_offsets && are_parted(points, offsets)
+}
+
+/// Whether the offsets part so many points.
+pub fn are_parted(points: usize, offsets: &[usize]) -> bool
+    ensures { IsTrue result ↔ PartsPoints points offsets.now }
+{
+    if offsets.is_empty() {
         return false;
     }
     for place in 1..offsets.len() {

@@ -10,7 +10,7 @@ ghost use Rattle.i_shape.specs.IntPoint.{contour_of};
 ghost use Rattle.i_shape.specs.IntPoints.{IntPoint};
 ghost use Rattle.i_shape.specs.Point.{Point};
 ghost use Rattle.i_shape.specs.ShapeLists.{IsSafeList};
-ghost use Rattle.i_shape_c.specs.Batch.{nth_contour, CanClean, AreSafeContours};
+ghost use Rattle.i_shape_c.specs.Batch.{nth_contour, PartsPoints, AreSafeContours};
 ghost use Rattle.i_shape_c.specs.Points.{point_by};
 ghost use Rattle.i_shape_c.specs.Polygons.{polygons, AreFewer, AreNone, CleansPolygons};
 ghost use Rattle.i_shape_core.proofs.answers.Cleaners.{canonical_fewer, unoriented_fewer};
@@ -119,10 +119,8 @@ fn formed<P: CPoint, S: ShapesForm<P::Coordinate>>(
     contours: &[usize],
     shapes: &[usize],
 ) -> Result<FlatShapesBuffer<P::Coordinate>, ShapeError>
-    requires contours_part { CanClean (length points.now)
-        contours.now (length points.now) (length contours.now) }
-    requires shapes_part { CanClean (length contours.now - 1)
-        shapes.now (length contours.now - 1) (length shapes.now) }
+    requires contours_part { PartsPoints (length points.now) contours.now }
+    requires shapes_part { PartsPoints (length contours.now - 1) shapes.now }
     requires points_safe { AreSafeContours P.Coordinate.width
         (point_by P.Coordinate.value P.point) points.now contours.now }
     ensures left { IfOk result (λ buffer. (list : List (List (List (IntPoint P.Coordinate))))
@@ -149,10 +147,8 @@ fn polygons_of<P: CPoint>(
     contours: &[usize],
     shapes: &[usize],
 ) -> Result<FlatShapesBuffer<P::Coordinate>, ShapeError>
-    requires contours_part { CanClean (length points.now)
-        contours.now (length points.now) (length contours.now) }
-    requires shapes_part { CanClean (length contours.now - 1)
-        shapes.now (length contours.now - 1) (length shapes.now) }
+    requires contours_part { PartsPoints (length points.now) contours.now }
+    requires shapes_part { PartsPoints (length contours.now - 1) shapes.now }
     ensures { IfOk result
         (λ buffer. HoldsShapes buffer (polygons (map P.point points.now) contours.now shapes.now)) }
 {
@@ -187,8 +183,7 @@ fn append_contours<P: CPoint>(
     from: usize,
     to: usize,
 ) -> Result<(), ShapeError>
-    requires contours_part { CanClean (length points.now)
-        contours.now (length points.now) (length contours.now) }
+    requires contours_part { PartsPoints (length points.now) contours.now }
     requires order { from ≤ to }
     requires within { to < length contours.now }
     ensures { OnOk result

@@ -13,7 +13,7 @@ ghost use Rattle.i_shape_c.specs.Measures.{CanMeasure, MeasuresAnswer, IsByteOf}
 ghost use Rattle.i_shape_c.specs.Points.{point_by};
 
 use crate::area::{Halves, area_two};
-use crate::batch::{can_clean, part};
+use crate::batch::{are_parted, part};
 use crate::codes::{UNFIT_TEST, UNSAFE_TEST};
 use crate::point::{CPoint, PointI16, PointI32, PointI64};
 use crate::tests::ContourTest;
@@ -182,5 +182,5 @@ pub fn measure_contours<P: CPoint, M: ContourMeasure<P>>(
 fn can_measure(points: usize, offsets: &[usize], room: usize) -> bool
     ensures { IsTrue result ↔ CanMeasure points offsets.now room }
 {
-    can_clean(points, offsets, points, offsets.len()) && offsets.len() - 1 <= room
+    are_parted(points, offsets) && offsets.len() - 1 <= room
 }

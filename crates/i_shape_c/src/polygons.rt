@@ -5,12 +5,12 @@ ghost use Rattle.std.specs.Prelude.{◌≡◌, ◌↔◌, ◌+◌, ◌-◌, ◌^
 ghost use Rattle.std.specs.List.{filter_map};
 ghost use Rattle.std.specs.Option.{option_to_list};
 ghost use Rattle.i_shape.specs.ShapeAnswers.{ListClean, EachShape};
-ghost use Rattle.i_shape_c.specs.Appended.{PartsPoints, AreClean, CleansRings, RefusesPolygons, AppendsRings, AppendsPolygons, WritesPolygons, filled, left_of, polygons_left};
-ghost use Rattle.i_shape_c.specs.Batch.{offset, AreRising, AreSafeContours};
+ghost use Rattle.i_shape_c.specs.Appended.{AreClean, CleansRings, RefusesPolygons, AppendsRings, AppendsPolygons, WritesPolygons, filled, left_of, polygons_left};
+ghost use Rattle.i_shape_c.specs.Batch.{offset, AreRising, PartsPoints, AreSafeContours};
 ghost use Rattle.i_shape_c.specs.Polygons.{parts, polygons, CanCleanShapes, AreShapesLeft, CleansPolygons};
 ghost use Rattle.i_shape_c.specs.Points.{point_by};
 
-use crate::batch::{can_clean, clean_all, part};
+use crate::batch::{are_parted, can_clean, clean_all, part};
 use crate::codes::{NO_MEMORY, UNFIT, UNSAFE};
 use crate::point::CPoint;
 use i_shape::ShapeError;
@@ -99,7 +99,8 @@ fn can_clean_shapes(
         shapes.now out_points out_contours out_shapes }
 {
     can_clean(points, contours, out_points, out_contours)
-        && can_clean(contours.len() - 1, shapes, contours.len() - 1, out_shapes)
+        && are_parted(contours.len() - 1, shapes)
+        && shapes.len() <= out_shapes
 }
 
 /// Writes what is left of the polygons to the front of the three arrays, and answers how many they are. Clean contours are read where they

@@ -4,11 +4,11 @@ ghost use Rattle.std.specs.Prelude.{◌≡◌, ◌↔◌, length, map};
 ghost use Rattle.i_shape.specs.IntPoint.{point_of, IsSafe};
 ghost use Rattle.i_shape.specs.Winding.{winding};
 ghost use Rattle.i_shape_c.specs.Cleaned.{AreSafe, unsafe_code, unfit_code};
-ghost use Rattle.i_shape_c.specs.Batch.{CanClean, AreSafeContours};
+ghost use Rattle.i_shape_c.specs.Batch.{PartsPoints, AreSafeContours};
 ghost use Rattle.i_shape_c.specs.Windings.{no_winding, CanWind, contours_winding, WindingsAnswer};
 ghost use Rattle.i_shape_c.specs.Points.{point_by};
 
-use crate::batch::{can_clean, part};
+use crate::batch::{are_parted, part};
 use crate::codes::{NO_WINDING, UNFIT_TEST, UNSAFE_TEST};
 use crate::point::CPoint;
 use i_shape::IntNumber;
@@ -45,7 +45,7 @@ pub fn windings<P: CPoint>(points: &[P], offsets: &[usize], about: &[P], out: &m
         points.now offsets.now × AreSafe P.Coordinate.width
         (point_by P.Coordinate.value P.point) about.now) → ⊥)) }
 {
-    if out.len() < about.len() || !can_clean(points.len(), offsets, points.len(), offsets.len()) {
+    if out.len() < about.len() || !are_parted(points.len(), offsets) {
         return UNFIT_TEST;
     }
     if !are_safe(part(points, offsets[0], offsets[offsets.len() - 1])) {
@@ -62,8 +62,7 @@ pub fn windings<P: CPoint>(points: &[P], offsets: &[usize], about: &[P], out: &m
 
 /// How often the contours wind about a point together.
 fn wind_all<P: CPoint>(points: &[P], offsets: &[usize], point: IntPoint<P::Coordinate>) -> isize
-    requires can { CanClean (length points.now) offsets.now
-        (length points.now) (length offsets.now) }
+    requires parted { PartsPoints (length points.now) offsets.now }
     requires points_safe { AreSafeContours P.Coordinate.width
         (point_by P.Coordinate.value P.point) points.now offsets.now }
     requires point_safe { IsSafe P.Coordinate.width (point_of P.Coordinate.value point) }

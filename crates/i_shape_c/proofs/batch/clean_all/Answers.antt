@@ -8,19 +8,19 @@ use Rattle.i_shape_c.proofs.batch.clean_all.Goals as goal
 
 pub part-ring-requires-clause-within : goal.part-ring-requires-clause-within
 part-ring-requires-clause-within g c =
-    let up = rises_to c.args.offsets.now (length c.args.offsets.now) c.loop-place.place (length c.args.offsets.now - 1) c.requires.can.order (omega (arith, c.loop-place-test.true)) (omega (arith, c.loop-place-test.true)) in
-    omega (arith, up, c.requires.can.last)
+    let up = rises_to c.args.offsets.now (length c.args.offsets.now) c.loop-place.place (length c.args.offsets.now - 1) c.requires.can.parted.order (omega (arith, c.loop-place-test.true)) (omega (arith, c.loop-place-test.true)) in
+    omega (arith, up, c.requires.can.parted.last)
 
 pub clean_into-requires-clause-points_safe : goal.clean_into-requires-clause-points_safe
 clean_into-requires-clause-points_safe g c =
     let at = λ (p : g.row.P.Denot). point_of g.P.Coordinate.IntNumber.value (g.P.ContourPoint.point p) in
     rw (c.part-ring.ensures.part)
-    (safe_part g.P.Coordinate.IntNumber.width at c.args.points.now c.args.offsets.now (c.loop-place.place - 1) c.loop-place.place c.requires.can.order (omega arith) c.loop-place-test.true c.requires.points_safe)
+    (safe_part g.P.Coordinate.IntNumber.width at c.args.points.now c.args.offsets.now (c.loop-place.place - 1) c.loop-place.place c.requires.can.parted.order (omega arith) c.loop-place-test.true c.requires.points_safe)
 
 pub clean_into-requires-clause-room : goal.clean_into-requires-clause-room
 clean_into-requires-clause-room g c =
-    let up = rises_to c.args.offsets.now (length c.args.offsets.now) c.loop-place.place (length c.args.offsets.now - 1) c.requires.can.order (omega (arith, c.loop-place-test.true)) (omega (arith, c.loop-place-test.true)) in
-    omega (arith, up, c.requires.can.last, c.requires.can.room, c.loop-place.invariant.points, c.loop-place.invariant.done.fewer, c.part-ring.ensures.len)
+    let up = rises_to c.args.offsets.now (length c.args.offsets.now) c.loop-place.place (length c.args.offsets.now - 1) c.requires.can.parted.order (omega (arith, c.loop-place-test.true)) (omega (arith, c.loop-place-test.true)) in
+    omega (arith, up, c.requires.can.parted.last, c.requires.can.room, c.loop-place.invariant.points, c.loop-place.invariant.done.fewer, c.part-ring.ensures.len)
 
 pub loop-place-preserved : goal.loop-place-preserved
 loop-place-preserved g c =
@@ -41,8 +41,8 @@ loop-place-preserved g c =
 
 pub returns-in_err-written-clause-err : goal.returns-in_err-written-clause-err
 returns-in_err-written-clause-err g c =
-    let up = rises_to c.args.offsets.now (length c.args.offsets.now) (c.loop-place.place - 1) (length c.args.offsets.now - 1) c.requires.can.order (omega (arith, c.loop-place-test.true)) (omega (arith, c.requires.can.some)) in
-    let less : c.loop-place.written ≤ length c.args.points.now = omega (arith, up, c.requires.can.last, c.loop-place.invariant.done.fewer) in
+    let up = rises_to c.args.offsets.now (length c.args.offsets.now) (c.loop-place.place - 1) (length c.args.offsets.now - 1) c.requires.can.parted.order (omega (arith, c.loop-place-test.true)) (omega (arith, c.requires.can.parted.some)) in
+    let less : c.loop-place.written ≤ length c.args.points.now = omega (arith, up, c.requires.can.parted.last, c.loop-place.invariant.done.fewer) in
     on_err {Q = IsWithin (length c.args.points.now) (length c.args.offsets.now) c.args.out_points.now c.clean_into.new.out c.args.out_offsets.now c.loop-place.out_offsets} c.from_residual.result (record {
       points = ap (drop (length c.args.points.now)) c.in_err-written.ensures.err ∙ same_further c.loop-place.out_points c.args.out_points.now c.loop-place.written (length c.args.points.now) less c.loop-place.invariant.points_rest;
       offsets = same_further c.loop-place.out_offsets c.args.out_offsets.now c.loop-place.place (length c.args.offsets.now) (omega (arith, c.loop-place-test.true)) c.loop-place.invariant.offsets_rest;
@@ -52,7 +52,7 @@ pub returns-clause-ok : goal.returns-clause-ok
 returns-clause-ok g c =
     let at = λ (p : g.row.P.Denot). point_of g.P.Coordinate.IntNumber.value (g.P.ContourPoint.point p) in
     all_done g.C.ContourCleaner.answers g.C.ContourCleaner.keeps g.P.Coordinate.IntNumber.width at c.args.points.now c.args.offsets.now c.args.out_points.now c.loop-place.out_points c.args.out_offsets.now c.loop-place.out_offsets
-    c.loop-place.place c.loop-place.written c.loop-place-test.false (c.loop-place.auto.place-end (omega (arith, c.requires.can.some))) c.requires.can.last c.loop-place.invariant.done
+    c.loop-place.place c.loop-place.written c.loop-place-test.false (c.loop-place.auto.place-end (omega (arith, c.requires.can.parted.some))) c.requires.can.parted.last c.loop-place.invariant.done
     c.loop-place.invariant.points_rest c.loop-place.invariant.offsets_rest
 
 pub returns-in_err-written-clause-memory : goal.returns-in_err-written-clause-memory

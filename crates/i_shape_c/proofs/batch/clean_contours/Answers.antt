@@ -4,7 +4,7 @@ use Rattle.i_shape_c.proofs.batch.clean_contours.Goals as goal
 
 pub part-requires-clause-order : goal.part-requires-clause-order
 part-requires-clause-order g c =
-    let can = c.if-not-can_clean.ensures.0 refl in
+    let can = (c.if-not-can_clean.ensures.0 refl).parted in
     rises_to c.args.offsets.now (length c.args.offsets.now) 0 (length c.args.offsets.now - 1) can.order (omega arith) (omega (arith, can.some))
 
 pub returns-then-not-are_safe : goal.returns-then-not-are_safe

@@ -26,7 +26,7 @@ returns-in-Ok g c =
     let held = c.in-Ok.ensures.left in
     let wrote = c.write_shapes.ensures in
     let count : c.len.result ≡ length left.shape_ranges.items = omega (arith, c.len.ensures, left.shape_ranges.ok.0) in
-    let small : c.len.result < 2 ^ 63 = omega (arith, count, fewer.2, can.0.shapes_fit.offsets_room, c.requires) in
+    let small : c.len.result < 2 ^ 63 = omega (arith, count, fewer.2, can.0.shapes_room, c.requires) in
     rw (to_z_pos w64 c.len.result small, count)
     (answered_left AreNone g.S.ShapesForm.gives g.P.Coordinate.IntNumber.width at c.args.points.now c.args.contours.now c.args.shapes.now
     c.args.out_points.now c.args.out_contours.now c.args.out_shapes.now can.0 can.1 c.write_shapes.new.out_points c.write_shapes.new.out_contours c.write_shapes.new.out_shapes (length left.shape_ranges.items)

@@ -7,9 +7,7 @@ use Rattle.i_shape_c.proofs.polygons.clean_rings.Goals as goal
 
 pub clean_all-requires-clause-can : goal.clean_all-requires-clause-can
 clean_all-requires-clause-can g c = record {
-  some = c.requires.parted.some;
-  order = c.requires.parted.order;
-  last = c.requires.parted.last;
+  parted = c.requires.parted;
   room = omega (arith, c.as_mut_slice.ensures.len, c.in_ok-left.ensures.len);
   offsets_room = omega (arith, c.as_mut_slice-2.ensures.len, c.in_ok-left_offsets.ensures.len);
 }

@@ -19,7 +19,7 @@ returns-in-Ok g c =
     let at : g.row.P.Denot → Point = λ p. point_of g.P.Coordinate.IntNumber.value (g.P.ContourPoint.point p) in
     let can = c.in_default.ensures in
     let left = c.in-Ok.ensures.ok in
-    let small : c.in-Ok.count < 2 ^ 63 = omega (arith, left.fewer_shapes, can.0.shapes_fit.offsets_room, c.requires) in
+    let small : c.in-Ok.count < 2 ^ 63 = omega (arith, left.fewer_shapes, can.0.shapes_room, c.requires) in
     rw (to_z_pos w64 c.in-Ok.count small)
     (answered_left (EachShape g.C.ContourCleaner.clean) (ListClean g.C.ContourCleaner.answers) g.P.Coordinate.IntNumber.width at c.args.points.now c.args.contours.now c.args.shapes.now
     c.args.out_points.now c.args.out_contours.now c.args.out_shapes.now can.0 can.1 c.write_cleaned.new.out_points c.write_cleaned.new.out_contours c.write_cleaned.new.out_shapes c.in-Ok.count left)

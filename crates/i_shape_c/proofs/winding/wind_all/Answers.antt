@@ -12,15 +12,15 @@ use Rattle.i_shape_c.proofs.winding.wind_all.Goals as goal
 
 pub part-requires-clause-within : goal.part-requires-clause-within
 part-requires-clause-within g c =
-    let up = rises_to c.args.offsets.now (length c.args.offsets.now) c.loop-place.place (length c.args.offsets.now - 1) c.requires.can.order (omega (arith, c.loop-place-test.true)) (omega (arith, c.loop-place-test.true)) in
-    omega (arith, up, c.requires.can.last)
+    let up = rises_to c.args.offsets.now (length c.args.offsets.now) c.loop-place.place (length c.args.offsets.now - 1) c.requires.parted.order (omega (arith, c.loop-place-test.true)) (omega (arith, c.loop-place-test.true)) in
+    omega (arith, up, c.requires.parted.last)
 
 pub winding_about-sum-requires-clause-points_safe : goal.winding_about-sum-requires-clause-points_safe
 winding_about-sum-requires-clause-points_safe g c =
     let at = λ (p : g.row.P.Denot). point_of g.P.Coordinate.IntNumber.value (g.P.ContourPoint.point p) in
     safe_contour g.P.Coordinate.IntNumber.width g.P.Coordinate.IntNumber.value g.P.ContourPoint.point c.part.result.now (g.P.ContourPoint.points c.part.result.now) (g.P.ContourPoint.each c.part.result.now)
     (rw (c.part.ensures.part)
-    (safe_part g.P.Coordinate.IntNumber.width at c.args.points.now c.args.offsets.now (c.loop-place.place - 1) c.loop-place.place c.requires.can.order (omega arith) c.loop-place-test.true c.requires.points_safe))
+    (safe_part g.P.Coordinate.IntNumber.width at c.args.points.now c.args.offsets.now (c.loop-place.place - 1) c.loop-place.place c.requires.parted.order (omega arith) c.loop-place-test.true c.requires.points_safe))
 
 pub loop-place-preserved : goal.loop-place-preserved
 loop-place-preserved g c =

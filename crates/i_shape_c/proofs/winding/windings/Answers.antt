@@ -11,7 +11,7 @@ use Rattle.i_shape_c.proofs.winding.windings.Goals as goal
 
 pub part-requires-clause-order : goal.part-requires-clause-order
 part-requires-clause-order g c =
-    let can = c.if-not-can_clean.ensures.0 refl in
+    let can = c.if-not-are_parted.ensures.0 refl in
     rises_to c.args.offsets.now (length c.args.offsets.now) 0 (length c.args.offsets.now - 1) can.order (omega arith) (omega (arith, can.some))
 
 pub loop-place-preserved : goal.loop-place-preserved
@@ -41,7 +41,7 @@ returns-clause-answer g c =
 pub returns-then-not-are_safe-clause-unsafe_points : goal.returns-then-not-are_safe-clause-unsafe_points
 returns-then-not-are_safe-clause-unsafe_points g c =
     let at = λ (p : g.row.P.Denot). point_of g.P.Coordinate.IntNumber.value (g.P.ContourPoint.point p) in
-    let fit : CanWind (length c.args.points.now) c.args.offsets.now (length c.args.about.now) (length c.args.out.now) = record { parted = c.if-not-can_clean.ensures.0 refl; room = omega (arith, c.if-out-about.false) } in
+    let fit : CanWind (length c.args.points.now) c.args.offsets.now (length c.args.about.now) (length c.args.out.now) = record { parted = c.if-not-are_parted.ensures.0 refl; room = omega (arith, c.if-out-about.false) } in
     (λ is. (fit, λ safe. let told : IsTrue false = c.if-not-are_safe.ensures.1 (subst (AreSafe g.P.Coordinate.IntNumber.width at) (sym c.part.ensures.part) safe.0) in cc), λ both. refl)
 
 pub returns-clause-unsafe_points : goal.returns-clause-unsafe_points
