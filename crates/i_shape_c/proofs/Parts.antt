@@ -1,7 +1,7 @@
 -- Parts of lists that are written place by place.
-use Rattle.std.proofs.Common.{◌≡◌, ℕ, ◌+◌, ◌-◌, ◌≤◌, ◌++◌, List, [], length, map, take, drop, set, slice_range, refl, sym, ap, subst, ◌∙◌, arith}
-use Rattle.std.proofs.lemmas.List.{length-map, take_all, take_rest, drop_all, length-drop, append-nil, length-take-le, take-append-drop, append_assoc, drop-drop, drop-set-lt}
-use Rattle.std.proofs.Math.Seq.{take-append_seam, drop-append_seam}
+use Rattle.std.proofs.Common.{◌≡◌, ℕ, ◌+◌, ◌-◌, ◌≤◌, ◌++◌, List, [], length, take, drop, set, slice_range, refl, sym, ap, subst, ◌∙◌, arith}
+use Rattle.std.proofs.lemmas.List.{take_rest, drop_all, length-drop, append-nil, length-take-le, drop-drop, drop-set-lt}
+use Rattle.std.proofs.Math.Seq.{drop-append_seam}
 
 -- what lies behind a place stays as it was when that place is written
 pub back_more : {X : Type 0} (xs ys : List X) (n m : ℕ) (v : X) → m ≡ n + 1 → drop n xs ≡ drop n ys → drop m (set xs n v) ≡ drop m ys

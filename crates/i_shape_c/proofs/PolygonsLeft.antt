@@ -11,7 +11,7 @@ use Rattle.i_shape.specs.ShapeAnswers.{HasPoints, Survivors, ShapeClean, ListCle
 use Rattle.i_shape.specs.Written.{slot}
 use Rattle.i_shape.proofs.buffers.ShapeRanges.{slice_range-map}
 use Rattle.i_shape_c.specs.Appended.{AreClean, CleansRings, filled, left_of, rings_at, polygons_left, WritesPolygons}
-use Rattle.i_shape_c.specs.Batch.{offset, nth_contour, AreRising, PartsPoints, AreSafeContours, IsCleanedBatch}
+use Rattle.i_shape_c.specs.Batch.{offset, nth_contour, PartsPoints, AreSafeContours, IsCleanedBatch}
 use Rattle.i_shape_c.specs.Cleaned.{AreSafe}
 use Rattle.i_shape_c.specs.Polygons.{parts, polygons, offsets_of, AreShapesLeft}
 use Rattle.i_shape_c.proofs.Appended.{offset_part, nth_part, length_part, parted_part, put_front, length-offsets}
@@ -108,8 +108,7 @@ rings_stay Answer Clean stays has_points at points rings parted clean = record {
 }
 
 -- the contours of polygons, of which those from the first polygon's on are `rings`
-module _ {P : Type 0} (at : P → Point) (points : List P) (contours shapes : List ℕ) (some : 0 < length shapes) (order : AreRising shapes (length shapes))
-    (some_contours : 0 < length contours) (within : offset shapes (length shapes - 1) ≤ length contours - 1) where
+module _ {P : Type 0} (at : P → Point) (points : List P) (contours shapes : List ℕ) (contours_parted : PartsPoints (length points) contours) (shapes_parted : PartsPoints (length contours - 1) shapes) where
   abbrev low : ℕ
   low = offset shapes 0
 
@@ -121,36 +120,36 @@ module _ {P : Type 0} (at : P → Point) (points : List P) (contours shapes : Li
 
   rises : (k : ℕ) → k + 1 < length shapes → (low ≤ offset shapes k) × (offset shapes k ≤ offset shapes (k + 1)) × (offset shapes (k + 1) ≤ high)
   rises k less = (
-    rises_to shapes (length shapes) 0 k order (omega arith) (omega (arith, less)),
-    order k less,
-    rises_to shapes (length shapes) (k + 1) (length shapes - 1) order (omega (arith, less)) (omega (arith, some)),
+    rises_to shapes (length shapes) 0 k shapes_parted.order (omega arith) (omega (arith, less)),
+    shapes_parted.order k less,
+    rises_to shapes (length shapes) (k + 1) (length shapes - 1) shapes_parted.order (omega (arith, less)) (omega (arith, shapes_parted.some)),
   )
 
   pub count_rings : length rings ≡ high + 1 - low
   count_rings =
-      let up = rises_to shapes (length shapes) 0 (length shapes - 1) order (omega arith) (omega (arith, some)) in
-      length_part contours low (high + 1) (omega (arith, up)) (omega (arith, within, some_contours))
+      let up = rises_to shapes (length shapes) 0 (length shapes - 1) shapes_parted.order (omega arith) (omega (arith, shapes_parted.some)) in
+      length_part contours low (high + 1) (omega (arith, up)) (omega (arith, shapes_parted.last, contours_parted.some))
 
   -- each contour of each polygon is one of them
   ring_is : (i : ℕ) → low + i < high → nth_contour (map at points) contours (low + i) ≡ map at (nth_contour points rings i)
   ring_is i less = slice_range-map at points (offset contours (low + i)) (offset contours (low + i + 1)) ∙ ap (map at) (sym (nth_part contours low (high + 1) points i (omega (arith, less))))
 
   -- they part the points
-  pub rings_parted : PartsPoints (length points) contours → PartsPoints (length points) rings
-  rings_parted parted =
-      let up = rises_to shapes (length shapes) 0 (length shapes - 1) order (omega arith) (omega (arith, some)) in
-      parted_part contours low (high + 1) (length points) parted (omega (arith, up)) (omega (arith, within, some_contours))
+  pub rings_parted : PartsPoints (length points) rings
+  rings_parted =
+      let up = rises_to shapes (length shapes) 0 (length shapes - 1) shapes_parted.order (omega arith) (omega (arith, shapes_parted.some)) in
+      parted_part contours low (high + 1) (length points) contours_parted (omega (arith, up)) (omega (arith, shapes_parted.last, contours_parted.some))
 
   -- where all the points are safe, theirs are
-  pub rings_safe : (width : Width) → AreRising contours (length contours) → AreSafeContours width at points contours → AreSafeContours width at points rings
-  rings_safe width contours_order safe =
+  pub rings_safe : (width : Width) → AreSafeContours width at points contours → AreSafeContours width at points rings
+  rings_safe width safe =
       let total = count_rings in
-      let up = rises_to shapes (length shapes) 0 (length shapes - 1) order (omega arith) (omega (arith, some)) in
+      let up = rises_to shapes (length shapes) 0 (length shapes - 1) shapes_parted.order (omega arith) (omega (arith, shapes_parted.some)) in
       let first : low + 0 ≡ low = omega arith in
       let last : low + (length rings - 1) ≡ high = omega (arith, total, up) in
       let first_is : offset rings 0 ≡ offset contours low = offset_part contours low (high + 1) 0 (omega (arith, up)) ∙ ap (offset contours) first in
       let last_is : offset rings (length rings - 1) ≡ offset contours high = offset_part contours low (high + 1) (length rings - 1) (omega (arith, last)) ∙ ap (offset contours) last in
-      subst₂ (λ a b. AreSafe width at (slice_range points a b)) (sym first_is) (sym last_is) (safe_part width at points contours low high contours_order up (omega (arith, within, some_contours)) safe)
+      subst₂ (λ a b. AreSafe width at (slice_range points a b)) (sym first_is) (sym last_is) (safe_part width at points contours low high contours_parted.order up (omega (arith, shapes_parted.last, contours_parted.some)) safe)
 
   -- where each of them is cleaned, so are the polygons
   left_clean : (Answer : List Point → Option (List Point) → Type 0) (left : List P) (left_rings : List ℕ) → length left_rings ≡ length rings
@@ -169,7 +168,7 @@ module _ {P : Type 0} (at : P → Point) (points : List P) (contours shapes : Li
           let count : length (rings_at left_rings shapes k) ≡ to - from = length_part left_rings from to (omega (arith, up.1)) (omega (arith, many, total, up.0, up.1, up.2)) in
           let n : ℕ = offset shapes (k + 1) - offset shapes k in
           let as_many : length (rings_at left_rings shapes k) - 1 ≡ n = omega (arith, count, up.0, up.1) in
-          rw (is, polygon_at (map at points) contours shapes k up.1 (omega (arith, up.2, within)), as_many)
+          rw (is, polygon_at (map at points) contours shapes k up.1 (omega (arith, up.2, shapes_parted.last)), as_many)
           (zip_ranges (Cleaned Answer at) (nth_contour (map at points) contours) (nth_contour left (rings_at left_rings shapes k)) (offset shapes k) 0 n (λ j below. ring k up j below))
         where
           ring : (k : ℕ) → (low ≤ offset shapes k) × (offset shapes k ≤ offset shapes (k + 1)) × (offset shapes (k + 1) ≤ high) → (j : ℕ) → j < offset shapes (k + 1) - offset shapes k
@@ -197,7 +196,7 @@ module _ {P : Type 0} (at : P → Point) (points : List P) (contours shapes : Li
   rings_clean Clean clean i less =
       let total = count_rings in
       let below : low + i < high = omega (arith, less, total) in
-      let found = shape_of (length shapes - 1) (low + i) (omega (arith, some)) (omega arith) below in
+      let found = shape_of (length shapes - 1) (low + i) (omega (arith, shapes_parted.some)) (omega arith) below in
       let k = found.0 in
       let up = rises k (omega (arith, found.1)) in
       let j = low + i - offset shapes k in
@@ -205,7 +204,7 @@ module _ {P : Type 0} (at : P → Point) (points : List P) (contours shapes : Li
       let whole = polygons (map at points) contours shapes in
       let as_many : length whole ≡ length shapes - 1 = length-map-range_with_len (nth_contour (parts (map at points) contours) shapes) 0 (length shapes - 1) in
       let shape_read = get_or-map-range_with_len (nth_contour (parts (map at points) contours) shapes) 0 (length shapes - 1) k k [] found.1 (omega arith) in
-      let shape_is = polygon_at (map at points) contours shapes k up.1 (omega (arith, up.2, within)) in
+      let shape_is = polygon_at (map at points) contours shapes k up.1 (omega (arith, up.2, shapes_parted.last)) in
       let shape_clean : All Clean (map (nth_contour (map at points) contours) (range_with_len (offset shapes k) n)) = rw (shape_read, shape_is) at (clean k [] (omega (arith, found.1, as_many))) in
       let fits : j < n = omega (arith, found.2, found.3) in
       let many : length (map (nth_contour (map at points) contours) (range_with_len (offset shapes k) n)) ≡ n = length-map-range_with_len (nth_contour (map at points) contours) (offset shapes k) n in
@@ -237,7 +236,7 @@ module _ {P : Type 0} (at : P → Point) (points : List P) (contours shapes : Li
         left = left_clean Answer left left_rings is.many is.cleaned;
         count = count_shapes ∙ wrote.count;
         fewer_points = omega (arith, count_points, wrote.fewer_points, is.fewer);
-        fewer_contours = omega (arith, count_contours, wrote.fewer_contours, is.many, total, within, some_contours);
+        fewer_contours = omega (arith, count_contours, wrote.fewer_contours, is.many, total, shapes_parted.last, contours_parted.some);
         fewer_shapes = omega (arith, wrote.count, wrote.fewer_shapes);
         written = rw (count_points, points_put.0) (sym made_points);
         rest = rw count_points points_put.1;

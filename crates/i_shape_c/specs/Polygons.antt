@@ -57,7 +57,8 @@ ShapesAnswer Gives point points contours shapes old_points new_points old_contou
 abbrev pub AreNone : List (List (List Point)) → Type 0
 AreNone list = list ≡ []
 
--- what a call that cleans polygons answers and leaves, and exactly when it answers with a code; it never tells of refused memory where it spares the polygons
+-- what a call that cleans polygons answers and leaves, and exactly when it answers with a code: `Gives` relates the polygons to what is left of them,
+-- and of polygons that `Spares` holds of the call never tells of refused memory
 pub record CleansPolygons {P : Type 0} (Spares : List (List (List Point)) → Type 0) (Gives : List (List (List Point)) → List (List (List Point)) → Type 0) (width : Width) (point : P → Point) (points : List P) (contours shapes : List ℕ)
     (old_points new_points : List P) (old_contours new_contours old_shapes new_shapes : List ℕ) (result : ℤ) : Type 0 where
   pub answer : ShapesAnswer Gives point points contours shapes old_points new_points old_contours new_contours old_shapes new_shapes result

@@ -193,7 +193,7 @@ pub struct Counts {
 }
 
 /// Writes what is left of polygons of cleaned contours, which are empty where they collapsed, to the front of the three arrays, and answers
-/// how many they are. The offsets begin with those of the first polygon.
+/// how many they are. `rings` begins with the offsets of the first polygon.
 fn write_polygons<P: CPoint>(
     points: &[P],
     rings: &[usize],
