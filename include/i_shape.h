@@ -77,12 +77,13 @@ ptrdiff_t i_shape_canonical_contours_i32(const i_shape_point_i32 *points, size_t
 /* For each contour an answer of i_shape_canonical_unoriented_i32; that it is the same one is tested. */
 ptrdiff_t i_shape_canonical_unoriented_contours_i32(const i_shape_point_i32 *points, size_t count, const size_t *offsets, size_t offset_count, i_shape_point_i32 *out_points, size_t room, size_t *out_offsets, size_t offset_room);
 
-/* Polygons: contours[] parts the points into contours, as above, and shapes[] parts these into polygons, the outer
- * contour of each first. The answer lies in the same way in out_points, out_contours and out_shapes, from 0 on, without
- * the contours that collapse and the polygons whose outer contour does. These answer how many polygons are left, n:
- * they end at out_shapes[n], and their contours at out_contours[out_shapes[n]]. I_SHAPE_UNFIT as above, and where the
- * same is wrong of shapes[] over the contours. I_SHAPE_UNSAFE: contours that no polygon has are tested too. Behind the
- * answer nothing is written, nor after a code. The first two take no memory where each contour of a polygon is clean. */
+/* Polygons: contours[] parts the points into contours, as above, and shapes[] parts these into polygons: polygon k has
+ * contours shapes[k] .. shapes[k + 1], the outer one first. The answer lies in the same way in out_points, out_contours
+ * and out_shapes, from 0 on, without the contours that collapse and the polygons whose outer contour does. These answer
+ * how many polygons are left, n: their contours end at out_shapes[n], and their points at out_contours[out_shapes[n]].
+ * I_SHAPE_UNFIT as above, and where the same is wrong of shapes[] over the contours. I_SHAPE_UNSAFE: contours that no
+ * polygon has are tested too. Behind the answer nothing is written, nor after a code. The first two take no memory
+ * where each contour of a polygon is clean. */
 
 /* Without zero turns. */
 ptrdiff_t i_shape_simplify_shapes_i32(const i_shape_point_i32 *points, size_t count, const size_t *contours, size_t contour_offset_count, const size_t *shapes, size_t shape_offset_count, i_shape_point_i32 *out_points, size_t room, size_t *out_contours, size_t contour_room, size_t *out_shapes, size_t shape_room);
