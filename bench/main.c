@@ -316,7 +316,7 @@ static void cell(const task *t, int wants_true)
     for (int s = 0; s < samples; s++)
         for (int k = 0; k < count; k++)
             sample(t, &entrants[k], rounds);
-    char text[80];
+    char text[16 * MOST_ENTRANTS];
     write_times(text, sizeof text, t, entrants, rounds, differs);
     print_cell(text);
 }

@@ -86,10 +86,8 @@ fn assert_same<W: Width + TryFrom<i64> + Into<i64>>() {
             range::is_in_safe_range(&points),
             points.iter().all(|point| point.is_safe())
         );
-        assert_eq!(
-            range::is_in_safe_range(&wider),
-            wider.iter().all(|point| point.is_safe())
-        );
+        let is_safe = wider.iter().all(|point| point.is_safe());
+        assert_eq!(range::is_in_safe_range(&wider), is_safe);
         assert_eq!(turns::is_simple(&points), is_simple(&points));
         assert_eq!(spikes::has_no_spikes(&points), has_no_spikes(&points));
         assert!(area::area_two(&points) == area_two(&points));
@@ -102,6 +100,16 @@ fn assert_same<W: Width + TryFrom<i64> + Into<i64>>() {
         let left = cleaning::simplify_into(&points, &mut out);
         assert_eq!(left, is_simple(&points).then_some(points.len()));
         assert!(left.is_none_or(|left| out[..left] == points[..]));
+        let c_left = cleaning::c_simplify(&wider, &mut out);
+        assert_eq!(
+            c_left,
+            (is_safe && is_simple(&wider)).then_some(wider.len())
+        );
+        assert!(c_left.is_none_or(|left| out[..left] == wider[..]));
+        assert_eq!(
+            cleaning::c_is_simple(&wider),
+            is_safe.then(|| is_simple(&wider))
+        );
         clean += usize::from(left.is_some());
     }
     assert!(clean > CONTOURS / 50);
