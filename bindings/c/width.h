@@ -150,7 +150,7 @@ static void AT(test_shapes)(void) {
 }
 
 static void AT(test_shapes_codes)(void) {
-    const size_t contours[3] = {0, 3, 6}, outside[2] = {0, 7}, shapes[2] = {0, 2}, backwards[3] = {0, 2, 1}, beyond[2] = {0, 3};
+    const size_t contours[3] = {0, 3, 6}, outside[2] = {0, 7}, shapes[2] = {0, 2}, backwards[3] = {0, 2, 1}, beyond[2] = {0, 3}, none[1] = {1};
     for (int k = 0; k < CLEANERS; k++) {
         POINT given[6] = {{0, 0}, {2, 0}, {0, 4}, {0, 0}, {4, 0}, {0, 4}}, out[6];
         size_t out_contours[3], out_shapes[3];
@@ -176,6 +176,8 @@ static void AT(test_shapes_codes)(void) {
         /* Two clean contours of a polygon: for a canonical form three lists with all points, contours and polygons end to end, four of
            the library's points, and four of what is left. */
         WITH_EACH_GROWTH_REFUSED(CLEAN(contours, 3, shapes, 2, 6, 3, 3), IS_UNTOUCHED, growths == (is_form(k) ? 11 : 0), W, name);
+        /* Of no polygon no memory is taken. */
+        WITH_EACH_GROWTH_REFUSED(CLEAN(contours, 3, none, 1, 6, 3, 3), 1, growths == 0, W, name);
 #undef IS_UNTOUCHED
 #undef CLEAN
     }
