@@ -44,8 +44,6 @@ mod long_contours;
 #[cfg(test)]
 mod macros;
 #[cfg(test)]
-mod many_on_sides;
-#[cfg(test)]
 mod number;
 #[cfg(test)]
 mod plain;
