@@ -1,5 +1,5 @@
 -- The walk over a contour that starts from its last point, and adds what each edge adds to the winding number.
-use Rattle.std.proofs.Common.{◌≡◌, ◌⊎◌, ℕ, suc, ◌+◌, ◌-◌, ◌^◌, ◌<◌, ◌≤◌, List, [], ◌∷◌, ◌++◌, length, drop, get_or, ℤ, pos, negsuc, ◌+ℤ◌, ◌-ℤ◌, ◌≤ℤ◌, int_lt, FitsSigned, w32, w64, to_z, of_z, refl, sym, ap, subst, ◌∙◌, arith, inl, inr, eq-or-lt_of_le, length-append, Bool, true, false, cond}
+use Rattle.std.proofs.Common.{append-nil, ◌≡◌, ◌⊎◌, ℕ, suc, ◌+◌, ◌-◌, ◌^◌, ◌<◌, ◌≤◌, List, [], ◌∷◌, ◌++◌, length, drop, get_or, ℤ, pos, negsuc, ◌+ℤ◌, ◌-ℤ◌, ◌≤ℤ◌, int_lt, FitsSigned, w32, w64, to_z, of_z, refl, sym, ap, subst, ◌∙◌, arith, inl, inr, eq-or-lt_of_le, length-append, Bool, true, false, cond}
 use Rattle.std.proofs.lemmas.Int.{ints, to_z-of_z}
 use Rattle.std.proofs.lemmas.List.{get_or_default, map-append}
 use Rattle.i_shape_core.specs.Point.{Point}
@@ -14,6 +14,7 @@ use Rattle.std.specs.List.{All}
 use Rattle.std.proofs.lemmas.List.Elements.{All-head, All-tail}
 use Rattle.i_shape_core.proofs.plane.Contours.{rest-read, rest-none}
 use Rattle.i_shape_core.proofs.measure.Edges.{sum_push}
+use Rattle.i_shape_core.proofs.removal.Dedup.{last_of_append}
 use Rattle.i_shape_core.proofs.plane.CrossProducts.{edge}
 use Rattle.i_shape_core.proofs.measure.Inside.{right_when}
 use Rattle.i_shape_core.proofs.arithmetic.Products.{InReach, fits-reach, reach-fits}
@@ -264,10 +265,6 @@ walked_first p first whole e = record {
   told = walk_first _;
 }
 
-last_of_both : (q : Point) (xs ys : List Point) → last_of q (xs ++ ys) ≡ last_of (last_of q xs) ys
-last_of_both q [] ys = refl
-last_of_both q (x ∷ xs) ys = last_of_both x xs ys
-
 -- a part more
 walked_part : (p first : Point) (whole : List Point) (q : Point) (xs ys : List Point) (total w : ℤ) → IsWalked p first whole q (xs ++ ys) total → w ≡ winding_over p q xs → IsWalked p first whole (last_of q xs) ys (total +ℤ w)
 walked_part p first whole q xs ys total w k e =
@@ -280,7 +277,7 @@ walked_part p first whole q xs ys total w k e =
           let after : (done - length xs) + length xs ≡ done = omega (arith, count, within, f) in
           subst (λ (i : ℕ). IsNear i (level p first) (level p (last_of q xs)) (total +ℤ w)) after
           (rw e (near_over p q xs (done - length xs) (level p first) total (k.near (done - length xs) before)));
-      closes = sym (last_of_both q xs ys) ∙ k.closes;
+      closes = sym (last_of_append q xs ys) ∙ k.closes;
       told = rw e (grouped total (winding_over p q xs) (winding_over p (last_of q xs) ys) (winding_over p q (xs ++ ys)) (over_both p q xs ys)) ∙ k.told;
     }
   where
@@ -306,13 +303,9 @@ walked_block value p first whole q r rest block later total w e f g k =
     let joined = ap (contour_of value) e ∙ map-append (point_of value) block later in
     rw g (walked_part p first whole q (contour_of value block) (contour_of value later) total w (subst (λ (ps : List Point). IsWalked p first whole q ps total) joined k) f)
 
-append_none : (xs : List Point) → xs ++ [] ≡ xs
-append_none [] = refl
-append_none (x ∷ xs) = ap (λ (ys : List Point). x ∷ ys) (append_none xs)
-
 -- and the last one
 pub walked_last : (p first : Point) (whole : List Point) (q : Point) (rest : List Point) (total w : ℤ) → IsWalked p first whole q rest total → w ≡ winding_over p q rest → IsWalked p first whole (last_of q rest) [] (total +ℤ w)
-walked_last p first whole q rest total w k f = walked_part p first whole q rest [] total w (subst (λ (ps : List Point). IsWalked p first whole q ps total) (sym (append_none rest)) k) f
+walked_last p first whole q rest total w k f = walked_part p first whole q rest [] total w (subst (λ (ps : List Point). IsWalked p first whole q ps total) (sym (append-nil rest)) k) f
 
 wider : (r : ℤ) → FitsSigned w32 r → FitsSigned w64 r
 wider r f = let reach = fits-reach w32 r f in let from = reach.from in let below = reach.below in reach-fits w64 r (record { from = omega (arith, ints); below = omega (arith, ints) })
