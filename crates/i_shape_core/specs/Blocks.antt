@@ -3,7 +3,7 @@ use Rattle.std.specs.Prelude.{◌≡◌, ◌<ℤ◌, ℤ, ◌+ℤ◌, List, [], 
 use Rattle.i_shape_core.specs.Point.{Point, vector, cross_of, dot_of}
 use Rattle.i_shape_core.specs.Convex.{is_same}
 use Rattle.std.specs.List.{All}
-use Rattle.i_shape_core.specs.Edges.{is_above, is_right}
+use Rattle.i_shape_core.specs.Edges.{Edge, sum_of, is_above, is_right}
 use Rattle.i_shape_core.specs.Winding.{winding_of_edge}
 
 -- from p, to which the edge e leads, the way goes back to q
@@ -29,7 +29,11 @@ inside_after p s q (r ∷ rs) = inside_after p (cond (is_right p (record { start
 abbrev pub IsOnSide : Point → Point → List Point → Type 0
 IsOnSide p q ps = All (λ a. is_above p a ≡ is_above p q) ps
 
--- what the way from q over the points adds to how often a contour winds about p
+-- the edges of the way from q over the points
+abbrev pub path_over : Point → List Point → List Edge
+path_over q [] = []
+path_over q (p ∷ ps) = record { start = q; end = p } ∷ path_over p ps
+
+-- what these edges add to how often a contour winds about p
 abbrev pub winding_over : Point → Point → List Point → ℤ
-winding_over p q [] = pos 0
-winding_over p q (r ∷ rs) = winding_of_edge p (record { start = q; end = r }) +ℤ winding_over p r rs
+winding_over p q ps = sum_of (winding_of_edge p) (path_over q ps)

@@ -11,7 +11,7 @@ use mathlib.Core.Bool.{beq}
 use Rattle.i_shape_core.specs.Point.{Point, origin, cross}
 use Rattle.i_shape_core.specs.Edges.{Edge, edges_between, edges, is_above, is_right, Inside}
 use Rattle.i_shape_core.specs.Convex.{last_of}
-use Rattle.i_shape_core.specs.Blocks.{inside_after, IsOnSide}
+use Rattle.i_shape_core.specs.Blocks.{inside_after, IsOnSide, path_over}
 use Rattle.i_shape_core.proofs.plane.Contours.{rest-read}
 use Rattle.i_shape_core.proofs.plane.CrossProducts.{edge, cross_reversed}
 use Rattle.i_shape_core.proofs.measure.Inside.{bit_of, bit_of_edge, right_when}
@@ -52,11 +52,6 @@ right_by_product p a b false false u v e f g h = sym (right_when p a b false fal
 right_by_product p a b false true u v e f g h = h ∙ sym (right_when p a b false true (sym e) (sym f))
 right_by_product p a b true false true v e f g h = g ∙ sym (opposite (cross a p b)) ∙ ap (λ (z : ℤ). int_lt z (pos 0)) (sym (cross_reversed a p b)) ∙ sym (right_when p a b true false (sym e) (sym f))
 right_by_product p a b true false false v e f g h = g ∙ sym (opposite (cross a p b)) ∙ ap (λ (z : ℤ). int_lt z (pos 0)) (sym (cross_reversed a p b)) ∙ sym (right_when p a b true false (sym e) (sym f))
-
--- the edges of a walk from q over the points
-abbrev pub path_over : Point → List Point → List Edge
-path_over q [] = []
-path_over q (p ∷ ps) = edge q p ∷ path_over p ps
 
 -- an edge on one side of the height of p isn't right of it
 flat_edge : (p q r : Point) → is_above p r ≡ is_above p q → is_right p (edge q r) ≡ false

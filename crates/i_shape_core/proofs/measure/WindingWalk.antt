@@ -8,7 +8,7 @@ use Rattle.i_shape_core.specs.declared.point.IntPoint.{IntPoint}
 use Rattle.i_shape_core.specs.Edges.{edges_between, sum_of, is_right}
 use Rattle.i_shape_core.specs.Winding.{level, winding_of_edge, winding, IsWithinHalf}
 use Rattle.i_shape_core.specs.Convex.{last_of}
-use Rattle.i_shape_core.specs.Blocks.{winding_over}
+use Rattle.i_shape_core.specs.Blocks.{path_over, winding_over}
 use Rattle.std.specs.Int.{Width}
 use Rattle.std.specs.List.{All}
 use Rattle.std.proofs.lemmas.List.Elements.{All-head, All-tail}
@@ -18,7 +18,7 @@ use Rattle.i_shape_core.proofs.removal.Dedup.{last_of_append}
 use Rattle.i_shape_core.proofs.plane.CrossProducts.{edge}
 use Rattle.i_shape_core.proofs.measure.Inside.{right_when}
 use Rattle.i_shape_core.proofs.arithmetic.Products.{InReach, fits-reach, reach-fits}
-use Rattle.i_shape_core.proofs.measure.InsideWalk.{path_over, between_is, last_point}
+use Rattle.i_shape_core.proofs.measure.InsideWalk.{between_is, last_point}
 
 -- ---- one edge
 -- an edge that isn't right of p adds nothing
@@ -118,10 +118,6 @@ winding_half (a ∷ bs) p =
     let least = near.least in
     record { most = omega (arith, ints); least = omega (arith, ints) }
 
--- ---- the walk
-abbrev total_over : Point → Point → List Point → ℤ
-total_over p q ps = sum_of (winding_of_edge p) (path_over q ps)
-
 -- a contour without points winds about none
 pub no_points : {I : Type 0} (value : I → ℤ) (p : Point) (cs : List (IntPoint I)) → length cs ≤ 0 → pos 0 ≡ winding (contour_of value cs) p
 unfolding winding
@@ -132,27 +128,28 @@ no_points value p (x ∷ xs) h = absurd (omega arith)
 pub walk_first : (s : ℤ) → pos 0 +ℤ s ≡ s
 walk_first s = omega (arith, ints)
 
+-- ---- the walk
 -- a point more is walked to
 pub walk_edge : {I : Type 0} (value : I → ℤ) (p : Point) (cs : List (IntPoint I)) (i : ℕ) (start x : IntPoint I) (t w s : ℤ) → i < length cs → x ≡ get_or cs i x
-    → w ≡ winding_of_edge p (edge (point_of value start) (point_of value x)) → t +ℤ total_over p (point_of value start) (contour_of value (drop i cs)) ≡ s
-    → t +ℤ w +ℤ total_over p (point_of value x) (contour_of value (drop (i + 1) cs)) ≡ s
+    → w ≡ winding_of_edge p (edge (point_of value start) (point_of value x)) → t +ℤ winding_over p (point_of value start) (contour_of value (drop i cs)) ≡ s
+    → t +ℤ w +ℤ winding_over p (point_of value x) (contour_of value (drop (i + 1) cs)) ≡ s
 walk_edge value p cs i start x t w s h e f g =
-    let k = subst (λ (ps : List Point). t +ℤ total_over p (point_of value start) ps ≡ s) (rest-read value cs i x h e) g in
-    rw f (grouped t (winding_of_edge p (edge (point_of value start) (point_of value x))) (total_over p (point_of value x) (contour_of value (drop (i + 1) cs))) ∙ k)
+    let k = subst (λ (ps : List Point). t +ℤ winding_over p (point_of value start) ps ≡ s) (rest-read value cs i x h e) g in
+    rw f (grouped t (winding_of_edge p (edge (point_of value start) (point_of value x))) (winding_over p (point_of value x) (contour_of value (drop (i + 1) cs))) ∙ k)
   where
     grouped : (a b c : ℤ) → a +ℤ b +ℤ c ≡ a +ℤ (b +ℤ c)
     grouped a b c = omega (arith, ints)
 
 -- the walk from the last point over all points winds as the contour does
 pub walk_all : {I : Type 0} (value : I → ℤ) (p : Point) (cs : List (IntPoint I)) (last : IntPoint I) → 0 < length cs → last ≡ get_or cs (length cs - 1) last
-    → total_over p (point_of value last) (contour_of value cs) ≡ winding (contour_of value cs) p
+    → winding_over p (point_of value last) (contour_of value cs) ≡ winding (contour_of value cs) p
 unfolding winding
 walk_all value p [] last h e = absurd (omega arith)
 walk_all value p (x ∷ xs) last h e =
     let q = point_of value x in
     let ps = contour_of value xs in
-    ap (λ (r : Point). total_over p r (q ∷ ps)) (last_point value (x ∷ xs) last h e)
-    ∙ swap (winding_of_edge p (edge (last_of q ps) q)) (total_over p q ps)
+    ap (λ (r : Point). winding_over p r (q ∷ ps)) (last_point value (x ∷ xs) last h e)
+    ∙ swap (winding_of_edge p (edge (last_of q ps) q)) (winding_over p q ps)
     ∙ sym (sum_push (winding_of_edge p) (path_over q ps) (edge (last_of q ps) q))
     ∙ ap (sum_of (winding_of_edge p)) (sym (between_is q ps q))
   where
@@ -161,9 +158,9 @@ walk_all value p (x ∷ xs) last h e =
 
 -- after the last point the winding number is told
 pub walk_over : {I : Type 0} (value : I → ℤ) (p : Point) (cs : List (IntPoint I)) (i : ℕ) (start last : IntPoint I) (t : ℤ) → length cs ≤ i → 0 < length cs → last ≡ get_or cs (length cs - 1) last
-    → t +ℤ total_over p (point_of value start) (contour_of value (drop i cs)) ≡ total_over p (point_of value last) (contour_of value cs) → t ≡ winding (contour_of value cs) p
+    → t +ℤ winding_over p (point_of value start) (contour_of value (drop i cs)) ≡ winding_over p (point_of value last) (contour_of value cs) → t ≡ winding (contour_of value cs) p
 walk_over value p cs i start last t h some e f =
-    plus_none t ∙ ap (λ (ps : List Point). t +ℤ total_over p (point_of value start) ps) (sym (rest-none value cs i h)) ∙ f ∙ walk_all value p cs last some e
+    plus_none t ∙ ap (λ (ps : List Point). t +ℤ winding_over p (point_of value start) ps) (sym (rest-none value cs i h)) ∙ f ∙ walk_all value p cs last some e
   where
     plus_none : (t : ℤ) → t ≡ t +ℤ pos 0
     plus_none t = omega (arith, ints)
@@ -207,11 +204,6 @@ few_fit p a b i total near few = reach-fits w32 total (bounded (level p a) (leve
     bounded first here f g n = let most = n.most in let least = n.least in record { from = omega (arith, ints); below = omega (arith, ints) }
 
 -- ---- a walk over a part
--- what a walk adds is the sum over its edges
-pub over_is : (p q : Point) (ps : List Point) → winding_over p q ps ≡ total_over p q ps
-over_is p q [] = refl
-over_is p q (r ∷ rs) = ap (λ (z : ℤ). winding_of_edge p (edge q r) +ℤ z) (over_is p r rs)
-
 -- a walk without edges on the right adds nothing
 pub none_added : (p q : Point) (ps : List Point) → All (λ e. is_right p e ≡ false) (path_over q ps) → winding_over p q ps ≡ pos 0
 unfolding winding_of_edge
@@ -235,14 +227,6 @@ near_over p q (r ∷ rs) i first total n =
 pub over_both : (p q : Point) (xs ys : List Point) → winding_over p q (xs ++ ys) ≡ winding_over p q xs +ℤ winding_over p (last_of q xs) ys
 over_both p q [] ys = omega (arith, ints)
 over_both p q (x ∷ xs) ys = let rest = over_both p x xs ys in omega (arith, ints)
-
--- a point more of a part is walked to
-pub over_step : {I : Type 0} (value : I → ℤ) (p : Point) (cs : List (IntPoint I)) (i : ℕ) (start x : IntPoint I) (t w s : ℤ) → i < length cs → x ≡ get_or cs i x
-    → w ≡ winding_of_edge p (edge (point_of value start) (point_of value x)) → t +ℤ winding_over p (point_of value start) (contour_of value (drop i cs)) ≡ s
-    → t +ℤ w +ℤ winding_over p (point_of value x) (contour_of value (drop (i + 1) cs)) ≡ s
-over_step value p cs i start x t w s h e f g =
-    ap (λ (z : ℤ). t +ℤ w +ℤ z) (over_is p (point_of value x) (contour_of value (drop (i + 1) cs)))
-    ∙ walk_edge value p cs i start x t w s h e f (ap (λ (z : ℤ). t +ℤ z) (sym (over_is p (point_of value start) (contour_of value (drop i cs)))) ∙ g)
 
 -- where no point is left nothing more is added
 pub over_none : (p q : Point) (ps : List Point) (t : ℤ) → ps ≡ [] → t ≡ t +ℤ winding_over p q ps
@@ -318,7 +302,7 @@ narrow_total r f = rw (to_z-of_z w32 r f) (to_z-of_z w64 r (wider r f))
 pub winding_walked : {I : Type 0} (value : I → ℤ) (p : Point) (cs : List (IntPoint I)) (last : IntPoint I) (q : Point) (total : ℤ) → 0 < length cs → last ≡ get_or cs (length cs - 1) last
     → IsWalked p (point_of value last) (contour_of value cs) q [] total → total ≡ winding (contour_of value cs) p
 winding_walked value p cs last q total some e k =
-    over_none p q [] total refl ∙ k.told ∙ over_is p (point_of value last) (contour_of value cs) ∙ walk_all value p cs last some e
+    over_none p q [] total refl ∙ k.told ∙ walk_all value p cs last some e
 
 -- nothing is added
 pub nothing_more : (t : ℤ) → t +ℤ pos 0 ≡ t

@@ -4,7 +4,7 @@ use Rattle.i_shape_core.specs.IntPoint.{point_of}
 use Rattle.i_shape_core.specs.Winding.{level}
 use Rattle.i_shape_core.proofs.plane.Contours.{read-safe, rest-none}
 use Rattle.i_shape_core.proofs.plane.PointLists.{points-length, points-item}
-use Rattle.i_shape_core.proofs.measure.WindingWalk.{near_first, near_step, walk_first, over_step, over_none, total_added, few_fit}
+use Rattle.i_shape_core.proofs.measure.WindingWalk.{near_first, near_step, walk_first, walk_edge, over_none, total_added, few_fit}
 use Rattle.i_shape_core.proofs.winding.winding_of_few.Goals as goal
 
 pub loop-given-init : goal.loop-given-init
@@ -46,7 +46,7 @@ loop-given-preserved g c =
     record {
       start_safe = read-safe g.P.Coordinate.IntNumber.width value (points whole) _ end c.requires.points_safe within read;
       near = rw (sum, c.edge_winding_by_product-total.ensures) near;
-      told = rw sum (over_step value p (points whole) c.loop-given.given-index c.loop-given.start end total added _ within read c.edge_winding_by_product-total.ensures c.loop-given.invariant.told);
+      told = rw sum (walk_edge value p (points whole) c.loop-given.given-index c.loop-given.start end total added _ within read c.edge_winding_by_product-total.ensures c.loop-given.invariant.told);
     }
 
 pub returns : goal.returns
