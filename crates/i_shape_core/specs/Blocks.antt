@@ -1,5 +1,5 @@
 -- What a walk finds in a block of points: whether it goes back, whether a point is inside, how often it winds about it, and whether all points of the block are on one side of its height. Only private functions cite this file.
-use Rattle.std.specs.Prelude.{◌≡◌, ◌<ℤ◌, ℤ, ◌+ℤ◌, List, [], ◌∷◌, ◌⊎◌, pos, Bool, cond, not}
+use Rattle.std.specs.Prelude.{◌≡◌, ◌<ℤ◌, ℤ, List, [], ◌∷◌, ◌⊎◌, pos, Bool, cond, not}
 use Rattle.i_shape_core.specs.Point.{Point, vector, cross_of, dot_of}
 use Rattle.i_shape_core.specs.Convex.{is_same}
 use Rattle.std.specs.List.{All}

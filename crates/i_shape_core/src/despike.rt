@@ -230,10 +230,11 @@ impl ContourDeSpiker {
         let mut ring = Ring::starting_at(memory, count, place);
         ring.remove();
         let uncollapsed = walk(&mut probe, &mut ring);
-        self.places = ring.into_order();
         if !uncollapsed {
+            self.places = ring.into_memory();
             return Ok((probe, None));
         }
+        self.places = ring.into_order();
         Ok((probe, Some(self.places.as_slice())))
     }
 }

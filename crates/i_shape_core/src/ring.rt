@@ -138,6 +138,11 @@ impl Ring {
         }
     }
 
+    /// Its memory, for another ring: what it holds says nothing.
+    pub fn into_memory(self) -> Vec<usize> {
+        self.places
+    }
+
     /// The places that are left, in the order of the contour.
     pub fn into_order(self) -> Vec<usize>
         ensures { result.items ≡ from_contour_first self.places self.lead }
