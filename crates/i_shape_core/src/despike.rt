@@ -267,12 +267,14 @@ fn first_back<P: ContourPoint>(probe: &mut Probe<'_, P::Coordinate, P>) -> Optio
     ensures contour { probe.new.contour ≡ probe.old.contour }
 {
     let last = probe.len() - 1;
-    let mut before = last;
-    for place in 0..last {
-        if is_back_between(probe, before, place, place + 1) {
+    if is_back_between(probe, last, 0, 1) {
+        return Some(0);
+    }
+    let turning = probe.skip_turning();
+    for place in turning + 1..last {
+        if is_back_between(probe, place - 1, place, place + 1) {
             return Some(place);
         }
-        before = place;
     }
     if is_back_between(probe, last - 1, last, 0) {
         return Some(last);

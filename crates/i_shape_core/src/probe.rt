@@ -89,11 +89,11 @@ impl<'a, I: IntNumber, P: ContourPoint<Coordinate = I>> Probe<'a, I, P> {
     /// Passes over turns that are no zero turns, from the first on and four at a time, and counts a visit of each. Answers how many
     /// they are. The closing turns aren't looked at.
     pub(crate) fn skip_turning(&mut self) -> usize
-        requires fresh { self.old.visits ≡ 0 }
+        requires few { self.old.visits ≤ 1 }
         ensures turning { IsTurning (contour_of I.value self.old.contour) result }
         ensures within { 2 ≤ length self.old.contour → result + 2 ≤ length self.old.contour }
         ensures contour { self.new.contour ≡ self.old.contour }
-        ensures visits { self.new.visits ≡ result }
+        ensures visits { self.new.visits ≡ self.old.visits + result }
     {
         let turning = count_turning(self.points);
         self.count += turning as u128;

@@ -3,14 +3,14 @@ use Rattle.std.proofs.Common.{map, zero, suc, pos, Bool, true, false, not, ◌||
 use Rattle.std.proofs.lemmas.Bool.{cases_lt}
 use Rattle.std.specs.Int.{Width}
 use Rattle.std.specs.List.{All, range_with_len}
-use Rattle.i_shape_core.specs.Contour.{point_at, IsSimple}
+use Rattle.i_shape_core.specs.Contour.{point_at, IsSimple, IsRemovable}
 use Rattle.i_shape_core.specs.FourTurns.{HasZeroTurnFrom, IsTurning}
 use Rattle.i_shape_core.specs.IntPoint.{point_of, contour_of, IsSafe}
-use Rattle.i_shape_core.specs.Point.{Point, vector, cross, cross_of, IsZeroTurn}
+use Rattle.i_shape_core.specs.Point.{Point, vector, cross, cross_of, IsZeroTurn, IsBack}
 use Rattle.i_shape_core.specs.declared.point.IntPoint.{IntPoint}
 use Rattle.i_shape_core.specs.Walks.{IsStacked}
 use Rattle.i_shape_core.proofs.plane.Contours.{read-point, read-safe}
-use Rattle.i_shape_core.proofs.lists.FirstPlaces.{removable_between}
+use Rattle.i_shape_core.proofs.lists.FirstPlaces.{removable_between, none_on}
 use Rattle.i_shape_core.proofs.walks.Prefixes.{prefix_starts, prefix_more, whole_ends}
 use Rattle.i_shape_core.proofs.plane.PointLists.{points-length, points-item}
 
@@ -63,6 +63,13 @@ module _ (c : List Point) where
       ]
     ]
   ]
+
+  -- up to turns that are no zero turns, the way goes back nowhere but perhaps at the first place
+  pub turning_onward : (n : ℕ) → n + 2 ≤ length c → IsTurning c n → ((j : ℕ) → j < 1 → IsRemovable IsBack c j → ⊥) → (j : ℕ) → j < n + 1 → IsRemovable IsBack c j → ⊥
+  turning_onward zero within turning first j lt = first j lt
+  turning_onward (suc n) within turning first j lt =
+      none_on c n (n + 1) (n + 2) (omega arith) (omega arith) (inl (omega arith, refl)) (inl (omega arith, omega arith)) (λ back. turning n (omega arith) back.0)
+      (turning_onward n (omega arith) (λ k less. turning k (omega arith)) first) j (omega arith)
 
   -- one turn more that is no zero turn
   pub turning_more : (n : ℕ) → IsTurning c n → (IsZeroTurn (point_at c n) (point_at c (n + 1)) (point_at c (n + 2)) → ⊥) → IsTurning c (n + 1)

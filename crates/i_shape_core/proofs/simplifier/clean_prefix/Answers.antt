@@ -21,7 +21,7 @@ loop-place-init g c =
       contour = c.skip_turning-turning.ensures.contour;
       clean = turning_stacked (contour_of g.P.Coordinate.IntNumber.value c.args.probe.now.contour) c.skip_turning-turning.result
           (omega (arith, all, c.skip_turning-turning.ensures.within (omega (arith, c.requires.enough)))) c.skip_turning-turning.ensures.turning;
-      visits = omega (arith, c.skip_turning-turning.ensures.visits);
+      visits = omega (arith, c.skip_turning-turning.ensures.visits, c.requires.fresh);
     }
 
 pub loop-place-preserved : goal.loop-place-preserved
