@@ -6,6 +6,7 @@
 set -u
 cd "$(dirname "$0")/.." || exit 1
 . .ci/c_tests.sh || exit 1
+top=$PWD
 work=$(mktemp -d) || exit 1
 empty="$work/an empty folder"
 trap 'rm -rf "$work"' EXIT
@@ -246,6 +247,21 @@ test_installed() {
     count $? 'wheel-aarch64: refused on x86_64'
 }
 
+# A program in JavaScript: the page of this folder shows the corners in Chromium. Its status is 3 where there is none.
+open_page='
+const { Browser, hasChromium, serve } = await import(process.argv[1]);
+if (!hasChromium) process.exit(3);
+const { server, url } = await serve(".");
+const browser = await Browser.open();
+try {
+    await browser.goTo(url);
+    await browser.until("document.body?.textContent.trim() === `0 0 4 0 4 4 0 4`");
+} finally {
+    await browser.close();
+    server.close();
+}
+'
+
 # What the page of the package shows runs where the package lies as one that was installed.
 test_javascript() {
     unpack "i_shape-$version-javascript.tgz" || return
@@ -272,8 +288,15 @@ FILES
         mkdir ../node_modules && cd .. && mv package node_modules/i_shape
         [ "$(node sample.mjs)" = '0 0 4 0 4 4 0 4' ]
         count $? 'javascript: what its page shows'
+        sed -n '/^```html$/,/^```$/{/^```/!p}' node_modules/i_shape/README.md > index.html
+        node --input-type=module -e "$open_page" "$top/bindings/js/test/support/chromium.js"
+        case $? in
+        0) count 0 'javascript: what its page shows in a browser' ;;
+        3) skip 'javascript: what its page shows in a browser' 1 'there is no chromium' ;;
+        *) count 1 'javascript: what its page shows in a browser' ;;
+        esac
     else
-        skip 'javascript: what its page shows' 1 'there is no Node from 20.6 on'
+        skip 'javascript: what its page shows' 2 'there is no Node from 20.6 on'
     fi
 }
 
@@ -315,7 +338,7 @@ done
 for machine in x86_64 aarch64; do
     plan "program-$machine" 5 'it is not built' has_program "$machine"
 done
-plan javascript 4 'the modules are not built' has_modules
+plan javascript 5 'the modules are not built' has_modules
 parts+=(rust)
 bash scripts/dist.sh "$work/dist" "${parts[@]}" > "$work/log" 2>&1
 status=$?
