@@ -128,7 +128,7 @@ if [ "$target" = aarch64 ] && ! command -v aarch64-linux-gnu-gcc > /dev/null; th
 fi
 kit=$(dirname "$(rt doc)")
 if ! is_proved; then
-    name='make c'
+    name="make c${target:+ TARGET=$target}${cpu:+ CPU=$cpu}"
     log=$out/build.log
     jobs=$(($(nproc) > 1 ? 2 : 1))
     . "$top/scripts/prove.sh"
