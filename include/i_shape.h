@@ -1,5 +1,6 @@
 /* i_shape: contours of whole-number points, cleaned and measured. Each call is proved to answer what is said of it here, but for
- * I_SHAPE_NO_MEMORY and what takes memory, which are tested where no clause can say them; docs/C.md says by which clause.
+ * what is said to be tested, and for I_SHAPE_NO_MEMORY and what takes memory, which are tested where no clause can say them;
+ * docs/C.md says by which clause.
  *
  * Each call is total: it tests what it needs, and answers a code where that isn't met. Nothing is kept between calls. There is no
  * callback, and no call ends the program. Calls may run side by side.
