@@ -14,6 +14,8 @@ pub use Rattle.i_shape_core.specs.Cleaners
 pub use Rattle.i_shape_core.specs.Survivors
 pub use Rattle.i_shape_core.specs.Written
 pub use Rattle.i_shape_core.specs.Turn
+pub use Rattle.i_shape_core.specs.FourTurns
+pub use Rattle.i_shape_core.specs.Refusals
 pub use Rattle.i_shape_core.specs.Canonical
 pub use Rattle.i_shape_source.specs.Paths
 pub use Rattle.i_shape_source.specs.ShapeLists
