@@ -231,7 +231,7 @@ def fault_of_gate():
 
 
 def fault_of_edits():
-    """docs/develop/CONTRACTS.md names each edit of must-fail/, and beside each crate's name its edits alone."""
+    """docs/develop/CONTRACTS.md names each edit of must-fail/, beside each crate's name its edits alone, and as `Mutants:` of any crate no other."""
     page = read(f"{TOP}/docs/develop/CONTRACTS.md")
     edits = {kind: {tuple(name.removesuffix(".edit").split("/")[-3::2]) for name in files([f"crates/*/{kind}/*.edit"])} for kind in ("must-fail", "wrong")}
     named = set()
@@ -241,6 +241,9 @@ def fault_of_edits():
             named |= {({"shape": "i_shape", "uses": "uses"}.get(crate, f"i_shape_{crate}"), name) for name in re.findall(r"`(\w+)`", names)}
     missing = [f"{crate}'s {name} isn't named" for crate, name in edits["must-fail"] - named]
     strange = [f"{crate} has no edit {name}" for crate, name in named - edits["must-fail"] - edits["wrong"]]
+    of_any_crate = {name for _, name in edits["must-fail"] | edits["wrong"]}
+    for item in re.findall(r"^  Mutants: (.*(?:\n  .*)*)", page, re.MULTILINE):
+        strange += [f"no crate has an edit {name}" for name in re.findall(r"`(\w+)`", item) if name not in of_any_crate]
     return "; ".join(sorted(missing + strange)) or None
 
 
