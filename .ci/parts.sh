@@ -32,12 +32,22 @@ end_all() {
 trap end_all EXIT
 trap 'exit 130' HUP INT TERM
 
-# Runs a part and adds its counts, of its last line with any. A part without a count, or that fails though it counts no failure, counts as one failed. It runs in the
-# background, since a shell heeds a signal at once only while it waits.
+# Tells the processor minutes of all that has ended since it was called last. A subshell would count its own.
+worked=0
+tell_work() {
+    times > "$work/times"
+    before=$worked
+    worked=$(awk 'NR == 2 { for (k = 1; k <= 2; k++) { split($k, part, /[ms]/); sum += 60 * part[1] + part[2] } printf "%.1f", sum }' "$work/times")
+    echo "processor minutes: $(awk -v from="$before" -v to="$worked" 'BEGIN { printf "%.1f", (to - from) / 60 }') ($*)"
+}
+
+# Runs a part, tells its processor minutes, and adds its counts, of its last line with any. A part without a count, or that fails though it counts no failure, counts as
+# one failed. It runs in the background, since a shell heeds a signal at once only while it waits.
 part() {
     rm -f "$log.bad"
     { "$@" 2>&1 < /dev/null || touch "$log.bad"; } | tee "$log" &
     wait $!
+    tell_work "$@"
     counts=$(sed -nE 's/^([a-z. ]+: )?([0-9]+) passed, ([0-9]+) failed$/\2 \3 0/p
         s/^([a-z. ]+: )?([0-9]+) passed, ([0-9]+) failed, ([0-9]+) skipped$/\2 \3 \4/p' "$log" | tail -n 1)
     read -r its_passed its_failed its_skipped << COUNTS
