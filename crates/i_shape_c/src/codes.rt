@@ -6,7 +6,7 @@ pub const UNSAFE: isize = -1;
 /// The offsets don't part the points, or an array of the answer is too short.
 pub const UNFIT: isize = -2;
 
-/// Memory was refused.
+/// An allocation failed.
 pub const NO_MEMORY: isize = -3;
 
 /// `UNSAFE` as a test answers it, and the winding numbers of many points.

@@ -104,7 +104,7 @@ fn can_clean_shapes(
 }
 
 /// Writes what is left of the polygons to the front of the three arrays, and answers how many they are. Clean contours are read where they
-/// lie. Where one isn't clean, all are cleaned into lists first, so that nothing is written where memory is refused.
+/// lie. Where one isn't clean, all are cleaned into lists first, so that nothing is written where an allocation fails.
 fn write_cleaned<P: CPoint, C: InPlaceCleaner>(
     alloc: Global,
     points: &[P],

@@ -13,7 +13,7 @@ pub enum ToolFault {
     NotAContour(usize),
     /// The line's contour has a point that isn't safe, and the command wants it safe.
     OutOfRange(usize),
-    /// A growth was refused.
+    /// An allocation failed.
     OutOfMemory,
 }
 

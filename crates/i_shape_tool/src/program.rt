@@ -92,7 +92,7 @@ fn asked(words: &[String]) -> Option<Command>
     }
 }
 
-/// All input that is left. The only complaint is `Input`, also where a growth is refused.
+/// All input that is left. The only complaint is `Input`, also where an allocation fails.
 fn read_all<R: Read>(alloc: Global, input: &mut R) -> Result<Vec<u8>, Complaint>
     ensures ok { IfOk result (λ bytes. IfSome (R.remaining input.old) (λ xs. bytes.items ≡ xs)) }
     ensures err { IfErr result (λ complaint. complaint ≡ Input) }

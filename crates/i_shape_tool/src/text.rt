@@ -26,8 +26,8 @@ use std::alloc::Global;
 /// spikes, and `Canonical` the least rotation of what `Simplify` says. `Area` says twice the area of the contour, wrapped to
 /// 64 bits, or `empty` where it has no points.
 ///
-/// `NotAContour` and `OutOfRange` tell the first line that is faulty for the command. `OutOfMemory` comes where a growth was
-/// refused before a faulty line was found.
+/// `NotAContour` and `OutOfRange` tell the first line that is faulty for the command. `OutOfMemory` comes where an allocation
+/// failed and no faulty line was found before.
 pub fn run(alloc: Global, command: Command, text: &str) -> Result<String, ToolFault>
     ensures ok { IfOk result (λ output. AnswersText command text.now (string_bytes output)) }
     ensures err { IfErr result (IsFirstFault command text.now) }

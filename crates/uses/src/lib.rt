@@ -1,4 +1,4 @@
-//! Uses of the library, each proved from the contracts of its public calls and from lemmas of `CallerLemmas` that a function names.
+//! Uses of the library, each proved from the contracts of its public calls and from lemmas that the function or its proof names.
 #![tactic(auto)]
 
 // Points from anywhere: the safe range is tested first, and then calls are made, one or one after another.

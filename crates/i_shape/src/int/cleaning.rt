@@ -217,7 +217,7 @@ pub fn clean_list<I: IntNumber, C: InPlaceCleaner>(
 }
 
 /// Puts the cleaned shape in the place of the shape, or empties it where its outer contour collapses. Answers whether a contour
-/// needed cleaning; otherwise, and after a refusal, the shape is as it was.
+/// needed cleaning; otherwise, and after an error, the shape is as it was.
 pub fn clean_shape_in_place<I: IntNumber, C: InPlaceCleaner>(
     shape: &mut IntShape<I>,
 ) -> Result<bool, ShapeError>
@@ -239,7 +239,7 @@ pub fn clean_shape_in_place<I: IntNumber, C: InPlaceCleaner>(
     Ok(true)
 }
 
-/// Puts the cleaned list in the place of the list. Answers whether a contour needed cleaning; otherwise, and after a refusal,
+/// Puts the cleaned list in the place of the list. Answers whether a contour needed cleaning; otherwise, and after an error,
 /// the list is as it was.
 pub fn clean_list_in_place<I: IntNumber, C: InPlaceCleaner>(
     shapes: &mut IntShapes<I>,

@@ -44,7 +44,7 @@ pub fn append_items<P: Copy, I: Iterator<Item = P> + Drop>(
 {
     points.reserve(iter.size_hint().0)?;
     let start = points.len();
-    // Pushed one by one, since `extend` passes over a refused growth: it asks once more.
+    // Pushed one by one, since `extend` passes over a failed allocation: it asks once more.
     for item in iter {
         if points.push(item).is_err() {
             points.truncate(start);

@@ -41,7 +41,7 @@ fn replacement<I: IntNumber, C: InPlaceCleaner>(
     }
 }
 
-/// Appends what comes in the place of each contour that needs cleaning, in order. It is refused only where there is one.
+/// Appends what comes in the place of each contour that needs cleaning, in order. It fails only where there is one.
 fn append_changes<I: IntNumber, C: InPlaceCleaner>(
     cleaner: &mut C,
     changes: &mut Vec<Change<I>>,

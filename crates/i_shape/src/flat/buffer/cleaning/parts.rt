@@ -54,7 +54,7 @@ pub fn checked_total(ranges: &[Range<usize>]) -> Option<usize>
 }
 
 /// Appends the cleaned contour, over its copy at the end of `points`, and nothing where it collapses. Answers whether anything is left
-/// of it. After a refusal both lists may have grown: the callers drop them.
+/// of it. After an error both lists may have grown: the callers drop them.
 pub fn append_cleaned<T: IntNumber, C: ContourCleaner>(
     cleaner: &mut C,
     points: &mut Vec<IntPoint<T>>,
