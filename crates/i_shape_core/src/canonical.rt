@@ -19,7 +19,7 @@ use std::cmp::Ordering;
 
 impl ContourSimplifier {
     /// The canonical form of a contour, as `SimpleContour::canonical` gives it. The answer doesn't depend on earlier use,
-    /// nor on an earlier refusal. The only error is `OutOfMemory`.
+    /// nor on an earlier failure. The only error is `OutOfMemory`.
     pub fn canonical<I: IntNumber>(
         &mut self,
         contour: &[IntPoint<I>],

@@ -22,7 +22,8 @@ use std::alloc::Global;
 /// Cleans contours of safe points. One value cleans any number of them, and keeps its memory from one to the next. Each
 /// answer is one of those that `answers` allows; that which of them it is doesn't depend on earlier use is tested.
 pub trait ContourCleaner: Drop {
-    /// The contours of which no point is removed: for these `clean_into` takes no memory. A canonical form still rotates them.
+    /// The contours of which no point is removed: for these `clean_into` takes no memory. A canonical form still rotates them,
+    /// and an unoriented one may turn them round.
     ghost clean: { List Point → Type 0 };
 
     /// What a contour becomes: none where it collapses.
@@ -34,8 +35,8 @@ pub trait ContourCleaner: Drop {
     /// Which points of the contour the answer has, and in which order, whatever their type.
     ghost picks: { (P : Type 0) → List P → List P → Type 0 };
 
-    /// A cleaner that takes its memory from `alloc`, once where no contour has more than `room` points. It takes none before
-    /// a contour needs it.
+    /// A cleaner that takes its memory from `alloc`: that for the places of its walks once where no contour has more than `room`
+    /// points, and none before a contour needs it.
     fn with_room(alloc: Global, room: usize) -> Self;
 
     /// Whether the contour is clean. It takes no memory.
@@ -54,7 +55,7 @@ pub trait ContourCleaner: Drop {
             OkUnlessMemory result (CleansTo answers keeps I.width I.value c) }
         ensures short { length contour.now < 3 → result ≡ Ok None };
 
-    /// The same, of a contour that isn't clean, without testing it again.
+    /// The same, of a contour that isn't clean, without a test of its own before it.
     fn cleaned_untested<I: IntNumber>(
         &mut self,
         contour: &[IntPoint<I>],

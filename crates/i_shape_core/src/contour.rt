@@ -19,7 +19,8 @@ use crate::same::{are_same, last_other};
 use crate::triangle::Triangle;
 use crate::winding::{winding_about, windings_about};
 
-/// Tests of a contour as a whole. Each takes no memory, and linear time, about many points for each of them.
+/// Tests of a contour as a whole. Each takes no memory, and time linear in its points, `winding_numbers_into` for each point asked
+/// about.
 pub trait ContourExtension<I: IntNumber> {
     /// The contour over whole numbers.
     ghost contour: { Self → List Point };

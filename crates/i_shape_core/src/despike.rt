@@ -38,8 +38,8 @@ pub trait DeSpikeContour<I: IntNumber> {
 
     /// The contour without the points at which the way turns back or stands still, in the order of the input.
     /// `None` exactly where removing zero turns in any order leaves fewer than three points; otherwise such removals
-    /// lead from the answer to the same contour as from the input. Double area and containment are kept, and the points
-    /// are safe again.
+    /// lead from the answer to the same contour, up to rotation, as from the input. Double area, containment and winding numbers
+    /// are kept, and the points are safe again.
     /// The only error is `OutOfMemory`; below three points no memory is taken.
     fn despiked_contour(&self, alloc: Global) -> Result<Option<IntContour<I>>, ShapeError>
         requires { IsSafeContour I.width (contour self.now) }
@@ -104,8 +104,8 @@ impl ContourDeSpiker {
         ContourDeSpiker::with_room(alloc, 0)
     }
 
-    /// A remover of spikes that takes its memory from `alloc`, once where no contour has more than `room` points. It takes none
-    /// before a contour needs it.
+    /// A remover of spikes that takes its memory from `alloc`: that for the places of its walks once where no contour has more
+    /// than `room` points, and none before a contour needs it.
     pub fn with_room(alloc: Global, room: usize) -> ContourDeSpiker {
         ContourDeSpiker {
             places: Vec::new(alloc),
@@ -118,7 +118,7 @@ impl ContourDeSpiker {
         *self.places.allocator()
     }
 
-    /// The contour without spikes, as `DeSpikeContour::despiked_contour` gives it, whatever was cleaned or refused before.
+    /// The contour without spikes, as `DeSpikeContour::despiked_contour` gives it, whatever was cleaned before, or failed.
     /// The only error is `OutOfMemory`.
     pub fn despike_contour<I: IntNumber>(
         &mut self,

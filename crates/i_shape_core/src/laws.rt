@@ -57,13 +57,13 @@ pub fn every_order<I: IntNumber>(_c: &[IntPoint<I>])
     ensures { EveryOrder (contour_of I.value _c.now) }
 {}
 
-/// Where no point stands twice, every order leaves one and the same list.
+/// Where no point stands twice and the contour doesn't collapse, every order leaves one and the same list.
 pub fn one_certain_end<I: IntNumber>(_c: &[IntPoint<I>])
     ensures { OneCertainEnd (contour_of I.value _c.now) }
 {}
 
 /// What is left where back vertices alone are removed has collapsed exactly where the ends of the contour have, and
-/// otherwise it has their ends.
+/// otherwise it has their ends, up to rotation.
 pub fn agreed<I: IntNumber>(_c: &[IntPoint<I>])
     ensures { Agreed (contour_of I.value _c.now) }
 {}

@@ -7,8 +7,8 @@ ghost use Rattle.i_shape_core.specs.IntPoint.{point_of, IsSafe};
 use crate::number::IntNumber;
 use crate::point::ContourPoint;
 
-/// Whether each point is safe: both its coordinates lie strictly between -2^(BITS-2) and 2^(BITS-2). One pass, which ends after a
-/// block of 16 points with one that isn't; it takes no memory.
+/// Whether each point is safe: both its coordinates lie strictly between -2^(BITS-2) and 2^(BITS-2). One pass, which from
+/// 16 points on ends after a block of 16 with one that isn't; it takes no memory.
 pub fn are_safe<P: ContourPoint>(points: &[P]) -> bool
     ensures { IsTrue result
         ↔ All (λ p. IsSafe P.Coordinate.width (point_of P.Coordinate.value (P.point p)))

@@ -51,7 +51,7 @@ pub trait SimpleContour<I: IntNumber> {
     /// The canonical form whichever way round the contour is wound: the one that comes first of the canonical forms of the contour
     /// and of the contour read backwards. Two contours that don't collapse have the same such form exactly where removals and
     /// insertions of zero-turn vertices, and rotations, lead from one to the other, or to the other read backwards.
-    /// `None` exactly where `simplified` is. Containment is kept, and so are double area and winding numbers, or all of these get their
+    /// `None` exactly where `simplified` is. Containment is kept, and so are double area and winding numbers, or both get their
     /// opposites; the points are safe again.
     /// The only error is `OutOfMemory`; below three points no memory is taken.
     fn canonical_unoriented(&self, alloc: Global) -> Result<Option<IntContour<I>>, ShapeError>

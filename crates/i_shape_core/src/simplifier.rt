@@ -33,8 +33,8 @@ impl ContourSimplifier {
         ContourSimplifier::with_room(alloc, 0)
     }
 
-    /// A simplifier that takes its memory from `alloc`, once where no contour has more than `room` points. It takes none before
-    /// a contour needs it.
+    /// A simplifier that takes its memory from `alloc`: that for the places of its walks once where no contour has more than
+    /// `room` points, and none before a contour needs it.
     pub fn with_room(alloc: Global, room: usize) -> ContourSimplifier {
         ContourSimplifier {
             stack: Vec::new(alloc),
@@ -42,7 +42,7 @@ impl ContourSimplifier {
         }
     }
 
-    /// The contour without zero turns, as `SimpleContour::simplified` gives it, whatever was cleaned or refused before.
+    /// The contour without zero turns, as `SimpleContour::simplified` gives it, whatever was cleaned before, or failed.
     /// The only error is `OutOfMemory`.
     pub fn simplify_contour<I: IntNumber>(
         &mut self,

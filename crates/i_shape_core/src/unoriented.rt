@@ -17,7 +17,7 @@ use std::cmp::Ordering;
 
 impl ContourSimplifier {
     /// The unoriented form of a contour, as `SimpleContour::canonical_unoriented` gives it. The answer doesn't depend on earlier use,
-    /// nor on an earlier refusal. The only error is `OutOfMemory`.
+    /// nor on an earlier failure. The only error is `OutOfMemory`.
     pub fn canonical_unoriented<I: IntNumber>(
         &mut self,
         contour: &[IntPoint<I>],

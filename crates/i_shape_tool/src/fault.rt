@@ -33,7 +33,7 @@ impl<T: Drop> From<AllocFailed<T>> for ToolFault {
     }
 }
 
-/// The only error of the cleaners of a contour is `OutOfMemory`.
+/// `TooManyPoints` can't come here: no text has so many points.
 impl From<ShapeError> for ToolFault {
     ghost from_gives = { λ _ fault. fault ≡ OutOfMemory };
 

@@ -134,8 +134,9 @@ fn write_whole<W: Write>(output: &mut W, bytes: &[u8]) -> io::Result<()>
     output.flush()
 }
 
-/// Serves one run of the program: judges the words after its name, reads all input, writes the answer, or else a line to
-/// `errors`, and answers the exit status. A line that `errors` doesn't take is lost, and changes no status.
+/// Serves one run of the program: judges the words after its name, and where they name a command reads all input and writes the
+/// answer; where they don't, or where that fails, it writes a line to `errors`. It answers the exit status. A line that `errors`
+/// doesn't take is lost, and changes no status.
 pub fn serve<R: Read, W: Write, E: Write>(
     alloc: Global,
     words: &[String],

@@ -21,7 +21,7 @@ pub trait DeSpike {
     /// Relates the value before the call, the answer, and the value after it.
     ghost despike_gives: { Self → Result Bool ShapeError → Self → Type 0 };
 
-    /// Removes spikes. False where there are none; then nothing changes, and no memory is taken.
+    /// Removes spikes. False where `has_no_spikes` holds of the value; then nothing changes, and no memory is taken.
     /// What is new is built whole before anything old goes: after `OutOfMemory`, the only error, the value is as it was.
     /// Whatever it answers, the points are safe still.
     fn remove_spikes(&mut self) -> Result<bool, ShapeError>

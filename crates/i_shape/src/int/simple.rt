@@ -24,7 +24,7 @@ pub trait Simplify {
     /// Relates the value before the call, the answer, and the value after it.
     ghost simplify_gives: { Self → Result Bool ShapeError → Self → Type 0 };
 
-    /// Removes zero turns. False where there are none; then nothing changes, and no memory is taken.
+    /// Removes zero turns. False where `is_simple` holds of the value; then nothing changes, and no memory is taken.
     /// What is new is built whole before anything old goes: after `OutOfMemory`, the only error, the value is as it was.
     /// Whatever it answers, the points are safe still.
     fn simplify_contour(&mut self) -> Result<bool, ShapeError>

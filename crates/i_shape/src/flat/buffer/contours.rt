@@ -97,7 +97,7 @@ impl<T: IntNumber> FlatContoursBuffer<T> {
     }
 }
 
-/// Setters. Each makes room before it changes a list, so the buffer stays as it was where it fails.
+/// Setters. Each makes room before it changes a list, so the lists stay as they were where it fails.
 impl<T: IntNumber> FlatContoursBuffer<T> {
     /// Empties the buffer, with room for so many points and contours. The only error is `OutOfMemory`;
     /// the lists then stay as they were.
