@@ -1,18 +1,19 @@
-/* i_shape: contours of whole-number points, cleaned and measured. Each call is proved to answer what is said of it here, but for
- * what is said to be tested, and for I_SHAPE_NO_MEMORY and what takes memory, which are tested where no clause can say them;
- * docs/C.md says by which clause.
+/* i_shape: contours of whole-number points, cleaned and measured. Each call is proved to answer and write what is said
+ * of it here, but for what is said to be tested, and for I_SHAPE_NO_MEMORY and what takes memory, which are tested
+ * where no clause can say them; docs/C.md says by which clause.
  *
- * Each call is total: it tests what it needs, and answers a code where that isn't met. Nothing is kept between calls. There is no
- * callback, and no call ends the program. Calls may run side by side.
+ * Each call tests what it needs of points, offsets and counts, and answers a code where that isn't met. Nothing is kept
+ * between calls. No call makes a callback, but to an allocator of the host's own, where the host defines one
+ * (docs/C.md), and none ends the program. Calls may run side by side.
  *
- * What a caller owes, as ever in C: each pointer is aligned and not null, even at a count of 0; behind it lie as many items as its
- * count says; an array that a call writes overlaps none that it is given; there is stack left. No array changes during a call, by
- * another thread or by a process that shares it. A call that takes memory is not made from a signal handler, nor in a child that
- * was forked from a process with threads. The processor is one that the library is built for: on x86-64, where nothing else was asked,
- * x86-64-v2, which has SSE4.2.
+ * What a caller owes, as ever in C: each pointer is aligned and not null, even at a count of 0; behind it lie as many
+ * items as its count says; an array that a call writes overlaps no other, given or written; there is stack left. No
+ * array changes during a call, by another thread or by a process that shares it. A call that takes memory is not made
+ * from a signal handler, nor in a child that was forked from a process with threads. The processor is one that the
+ * library is built for: on x86-64, where nothing else was asked, x86-64-v2, which has SSE4.2.
  *
- * A contour is an array of points, read as a cycle: the last point isn't the first one again. A point is safe where both
- * coordinates lie strictly between -2^(W-2) and 2^(W-2), and W is 16, 32 or 64. */
+ * A contour is an array of points, read as a cycle: the last point isn't the first one again. A point is safe where
+ * both coordinates lie strictly between -2^(W-2) and 2^(W-2), and W is 16, 32 or 64. */
 #ifndef I_SHAPE_H
 #define I_SHAPE_H
 
@@ -29,11 +30,11 @@ extern "C" {
 
 uint32_t i_shape_version(void);
 
-/* The answers below 0. */
+/* The codes below 0. */
 enum {
     I_SHAPE_UNSAFE = -1,   /* a point that the call reads isn't safe */
     I_SHAPE_UNFIT = -2,    /* the offsets don't part the points, or an array of the answer is too short; this is tested first */
-    I_SHAPE_NO_MEMORY = -3 /* memory was refused */
+    I_SHAPE_NO_MEMORY = -3 /* an allocation failed */
 };
 
 /* What i_shape_winding_iW answers where a point isn't safe: below every winding number, which may be below 0 itself. */
@@ -52,7 +53,7 @@ typedef struct { uint64_t low, high; } i_shape_halves;
  * contour collapses. I_SHAPE_UNFIT: room is below count. Behind these points, and after a code, out is as it was. Below
  * three points, and for a contour that is clean, no memory is taken. */
 
-/* Without zero turns: the one end of removing them in any order. */
+/* Without zero turns: the one end, but for its start, of removing them in any order. */
 ptrdiff_t i_shape_simplify_i32(const i_shape_point_i32 *points, size_t count, i_shape_point_i32 *out, size_t room);
 /* Without the points at which the way turns back or stands still. */
 ptrdiff_t i_shape_despike_i32(const i_shape_point_i32 *points, size_t count, i_shape_point_i32 *out, size_t room);
@@ -61,13 +62,13 @@ ptrdiff_t i_shape_canonical_i32(const i_shape_point_i32 *points, size_t count, i
 /* The lesser of that form and of the form of the contour read backwards. */
 ptrdiff_t i_shape_canonical_unoriented_i32(const i_shape_point_i32 *points, size_t count, i_shape_point_i32 *out, size_t room);
 
-/* Many contours, end to end in one array: contour k is points[offsets[k]] .. points[offsets[k + 1]], so that m contours
- * have offset_count = m + 1. The answer lies in the same way in out_points and out_offsets, from 0 on, a contour that
- * collapses empty at its place. These answer how many points are written. I_SHAPE_UNFIT: offset_count is 0, an offset
- * is below the one before it or above count, room is below count, or offset_room below offset_count. Behind these
- * points and offsets nothing is written, nor after I_SHAPE_UNSAFE and I_SHAPE_UNFIT; after I_SHAPE_NO_MEMORY the first
- * count points and offset_count offsets may be. Where each contour is clean or has fewer than three points, no memory
- * is taken. */
+/* Many contours, end to end in one array: contour k has the points from place offsets[k] up to, but without, place
+ * offsets[k + 1], so that m contours have offset_count = m + 1. The answer lies in the same way in out_points and
+ * out_offsets, from 0 on, a contour that collapses empty at its place. These answer how many points are written.
+ * I_SHAPE_UNFIT: offset_count is 0, an offset is below the one before it or above count, room is below count, or
+ * offset_room below offset_count. Behind these points and offsets nothing is written, nor after I_SHAPE_UNSAFE and
+ * I_SHAPE_UNFIT; after I_SHAPE_NO_MEMORY the first count points and offset_count offsets may be. Where each contour is
+ * clean or has fewer than three points, no memory is taken. */
 
 /* For each contour an answer of i_shape_simplify_i32; that it is the same one is tested. */
 ptrdiff_t i_shape_simplify_contours_i32(const i_shape_point_i32 *points, size_t count, const size_t *offsets, size_t offset_count, i_shape_point_i32 *out_points, size_t room, size_t *out_offsets, size_t offset_room);
@@ -79,18 +80,19 @@ ptrdiff_t i_shape_canonical_contours_i32(const i_shape_point_i32 *points, size_t
 ptrdiff_t i_shape_canonical_unoriented_contours_i32(const i_shape_point_i32 *points, size_t count, const size_t *offsets, size_t offset_count, i_shape_point_i32 *out_points, size_t room, size_t *out_offsets, size_t offset_room);
 
 /* Polygons: contours[] parts the points into contours, as above, and shapes[] parts these into polygons: polygon k has
- * contours shapes[k] .. shapes[k + 1], the outer one first. The answer lies in the same way in out_points, out_contours
- * and out_shapes, from 0 on, without the contours that collapse and the polygons whose outer contour does. These answer
- * how many polygons are left, n: their contours end at out_shapes[n], and their points at out_contours[out_shapes[n]].
- * I_SHAPE_UNFIT as above, and where the same is wrong of shapes[] over the contours. I_SHAPE_UNSAFE: contours that no
- * polygon has are tested too. Behind the answer nothing is written, nor after a code. The first two take no memory
- * where each contour of a polygon is clean. */
+ * the contours from shapes[k] up to, but without, shapes[k + 1], the outer one first. The answer lies in the same way
+ * in out_points, out_contours and out_shapes, from 0 on, without the contours that collapse and the polygons whose
+ * outer contour does. These answer how many polygons are left, n: their contours end at out_shapes[n], and their points
+ * at out_contours[out_shapes[n]]. I_SHAPE_UNFIT as above, and where the same is wrong of shapes[] over the contours.
+ * I_SHAPE_UNSAFE: contours that no polygon has are tested too. Behind the answer nothing is written, nor after a code.
+ * The first two take no memory where each contour of a polygon is clean. */
 
 /* Without zero turns. */
 ptrdiff_t i_shape_simplify_shapes_i32(const i_shape_point_i32 *points, size_t count, const size_t *contours, size_t contour_offset_count, const size_t *shapes, size_t shape_offset_count, i_shape_point_i32 *out_points, size_t room, size_t *out_contours, size_t contour_room, size_t *out_shapes, size_t shape_room);
 /* Without spikes. A contour that has none stays as it is. */
 ptrdiff_t i_shape_despike_shapes_i32(const i_shape_point_i32 *points, size_t count, const size_t *contours, size_t contour_offset_count, const size_t *shapes, size_t shape_offset_count, i_shape_point_i32 *out_points, size_t room, size_t *out_contours, size_t contour_room, size_t *out_shapes, size_t shape_room);
-/* The holes of each polygon sorted, and then the polygons: equal arrays are the same polygons. */
+/* Each contour in canonical form, the holes of each polygon sorted, and then the polygons: two lists of polygons give
+ * equal arrays exactly where those that don't collapse are the same (docs/DEFINITIONS.md). */
 ptrdiff_t i_shape_canonical_shapes_i32(const i_shape_point_i32 *points, size_t count, const size_t *contours, size_t contour_offset_count, const size_t *shapes, size_t shape_offset_count, i_shape_point_i32 *out_points, size_t room, size_t *out_contours, size_t contour_room, size_t *out_shapes, size_t shape_room);
 /* The same where a contour may be read backwards too: the lesser of the forms of both ways. */
 ptrdiff_t i_shape_canonical_unoriented_shapes_i32(const i_shape_point_i32 *points, size_t count, const size_t *contours, size_t contour_offset_count, const size_t *shapes, size_t shape_offset_count, i_shape_point_i32 *out_points, size_t room, size_t *out_contours, size_t contour_room, size_t *out_shapes, size_t shape_room);
@@ -101,11 +103,11 @@ ptrdiff_t i_shape_canonical_unoriented_shapes_i32(const i_shape_point_i32 *point
 int32_t i_shape_is_simple_i32(const i_shape_point_i32 *points, size_t count);
 /* At least three points without those equal to the one before, and the way over them nowhere goes back. */
 int32_t i_shape_has_no_spikes_i32(const i_shape_point_i32 *points, size_t count);
-/* At most two points without those equal to the one before, or the way over them nowhere goes back or bends to both
- * sides. A contour that winds round more than once, as a pentagram does, may be one. */
+/* At most two points without those equal to the one before, or the way over them nowhere goes back and doesn't bend to
+ * both sides. A contour that winds round more than once, as a pentagram does, may be one. */
 int32_t i_shape_is_convex_i32(const i_shape_point_i32 *points, size_t count);
-/* An odd number of edges pass the height of (x, y) strictly to the right of it. I_SHAPE_UNSAFE: that point isn't safe
- * either. */
+/* An odd number of edges pass the height of (x, y) strictly to the right of it. I_SHAPE_UNSAFE is answered where that
+ * point isn't safe, too. */
 int32_t i_shape_contains_i32(const i_shape_point_i32 *points, size_t count, int32_t x, int32_t y);
 /* Each point is safe. It never answers I_SHAPE_UNSAFE. */
 int32_t i_shape_is_safe_i32(const i_shape_point_i32 *points, size_t count);
@@ -118,8 +120,8 @@ int32_t i_shape_is_safe_i32(const i_shape_point_i32 *points, size_t count);
 ptrdiff_t i_shape_winding_i32(const i_shape_point_i32 *points, size_t count, int32_t x, int32_t y);
 /* How often all contours, parted as above, wind about each of about_count points together, into out: what a fill rule
  * asks of a polygon's rings. It answers 0. I_SHAPE_UNFIT: the offsets are wrong as above, or room is below about_count.
- * I_SHAPE_UNSAFE: a point of a contour or of about isn't safe. After a code, and behind about_count, out is as it was.
- * It makes one pass over the contours for each point. */
+ * I_SHAPE_UNSAFE: a point of a contour or of about isn't safe. After a code, and behind about_count numbers, out is as
+ * it was. */
 int32_t i_shape_windings_i32(const i_shape_point_i32 *points, size_t count, const size_t *offsets, size_t offset_count, const i_shape_point_i32 *about, size_t about_count, ptrdiff_t *out, size_t room);
 
 /* Twice the area, above 0 where the contour turns left; false, and *area as it was, where there is no point. No safe
