@@ -1,9 +1,10 @@
-/* The calls of i_shape.h for C++17, over points of any type that is two whole numbers of one width: templates only, over
- * libi_shape.a or libi_shape.so. Each call is the C call of its name, which i_shape.h describes; docs/CPP.md has samples.
+/* The calls of i_shape.h for C++17, over points of any type that is two signed whole numbers of one width: templates,
+ * over libi_shape.a or libi_shape.so. Each call but flat and nested makes the C call of its name, less _into, which
+ * i_shape.h describes; docs/CPP.md has samples.
  *
- * Points, offsets and numbers are taken from whatever std::data and std::size take: a vector, an array, or a pointer and
- * a count as i_shape::Span. Answers are vectors. A code of C is an i_shape::Error; where an answer's vector gets no
- * memory, it throws std::bad_alloc. Whatever is thrown, nothing that was given is changed. */
+ * These take points and offsets from whatever std::data and std::size take: a vector, an array, or a pointer and a count
+ * as i_shape::Span. Many items are answered as vectors. A code of C is thrown as an i_shape::Error; where an answer's
+ * vector gets no memory, std::bad_alloc is. Whatever is thrown, nothing that was given is changed. */
 #ifndef I_SHAPE_HPP
 #define I_SHAPE_HPP
 
@@ -24,7 +25,7 @@ namespace i_shape {
 enum class Code : std::int32_t {
     unsafe = I_SHAPE_UNSAFE,      /* a point that the call reads isn't safe */
     unfit = I_SHAPE_UNFIT,        /* the offsets don't part the points, or the array of the answer is too short */
-    no_memory = I_SHAPE_NO_MEMORY /* memory was refused */
+    no_memory = I_SHAPE_NO_MEMORY /* an allocation failed */
 };
 
 class Error : public std::exception {
@@ -46,7 +47,8 @@ private:
     Code code_;
 };
 
-/* A pointer and a count: items that lie somewhere else. Items of a class below Item aren't taken: they lie further apart. */
+/* A pointer and a count: items that lie somewhere else. Items of a class below Item aren't taken: they may lie further
+ * apart. */
 template <class Item>
 class Span {
 public:
@@ -87,14 +89,15 @@ struct PointTraits<Point, std::enable_if_t<std::is_member_object_pointer_v<declt
     static constexpr std::size_t y_offset = offsetof(Point, Y);
 };
 
-/* Contours end to end: contour k is points[offsets[k]] .. points[offsets[k + 1]]. */
+/* Contours end to end: contour k has the points from offsets[k] up to, but without, offsets[k + 1]. */
 template <class Point>
 struct Contours {
     std::vector<Point> points;
     std::vector<std::size_t> offsets;
 };
 
-/* Polygons end to end: polygon k has the contours shapes[k] .. shapes[k + 1], its outer contour first. */
+/* Polygons end to end: polygon k has the contours from shapes[k] up to, but without, shapes[k + 1], its outer contour
+ * first. */
 template <class Point>
 struct Shapes {
     std::vector<Point> points;
@@ -166,14 +169,14 @@ using PointOf = std::remove_cv_t<std::remove_pointer_t<decltype(std::data(std::d
 template <class Points>
 using CallsOf = CallsFor<PointOf<Points>>;
 
-/* The items as C's. Of no items it is an address too, since a call of C takes no null pointer. */
+/* The items as C's. For a null pointer, as an empty vector may have, it is an address too: a call of C takes no null. */
 template <class To, class Item>
 To *address(Item *items) noexcept {
     static std::remove_const_t<To> nothing{};
     return items != nullptr ? reinterpret_cast<To *>(items) : &nothing;
 }
 
-/* What a call of C is given for an array: where it lies, and its count. */
+/* What a call of C is given for where an array lies. */
 template <class Points>
 const typename CallsOf<Points>::Point *read(const Points &points) noexcept {
     return address<const typename CallsOf<Points>::Point>(std::data(points));
@@ -272,7 +275,7 @@ template <class Points>
 using AreaOf = typename detail::CallsOf<Points>::Area;
 
 /* One contour: what is left of it, nothing where it collapses. Those of the name .._into write it to the front of out and
- * answer how many points that is; they throw Code::unfit where out is shorter than the points, and out is no part of
+ * answer how many points that is; they throw Code::unfit where out is shorter than the points. out shares no memory with
  * these. */
 
 template <class Points>
