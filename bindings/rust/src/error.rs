@@ -8,12 +8,12 @@ use std::fmt;
 pub enum Error {
     /// A point that the call reads has a coordinate outside the safe range, which lies strictly
     /// between -2^(W-2) and 2^(W-2) at W bits.
-    /// [`IntPoint::is_in_safe_range`](crate::int::IntPoint::is_in_safe_range) says which point.
+    /// [`IntPoint::is_in_safe_range`](crate::int::IntPoint::is_in_safe_range) finds it.
     UnsafePoint,
     /// Offsets don't part what they are offsets of, or a slice that the call writes is too short.
-    /// It is tested first.
+    /// It is tested before the points are.
     Unfit,
-    /// Memory was refused.
+    /// An allocation failed, or a vector can't be as long as it would have to be.
     NoMemory,
     /// A contour has no point, and so no area.
     NoPoint,

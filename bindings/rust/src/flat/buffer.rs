@@ -50,7 +50,7 @@ impl<I: IntNumber> FlatContoursBuffer<I> {
     ///
     /// # Panics
     ///
-    /// Where the range doesn't lie within the points.
+    /// Where the range runs backwards or doesn't lie within the points.
     pub fn as_first_contour(&self) -> &[IntPoint<I>] {
         &self.points[self.first_range()]
     }
@@ -59,7 +59,7 @@ impl<I: IntNumber> FlatContoursBuffer<I> {
     ///
     /// # Panics
     ///
-    /// Where the range doesn't lie within the points.
+    /// Where the range runs backwards or doesn't lie within the points.
     pub fn as_first_contour_mut(&mut self) -> &mut [IntPoint<I>] {
         let range = self.first_range();
         &mut self.points[range]
@@ -102,7 +102,7 @@ impl<I: IntNumber> FlatContoursBuffer<I> {
     ///
     /// # Panics
     ///
-    /// Where a range doesn't lie within the points.
+    /// Where a range runs backwards or doesn't lie within the points.
     pub fn to_contours(&self) -> Vec<IntContour<I>> {
         self.ranges
             .iter()
@@ -198,7 +198,8 @@ impl<I: IntNumber> FlatShapesBuffer<I> {
     ///
     /// # Panics
     ///
-    /// Where a range doesn't lie within the points or within the contours.
+    /// Where the range of a shape, or of one of its contours, runs backwards or doesn't lie within
+    /// the contours, or the points.
     pub fn to_shapes(&self) -> Vec<IntShape<I>> {
         let contour = |range: &Range<usize>| self.points[range.clone()].to_vec();
         self.shape_ranges

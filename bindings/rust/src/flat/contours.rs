@@ -57,8 +57,8 @@ macro_rules! cleaners {
             ///
             /// [`Error::Unfit`] where `out_points` is shorter than [`points`](Contours::points) or
             /// `out_offsets` than [`offsets`](Contours::offsets); [`Error::UnsafePoint`] where a
-            /// point of a contour isn't safe; [`Error::NoMemory`] where memory is refused: then so
-            /// much of the front of both may be written.
+            /// point of a contour isn't safe; [`Error::NoMemory`] where memory is refused: then the
+            /// fronts of both may be written, as far as these are long.
             pub fn $try_into(
                 self,
                 out_points: &mut [IntPoint<I>],
@@ -178,7 +178,7 @@ impl<'a, I: IntNumber> Contours<'a, I> {
     /// contours of a shape.
     ///
     /// [`Error::UnsafePoint`] where a point of a contour or one of `about` isn't safe,
-    /// [`Error::NoMemory`] where there is none for the answer. It passes over the contours once for
+    /// [`Error::NoMemory`] where there is none for the answer. It goes over the contours again for
     /// each point.
     pub fn try_winding_numbers(self, about: &[IntPoint<I>]) -> Result<Vec<isize>, Error> {
         let mut numbers = with_room(about.len())?;
@@ -295,7 +295,8 @@ impl<I: IntNumber> OwnedContours<I> {
         }
     }
 
-    /// A copy of the contours, end to end. [`Error::NoMemory`] where memory is refused.
+    /// A copy of the contours, end to end. [`Error::Unfit`] where they have more points together
+    /// than a `usize` holds, [`Error::NoMemory`] where memory is refused.
     pub fn try_from_contours<C: AsRef<[IntPoint<I>]>>(contours: &[C]) -> Result<Self, Error> {
         let offsets = try_from_lengths(contours.iter().map(|contour| contour.as_ref().len()))?;
         let mut points = with_room(offsets[contours.len()])?;

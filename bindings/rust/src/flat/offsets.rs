@@ -6,8 +6,8 @@ use crate::memory::{try_reserve, with_room};
 use std::borrow::Cow;
 use std::ops::Range;
 
-/// Whether the offsets part the first `count` items or fewer: there is one, none is below the one
-/// before it, and the last is at most `count`. The first may be above 0.
+/// Whether the offsets part a list of `count` items: there is one, none is below the one before it,
+/// and the last is at most `count`. The first may be above 0.
 pub fn are_fit(offsets: &[usize], count: usize) -> bool {
     offsets.is_sorted() && offsets.last().is_some_and(|&last| last <= count)
 }

@@ -285,7 +285,8 @@ impl<I: IntNumber> OwnedShapes<I> {
         }
     }
 
-    /// A copy of the polygons, end to end. [`Error::NoMemory`] where memory is refused.
+    /// A copy of the polygons, end to end. [`Error::Unfit`] where they have more contours together
+    /// than a `usize` holds, [`Error::NoMemory`] where memory is refused.
     pub fn try_from_shapes<S: AsRef<[IntContour<I>]>>(shapes: &[S]) -> Result<Self, Error> {
         let ends = try_from_lengths(shapes.iter().map(|shape| shape.as_ref().len()))?;
         let mut contours = with_room(ends[shapes.len()].saturating_add(1))?;

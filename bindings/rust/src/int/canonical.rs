@@ -1,10 +1,11 @@
 //! Canonical forms of shapes and of lists of shapes. The forms of one contour are in
 //! [`SimpleContour`](super::simple::SimpleContour).
 //!
-//! Two shapes that have a form, or lists of shapes, have the same one exactly where these moves lead
-//! from one to the other: a contour is rotated to another start, loses a zero turn or gains one; the holes, and
-//! the shapes of a list, are reordered; a hole that collapses, or a shape of a list whose outer
-//! contour collapses, is dropped or added. For the unoriented form a contour may be reversed too.
+//! Two shapes that have a form, or lists of shapes, have the same one exactly where these moves
+//! lead from one to the other: a contour is rotated to another start, loses a zero turn or gains
+//! one; the holes, and the shapes of a list, are reordered; a hole that collapses, or a shape of a
+//! list whose outer contour collapses, is dropped or added. For the unoriented form a contour may
+//! be reversed too.
 //!
 //! ```
 //! use i_shape::int::canonical::CanonicalShape;
@@ -28,8 +29,8 @@ use crate::flat::OwnedShapes;
 /// Each call refuses with [`Error::UnsafePoint`] where a point isn't safe, and with
 /// [`Error::NoMemory`] where memory is refused.
 pub trait CanonicalShape<I: IntNumber> {
-    /// The forms of the outer contour and then of the holes, these sorted; `None` where the outer
-    /// contour collapses.
+    /// The forms of the outer contour and then of the holes that don't collapse, these sorted;
+    /// `None` where the outer contour collapses. An empty shape is its own form.
     fn try_canonical(&self) -> Result<Option<IntShape<I>>, Error>;
 
     /// The canonical form, `None` where the outer contour collapses.

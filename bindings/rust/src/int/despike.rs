@@ -79,12 +79,13 @@ impl<I: IntNumber> DeSpikeContour<I> for [IntPoint<I>] {
     }
 }
 
-/// The test and the removal of spikes, of a shape. Calls refuse as those of [`DeSpikeContour`] do.
+/// The test and the removal of spikes, of a shape. Calls refuse as those of [`DeSpikeContour`] do;
+/// the test ends at the first contour that fails it, and reads none behind it.
 pub trait DeSpikeShape<I: IntNumber> {
-    /// Whether no contour has spikes.
+    /// Whether each contour passes [`DeSpikeContour::try_has_no_spikes`].
     fn try_has_no_spikes(&self) -> Result<bool, Error>;
 
-    /// Whether no contour has spikes.
+    /// Whether each contour passes [`DeSpikeContour::has_no_spikes`].
     ///
     /// # Panics
     ///
@@ -94,9 +95,9 @@ pub trait DeSpikeShape<I: IntNumber> {
         answered(self.try_has_no_spikes())
     }
 
-    /// The shape with each contour that has spikes despiked, and without the holes that collapse;
-    /// `None` where its outer contour does. A contour without spikes stays as it is, and so does an
-    /// empty shape.
+    /// The shape with each contour despiked that fails the test, and without the holes that
+    /// collapse; `None` where its outer contour does. A contour that passes the test stays as it
+    /// is, and so does an empty shape.
     fn try_despiked_shape(&self) -> Result<Option<IntShape<I>>, Error>;
 
     /// The shape without spikes, as [`try_despiked_shape`](DeSpikeShape::try_despiked_shape) says.
@@ -124,12 +125,12 @@ impl<I: IntNumber> DeSpikeShape<I> for [IntContour<I>] {
 }
 
 /// The test and the removal of spikes, of a list of shapes. Calls refuse as those of
-/// [`DeSpikeContour`] do.
+/// [`DeSpikeShape`] do.
 pub trait DeSpikeShapes<I: IntNumber> {
-    /// Whether no contour of a shape has spikes.
+    /// Whether each contour of each shape passes [`DeSpikeContour::try_has_no_spikes`].
     fn try_has_no_spikes(&self) -> Result<bool, Error>;
 
-    /// Whether no contour of a shape has spikes.
+    /// Whether each contour of each shape passes [`DeSpikeContour::has_no_spikes`].
     ///
     /// # Panics
     ///
@@ -171,9 +172,9 @@ impl<I: IntNumber> DeSpikeShapes<I> for [IntShape<I>] {
 /// The removal of spikes in place, of a contour, a shape or a list of shapes.
 pub trait DeSpike {
     /// Removes spikes. A contour that collapses, and a shape whose outer contour does, is empty
-    /// then; holes that collapse, and such shapes of a list, are taken out. False where no contour
-    /// has spikes: then nothing changes. It refuses as [`DeSpikeContour`] says, and changes nothing
-    /// then.
+    /// then; holes that collapse, and such shapes of a list, are taken out. False where each
+    /// contour passes [`DeSpikeContour::try_has_no_spikes`]: then nothing changes. It refuses as
+    /// [`DeSpikeContour`] says, and changes nothing then.
     fn try_remove_spikes(&mut self) -> Result<bool, Error>;
 
     /// Removes spikes, as [`try_remove_spikes`](DeSpike::try_remove_spikes) says.

@@ -14,7 +14,10 @@ pub type IntPaths<I> = Vec<IntPath<I>>;
 
 /// Tests of a contour as a whole, and how often it winds about points.
 ///
-/// Those about many points take memory for their answers alone; the others take none.
+/// Those about many points take memory for their answers, [`contains_points`] for the winding
+/// numbers too; the others take none.
+///
+/// [`contains_points`]: ContourExtension::contains_points
 ///
 /// ```
 /// use i_shape::{FillRule, int::IntPoint, int::path::ContourExtension, int_path};
@@ -106,7 +109,7 @@ pub trait ContourExtension<I: IntNumber> {
 
     /// How often the contour winds about each of the points. [`Error::UnsafePoint`] where one of
     /// them or of the contour isn't safe, [`Error::NoMemory`] where there is none for the answer.
-    /// It passes over the contour once for each point.
+    /// It goes over the contour again for each point.
     fn try_winding_numbers(&self, points: &[IntPoint<I>]) -> Result<Vec<isize>, Error>;
 
     /// How often the contour winds about each of the points.

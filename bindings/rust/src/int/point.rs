@@ -92,7 +92,8 @@ const _: () = assert!(is_laid_out::<i16>() && is_laid_out::<i32>() && is_laid_ou
 /// ```
 ///
 /// The compiler refuses a struct with another layout. `repr(C)` is how a struct promises its
-/// layout; without it the compiler may refuse the struct one day. A third field is refused:
+/// layout; without it the compiler may refuse the struct one day. A third field is refused, unless
+/// it has no size:
 ///
 /// ```compile_fail
 /// #[repr(C)]
@@ -101,7 +102,7 @@ const _: () = assert!(is_laid_out::<i16>() && is_laid_out::<i32>() && is_laid_ou
 /// i_shape::contour_point!(Labelled { x, y }: i32);
 /// ```
 ///
-/// So are coordinates that aren't aligned, in another order, of another width, and references:
+/// So are coordinates that aren't aligned, in another order, of another type, and references:
 ///
 /// ```compile_fail
 /// #[repr(C, packed)]

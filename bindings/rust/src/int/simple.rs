@@ -28,8 +28,8 @@ pub trait SimpleContour<I: IntNumber> {
         answered(self.try_is_simple())
     }
 
-    /// The contour without zero turns: the one end of removing them in any order. `None` where it
-    /// collapses.
+    /// The contour without zero turns: the one end, but for its start, of removing them in any
+    /// order. `None` where it collapses.
     fn try_simplified(&self) -> Result<Option<IntContour<I>>, Error>;
 
     /// The contour without zero turns, `None` where it collapses.
@@ -154,7 +154,7 @@ impl<I: IntNumber> SimpleContour<I> for [IntPoint<I>] {
 }
 
 /// The test and the removal of zero turns, of a shape. Calls refuse as those of [`SimpleContour`]
-/// do.
+/// do; the test ends at the first contour that isn't simple, and reads none behind it.
 pub trait SimpleShape<I: IntNumber> {
     /// Whether each contour is simple.
     fn try_is_simple(&self) -> Result<bool, Error>;
@@ -198,7 +198,7 @@ impl<I: IntNumber> SimpleShape<I> for [IntContour<I>] {
 }
 
 /// The test and the removal of zero turns, of a list of shapes. Calls refuse as those of
-/// [`SimpleContour`] do.
+/// [`SimpleShape`] do.
 pub trait SimpleShapes<I: IntNumber> {
     /// Whether each contour of each shape is simple.
     fn try_is_simple(&self) -> Result<bool, Error>;

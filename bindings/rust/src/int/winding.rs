@@ -12,8 +12,8 @@ use crate::{Error, FillRule};
 /// by that.
 ///
 /// Each call refuses with [`Error::UnsafePoint`] where a point of the shape or one that is asked
-/// about isn't safe. Those about many points copy the contours, and refuse with [`Error::NoMemory`]
-/// where memory is refused.
+/// about isn't safe; of an empty shape those about one point don't test it. Those about many points
+/// copy the contours, and refuse with [`Error::NoMemory`] where memory is refused.
 pub trait ShapeExtension<I: IntNumber> {
     /// The sum of the contours' winding numbers about `point`.
     fn try_winding_number(&self, point: IntPoint<I>) -> Result<isize, Error>;

@@ -8,7 +8,8 @@ use std::ops::Range;
 use std::slice;
 
 /// Lends its paths, in order and as often as it is asked, without a copy. Empty paths are lent too.
-/// Of shapes the contours are lent, one shape after the other.
+/// Of shapes the contours are lent, one shape after the other; of a flat buffer those of its
+/// contours' ranges, in their order.
 pub trait IntShapeResource<I: IntNumber> {
     /// What goes over the paths.
     type ResourceIter<'a>: Iterator<Item = &'a [IntPoint<I>]>
@@ -59,7 +60,8 @@ impl<I: IntNumber> IntShapeResource<I> for [IntShape<I>] {
     }
 }
 
-/// What goes over the ranges of a buffer. It panics where a range doesn't lie within the points.
+/// What goes over the ranges of a buffer. It panics at a range that runs backwards or doesn't lie
+/// within the points.
 #[derive(Clone, Debug)]
 pub struct BufferPaths<'a, I> {
     points: &'a [IntPoint<I>],
