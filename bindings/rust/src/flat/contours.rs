@@ -58,7 +58,7 @@ macro_rules! cleaners {
             /// [`Error::Unfit`] where `out_points` is shorter than [`points`](Contours::points) or
             /// `out_offsets` than [`offsets`](Contours::offsets); [`Error::UnsafePoint`] where a
             /// point of a contour isn't safe; [`Error::NoMemory`] where memory is refused: then the
-            /// fronts of both may be written, as far as these are long.
+            /// front of each, of the length that is asked of it, may be written.
             pub fn $try_into(
                 self,
                 out_points: &mut [IntPoint<I>],
