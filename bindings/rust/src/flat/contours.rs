@@ -1,6 +1,6 @@
 //! Contours end to end in one list of points.
 
-use super::offsets::{append, are_fit, ranges, try_from_lengths, try_rebased};
+use super::offsets::{append, are_fit, ranges, try_append_part, try_rebased, try_sum};
 use crate::calls::{CleanMany, clean_many, holds, overwritten, windings};
 use crate::error::answered;
 use crate::int::{IntNumber, IntPoint};
@@ -298,10 +298,12 @@ impl<I: IntNumber> OwnedContours<I> {
     /// A copy of the contours, end to end. [`Error::Unfit`] where they have more points together
     /// than a `usize` holds, [`Error::NoMemory`] where memory is refused.
     pub fn try_from_contours<C: AsRef<[IntPoint<I>]>>(contours: &[C]) -> Result<Self, Error> {
-        let offsets = try_from_lengths(contours.iter().map(|contour| contour.as_ref().len()))?;
-        let mut points = with_room(offsets[contours.len()])?;
+        let count = try_sum(contours.iter().map(|contour| contour.as_ref().len()))?;
+        let mut points = with_room(count)?;
+        let mut offsets = with_room(contours.len().saturating_add(1))?;
+        offsets.push(0);
         for contour in contours {
-            points.extend_from_slice(contour.as_ref());
+            try_append_part(&mut points, &mut offsets, contour.as_ref())?;
         }
         Ok(OwnedContours { points, offsets })
     }

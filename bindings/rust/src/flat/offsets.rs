@@ -75,6 +75,24 @@ pub fn from_ranges(ranges: &[Range<usize>]) -> Vec<usize> {
     answered(try_from_ranges(ranges))
 }
 
+/// The sum of the lengths. [`Error::Unfit`] where a `usize` doesn't hold it.
+pub(super) fn try_sum(mut lengths: impl Iterator<Item = usize>) -> Result<usize, Error> {
+    lengths.try_fold(0, usize::checked_add).ok_or(Error::Unfit)
+}
+
+/// Appends a part to the items, and its end. It takes no memory where there is room for both.
+pub(super) fn try_append_part<T: Copy>(
+    items: &mut Vec<T>,
+    ends: &mut Vec<usize>,
+    part: &[T],
+) -> Result<(), Error> {
+    try_reserve(items, part.len())?;
+    try_reserve(ends, 1)?;
+    items.extend_from_slice(part);
+    ends.push(items.len());
+    Ok(())
+}
+
 /// The range of each part.
 pub(super) fn ranges(offsets: &[usize]) -> impl ExactSizeIterator<Item = Range<usize>> {
     offsets.windows(2).map(|ends| ends[0]..ends[1])

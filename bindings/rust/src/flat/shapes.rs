@@ -1,7 +1,7 @@
 //! Polygons end to end in one list of points.
 
 use super::contours::Contours;
-use super::offsets::{append, are_fit, ranges, try_from_lengths, try_rebased};
+use super::offsets::{append, are_fit, ranges, try_append_part, try_rebased, try_sum};
 use crate::Error;
 use crate::calls::{CleanShapes, clean_shapes, holds, overwritten};
 use crate::error::answered;
@@ -285,20 +285,21 @@ impl<I: IntNumber> OwnedShapes<I> {
         }
     }
 
-    /// A copy of the polygons, end to end. [`Error::Unfit`] where they have more contours together
-    /// than a `usize` holds, [`Error::NoMemory`] where memory is refused.
+    /// A copy of the polygons, end to end. [`Error::Unfit`] where they have more contours or points
+    /// together than a `usize` holds, [`Error::NoMemory`] where memory is refused.
     pub fn try_from_shapes<S: AsRef<[IntContour<I>]>>(shapes: &[S]) -> Result<Self, Error> {
-        let ends = try_from_lengths(shapes.iter().map(|shape| shape.as_ref().len()))?;
-        let mut contours = with_room(ends[shapes.len()].saturating_add(1))?;
-        let mut end = 0;
-        contours.push(end);
-        for contour in shapes.iter().flat_map(AsRef::as_ref) {
-            end += contour.len();
-            contours.push(end);
-        }
-        let mut points = with_room(end)?;
-        for contour in shapes.iter().flat_map(AsRef::as_ref) {
-            points.extend_from_slice(contour);
+        let contour_count = try_sum(shapes.iter().map(|shape| shape.as_ref().len()))?;
+        let count = try_sum(shapes.iter().flat_map(AsRef::as_ref).map(Vec::len))?;
+        let mut points = with_room(count)?;
+        let mut contours = with_room(contour_count.saturating_add(1))?;
+        let mut ends = with_room(shapes.len().saturating_add(1))?;
+        contours.push(0);
+        ends.push(0);
+        for shape in shapes {
+            for contour in shape.as_ref() {
+                try_append_part(&mut points, &mut contours, contour)?;
+            }
+            ends.push(contours.len() - 1);
         }
         Ok(OwnedShapes {
             points,

@@ -12,8 +12,8 @@ use crate::{Error, FillRule};
 /// by that.
 ///
 /// Each call refuses with [`Error::UnsafePoint`] where a point of the shape or one that is asked
-/// about isn't safe; of an empty shape those about one point don't test it. Those about many points
-/// copy the contours, and refuse with [`Error::NoMemory`] where memory is refused.
+/// about isn't safe. Those about many points copy the contours, and refuse with
+/// [`Error::NoMemory`] where an allocation fails.
 pub trait ShapeExtension<I: IntNumber> {
     /// The sum of the contours' winding numbers about `point`.
     fn try_winding_number(&self, point: IntPoint<I>) -> Result<isize, Error>;
@@ -79,6 +79,9 @@ pub trait ShapeExtension<I: IntNumber> {
 
 impl<I: IntNumber> ShapeExtension<I> for [IntContour<I>] {
     fn try_winding_number(&self, point: IntPoint<I>) -> Result<isize, Error> {
+        if !point.is_in_safe_range() {
+            return Err(Error::UnsafePoint);
+        }
         self.iter()
             .map(|contour| contour.try_winding_number(point))
             .sum()

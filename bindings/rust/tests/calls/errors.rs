@@ -297,6 +297,24 @@ fn points_asked_about<I: Number>() {
         winding_numbers,
         &[outside]
     );
+    for shape in [vec![], vec![given]] {
+        refuses!(error, shape, try_winding_number, winding_number, outside);
+        refuses!(
+            error,
+            shape,
+            try_contains_by,
+            contains_by,
+            outside,
+            FillRule::NonZero
+        );
+        refuses!(
+            error,
+            shape,
+            try_winding_numbers,
+            winding_numbers,
+            &[outside]
+        );
+    }
 }
 
 fn slices_that_are_too_short<I: Number>() {

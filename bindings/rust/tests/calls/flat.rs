@@ -13,11 +13,13 @@ use i_shape::int::shape::IntContour;
 use i_shape::int::simple::SimpleContour;
 use i_shape::source::int::resource::IntShapeResource;
 use i_shape::{Error, FillRule};
+use std::cell::Cell;
 
 at_each_width!(
     contours_as_one_by_one,
     contours_into_slices,
     contours_behind_an_offset,
+    lists_that_grow_between_two_looks,
     contours_tested,
     contours_measured,
     parts_of_contours,
@@ -486,4 +488,34 @@ fn buffers_of_shapes<I: Number>() {
     assert_eq!(buffer.to_shapes(), given[2..]);
     buffer.clear_and_reserve(5, 1, 1);
     assert_eq!(buffer, FlatShapesBuffer::default());
+}
+
+/// A list that has one item more each time it is looked at.
+struct Growing<T> {
+    items: Vec<T>,
+    looks: Cell<usize>,
+}
+
+impl<T> Growing<T> {
+    fn new(items: Vec<T>) -> Self {
+        let looks = Cell::new(0);
+        Growing { items, looks }
+    }
+}
+
+impl<T> AsRef<[T]> for Growing<T> {
+    fn as_ref(&self) -> &[T] {
+        self.looks.set(self.looks.get() + 1);
+        &self.items[..self.looks.get()]
+    }
+}
+
+fn lists_that_grow_between_two_looks<I: Number>() {
+    let contours = [(); 2].map(|_| Growing::new(contour::<I>(&SQUARE)));
+    let (points, offsets) = OwnedContours::from_contours(&contours).into_parts();
+    assert_eq!(offsets.last(), Some(&points.len()));
+    let shapes = [(); 2].map(|_| Growing::new(shape::<I>(&[&SQUARE, &HOLE, &STAR])));
+    let (points, contours, shapes) = OwnedShapes::from_shapes(&shapes).into_parts();
+    assert_eq!(contours.last(), Some(&points.len()));
+    assert_eq!(shapes.last(), Some(&(contours.len() - 1)));
 }
