@@ -40,7 +40,7 @@ public:
         case Code::unfit: return "i_shape: the offsets don't part the points, or the array of the answer is too short";
         case Code::no_memory: break;
         }
-        return "i_shape: memory was refused";
+        return "i_shape: out of memory";
     }
 
 private:

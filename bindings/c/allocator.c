@@ -16,7 +16,7 @@ struct tried rattle_alloc(size_t size, size_t align);
 struct tried rattle_realloc(void *at, size_t kept, size_t size, size_t align);
 void rattle_dealloc(void *at);
 
-/* Where memory is refused, the address is one that nothing is read from. */
+/* Where an allocation fails, the address is one that nothing is read from. */
 static struct tried tried(void *at) {
     static char nothing;
     struct tried answer = {at != NULL, at ? at : &nothing};

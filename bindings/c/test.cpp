@@ -171,7 +171,7 @@ private:
         case i_shape::Code::unfit: return "the offsets don't part the points";
         case i_shape::Code::no_memory: break;
         }
-        return "memory was refused";
+        return "out of memory";
     }
 
     const char *kind_;

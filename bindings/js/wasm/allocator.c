@@ -104,7 +104,7 @@ void rattle_dealloc(void *at) {
     give(at);
 }
 
-/* What the host calls: a block for what it passes, null where memory is refused; to give it back; and how many bytes are taken. They are exported by
+/* What the host calls: a block for what it passes, null where an allocation fails; to give it back; and how many bytes are taken. They are exported by
  * assembly, since the attribute export_name would give the module a table of functions, whose 64-bit limits Node 20 doesn't read. */
 __asm__(".export_name i_shape_take, i_shape_take\n"
         ".export_name i_shape_give, i_shape_give\n"

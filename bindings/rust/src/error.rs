@@ -26,7 +26,7 @@ impl fmt::Display for Error {
             Error::Unfit => {
                 "the offsets don't part the points, or a slice for the answer is too short"
             }
-            Error::NoMemory => "memory was refused",
+            Error::NoMemory => "out of memory",
             Error::NoPoint => "a contour has no point, and so no area",
         })
     }

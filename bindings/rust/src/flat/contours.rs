@@ -34,7 +34,7 @@ macro_rules! cleaners {
             /// A contour that collapses is empty, at its place.
             ///
             /// [`Error::UnsafePoint`] where a point of a contour isn't safe, [`Error::NoMemory`]
-            /// where memory is refused.
+            /// where an allocation fails.
             pub fn $try_cleaned(self) -> Result<OwnedContours<I>, Error> {
                 self.try_cleaned(I::$call)
             }
@@ -57,7 +57,7 @@ macro_rules! cleaners {
             ///
             /// [`Error::Unfit`] where `out_points` is shorter than [`points`](Contours::points) or
             /// `out_offsets` than [`offsets`](Contours::offsets); [`Error::UnsafePoint`] where a
-            /// point of a contour isn't safe; [`Error::NoMemory`] where memory is refused: then the
+            /// point of a contour isn't safe; [`Error::NoMemory`] where an allocation fails: then the
             /// front of each, of the length that is asked of it, may be written.
             pub fn $try_into(
                 self,
@@ -296,7 +296,7 @@ impl<I: IntNumber> OwnedContours<I> {
     }
 
     /// A copy of the contours, end to end. [`Error::Unfit`] where they have more points together
-    /// than a `usize` holds, [`Error::NoMemory`] where memory is refused.
+    /// than a `usize` holds, [`Error::NoMemory`] where an allocation fails.
     pub fn try_from_contours<C: AsRef<[IntPoint<I>]>>(contours: &[C]) -> Result<Self, Error> {
         let count = try_sum(contours.iter().map(|contour| contour.as_ref().len()))?;
         let mut points = with_room(count)?;
@@ -319,7 +319,7 @@ impl<I: IntNumber> OwnedContours<I> {
         answered(OwnedContours::try_from_contours(contours))
     }
 
-    /// Appends contours. [`Error::NoMemory`] where memory is refused; then nothing is appended.
+    /// Appends contours. [`Error::NoMemory`] where an allocation fails; then nothing is appended.
     pub fn try_extend(&mut self, contours: Contours<'_, I>) -> Result<(), Error> {
         let points = &contours.points[contours.offsets[0]..];
         try_reserve(&mut self.points, points.len())?;

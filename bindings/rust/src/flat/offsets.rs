@@ -13,7 +13,7 @@ pub fn are_fit(offsets: &[usize], count: usize) -> bool {
 }
 
 /// The offsets of parts with these lengths, from 0 on. [`Error::Unfit`] where the lengths add up to
-/// more than a `usize` holds, [`Error::NoMemory`] where memory is refused.
+/// more than a `usize` holds, [`Error::NoMemory`] where an allocation fails.
 ///
 /// ```
 /// assert_eq!(i_shape::flat::offsets::try_from_lengths([3, 0, 4]), Ok(vec![0, 3, 3, 7]));
@@ -43,7 +43,8 @@ pub fn from_lengths(lengths: impl IntoIterator<Item = usize>) -> Vec<usize> {
 
 /// The offsets of the parts that the ranges name, as a [`buffer`](super::buffer) has them.
 /// [`Error::Unfit`] where a range ends before its start or starts elsewhere than where the one
-/// before it ends, [`Error::NoMemory`] where memory is refused. Of no range the offsets are `[0]`.
+/// before it ends, [`Error::NoMemory`] where an allocation fails. Of no range the offsets are
+/// `[0]`.
 ///
 /// ```
 /// use i_shape::{Error, flat::offsets::try_from_ranges};

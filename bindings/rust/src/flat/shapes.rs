@@ -52,7 +52,7 @@ macro_rules! cleaners {
             /// An empty polygon stays.
             ///
             /// [`Error::UnsafePoint`] where a point of a polygon isn't safe, [`Error::NoMemory`]
-            /// where memory is refused.
+            /// where an allocation fails.
             pub fn $try_cleaned(self) -> Result<OwnedShapes<I>, Error> {
                 self.try_cleaned(I::$call)
             }
@@ -286,7 +286,7 @@ impl<I: IntNumber> OwnedShapes<I> {
     }
 
     /// A copy of the polygons, end to end. [`Error::Unfit`] where they have more contours or points
-    /// together than a `usize` holds, [`Error::NoMemory`] where memory is refused.
+    /// together than a `usize` holds, [`Error::NoMemory`] where an allocation fails.
     pub fn try_from_shapes<S: AsRef<[IntContour<I>]>>(shapes: &[S]) -> Result<Self, Error> {
         let contour_count = try_sum(shapes.iter().map(|shape| shape.as_ref().len()))?;
         let count = try_sum(shapes.iter().flat_map(AsRef::as_ref).map(Vec::len))?;
@@ -318,7 +318,7 @@ impl<I: IntNumber> OwnedShapes<I> {
         answered(OwnedShapes::try_from_shapes(shapes))
     }
 
-    /// Appends polygons. [`Error::NoMemory`] where memory is refused; then nothing is appended.
+    /// Appends polygons. [`Error::NoMemory`] where an allocation fails; then nothing is appended.
     pub fn try_extend(&mut self, polygons: Shapes<'_, I>) -> Result<(), Error> {
         let contours = &polygons.contours[polygons.shapes[0]..];
         let points = &polygons.points[contours[0]..];
@@ -371,7 +371,7 @@ impl<I: IntNumber> OwnedShapes<I> {
     }
 
     /// A copy of the polygons, each contour in a vector of its own. [`Error::NoMemory`] where
-    /// memory is refused.
+    /// an allocation fails.
     pub fn try_to_shapes(&self) -> Result<IntShapes<I>, Error> {
         made_of_each(ranges(&self.shapes), |shape| {
             made_of_each(ranges(&self.contours[shape.start..=shape.end]), |contour| {

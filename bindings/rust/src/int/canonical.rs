@@ -27,7 +27,7 @@ use crate::flat::OwnedShapes;
 /// The canonical forms of a shape.
 ///
 /// Each call refuses with [`Error::UnsafePoint`] where a point isn't safe, and with
-/// [`Error::NoMemory`] where memory is refused.
+/// [`Error::NoMemory`] where an allocation fails.
 pub trait CanonicalShape<I: IntNumber> {
     /// The forms of the outer contour and then of the holes that don't collapse, these sorted;
     /// `None` where the outer contour collapses. An empty shape is its own form.

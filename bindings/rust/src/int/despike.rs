@@ -14,7 +14,7 @@ use crate::flat::OwnedShapes;
 ///
 /// Each call refuses with [`Error::UnsafePoint`] where a point isn't safe. Those that answer a
 /// contour, and those that clean a contour which isn't clean, refuse with [`Error::NoMemory`] where
-/// memory is refused.
+/// an allocation fails.
 pub trait DeSpikeContour<I: IntNumber> {
     /// Whether, without the points that equal the one before them on the cycle, at least three are
     /// left, and the way over them nowhere goes back.

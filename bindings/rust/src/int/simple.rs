@@ -13,7 +13,7 @@ use crate::flat::OwnedShapes;
 ///
 /// Each call refuses with [`Error::UnsafePoint`] where a point isn't safe. Those that answer a
 /// contour, and those that clean a contour which isn't clean, refuse with [`Error::NoMemory`] where
-/// memory is refused.
+/// an allocation fails.
 pub trait SimpleContour<I: IntNumber> {
     /// Whether there are at least three points, and none of them is a zero turn.
     fn try_is_simple(&self) -> Result<bool, Error>;

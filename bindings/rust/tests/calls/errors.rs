@@ -501,6 +501,6 @@ fn errors_have_texts() {
     assert!(texts.iter().all(|text| !text.is_empty()));
     assert!((1..4).all(|k| !texts[..k].contains(&texts[k])));
     let error: Box<dyn std::error::Error + Send + Sync> = Error::NoMemory.into();
-    assert_eq!(error.to_string(), "memory was refused");
+    assert_eq!(error.to_string(), "out of memory");
     assert!(OwnedShapes::<i32>::try_from_shapes(&[] as &[IntShape<i32>]).is_ok());
 }
