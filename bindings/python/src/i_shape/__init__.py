@@ -2,9 +2,9 @@
 
 A contour is an array of shape (n, 2) and dtype int16, int32 or int64, read
 as a cycle. Rings are many contours end to end in one array of points, with
-an array of offsets; polygons are rings with offsets of their own. Each call
-of the library below is proved to answer what is said of it; this package
-around it is tested.
+an array of offsets; polygons are rings with offsets of their own. What the
+calls of the C library below answer is proved; this package around them is
+tested.
 """
 
 from ._contours import (area_two, canonical, contains, despike,

@@ -1,4 +1,4 @@
-"""Cleans the polygons of a file: ``python -m i_shape simplify IN OUT``.
+"""Cleans a file's polygons: ``python -m i_shape simplify IN OUT --step S``.
 
 What is read are files of GeoJSON or WKT; their floats are rounded onto a
 grid, cleaned there, and brought back.
@@ -105,7 +105,8 @@ def main(words: Optional[Sequence[str]] = None) -> int:
     """Run the command, and return its status.
 
     It is 0 where all went well, 1 after an error, which is told of on
-    standard error, and 130 where it was interrupted. OUT is replaced last.
+    standard error, and 130 where it was interrupted. Words that aren't
+    understood end the program with 2. OUT is replaced last.
     """
     options = _options(words)
     try:

@@ -55,12 +55,12 @@ def simplify(points: npt.NDArray[Int]) -> Optional[npt.NDArray[Int]]:
         A coordinate isn't strictly between ``-2**(W-2)`` and ``2**(W-2)``
         for a dtype of ``W`` bits; ``point`` is its row.
     TypeError
-        The dtype is another one: floats, unsigned numbers, booleans,
-        objects, or another byte order.
+        The dtype is another one, as of floats, unsigned numbers, booleans,
+        objects or another byte order, or the array is masked.
     ValueError
         The shape isn't (n, 2).
     MemoryError
-        Memory was refused.
+        An allocation failed.
 
     See also
     --------
@@ -169,7 +169,7 @@ def area_two(points: npt.NDArray[Int]) -> Optional[int]:
         where the contour turns left (y goes up); None where there is no
         point. It is reduced to twice the bits of the dtype, 32, 64 or 128:
         a sum that doesn't fit wraps, which takes a contour beyond the safe
-        range or one that winds round many times.
+        range or one that winds round more than once.
 
     Raises
     ------
@@ -206,7 +206,7 @@ def _test(name: str, points: npt.NDArray[Int]) -> bool:
 def is_simple(points: npt.NDArray[Int]) -> bool:
     """Return whether there are at least three points and no zero turn.
 
-    Exactly then :func:`simplify` has nothing to remove. Edges that cross
+    Exactly then :func:`simplify` answers the same points. Edges that cross
     one another are not looked for.
 
     Parameters
@@ -301,7 +301,7 @@ def is_convex(points: npt.NDArray[Int]) -> bool:
 
 
 def is_safe(points: npt.NDArray[Int]) -> bool:
-    """Return whether each point is safe, as cleaners and tests ask for.
+    """Return whether each point is safe, as cleaners and tests ask.
 
     Parameters
     ----------
@@ -335,8 +335,8 @@ def is_safe(points: npt.NDArray[Int]) -> bool:
 def contains(points: npt.NDArray[Int], point: Sequence[int]) -> bool:
     """Return whether the point lies inside the contour.
 
-    It does where an odd number of edges pass its height to the right of
-    it. Of points on an edge some are inside and others aren't.
+    It does where an odd number of edges pass its height strictly to the
+    right of it. Of points on an edge some are inside and others aren't.
 
     Parameters
     ----------
@@ -357,7 +357,8 @@ def contains(points: npt.NDArray[Int], point: Sequence[int]) -> bool:
     TypeError
         As :func:`simplify` does, and where x or y isn't a whole number.
     ValueError
-        As :func:`simplify` does.
+        As :func:`simplify` does, and where ``point`` has fewer or more
+        than two numbers.
 
     Examples
     --------

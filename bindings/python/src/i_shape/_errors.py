@@ -15,8 +15,10 @@ class UnsafePointError(ValueError):
     Attributes
     ----------
     ring : int or None
-        Index of the first ring that has an unsafe point; None where the
-        call takes one contour.
+        Index of the first ring that has an unsafe point; None for a call on
+        one contour or on points alone, but 0 for a contour of
+        :func:`i_shape.winding_numbers` and :func:`i_shape.contains_points`;
+        None where it is a point that a call is asked about.
     point : int or None
         Row of the first unsafe point in ``points``; None where it is a
         point that a call is asked about, as :func:`i_shape.contains` is.
@@ -33,5 +35,7 @@ class OffsetsError(ValueError):
     """The offsets do not part the points, or the rings.
 
     There is no offset, one is below 0 or below the one before it, or the
-    last one is above the number of points (of rings, for polygons).
+    last one is above the number of points (of rings, for polygons; of
+    polygons, for features). :func:`i_shape.io.narrow_offsets` raises it
+    where an offset is below 0 or has no room in 32 bits.
     """

@@ -77,7 +77,7 @@ def is_simple_rings(points: npt.NDArray[Int], offsets: npt.ArrayLike, *,
     OffsetsError, UnsafePointError, TypeError, ValueError
         As :func:`simplify_rings` does.
     MemoryError
-        There is none for the answer.
+        An allocation failed, or a thread could not be started.
 
     Examples
     --------

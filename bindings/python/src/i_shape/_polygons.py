@@ -23,8 +23,8 @@ Triple = Tuple[npt.NDArray[Any], npt.ArrayLike, npt.ArrayLike]
 class Polygons(NamedTuple):
     """Polygons end to end.
 
-    Polygon p has the rings ``polygon_offsets[p]`` to
-    ``polygon_offsets[p + 1]``, the outer one first, and ring k is
+    Polygon j has the rings from ``polygon_offsets[j]`` to before
+    ``polygon_offsets[j + 1]``, the outer one first, and ring k is
     ``points[ring_offsets[k]:ring_offsets[k + 1]]``.
 
     Attributes
@@ -143,10 +143,11 @@ def simplify_polygons(points: npt.NDArray[Int], ring_offsets: npt.ArrayLike,
         Ring k is ``points[ring_offsets[k]:ring_offsets[k + 1]]``.
     polygon_offsets : array of shape (p + 1,), of whole numbers
         The rings of polygon j are those from ``polygon_offsets[j]`` to
-        ``polygon_offsets[j + 1]``; the first of them is the outer one.
-        Rings and points outside the offsets aren't read.
+        before ``polygon_offsets[j + 1]``; the first of them is the outer
+        one. Rings and points outside the offsets aren't read.
     threads : int
-        As for :func:`simplify_rings`.
+        How many threads clean a part of the polygons each, at most as many
+        as there are processors. The answer is the same.
 
     Returns
     -------
@@ -184,8 +185,8 @@ def despike_polygons(points: npt.NDArray[Int], ring_offsets: npt.ArrayLike,
     """Return each polygon without the spikes of its rings.
 
     It is :func:`simplify_polygons`, but a ring is left as :func:`despike`
-    answers it, with vertices that lie on an edge, and a ring that
-    :func:`has_no_spikes` stays as it is, with points that repeat.
+    answers it, with vertices that lie on an edge, and a ring without spikes
+    (:func:`has_no_spikes`) stays as it is, with points that repeat.
 
     Parameters
     ----------
@@ -234,10 +235,10 @@ def canonical_polygons(points: npt.NDArray[Int], ring_offsets: npt.ArrayLike,
     collapse, sorted ring by ring. Lists are compared item by item, and
     points by x and then by y. A polygon without rings is its own form.
 
-    Two lists have equal forms where one becomes the other by these moves:
-    a ring is turned to another start, loses a zero turn or gains one; holes
-    or polygons are put in another order; a hole that collapses, or a
-    polygon whose outer ring does, goes or comes.
+    Two lists have equal forms exactly where one becomes the other by these
+    moves: a ring is turned to another start, loses a zero turn or gains
+    one; holes or polygons are put in another order; a hole that collapses,
+    or a polygon whose outer ring does, goes or comes.
 
     The answer is that of a proved call.
 
@@ -248,11 +249,10 @@ def canonical_polygons(points: npt.NDArray[Int], ring_offsets: npt.ArrayLike,
     polygon_offsets : array of shape (p + 1,), of whole numbers
         As for :func:`simplify_polygons`.
     oriented : bool
-        False lets a ring be read backwards too: its form is then the least
-        of those of both ways.
+        False lets a ring be read backwards too: its form is then the
+        lesser of those of both ways.
     threads : int
-        At least 1. One thread makes the form, however many are allowed: to
-        put the forms of parts in order takes longer.
+        At least 1. One thread makes the form, however many are allowed.
 
     Returns
     -------
@@ -296,7 +296,8 @@ def same_polygons(a: Triple, b: Triple, *, oriented: bool = True,
     oriented : bool
         False lets a ring be read backwards too.
     threads : int
-        At least 1. With more, each of the two forms has a thread.
+        At least 1. With more, each of the two forms has a thread, if there
+        is more than one processor.
 
     Returns
     -------

@@ -50,7 +50,8 @@ def _clean_part(call: Any, points: Array, offsets: Array,
 
 
 def equal_cuts(offsets: Array, parts: int) -> list[int]:
-    """The rings at which to part the work: equal sums of points and rings."""
+    """The rings at which to part the work, so that the sums of points and
+    rings are about equal."""
     work = offsets + np.arange(len(offsets))
     whole = int(work[-1]) - int(work[0])
     goals = [int(work[0]) + whole * part // parts for part in range(1, parts)]
@@ -145,7 +146,8 @@ def simplify_rings(points: npt.NDArray[Int], offsets: npt.ArrayLike, *,
     offsets : array of shape (m + 1,), of whole numbers
         Ring k is ``points[offsets[k]:offsets[k + 1]]``, read as a cycle:
         the last point isn't the first one again. The first offset need not
-        be 0, and points outside the offsets aren't read. They are copied.
+        be 0, and points outside the offsets aren't read. Offsets are
+        copied.
     threads : int
         How many threads clean a part of the rings each, at most as many as
         there are processors. The answer is the same.
@@ -162,18 +164,20 @@ def simplify_rings(points: npt.NDArray[Int], offsets: npt.ArrayLike, *,
     ------
     OffsetsError
         There is no offset, one is below 0 or below the one before it, or
-        the last one is above n. This is tested first.
+        the last one is above n. Offsets are tested before it is tested
+        whether points are safe.
     UnsafePointError
         A coordinate of a ring isn't strictly between ``-2**(W-2)`` and
         ``2**(W-2)`` for a dtype of ``W`` bits; ``ring`` is the first such
         ring and ``point`` the row of its first such point.
     TypeError
-        ``points`` have another dtype (floats, unsigned numbers, booleans,
-        objects, another byte order), or ``offsets`` aren't whole numbers.
+        ``points`` have another dtype (as floats, unsigned numbers, booleans,
+        objects, another byte order), ``offsets`` or ``threads`` aren't whole
+        numbers, or an array is masked.
     ValueError
         A shape is another one, or ``threads`` is below 1.
     MemoryError
-        Memory was refused.
+        An allocation failed, or a thread could not be started.
 
     Examples
     --------

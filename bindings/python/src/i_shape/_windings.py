@@ -29,10 +29,11 @@ _RULES: dict[str, Any] = {
 def winding_number(points: npt.NDArray[Int], point: Sequence[int]) -> int:
     """Return how often the contour winds about the point, to the left.
 
-    It is how many edges pass the height of the point upwards and to the
-    right of it, less those that do so downwards: 1 inside of a ring that
-    is wound against the clock, -1 inside of one that is wound clockwise.
-    Cleaning keeps it.
+    It is how many edges pass the height of the point upwards and strictly
+    to the right of it, less those that do so downwards: 1 inside of a square
+    that is wound against the clock, -1 inside of one that is wound
+    clockwise. Cleaning keeps it, but for its sign where
+    :func:`canonical` reads the contour backwards.
 
     Parameters
     ----------
@@ -53,7 +54,8 @@ def winding_number(points: npt.NDArray[Int], point: Sequence[int]) -> int:
     TypeError
         As :func:`simplify` does, and where x or y isn't a whole number.
     ValueError
-        As :func:`simplify` does.
+        As :func:`simplify` does, and where ``point`` has fewer or more
+        than two numbers.
 
     Examples
     --------
@@ -112,7 +114,8 @@ def winding_numbers(contours: Contours[Int], about: npt.NDArray[Int], *,
     ------
     UnsafePointError
         One of ``about`` isn't safe (then ``ring`` and ``point`` are None),
-        or a point of a contour (they tell which; ``ring`` is 0 of one).
+        or a point of a contour (they tell which; ``ring`` is 0 where one
+        contour is given).
     OffsetsError
         The offsets of the rings don't part their points.
     TypeError
@@ -120,7 +123,7 @@ def winding_numbers(contours: Contours[Int], about: npt.NDArray[Int], *,
     ValueError
         A shape is another one, or ``threads`` is below 1.
     MemoryError
-        There is none for the answer, or a thread could not be started.
+        An allocation failed, or a thread could not be started.
 
     See also
     --------

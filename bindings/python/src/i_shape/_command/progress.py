@@ -1,4 +1,4 @@
-"""How far a long stage is: a line a second on standard error."""
+"""How far a long stage is: at most a line a second on standard error."""
 
 from __future__ import annotations
 
@@ -11,7 +11,7 @@ Item = TypeVar("Item")
 
 
 class Lines:
-    """A line a second, beginning after the first one; as tqdm is used."""
+    """At most a line a second, after the first one; as tqdm is used."""
 
     def __init__(self, stage: str, total: Optional[int] = None) -> None:
         self._stage = stage

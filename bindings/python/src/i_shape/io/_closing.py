@@ -111,7 +111,7 @@ def narrow_offsets(offsets: npt.ArrayLike) -> npt.NDArray[np.int32]:
     Raises
     ------
     OffsetsError
-        There is no offset, or one has no room in 32 bits.
+        There is no offset, or one is below 0 or has no room in 32 bits.
     TypeError, ValueError
         The array has another dtype or shape.
 

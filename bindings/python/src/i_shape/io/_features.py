@@ -65,8 +65,8 @@ def _parted(offsets: Array, item: int, name: str) -> Tuple[int, int]:
 class Features(NamedTuple):
     """Polygons end to end, and which of them each feature has.
 
-    Feature k has the polygons ``feature_offsets[k]`` to
-    ``feature_offsets[k + 1]`` of ``polygons``, whose points are float64 or
+    Feature k has the polygons from ``feature_offsets[k]`` to before
+    ``feature_offsets[k + 1]`` of ``polygons``, whose points are floats or
     whole numbers, and whose rings are open: the last point isn't the first
     one again. ``are_multi[k]`` is whether it is a multipolygon; one that
     isn't has a polygon or, if it is empty, none.

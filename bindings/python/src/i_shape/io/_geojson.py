@@ -114,15 +114,14 @@ def from_geojson(document: Mapping[str, Any]) -> Features:
     ----------
     document : mapping
         A FeatureCollection, a Feature, a Polygon or a MultiPolygon, as
-        ``json.load`` answers it, or what has a ``__geo_interface__`` tells
-        by it. Rings should be closed, as the format has it; one that
-        isn't is taken for open. A feature whose geometry is null has no
-        polygons.
+        ``json.load`` answers it, or the ``__geo_interface__`` of an object.
+        Rings should be closed, as the format has it; one that isn't is
+        taken for open. A feature whose geometry is null has no polygons.
 
     Returns
     -------
     Features
-        In float64: a whole number above 2**53 is rounded.
+        In float64: a number that it doesn't hold is rounded.
 
     Raises
     ------

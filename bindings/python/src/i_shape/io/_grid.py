@@ -106,10 +106,10 @@ def to_grid(points: npt.ArrayLike, grid: Grid,
     the nearest one, and halves to the even one, as float64 counts them.
 
     What the cleaners promise then holds for the rounded polygon, and not
-    for the one in floats. Each coordinate moves by up to half a step. So the
-    area changes; points get onto a line that were beside it, or leave it;
-    edges come to touch or cross; and a ring as thin as a step may
-    collapse.
+    for the one in floats. Each coordinate moves by up to half a step, as
+    float64 counts it. So the area may change; points may get onto a line
+    that were beside it, or leave it; edges may come to touch or cross; and a
+    ring as thin as a step may collapse.
 
     Parameters
     ----------
@@ -121,16 +121,18 @@ def to_grid(points: npt.ArrayLike, grid: Grid,
     Returns
     -------
     array of shape (n, 2)
-        Each of the points is safe: every call takes it.
+        In ``dtype``. Each of the points is safe.
 
     Raises
     ------
     UnsafePointError
         A coordinate would not be safe for ``dtype``, or isn't finite.
         ``point`` is the first such row; the message names the value, the
-        bound and the next wider dtype that has room for it.
+        bound and the next wider dtype that has room for it, if there is
+        one.
     TypeError
-        ``points`` aren't numbers, or ``dtype`` is another one.
+        ``points`` aren't whole numbers or floats, or ``dtype`` is another
+        one.
     ValueError
         The shape isn't (n, 2).
 
@@ -158,10 +160,10 @@ def from_grid(points: npt.NDArray[Any],
     What a call promised holds for the whole numbers. The floats are these
     exactly where the step is a power of two, the origin a multiple of the
     step, and no number of steps, nor the origin's and it together, above
-    2**53. Otherwise float64 rounds each, and points that
-    lie on one line of the grid may miss it by the last digit. Where no
-    number of steps, nor the origin's, is above 2**49, :func:`to_grid` leads
-    back to the same whole numbers.
+    2**53. Otherwise float64 rounds them, and points that lie on one line of
+    the grid may miss it by the last digits. Where no number of steps, nor
+    the origin's, is above 2**49, :func:`to_grid` leads back to the same
+    whole numbers. All this holds unless a float overflows.
 
     Parameters
     ----------
@@ -239,7 +241,7 @@ def features_from_grid(features: Features, grid: Grid) -> Features:
     """Bring features of a grid back to floats, as :func:`from_grid` does.
 
     What a call promised holds for the whole numbers, and for the floats
-    where they are the same points.
+    where these are exact.
 
     Parameters
     ----------

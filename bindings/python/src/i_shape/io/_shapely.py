@@ -66,8 +66,9 @@ def from_shapely(geometries: Iterable[Any]) -> Features:
     Parameters
     ----------
     geometries : iterable of Polygon or MultiPolygon
-        A list, an array or a GeoSeries. One of shapely 2 is read by
-        ``shapely.to_ragged_array``, and of 1.8 ring by ring.
+        A list, an array or a GeoSeries. Those of shapely 2 are read by
+        ``shapely.to_ragged_array`` where none is empty or has an empty
+        polygon, and else ring by ring, as those of 1.8 are.
 
     Returns
     -------
@@ -161,22 +162,22 @@ def to_shapely(features: Features) -> list[Any]:
     Parameters
     ----------
     features : Features
-        Of whole numbers or floats. A whole number above 2**53 is rounded.
+        Of whole numbers or floats. A whole number that float64 doesn't
+        hold is rounded.
 
     Returns
     -------
     list of Polygon and MultiPolygon
-        Empty ones for empty features. Rings turn as they did. They are
-        made by ``shapely.from_ragged_array`` where it is there and none is
-        empty.
+        Empty ones for empty features; a polygon without rings is left out
+        of a multipolygon. Rings turn as they did.
 
     Raises
     ------
     ImportError
         There is no shapely.
     FeatureError
-        A ring has fewer than three points, of which shapely makes no ring:
-        clean it first. Also as :func:`to_wkt` does.
+        A ring has fewer than three points: clean it first. Also as
+        :func:`to_wkt` does.
     OffsetsError, TypeError, ValueError
         The arrays of ``features`` don't fit one another.
 

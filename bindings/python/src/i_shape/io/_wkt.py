@@ -123,7 +123,7 @@ def from_wkt(texts: Iterable[str]) -> Features:
     Returns
     -------
     Features
-        In float64: a whole number above 2**53 is rounded.
+        In float64: a number that it doesn't hold is rounded.
 
     Raises
     ------
@@ -131,6 +131,8 @@ def from_wkt(texts: Iterable[str]) -> Features:
         A text is another geometry or none; a point doesn't have just two
         coordinates; a coordinate isn't a finite number. It names the
         feature, and the polygon, ring and point where there is one.
+    TypeError
+        ``texts`` are one text.
 
     See also
     --------
