@@ -1,4 +1,4 @@
-/** What is asked of the arrays that callers give, tested before any of it is copied. */
+/** What is tested of the arrays and numbers that callers give before they are copied into the module's memory. */
 import { OffsetsError } from "./errors.js";
 
 /** The types of points, each with its width and the least number above its safe range. */

@@ -1,6 +1,6 @@
 /** What the library's calls throw. */
 
-/** The library answered a code: nothing is answered otherwise. */
+/** What a code of the C library stands for: the call has answered nothing. */
 export class IShapeError extends Error {
     /** @param {number} code */
     constructor(code, message) {
@@ -30,7 +30,7 @@ export class OffsetsError extends IShapeError {
     }
 }
 
-/** Memory was refused. */
+/** An allocation in the module's memory failed. */
 export class OutOfMemoryError extends IShapeError {
     constructor() {
         super(-3, "memory was refused");

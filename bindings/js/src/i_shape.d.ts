@@ -41,21 +41,23 @@ export class UnsafePointError extends IShapeError {
 /** There is no offset, one is below 0 or below the one before it, or the last is above the number of points or rings. */
 export class OffsetsError extends IShapeError {}
 
-/** Memory was refused. */
+/** An allocation in the module's memory failed. */
 export class OutOfMemoryError extends IShapeError {}
 
-/** Whether the engine has memory of 64 bits, so that `i_shape64.wasm` can be loaded; each engine can load `i_shape32.wasm`. */
+/** Whether the engine has memory of 64 bits, which `i_shape64.wasm` needs; `i_shape32.wasm` doesn't. */
 export function supportsMemory64(): boolean;
 
-/** Instantiates the library from the bytes of one of the two modules, from what `fetch` gives for it, or from a compiled module. */
+/** Instantiates the library from the bytes of one of the two modules, what `fetch` gives for it, a compiled module, or a promise of one of these. */
 export function load(
     source: BufferSource | WebAssembly.Module | Response | PromiseLike<BufferSource | WebAssembly.Module | Response>,
 ): Promise<IShape>;
 
 /**
  * The calls. A contour is read as a cycle: the last point isn't the first one again. No call changes what it is given,
- * and each answer is a new array. A call throws a `TypeError` where an array or a number is of another type, and a
- * `RangeError` where points have an x without a y.
+ * and each array of an answer is a new one. A call throws a `TypeError` where an array or a number is of another type or
+ * a number isn't whole, a `RangeError` where points have an x without a y, an `OutOfMemoryError` where an allocation in the
+ * module's memory fails, an `OffsetsError` where offsets don't part the points or the rings, and an `UnsafePointError` where
+ * a point that it reads isn't safe; `isSafe`, `isSafeRings`, `areaTwo` and `areaTwoRings` take any points.
  */
 export interface IShape {
     /** `major.minor.patch`. */
@@ -64,7 +66,7 @@ export interface IShape {
     /** The bytes of the module's memory. It grows with the greatest call, and never shrinks. */
     readonly memoryBytes: number;
 
-    /** The bytes of it that are in use: 0 between two calls. */
+    /** The bytes of it that a call has taken: 0 between two calls. */
     readonly heldBytes: number;
 
     /**
@@ -84,7 +86,7 @@ export interface IShape {
     /** The lesser of the canonical forms of the contour and of the contour read backwards. Else as `simplify`. */
     canonicalUnoriented<P extends Points>(contour: P): Plain<P>;
 
-    /** Whether there are at least three points, and no zero turn: `simplify` has nothing to remove. */
+    /** Whether there are at least three points, and no zero turn: `simplify` has nothing to remove then. */
     isSimple(contour: Points): boolean;
 
     /** Whether at least three points are left without repeated ones, and the way over them nowhere turns back. */
@@ -93,7 +95,7 @@ export interface IShape {
     /** Whether at most two points are left without repeated ones, or the way over them nowhere turns back or bends to both sides. */
     isConvex(contour: Points): boolean;
 
-    /** Whether each point is safe, as all calls but this one, `areaTwo`, and these two of many rings ask. */
+    /** Whether each point is safe, as all calls but `isSafe`, `isSafeRings`, `areaTwo` and `areaTwoRings` ask. */
     isSafe(points: Points): boolean;
 
     /** Whether an odd number of edges pass the height of (x, y) strictly to the right of it. */
@@ -112,8 +114,8 @@ export interface IShape {
     areaTwo(contour: Points): bigint | undefined;
 
     /**
-     * Of each ring what `isSimple` answers. Points outside the offsets aren't read.
-     * @throws {OffsetsError} tested first
+     * Of each ring what `isSimple` answers. Points outside the offsets needn't be safe.
+     * @throws {OffsetsError} tested before whether points are safe
      * @throws {UnsafePointError}
      * @throws {OutOfMemoryError}
      */
@@ -130,8 +132,9 @@ export interface IShape {
     areaTwoRings(points: Points, offsets: Offsets): bigint[];
 
     /**
-     * Each ring as `simplify` leaves it; one that collapses is empty, and keeps its place. Points outside the offsets aren't read.
-     * @throws {OffsetsError} tested first
+     * Each ring as `simplify` leaves it; one that collapses is empty, and keeps its place. Points outside the offsets needn't be
+     * safe.
+     * @throws {OffsetsError} tested before whether points are safe
      * @throws {UnsafePointError}
      * @throws {OutOfMemoryError}
      */
@@ -146,15 +149,16 @@ export interface IShape {
     /**
      * The polygons with each ring as `simplify` leaves it, without holes that collapse and without polygons whose outer ring
      * does. A polygon without rings stays.
-     * @throws {OffsetsError} tested first
+     * @throws {OffsetsError} tested before whether points are safe
      * @throws {UnsafePointError} of rings that no polygon has, too
      * @throws {OutOfMemoryError}
      */
     simplifyPolygons<P extends Points>(points: P, ringOffsets: Offsets, polygonOffsets: Offsets): Polygons<P>;
 
+    /** The same with each ring as `despike` leaves it, but a ring without spikes as it is, with its repeated points. */
     despikePolygons<P extends Points>(points: P, ringOffsets: Offsets, polygonOffsets: Offsets): Polygons<P>;
 
-    /** The canonical form: holes and polygons sorted, so that two lists of the same polygons have equal answers. */
+    /** The canonical form: rings canonical, holes and polygons sorted, so that two lists of the same polygons have equal answers. */
     canonicalPolygons<P extends Points>(points: P, ringOffsets: Offsets, polygonOffsets: Offsets): Polygons<P>;
 
     /** The same where a ring may be read backwards too. */
