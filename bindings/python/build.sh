@@ -1,5 +1,5 @@
 #!/bin/sh
-# Builds the wheel of the Python package, with the library of `make c`, or of the folder I_SHAPE_C_DIR. It needs numpy, setuptools and wheel of the Python
+# Builds the wheel of the Python package, with the library of `make c`, or of the folder I_SHAPE_C_DIR. It needs setuptools and wheel of the Python
 # that $PYTHON names, and no network. $WHEEL_SYSTEM is the system of its tag, where that isn't linux.
 #
 # usage: build.sh [FOLDER]

@@ -33,6 +33,6 @@ export class OffsetsError extends IShapeError {
 /** An allocation in the module's memory failed. */
 export class OutOfMemoryError extends IShapeError {
     constructor() {
-        super(-3, "memory was refused");
+        super(-3, "out of memory");
     }
 }

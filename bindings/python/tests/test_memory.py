@@ -134,7 +134,7 @@ class Refusals(unittest.TestCase):
         told = subprocess.run([sys.executable, "-c", program], env=mapped,
                               capture_output=True, text=True, check=False)
         self.assertEqual((told.returncode, told.stderr), (0, ""))
-        word = "libi_shape was refused memory\n"
+        word = "libi_shape is out of memory\n"
         if told.stdout in [word * count for count in range(5)]:
             self.skipTest("the system gave memory beyond the limit")
         self.assertEqual(told.stdout, word * 5)

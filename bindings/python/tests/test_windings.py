@@ -100,6 +100,9 @@ class Windings(unittest.TestCase):
         none = i_shape.Rings(square, np.array([4]))
         self.assertEqual(i_shape.winding_numbers(none, square).tolist(),
                          [0] * 4)
+        for rings in (([], [0]), ([], [0, 0])):
+            self.assertEqual(
+                i_shape.winding_numbers(rings, [(1, 1)]).tolist(), [0])
 
     def test_what_is_refused(self):
         square = np.array([(0, 0), (4, 0), (4, 4), (0, 4)], np.int16)

@@ -238,7 +238,7 @@ def first_unsafe(points: Array) -> Optional[int]:
 def raise_code(code: int, points: Array) -> NoReturn:
     """Raises what a code of a call on one contour stands for."""
     if code == NO_MEMORY:
-        raise MemoryError("libi_shape was refused memory")
+        raise MemoryError("libi_shape is out of memory")
     assert code == UNSAFE, code
     point = first_unsafe(points)
     if point is None:

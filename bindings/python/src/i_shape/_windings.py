@@ -85,9 +85,12 @@ def _raise(code: int, points: Array, offsets: Array, about: Array) -> None:
 
 def _are_many(contours: Any) -> bool:
     """Whether they are points and offsets, and not one contour."""
-    return isinstance(contours, Rings) or (
-        isinstance(contours, tuple) and len(contours) == 2
-        and np.ndim(contours[0]) == 2)
+    if isinstance(contours, Rings):
+        return True
+    if not isinstance(contours, tuple) or len(contours) != 2:
+        return False
+    points = contours[0]
+    return np.ndim(points) == 2 or np.size(points) == 0
 
 
 def winding_numbers(contours: Contours[Int], about: npt.NDArray[Int], *,
