@@ -15,6 +15,7 @@ pub mod RationalPoints
 pub mod Filling
 pub mod Boundary
 pub mod Written
+pub mod Room
 pub mod Turn
 pub mod Refusals
 pub mod Canonical

@@ -88,11 +88,13 @@ pub record IsRingWalk (P : Test) (c ring : List Point) (untested lead : ℕ) : T
   pub reached : Reach P c (from_contour_first ring lead)
   pub tested : (k : ℕ) → untested ≤ k → IsRemovable P ring k → ⊥
 
--- a ring of places, from the walk's place on: how many of them, from the first on, are still to be tested, and how many stand ahead of the contour's first
+-- a ring of places, from the walk's place on: how many of them, from the first on, are still to be tested, how many stand ahead of the contour's
+-- first, and for how many there is memory
 pub record PlacedRing : Type 0 where
   pub places : List ℕ
   pub untested : ℕ
   pub lead : ℕ
+  pub room : ℕ
 
 -- the ring of a walk by the places of its points, and how many vertices were visited
 pub record IsRingState (P : Test) (c : List Point) (ring : PlacedRing) (visits : ℕ) : Type 0 where

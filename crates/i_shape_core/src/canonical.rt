@@ -1,6 +1,6 @@
 //! The canonical form of a contour: the least rotation of what is left of it without zero turns.
 
-ghost use Rattle.std.specs.Prelude.{◌≡◌, ◌⊎◌, ℕ, ◌+◌, ◌-◌, ◌*◌, ◌<◌, ◌≤◌, min, max, length};
+ghost use Rattle.std.specs.Prelude.{◌≡◌, ◌⊎◌, ℕ, ◌+◌, ◌-◌, ◌*◌, ◌<◌, ◌≤◌, min, max, length, OnOk, IsOk};
 ghost use Rattle.std.specs.Ordering.{MatchOrdering};
 ghost use Rattle.i_shape_core.specs.IntPoint.{contour_of, IsSafeContour};
 ghost use Rattle.i_shape_core.specs.Contour.{IsSimple, point_at, RotatedSublist, Rotation};
@@ -9,6 +9,7 @@ ghost use Rattle.i_shape_core.specs.Canonical.{IsBefore, IsLeast, CanonicalAnswe
 ghost use Rattle.i_shape_core.specs.Walks.{IsOrder, Agree, Precedes, AreAfter};
 ghost use Rattle.i_shape_core.specs.Refusals.{OkUnlessMemory};
 ghost use Rattle.i_shape_core.specs.Written.{CleansTo, CleansInto};
+ghost use Rattle.i_shape_core.specs.Room.{HasRoomToSimplify, KeepsRoomToSimplify};
 
 use crate::comparer::Comparer;
 use crate::error::ShapeError;
@@ -28,6 +29,7 @@ impl ContourSimplifier {
         ensures answer { let c = contour_of I.value contour.now in
             OkUnlessMemory result (CleansTo CanonicalAnswer KeptAnswer I.width I.value c) }
         ensures short { length contour.now < 3 → result ≡ Ok None }
+        ensures keeps_room { KeepsRoomToSimplify self.old self.new }
     {
         let Some(mut kept) = self.simplify_contour(contour)? else {
             return Ok(None);
@@ -38,7 +40,8 @@ impl ContourSimplifier {
 
     /// The same, for points of any type, written to the front of `out`: answers how many points are left, 0 where the contour
     /// collapses. What stands behind them stays as it was, and so does all of `out` where there is an error. Memory is taken
-    /// only for the places of a contour that isn't clean, and is kept. The only error is `OutOfMemory`.
+    /// only for the places of a contour that isn't clean, and is kept. The only error is `OutOfMemory`, where there is no room yet
+    /// for as many places as the contour has points.
     pub fn canonical_into<P: ContourPoint>(
         &mut self,
         contour: &[P],
@@ -47,8 +50,14 @@ impl ContourSimplifier {
         requires points_safe { IsSafeContour P.Coordinate.width
             (contour_of P.Coordinate.value (P.points contour.now)) }
         requires room { length contour.now ≤ length out.old }
-        ensures { CleansInto IsSimple CanonicalAnswer KeptAnswer RotatedSublist P.Coordinate.width
-            (λ list. contour_of P.Coordinate.value (P.points list)) contour.now out.old out.new result }
+        ensures answer { CleansInto IsSimple CanonicalAnswer KeptAnswer RotatedSublist
+            P.Coordinate.width (λ list. contour_of P.Coordinate.value (P.points list))
+            contour.now out.old out.new result }
+        ensures reserved { HasRoomToSimplify self.old (length contour.now) → IsOk result }
+        ensures keeps_room { KeepsRoomToSimplify self.old self.new }
+        ensures takes_room { let c = contour_of P.Coordinate.value (P.points contour.now) in
+            OnOk result (3 ≤ length contour.now → (IsSimple c → ⊥)
+            → HasRoomToSimplify self.new (length contour.now)) }
     {
         let count = self.simplify_into(contour, out)?;
         if count > 0 {

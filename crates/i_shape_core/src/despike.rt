@@ -1,6 +1,6 @@
 //! Contours without spikes: the tests, the cleaned copy, and the cleaner.
 
-ghost use Rattle.std.specs.Prelude.{◌≡◌, ◌↔◌, ◌+◌, ◌-◌, ◌*◌, ◌^◌, ◌<◌, ◌≤◌, List, Some, length, map, option_map, false, IsTrue, IsNone, IfOk, IsOkUnless};
+ghost use Rattle.std.specs.Prelude.{◌≡◌, ◌↔◌, ◌+◌, ◌-◌, ◌*◌, ◌^◌, ◌<◌, ◌≤◌, List, Some, length, map, option_map, false, IsTrue, IsNone, IfOk, OnOk, IsOk, IsOkUnless};
 ghost use Rattle.std.specs.Option.{IfSome};
 ghost use Rattle.std.specs.List.{All};
 ghost use Rattle.i_shape_core.specs.IntPoint.{contour_of, point_of, IsSafe, answered, IsSafeContour};
@@ -12,6 +12,7 @@ ghost use Rattle.i_shape_core.specs.Cleaners.{IsDespikedAlready, SpikelessAnswer
 ghost use Rattle.i_shape_core.specs.Walks.{RisingPlaces, WalkAnswer, Finds, Falls, FirstAnswer, IsRingState, PassesAtPlace, from_contour_first};
 ghost use Rattle.i_shape_core.specs.Refusals.{OkUnlessMemory};
 ghost use Rattle.i_shape_core.specs.Written.{CleansInOrder, CleansInto};
+ghost use Rattle.i_shape_core.specs.Room.{HasRoomToDespike, KeepsRoomToDespike};
 
 use crate::error::ShapeError;
 use crate::number::{IntNumber, WideIntNumber};
@@ -100,13 +101,17 @@ pub struct ContourDeSpiker {
 
 impl ContourDeSpiker {
     /// A remover of spikes that takes its memory from `alloc`.
-    pub fn new(alloc: Global) -> ContourDeSpiker {
+    pub fn new(alloc: Global) -> ContourDeSpiker
+        ensures { result.room ≡ 0 }
+    {
         ContourDeSpiker::with_room(alloc, 0)
     }
 
     /// A remover of spikes that takes its memory from `alloc`: that for the places of its walks once where no contour has more
     /// than `room` points, and none before a contour needs it.
-    pub fn with_room(alloc: Global, room: usize) -> ContourDeSpiker {
+    pub fn with_room(alloc: Global, room: usize) -> ContourDeSpiker
+        ensures { result.room ≡ room }
+    {
         ContourDeSpiker {
             places: Vec::new(alloc),
             room,
@@ -128,6 +133,7 @@ impl ContourDeSpiker {
         ensures answer { let c = contour_of I.value contour.now in
             OkUnlessMemory result (CleansInOrder SpikelessAnswer I.width I.value c) }
         ensures short { length contour.now < 3 → result ≡ Ok None }
+        ensures keeps_room { KeepsRoomToDespike self.old self.new }
     {
         let (kept, _visits) = self.despike_counted(contour)?;
         Ok(kept)
@@ -146,6 +152,7 @@ impl ContourDeSpiker {
             (λ r. VisitsAnswer (contour_of I.value contour.now)
             (answered (contour_of I.value) r.0) r.1) }
         ensures short { length contour.now < 3 → result ≡ Ok (None, 0) }
+        ensures keeps_room { KeepsRoomToDespike self.old self.new }
     {
         if contour.len() < 3 {
             return Ok((None, 0));
@@ -155,7 +162,8 @@ impl ContourDeSpiker {
 
     /// What `despike_contour` gives, for points of any type, written to the front of `out`: answers how many points are left, 0 where
     /// the contour collapses. What stands behind them stays as it was, and so does all of `out` where there is an error. Memory is taken
-    /// only for the places of a contour that has a spike or a repeated point, and is kept. The only error is `OutOfMemory`.
+    /// only for the places of a contour of more than three points that has a spike or a repeated point, and is kept. The only error is
+    /// `OutOfMemory`, where there is no room yet for as many places as the contour has points.
     pub fn despike_into<P: ContourPoint>(
         &mut self,
         contour: &[P],
@@ -164,8 +172,14 @@ impl ContourDeSpiker {
         requires points_safe { IsSafeContour P.Coordinate.width
             (contour_of P.Coordinate.value (P.points contour.now)) }
         requires room { length contour.now ≤ length out.old }
-        ensures { CleansInto IsDespikedAlready SpikelessAnswer KeptAnswer Sublist P.Coordinate.width
-            (λ list. contour_of P.Coordinate.value (P.points list)) contour.now out.old out.new result }
+        ensures answer { CleansInto IsDespikedAlready SpikelessAnswer KeptAnswer Sublist
+            P.Coordinate.width (λ list. contour_of P.Coordinate.value (P.points list))
+            contour.now out.old out.new result }
+        ensures reserved { HasRoomToDespike self.old (length contour.now) → IsOk result }
+        ensures keeps_room { KeepsRoomToDespike self.old self.new }
+        ensures takes_room { let c = contour_of P.Coordinate.value (P.points contour.now) in
+            OnOk result (3 < length contour.now → (IsDespikedAlready c → ⊥)
+            → HasRoomToDespike self.new (length contour.now)) }
     {
         if contour.len() < 3 {
             return Ok(0);
@@ -174,11 +188,11 @@ impl ContourDeSpiker {
         let Some(place) = first_back(&mut probe) else {
             return Ok(write_whole(contour, out));
         };
-        let (_probe, left) = self.walk_round(probe, place)?;
-        let Some(places) = left else {
+        let (_probe, uncollapsed) = self.walk_round(probe, place)?;
+        if !uncollapsed {
             return Ok(0);
-        };
-        Ok(write_at(contour, places, out))
+        }
+        Ok(write_at(contour, self.places.as_slice(), out))
     }
 
     /// What is left of a contour, and how many vertices were visited.
@@ -191,37 +205,46 @@ impl ContourDeSpiker {
         ensures answer { IfOk result
             (λ r. WalkAnswer IsBack (contour_of P.Coordinate.value probe.entry.contour)
             (answered (λ list. contour_of P.Coordinate.value (P.points list)) r.0) r.1) }
+        ensures keeps_room { KeepsRoomToDespike self.old self.new }
         ensures memory { IsOkUnless result ShapeError.OutOfMemory }
     {
         let alloc = *self.places.allocator();
         let Some(place) = first_back(&mut probe) else {
             return probe.keep_whole(alloc);
         };
-        let (probe, left) = self.walk_round(probe, place)?;
-        probe.keep_left(alloc, left)
+        let (probe, uncollapsed) = self.walk_round(probe, place)?;
+        if !uncollapsed {
+            return probe.keep_left(alloc, None);
+        }
+        probe.keep_left(alloc, Some(self.places.as_slice()))
     }
 
-    /// Walks on from the first place at which the contour goes back. Gives the places that are left, `None` where these are
-    /// fewer than three.
+    /// Walks on from the first place at which the contour goes back. Whether three places are left at the least: then they are
+    /// its `places`.
     fn walk_round<'a, P: ContourPoint>(
         &mut self,
         mut probe: Probe<'a, P::Coordinate, P>,
         place: usize,
-    ) -> Result<(Probe<'a, P::Coordinate, P>, Option<&[usize]>), ShapeError>
+    ) -> Result<(Probe<'a, P::Coordinate, P>, bool), ShapeError>
         requires first { FirstAnswer IsBack (contour_of P.Coordinate.value probe.contour)
             (Some place) probe.visits }
         ensures contour { IfOk result (λ r. r.0.contour ≡ probe.entry.contour) }
-        ensures answer { let c = contour_of P.Coordinate.value
-            probe.entry.contour in IfOk result
-            (λ r. WalkAnswer IsBack c (option_map (λ places. map (point_at c) places.now) r.1)
-            r.0.visits) }
-        ensures rising { IfOk result
-            (λ r. IfSome r.1 (λ places. RisingPlaces (length probe.entry.contour) places.now)) }
+        ensures uncollapsed { let c = contour_of P.Coordinate.value probe.entry.contour in
+            IfOk result (λ r. IsTrue r.1
+            → Finds IsBack c (map (point_at c) self.new.places.items) r.0.visits) }
+        ensures rising { IfOk result (λ r. IsTrue r.1
+            → RisingPlaces (length probe.entry.contour) self.new.places.items) }
+        ensures falls { let c = contour_of P.Coordinate.value probe.entry.contour in
+            IfOk result (λ r. r.1 ≡ false → Falls IsBack c r.0.visits) }
+        ensures reserved { HasRoomToDespike self.old (length probe.entry.contour) → IsOk result }
+        ensures keeps_room { KeepsRoomToDespike self.old self.new }
+        ensures takes_room { OnOk result (3 < length probe.entry.contour
+            → HasRoomToDespike self.new (length probe.entry.contour)) }
         ensures memory { IsOkUnless result ShapeError.OutOfMemory }
     {
         let count = probe.len();
         if count == 3 {
-            return Ok((probe, None));
+            return Ok((probe, false));
         }
         self.places.clear();
         self.places.reserve(count.max(self.room))?;
@@ -232,10 +255,10 @@ impl ContourDeSpiker {
         let uncollapsed = walk(&mut probe, &mut ring);
         if !uncollapsed {
             self.places = ring.into_memory();
-            return Ok((probe, None));
+            return Ok((probe, false));
         }
         self.places = ring.into_order();
-        Ok((probe, Some(self.places.as_slice())))
+        Ok((probe, true))
     }
 }
 
@@ -308,6 +331,7 @@ fn walk<P: ContourPoint>(probe: &mut Probe<'_, P::Coordinate, P>, ring: &mut Rin
         (from_contour_first ring.new.places ring.new.lead) }
     ensures falls { result ≡ false → Falls IsBack (contour_of P.Coordinate.value probe.old.contour)
         probe.new.visits }
+    ensures room { ring.new.room ≡ ring.old.room }
 {
     while ring.untested() > 0 {
         if !is_back_at(probe, ring) {

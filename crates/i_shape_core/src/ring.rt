@@ -22,7 +22,7 @@ pub struct Ring {
 impl Model for Ring {
     ghost Value = { PlacedRing };
 
-    ghost view = { λ r. record { places = around_gap r.places.items r.behind r.ahead r.end; untested = r.untested; lead = lead_over_gap (r.behind + (r.end - r.ahead)) r.first r.behind } };
+    ghost view = { λ r. record { places = around_gap r.places.items r.behind r.ahead r.end; untested = r.untested; lead = lead_over_gap (r.behind + (r.end - r.ahead)) r.first r.behind; room = vec_capacity r.places } };
 
     ghost invariant = { λ r. record { gap : r.behind ≤ r.ahead; some : r.ahead < r.end; within : r.end ≤ vec_len r.places; start : r.first < r.behind + (r.end - r.ahead) } };
 }
@@ -38,6 +38,7 @@ impl Ring {
               places = drop place (range_with_len 0 count) ++ take place (range_with_len 0 count);
               untested = count - place;
               lead = count - place;
+              room = vec_capacity memory;
             } }
     {
         let mut places = memory;
@@ -105,6 +106,7 @@ impl Ring {
             ++ slice_index self.old.places 0 ∷ [] }
         ensures untested { self.new.untested + 1 ≡ self.old.untested }
         ensures lead { LeadKept (length self.old.places) self.old.lead self.new.lead }
+        ensures room { self.new.room ≡ self.old.room }
     {
         self.untested -= 1;
         self.places[self.behind] = self.places[self.ahead];
@@ -125,6 +127,7 @@ impl Ring {
         ensures untested { self.new.untested
             ≡ min (length self.old.places - 1) (max self.old.untested 2) }
         ensures lead { LeadRemoved (length self.old.places) self.old.lead self.new.lead }
+        ensures room { self.new.room ≡ self.old.room }
     {
         let before = self.before();
         let left = self.len() - 1;
@@ -138,14 +141,17 @@ impl Ring {
         }
     }
 
-    /// Its memory, for another ring: what it holds says nothing.
-    pub fn into_memory(self) -> Vec<usize> {
+    /// Its memory, for another ring. What lies in it means nothing.
+    pub fn into_memory(self) -> Vec<usize>
+        ensures { vec_capacity result ≡ self.room }
+    {
         self.places
     }
 
     /// The places that are left, in the order of the contour.
     pub fn into_order(self) -> Vec<usize>
-        ensures { result.items ≡ from_contour_first self.places self.lead }
+        ensures places { result.items ≡ from_contour_first self.places self.lead }
+        ensures room { vec_capacity result ≡ self.room }
     {
         let mut places = self.places;
         places.copy_within(self.ahead..self.end, self.behind);

@@ -1,6 +1,6 @@
 //! The cleaner that removes zero turns.
 
-ghost use Rattle.std.specs.Prelude.{◌≡◌, ◌↔◌, ◌+◌, ◌-◌, ◌*◌, ◌^◌, ◌<◌, ◌≤◌, map, take, drop, min, option_map, IsTrue, length, vec_len, vec_capacity, IfOk, IsOkUnless, None};
+ghost use Rattle.std.specs.Prelude.{◌≡◌, ◌↔◌, ◌+◌, ◌-◌, ◌*◌, ◌^◌, ◌<◌, ◌≤◌, map, take, drop, min, option_map, IsTrue, length, vec_len, vec_capacity, IfOk, OnOk, IsOk, IsOkUnless, None};
 ghost use Rattle.std.specs.Option.{IfSome};
 ghost use Rattle.std.specs.List.{range_with_len};
 ghost use Rattle.i_shape_core.specs.IntPoint.{contour_of, answered, IsSafeContour};
@@ -10,6 +10,7 @@ ghost use Rattle.i_shape_core.specs.Cleaners.{SimpleAnswer, KeptAnswer, VisitsAn
 ghost use Rattle.i_shape_core.specs.Walks.{RisingPlaces, IsWalked, IsStacked, IsSettled, WalkAnswer};
 ghost use Rattle.i_shape_core.specs.Refusals.{OkUnlessMemory};
 ghost use Rattle.i_shape_core.specs.Written.{CleansInOrder, CleansInto};
+ghost use Rattle.i_shape_core.specs.Room.{HasRoomToSimplify, KeepsRoomToSimplify};
 
 use crate::error::ShapeError;
 use crate::number::IntNumber;
@@ -29,13 +30,17 @@ pub struct ContourSimplifier {
 
 impl ContourSimplifier {
     /// A simplifier that takes its memory from `alloc`.
-    pub fn new(alloc: Global) -> ContourSimplifier {
+    pub fn new(alloc: Global) -> ContourSimplifier
+        ensures { result.room ≡ 0 }
+    {
         ContourSimplifier::with_room(alloc, 0)
     }
 
     /// A simplifier that takes its memory from `alloc`: that for the places of its walks once where no contour has more than
     /// `room` points, and none before a contour needs it.
-    pub fn with_room(alloc: Global, room: usize) -> ContourSimplifier {
+    pub fn with_room(alloc: Global, room: usize) -> ContourSimplifier
+        ensures { result.room ≡ room }
+    {
         ContourSimplifier {
             stack: Vec::new(alloc),
             room,
@@ -52,6 +57,7 @@ impl ContourSimplifier {
         ensures answer { let c = contour_of I.value contour.now in
             OkUnlessMemory result (CleansInOrder SimpleAnswer I.width I.value c) }
         ensures short { length contour.now < 3 → result ≡ Ok None }
+        ensures keeps_room { KeepsRoomToSimplify self.old self.new }
     {
         let (kept, _visits) = self.simplify_counted(contour)?;
         Ok(kept)
@@ -70,6 +76,7 @@ impl ContourSimplifier {
             (λ r. VisitsAnswer (contour_of I.value contour.now)
             (answered (contour_of I.value) r.0) r.1) }
         ensures short { length contour.now < 3 → result ≡ Ok (None, 0) }
+        ensures keeps_room { KeepsRoomToSimplify self.old self.new }
     {
         if contour.len() < 3 {
             return Ok((None, 0));
@@ -79,13 +86,15 @@ impl ContourSimplifier {
         let Some(start) = start_of_walk(&mut probe) else {
             return probe.keep_whole(alloc);
         };
-        let (probe, left) = self.walk(probe, start)?;
+        let probe = self.walk(probe, start)?;
+        let (probe, left) = close(probe, self.stack.as_slice());
         probe.keep_left(alloc, left)
     }
 
     /// What `simplify_contour` gives, for points of any type, written to the front of `out`: answers how many points are left, 0 where
     /// the contour collapses. What stands behind them stays as it was, and so does all of `out` where there is an error. Memory is taken
-    /// only for the places of a contour that isn't clean, and is kept. The only error is `OutOfMemory`.
+    /// only for the places of a contour that isn't clean, and is kept. The only error is `OutOfMemory`, where there is no room yet
+    /// for as many places as the contour has points.
     pub fn simplify_into<P: ContourPoint>(
         &mut self,
         contour: &[P],
@@ -94,8 +103,14 @@ impl ContourSimplifier {
         requires points_safe { IsSafeContour P.Coordinate.width
             (contour_of P.Coordinate.value (P.points contour.now)) }
         requires room { length contour.now ≤ length out.old }
-        ensures { CleansInto IsSimple SimpleAnswer KeptAnswer Sublist P.Coordinate.width
-            (λ list. contour_of P.Coordinate.value (P.points list)) contour.now out.old out.new result }
+        ensures answer { CleansInto IsSimple SimpleAnswer KeptAnswer Sublist
+            P.Coordinate.width (λ list. contour_of P.Coordinate.value (P.points list))
+            contour.now out.old out.new result }
+        ensures reserved { HasRoomToSimplify self.old (length contour.now) → IsOk result }
+        ensures keeps_room { KeepsRoomToSimplify self.old self.new }
+        ensures takes_room { let c = contour_of P.Coordinate.value (P.points contour.now) in
+            OnOk result (3 ≤ length contour.now → (IsSimple c → ⊥)
+            → HasRoomToSimplify self.new (length contour.now)) }
     {
         if contour.len() < 3 {
             return Ok(0);
@@ -104,37 +119,37 @@ impl ContourSimplifier {
         let Some(start) = start_of_walk(&mut probe) else {
             return Ok(write_whole(contour, out));
         };
-        let (_probe, left) = self.walk(probe, start)?;
+        let probe = self.walk(probe, start)?;
+        let (_probe, left) = close(probe, self.stack.as_slice());
         let Some(places) = left else {
             return Ok(0);
         };
         Ok(write_at(contour, places, out))
     }
 
-    /// Walks on from a start. Gives the places that are left, `None` where these are fewer than three.
+    /// Walks on from a start to the end of the contour. The stack has the places that are then left.
     fn walk<'a, P: ContourPoint>(
         &mut self,
         probe: Probe<'a, P::Coordinate, P>,
         start: (usize, usize, usize),
-    ) -> Result<(Probe<'a, P::Coordinate, P>, Option<&[usize]>), ShapeError>
+    ) -> Result<Probe<'a, P::Coordinate, P>, ShapeError>
         requires walked { IsWalked IsZeroTurn (contour_of P.Coordinate.value probe.contour)
             (range_with_len start.0 (start.1 - start.0)) start.2 probe.visits }
         requires rising { start.0 ≤ start.1 }
         requires end_within { start.1 ≤ length probe.contour }
         requires place_within { start.2 ≤ length probe.contour }
-        ensures contour { IfOk result (λ r. r.0.contour ≡ probe.entry.contour) }
-        ensures answer { let c = contour_of P.Coordinate.value
-            probe.entry.contour in IfOk result
-            (λ r. WalkAnswer IsZeroTurn c (option_map (λ places. map (point_at c) places.now) r.1)
-            r.0.visits) }
-        ensures rising { IfOk result
-            (λ r. IfSome r.1 (λ places. RisingPlaces (length probe.entry.contour) places.now)) }
+        ensures contour { IfOk result (λ r. r.contour ≡ probe.entry.contour) }
+        ensures walked { let c = contour_of P.Coordinate.value probe.entry.contour in
+            IfOk result (λ r. IsWalked IsZeroTurn c self.new.stack.items (length c) r.visits) }
+        ensures reserved { HasRoomToSimplify self.old (length probe.entry.contour) → IsOk result }
+        ensures keeps_room { KeepsRoomToSimplify self.old self.new }
+        ensures takes_room { OnOk result
+            (HasRoomToSimplify self.new (length probe.entry.contour)) }
         ensures memory { IsOkUnless result ShapeError.OutOfMemory }
     {
         let (first, end, place) = start;
         fill(&mut self.stack, probe.len().max(self.room), first, end)?;
-        let probe = stack_places(probe, &mut self.stack, place);
-        Ok(close(probe, self.stack.as_slice()))
+        Ok(stack_places(probe, &mut self.stack, place))
     }
 }
 
@@ -203,6 +218,8 @@ fn fill(stack: &mut Vec<usize>, count: usize, first: usize, end: usize) -> Resul
     requires within { end - first ≤ count }
     ensures items { IfOk result (λ _. stack.new.items ≡ range_with_len first (end - first)) }
     ensures room { IfOk result (λ _. count ≤ vec_capacity stack.new) }
+    ensures reserved { count ≤ vec_capacity stack.old → IsOk result }
+    ensures keeps_room { vec_capacity stack.old ≤ vec_capacity stack.new }
     ensures memory { IsOkUnless result ShapeError.OutOfMemory }
 {
     stack.clear();
@@ -273,6 +290,7 @@ fn stack_places<'a, P: ContourPoint>(
     ensures contour { result.contour ≡ probe.entry.contour }
     ensures walked { let c = contour_of P.Coordinate.value
         probe.entry.contour in IsWalked IsZeroTurn c stack.new.items (length c) result.visits }
+    ensures room { vec_capacity stack.new ≡ vec_capacity stack.old }
 {
     for place in start..probe.len() {
         pop_zero_turns(&mut probe, stack, place);

@@ -1,11 +1,12 @@
 //! The form of a contour whichever way round it is wound: the lesser of its canonical form and that of the contour read backwards.
 
-ghost use Rattle.std.specs.Prelude.{◌≡◌, ◌⊎◌, ◌<◌, ◌≤◌, false, length, reverse, IsTrue};
+ghost use Rattle.std.specs.Prelude.{◌≡◌, ◌⊎◌, ◌<◌, ◌≤◌, false, length, reverse, IsTrue, OnOk, IsOk};
 ghost use Rattle.i_shape_core.specs.IntPoint.{contour_of, IsSafeContour};
 ghost use Rattle.i_shape_core.specs.Contour.{IsSimple, SublistEitherWay, Rotation};
 ghost use Rattle.i_shape_core.specs.Canonical.{IsAtMost, IsLesserWay, UnorientedAnswer, KeptEitherWay, started_at};
 ghost use Rattle.i_shape_core.specs.Refusals.{OkUnlessMemory};
 ghost use Rattle.i_shape_core.specs.Written.{CleansTo, CleansInto};
+ghost use Rattle.i_shape_core.specs.Room.{HasRoomToSimplify, KeepsRoomToSimplify};
 
 use crate::canonical::{least_start, place_at_step};
 use crate::comparer::Comparer;
@@ -26,6 +27,7 @@ impl ContourSimplifier {
         ensures answer { let c = contour_of I.value contour.now in
             OkUnlessMemory result (CleansTo UnorientedAnswer KeptEitherWay I.width I.value c) }
         ensures short { length contour.now < 3 → result ≡ Ok None }
+        ensures keeps_room { KeepsRoomToSimplify self.old self.new }
     {
         let Some(mut kept) = self.canonical(contour)? else {
             return Ok(None);
@@ -36,7 +38,8 @@ impl ContourSimplifier {
 
     /// The same, for points of any type, written to the front of `out`: answers how many points are left, 0 where the contour
     /// collapses. What stands behind them stays as it was, and so does all of `out` where there is an error. Memory is taken
-    /// only for the places of a contour that isn't clean, and is kept. The only error is `OutOfMemory`.
+    /// only for the places of a contour that isn't clean, and is kept. The only error is `OutOfMemory`, where there is no room yet
+    /// for as many places as the contour has points.
     pub fn canonical_unoriented_into<P: ContourPoint>(
         &mut self,
         contour: &[P],
@@ -45,8 +48,14 @@ impl ContourSimplifier {
         requires points_safe { IsSafeContour P.Coordinate.width
             (contour_of P.Coordinate.value (P.points contour.now)) }
         requires room { length contour.now ≤ length out.old }
-        ensures { CleansInto IsSimple UnorientedAnswer KeptEitherWay SublistEitherWay
-            P.Coordinate.width (λ list. contour_of P.Coordinate.value (P.points list)) contour.now out.old out.new result }
+        ensures answer { CleansInto IsSimple UnorientedAnswer KeptEitherWay SublistEitherWay
+            P.Coordinate.width (λ list. contour_of P.Coordinate.value (P.points list))
+            contour.now out.old out.new result }
+        ensures reserved { HasRoomToSimplify self.old (length contour.now) → IsOk result }
+        ensures keeps_room { KeepsRoomToSimplify self.old self.new }
+        ensures takes_room { let c = contour_of P.Coordinate.value (P.points contour.now) in
+            OnOk result (3 ≤ length contour.now → (IsSimple c → ⊥)
+            → HasRoomToSimplify self.new (length contour.now)) }
     {
         let count = self.canonical_into(contour, out)?;
         if count > 0 {

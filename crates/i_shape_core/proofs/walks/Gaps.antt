@@ -173,17 +173,18 @@ full_more xs ys k e f =
     f ∙ (ap (λ (r : List ℕ). r ++ k ∷ []) e ∙ (sym (p ∙ ap (λ (i : ℕ). range_with_len 0 k ++ i ∷ []) z) ∙ ap (range_with_len 0) (sym s)))
 
 -- with no gap, the ring from place p on is the list, rotated
-pub starting_ring : (xs : List ℕ) (n k p u : ℕ) → xs ≡ range_with_len 0 k → length xs ≡ k → n ≡ k → p < n
-    → record { places = around_gap xs p p n; untested = u; lead = lead_over_gap (p + (n - p)) 0 p }
-    ≡ (let s : PlacedRing = record { places = drop p (range_with_len 0 n) ++ take p (range_with_len 0 n); untested = u; lead = n - p } in s)
+pub starting_ring : (xs : List ℕ) (n k p u room kept : ℕ) → xs ≡ range_with_len 0 k → length xs ≡ k → n ≡ k → p < n → kept ≡ room
+    → record { places = around_gap xs p p n; untested = u; lead = lead_over_gap (p + (n - p)) 0 p; room = kept }
+    ≡ (let s : PlacedRing = record { places = drop p (range_with_len 0 n) ++ take p (range_with_len 0 n); untested = u; lead = n - p; room = room } in s)
 unfolding around_gap
-starting_ring xs n k p u e l m h =
+starting_ring xs n k p u room kept e l m h same =
     let t : take n xs ≡ xs = take_all n xs (omega arith) in
     let r : xs ≡ range_with_len 0 n = e ∙ ap (range_with_len 0) (sym m) in
     let a : drop p (take n xs) ++ take p xs ≡ drop p (range_with_len 0 n) ++ take p (range_with_len 0 n) = cc in
     let b : lead_over_gap (p + (n - p)) 0 p ≡ n - p = whole (lead_over_gap (p + (n - p)) 0 p) (lead_cases (p + (n - p)) 0 p) in
-    let F : List ℕ → ℕ → PlacedRing = λ q j. record { places = q; untested = u; lead = j } in
-    ap (λ (q : List ℕ). F q (lead_over_gap (p + (n - p)) 0 p)) a ∙ ap (F (drop p (range_with_len 0 n) ++ take p (range_with_len 0 n))) b
+    let F : List ℕ → ℕ → ℕ → PlacedRing = λ q j m. record { places = q; untested = u; lead = j; room = m } in
+    ap (λ (q : List ℕ). F q (lead_over_gap (p + (n - p)) 0 p) kept) a ∙ (ap (λ (j : ℕ). F (drop p (range_with_len 0 n) ++ take p (range_with_len 0 n)) j kept) b
+    ∙ ap (F (drop p (range_with_len 0 n) ++ take p (range_with_len 0 n)) (n - p)) same)
   where
     whole : (l : ℕ) → Lead (p + (n - p)) 0 p l → l ≡ n - p
     whole l (inl x) = absurd (omega (arith, x.0))

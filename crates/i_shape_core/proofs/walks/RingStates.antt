@@ -15,8 +15,8 @@ use Rattle.i_shape_core.proofs.walks.RisingPlaces.{rising_all, rising_without}
 abbrev points_at : List Point → List ℕ → List Point
 points_at c places = map (point_at c) places
 
-abbrev IsState : Test → List Point → List ℕ → ℕ → ℕ → ℕ → Type 0
-IsState P c places untested lead visits = IsRingState P c (record { places = places; untested = untested; lead = lead }) visits
+abbrev IsState : ℕ → Test → List Point → List ℕ → ℕ → ℕ → ℕ → Type 0
+IsState room P c places untested lead visits = IsRingState P c (record { places = places; untested = untested; lead = lead; room = room }) visits
 
 abbrev IsBelow : List Point → ℕ → Type 0
 IsBelow c k = k < length c
@@ -70,7 +70,7 @@ rotated_points c j k =
     cc
 
 -- where no place before k passes, the places before it are those tested
-state_starts : {P : Test} (c : List Point) (k : ℕ) → 3 ≤ length c → k < length c → ((j : ℕ) → j < k → IsRemovable P c j → ⊥) → IsState P c (rotated_places c k) (length c - k) (length c - k) k
+state_starts : {P : Test} {room : ℕ} (c : List Point) (k : ℕ) → 3 ≤ length c → k < length c → ((j : ℕ) → j < k → IsRemovable P c j → ⊥) → IsState room P c (rotated_places c k) (length c - k) (length c - k) k
 state_starts {P} c k h i earlier = record {
   walk = subst (λ (x : List Point). IsRingWalk P c x (length c - k) (length c - k)) (rotated_points c k k) (walk_starts c k h i earlier);
   below = All-append (IsBelow c) (drop k (range_with_len 0 (length c))) (take k (range_with_len 0 (length c))) (All-drop (IsBelow c) k (range_with_len 0 (length c)) (all_below c)) (All-take (IsBelow c) k (range_with_len 0 (length c)) (all_below c));
@@ -81,8 +81,8 @@ state_starts {P} c k h i earlier = record {
 }
 
 -- the place at hand is kept, and goes to the end of the ring
-pub state_keeps : {P : Test} (c : List Point) (places kept : List ℕ) (u v l m n : ℕ) → IsState P c places u l n → 0 < u → (PassesAtPlace P c places → ⊥) →
-    kept ≡ drop 1 places ++ get_or places 0 0 ∷ [] → v + 1 ≡ u → LeadKept (length places) l m → IsState P c kept v m (n + 1)
+pub state_keeps : {P : Test} {room room' : ℕ} (c : List Point) (places kept : List ℕ) (u v l m n : ℕ) → IsState room P c places u l n → 0 < u → (PassesAtPlace P c places → ⊥) →
+    kept ≡ drop 1 places ++ get_or places 0 0 ∷ [] → v + 1 ≡ u → LeadKept (length places) l m → IsState room' P c kept v m (n + 1)
 state_keeps c [] kept u v l m n s h here e f lead = absurd (omega (arith, s.walk.enough))
 state_keeps {P} c (p ∷ r) kept u v l m n s h here e f lead = record {
   walk = subst (λ (x : List Point). IsRingWalk P c x v m) points
@@ -108,8 +108,8 @@ state_keeps {P} c (p ∷ r) kept u v l m n s h here e f lead = record {
     below = All-same (IsBelow c) kept (r ++ p ∷ []) e (All-push (IsBelow c) r p (All-drop (IsBelow c) 1 (p ∷ r) s.below) (All-get_or (IsBelow c) (p ∷ r) 0 0 (omega arith) s.below))
 
 -- the place at hand is taken out
-pub state_removes : {P : Test} (c : List Point) (places kept : List ℕ) (u v l m n : ℕ) → IsState P c places u l n → 0 < u → PassesAtPlace P c places → 3 < length places →
-    kept ≡ get_or places (length places - 1) 0 ∷ drop 1 (take (length places - 1) places) → v ≡ min (length places - 1) (max u 2) → LeadRemoved (length places) l m → IsState P c kept v m (n + 1)
+pub state_removes : {P : Test} {room room' : ℕ} (c : List Point) (places kept : List ℕ) (u v l m n : ℕ) → IsState room P c places u l n → 0 < u → PassesAtPlace P c places → 3 < length places →
+    kept ≡ get_or places (length places - 1) 0 ∷ drop 1 (take (length places - 1) places) → v ≡ min (length places - 1) (max u 2) → LeadRemoved (length places) l m → IsState room' P c kept v m (n + 1)
 state_removes c [] kept u v l m n s o a more e f lead = absurd (omega arith)
 state_removes {P} c (p ∷ r) kept u v l m n s o a more e f lead = record {
   walk = subst (λ (x : List Point). IsRingWalk P c x v m) (sym (ap (points_at c) e'))
@@ -170,14 +170,14 @@ state_removes {P} c (p ∷ r) kept u v l m n s o a more e f lead = record {
         (All-get_or (IsBelow c) (p ∷ r) (length (p ∷ r) - 1) 0 (omega arith) s.below) (All-drop (IsBelow c) 1 (take (length (p ∷ r) - 1) (p ∷ r)) (All-take (IsBelow c) (length (p ∷ r) - 1) (p ∷ r) s.below)))
 
 -- where three places are left and one passes, the contour collapses
-pub state_collapses : {P : Test} (c : List Point) (places : List ℕ) (u l n : ℕ) → IsState P c places u l n → PassesAtPlace P c places → length places ≡ 3 → Falls P c (n + 1)
+pub state_collapses : {P : Test} {room : ℕ} (c : List Point) (places : List ℕ) (u l n : ℕ) → IsState room P c places u l n → PassesAtPlace P c places → length places ≡ 3 → Falls P c (n + 1)
 state_collapses c [] u l n s a three = absurd (omega arith)
 state_collapses {P} c (p ∷ r) u l n s a three =
     let d = walk_collapses c (points_at c (p ∷ r)) (points_at c r) (point_at c p) u l s.walk refl (passes_as P c p r (omega arith) a) (omega (arith, three, length-map (p ∷ r) (point_at c))) in
     record { rest = d.0; reached = d.1; few = d.2; least = omega (arith, s.left_each, three); most = omega (arith, s.at_most, three) }
 
 -- where no place is untested, the ring is the end
-pub state_ends : {P : Test} (c e : List Point) (places : List ℕ) (u l n : ℕ) → IsState P c places u l n → u ≡ 0 → e ≡ map (point_at c) (from_contour_first places l) → Finds P c e n
+pub state_ends : {P : Test} {room : ℕ} (c e : List Point) (places : List ℕ) (u l n : ℕ) → IsState room P c places u l n → u ≡ 0 → e ≡ map (point_at c) (from_contour_first places l) → Finds P c e n
 state_ends {P} c e places u l n s none shown =
     let w = walk_ends c (points_at c places) u l s.walk none in
     let x = map-append (point_at c) (drop l places) (take l places) in
@@ -187,28 +187,28 @@ state_ends {P} c e places u l n s none shown =
     subst (λ (k : List Point). Finds P c k n) same (record { ended = w.0; enough = w.1; least = omega (arith, s.tested_each, none); most = omega (arith, s.at_most) })
 
 -- the places that are left, in order, are places of the contour
-pub ends_below : {P : Test} (c : List Point) (places : List ℕ) (u l n : ℕ) → IsState P c places u l n → All (IsBelow c) (from_contour_first places l)
+pub ends_below : {P : Test} {room : ℕ} (c : List Point) (places : List ℕ) (u l n : ℕ) → IsState room P c places u l n → All (IsBelow c) (from_contour_first places l)
 ends_below c places u l n s = All-append (IsBelow c) (drop l places) (take l places) (All-drop (IsBelow c) l places s.below) (All-take (IsBelow c) l places s.below)
 
 -- and they rise
-pub ends_rising : {P : Test} (c : List Point) (places : List ℕ) (u l n : ℕ) → IsState P c places u l n → RisingPlaces (length c) (from_contour_first places l)
+pub ends_rising : {P : Test} {room : ℕ} (c : List Point) (places : List ℕ) (u l n : ℕ) → IsState room P c places u l n → RisingPlaces (length c) (from_contour_first places l)
 ends_rising c places u l n s = s.rising
 
--- a ring of all places of c, in which the walk stands at place k
-abbrev pub StartsAt : List Point → PlacedRing → ℕ → Type 0
-StartsAt c r k = r ≡ record { places = drop k (range_with_len 0 (length c)) ++ take k (range_with_len 0 (length c)); untested = length c - k; lead = length c - k }
+-- a ring of all places of c, in which the walk stands at place k, in memory for so many
+abbrev pub StartsAt : List Point → PlacedRing → ℕ → ℕ → Type 0
+StartsAt c r k room = r ≡ record { places = drop k (range_with_len 0 (length c)) ++ take k (range_with_len 0 (length c)); untested = length c - k; lead = length c - k; room = room }
 
 -- it has as many places as c
-pub starting_size : (c : List Point) (r : PlacedRing) (k : ℕ) → StartsAt c r k → length r.places ≡ length c
-starting_size c r k e = rw e (rotated_size c k)
+pub starting_size : (c : List Point) (r : PlacedRing) (k room : ℕ) → StartsAt c r k room → length r.places ≡ length c
+starting_size c r k room e = rw e (rotated_size c k)
 
 -- where no place before k passes, it is the state of a walk that has visited k places
-starting_state : {P : Test} (c : List Point) (r : PlacedRing) (k : ℕ) → IsFirst P c k → StartsAt c r k → IsRingState P c r k
-starting_state c r k f e = rw e (state_starts c k f.here.enough f.here.within f.earlier)
+starting_state : {P : Test} (c : List Point) (r : PlacedRing) (k room : ℕ) → IsFirst P c k → StartsAt c r k room → IsRingState P c r k
+starting_state c r k room f e = rw e (state_starts c k f.here.enough f.here.within f.earlier)
 
 -- and place k passes
-starting_passes : {P : Test} (c : List Point) (r : PlacedRing) (k : ℕ) → IsFirst P c k → StartsAt c r k → PassesAtPlace P c r.places
-starting_passes {P} c r k f e = rw e (subst (PassesAtPlace P c) (sym parts) (passes_back P c k rest (omega (arith, f.here.enough, size)) (subst (λ (x : List Point). P (last x) (point_at c k) (first x)) (rotated_points c (suc k) k) passes)))
+starting_passes : {P : Test} (c : List Point) (r : PlacedRing) (k room : ℕ) → IsFirst P c k → StartsAt c r k room → PassesAtPlace P c r.places
+starting_passes {P} c r k room f e = rw e (subst (PassesAtPlace P c) (sym parts) (passes_back P c k rest (omega (arith, f.here.enough, size)) (subst (λ (x : List Point). P (last x) (point_at c k) (first x)) (rotated_points c (suc k) k) passes)))
   where
     all : List ℕ
     all = range_with_len 0 (length c)
@@ -230,9 +230,9 @@ starting_passes {P} c r k f e = rw e (subst (PassesAtPlace P c) (sym parts) (pas
     passes = passes_from_removable {P = P} c (take k c) (point_at c k) (drop (suc k) c) k (split_at c k origin f.here.within) (sym (length-take-le k c (omega (arith, f.here.within)))) f.here
 
 -- without it, a walk goes on
-pub starting_removes : {P : Test} (c : List Point) (r t : PlacedRing) (k visits : ℕ) → IsFirst P c k → StartsAt c r k → 3 < length c → visits ≡ k + 1
+pub starting_removes : {P : Test} (c : List Point) (r t : PlacedRing) (k room visits : ℕ) → IsFirst P c k → StartsAt c r k room → 3 < length c → visits ≡ k + 1
     → t.places ≡ get_or r.places (length r.places - 1) 0 ∷ drop 1 (take (length r.places - 1) r.places) → t.untested ≡ min (length r.places - 1) (max r.untested 2)
     → LeadRemoved (length r.places) r.lead t.lead → IsRingState P c t visits
-starting_removes {P} c r t k visits f e more v places untested lead =
-    rw v (state_removes c r.places t.places r.untested t.untested r.lead t.lead k (starting_state c r k f e) (rw e (omega (arith, f.here.within))) (starting_passes c r k f e)
-    (omega (arith, more, starting_size c r k e)) places untested lead)
+starting_removes {P} c r t k room visits f e more v places untested lead =
+    rw v (state_removes c r.places t.places r.untested t.untested r.lead t.lead k (starting_state c r k room f e) (rw e (omega (arith, f.here.within))) (starting_passes c r k room f e)
+    (omega (arith, more, starting_size c r k room e)) places untested lead)

@@ -43,6 +43,7 @@ loop-probe-preserved-then-not-is_back_at g c =
           (state_keeps whole ring.places c.keep.new.self.places ring.untested c.keep.new.self.untested ring.lead c.keep.new.self.lead c.loop-probe.probe.visits inv.state
           (omega (arith, c.loop-probe-test.true, c.untested.ensures)) (refuted_by_test c.is_back_at.result test (λ h. h, λ h. h) c.if-not-is_back_at.true)
           c.keep.ensures.places c.keep.ensures.untested c.keep.ensures.lead);
+      room = c.keep.ensures.room ∙ inv.room;
     }
 
 pub loop-probe-smaller : goal.loop-probe-smaller
@@ -62,6 +63,7 @@ loop-probe-preserved g c =
           (state_removes whole ring.places c.remove.new.self.places ring.untested c.remove.new.self.untested ring.lead c.remove.new.self.lead c.loop-probe.probe.visits inv.state
           (omega (arith, c.loop-probe-test.true, c.untested.ensures)) (test.0 c.if-not-is_back_at.false) (omega (arith, c.if-len-gt3.true, c.len.ensures))
           c.remove.ensures.places c.remove.ensures.untested c.remove.ensures.lead);
+      room = c.remove.ensures.room ∙ inv.room;
     }
 
 pub returns-else-len-gt3-clause-falls : goal.returns-else-len-gt3-clause-falls

@@ -8,6 +8,7 @@ abbrev pub invariant-loop-probe : goal.invariant-loop-probe
 invariant-loop-probe g l = record {
   contour : l.probe.contour ≡ l.initial.probe.contour;
   state : IsRingState IsBack (contour_of g.P.Coordinate.IntNumber.value l.initial.probe.contour) l.ring l.probe.visits;
+  room : l.ring.room ≡ l.initial.ring.room;
 }
 
 abbrev pub decreases-loop-probe : goal.decreases-loop-probe

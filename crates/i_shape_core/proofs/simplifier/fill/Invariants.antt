@@ -7,4 +7,5 @@ invariant-loop-place l = record {
   items : l.stack.items ≡ range_with_len l.first (l.place - l.first);
   len : vec_len l.stack + l.first ≡ l.place;
   room : l.count ≤ vec_capacity l.stack;
+  kept : vec_capacity l.fn.stack ≤ vec_capacity l.stack;
 }

@@ -7,7 +7,7 @@ use Rattle.i_shape_core.proofs.walks.StackReads.{push-read}
 use Rattle.i_shape_core.proofs.simplifier.stack_places.Goals as goal
 
 pub loop-place-init : goal.loop-place-init
-loop-place-init g c = record { contour = refl; walked = c.requires.walked; room = c.requires.room }
+loop-place-init g c = record { contour = refl; walked = c.requires.walked; room = c.requires.room; same_room = refl }
 
 pub loop-place-preserved : goal.loop-place-preserved
 loop-place-preserved g c =
@@ -25,6 +25,7 @@ loop-place-preserved g c =
         least = omega (arith, popped.least);
       };
       room = rw (← popped.room, ← c.push_reserved.ensures.capacity) at c.loop-place.invariant.room;
+      same_room = omega (arith, popped.room, c.push_reserved.ensures.capacity, c.loop-place.invariant.same_room);
     }
 
 pub returns : goal.returns
@@ -34,4 +35,5 @@ returns g c =
     omega (arith, length-contour g.P.Coordinate.IntNumber.value c.args.probe.contour, c.len-place-end.ensures, c.requires.within) in record {
       contour = c.loop-place.invariant.contour;
       walked = subst (λ (k : ℕ). IsWalked IsZeroTurn (contour_of g.P.Coordinate.IntNumber.value c.args.probe.contour) c.loop-place.stack.items k c.loop-place.probe.visits) all walked;
+      room = c.loop-place.invariant.same_room;
     }

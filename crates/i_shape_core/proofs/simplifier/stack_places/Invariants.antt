@@ -9,4 +9,5 @@ invariant-loop-place g l = record {
   contour : l.probe.contour ≡ l.initial.probe.contour;
   walked : IsWalked IsZeroTurn (contour_of g.P.Coordinate.IntNumber.value l.initial.probe.contour) l.stack.items l.place l.probe.visits;
   room : length l.initial.probe.contour ≤ vec_capacity l.stack;
+  same_room : vec_capacity l.stack ≡ vec_capacity l.initial.stack;
 }

@@ -27,4 +27,4 @@ returns g c =
     let read = λ (list : List g.row.P.Denot). contour_of value (g.P.ContourPoint.points list) in
     let counts = λ (list : List g.row.P.Denot). length-contour value (g.P.ContourPoint.points list) ∙ points-length g.P.ContourPoint.point g.P.ContourPoint.points g.P.ContourPoint.each list in
     let spiked : NoSpikes (read c.args.contour.now) → ⊥ = λ s. let told : c.has_no_spikes.result ≡ true = c.has_no_spikes.ensures.1 s in let no = c.if-has_no_spikes.false in absurd (cc) in
-    spikes_removed c.despike_into.result spiked c.despike_into.ensures
+    spikes_removed c.despike_into.result spiked c.despike_into.ensures.answer

@@ -2,8 +2,8 @@ use Rattle.std.proofs.Common.{◌≤◌, ◌+◌, ◌-◌, take, length, ap, ◌
 use Rattle.i_shape_core.proofs.walks.Gaps.{gap_from_contour_first}
 use Rattle.i_shape_core.proofs.ring.Ring.into_order.Goals as goal
 
-pub returns : goal.returns
-returns c =
+pub returns-clause-places : goal.returns-clause-places
+returns-clause-places c =
     let r = c.self.inside in
     let i = c.self.invariant in
     let within : r.end ≤ length r.places.items = omega (arith, i.within, r.places.ok.0) in

@@ -7,4 +7,5 @@ invariant-loop-each l = record {
   places : l.places.items ≡ range_with_len 0 l.each;
   len : vec_len l.places ≡ l.each;
   room : l.count ≤ vec_capacity l.places;
+  kept : vec_capacity l.places ≡ vec_capacity l.initial.places;
 }

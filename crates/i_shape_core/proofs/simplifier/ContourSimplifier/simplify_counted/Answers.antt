@@ -66,13 +66,13 @@ returns-in_default-clause-visits g c =
     IfOk-weaker c.keep_whole.result _ _ (λ r w. visits_answer IsZeroTurn points (shown value r) r.1 w) (whole g c)
 
 pub keep_left-requires : goal.keep_left-requires
-keep_left-requires g c = rw (c.in_ok-probe.ensures.contour) (each_rising_below _ _ c.in_ok-probe.ensures.rising)
+keep_left-requires g c = rw (c.close-probe.ensures.contour) (each_rising_below _ _ c.close-probe.ensures.rising)
 
 pub returns-clause-answer : goal.returns-clause-answer
 returns-clause-answer g c =
     let value = g.I.IntNumber.value in
     let points = contour_of value c.args.contour.now in
-    let first : c.start_of_walk.new.probe.contour ≡ c.args.contour.now = c.start_of_walk.ensures.contour ∙ c.new-probe.ensures.contour in
-    let same : c.in_ok-probe.probe.contour ≡ c.args.contour.now = c.in_ok-probe.ensures.contour ∙ first in
-    let found : Found value c.args.contour.now c.keep_left.result = walk_kept IsZeroTurn points (shown value) (λ r. r.1) c.keep_left.result _ c.in_ok-probe.probe.visits (rw same at c.keep_left.ensures.kept) (rw first at c.in_ok-probe.ensures.answer) in
+    let first : c.in_ok-probe.probe.contour ≡ c.args.contour.now = c.in_ok-probe.ensures.contour ∙ (c.start_of_walk.ensures.contour ∙ c.new-probe.ensures.contour) in
+    let same : c.close-probe.result.0.contour ≡ c.args.contour.now = c.close-probe.ensures.contour ∙ first in
+    let found : Found value c.args.contour.now c.keep_left.result = walk_kept IsZeroTurn points (shown value) (λ r. r.1) c.keep_left.result _ c.close-probe.result.0.visits (rw same at c.keep_left.ensures.kept) (rw first at c.close-probe.ensures.answer) in
     unless_memory c.keep_left.result _ (told g.I.IntNumber.width value c.args.contour.now c.keep_left.result c.requires found) c.keep_left.ensures.memory

@@ -1,4 +1,4 @@
-use Rattle.std.proofs.Common.{◌≡◌, ◌≤◌, ◌∙◌, refl, rules, Some, List, map, length, ap, sym, arith}
+use Rattle.std.proofs.Common.{◌≡◌, ◌≤◌, ◌∙◌, refl, rules, false, true, Some, List, map, length, ap, sym, arith}
 use Rattle.std.proofs.lemmas.List.{length-map}
 use Rattle.std.proofs.lemmas.Result.{err_from_is_err_and}
 use Rattle.i_shape_core.specs.Point.{IsZeroTurn}
@@ -15,8 +15,8 @@ use Rattle.i_shape_core.proofs.walks.RisingPlaces.{rising_below, picked_at}
 use Rattle.i_shape_core.proofs.answers.Written.{nothing_written, points_written, whole_written, into, into_refused}
 use Rattle.i_shape_core.proofs.simplifier.ContourSimplifier.simplify_into.Goals as goal
 
-pub returns-then-contour-lt3 : goal.returns-then-contour-lt3
-returns-then-contour-lt3 g c =
+pub returns-then-contour-lt3-clause-answer : goal.returns-then-contour-lt3-clause-answer
+returns-then-contour-lt3-clause-answer g c =
     let value = g.P.Coordinate.IntNumber.value in
     let read = λ (list : List g.row.P.Denot). contour_of value (g.P.ContourPoint.points list) in
     let counts = λ (list : List g.row.P.Denot). length-contour value (g.P.ContourPoint.points list) ∙ points-length g.P.ContourPoint.point g.P.ContourPoint.points g.P.ContourPoint.each list in
@@ -29,8 +29,8 @@ pub start_of_walk-requires-clause-enough : goal.start_of_walk-requires-clause-en
 start_of_walk-requires-clause-enough g c =
     omega (arith, c.if-contour-lt3.false, ap length c.new-probe.ensures.contour, points-length g.P.ContourPoint.point g.P.ContourPoint.points g.P.ContourPoint.each c.args.contour.now)
 
-pub returns-in_default : goal.returns-in_default
-returns-in_default g c =
+pub returns-in_default-clause-answer : goal.returns-in_default-clause-answer
+returns-in_default-clause-answer g c =
     let value = g.P.Coordinate.IntNumber.value in
     let read = λ (list : List g.row.P.Denot). contour_of value (g.P.ContourPoint.points list) in
     let counts = λ (list : List g.row.P.Denot). length-contour value (g.P.ContourPoint.points list) ∙ points-length g.P.ContourPoint.point g.P.ContourPoint.points g.P.ContourPoint.each list in
@@ -44,26 +44,26 @@ returns-in_default g c =
     (omega (arith, counts c.args.contour.now, c.if-contour-lt3.false)) (simple_answer whole (Some whole) c.start_of_walk.new.probe.visits found) (kept_answer whole (Some whole) c.start_of_walk.new.probe.visits found) c.requires.points_safe)
     c.write_whole.ensures.len (λ few. absurd (omega (arith, few, c.if-contour-lt3.false)))
 
-pub returns-in_err-_probe : goal.returns-in_err-_probe
-returns-in_err-_probe g c =
+pub returns-in_err-probe-clause-answer : goal.returns-in_err-probe-clause-answer
+returns-in_err-probe-clause-answer g c =
     let refused = err_from_is_err_and c.from_residual.result c.from_residual.ensures.1 in
     rw refused.1 (into_refused refused.0 (search rules) (rw c.new-probe.ensures.contour at c.in-Some.ensures.unclean) (omega (arith, c.if-contour-lt3.false)) refl)
 
-pub returns-in_default-left : goal.returns-in_default-left
-returns-in_default-left g c =
+pub returns-in_default-left-clause-answer : goal.returns-in_default-left-clause-answer
+returns-in_default-left-clause-answer g c =
     let value = g.P.Coordinate.IntNumber.value in
     let read = λ (list : List g.row.P.Denot). contour_of value (g.P.ContourPoint.points list) in
     let counts = λ (list : List g.row.P.Denot). length-contour value (g.P.ContourPoint.points list) ∙ points-length g.P.ContourPoint.point g.P.ContourPoint.points g.P.ContourPoint.each list in
     let whole = read c.args.contour.now in
-    let first : c.start_of_walk.new.probe.contour ≡ g.P.ContourPoint.points c.args.contour.now = c.start_of_walk.ensures.contour ∙ c.new-probe.ensures.contour in
+    let first : c.in_ok-probe.probe.contour ≡ g.P.ContourPoint.points c.args.contour.now = c.in_ok-probe.ensures.contour ∙ (c.start_of_walk.ensures.contour ∙ c.new-probe.ensures.contour) in
     into 0
     (nothing_written g.P.Coordinate.IntNumber.width read counts c.args.contour.now c.args.out.now IsZeroTurn SimpleAnswer (simple_answer whole) (kept_answer whole)
-    c.in_ok-_probe._probe.visits (rw (first, c.in_default-left.is) at c.in_ok-_probe.ensures.answer)) refl (λ few. refl)
+    c.close-probe.result.0.visits (rw (first, c.in_default-left.is) at c.close-probe.ensures.answer)) refl (λ few. refl)
 
 pub write_at-requires-clause-below : goal.write_at-requires-clause-below
 write_at-requires-clause-below g c =
-    let first : c.start_of_walk.new.probe.contour ≡ g.P.ContourPoint.points c.args.contour.now = c.start_of_walk.ensures.contour ∙ c.new-probe.ensures.contour in
-    rising_below _ _ (rw (first, points-length g.P.ContourPoint.point g.P.ContourPoint.points g.P.ContourPoint.each c.args.contour.now, c.in-Some-left.is) at c.in_ok-_probe.ensures.rising)
+    let first : c.in_ok-probe.probe.contour ≡ g.P.ContourPoint.points c.args.contour.now = c.in_ok-probe.ensures.contour ∙ (c.start_of_walk.ensures.contour ∙ c.new-probe.ensures.contour) in
+    rising_below _ _ (rw (first, points-length g.P.ContourPoint.point g.P.ContourPoint.points g.P.ContourPoint.each c.args.contour.now, c.in-Some-left.is) at c.close-probe.ensures.rising)
 
 pub write_at-requires-clause-room : goal.write_at-requires-clause-room
 write_at-requires-clause-room g c =
@@ -71,23 +71,39 @@ write_at-requires-clause-room g c =
     let read = λ (list : List g.row.P.Denot). contour_of value (g.P.ContourPoint.points list) in
     let counts = λ (list : List g.row.P.Denot). length-contour value (g.P.ContourPoint.points list) ∙ points-length g.P.ContourPoint.point g.P.ContourPoint.points g.P.ContourPoint.each list in
     let whole = read c.args.contour.now in
-    let first : c.start_of_walk.new.probe.contour ≡ g.P.ContourPoint.points c.args.contour.now = c.start_of_walk.ensures.contour ∙ c.new-probe.ensures.contour in
-    let found : Finds IsZeroTurn whole (map (point_at whole) c.in-Some-left.places.now) c.in_ok-_probe._probe.visits = rw (first, c.in-Some-left.is) at c.in_ok-_probe.ensures.answer in
+    let first : c.in_ok-probe.probe.contour ≡ g.P.ContourPoint.points c.args.contour.now = c.in_ok-probe.ensures.contour ∙ (c.start_of_walk.ensures.contour ∙ c.new-probe.ensures.contour) in
+    let found : Finds IsZeroTurn whole (map (point_at whole) c.in-Some-left.places.now) c.close-probe.result.0.visits = rw (first, c.in-Some-left.is) at c.close-probe.ensures.answer in
     omega (arith, c.requires.room, reach_shrinks found.ended.reached, length-map c.in-Some-left.places.now (point_at whole), counts c.args.contour.now)
 
-pub returns : goal.returns
-returns g c =
+pub returns-clause-answer : goal.returns-clause-answer
+returns-clause-answer g c =
     let value = g.P.Coordinate.IntNumber.value in
     let read = λ (list : List g.row.P.Denot). contour_of value (g.P.ContourPoint.points list) in
     let counts = λ (list : List g.row.P.Denot). length-contour value (g.P.ContourPoint.points list) ∙ points-length g.P.ContourPoint.point g.P.ContourPoint.points g.P.ContourPoint.each list in
     let whole = read c.args.contour.now in
-    let first : c.start_of_walk.new.probe.contour ≡ g.P.ContourPoint.points c.args.contour.now = c.start_of_walk.ensures.contour ∙ c.new-probe.ensures.contour in
-    let found : Finds IsZeroTurn whole (map (point_at whole) c.in-Some-left.places.now) c.in_ok-_probe._probe.visits = rw (first, c.in-Some-left.is) at c.in_ok-_probe.ensures.answer in
+    let first : c.in_ok-probe.probe.contour ≡ g.P.ContourPoint.points c.args.contour.now = c.in_ok-probe.ensures.contour ∙ (c.start_of_walk.ensures.contour ∙ c.new-probe.ensures.contour) in
+    let found : Finds IsZeroTurn whole (map (point_at whole) c.in-Some-left.places.now) c.close-probe.result.0.visits = rw (first, c.in-Some-left.is) at c.close-probe.ensures.answer in
     let items = c.write_at.ensures.items in
     into c.write_at.result
     (points_written g.P.Coordinate.IntNumber.width read counts c.args.contour.now c.args.out.now IsZeroTurn SimpleAnswer (simple_answer whole) (kept_answer whole)
-    c.write_at.new.out c.write_at.result (map (point_at whole) c.in-Some-left.places.now) c.in_ok-_probe._probe.visits c.requires.points_safe
-    (picked_at c.args.contour.now _ c.in-Some-left.places.now (rw (first, points-length g.P.ContourPoint.point g.P.ContourPoint.points g.P.ContourPoint.each c.args.contour.now, c.in-Some-left.is) at c.in_ok-_probe.ensures.rising) items)
+    c.write_at.new.out c.write_at.result (map (point_at whole) c.in-Some-left.places.now) c.close-probe.result.0.visits c.requires.points_safe
+    (picked_at c.args.contour.now _ c.in-Some-left.places.now (rw (first, points-length g.P.ContourPoint.point g.P.ContourPoint.points g.P.ContourPoint.each c.args.contour.now, c.in-Some-left.is) at c.close-probe.ensures.rising) items)
     (kept-contour value (g.P.ContourPoint.points c.args.contour.now) _ c.in-Some-left.places.now (points-at-places g.P.ContourPoint.point g.P.ContourPoint.points g.P.ContourPoint.each c.args.contour.now _ c.in-Some-left.places.now items))
     (c.write_at.ensures.count ∙ sym (length-map c.in-Some-left.places.now (point_at whole))) c.write_at.ensures.rest found) c.write_at.ensures.len
     (λ few. absurd (omega (arith, few, c.if-contour-lt3.false)))
+
+pub returns-in_err-probe-clause-reserved : goal.returns-in_err-probe-clause-reserved
+returns-in_err-probe-clause-reserved g c = λ room.
+    let long : length c.start_of_walk.new.probe.contour ≡ length c.args.contour.now = ap length (c.start_of_walk.ensures.contour ∙ c.new-probe.ensures.contour) ∙ points-length g.P.ContourPoint.point g.P.ContourPoint.points g.P.ContourPoint.each c.args.contour.now in
+    let taken : false ≡ true = c.in_err-probe.ensures.reserved (rw long room) in
+    cc
+
+pub returns-in_default-left-clause-takes_room : goal.returns-in_default-left-clause-takes_room
+returns-in_default-left-clause-takes_room g c = λ enough unclean.
+    let long : length c.start_of_walk.new.probe.contour ≡ length c.args.contour.now = ap length (c.start_of_walk.ensures.contour ∙ c.new-probe.ensures.contour) ∙ points-length g.P.ContourPoint.point g.P.ContourPoint.points g.P.ContourPoint.each c.args.contour.now in
+    rw (← long) c.in_ok-probe.ensures.takes_room
+
+pub returns-clause-takes_room : goal.returns-clause-takes_room
+returns-clause-takes_room g c = λ enough unclean.
+    let long : length c.start_of_walk.new.probe.contour ≡ length c.args.contour.now = ap length (c.start_of_walk.ensures.contour ∙ c.new-probe.ensures.contour) ∙ points-length g.P.ContourPoint.point g.P.ContourPoint.points g.P.ContourPoint.each c.args.contour.now in
+    rw (← long) c.in_ok-probe.ensures.takes_room
