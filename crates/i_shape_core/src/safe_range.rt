@@ -19,7 +19,7 @@ pub fn are_safe<P: ContourPoint>(points: &[P]) -> bool
         return is_safe_block(points);
     }
     // Where a point takes several steps to test, four points fewer are worth a branch.
-    if count < 12 && P::Coordinate::BITS == 64 {
+    if count <= 12 && P::Coordinate::BITS == 64 {
         return is_safe_block(&points[..8]) & is_safe_block(&points[count - 4..]);
     }
     if count < 16 {

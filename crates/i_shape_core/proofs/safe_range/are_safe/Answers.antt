@@ -7,7 +7,7 @@ use Rattle.i_shape_core.proofs.safe_range.are_safe.Goals as goal
 pub returns-then-BITS-eq64 : goal.returns-then-BITS-eq64
 returns-then-BITS-eq64 g c =
     two_blocks (λ p. IsSafe g.P.Coordinate.IntNumber.width (point_of g.P.Coordinate.IntNumber.value (g.P.ContourPoint.point p))) c.args.points.now 8 (length c.args.points.now - 4)
-    c.is_safe_block-then-BITS-eq64.result c.is_safe_block-then-BITS-eq64-2.result (omega (arith, c.if-count-lt12.true, c.if-count-lt8.false))
+    c.is_safe_block-then-BITS-eq64.result c.is_safe_block-then-BITS-eq64-2.result (omega (arith, c.if-count-le12.true, c.if-count-lt8.false))
     c.is_safe_block-then-BITS-eq64.ensures c.is_safe_block-then-BITS-eq64-2.ensures
 
 pub returns-then-count-lt16 : goal.returns-then-count-lt16
