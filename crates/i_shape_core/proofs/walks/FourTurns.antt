@@ -64,7 +64,7 @@ module _ (c : List Point) where
     ]
   ]
 
-  -- up to turns that are no zero turns, the way goes back nowhere but perhaps at the first place
+  -- where the way doesn't go back at the first place, it goes back nowhere up to turns that are no zero turns
   pub turning_onward : (n : ℕ) → n + 2 ≤ length c → IsTurning c n → ((j : ℕ) → j < 1 → IsRemovable IsBack c j → ⊥) → (j : ℕ) → j < n + 1 → IsRemovable IsBack c j → ⊥
   turning_onward zero within turning first j lt = first j lt
   turning_onward (suc n) within turning first j lt =
