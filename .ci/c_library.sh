@@ -179,7 +179,7 @@ test_rust() {
 
 if [ "${1-}" = --if-built ] && ! bash bindings/c/build.sh --is-built; then
     echo 'the C library and the crate for Rust are not tested: `make c` builds them'
-    echo "c library: 0 passed, 0 failed, $((57 + $(count_rust_tests))) skipped"
+    echo "c library: 0 passed, 0 failed, $((58 + $(count_rust_tests))) skipped"
     exit 0
 fi
 work=$(mktemp -d) || exit 1

@@ -156,6 +156,7 @@ template <class Point>
 struct CallsFor : Calls<sizeof(typename PointTraits<Point>::Coordinate)> {
     using Coordinate = typename PointTraits<Point>::Coordinate;
     static_assert(std::is_integral_v<Coordinate> && std::is_signed_v<Coordinate>, "i_shape: a coordinate is a signed whole number");
+    static_assert(!std::is_const_v<Coordinate>, "i_shape: a coordinate isn't const");
     static_assert(std::is_standard_layout_v<Point>, "i_shape: a point has standard layout");
     static_assert(sizeof(Point) == 2 * sizeof(Coordinate), "i_shape: a point is its two coordinates and nothing else");
     static_assert(PointTraits<Point>::x_offset == 0 && PointTraits<Point>::y_offset == sizeof(Coordinate),

@@ -27,6 +27,8 @@ struct Point { std::int32_t across, up; };
 struct Point { std::int8_t x, y; };
 #elif REFUSED == 10 /* the points of a vector have a default constructor */
 struct Point { Point(std::int32_t across, std::int32_t up) : x(across), y(up) {} std::int32_t x, y; };
+#elif REFUSED == 11 /* a coordinate isn't const */
+struct Point { const std::int32_t x = 0, y = 0; };
 #endif
 
 std::vector<Point> left(const std::vector<Point> &points);
