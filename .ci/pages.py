@@ -231,7 +231,7 @@ def fault_of_gate():
 
 
 def fault_of_edits():
-    """docs/develop/CONTRACTS.md names each edit of must-fail/, beside each crate's name its edits alone, and as `Mutants:` of any crate no other."""
+    """docs/develop/CONTRACTS.md names each edit of must-fail/, beside each crate's name its edits alone, and behind `Mutants:` only edits that some crate has."""
     page = read(f"{TOP}/docs/develop/CONTRACTS.md")
     edits = {kind: {tuple(name.removesuffix(".edit").split("/")[-3::2]) for name in files([f"crates/*/{kind}/*.edit"])} for kind in ("must-fail", "wrong")}
     named = set()

@@ -32,7 +32,8 @@ end_all() {
 trap end_all EXIT
 trap 'exit 130' HUP INT TERM
 
-# Tells the processor minutes of all that has ended since it was called last. A subshell would count its own.
+# Tells the processor minutes of all that was waited for since it was called last, also of what ran beside the part; not of what the part left behind. A subshell would
+# count its own.
 worked=0
 tell_work() {
     times > "$work/times"

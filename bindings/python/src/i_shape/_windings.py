@@ -90,6 +90,7 @@ def _are_many(contours: Any) -> bool:
     if not isinstance(contours, tuple) or len(contours) != 2:
         return False
     points = contours[0]
+    # An empty list of points has one dimension, as a point has.
     return np.ndim(points) == 2 or np.size(points) == 0
 
 
