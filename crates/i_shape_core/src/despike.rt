@@ -1,6 +1,6 @@
 //! Contours without spikes: the tests, the cleaned copy, and the cleaner.
 
-ghost use Rattle.std.specs.Prelude.{◌≡◌, ◌↔◌, ◌+◌, ◌-◌, ◌*◌, ◌^◌, ◌<◌, ◌≤◌, List, Some, length, map, option_map, false, IsTrue, IsNone, IfOk, OnOk, IsOk, IsOkUnless};
+ghost use Rattle.std.specs.Prelude.{◌≡◌, ◌↔◌, ◌+◌, ◌-◌, ◌*◌, ◌^◌, ◌<◌, ◌≤◌, List, Some, length, map, option_map, false, IsTrue, IsNone, IfOk, OnOk, IsOk, IsOkUnless, vec_capacity};
 ghost use Rattle.std.specs.Option.{IfSome};
 ghost use Rattle.std.specs.List.{All};
 ghost use Rattle.i_shape_core.specs.IntPoint.{contour_of, point_of, IsSafe, answered, IsSafeContour};
@@ -102,7 +102,8 @@ pub struct ContourDeSpiker {
 impl ContourDeSpiker {
     /// A remover of spikes that takes its memory from `alloc`.
     pub fn new(alloc: Global) -> ContourDeSpiker
-        ensures { result.room ≡ 0 }
+        ensures room { result.room ≡ 0 }
+        ensures empty { vec_capacity result.places ≡ 0 }
     {
         ContourDeSpiker::with_room(alloc, 0)
     }
@@ -110,7 +111,8 @@ impl ContourDeSpiker {
     /// A remover of spikes that takes its memory from `alloc`: that for the places of its walks once where no contour has more
     /// than `room` points, and none before a contour needs it.
     pub fn with_room(alloc: Global, room: usize) -> ContourDeSpiker
-        ensures { result.room ≡ room }
+        ensures room { result.room ≡ room }
+        ensures empty { vec_capacity result.places ≡ 0 }
     {
         ContourDeSpiker {
             places: Vec::new(alloc),
@@ -175,6 +177,7 @@ impl ContourDeSpiker {
         ensures answer { CleansInto IsDespikedAlready SpikelessAnswer KeptAnswer Sublist
             P.Coordinate.width (λ list. contour_of P.Coordinate.value (P.points list))
             contour.now out.old out.new result }
+        ensures three { length contour.now ≤ 3 → IsOk result }
         ensures reserved { HasRoomToDespike self.old (length contour.now) → IsOk result }
         ensures keeps_room { KeepsRoomToDespike self.old self.new }
         ensures takes_room { let c = contour_of P.Coordinate.value (P.points contour.now) in
@@ -208,7 +211,7 @@ impl ContourDeSpiker {
         ensures keeps_room { KeepsRoomToDespike self.old self.new }
         ensures memory { IsOkUnless result ShapeError.OutOfMemory }
     {
-        let alloc = *self.places.allocator();
+        let alloc = self.allocator();
         let Some(place) = first_back(&mut probe) else {
             return probe.keep_whole(alloc);
         };
@@ -236,6 +239,7 @@ impl ContourDeSpiker {
             → RisingPlaces (length probe.entry.contour) self.new.places.items) }
         ensures falls { let c = contour_of P.Coordinate.value probe.entry.contour in
             IfOk result (λ r. r.1 ≡ false → Falls IsBack c r.0.visits) }
+        ensures three { length probe.entry.contour ≤ 3 → IsOk result }
         ensures reserved { HasRoomToDespike self.old (length probe.entry.contour) → IsOk result }
         ensures keeps_room { KeepsRoomToDespike self.old self.new }
         ensures takes_room { OnOk result (3 < length probe.entry.contour
@@ -248,7 +252,7 @@ impl ContourDeSpiker {
         }
         self.places.clear();
         self.places.reserve(count.max(self.room))?;
-        let alloc = *self.places.allocator();
+        let alloc = self.allocator();
         let memory = mem::replace(&mut self.places, Vec::new(alloc));
         let mut ring = Ring::starting_at(memory, count, place);
         ring.remove();

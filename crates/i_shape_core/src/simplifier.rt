@@ -31,7 +31,8 @@ pub struct ContourSimplifier {
 impl ContourSimplifier {
     /// A simplifier that takes its memory from `alloc`.
     pub fn new(alloc: Global) -> ContourSimplifier
-        ensures { result.room ≡ 0 }
+        ensures room { result.room ≡ 0 }
+        ensures empty { vec_capacity result.stack ≡ 0 }
     {
         ContourSimplifier::with_room(alloc, 0)
     }
@@ -39,7 +40,8 @@ impl ContourSimplifier {
     /// A simplifier that takes its memory from `alloc`: that for the places of its walks once where no contour has more than
     /// `room` points, and none before a contour needs it.
     pub fn with_room(alloc: Global, room: usize) -> ContourSimplifier
-        ensures { result.room ≡ room }
+        ensures room { result.room ≡ room }
+        ensures empty { vec_capacity result.stack ≡ 0 }
     {
         ContourSimplifier {
             stack: Vec::new(alloc),

@@ -116,3 +116,9 @@ pub returns-clause-takes_room : goal.returns-clause-takes_room
 returns-clause-takes_room g c = λ more unclean.
     let long : length c.first_back.new.probe.contour ≡ length c.args.contour.now = ap length (c.first_back.ensures.contour ∙ c.new-probe.ensures.contour) ∙ points-length g.P.ContourPoint.point g.P.ContourPoint.points g.P.ContourPoint.each c.args.contour.now in
     rw long at (c.in_ok-_probe.ensures.takes_room (rw long more))
+
+pub returns-in_err-_probe-clause-three : goal.returns-in_err-_probe-clause-three
+returns-in_err-_probe-clause-three g c = λ few.
+    let long : length c.first_back.new.probe.contour ≡ length c.args.contour.now = ap length (c.first_back.ensures.contour ∙ c.new-probe.ensures.contour) ∙ points-length g.P.ContourPoint.point g.P.ContourPoint.points g.P.ContourPoint.each c.args.contour.now in
+    let taken : false ≡ true = c.in_err-_probe.ensures.three (rw long few) in
+    cc
