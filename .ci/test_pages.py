@@ -96,6 +96,7 @@ def main():
         ("an edit that isn't named", with_text("CONTRACTS.md", "`no_step_back`", "", pages.fault_of_edits) is not None),
         ("an edit that isn't there", with_text("CONTRACTS.md", "`no_step_back`", "`no_step_back`, `nothing`", pages.fault_of_edits) is not None),
         ("an edit of any crate that isn't there", with_text("CONTRACTS.md", "Mutants: `lends_all_points`", "Mutants: `nothing`", pages.fault_of_edits) is not None),
+        ("an edit of any crate that isn't there, on a further line", with_text("CONTRACTS.md", "`slice_closing_edge_left_out`", "`nothing`", pages.fault_of_edits) is not None),
         ("a part of the gate that isn't named", with_text("GATE.md", "`.ci/pictures.sh`", "`nothing`", pages.fault_of_gate) is not None),
         ("a file of lemmas that isn't named", with_text("ARCHITECTURE.md", "`CrossProducts`", "", pages.fault_of_lemmas) is not None),
     ]

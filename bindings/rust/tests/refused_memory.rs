@@ -14,7 +14,9 @@ use i_shape::int::despike::{DeSpike, DeSpikeContour, DeSpikeShape, DeSpikeShapes
 use i_shape::int::path::ContourExtension;
 use i_shape::int::simple::{SimpleContour, SimpleShape, SimpleShapes, Simplify};
 use i_shape::int::winding::ShapeExtension;
-use shared::{FLAT, HOLE, Number, SPIKED, SQUARE, STRAIGHT, at_each_width, contour, point, shapes};
+use shared::{
+    FLAT, Growing, HOLE, Number, SPIKED, SQUARE, STRAIGHT, at_each_width, contour, point, shapes,
+};
 use std::alloc::{GlobalAlloc, Layout, System};
 use std::cell::Cell;
 use std::panic::{AssertUnwindSafe, catch_unwind};
@@ -250,6 +252,11 @@ fn batches<I: Number>() {
 
     assert_eq!(growths(|| OwnedContours::try_from_contours(&rings)), 2);
     assert_eq!(growths(|| OwnedShapes::try_from_shapes(&[&rings[..]])), 3);
+    // of points, of offsets, and of the points that come between two looks
+    let grown = || OwnedContours::try_from_contours(&[(); 2].map(|_| Growing::new(&rings[0])));
+    assert_eq!(growths(grown), 3);
+    let grown = || OwnedShapes::try_from_shapes(&[(); 2].map(|_| Growing::new(&rings)));
+    assert!(growths(grown) > 3);
     assert_eq!(growths(|| offsets::try_from_lengths([1, 2, 3])), 1);
     assert_eq!(growths(|| offsets::try_from_ranges(&[0..2, 2..5])), 1);
     let extended = || {

@@ -1,8 +1,8 @@
 //! Batch calls over borrowed points and offsets, and the buffers.
 
 use crate::shared::{
-    FLAT, HOLE, Number, SPIKED, SQUARE, STAR, STRAIGHT, Written, at_each_width, contour, point,
-    shape, shapes,
+    FLAT, Growing, HOLE, Number, SPIKED, SQUARE, STAR, STRAIGHT, Written, at_each_width, contour,
+    point, shape, shapes,
 };
 use i_shape::flat::buffer::{FlatContoursBuffer, FlatShapesBuffer};
 use i_shape::flat::{Contours, OwnedContours, OwnedShapes, Shapes, offsets};
@@ -13,7 +13,6 @@ use i_shape::int::shape::IntContour;
 use i_shape::int::simple::SimpleContour;
 use i_shape::source::int::resource::IntShapeResource;
 use i_shape::{Error, FillRule};
-use std::cell::Cell;
 
 at_each_width!(
     contours_as_one_by_one,
@@ -490,31 +489,13 @@ fn buffers_of_shapes<I: Number>() {
     assert_eq!(buffer, FlatShapesBuffer::default());
 }
 
-/// A list that has one item more each time it is looked at.
-struct Growing<T> {
-    items: Vec<T>,
-    looks: Cell<usize>,
-}
-
-impl<T> Growing<T> {
-    fn new(items: Vec<T>) -> Self {
-        let looks = Cell::new(0);
-        Growing { items, looks }
-    }
-}
-
-impl<T> AsRef<[T]> for Growing<T> {
-    fn as_ref(&self) -> &[T] {
-        self.looks.set(self.looks.get() + 1);
-        &self.items[..self.looks.get()]
-    }
-}
-
 fn lists_that_grow_between_two_looks<I: Number>() {
-    let contours = [(); 2].map(|_| Growing::new(contour::<I>(&SQUARE)));
+    let ring = contour::<I>(&SQUARE);
+    let contours = [(); 2].map(|_| Growing::new(&ring));
     let (points, offsets) = OwnedContours::from_contours(&contours).into_parts();
     assert_eq!(offsets.last(), Some(&points.len()));
-    let shapes = [(); 2].map(|_| Growing::new(shape::<I>(&[&SQUARE, &HOLE, &STAR])));
+    let polygon = shape::<I>(&[&SQUARE, &HOLE, &STAR]);
+    let shapes = [(); 2].map(|_| Growing::new(&polygon));
     let (points, contours, shapes) = OwnedShapes::from_shapes(&shapes).into_parts();
     assert_eq!(contours.last(), Some(&points.len()));
     assert_eq!(shapes.last(), Some(&(contours.len() - 1)));

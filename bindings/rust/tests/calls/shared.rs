@@ -2,6 +2,7 @@
 
 use i_shape::int::shape::{IntContour, IntShape, IntShapes};
 use i_shape::int::{IntNumber, IntPoint};
+use std::cell::Cell;
 use std::fmt::Debug;
 
 /// A coordinate that small numbers can be turned into.
@@ -79,3 +80,23 @@ macro_rules! at_each_width {
 }
 
 pub(crate) use at_each_width;
+
+/// A list that has one item more each time it is looked at.
+pub struct Growing<'a, T> {
+    items: &'a [T],
+    looks: Cell<usize>,
+}
+
+impl<'a, T> Growing<'a, T> {
+    pub fn new(items: &'a [T]) -> Self {
+        let looks = Cell::new(0);
+        Growing { items, looks }
+    }
+}
+
+impl<T> AsRef<[T]> for Growing<'_, T> {
+    fn as_ref(&self) -> &[T] {
+        self.looks.set(self.looks.get() + 1);
+        &self.items[..self.looks.get()]
+    }
+}
