@@ -13,7 +13,7 @@ pub enum Error {
     /// Offsets don't part what they are offsets of, or a slice that the call writes is too short.
     /// It is tested before the points are.
     Unfit,
-    /// An allocation failed, or a vector can't be as long as it would have to be.
+    /// An allocation failed, or a vector would be too long.
     NoMemory,
     /// A contour has no point, and so no area.
     NoPoint,
