@@ -53,7 +53,7 @@ typedef struct { uint64_t low, high; } i_shape_halves;
  * contour collapses. I_SHAPE_UNFIT: room is below count. Behind these points, and after a code, out is as it was. Below
  * three points, and for a contour that is clean, no memory is taken. */
 
-/* Without zero turns: the one end, but for its start, of removing them in any order. */
+/* Without zero turns: one result up to rotation, whatever the order of removal. */
 ptrdiff_t i_shape_simplify_i32(const i_shape_point_i32 *points, size_t count, i_shape_point_i32 *out, size_t room);
 /* Without the points at which the way turns back or stands still. */
 ptrdiff_t i_shape_despike_i32(const i_shape_point_i32 *points, size_t count, i_shape_point_i32 *out, size_t room);

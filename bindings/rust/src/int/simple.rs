@@ -28,8 +28,8 @@ pub trait SimpleContour<I: IntNumber> {
         answered(self.try_is_simple())
     }
 
-    /// The contour without zero turns: the one end, but for its start, of removing them in any
-    /// order. `None` where it collapses.
+    /// The contour without zero turns: one result up to rotation, whatever the order of removal.
+    /// `None` where it collapses.
     fn try_simplified(&self) -> Result<Option<IntContour<I>>, Error>;
 
     /// The contour without zero turns, `None` where it collapses.
