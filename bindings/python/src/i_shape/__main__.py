@@ -48,8 +48,8 @@ def _options(words: Optional[Sequence[str]]) -> argparse.Namespace:
     parser = argparse.ArgumentParser(
         prog="python -m i_shape",
         description="Cleans the polygons of a file on a grid. Properties"
-        " stay, where OUT has some, and a feature of which nothing is left"
-        " is empty. OUT is written whole or not at all.")
+        " stay in GeoJSON, and a feature of which nothing is left is empty."
+        " OUT is written whole or not at all.")
     # -1e6 is a number too, and no option begins with a digit.
     parser._negative_number_matcher = re.compile(r"-\.?\d")
     parser.add_argument(

@@ -15,10 +15,10 @@ class UnsafePointError(ValueError):
     Attributes
     ----------
     ring : int or None
-        Index of the first ring that has an unsafe point; None for a call on
-        one contour or on points alone, but 0 for a contour of
-        :func:`i_shape.winding_numbers` and :func:`i_shape.contains_points`;
-        None where it is a point that a call is asked about.
+        Index of the first ring that has an unsafe point. One contour given
+        to :func:`i_shape.winding_numbers` or :func:`i_shape.contains_points`
+        is ring 0. None for other calls on one contour or on points alone,
+        and where it is a point that a call is asked about.
     point : int or None
         Row of the first unsafe point in ``points``; None where it is a
         point that a call is asked about, as :func:`i_shape.contains` is.

@@ -187,12 +187,12 @@ def processors() -> int:
 
 
 def as_parts(threads: Any, items: int) -> int:
-    """How many threads share so many items, where ``threads`` may."""
+    """How many threads share so many items: at most ``threads``."""
     return max(min(as_threads(threads), items, processors()), 1)
 
 
 def run_parts(run: Callable[[int], Part], parts: int) -> list[Part]:
-    """What each part answers; several have a thread of their own each."""
+    """What each part answers. Several parts run in a thread each."""
     if parts == 1:
         return [run(0)]
     with ThreadPoolExecutor(parts) as pool:

@@ -50,8 +50,7 @@ def _clean_part(call: Any, points: Array, offsets: Array,
 
 
 def equal_cuts(offsets: Array, parts: int) -> list[int]:
-    """The rings at which to part the work, so that the sums of points and
-    rings are about equal."""
+    """Where to part the rings: about equal sums of points and rings."""
     work = offsets + np.arange(len(offsets))
     whole = int(work[-1]) - int(work[0])
     goals = [int(work[0]) + whole * part // parts for part in range(1, parts)]
@@ -164,8 +163,8 @@ def simplify_rings(points: npt.NDArray[Int], offsets: npt.ArrayLike, *,
     ------
     OffsetsError
         There is no offset, one is below 0 or below the one before it, or
-        the last one is above n. Offsets are tested before it is tested
-        whether points are safe.
+        the last one is above n. Offsets are tested before the safety of
+        points.
     UnsafePointError
         A coordinate of a ring isn't strictly between ``-2**(W-2)`` and
         ``2**(W-2)`` for a dtype of ``W`` bits; ``ring`` is the first such

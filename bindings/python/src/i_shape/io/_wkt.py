@@ -132,7 +132,7 @@ def from_wkt(texts: Iterable[str]) -> Features:
         coordinates; a coordinate isn't a finite number. It names the
         feature, and the polygon, ring and point where there is one.
     TypeError
-        ``texts`` are one text.
+        ``texts`` is a single string.
 
     See also
     --------
