@@ -16,7 +16,7 @@ pub fn simplify_into<W: Width>(points: &[Point<W>], out: &mut [Point<W>]) -> Opt
     Some(points.len())
 }
 
-/// The same for C: the safe range is tested in a pass of its own, which costs little more than testing it in the same pass.
+/// The same for C: the safe range is tested in a pass of its own.
 #[inline(always)]
 pub fn c_simplify<W: Width>(points: &[Point<W>], out: &mut [Point<W>]) -> Option<usize> {
     if !is_in_safe_range(points) {
