@@ -1,4 +1,5 @@
 //! Corners of a caller's own type, cleaned where they lie.
+#![forbid(unsafe_code)]
 
 use i_shape::Error;
 use i_shape::int::simple::SimpleContour;

@@ -132,8 +132,8 @@ const _: () = assert!(is_laid_out::<i16>() && is_laid_out::<i32>() && is_laid_ou
 /// i_shape::contour_point!(Lent { x, y }: i64);
 /// ```
 ///
-/// The macro expands to an `unsafe impl`. A crate that forbids `unsafe_code` can have its points as
-/// `[i32; 2]`.
+/// It expands to an `unsafe impl` behind these tests, and compiles under
+/// `#![forbid(unsafe_code)]` too.
 #[macro_export]
 macro_rules! contour_point {
     ($point:ty { $x:tt, $y:tt }: $number:ty) => {
@@ -159,7 +159,6 @@ macro_rules! contour_point {
         };
         // SAFETY: size, alignment, places and types of the fields are those of `IntPoint`, and of
         // two numbers each is a value.
-        #[allow(unsafe_code)]
         unsafe impl $crate::int::ContourPoint for $point {
             type Coordinate = $number;
         }
