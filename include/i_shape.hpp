@@ -1,4 +1,4 @@
-/* The calls of i_shape.h for C++17, over points of any type that is two signed whole numbers of one width: templates,
+/* The calls of i_shape.h for C++17, over points of any type that is two signed whole numbers of one type: templates,
  * over libi_shape.a or libi_shape.so. Each call but flat and nested makes the C call of its name, less _into, which
  * i_shape.h describes; docs/CPP.md has samples.
  *
