@@ -68,8 +68,9 @@ class Frame(NamedTuple):
 def answer(program: Path, command: str, contour: Contour) -> Contour | None:
     """What the program answers for a contour: none where it collapses."""
     line = " ".join(f"{x} {y}" for x, y in contour) + "\n"
-    told = subprocess.run([program, command], input=line, text=True,
-                          stdout=subprocess.PIPE, check=True).stdout
+    told = subprocess.run([program.absolute(), command], input=line,
+                          text=True, stdout=subprocess.PIPE,
+                          check=True).stdout
     return None if told == "none\n" else read(told)
 
 
