@@ -1,5 +1,5 @@
 #!/usr/bin/env python3
-"""Tests pages.py on small pages: one that is right passes, and one with a fault of each kind doesn't.
+"""Tests pages.py on small pages: one that is right passes, and one with a fault of most kinds doesn't.
 
 The last line is 'tests of pages.py: N passed, M failed'.
 """
@@ -28,6 +28,7 @@ ROWS = [
     ("a clause that is nowhere", "```text\n" + CLAUSE.replace("memory", "room") + "```\n", "failed"),
     ("a text without clauses", "```text\nanything\n```\n", "passed"),
     ("a function of C that is nowhere", "```c\nint nothing(void) {\n```\n", "failed"),
+    ("a function of C++ that is nowhere", "```cpp\nint nothing(void) {\n```\n", "failed"),
     ("a declaration of C", "```c\nuint32_t i_shape_version(void);\n```\n", "passed"),
     ("a declaration of C that is nowhere", "```c\nuint64_t i_shape_version(void);\n```\n", "failed"),
     ("a program of JavaScript", "```js\n" + pages.read(f"{pages.TOP}/bindings/js/sample.js") + "```\n", "passed"),
@@ -44,6 +45,7 @@ ROWS = [
     ("a link to no page", "[a](nothing.md)\n", "failed"),
     ("a link to no heading", "# One\n[a](#two)\n", "failed"),
     ("a link to no heading of a page", "[a](README.md#no-limits)\n", "failed"),
+    ("the end of a merge", "one\n>>>>>>> other\n", "failed"),
     ("a merge that wasn't ended", "<<<<<<< HEAD\none\n=======\ntwo\n>>>>>>> other\n", "failed"),
 ]
 
@@ -98,6 +100,7 @@ def main():
         ("an edit of any crate that isn't there", with_text("CONTRACTS.md", "Mutants: `lends_all_points`", "Mutants: `nothing`", pages.fault_of_edits) is not None),
         ("an edit of any crate that isn't there, on a further line", with_text("CONTRACTS.md", "`slice_closing_edge_left_out`", "`nothing`", pages.fault_of_edits) is not None),
         ("a part of the gate that isn't named", with_text("GATE.md", "`.ci/pictures.sh`", "`nothing`", pages.fault_of_gate) is not None),
+        ("a script that is no part of the gate", with_text("GATE.md", "`.ci/pictures.sh`", "`.ci/pictures.sh`: both.\n- **more**, `.ci/nothing.sh`", pages.fault_of_gate) is not None),
         ("a file of lemmas that isn't named", with_text("ARCHITECTURE.md", "`CrossProducts`", "", pages.fault_of_lemmas) is not None),
     ]
     failed = [name for name, is_right in rows if not is_right]
