@@ -8,6 +8,5 @@ pub mod Fillings
 pub mod Boundaries
 pub mod AreaWalk
 pub mod AreaByPlaces
-pub mod AreaByPoints
 pub mod InsideWalk
 pub mod WindingWalk

@@ -25,10 +25,6 @@ abbrev pub inside_after : Point → Bool → Point → List Point → Bool
 inside_after p s q [] = s
 inside_after p s q (r ∷ rs) = inside_after p (cond (is_right p (record { start = q; end = r })) (not s) s) r rs
 
--- all points are on the side of q: above p where q is, and else none of them
-abbrev pub IsOnSide : Point → Point → List Point → Type 0
-IsOnSide p q ps = All (λ a. is_above p a ≡ is_above p q) ps
-
 -- the edges of the way from q over the points
 abbrev pub path_over : Point → List Point → List Edge
 path_over q [] = []

@@ -4,7 +4,6 @@ pub mod Point
 pub mod IntPoint
 pub mod Contour
 pub mod Edges
-pub mod AreaParts
 pub mod Winding
 pub mod Moves
 pub mod Convex

@@ -7,7 +7,7 @@ ghost use Rattle.i_shape_core.specs.Point.{Point};
 ghost use Rattle.i_shape_core.specs.Edges.{shoelace, Inside, is_above, is_right};
 ghost use Rattle.i_shape_core.specs.Winding.{winding};
 ghost use Rattle.i_shape_core.specs.Filling.{IsFilled};
-ghost use Rattle.i_shape_core.specs.Blocks.{inside_after, IsOnSide};
+ghost use Rattle.i_shape_core.specs.Blocks.{inside_after};
 ghost use Rattle.i_shape_core.specs.Convex.{Convex};
 
 use crate::area::area_of;
@@ -162,80 +162,7 @@ pub fn contains_point<P: ContourPoint>(contour: &[P], point: IntPoint<P::Coordin
         return false;
     };
     let start = last.to_point();
-    // Fewer points make no block, and a product of 128 bits costs more than a branch.
-    if contour.len() < 16 || P::Coordinate::BITS > 32 {
-        return is_inside_by_fours(false, point, start, contour);
-    }
-    is_inside_by_blocks(point, start, contour)
-}
-
-/// How many blocks in a row are looked at, though none can be passed over, before a walk goes on without a look.
-pub(crate) const LOOKS: usize = 2;
-
-/// How many blocks in a row a walk goes over, with those it looked at, before it looks at one again: where points are in disorder a
-/// look costs more than it saves.
-pub(crate) const ROUND: usize = 16;
-
-/// The same as `is_inside_after` of a point that wasn't inside before. A block of 16 points on the side of the point before them, over
-/// which no edge passes the height of `point`, is passed over, where the walk looks at it.
-#[inline(never)]
-fn is_inside_by_blocks<P: ContourPoint>(
-    point: IntPoint<P::Coordinate>,
-    first: IntPoint<P::Coordinate>,
-    points: &[P],
-) -> bool
-    requires point_safe { IsSafe P.Coordinate.width (point_of P.Coordinate.value point) }
-    requires first_safe { IsSafe P.Coordinate.width (point_of P.Coordinate.value first) }
-    requires points_safe { IsSafeContour P.Coordinate.width
-        (contour_of P.Coordinate.value (P.points points.now)) }
-    ensures { result ≡ inside_after (point_of P.Coordinate.value point)
-        false (point_of P.Coordinate.value first)
-        (contour_of P.Coordinate.value (P.points points.now)) }
-{
-    let mut start = first;
-    let mut is_inside = false;
-    let mut walked: usize = 0;
-    let mut rest = points;
-    while rest.len() >= 16 {
-        let (block, later) = rest.split_at(16);
-        if walked < LOOKS && is_on_side(point, start, block) {
-            walked = 0;
-        } else {
-            is_inside = is_inside_by_products(is_inside, point, start, block);
-            walked = (walked + 1) % ROUND;
-        }
-        start = block[15].to_point();
-        rest = later;
-    }
-    is_inside_by_fours(is_inside, point, start, rest)
-}
-
-/// The same as `is_inside_after`, in blocks of four points, whose loop the compiler can unroll.
-#[inline(always)]
-fn is_inside_by_fours<P: ContourPoint>(
-    was_inside: bool,
-    point: IntPoint<P::Coordinate>,
-    first: IntPoint<P::Coordinate>,
-    points: &[P],
-) -> bool
-    requires point_safe { IsSafe P.Coordinate.width (point_of P.Coordinate.value point) }
-    requires first_safe { IsSafe P.Coordinate.width (point_of P.Coordinate.value first) }
-    requires points_safe { IsSafeContour P.Coordinate.width
-        (contour_of P.Coordinate.value (P.points points.now)) }
-    ensures { result ≡ inside_after (point_of P.Coordinate.value point)
-        was_inside (point_of P.Coordinate.value first)
-        (contour_of P.Coordinate.value (P.points points.now)) }
-{
-    let mut start = first;
-    let mut is_inside = was_inside;
-    let mut rest = points;
-    while rest.len() >= 4 {
-        let (block, later) = rest.split_at(4);
-        is_inside = is_inside_after(is_inside, point, start, block);
-        start = block[3].to_point();
-        rest = later;
-    }
-    is_inside_after(is_inside, point, start, rest)
+    is_inside_after(false, point, start, contour)
 }
 
 /// Whether `point` is inside after the edges from `first` over the points, where `was_inside` tells it of the edges before: each edge that
@@ -267,59 +194,6 @@ fn is_inside_after<P: ContourPoint>(
     is_inside
 }
 
-/// The same without a branch for each point.
-#[inline(always)]
-fn is_inside_by_products<P: ContourPoint>(
-    was_inside: bool,
-    point: IntPoint<P::Coordinate>,
-    first: IntPoint<P::Coordinate>,
-    points: &[P],
-) -> bool
-    requires point_safe { IsSafe P.Coordinate.width (point_of P.Coordinate.value point) }
-    requires first_safe { IsSafe P.Coordinate.width (point_of P.Coordinate.value first) }
-    requires points_safe { IsSafeContour P.Coordinate.width
-        (contour_of P.Coordinate.value (P.points points.now)) }
-    ensures { result ≡ inside_after (point_of P.Coordinate.value point)
-        was_inside (point_of P.Coordinate.value first)
-        (contour_of P.Coordinate.value (P.points points.now)) }
-{
-    let mut is_inside = was_inside;
-    let mut start = first;
-    for given in points {
-        let end = given.to_point();
-        is_inside = is_inside ^ passes_right_by_product(point, start, end);
-        start = end;
-    }
-    is_inside
-}
-
-/// Whether the points of a block are all on the side of `start`: all of them above the height of `point` where `start` is, and else none.
-#[inline(always)]
-pub(crate) fn is_on_side<P: ContourPoint>(
-    point: IntPoint<P::Coordinate>,
-    start: IntPoint<P::Coordinate>,
-    block: &[P],
-) -> bool
-    ensures { IsTrue result ↔ IsOnSide (point_of P.Coordinate.value point)
-        (point_of P.Coordinate.value start) (contour_of P.Coordinate.value (P.points block.now)) }
-{
-    let side = start.y > point.y;
-    let mut is_on_side = true;
-    for given in block {
-        is_on_side = is_on_side & is_side_of(side, point, given.to_point());
-    }
-    is_on_side
-}
-
-/// Whether `other` lies on a side of the height of `point`: above it where `side` is true, and else not.
-#[inline(always)]
-fn is_side_of<I: IntNumber>(side: bool, point: IntPoint<I>, other: IntPoint<I>) -> bool
-    ensures { IsTrue result
-        ↔ (is_above (point_of I.value point) (point_of I.value other) ≡ side) }
-{
-    (other.y > point.y) == side
-}
-
 /// Whether the edge from `start` to `end` passes the height of `point` strictly to the right of it.
 pub(crate) fn passes_right<I: IntNumber>(
     point: IntPoint<I>,
@@ -341,25 +215,4 @@ pub(crate) fn passes_right<I: IntNumber>(
     } else {
         Triangle::is_clockwise(start, point, end)
     }
-}
-
-/// The same without a branch, by one cross product for each edge.
-#[inline(always)]
-pub(crate) fn passes_right_by_product<I: IntNumber>(
-    point: IntPoint<I>,
-    start: IntPoint<I>,
-    end: IntPoint<I>,
-) -> bool
-    requires point_safe { IsSafe I.width (point_of I.value point) }
-    requires start_safe { IsSafe I.width (point_of I.value start) }
-    requires end_safe { IsSafe I.width (point_of I.value end) }
-    ensures { result ≡ is_right (point_of I.value point)
-        (record { start = point_of I.value start; end = point_of I.value end }) }
-{
-    let is_start_above = start.y > point.y;
-    let is_end_above = end.y > point.y;
-    let turn = (point - start).cross_product(end - point);
-    let is_down = is_start_above & !is_end_above & (turn > I::Wide::ZERO);
-    let is_up = is_end_above & !is_start_above & (turn < I::Wide::ZERO);
-    is_down | is_up
 }

@@ -20,7 +20,6 @@ use crate::point::{ContourPoint, IntContour, IntPoint};
 use crate::probe::Probe;
 use crate::ring::Ring;
 use crate::same::{are_same, last_other};
-use crate::simple::is_simple;
 use crate::turn::Turn;
 use crate::write::{write_at, write_whole};
 use std::alloc::Global;
@@ -369,30 +368,14 @@ pub fn has_no_spikes<P: ContourPoint>(points: &[P]) -> bool
         (contour_of P.Coordinate.value (P.points points.now)) }
     ensures { IsTrue result ↔ NoSpikes (contour_of P.Coordinate.value (P.points points.now)) }
 {
-    // The test of all turns at once pays for itself but where products take several steps.
-    if P::Coordinate::BITS < 64 && is_simple(points) {
-        return true;
-    }
     let Some(last) = points.last() else {
         return false;
     };
-    let mut here = last.to_point();
+    let here = last.to_point();
     let Some(behind) = last_other(points, here) else {
         return false;
     };
-    let mut edge = here - behind;
-    let mut rest = points;
-    // Blocks of four points, which the compiler can write out one after the other.
-    while rest.len() >= 4 {
-        let (block, later) = rest.split_at(4);
-        let Some((last_edge, end)) = walk_onward(edge, here, block) else {
-            return false;
-        };
-        edge = last_edge;
-        here = end;
-        rest = later;
-    }
-    walk_onward(edge, here, rest).is_some()
+    walk_onward(here - behind, here, points).is_some()
 }
 
 /// Walks over a block of points from `start`, to which the edge `first` leads, and passes over repeated points: its last edge and its

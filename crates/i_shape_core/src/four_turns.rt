@@ -1,10 +1,8 @@
 //! The way over the points of a contour, four turns at a time.
 
 ghost use Rattle.std.specs.Prelude.{◌↔◌, ◌+◌, ◌-◌, ◌<◌, ◌≤◌, length, IsTrue};
-ghost use Rattle.i_shape_core.specs.Contour.{point_at};
 ghost use Rattle.i_shape_core.specs.FourTurns.{HasZeroTurnFrom, IsTurning};
 ghost use Rattle.i_shape_core.specs.IntPoint.{contour_of, IsSafeContour};
-ghost use Rattle.i_shape_core.specs.Point.{IsZeroTurn};
 
 use crate::number::IntNumber;
 use crate::point::ContourPoint;
@@ -58,24 +56,4 @@ fn has_zero_turn_from<P: ContourPoint>(points: &[P], place: usize) -> bool
         points[place + 4].to_point(),
         points[place + 5].to_point(),
     )
-}
-
-/// Whether the turn of the points at three places is a zero turn.
-pub(crate) fn is_zero_turn<P: ContourPoint>(
-    points: &[P],
-    previous: usize,
-    place: usize,
-    next: usize,
-) -> bool
-    requires safe { IsSafeContour P.Coordinate.width
-        (contour_of P.Coordinate.value (P.points points.now)) }
-    requires previous_within { previous < length points.now }
-    requires place_within { place < length points.now }
-    requires next_within { next < length points.now }
-    ensures { let c = contour_of P.Coordinate.value (P.points points.now) in IsTrue result
-        ↔ IsZeroTurn (point_at c previous) (point_at c place) (point_at c next) }
-{
-    let here = points[place].to_point();
-    let edge = here - points[previous].to_point();
-    edge.is_parallel_to(points[next].to_point() - here)
 }

@@ -10,10 +10,10 @@ ghost use Rattle.i_shape_core.specs.Refusals.{OkUnlessMemory};
 ghost use Rattle.i_shape_core.specs.Written.{CleansTo, CleansInOrder};
 
 use crate::error::ShapeError;
-use crate::four_turns::{count_turning, is_zero_turn};
 use crate::number::IntNumber;
 use crate::point::{ContourPoint, IntContour, IntPoint};
-use crate::simplifier::ContourSimplifier;
+use crate::probe::Probe;
+use crate::simplifier::{ContourSimplifier, start_of_walk};
 use std::alloc::Global;
 
 /// The test of a contour of safe points for zero turns, and its copy without them.
@@ -90,17 +90,5 @@ pub fn is_simple<P: ContourPoint>(contour: &[P]) -> bool
     if contour.len() < 3 {
         return false;
     }
-    let last = contour.len() - 1;
-    let turning = count_turning(contour);
-    if contour.len() >= 6 && turning < last - 1 {
-        return false;
-    }
-    for place in turning..last - 1 {
-        if is_zero_turn(contour, place, place + 1, place + 2) {
-            return false;
-        }
-    }
-    let closes_straight = is_zero_turn(contour, last - 1, last, 0);
-    let opens_straight = is_zero_turn(contour, last, 0, 1);
-    !(closes_straight | opens_straight)
+    start_of_walk(&mut Probe::new(contour)).is_none()
 }

@@ -181,7 +181,7 @@ fn clean_prefix<P: ContourPoint>(probe: &mut Probe<'_, P::Coordinate, P>) -> usi
 
 /// Where the contour has a zero turn: the first place and the end of a stack of places, none of them at a zero turn, and the place
 /// with which the walk goes on. Counts a visit for each test.
-fn start_of_walk<P: ContourPoint>(
+pub(crate) fn start_of_walk<P: ContourPoint>(
     probe: &mut Probe<'_, P::Coordinate, P>,
 ) -> Option<(usize, usize, usize)>
     requires fresh { probe.old.visits ≡ 0 }

@@ -2,10 +2,9 @@
 
 ghost use Rattle.std.specs.Prelude.{◌≡◌, ◌≤◌, ◌++◌, length, map, drop};
 ghost use Rattle.i_shape_core.specs.IntPoint.{point_of, contour_of, IsSafe, IsSafeContour};
-ghost use Rattle.i_shape_core.specs.Blocks.{winding_over};
 ghost use Rattle.i_shape_core.specs.Winding.{winding, winding_of_edge, IsWithinHalf};
 
-use crate::contour::{LOOKS, ROUND, is_on_side, passes_right, passes_right_by_product};
+use crate::contour::passes_right;
 use crate::number::IntNumber;
 use crate::point::{ContourPoint, IntPoint};
 
@@ -20,11 +19,7 @@ pub fn winding_about<P: ContourPoint>(contour: &[P], point: IntPoint<P::Coordina
         (point_of P.Coordinate.value point) }
     ensures half { IsWithinHalf (length contour.now) result }
 {
-    // Fewer points make no block, and a product of 128 bits costs more than a branch.
-    if contour.len() < 16 || P::Coordinate::BITS > 32 {
-        return winding_by_edges(contour, point);
-    }
-    winding_by_blocks(contour, point)
+    winding_by_edges(contour, point)
 }
 
 /// The same, edge after edge.
@@ -45,62 +40,6 @@ fn winding_by_edges<P: ContourPoint>(contour: &[P], point: IntPoint<P::Coordinat
         let end = (*given).to_point();
         total += edge_winding(point, before, end);
         before = end;
-    }
-    total
-}
-
-/// The same by blocks of 16 points. `contains_point` tells which of them are passed over, and which are looked at.
-#[inline(never)]
-fn winding_by_blocks<P: ContourPoint>(contour: &[P], point: IntPoint<P::Coordinate>) -> isize
-    requires points_safe { IsSafeContour P.Coordinate.width
-        (contour_of P.Coordinate.value (P.points contour.now)) }
-    requires point_safe { IsSafe P.Coordinate.width (point_of P.Coordinate.value point) }
-    ensures { result ≡ winding (contour_of P.Coordinate.value (P.points contour.now))
-        (point_of P.Coordinate.value point) }
-{
-    let Some(last) = contour.last() else {
-        return 0;
-    };
-    let mut start = last.to_point();
-    let mut total: isize = 0;
-    let mut walked: usize = 0;
-    let mut rest = contour;
-    while rest.len() >= 16 {
-        let (block, later) = rest.split_at(16);
-        if walked < LOOKS && is_on_side(point, start, block) {
-            walked = 0;
-        } else {
-            total += winding_of_few(point, start, block) as isize;
-            walked = (walked + 1) % ROUND;
-        }
-        start = block[15].to_point();
-        rest = later;
-    }
-    total + winding_of_few(point, start, rest) as isize
-}
-
-/// What the edges from `first` over at most 16 points add to the winding number about `point`, without a branch between them.
-#[inline(always)]
-fn winding_of_few<P: ContourPoint>(
-    point: IntPoint<P::Coordinate>,
-    first: IntPoint<P::Coordinate>,
-    points: &[P],
-) -> i32
-    requires point_safe { IsSafe P.Coordinate.width (point_of P.Coordinate.value point) }
-    requires first_safe { IsSafe P.Coordinate.width (point_of P.Coordinate.value first) }
-    requires points_safe { IsSafeContour P.Coordinate.width
-        (contour_of P.Coordinate.value (P.points points.now)) }
-    requires few { length points.now ≤ 16 }
-    ensures { result ≡ winding_over (point_of P.Coordinate.value point)
-        (point_of P.Coordinate.value first)
-        (contour_of P.Coordinate.value (P.points points.now)) }
-{
-    let mut total: i32 = 0;
-    let mut start = first;
-    for given in points {
-        let end = (*given).to_point();
-        total += edge_winding_by_product(point, start, end);
-        start = end;
     }
     total
 }
@@ -140,23 +79,4 @@ fn edge_winding<I: IntNumber>(point: IntPoint<I>, start: IntPoint<I>, end: IntPo
     } else {
         -1
     }
-}
-
-/// The same without a branch.
-#[inline(always)]
-fn edge_winding_by_product<I: IntNumber>(
-    point: IntPoint<I>,
-    start: IntPoint<I>,
-    end: IntPoint<I>,
-) -> i32
-    requires point_safe { IsSafe I.width (point_of I.value point) }
-    requires start_safe { IsSafe I.width (point_of I.value start) }
-    requires end_safe { IsSafe I.width (point_of I.value end) }
-    ensures { result ≡ winding_of_edge (point_of I.value point)
-        (record { start = point_of I.value start; end = point_of I.value end }) }
-{
-    let is_right = passes_right_by_product(point, start, end);
-    let is_start_above = start.y > point.y;
-    let is_end_above = end.y > point.y;
-    (is_right & is_end_above) as i32 - (is_right & is_start_above) as i32
 }

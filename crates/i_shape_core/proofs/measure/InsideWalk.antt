@@ -11,7 +11,7 @@ use mathlib.Core.Bool.{beq}
 use Rattle.i_shape_core.specs.Point.{Point, origin, cross}
 use Rattle.i_shape_core.specs.Edges.{Edge, edges_between, edges, is_above, is_right, Inside}
 use Rattle.i_shape_core.specs.Convex.{last_of}
-use Rattle.i_shape_core.specs.Blocks.{inside_after, IsOnSide, path_over}
+use Rattle.i_shape_core.specs.Blocks.{inside_after, path_over}
 use Rattle.i_shape_core.proofs.plane.Contours.{rest-read}
 use Rattle.i_shape_core.proofs.plane.CrossProducts.{edge, cross_reversed}
 use Rattle.i_shape_core.proofs.measure.Inside.{bit_of, bit_of_edge, right_when}
@@ -44,30 +44,7 @@ opposite z = go (int_lt (neg_ℤ z) (pos 0)) (int_lt (pos 0) z) refl refl
     go false true e f = absurd (omega (arith, ints))
     go false false e f = refl
 
--- both by the sign of one product
-pub right_by_product : (p a b : Point) (s t u v : Bool) → s ≡ int_lt p.y a.y → t ≡ int_lt p.y b.y → u ≡ int_lt (pos 0) (cross a p b) → v ≡ int_lt (cross a p b) (pos 0)
-    → ((s && not t && u) || (t && not s && v)) ≡ is_right p (edge a b)
-right_by_product p a b true true u v e f g h = sym (right_when p a b true true (sym e) (sym f))
-right_by_product p a b false false u v e f g h = sym (right_when p a b false false (sym e) (sym f))
-right_by_product p a b false true u v e f g h = h ∙ sym (right_when p a b false true (sym e) (sym f))
-right_by_product p a b true false true v e f g h = g ∙ sym (opposite (cross a p b)) ∙ ap (λ (z : ℤ). int_lt z (pos 0)) (sym (cross_reversed a p b)) ∙ sym (right_when p a b true false (sym e) (sym f))
-right_by_product p a b true false false v e f g h = g ∙ sym (opposite (cross a p b)) ∙ ap (λ (z : ℤ). int_lt z (pos 0)) (sym (cross_reversed a p b)) ∙ sym (right_when p a b true false (sym e) (sym f))
 
--- an edge on one side of the height of p isn't right of it
-flat_edge : (p q r : Point) → is_above p r ≡ is_above p q → is_right p (edge q r) ≡ false
-flat_edge p q r e = go (int_lt p.y q.y) refl
-  where
-    go : (s : Bool) → int_lt p.y q.y ≡ s → is_right p (edge q r) ≡ false
-    go true f = right_when p q r true true f (e ∙ f)
-    go false f = right_when p q r false false f (e ∙ f)
-
--- and so none of a walk on that side is
-pub none_right : (p q : Point) (rs : List Point) → IsOnSide p q rs → All (λ e. is_right p e ≡ false) (path_over q rs)
-none_right p q [] h = All-nil (λ e. is_right p e ≡ false)
-none_right p q (r ∷ rs) h =
-    let e : is_above p r ≡ is_above p q = All-head (λ a. is_above p a ≡ is_above p q) r rs h in
-    let later = All-tail (λ a. is_above p a ≡ is_above p q) r rs h in
-    All-cons (λ f. is_right p f ≡ false) (edge q r) (path_over r rs) (flat_edge p q r e) (none_right p r rs (subst (λ (t : Bool). All (λ a. is_above p a ≡ t) rs) (sym e) later))
 
 -- the edges of a closed path are those of the open path, and the closing one
 pub between_is : (a : Point) (bs : List Point) (z : Point) → edges_between a bs z ≡ path_over a bs ++ edge (last_of a bs) z ∷ []
@@ -111,15 +88,6 @@ inside_counts : (p : Point) (s : Bool) (q : Point) (rs : List Point) → (bit_of
 inside_counts p s q [] = refl
 inside_counts p s q (r ∷ rs) = inside_counts p (cond (is_right p (edge q r)) (not s) s) r rs ∙ walk_more p q r rs s ((bit_of s + count_by (is_right p) (path_over q (r ∷ rs))) % 2) refl
 
--- it walks over a block, and then over what is left
-inside_over : (p : Point) (s : Bool) (q : Point) (xs ys : List Point) → inside_after p s q (xs ++ ys) ≡ inside_after p (inside_after p s q xs) (last_of q xs) ys
-inside_over p s q [] ys = refl
-inside_over p s q (x ∷ xs) ys = inside_over p (cond (is_right p (edge q x)) (not s) s) x xs ys
-
--- a walk without edges on the right tells what was told before
-pub none_turned : (p : Point) (s : Bool) (q : Point) (rs : List Point) → All (λ e. is_right p e ≡ false) (path_over q rs) → inside_after p s q rs ≡ s
-none_turned p s q [] h = refl
-none_turned p s q (r ∷ rs) h = rw (All-head (λ e. is_right p e ≡ false) (edge q r) (path_over r rs) h) (none_turned p s r rs (All-tail (λ e. is_right p e ≡ false) (edge q r) (path_over r rs) h))
 
 -- ---- the same over the points of a program
 last_item : {I : Type 0} (value : I → ℤ) (x : IntPoint I) (xs : List (IntPoint I)) (d : IntPoint I) → point_of value (get_or (x ∷ xs) (length xs) d) ≡ last_of (point_of value x) (contour_of value xs)
@@ -145,13 +113,6 @@ pub walk_step : {I : Type 0} (value : I → ℤ) (p : Point) (cs : List (IntPoin
 walk_step value p cs i start x s s' t h e k f =
     rw f (subst (λ (ps : List Point). inside_after p s (point_of value start) ps ≡ t) (rest-read value cs i x h e) k)
 
--- a block more is walked over
-pub block_walked : {I : Type 0} (value : I → ℤ) (p q r : Point) (s s' t : Bool) (rest block later : List (IntPoint I)) → rest ≡ block ++ later → s' ≡ inside_after p s q (contour_of value block)
-    → r ≡ last_of q (contour_of value block) → inside_after p s q (contour_of value rest) ≡ t → inside_after p s' r (contour_of value later) ≡ t
-block_walked value p q r s s' t rest block later e f g k =
-    ap₂ (λ (u : Bool) (v : Point). inside_after p u v (contour_of value later)) f g
-    ∙ sym (ap (λ (xs : List (IntPoint _)). inside_after p s q (contour_of value xs)) e ∙ ap (inside_after p s q) (map-append (point_of value) block later) ∙ inside_over p s q (contour_of value block) (contour_of value later))
-    ∙ k
 
 -- the walk from the last point over all points tells whether p is inside
 pub walk_end : {I : Type 0} (value : I → ℤ) (p : Point) (cs : List (IntPoint I)) (last : IntPoint I) (s : Bool) → 0 < length cs → last ≡ get_or cs (length cs - 1) last

@@ -45,10 +45,6 @@ adds_one p a b r s e f g h = ap (λ (t : Bool). cond t (pos 1) (negsuc 0)) (sym 
 pub takes_one : (p a b : Point) (r s : Bool) → r ≡ is_right p (edge a b) → r ≡ true → s ≡ int_lt p.y b.y → s ≡ false → negsuc 0 ≡ winding_of_edge p (edge a b)
 takes_one p a b r s e f g h = ap (λ (t : Bool). cond t (pos 1) (negsuc 0)) (sym h) ∙ adds_or_takes_one p a b r s e f g
 
--- what an edge adds is told by whether it is right of p, and by which of its ends lie above p
-pub by_levels : (p a b : Point) (r s t : Bool) → r ≡ is_right p (edge a b) → s ≡ int_lt p.y a.y → t ≡ int_lt p.y b.y → cond r (cond t (pos 1) (pos 0) -ℤ cond s (pos 1) (pos 0)) (pos 0) ≡ winding_of_edge p (edge a b)
-unfolding winding_of_edge
-by_levels p a b r s t e f g = rw (e, f, g) refl
 
 -- how far the winding number so far can be from 0 after i edges: half their number, with a half more on one side where the walk is on another side of the height than where it began
 pub record IsNear (i : ℕ) (first here total : ℤ) : Type 0 where
@@ -196,41 +192,10 @@ total_fits value p cs i start last x t w e h room f g near =
 pub total_added : (w : Width) (t r : ℤ) → FitsSigned w (t +ℤ r) → FitsSigned w r → to_z w (of_z w (t +ℤ to_z w (of_z w r))) ≡ t +ℤ r
 total_added w t r f g = rw (to_z-of_z w r g) (to_z-of_z w (t +ℤ r) f)
 
--- what few edges add fits into 32 bits with a sign
-pub few_fit : (p a b : Point) (i : ℕ) (total : ℤ) → IsNear i (level p a) (level p b) total → i ≤ 16 → FitsSigned w32 total
-few_fit p a b i total near few = reach-fits w32 total (bounded (level p a) (level p b) (level_cases p a) (level_cases p b) near)
-  where
-    bounded : (first here : ℤ) → (first ≡ pos 0) ⊎ (first ≡ pos 1) → (here ≡ pos 0) ⊎ (here ≡ pos 1) → IsNear i first here total → InReach (2 ^ 31) total
-    bounded first here f g n = let most = n.most in let least = n.least in record { from = omega (arith, ints); below = omega (arith, ints) }
 
--- ---- a walk over a part
--- a walk without edges on the right adds nothing
-pub none_added : (p q : Point) (ps : List Point) → All (λ e. is_right p e ≡ false) (path_over q ps) → winding_over p q ps ≡ pos 0
-unfolding winding_of_edge
-none_added p q [] h = refl
-none_added p q (r ∷ rs) h =
-    let first = All-head (λ e. is_right p e ≡ false) (edge q r) (path_over r rs) h in
-    let rest = none_added p r rs (All-tail (λ e. is_right p e ≡ false) (edge q r) (path_over r rs) h) in
-    rw (first, rest) refl
 
--- after a part of the walk the winding number so far is as near to 0
-pub near_over : (p q : Point) (ps : List Point) (i : ℕ) (first total : ℤ) → IsNear i first (level p q) total → IsNear (i + length ps) first (level p (last_of q ps)) (total +ℤ winding_over p q ps)
-near_over p q [] i first total n = let most = n.most in let least = n.least in record { most = omega (arith, ints); least = omega (arith, ints) }
-near_over p q (r ∷ rs) i first total n =
-    let w = winding_of_edge p (edge q r) in
-    let rest = near_over p r rs (i + 1) first (total +ℤ w) (near_step p q r i first total n) in
-    let most = rest.most in
-    let least = rest.least in
-    record { most = omega (arith, ints); least = omega (arith, ints) }
 
--- two parts one after the other
-pub over_both : (p q : Point) (xs ys : List Point) → winding_over p q (xs ++ ys) ≡ winding_over p q xs +ℤ winding_over p (last_of q xs) ys
-over_both p q [] ys = omega (arith, ints)
-over_both p q (x ∷ xs) ys = let rest = over_both p x xs ys in omega (arith, ints)
 
--- where no point is left nothing more is added
-pub over_none : (p q : Point) (ps : List Point) (t : ℤ) → ps ≡ [] → t ≡ t +ℤ winding_over p q ps
-over_none p q ps t e = rw e (omega (arith, ints))
 
 -- ---- a walk by parts
 -- what holds of a walk over the whole contour, from its last point `first`, that has come to q and has added up the total: the rest of the points is left
@@ -240,70 +205,10 @@ pub record IsWalked (p first : Point) (whole : List Point) (q : Point) (rest : L
   pub closes : last_of q rest ≡ first
   pub told : total +ℤ winding_over p q rest ≡ winding_over p first whole
 
--- before its first part
-pub walked_first : (p first : Point) (whole : List Point) → last_of first whole ≡ first → IsWalked p first whole first whole (pos 0)
-walked_first p first whole e = record {
-  within = omega arith;
-  near = λ done f. let none : done ≡ 0 = omega (arith, f) in rw none (near_first (level p first));
-  closes = e;
-  told = walk_first _;
-}
 
--- a part more
-walked_part : (p first : Point) (whole : List Point) (q : Point) (xs ys : List Point) (total w : ℤ) → IsWalked p first whole q (xs ++ ys) total → w ≡ winding_over p q xs → IsWalked p first whole (last_of q xs) ys (total +ℤ w)
-walked_part p first whole q xs ys total w k e =
-    let count = length-append xs ys in
-    let within = k.within in
-    record {
-      within = omega (arith, count, within);
-      near = λ done f.
-          let before : (done - length xs) + length (xs ++ ys) ≡ length whole = omega (arith, count, within, f) in
-          let after : (done - length xs) + length xs ≡ done = omega (arith, count, within, f) in
-          subst (λ (i : ℕ). IsNear i (level p first) (level p (last_of q xs)) (total +ℤ w)) after
-          (rw e (near_over p q xs (done - length xs) (level p first) total (k.near (done - length xs) before)));
-      closes = sym (last_of_append q xs ys) ∙ k.closes;
-      told = rw e (grouped total (winding_over p q xs) (winding_over p (last_of q xs) ys) (winding_over p q (xs ++ ys)) (over_both p q xs ys)) ∙ k.told;
-    }
-  where
-    grouped : (a b c d : ℤ) → d ≡ b +ℤ c → a +ℤ b +ℤ c ≡ a +ℤ d
-    grouped a b c d f = omega (arith, ints)
-
--- the total so far fits into 64 bits with a sign
-pub walked_fits : (p first : Point) (whole : List Point) (q : Point) (rest : List Point) (total : ℤ) → IsWalked p first whole q rest total → length whole < 2 ^ 64 → FitsSigned w64 total
-walked_fits p first whole q rest total k room =
-    let within = k.within in
-    let split : (length whole - length rest) + length rest ≡ length whole = omega (arith, within) in
-    reach-fits w64 total (total_bounded (length whole - length rest) (length whole) (level p first) (level p q) total (k.near _ split) (level_cases p first) (level_cases p q)
-    (λ e. back rest k.closes (omega (arith, e, within, split))) (omega arith) room)
-  where
-    back : (ps : List Point) → last_of q ps ≡ first → length ps ≤ 0 → level p q ≡ level p first
-    back [] e h = ap (level p) e
-    back (x ∷ xs) e h = absurd (omega arith)
-
--- the same over the points of a program: a block more
-pub walked_block : {I : Type 0} (value : I → ℤ) (p first : Point) (whole : List Point) (q r : Point) (rest block later : List (IntPoint I)) (total w : ℤ) → rest ≡ block ++ later → w ≡ winding_over p q (contour_of value block)
-    → r ≡ last_of q (contour_of value block) → IsWalked p first whole q (contour_of value rest) total → IsWalked p first whole r (contour_of value later) (total +ℤ w)
-walked_block value p first whole q r rest block later total w e f g k =
-    let joined = ap (contour_of value) e ∙ map-append (point_of value) block later in
-    rw g (walked_part p first whole q (contour_of value block) (contour_of value later) total w (subst (λ (ps : List Point). IsWalked p first whole q ps total) joined k) f)
-
--- and the last one
-pub walked_last : (p first : Point) (whole : List Point) (q : Point) (rest : List Point) (total w : ℤ) → IsWalked p first whole q rest total → w ≡ winding_over p q rest → IsWalked p first whole (last_of q rest) [] (total +ℤ w)
-walked_last p first whole q rest total w k f = walked_part p first whole q rest [] total w (subst (λ (ps : List Point). IsWalked p first whole q ps total) (sym (append-nil rest)) k) f
 
 wider : (r : ℤ) → FitsSigned w32 r → FitsSigned w64 r
 wider r f = let reach = fits-reach w32 r f in let from = reach.from in let below = reach.below in reach-fits w64 r (record { from = omega (arith, ints); below = omega (arith, ints) })
 
--- the sum as the program computes it, where what is added has 32 bits
-pub narrow_total : (r : ℤ) → FitsSigned w32 r → to_z w64 (of_z w64 (to_z w32 (of_z w32 r))) ≡ r
-narrow_total r f = rw (to_z-of_z w32 r f) (to_z-of_z w64 r (wider r f))
 
--- after the last part the winding number is told
-pub winding_walked : {I : Type 0} (value : I → ℤ) (p : Point) (cs : List (IntPoint I)) (last : IntPoint I) (q : Point) (total : ℤ) → 0 < length cs → last ≡ get_or cs (length cs - 1) last
-    → IsWalked p (point_of value last) (contour_of value cs) q [] total → total ≡ winding (contour_of value cs) p
-winding_walked value p cs last q total some e k =
-    over_none p q [] total refl ∙ k.told ∙ walk_all value p cs last some e
 
--- nothing is added
-pub nothing_more : (t : ℤ) → t +ℤ pos 0 ≡ t
-nothing_more t = omega (arith, ints)

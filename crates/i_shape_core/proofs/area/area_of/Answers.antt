@@ -9,9 +9,6 @@ returns-then-points-lt2 g c =
     let count = points-length g.P.ContourPoint.point g.P.ContourPoint.points g.P.ContourPoint.each c.args.points.now in
     summed-short g.P.Coordinate.IntNumber.value g.P.Coordinate.Wide.WideIntNumber.width (g.P.ContourPoint.points c.args.points.now) _ (omega (arith, count, c.if-points-lt2.true)) (search rules)
 
-pub returns-then-BITS-eq32 : goal.returns-then-BITS-eq32
-returns-then-BITS-eq32 g c = c.area_by_points.ensures
-
 pub loop-place-init : goal.loop-place-init
 loop-place-init g c = wrapped-zero g.P.Coordinate.Wide.WideIntNumber.width _ (search rules)
 

@@ -10,27 +10,8 @@ returns-in_default g c =
     let count = points-length g.P.ContourPoint.point g.P.ContourPoint.points g.P.ContourPoint.each c.args.contour.now in
     nothing_inside g.P.Coordinate.IntNumber.value (point_of g.P.Coordinate.IntNumber.value c.args.point) (g.P.ContourPoint.points c.args.contour.now) (omega (arith, count, c.in_default.ensures.item.3))
 
-pub is_inside_by_fours-requires-clause-first_safe : goal.is_inside_by_fours-requires-clause-first_safe
-is_inside_by_fours-requires-clause-first_safe g c =
-    let points = g.P.ContourPoint.points in
-    let whole = c.args.contour.now in
-    let count = points-length g.P.ContourPoint.point points g.P.ContourPoint.each whole in
-    let within : length whole - 1 < length whole = omega (arith, c.in-Some.ensures.item.3.0) in
-    let last = points-item g.P.ContourPoint.point points g.P.ContourPoint.each whole _ c.in-Some.last.now c.to_point-start.result c.to_point-start.ensures within c.in-Some.ensures.item.1 in
-    read-safe g.P.Coordinate.IntNumber.width g.P.Coordinate.IntNumber.value (points whole) _ c.to_point-start.result c.requires.points_safe (omega (arith, count, within)) last
-
-pub returns-then-contour-lt16 : goal.returns-then-contour-lt16
-returns-then-contour-lt16 g c =
-    let points = g.P.ContourPoint.points in
-    let whole = c.args.contour.now in
-    let count = points-length g.P.ContourPoint.point points g.P.ContourPoint.each whole in
-    let within : length whole - 1 < length whole = omega (arith, c.in-Some.ensures.item.3.0) in
-    let last : c.to_point-start.result ≡ get_or (points whole) (length (points whole) - 1) c.to_point-start.result =
-    rw count (points-item g.P.ContourPoint.point points g.P.ContourPoint.each whole _ c.in-Some.last.now c.to_point-start.result c.to_point-start.ensures within c.in-Some.ensures.item.1) in
-    walk_end g.P.Coordinate.IntNumber.value (point_of g.P.Coordinate.IntNumber.value c.args.point) (points whole) c.to_point-start.result _ (omega (arith, count, within)) last (c.is_inside_by_fours.ensures)
-
-pub is_inside_by_blocks-requires-clause-first_safe : goal.is_inside_by_blocks-requires-clause-first_safe
-is_inside_by_blocks-requires-clause-first_safe g c =
+pub is_inside_after-requires-clause-first_safe : goal.is_inside_after-requires-clause-first_safe
+is_inside_after-requires-clause-first_safe g c =
     let points = g.P.ContourPoint.points in
     let whole = c.args.contour.now in
     let count = points-length g.P.ContourPoint.point points g.P.ContourPoint.each whole in
@@ -46,4 +27,4 @@ returns g c =
     let within : length whole - 1 < length whole = omega (arith, c.in-Some.ensures.item.3.0) in
     let last : c.to_point-start.result ≡ get_or (points whole) (length (points whole) - 1) c.to_point-start.result =
     rw count (points-item g.P.ContourPoint.point points g.P.ContourPoint.each whole _ c.in-Some.last.now c.to_point-start.result c.to_point-start.ensures within c.in-Some.ensures.item.1) in
-    walk_end g.P.Coordinate.IntNumber.value (point_of g.P.Coordinate.IntNumber.value c.args.point) (points whole) c.to_point-start.result _ (omega (arith, count, within)) last (c.is_inside_by_blocks.ensures)
+    walk_end g.P.Coordinate.IntNumber.value (point_of g.P.Coordinate.IntNumber.value c.args.point) (points whole) c.to_point-start.result _ (omega (arith, count, within)) last (c.is_inside_after.ensures)

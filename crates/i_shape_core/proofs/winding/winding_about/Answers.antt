@@ -7,16 +7,9 @@ use Rattle.i_shape_core.proofs.plane.PointLists.{points-length}
 use Rattle.i_shape_core.proofs.measure.WindingWalk.{winding_half}
 use Rattle.i_shape_core.proofs.winding.winding_about.Goals as goal
 
-pub returns-then-contour-lt16-clause-half : goal.returns-then-contour-lt16-clause-half
-returns-then-contour-lt16-clause-half g c =
-    let contour = contour_of g.P.Coordinate.IntNumber.value (g.P.ContourPoint.points c.args.contour.now) in
-    let count = length-contour g.P.Coordinate.IntNumber.value (g.P.ContourPoint.points c.args.contour.now) ∙ points-length g.P.ContourPoint.point g.P.ContourPoint.points g.P.ContourPoint.each c.args.contour.now in
-    let turn : FitsSigned w64 c.winding_by_edges.result = record { sfits = c.winding_by_edges.type_inv } in
-    subst₂ IsWithinHalf count (sym (to_z-of_z w64 c.winding_by_edges.result turn ∙ c.winding_by_edges.ensures)) (winding_half contour (point_of g.P.Coordinate.IntNumber.value c.args.point))
-
 pub returns-clause-half : goal.returns-clause-half
 returns-clause-half g c =
     let contour = contour_of g.P.Coordinate.IntNumber.value (g.P.ContourPoint.points c.args.contour.now) in
     let count = length-contour g.P.Coordinate.IntNumber.value (g.P.ContourPoint.points c.args.contour.now) ∙ points-length g.P.ContourPoint.point g.P.ContourPoint.points g.P.ContourPoint.each c.args.contour.now in
-    let turn : FitsSigned w64 c.winding_by_blocks.result = record { sfits = c.winding_by_blocks.type_inv } in
-    subst₂ IsWithinHalf count (sym (to_z-of_z w64 c.winding_by_blocks.result turn ∙ c.winding_by_blocks.ensures)) (winding_half contour (point_of g.P.Coordinate.IntNumber.value c.args.point))
+    let turn : FitsSigned w64 c.winding_by_edges.result = record { sfits = c.winding_by_edges.type_inv } in
+    subst₂ IsWithinHalf count (sym (to_z-of_z w64 c.winding_by_edges.result turn ∙ c.winding_by_edges.ensures)) (winding_half contour (point_of g.P.Coordinate.IntNumber.value c.args.point))
