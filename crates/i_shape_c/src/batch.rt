@@ -2,6 +2,7 @@
 
 ghost use Rattle.std.specs.Prelude.{◌≡◌, ◌↔◌, ◌+◌, ◌^◌, ◌<◌, ◌≤◌, length, slice_range, IsTrue, IfOk, OnErr};
 ghost use Rattle.i_shape_c.specs.Batch.{AreRising, IsLongest, PartsPoints, CanClean, AreSafeContours, NoneTakesMemory, IsCleanedBatch, IsWithin, CleansContours};
+ghost use Rattle.i_shape_c.specs.Cleaned.{AreSafe, TakesNoMemory};
 ghost use Rattle.i_shape_c.specs.Points.{point_by};
 
 use crate::codes::{NO_MEMORY, UNFIT, UNSAFE};
@@ -82,15 +83,36 @@ pub fn clean_all<P: CPoint, C: ContourCleaner>(
     ensures memory { OnErr result
         (NoneTakesMemory C.clean (point_by P.Coordinate.value P.point) points.now offsets.now → ⊥) }
 {
-    let mut cleaner = C::with_room(alloc, longest(offsets));
+    let mut cleaner = C::new(alloc);
+    let longest = longest(offsets);
     let mut written: usize = 0;
     out_offsets[0] = 0;
     for place in 1..offsets.len() {
         let ring = part(points, offsets[place - 1], offsets[place]);
+        make_room(&mut cleaner, ring, longest)?;
         written = clean_into(&mut cleaner, ring, out_points, written)?;
         out_offsets[place] = written;
     }
     Ok(written)
+}
+
+/// Takes memory for the places of contours of up to `longest` points, where this one needs any.
+fn make_room<P: CPoint, C: ContourCleaner>(
+    cleaner: &mut C,
+    ring: &[P],
+    longest: usize,
+) -> Result<(), ShapeError>
+    requires { AreSafe P.Coordinate.width (point_by P.Coordinate.value P.point) ring.now }
+    ensures { OnErr result
+        (TakesNoMemory C.clean (point_by P.Coordinate.value P.point) ring.now → ⊥) }
+{
+    if ring.len() < 3 {
+        return Ok(());
+    }
+    if C::is_clean(ring) {
+        return Ok(());
+    }
+    cleaner.reserve(longest)
 }
 
 /// How many points the longest contour has, 0 where there is no contour.

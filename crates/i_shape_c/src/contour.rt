@@ -28,7 +28,7 @@ pub fn clean_contour<P: CPoint, C: ContourCleaner>(
     if !are_safe(points) {
         return UNSAFE;
     }
-    let mut cleaner = C::with_room(alloc, points.len());
+    let mut cleaner = C::new(alloc);
     match clean_into(&mut cleaner, points, out, 0) {
         Ok(end) => end as isize,
         Err(_) => NO_MEMORY,

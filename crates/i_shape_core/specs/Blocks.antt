@@ -2,8 +2,7 @@
 use Rattle.std.specs.Prelude.{◌≡◌, ◌<ℤ◌, ℤ, List, [], ◌∷◌, ◌⊎◌, pos, Bool, cond, not}
 use Rattle.i_shape_core.specs.Point.{Point, vector, cross_of, dot_of}
 use Rattle.i_shape_core.specs.Convex.{is_same}
-use Rattle.std.specs.List.{All}
-use Rattle.i_shape_core.specs.Edges.{Edge, sum_of, is_above, is_right}
+use Rattle.i_shape_core.specs.Edges.{Edge, sum_of, is_right}
 use Rattle.i_shape_core.specs.Winding.{winding_of_edge}
 
 -- from p, to which the edge e leads, the way goes back to q

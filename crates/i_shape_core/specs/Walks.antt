@@ -71,6 +71,13 @@ pub record IsWalked (P : Point → Point → Point → Type 0) (c : List Point) 
   pub most : visits + length stack ≤ 2 * place
   pub least : place ≤ visits + min (length stack) 2
 
+-- a walk that has removed one place at the most, after so many visits: on its stack are the places from `first` on and before `end`, and `place` comes next
+pub record IsStart (P : Point → Point → Point → Type 0) (c : List Point) (first end place visits : ℕ) : Type 0 where
+  pub rising : first ≤ end
+  pub end_within : end ≤ length c
+  pub place_within : place ≤ length c
+  pub walked : IsWalked P c (range_with_len first (end - first)) place visits
+
 -- the point at `place` may not remove the last of the stack
 abbrev pub IsSettled : (Point → Point → Point → Type 0) → List Point → List ℕ → ℕ → Type 0
 IsSettled P c stack place = (j k : ℕ) → length stack ≡ k + 1 → k ≡ j + 1 → ¬ (P (stacked_point c stack j) (stacked_point c stack k) (point_at c place))
@@ -95,6 +102,10 @@ pub record PlacedRing : Type 0 where
   pub untested : ℕ
   pub lead : ℕ
   pub room : ℕ
+
+-- the ring of all places below n in memory for so many, with the walk at place k and the places before it tested
+abbrev pub ring_of_all : ℕ → ℕ → ℕ → PlacedRing
+ring_of_all n k room = record { places = drop k (range_with_len 0 n) ++ take k (range_with_len 0 n); untested = n - k; lead = n - k; room = room }
 
 -- the ring of a walk by the places of its points, and how many vertices were visited
 pub record IsRingState (P : Test) (c : List Point) (ring : PlacedRing) (visits : ℕ) : Type 0 where

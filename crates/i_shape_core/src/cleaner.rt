@@ -1,6 +1,6 @@
 //! The cleaners of one contour: one trait, and its five kinds.
 
-ghost use Rattle.std.specs.Prelude.{◌≡◌, ◌↔◌, ◌<◌, ◌≤◌, List, length, Option, IsTrue};
+ghost use Rattle.std.specs.Prelude.{◌≡◌, ◌↔◌, ◌<◌, ◌≤◌, List, length, Option, IsTrue, IsOkUnless};
 ghost use Rattle.i_shape_core.specs.Point.{Point};
 ghost use Rattle.i_shape_core.specs.IntPoint.{contour_of, IsSafeContour};
 ghost use Rattle.i_shape_core.specs.Contour.{IsSimple, RotatedSublist, SublistEitherWay, Sublist};
@@ -35,9 +35,12 @@ pub trait ContourCleaner: Drop {
     /// Which points of the contour the answer has, and in which order, whatever their type.
     ghost picks: { (P : Type 0) → List P → List P → Type 0 };
 
-    /// A cleaner that takes its memory from `alloc`: that for the places of its walks once where no contour has more than `room`
-    /// points, and none before a contour needs it.
-    fn with_room(alloc: Global, room: usize) -> Self;
+    /// A cleaner that takes its memory from `alloc`, and none before a contour needs it.
+    fn new(alloc: Global) -> Self;
+
+    /// Takes memory for the places of contours of up to so many points. The only error is `OutOfMemory`.
+    fn reserve(&mut self, points: usize) -> Result<(), ShapeError>
+        ensures { IsOkUnless result ShapeError.OutOfMemory };
 
     /// Whether the contour is clean. It takes no memory.
     fn is_clean<P: ContourPoint>(contour: &[P]) -> bool
@@ -94,8 +97,12 @@ impl ContourCleaner for ContourSimplifier {
 
     ghost picks = { λ P. Sublist };
 
-    fn with_room(alloc: Global, room: usize) -> ContourSimplifier {
-        ContourSimplifier::with_room(alloc, room)
+    fn new(alloc: Global) -> ContourSimplifier {
+        ContourSimplifier::new(alloc)
+    }
+
+    fn reserve(&mut self, points: usize) -> Result<(), ShapeError> {
+        ContourSimplifier::reserve(self, points)
     }
 
     fn is_clean<P: ContourPoint>(contour: &[P]) -> bool {
@@ -103,6 +110,16 @@ impl ContourCleaner for ContourSimplifier {
     }
 
     fn cleaned<I: IntNumber>(
+        &mut self,
+        contour: &[IntPoint<I>],
+    ) -> Result<Option<IntContour<I>>, ShapeError> {
+        if is_simple(contour) {
+            return Ok(Some(Vec::from_slice(self.allocator(), contour)?));
+        }
+        self.cleaned_untested(contour)
+    }
+
+    fn cleaned_untested<I: IntNumber>(
         &mut self,
         contour: &[IntPoint<I>],
     ) -> Result<Option<IntContour<I>>, ShapeError> {
@@ -128,8 +145,12 @@ impl ContourCleaner for ContourDeSpiker {
 
     ghost picks = { λ P. Sublist };
 
-    fn with_room(alloc: Global, room: usize) -> ContourDeSpiker {
-        ContourDeSpiker::with_room(alloc, room)
+    fn new(alloc: Global) -> ContourDeSpiker {
+        ContourDeSpiker::new(alloc)
+    }
+
+    fn reserve(&mut self, points: usize) -> Result<(), ShapeError> {
+        ContourDeSpiker::reserve(self, points)
     }
 
     fn is_clean<P: ContourPoint>(contour: &[P]) -> bool {
@@ -137,6 +158,16 @@ impl ContourCleaner for ContourDeSpiker {
     }
 
     fn cleaned<I: IntNumber>(
+        &mut self,
+        contour: &[IntPoint<I>],
+    ) -> Result<Option<IntContour<I>>, ShapeError> {
+        if is_despiked(contour) {
+            return Ok(Some(Vec::from_slice(self.allocator(), contour)?));
+        }
+        self.cleaned_untested(contour)
+    }
+
+    fn cleaned_untested<I: IntNumber>(
         &mut self,
         contour: &[IntPoint<I>],
     ) -> Result<Option<IntContour<I>>, ShapeError> {
@@ -167,10 +198,14 @@ impl ContourCleaner for SpikeRemover {
 
     ghost picks = { λ P. Sublist };
 
-    fn with_room(alloc: Global, room: usize) -> SpikeRemover {
+    fn new(alloc: Global) -> SpikeRemover {
         SpikeRemover {
-            de_spiker: ContourDeSpiker::with_room(alloc, room),
+            de_spiker: ContourDeSpiker::new(alloc),
         }
+    }
+
+    fn reserve(&mut self, points: usize) -> Result<(), ShapeError> {
+        self.de_spiker.reserve(points)
     }
 
     fn is_clean<P: ContourPoint>(contour: &[P]) -> bool {
@@ -221,10 +256,14 @@ impl ContourCleaner for Canonicalizer {
 
     ghost picks = { λ P. RotatedSublist };
 
-    fn with_room(alloc: Global, room: usize) -> Canonicalizer {
+    fn new(alloc: Global) -> Canonicalizer {
         Canonicalizer {
-            simplifier: ContourSimplifier::with_room(alloc, room),
+            simplifier: ContourSimplifier::new(alloc),
         }
+    }
+
+    fn reserve(&mut self, points: usize) -> Result<(), ShapeError> {
+        self.simplifier.reserve(points)
     }
 
     fn is_clean<P: ContourPoint>(contour: &[P]) -> bool {
@@ -262,10 +301,14 @@ impl ContourCleaner for UnorientedCanonicalizer {
 
     ghost picks = { λ P. SublistEitherWay };
 
-    fn with_room(alloc: Global, room: usize) -> UnorientedCanonicalizer {
+    fn new(alloc: Global) -> UnorientedCanonicalizer {
         UnorientedCanonicalizer {
-            simplifier: ContourSimplifier::with_room(alloc, room),
+            simplifier: ContourSimplifier::new(alloc),
         }
+    }
+
+    fn reserve(&mut self, points: usize) -> Result<(), ShapeError> {
+        self.simplifier.reserve(points)
     }
 
     fn is_clean<P: ContourPoint>(contour: &[P]) -> bool {

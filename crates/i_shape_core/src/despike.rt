@@ -9,18 +9,19 @@ ghost use Rattle.i_shape_core.specs.Contour.{Sublist, point_at};
 ghost use Rattle.i_shape_core.specs.Blocks.{GoesBack, last_change};
 ghost use Rattle.i_shape_core.specs.Convex.{NoSpikes, last_of};
 ghost use Rattle.i_shape_core.specs.Cleaners.{IsDespikedAlready, SpikelessAnswer, KeptAnswer, VisitsAnswer};
-ghost use Rattle.i_shape_core.specs.Walks.{RisingPlaces, WalkAnswer, Finds, Falls, FirstAnswer, IsRingState, PassesAtPlace, from_contour_first};
+ghost use Rattle.i_shape_core.specs.Walks.{RisingPlaces, WalkAnswer, Finds, Falls, FirstAnswer, IsRingState, PassesAtPlace, from_contour_first, ring_of_all};
 ghost use Rattle.i_shape_core.specs.Refusals.{OkUnlessMemory};
-ghost use Rattle.i_shape_core.specs.Written.{CleansInOrder, CleansInto};
+ghost use Rattle.i_shape_core.specs.Written.{CleansInOrder, CleansInto, IsWritten};
 ghost use Rattle.i_shape_core.specs.Room.{HasRoomToDespike, KeepsRoomToDespike};
 
 use crate::error::ShapeError;
+use crate::four_turns::count_turning;
 use crate::number::{IntNumber, WideIntNumber};
 use crate::point::{ContourPoint, IntContour, IntPoint};
 use crate::probe::Probe;
 use crate::ring::Ring;
 use crate::same::{are_same, last_other};
-use crate::turn::Turn;
+use crate::turn::{Turn, turn_at};
 use crate::write::{write_at, write_whole};
 use std::alloc::Global;
 use std::mem;
@@ -94,28 +95,15 @@ impl<I: IntNumber> DeSpikeContour<I> for IntContour<I> {
 #[derive(Drop)]
 pub struct ContourDeSpiker {
     places: Vec<usize>,
-    /// For how many points memory is taken at the least, where any is.
-    room: usize,
 }
 
 impl ContourDeSpiker {
     /// A remover of spikes that takes its memory from `alloc`.
     pub fn new(alloc: Global) -> ContourDeSpiker
-        ensures room { result.room ≡ 0 }
-        ensures empty { vec_capacity result.places ≡ 0 }
-    {
-        ContourDeSpiker::with_room(alloc, 0)
-    }
-
-    /// A remover of spikes that takes its memory from `alloc`: that for the places of its walks once where no contour has more
-    /// than `room` points, and none before a contour needs it.
-    pub fn with_room(alloc: Global, room: usize) -> ContourDeSpiker
-        ensures room { result.room ≡ room }
-        ensures empty { vec_capacity result.places ≡ 0 }
+        ensures { vec_capacity result.places ≡ 0 }
     {
         ContourDeSpiker {
             places: Vec::new(alloc),
-            room,
         }
     }
 
@@ -158,7 +146,34 @@ impl ContourDeSpiker {
         if contour.len() < 3 {
             return Ok((None, 0));
         }
-        self.despiked(Probe::new(contour))
+        let alloc = self.allocator();
+        let (probe, first) = first_back(Probe::new(contour));
+        let Some(place) = first else {
+            return probe.keep_whole(alloc);
+        };
+        if contour.len() == 3 {
+            return Ok((None, probe.visits()));
+        }
+        self.reserve(contour.len())?;
+        let mut ring = self.ring_at(contour.len(), place);
+        ring.remove();
+        let (probe, uncollapsed) = self.walk(probe, ring);
+        if !uncollapsed {
+            return Ok((None, probe.visits()));
+        }
+        probe.keep_left(alloc, Some(self.places.as_slice()))
+    }
+
+    /// Takes memory for the places of contours of up to so many points. The only error is `OutOfMemory`.
+    pub fn reserve(&mut self, points: usize) -> Result<(), ShapeError>
+        ensures room { IfOk result (λ _. HasRoomToDespike self.new points) }
+        ensures reserved { HasRoomToDespike self.old points → IsOk result }
+        ensures keeps_room { KeepsRoomToDespike self.old self.new }
+        ensures memory { IsOkUnless result ShapeError.OutOfMemory }
+    {
+        self.places.clear();
+        self.places.reserve(points)?;
+        Ok(())
     }
 
     /// What `despike_contour` gives, for points of any type, written to the front of `out`: answers how many points are left, 0 where
@@ -186,83 +201,96 @@ impl ContourDeSpiker {
         if contour.len() < 3 {
             return Ok(0);
         }
-        let mut probe = Probe::new(contour);
-        let Some(place) = first_back(&mut probe) else {
+        if is_despiked(contour) {
             return Ok(write_whole(contour, out));
-        };
-        let (_probe, uncollapsed) = self.walk_round(probe, place)?;
-        if !uncollapsed {
+        }
+        if contour.len() == 3 {
             return Ok(0);
         }
-        Ok(write_at(contour, self.places.as_slice(), out))
+        self.reserve(contour.len())?;
+        Ok(self.walk_into(contour, out))
     }
 
-    /// What is left of a contour, and how many vertices were visited.
-    fn despiked<P: ContourPoint>(
-        &mut self,
-        mut probe: Probe<'_, P::Coordinate, P>,
-    ) -> Result<(Option<Vec<P>>, u128), ShapeError>
-        requires enough { 3 ≤ length probe.contour }
-        requires fresh { probe.visits ≡ 0 }
-        ensures answer { IfOk result
-            (λ r. WalkAnswer IsBack (contour_of P.Coordinate.value probe.entry.contour)
-            (answered (λ list. contour_of P.Coordinate.value (P.points list)) r.0) r.1) }
+    /// The same of a contour of more than three points, for whose places there is room, without a test before the walk.
+    fn walk_into<P: ContourPoint>(&mut self, contour: &[P], out: &mut [P]) -> usize
+        requires points_safe { IsSafeContour P.Coordinate.width
+            (contour_of P.Coordinate.value (P.points contour.now)) }
+        requires room { length contour.now ≤ length out.old }
+        requires enough { 3 ≤ length contour.now }
+        requires reserved { HasRoomToDespike self.old (length contour.now) }
+        ensures written { IsWritten SpikelessAnswer KeptAnswer Sublist P.Coordinate.width
+            (λ list. contour_of P.Coordinate.value (P.points list))
+            contour.now out.old out.new result }
+        ensures len { length out.new ≡ length out.old }
         ensures keeps_room { KeepsRoomToDespike self.old self.new }
-        ensures memory { IsOkUnless result ShapeError.OutOfMemory }
+    {
+        let ring = self.ring_at(contour.len(), 0);
+        let (_probe, uncollapsed) = self.walk(Probe::new(contour), ring);
+        if !uncollapsed {
+            return 0;
+        }
+        write_at(contour, self.places.as_slice(), out)
+    }
+
+    /// The ring of all places below `count`, for which there is room, with the walk at `place` and the places before it tested.
+    fn ring_at(&mut self, count: usize, place: usize) -> Ring
+        requires within { place < count }
+        requires room { HasRoomToDespike self.old count }
+        ensures { result ≡ ring_of_all count place (vec_capacity self.old.places) }
     {
         let alloc = self.allocator();
-        let Some(place) = first_back(&mut probe) else {
-            return probe.keep_whole(alloc);
-        };
-        let (probe, uncollapsed) = self.walk_round(probe, place)?;
-        if !uncollapsed {
-            return probe.keep_left(alloc, None);
-        }
-        probe.keep_left(alloc, Some(self.places.as_slice()))
+        Ring::starting_at(
+            mem::replace(&mut self.places, Vec::new(alloc)),
+            count,
+            place,
+        )
     }
 
-    /// Walks on from the first place at which the contour goes back. Whether three places are left at the least: then they are
-    /// its `places`.
-    fn walk_round<'a, P: ContourPoint>(
+    /// Walks round a ring. Whether three places are left at the least: then they are its `places`.
+    fn walk<'a, P: ContourPoint>(
         &mut self,
-        mut probe: Probe<'a, P::Coordinate, P>,
-        place: usize,
-    ) -> Result<(Probe<'a, P::Coordinate, P>, bool), ShapeError>
-        requires first { FirstAnswer IsBack (contour_of P.Coordinate.value probe.contour)
-            (Some place) probe.visits }
-        ensures contour { IfOk result (λ r. r.0.contour ≡ probe.entry.contour) }
+        probe: Probe<'a, P::Coordinate, P>,
+        mut ring: Ring,
+    ) -> (Probe<'a, P::Coordinate, P>, bool)
+        requires state { IsRingState IsBack (contour_of P.Coordinate.value probe.contour)
+            ring probe.visits }
+        requires room { length probe.contour ≤ usize.MAX }
+        ensures contour { result.0.contour ≡ probe.entry.contour }
         ensures uncollapsed { let c = contour_of P.Coordinate.value probe.entry.contour in
-            IfOk result (λ r. IsTrue r.1
-            → Finds IsBack c (map (point_at c) self.new.places.items) r.0.visits) }
-        ensures rising { IfOk result (λ r. IsTrue r.1
-            → RisingPlaces (length probe.entry.contour) self.new.places.items) }
+            IsTrue result.1
+            → Finds IsBack c (map (point_at c) self.new.places.items) result.0.visits }
+        ensures rising { IsTrue result.1
+            → RisingPlaces (length probe.entry.contour) self.new.places.items }
         ensures falls { let c = contour_of P.Coordinate.value probe.entry.contour in
-            IfOk result (λ r. r.1 ≡ false → Falls IsBack c r.0.visits) }
-        ensures three { length probe.entry.contour ≤ 3 → IsOk result }
-        ensures reserved { HasRoomToDespike self.old (length probe.entry.contour) → IsOk result }
-        ensures keeps_room { KeepsRoomToDespike self.old self.new }
-        ensures takes_room { OnOk result (3 < length probe.entry.contour
-            → HasRoomToDespike self.new (length probe.entry.contour)) }
-        ensures memory { IsOkUnless result ShapeError.OutOfMemory }
+            result.1 ≡ false → Falls IsBack c result.0.visits }
+        ensures room { vec_capacity self.new.places ≡ ring.room }
     {
-        let count = probe.len();
-        if count == 3 {
-            return Ok((probe, false));
-        }
-        self.places.clear();
-        self.places.reserve(count.max(self.room))?;
-        let alloc = self.allocator();
-        let memory = mem::replace(&mut self.places, Vec::new(alloc));
-        let mut ring = Ring::starting_at(memory, count, place);
-        ring.remove();
-        let uncollapsed = walk(&mut probe, &mut ring);
-        if !uncollapsed {
-            self.places = ring.into_memory();
-            return Ok((probe, false));
-        }
+        let (probe, uncollapsed) = walk_round(probe, &mut ring);
         self.places = ring.into_order();
-        Ok((probe, true))
+        (probe, uncollapsed)
     }
+}
+
+/// The first place at which the contour turns back or stands still. It takes no memory.
+fn first_back<'a, P: ContourPoint>(
+    mut probe: Probe<'a, P::Coordinate, P>,
+) -> (Probe<'a, P::Coordinate, P>, Option<usize>)
+    requires enough { 3 ≤ length probe.contour }
+    requires fresh { probe.visits ≡ 0 }
+    ensures answer { FirstAnswer IsBack (contour_of P.Coordinate.value probe.entry.contour)
+        result.1 result.0.visits }
+    ensures contour { result.0.contour ≡ probe.entry.contour }
+{
+    let count = probe.len();
+    let mut before = count - 1;
+    for place in 0..count {
+        let after = if place + 1 < count { place + 1 } else { 0 };
+        if is_back_between(&mut probe, before, place, after) {
+            return (probe, Some(place));
+        }
+        before = place;
+    }
+    (probe, None)
 }
 
 /// Whether the contour turns back or stands still at `place`, with these neighbours. Counts one visit.
@@ -284,30 +312,6 @@ fn is_back_between<P: ContourPoint>(
     probe.turn(previous, place, next) == Turn::Back
 }
 
-/// The first place at which the contour turns back or stands still. Counts a visit of each place up to it, or of all.
-fn first_back<P: ContourPoint>(probe: &mut Probe<'_, P::Coordinate, P>) -> Option<usize>
-    requires enough { 3 ≤ length probe.old.contour }
-    requires fresh { probe.old.visits ≡ 0 }
-    ensures answer { FirstAnswer IsBack (contour_of P.Coordinate.value probe.old.contour)
-        result probe.new.visits }
-    ensures contour { probe.new.contour ≡ probe.old.contour }
-{
-    let last = probe.len() - 1;
-    if is_back_between(probe, last, 0, 1) {
-        return Some(0);
-    }
-    let turning = probe.skip_turning();
-    for place in turning + 1..last {
-        if is_back_between(probe, place - 1, place, place + 1) {
-            return Some(place);
-        }
-    }
-    if is_back_between(probe, last - 1, last, 0) {
-        return Some(last);
-    }
-    None
-}
-
 /// Whether the contour turns back or stands still at the ring's place. Counts one visit.
 fn is_back_at<P: ContourPoint>(probe: &mut Probe<'_, P::Coordinate, P>, ring: &Ring) -> bool
     requires enough { 1 < length ring.now.places }
@@ -322,30 +326,34 @@ fn is_back_at<P: ContourPoint>(probe: &mut Probe<'_, P::Coordinate, P>, ring: &R
 }
 
 /// Walks round the ring until each place of it is tested, and takes out those that turn back. Whether three are left.
-fn walk<P: ContourPoint>(probe: &mut Probe<'_, P::Coordinate, P>, ring: &mut Ring) -> bool
-    requires state { IsRingState IsBack (contour_of P.Coordinate.value probe.old.contour)
-        ring.old probe.old.visits }
-    requires room { length probe.old.contour ≤ usize.MAX }
-    ensures contour { probe.new.contour ≡ probe.old.contour }
-    ensures uncollapsed { let c = contour_of P.Coordinate.value probe.old.contour in IsTrue result
+fn walk_round<'a, P: ContourPoint>(
+    mut probe: Probe<'a, P::Coordinate, P>,
+    ring: &mut Ring,
+) -> (Probe<'a, P::Coordinate, P>, bool)
+    requires state { IsRingState IsBack (contour_of P.Coordinate.value probe.contour)
+        ring.old probe.visits }
+    requires room { length probe.contour ≤ usize.MAX }
+    ensures contour { result.0.contour ≡ probe.entry.contour }
+    ensures uncollapsed { let c = contour_of P.Coordinate.value probe.entry.contour in
+        IsTrue result.1
         → Finds IsBack c (map (point_at c) (from_contour_first ring.new.places ring.new.lead))
-        probe.new.visits }
-    ensures rising { IsTrue result → RisingPlaces (length probe.old.contour)
+        result.0.visits }
+    ensures rising { IsTrue result.1 → RisingPlaces (length probe.entry.contour)
         (from_contour_first ring.new.places ring.new.lead) }
-    ensures falls { result ≡ false → Falls IsBack (contour_of P.Coordinate.value probe.old.contour)
-        probe.new.visits }
+    ensures falls { result.1 ≡ false
+        → Falls IsBack (contour_of P.Coordinate.value probe.entry.contour) result.0.visits }
     ensures room { ring.new.room ≡ ring.old.room }
 {
     while ring.untested() > 0 {
-        if !is_back_at(probe, ring) {
+        if !is_back_at(&mut probe, ring) {
             ring.keep();
         } else if ring.len() > 3 {
             ring.remove();
         } else {
-            return false;
+            return (probe, false);
         }
     }
-    true
+    (probe, true)
 }
 
 /// Whether there are at least three points, and the way over them nowhere goes back or stands still: the removal of spikes leaves such a
@@ -359,7 +367,32 @@ pub fn is_despiked<P: ContourPoint>(points: &[P]) -> bool
     if points.len() < 3 {
         return false;
     }
-    first_back(&mut Probe::new(points)).is_none()
+    let last = points.len() - 1;
+    if is_back(points, last, 0, 1) {
+        return false;
+    }
+    if is_back(points, last - 1, last, 0) {
+        return false;
+    }
+    for place in count_turning(points)..last - 1 {
+        if is_back(points, place, place + 1, place + 2) {
+            return false;
+        }
+    }
+    true
+}
+
+/// Whether the way turns back or stands still at `place`, with these neighbours.
+fn is_back<P: ContourPoint>(points: &[P], previous: usize, place: usize, next: usize) -> bool
+    requires safe { IsSafeContour P.Coordinate.width
+        (contour_of P.Coordinate.value (P.points points.now)) }
+    requires previous_within { previous < length points.now }
+    requires place_within { place < length points.now }
+    requires next_within { next < length points.now }
+    ensures { let c = contour_of P.Coordinate.value (P.points points.now) in IsTrue result
+        ↔ IsBack (point_at c previous) (point_at c place) (point_at c next) }
+{
+    turn_at(points, previous, place, next) == Turn::Back
 }
 
 /// Whether at least three points are left without repeated ones, and the way over them nowhere goes back.

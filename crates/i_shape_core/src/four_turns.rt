@@ -1,6 +1,6 @@
 //! The way over the points of a contour, four turns at a time.
 
-ghost use Rattle.std.specs.Prelude.{◌↔◌, ◌+◌, ◌-◌, ◌<◌, ◌≤◌, length, IsTrue};
+ghost use Rattle.std.specs.Prelude.{◌↔◌, ◌+◌, ◌<◌, ◌≤◌, length, IsTrue};
 ghost use Rattle.i_shape_core.specs.FourTurns.{HasZeroTurnFrom, IsTurning};
 ghost use Rattle.i_shape_core.specs.IntPoint.{contour_of, IsSafeContour};
 
@@ -15,9 +15,6 @@ pub(crate) fn count_turning<P: ContourPoint>(points: &[P]) -> usize
         (contour_of P.Coordinate.value (P.points points.now)) }
     ensures turning { IsTurning (contour_of P.Coordinate.value (P.points points.now)) result }
     ensures within { 2 ≤ length points.now → result + 2 ≤ length points.now }
-    ensures stops { 6 ≤ length points.now → result + 2 < length points.now
-        → IsTurning (contour_of P.Coordinate.value (P.points points.now)) (length points.now - 2)
-        → ⊥ }
 {
     if points.len() < 6 {
         return 0;

@@ -1,19 +1,17 @@
 //! The view of a contour that a cleaner's walk is given, which counts its visits.
 
-ghost use Rattle.std.specs.Prelude.{◌≡◌, ◌+◌, ◌<◌, ◌≤◌, Some, map, get_or, option_map, length, slice_get, IfOk, IsOkUnless};
+ghost use Rattle.std.specs.Prelude.{◌≡◌, ◌+◌, ◌<◌, ◌≤◌, Some, map, option_map, length, slice_get, IfOk, IsOkUnless};
 ghost use Rattle.std.specs.Option.{IfSome};
 ghost use Rattle.std.specs.List.{All};
-ghost use Rattle.i_shape_core.specs.IntPoint.{contour_of, point_of, answered, IsSafe, IsSafeContour};
+ghost use Rattle.i_shape_core.specs.IntPoint.{contour_of, answered, IsSafeContour};
 ghost use Rattle.i_shape_core.specs.Contour.{point_at};
 ghost use Rattle.i_shape_core.specs.Walks.{Seen};
-ghost use Rattle.i_shape_core.specs.FourTurns.{IsTurning};
 ghost use Rattle.i_shape_core.specs.Turn.{IsTurn};
 
 use crate::error::ShapeError;
-use crate::four_turns::count_turning;
 use crate::number::IntNumber;
 use crate::point::{ContourPoint, IntPoint};
-use crate::turn::{Turn, turn_of};
+use crate::turn::{Turn, turn_at};
 use std::alloc::Global;
 use std::marker::Model;
 
@@ -64,17 +62,7 @@ impl<'a, I: IntNumber, P: ContourPoint<Coordinate = I>> Probe<'a, I, P> {
         ensures visits { self.new.visits ≡ self.old.visits + 1 }
     {
         self.count += 1;
-        turn_of(self.point(previous), self.point(place), self.point(next))
-    }
-
-    /// The point at a place.
-    fn point(&self, place: usize) -> IntPoint<I>
-        requires { place < length self.now.contour }
-        ensures point { result ≡ get_or self.now.contour place result }
-        ensures safe { IsSafe I.width (point_of I.value result) }
-    {
-        let points = self.points;
-        points[place].to_point()
+        turn_at(self.points, previous, place, next)
     }
 
     /// Counts one visit.
@@ -84,20 +72,6 @@ impl<'a, I: IntNumber, P: ContourPoint<Coordinate = I>> Probe<'a, I, P> {
         ensures visits { self.new.visits ≡ self.old.visits + 1 }
     {
         self.count += 1;
-    }
-
-    /// Passes over turns that are no zero turns, from the first on and four at a time, and counts a visit of each. Answers how many
-    /// they are. The closing turns aren't looked at.
-    pub(crate) fn skip_turning(&mut self) -> usize
-        requires few { self.old.visits ≤ 1 }
-        ensures turning { IsTurning (contour_of I.value self.old.contour) result }
-        ensures within { 2 ≤ length self.old.contour → result + 2 ≤ length self.old.contour }
-        ensures contour { self.new.contour ≡ self.old.contour }
-        ensures visits { self.new.visits ≡ self.old.visits + result }
-    {
-        let turning = count_turning(self.points);
-        self.count += turning as u128;
-        turning
     }
 
     /// The number of visits so far.

@@ -1,8 +1,7 @@
 //! The ring of the places that a walk has left.
 
 ghost use Rattle.std.specs.Prelude.{◌≡◌, ◌+◌, ◌-◌, ◌<◌, ◌≤◌, ◌∷◌, ◌++◌, [], min, max, take, drop, length, slice_index, vec_len, vec_capacity};
-ghost use Rattle.std.specs.List.{range_with_len};
-ghost use Rattle.i_shape_core.specs.Walks.{PlacedRing, LeadKept, LeadRemoved, around_gap, lead_over_gap, from_contour_first};
+ghost use Rattle.i_shape_core.specs.Walks.{PlacedRing, LeadKept, LeadRemoved, around_gap, lead_over_gap, from_contour_first, ring_of_all};
 
 use std::marker::Model;
 
@@ -31,17 +30,11 @@ impl Ring {
     /// The ring of all places below `count`, in this memory, with the walk at `place` and the places before it tested.
     pub fn starting_at(memory: Vec<usize>, count: usize, place: usize) -> Ring
         requires within { place < count }
-        requires empty { vec_len memory ≡ 0 }
         requires room { count ≤ vec_capacity memory }
-        ensures { result
-            ≡ record {
-              places = drop place (range_with_len 0 count) ++ take place (range_with_len 0 count);
-              untested = count - place;
-              lead = count - place;
-              room = vec_capacity memory;
-            } }
+        ensures { result ≡ ring_of_all count place (vec_capacity memory) }
     {
         let mut places = memory;
+        places.clear();
         for each in 0..count {
             places.push_reserved(each);
         }
@@ -139,13 +132,6 @@ impl Ring {
         } else {
             self.end -= 1;
         }
-    }
-
-    /// Its memory, for another ring. What lies in it means nothing.
-    pub fn into_memory(self) -> Vec<usize>
-        ensures { vec_capacity result ≡ self.room }
-    {
-        self.places
     }
 
     /// The places that are left, in the order of the contour.

@@ -5,17 +5,18 @@ ghost use Rattle.std.specs.Option.{IfSome};
 ghost use Rattle.std.specs.List.{range_with_len};
 ghost use Rattle.i_shape_core.specs.IntPoint.{contour_of, answered, IsSafeContour};
 ghost use Rattle.i_shape_core.specs.Point.{IsZeroTurn};
-ghost use Rattle.i_shape_core.specs.Contour.{End, IsSimple, Sublist, point_at};
+ghost use Rattle.i_shape_core.specs.Contour.{IsSimple, Sublist, point_at};
 ghost use Rattle.i_shape_core.specs.Cleaners.{SimpleAnswer, KeptAnswer, VisitsAnswer};
-ghost use Rattle.i_shape_core.specs.Walks.{RisingPlaces, IsWalked, IsStacked, IsSettled, WalkAnswer};
+ghost use Rattle.i_shape_core.specs.Walks.{Finds, RisingPlaces, IsStart, IsWalked, IsStacked, IsSettled, WalkAnswer};
 ghost use Rattle.i_shape_core.specs.Refusals.{OkUnlessMemory};
-ghost use Rattle.i_shape_core.specs.Written.{CleansInOrder, CleansInto};
+ghost use Rattle.i_shape_core.specs.Written.{CleansInOrder, CleansInto, IsWritten};
 ghost use Rattle.i_shape_core.specs.Room.{HasRoomToSimplify, KeepsRoomToSimplify};
 
 use crate::error::ShapeError;
 use crate::number::IntNumber;
 use crate::point::{ContourPoint, IntContour, IntPoint};
 use crate::probe::Probe;
+use crate::simple::is_simple;
 use crate::turn::Turn;
 use crate::write::{write_at, write_whole};
 use std::alloc::Global;
@@ -24,29 +25,21 @@ use std::alloc::Global;
 #[derive(Drop)]
 pub struct ContourSimplifier {
     stack: Vec<usize>,
-    /// For how many points the stack takes memory at the least, where it takes any.
-    room: usize,
 }
 
 impl ContourSimplifier {
     /// A simplifier that takes its memory from `alloc`.
     pub fn new(alloc: Global) -> ContourSimplifier
-        ensures room { result.room ≡ 0 }
-        ensures empty { vec_capacity result.stack ≡ 0 }
-    {
-        ContourSimplifier::with_room(alloc, 0)
-    }
-
-    /// A simplifier that takes its memory from `alloc`: that for the places of its walks once where no contour has more than
-    /// `room` points, and none before a contour needs it.
-    pub fn with_room(alloc: Global, room: usize) -> ContourSimplifier
-        ensures room { result.room ≡ room }
-        ensures empty { vec_capacity result.stack ≡ 0 }
+        ensures { vec_capacity result.stack ≡ 0 }
     {
         ContourSimplifier {
             stack: Vec::new(alloc),
-            room,
         }
+    }
+
+    /// Where it takes its memory from.
+    pub(crate) fn allocator(&self) -> Global {
+        *self.stack.allocator()
     }
 
     /// The contour without zero turns, as `SimpleContour::simplified` gives it, whatever was cleaned before, or failed.
@@ -83,14 +76,27 @@ impl ContourSimplifier {
         if contour.len() < 3 {
             return Ok((None, 0));
         }
-        let alloc = *self.stack.allocator();
-        let mut probe = Probe::new(contour);
-        let Some(start) = start_of_walk(&mut probe) else {
+        let alloc = self.allocator();
+        let (probe, start) = start_of_walk(Probe::new(contour));
+        let Some(start) = start else {
             return probe.keep_whole(alloc);
         };
-        let probe = self.walk(probe, start)?;
+        self.reserve(contour.len())?;
+        let probe = stack_places(probe, &mut self.stack, start);
         let (probe, left) = close(probe, self.stack.as_slice());
         probe.keep_left(alloc, left)
+    }
+
+    /// Takes memory for the places of contours of up to so many points. The only error is `OutOfMemory`.
+    pub fn reserve(&mut self, points: usize) -> Result<(), ShapeError>
+        ensures room { IfOk result (λ _. HasRoomToSimplify self.new points) }
+        ensures reserved { HasRoomToSimplify self.old points → IsOk result }
+        ensures keeps_room { KeepsRoomToSimplify self.old self.new }
+        ensures memory { IsOkUnless result ShapeError.OutOfMemory }
+    {
+        self.stack.clear();
+        self.stack.reserve(points)?;
+        Ok(())
     }
 
     /// What `simplify_contour` gives, for points of any type, written to the front of `out`: answers how many points are left, 0 where
@@ -117,119 +123,86 @@ impl ContourSimplifier {
         if contour.len() < 3 {
             return Ok(0);
         }
-        let mut probe = Probe::new(contour);
-        let Some(start) = start_of_walk(&mut probe) else {
+        if is_simple(contour) {
             return Ok(write_whole(contour, out));
-        };
-        let probe = self.walk(probe, start)?;
+        }
+        self.reserve(contour.len())?;
+        Ok(self.walk_into(contour, out))
+    }
+
+    /// The same without a test of the contour before the walk, where there is room for its places.
+    fn walk_into<P: ContourPoint>(&mut self, contour: &[P], out: &mut [P]) -> usize
+        requires points_safe { IsSafeContour P.Coordinate.width
+            (contour_of P.Coordinate.value (P.points contour.now)) }
+        requires room { length contour.now ≤ length out.old }
+        requires reserved { HasRoomToSimplify self.old (length contour.now) }
+        ensures written { IsWritten SimpleAnswer KeptAnswer Sublist P.Coordinate.width
+            (λ list. contour_of P.Coordinate.value (P.points list))
+            contour.now out.old out.new result }
+        ensures len { length out.new ≡ length out.old }
+        ensures keeps_room { KeepsRoomToSimplify self.old self.new }
+    {
+        let probe = stack_places(Probe::new(contour), &mut self.stack, (0, 0, 0));
         let (_probe, left) = close(probe, self.stack.as_slice());
         let Some(places) = left else {
-            return Ok(0);
+            return 0;
         };
-        Ok(write_at(contour, places, out))
+        write_at(contour, places, out)
     }
-
-    /// Walks on from a start to the end of the contour. The stack has the places that are then left.
-    fn walk<'a, P: ContourPoint>(
-        &mut self,
-        probe: Probe<'a, P::Coordinate, P>,
-        start: (usize, usize, usize),
-    ) -> Result<Probe<'a, P::Coordinate, P>, ShapeError>
-        requires walked { IsWalked IsZeroTurn (contour_of P.Coordinate.value probe.contour)
-            (range_with_len start.0 (start.1 - start.0)) start.2 probe.visits }
-        requires rising { start.0 ≤ start.1 }
-        requires end_within { start.1 ≤ length probe.contour }
-        requires place_within { start.2 ≤ length probe.contour }
-        ensures contour { IfOk result (λ r. r.contour ≡ probe.entry.contour) }
-        ensures walked { let c = contour_of P.Coordinate.value probe.entry.contour in
-            IfOk result (λ r. IsWalked IsZeroTurn c self.new.stack.items (length c) r.visits) }
-        ensures reserved { HasRoomToSimplify self.old (length probe.entry.contour) → IsOk result }
-        ensures keeps_room { KeepsRoomToSimplify self.old self.new }
-        ensures takes_room { OnOk result
-            (HasRoomToSimplify self.new (length probe.entry.contour)) }
-        ensures memory { IsOkUnless result ShapeError.OutOfMemory }
-    {
-        let (first, end, place) = start;
-        fill(&mut self.stack, probe.len().max(self.room), first, end)?;
-        Ok(stack_places(probe, &mut self.stack, place))
-    }
-}
-
-/// The first place that makes a zero turn of the one before it, or the number of points where there is none. Counts a visit
-/// for each test.
-fn clean_prefix<P: ContourPoint>(probe: &mut Probe<'_, P::Coordinate, P>) -> usize
-    requires fresh { probe.old.visits ≡ 0 }
-    requires enough { 3 ≤ length probe.old.contour }
-    ensures contour { probe.new.contour ≡ probe.old.contour }
-    ensures least { 2 ≤ result }
-    ensures most { result ≤ length probe.old.contour }
-    ensures clean { IsStacked IsZeroTurn (contour_of P.Coordinate.value probe.old.contour)
-        (range_with_len 0 result) result }
-    ensures zero_turn { let c = contour_of P.Coordinate.value probe.old.contour in result < length c
-        → IsZeroTurn (point_at c (result - 2)) (point_at c (result - 1)) (point_at c result) }
-    ensures visits { probe.new.visits + 2 ≡ min (result + 1) (length probe.old.contour) }
-{
-    let count = probe.len();
-    let turning = probe.skip_turning();
-    for place in turning + 2..count {
-        if is_zero_at(probe, place - 2, place - 1, place) {
-            return place;
-        }
-    }
-    count
 }
 
 /// Where the contour has a zero turn: the first place and the end of a stack of places, none of them at a zero turn, and the place
-/// with which the walk goes on. Counts a visit for each test.
-pub(crate) fn start_of_walk<P: ContourPoint>(
-    probe: &mut Probe<'_, P::Coordinate, P>,
-) -> Option<(usize, usize, usize)>
-    requires fresh { probe.old.visits ≡ 0 }
-    requires enough { 3 ≤ length probe.old.contour }
-    ensures contour { probe.new.contour ≡ probe.old.contour }
-    ensures walked { IfSome result
-        (λ s. IsWalked IsZeroTurn (contour_of P.Coordinate.value probe.old.contour)
-        (range_with_len s.0 (s.1 - s.0)) s.2 probe.new.visits) }
-    ensures rising { IfSome result (λ s. s.0 ≤ s.1) }
-    ensures end_within { IfSome result (λ s. s.1 ≤ length probe.old.contour) }
-    ensures place_within { IfSome result (λ s. s.2 ≤ length probe.old.contour) }
-    ensures clean { let c = contour_of P.Coordinate.value probe.old.contour in result ≡ None
-        → End IsZeroTurn c c }
-    ensures unclean { IfSome result (λ _. IsSimple (contour_of P.Coordinate.value probe.old.contour)
-        → ⊥) }
-    ensures visits { result ≡ None → probe.new.visits ≡ length probe.old.contour }
+/// with which the walk goes on. It takes no memory.
+fn start_of_walk<'a, P: ContourPoint>(
+    probe: Probe<'a, P::Coordinate, P>,
+) -> (Probe<'a, P::Coordinate, P>, Option<(usize, usize, usize)>)
+    requires fresh { probe.visits ≡ 0 }
+    requires enough { 3 ≤ length probe.contour }
+    ensures contour { result.0.contour ≡ probe.entry.contour }
+    ensures start { IfSome result.1
+        (λ s. IsStart IsZeroTurn (contour_of P.Coordinate.value probe.entry.contour)
+        s.0 s.1 s.2 result.0.visits) }
+    ensures clean { let c = contour_of P.Coordinate.value probe.entry.contour in
+        result.1 ≡ None → Finds IsZeroTurn c c result.0.visits }
 {
-    let place = clean_prefix(probe);
+    let (mut probe, place) = clean_prefix(probe);
     let count = probe.len();
     if place < count {
-        return Some((0, place - 1, place));
+        return (probe, Some((0, place - 1, place)));
     }
     let last = count - 1;
-    if is_zero_at(probe, last, 0, 1) {
-        return Some((1, count, count));
+    if is_zero_at(&mut probe, last, 0, 1) {
+        return (probe, Some((1, count, count)));
     }
-    if is_zero_at(probe, last - 1, last, 0) {
-        return Some((0, last, count));
+    if is_zero_at(&mut probe, last - 1, last, 0) {
+        return (probe, Some((0, last, count)));
     }
-    None
+    (probe, None)
 }
 
-/// Puts the places from `first` on and before `end` on the stack, in place of what it holds, and makes room for `count`.
-fn fill(stack: &mut Vec<usize>, count: usize, first: usize, end: usize) -> Result<(), ShapeError>
-    requires rising { first ≤ end }
-    requires within { end - first ≤ count }
-    ensures items { IfOk result (λ _. stack.new.items ≡ range_with_len first (end - first)) }
-    ensures room { IfOk result (λ _. count ≤ vec_capacity stack.new) }
-    ensures reserved { count ≤ vec_capacity stack.old → IsOk result }
-    ensures keeps_room { vec_capacity stack.old ≤ vec_capacity stack.new }
-    ensures memory { IsOkUnless result ShapeError.OutOfMemory }
+/// The first place that makes a zero turn of the one before it, or the number of points where there is none.
+fn clean_prefix<'a, P: ContourPoint>(
+    mut probe: Probe<'a, P::Coordinate, P>,
+) -> (Probe<'a, P::Coordinate, P>, usize)
+    requires fresh { probe.visits ≡ 0 }
+    requires enough { 3 ≤ length probe.contour }
+    ensures contour { result.0.contour ≡ probe.entry.contour }
+    ensures least { 2 ≤ result.1 }
+    ensures most { result.1 ≤ length probe.entry.contour }
+    ensures clean { IsStacked IsZeroTurn (contour_of P.Coordinate.value probe.entry.contour)
+        (range_with_len 0 result.1) result.1 }
+    ensures zero_turn { let c = contour_of P.Coordinate.value probe.entry.contour in
+        result.1 < length c → IsZeroTurn (point_at c (result.1 - 2))
+        (point_at c (result.1 - 1)) (point_at c result.1) }
+    ensures visits { result.0.visits + 2 ≡ min (result.1 + 1) (length probe.entry.contour) }
 {
-    stack.clear();
-    stack.reserve(count)?;
-    for place in first..end {
-        stack.push_reserved(place);
+    let count = probe.len();
+    for place in 2..count {
+        if is_zero_at(&mut probe, place - 2, place - 1, place) {
+            return (probe, place);
+        }
     }
-    Ok(())
+    (probe, count)
 }
 
 /// Whether the contour has a zero turn at `place`, between these neighbours. Counts one visit.
@@ -252,53 +225,68 @@ fn is_zero_at<P: ContourPoint>(
 }
 
 /// Pops from the stack while its top is a zero turn between the one below it and `place`.
-fn pop_zero_turns<P: ContourPoint>(
-    probe: &mut Probe<'_, P::Coordinate, P>,
+fn pop_zero_turns<'a, P: ContourPoint>(
+    mut probe: Probe<'a, P::Coordinate, P>,
     stack: &mut Vec<usize>,
     place: usize,
-)
-    requires within { place < length probe.old.contour }
-    requires walked { IsWalked IsZeroTurn (contour_of P.Coordinate.value probe.old.contour)
-        stack.old.items place probe.old.visits }
-    ensures contour { probe.new.contour ≡ probe.old.contour }
-    ensures stacked { IsStacked IsZeroTurn (contour_of P.Coordinate.value probe.old.contour)
+) -> Probe<'a, P::Coordinate, P>
+    requires within { place < length probe.contour }
+    requires walked { IsWalked IsZeroTurn (contour_of P.Coordinate.value probe.contour)
+        stack.old.items place probe.visits }
+    ensures contour { result.contour ≡ probe.entry.contour }
+    ensures stacked { IsStacked IsZeroTurn (contour_of P.Coordinate.value probe.entry.contour)
         stack.new.items place }
-    ensures settled { IsSettled IsZeroTurn (contour_of P.Coordinate.value probe.old.contour)
+    ensures settled { IsSettled IsZeroTurn (contour_of P.Coordinate.value probe.entry.contour)
         stack.new.items place }
     ensures short { vec_len stack.new ≤ place }
     ensures room { vec_capacity stack.new ≡ vec_capacity stack.old }
-    ensures most { probe.new.visits + vec_len stack.new ≤ 2 * place + 1 }
-    ensures least { place ≤ probe.new.visits + min (vec_len stack.new) 1 }
+    ensures most { result.visits + vec_len stack.new ≤ 2 * place + 1 }
+    ensures least { place ≤ result.visits + min (vec_len stack.new) 1 }
 {
     while stack.len() >= 2 {
         let top = stack.len() - 1;
-        if !is_zero_at(probe, stack[top - 1], stack[top], place) {
-            return;
+        if !is_zero_at(&mut probe, stack[top - 1], stack[top], place) {
+            return probe;
         }
         stack.pop();
     }
+    probe
 }
 
-/// Puts the places of the contour from `start` on on the stack one by one, and takes zero turns off it.
+/// Puts the places of the contour on the stack one by one, from a start of the walk on, and takes zero turns off it.
 fn stack_places<'a, P: ContourPoint>(
     mut probe: Probe<'a, P::Coordinate, P>,
     stack: &mut Vec<usize>,
-    start: usize,
+    start: (usize, usize, usize),
 ) -> Probe<'a, P::Coordinate, P>
-    requires within { start ≤ length probe.contour }
-    requires walked { IsWalked IsZeroTurn (contour_of P.Coordinate.value probe.contour)
-        stack.old.items start probe.visits }
+    requires start { IsStart IsZeroTurn (contour_of P.Coordinate.value probe.contour)
+        start.0 start.1 start.2 probe.visits }
     requires room { length probe.contour ≤ vec_capacity stack.old }
     ensures contour { result.contour ≡ probe.entry.contour }
     ensures walked { let c = contour_of P.Coordinate.value
         probe.entry.contour in IsWalked IsZeroTurn c stack.new.items (length c) result.visits }
     ensures room { vec_capacity stack.new ≡ vec_capacity stack.old }
 {
-    for place in start..probe.len() {
-        pop_zero_turns(&mut probe, stack, place);
+    let (first, end, next) = start;
+    fill(stack, first, end);
+    for place in next..probe.len() {
+        probe = pop_zero_turns(probe, stack, place);
         stack.push_reserved(place);
     }
     probe
+}
+
+/// Puts the places from `first` on and before `end` on the stack, in place of what it holds.
+fn fill(stack: &mut Vec<usize>, first: usize, end: usize)
+    requires rising { first ≤ end }
+    requires room { end - first ≤ vec_capacity stack.old }
+    ensures items { stack.new.items ≡ range_with_len first (end - first) }
+    ensures room { vec_capacity stack.new ≡ vec_capacity stack.old }
+{
+    stack.clear();
+    for place in first..end {
+        stack.push_reserved(place);
+    }
 }
 
 /// Takes zero turns from both ends of the stack, where it closes to a cycle. Gives the places that are left, `None` where these

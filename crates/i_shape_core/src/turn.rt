@@ -1,11 +1,12 @@
 //! The kinds of turn at a vertex.
 
-ghost use Rattle.std.specs.Prelude.{◌≡◌};
-ghost use Rattle.i_shape_core.specs.IntPoint.{point_of, IsSafe};
+ghost use Rattle.std.specs.Prelude.{◌≡◌, ◌<◌, length};
+ghost use Rattle.i_shape_core.specs.IntPoint.{contour_of, point_of, IsSafe, IsSafeContour};
+ghost use Rattle.i_shape_core.specs.Contour.{point_at};
 ghost use Rattle.i_shape_core.specs.Turn.{IsTurn};
 
 use crate::number::{IntNumber, WideIntNumber};
-use crate::point::IntPoint;
+use crate::point::{ContourPoint, IntPoint};
 
 /// How a way turns at a vertex.
 #[derive(Clone, Copy, PartialEq, Eq, Debug)]
@@ -35,4 +36,26 @@ pub fn turn_of<I: IntNumber>(a: IntPoint<I>, b: IntPoint<I>, c: IntPoint<I>) -> 
     } else {
         Turn::Back
     }
+}
+
+/// How a contour turns at `place`, with these neighbours, whichever they are.
+pub(crate) fn turn_at<P: ContourPoint>(
+    points: &[P],
+    previous: usize,
+    place: usize,
+    next: usize,
+) -> Turn
+    requires safe { IsSafeContour P.Coordinate.width
+        (contour_of P.Coordinate.value (P.points points.now)) }
+    requires previous_within { previous < length points.now }
+    requires place_within { place < length points.now }
+    requires next_within { next < length points.now }
+    ensures { let c = contour_of P.Coordinate.value (P.points points.now) in
+        IsTurn (point_at c previous) (point_at c place) (point_at c next) result }
+{
+    turn_of(
+        points[previous].to_point(),
+        points[place].to_point(),
+        points[next].to_point(),
+    )
 }

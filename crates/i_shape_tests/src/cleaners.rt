@@ -89,11 +89,11 @@ struct Cleaners {
 impl Cleaners {
     fn new(alloc: Global) -> Cleaners {
         Cleaners {
-            simplifier: ContourCleaner::with_room(alloc, 0),
-            despiker: ContourCleaner::with_room(alloc, 0),
-            remover: ContourCleaner::with_room(alloc, 0),
-            canonicalizer: ContourCleaner::with_room(alloc, 0),
-            unoriented: ContourCleaner::with_room(alloc, 0),
+            simplifier: ContourCleaner::new(alloc),
+            despiker: ContourCleaner::new(alloc),
+            remover: ContourCleaner::new(alloc),
+            canonicalizer: ContourCleaner::new(alloc),
+            unoriented: ContourCleaner::new(alloc),
         }
     }
 

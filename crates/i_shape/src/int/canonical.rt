@@ -69,11 +69,11 @@ impl<I: IntNumber> CanonicalShape<I> for &[IntContour<I>] {
     ghost shape = { λ contours. shape_of I.value contours.now };
 
     fn canonical(&self, alloc: Global) -> Result<Option<IntShape<I>>, ShapeError> {
-        shape_form(&mut Canonicalizer::with_room(alloc, 0), alloc, *self)
+        shape_form(&mut Canonicalizer::new(alloc), alloc, *self)
     }
 
     fn canonical_unoriented(&self, alloc: Global) -> Result<Option<IntShape<I>>, ShapeError> {
-        let mut unoriented = UnorientedCanonicalizer::with_room(alloc, 0);
+        let mut unoriented = UnorientedCanonicalizer::new(alloc);
         shape_form(&mut unoriented, alloc, *self)
     }
 }
@@ -82,11 +82,11 @@ impl<I: IntNumber> CanonicalShapes<I> for &[IntShape<I>] {
     ghost shapes = { λ list. shapes_of I.value list.now };
 
     fn canonical(&self, alloc: Global) -> Result<IntShapes<I>, ShapeError> {
-        list_form(&mut Canonicalizer::with_room(alloc, 0), alloc, *self)
+        list_form(&mut Canonicalizer::new(alloc), alloc, *self)
     }
 
     fn canonical_unoriented(&self, alloc: Global) -> Result<IntShapes<I>, ShapeError> {
-        let mut unoriented = UnorientedCanonicalizer::with_room(alloc, 0);
+        let mut unoriented = UnorientedCanonicalizer::new(alloc);
         list_form(&mut unoriented, alloc, *self)
     }
 }

@@ -1,13 +1,13 @@
 -- What an answer of a cleaner keeps of its contour, whatever gave it.
-use Rattle.std.proofs.Common.{◌≡◌, ℕ, zero, suc, ◌<◌, ◌≤◌, ◌⊎◌, List, [], length, Option, Some, None, Bool, true, false, inl, inr, refl, sym, ◌∙◌, not, is_some, ◌↔◌, IsTrue, subst, arith, eq-or-lt_of_le, le_of_suc-le-suc}
+use Rattle.std.proofs.Common.{◌≡◌, ℕ, zero, suc, ◌<◌, ◌≤◌, ◌⊎◌, List, [], length, Option, Some, None, Bool, true, false, inl, inr, refl, sym, ◌∙◌, subst, arith, eq-or-lt_of_le, le_of_suc-le-suc}
 use Rattle.std.specs.List.{All}
+use Rattle.std.proofs.lemmas.Bool.{cases_lt}
 use native.Mathlib.Decide.{dec_le, dec_lt}
-use Rattle.i_shape_core.specs.Point.{Point, IsBack}
-use Rattle.i_shape_core.specs.Contour.{point_at, place_before, place_after}
+use Rattle.i_shape_core.specs.Point.{Point, IsBack, IsZeroTurn}
+use Rattle.i_shape_core.specs.Contour.{IsRemovable, Reach, stay, step, point_at, place_before, place_after}
 use Rattle.i_shape_core.specs.Convex.{dedup, cross_at, is_reversal, IsReversal, NoSpikes}
 use Rattle.i_shape_core.specs.Cleaners.{SimpleAnswer, SpikelessAnswer, DespikeAnswer, IsDespikedAlready, EachEndCollapses, KeptAnswer, IsKept, IsFlat}
-use Rattle.i_shape_core.specs.Walks.{FirstAnswer}
-use Rattle.i_shape_core.proofs.removal.Ends.{has_end, all_left, reach_by_weaker, reach_shrinks}
+use Rattle.i_shape_core.proofs.removal.Ends.{has_end, all_left, reach_by_weaker, reach_shrinks, step_length}
 use Rattle.i_shape_core.proofs.lists.FirstPlaces.{none_found}
 use Rattle.i_shape_core.proofs.removal.Repeats.{dedup_leads}
 use Rattle.i_shape_core.proofs.removal.ZeroTurns.{zero_turn_decided}
@@ -104,9 +104,19 @@ spikeless_long c s = omega (arith, s.enough, reach_shrinks (dedup_leads c s.enou
 pub spikeless_stays : (c : List Point) → NoSpikes c → DespikeAnswer c (Some c)
 spikeless_stays c s = record { clean = λ _. refl; cleaned = λ spiked. absurd (spiked s) }
 
--- the search for a place at which the way goes back tells whether despiking leaves the contour as it is
-pub despiked_told : (c : List Point) (found : Option ℕ) (visits : ℕ) (none : Bool) → 3 ≤ length c → FirstAnswer IsBack c found visits → is_some found ≡ not none → IsTrue none ↔ IsDespikedAlready c
-despiked_told c None visits true long answer told = (λ t. spikeless_answer c (Some c) visits (none_found c visits long answer.0 answer.1), λ d. refl)
-despiked_told c None visits false long answer told = absurd (cc)
-despiked_told c (Some k) visits true long answer told = absurd (cc)
-despiked_told c (Some k) visits false long answer told = (λ t. absurd (cc), λ d. absurd (d.ended.none_left k answer.0.here))
+-- a contour at no place of which the way goes back is despiked already
+pub despiked_stays : (c : List Point) → 3 ≤ length c → ((k : ℕ) → IsRemovable IsBack c k → ⊥) → IsDespikedAlready c
+despiked_stays c long none = spikeless_answer c (Some c) (length c) (none_found c (length c) long none refl)
+
+-- of three points each end has collapsed, unless despiking leaves them as they are
+pub three_collapse : (c : List Point) → length c ≡ 3 → (IsDespikedAlready c → ⊥) → EachEndCollapses c
+three_collapse c three spiked e f = go (cases_lt (length e) 3)
+  where
+    unmoved : (d : List Point) → Reach IsZeroTurn c d → 3 ≤ length d → c ≡ d
+    unmoved d stay long = refl
+    unmoved d (step s r) long = absurd (omega (arith, three, long, step_length s, reach_shrinks r))
+
+    go : (length e < 3) ⊎ (3 ≤ length e) → length e < 3
+    go (inl few) = few
+    go (inr long) = absurd (spiked (despiked_stays c (omega (arith, three)) (λ k r. f.none_left k
+        (subst (λ (d : List Point). IsRemovable IsZeroTurn d k) (unmoved e f.reached long) (record { enough = r.enough; within = r.within; passes = r.passes.0 })))))

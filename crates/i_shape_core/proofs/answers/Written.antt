@@ -9,7 +9,7 @@ use Rattle.std.proofs.Math.Seq.{take-append_seam, drop-append_seam}
 use Rattle.i_shape_core.specs.Point.{Point}
 use Rattle.i_shape_core.specs.IntPoint.{IsSafe}
 use Rattle.i_shape_core.specs.Contour.{Test, Rotation, Sublist, RotatedSublist, SublistEitherWay}
-use Rattle.i_shape_core.specs.Cleaners.{SimpleAnswer, SpikelessAnswer, DespikeAnswer, IsDespikedAlready, KeptAnswer}
+use Rattle.i_shape_core.specs.Cleaners.{SimpleAnswer, SpikelessAnswer, DespikeAnswer, IsDespikedAlready, IsFlat, KeptAnswer}
 use Rattle.i_shape_core.specs.Convex.{NoSpikes}
 use Rattle.i_shape_core.specs.Canonical.{IsCanonical, CanonicalAnswer, UnorientedAnswer, KeptEitherWay, IsLeast, IsLesserWay}
 use Rattle.i_shape_core.specs.Walks.{WalkAnswer}
@@ -48,18 +48,23 @@ walked width T Answer c read (Some x) visits answers keeps safe walk = record {
   in_order = in_order_answered T read c (Some x) visits walk;
 }
 
+-- where the answer is that the contour collapses, nothing is written
+pub collapse_written : {X : Type 0} (width : Width) (read : List X → List Point) (counts : (list : List X) → length (read list) ≡ length list) (given old : List X) (Answer : List Point → Option (List Point) → Type 0)
+    → Answer (read given) None → IsFlat (read given) → IsWritten Answer KeptAnswer Sublist width read given old old 0
+collapse_written width read counts given old Answer answer flat = record {
+  fewer = omega arith;
+  picked = sublist_none given;
+  cleaned = rw (slot_none (read []) (counts [])) (record { answer = answer; kept = flat; safe = tt });
+  rest = refl;
+}
+
 -- the points of a list are read from `given`, and a walk by the test T gives what `Answer` says and keeps what `KeptAnswer` says
 module _ {X : Type 0} (width : Width) (read : List X → List Point) (counts : (list : List X) → length (read list) ≡ length list) (given old : List X) (T : Test)
     (Answer : List Point → Option (List Point) → Type 0) (answers : (r : Option (List Point)) (visits : ℕ) → WalkAnswer T (read given) r visits → Answer (read given) r)
     (keeps : (r : Option (List Point)) (visits : ℕ) → WalkAnswer T (read given) r visits → KeptAnswer (read given) r) where
   -- where it finds nothing, nothing is written
   pub nothing_written : (visits : ℕ) → WalkAnswer T (read given) None visits → IsWritten Answer KeptAnswer Sublist width read given old old 0
-  nothing_written visits walk = record {
-    fewer = omega arith;
-    picked = sublist_none given;
-    cleaned = rw (slot_none (read []) (counts [])) (record { answer = answers None visits walk; kept = keeps None visits walk; safe = tt });
-    rest = refl;
-  }
+  nothing_written visits walk = collapse_written width read counts given old Answer (answers None visits walk) (keeps None visits walk)
 
   -- what it finds is written
   pub points_written : (new : List X) (n : ℕ) (e : List Point) (visits : ℕ) → All (IsSafe width) (read given) → Sublist given (take n new) → read (take n new) ≡ e → n ≡ length e → drop n new ≡ drop n old

@@ -57,10 +57,6 @@ module _ {X : Type 0} (cmp : X → X → Ordering) (f : X → List Point) (told 
       go Greater t e = t.0
 
 module _ {X : Type 0} (cmp : X → X → Ordering) (f : X → List Point) (told : Tells cmp f IsContourBefore) (x y : X) where
-  -- a contour that is told less than another is at most that
-  pub told_less : cmp x y ≡ Less → IsAtMost (f x) (f y)
-  told_less e = let t = rw e at (told x y) in t.0
-
   -- a contour that is told equal to another or greater is at least that
   pub told_not_less : (cmp x y ≡ Equal) ⊎ (cmp x y ≡ Greater) → IsAtMost (f y) (f x)
   told_not_less (inl e) = let t : f x ≡ f y = rw e at (told x y) in subst (λ c. IsAtMost (f y) c) (sym t) (at_most_refl (f y))

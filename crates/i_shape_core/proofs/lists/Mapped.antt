@@ -1,5 +1,5 @@
 -- What is told of each item of a list: of those that a loop has read so far, and of the items of a mapped list.
-use Rattle.std.proofs.Common.{◌≡◌, ◌↔◌, ◌∙◌, ℕ, ◌+◌, ◌-◌, ◌<◌, ◌≤◌, List, [], ◌∷◌, ◌++◌, length, take, drop, slice_range, get_or, map, Bool, true, false, ◌&&◌, IsTrue, Some, refl, subst, sym, ap, arith, length-drop}
+use Rattle.std.proofs.Common.{◌≡◌, ◌↔◌, ◌∙◌, ℕ, ◌+◌, ◌-◌, ◌<◌, ◌≤◌, List, [], ◌∷◌, ◌++◌, length, take, drop, slice_range, get_or, map, Bool, ◌&&◌, IsTrue, Some, refl, subst, sym, ap, arith, length-drop}
 use Rattle.std.specs.List.{All}
 use Rattle.std.proofs.lemmas.Bool.Decides.{Decides-and}
 use Rattle.std.proofs.lemmas.List.{take_all, take_more, take-take, take-append-drop, drop-take}
@@ -26,16 +26,6 @@ module _ {X : Type 0} (P : X → Type 0) where
   take_add m k xs =
       sym (take-append-drop m (take (m + k) xs)) ∙ ap (λ l. l ++ drop m (take (m + k) xs)) (take-take m (m + k) xs (omega arith)) ∙ ap (λ l. take m xs ++ l) (drop-take m k xs)
 
-  -- of the first items and of the block that follows is told of both
-  pub block_more : (xs : List X) (m n : ℕ) (b : Bool) → m ≤ n → IsTrue b ↔ All P (slice_range xs m n) → b ≡ true → All P (take m xs) → All P (take n xs)
-  block_more xs m n b le told passes first =
-      let e : n ≡ m + (n - m) = omega arith in
-      subst (λ (k : ℕ). All P (take k xs)) (sym e) (subst (All P) (sym (take_add m (n - m) xs)) (All-append P (take m xs) (slice_range xs m n) first (told.0 passes)))
-
-  -- where it isn't told of a block, it isn't of the list
-  pub block_fails : (xs : List X) (m n : ℕ) (b : Bool) → IsTrue b ↔ All P (slice_range xs m n) → b ≡ false → IsTrue false ↔ All P xs
-  block_fails xs m n b told fails = (λ t. absurd (cc), λ h. absurd (let t = told.1 (All-take P (n - m) (drop m xs) (All-drop P m xs h)) in cc))
-
   -- a block up to the end that begins among the first items
   last_part : (xs : List X) (m n : ℕ) (b : Bool) → n ≤ m → IsTrue b ↔ All P (drop n xs) → All P (take m xs) → IsTrue b ↔ All P xs
   last_part xs m n b le told first = (
@@ -45,18 +35,6 @@ module _ {X : Type 0} (P : X → Type 0) where
 
   to_end : (xs : List X) (n : ℕ) → slice_range xs n (length xs) ≡ drop n xs
   to_end xs n = take_all (length xs - n) (drop n xs) (omega (arith, length-drop n xs))
-
-  pub last_block : (xs : List X) (m n : ℕ) (b : Bool) → n ≤ m → IsTrue b ↔ All P (slice_range xs n (length xs)) → All P (take m xs) → IsTrue b ↔ All P xs
-  last_block xs m n b le told first = last_part xs m n b le (subst (λ (ys : List X). IsTrue b ↔ All P ys) (to_end xs n) told) first
-
-  -- a block from the start on and one up to the end, which meet
-  pub two_blocks : (xs : List X) (m n : ℕ) (b d : Bool) → n ≤ m → IsTrue b ↔ All P (take m xs) → IsTrue d ↔ All P (slice_range xs n (length xs)) → IsTrue (b && d) ↔ All P xs
-  two_blocks xs m n b d le front back =
-      let later : IsTrue d ↔ All P (drop n xs) = subst (λ (ys : List X). IsTrue d ↔ All P ys) (to_end xs n) back in
-      let both = Decides-and b d front later in (
-        λ t. let h = both.0 t in (last_part xs m n d le later h.0).0 (later.1 h.1),
-        λ h. both.1 (All-take P m xs h, All-drop P n xs h),
-      )
 
 module _ {X Y : Type 0} (P : X → Type 0) (f : Y → X) where
   unmapped : (ys : List Y) → All P (map f ys) → All (λ y. P (f y)) ys

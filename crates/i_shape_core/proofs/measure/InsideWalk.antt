@@ -1,19 +1,16 @@
 -- The walk over a contour that starts from its last point, and counts the edges that pass a point on its right.
-use Rattle.std.proofs.Common.{◌≡◌, ℕ, suc, ◌+◌, ◌%◌, ◌<◌, ◌≤◌, List, [], ◌∷◌, ◌++◌, length, drop, get_or, ℤ, pos, int_lt, refl, sym, ap, ap₂, subst, ◌∙◌, arith, ◌↔◌, Bool, true, false, not, ◌&&◌, ◌||◌, cond, count_by, IsTrue, neg_ℤ, ◌-◌}
-use Rattle.std.specs.List.{All}
+use Rattle.std.proofs.Common.{◌≡◌, ℕ, suc, ◌+◌, ◌%◌, ◌<◌, ◌≤◌, List, [], ◌∷◌, ◌++◌, length, drop, get_or, ℤ, pos, int_lt, refl, sym, ap, subst, ◌∙◌, arith, ◌↔◌, Bool, true, false, not, cond, count_by, IsTrue, neg_ℤ, ◌-◌}
 use Rattle.std.proofs.lemmas.Int.{ints}
-use Rattle.std.proofs.lemmas.List.Elements.{All-nil, All-cons, All-head, All-tail}
 use Rattle.i_shape_core.specs.IntPoint.{point_of, contour_of}
 use Rattle.i_shape_core.specs.declared.point.IntPoint.{IntPoint}
-use Rattle.std.proofs.lemmas.List.{map-append}
 use Rattle.std.proofs.lemmas.List.Sums.{sum_by-cons, sum_by_push}
 use mathlib.Core.Bool.{beq}
 use Rattle.i_shape_core.specs.Point.{Point, origin, cross}
-use Rattle.i_shape_core.specs.Edges.{Edge, edges_between, edges, is_above, is_right, Inside}
+use Rattle.i_shape_core.specs.Edges.{Edge, edges_between, edges, is_right, Inside}
 use Rattle.i_shape_core.specs.Convex.{last_of}
 use Rattle.i_shape_core.specs.Blocks.{inside_after, path_over}
 use Rattle.i_shape_core.proofs.plane.Contours.{rest-read}
-use Rattle.i_shape_core.proofs.plane.CrossProducts.{edge, cross_reversed}
+use Rattle.i_shape_core.proofs.plane.CrossProducts.{edge}
 use Rattle.i_shape_core.proofs.measure.Inside.{bit_of, bit_of_edge, right_when}
 
 -- an edge between points on one side of the line through p doesn't count
@@ -43,8 +40,6 @@ opposite z = go (int_lt (neg_ℤ z) (pos 0)) (int_lt (pos 0) z) refl refl
     go true false e f = absurd (omega (arith, ints))
     go false true e f = absurd (omega (arith, ints))
     go false false e f = refl
-
-
 
 -- the edges of a closed path are those of the open path, and the closing one
 pub between_is : (a : Point) (bs : List Point) (z : Point) → edges_between a bs z ≡ path_over a bs ++ edge (last_of a bs) z ∷ []
@@ -88,7 +83,6 @@ inside_counts : (p : Point) (s : Bool) (q : Point) (rs : List Point) → (bit_of
 inside_counts p s q [] = refl
 inside_counts p s q (r ∷ rs) = inside_counts p (cond (is_right p (edge q r)) (not s) s) r rs ∙ walk_more p q r rs s ((bit_of s + count_by (is_right p) (path_over q (r ∷ rs))) % 2) refl
 
-
 -- ---- the same over the points of a program
 last_item : {I : Type 0} (value : I → ℤ) (x : IntPoint I) (xs : List (IntPoint I)) (d : IntPoint I) → point_of value (get_or (x ∷ xs) (length xs) d) ≡ last_of (point_of value x) (contour_of value xs)
 last_item value x [] d = refl
@@ -112,7 +106,6 @@ pub walk_step : {I : Type 0} (value : I → ℤ) (p : Point) (cs : List (IntPoin
     → inside_after p s' (point_of value x) (contour_of value (drop (i + 1) cs)) ≡ t
 walk_step value p cs i start x s s' t h e k f =
     rw f (subst (λ (ps : List Point). inside_after p s (point_of value start) ps ≡ t) (rest-read value cs i x h e) k)
-
 
 -- the walk from the last point over all points tells whether p is inside
 pub walk_end : {I : Type 0} (value : I → ℤ) (p : Point) (cs : List (IntPoint I)) (last : IntPoint I) (s : Bool) → 0 < length cs → last ≡ get_or cs (length cs - 1) last

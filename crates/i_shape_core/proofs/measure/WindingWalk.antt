@@ -1,7 +1,7 @@
 -- The walk over a contour that starts from its last point, and adds what each edge adds to the winding number.
-use Rattle.std.proofs.Common.{append-nil, ◌≡◌, ◌⊎◌, ℕ, suc, ◌+◌, ◌-◌, ◌^◌, ◌<◌, ◌≤◌, List, [], ◌∷◌, ◌++◌, length, drop, get_or, ℤ, pos, negsuc, ◌+ℤ◌, ◌-ℤ◌, ◌≤ℤ◌, int_lt, FitsSigned, w32, w64, to_z, of_z, refl, sym, ap, subst, ◌∙◌, arith, inl, inr, eq-or-lt_of_le, length-append, Bool, true, false, cond}
+use Rattle.std.proofs.Common.{◌≡◌, ◌⊎◌, ℕ, suc, ◌+◌, ◌-◌, ◌^◌, ◌<◌, ◌≤◌, List, [], ◌∷◌, length, drop, get_or, ℤ, pos, negsuc, ◌+ℤ◌, ◌-ℤ◌, ◌≤ℤ◌, int_lt, FitsSigned, w32, w64, to_z, of_z, refl, sym, ap, subst, ◌∙◌, arith, inl, inr, eq-or-lt_of_le, Bool, true, false, cond}
 use Rattle.std.proofs.lemmas.Int.{ints, to_z-of_z}
-use Rattle.std.proofs.lemmas.List.{get_or_default, map-append}
+use Rattle.std.proofs.lemmas.List.{get_or_default}
 use Rattle.i_shape_core.specs.Point.{Point}
 use Rattle.i_shape_core.specs.IntPoint.{point_of, contour_of}
 use Rattle.i_shape_core.specs.declared.point.IntPoint.{IntPoint}
@@ -10,11 +10,8 @@ use Rattle.i_shape_core.specs.Winding.{level, winding_of_edge, winding, IsWithin
 use Rattle.i_shape_core.specs.Convex.{last_of}
 use Rattle.i_shape_core.specs.Blocks.{path_over, winding_over}
 use Rattle.std.specs.Int.{Width}
-use Rattle.std.specs.List.{All}
-use Rattle.std.proofs.lemmas.List.Elements.{All-head, All-tail}
 use Rattle.i_shape_core.proofs.plane.Contours.{rest-read, rest-none}
 use Rattle.i_shape_core.proofs.measure.Edges.{sum_push}
-use Rattle.i_shape_core.proofs.removal.Dedup.{last_of_append}
 use Rattle.i_shape_core.proofs.plane.CrossProducts.{edge}
 use Rattle.i_shape_core.proofs.measure.Inside.{right_when}
 use Rattle.i_shape_core.proofs.arithmetic.Products.{InReach, fits-reach, reach-fits}
@@ -44,7 +41,6 @@ adds_one p a b r s e f g h = ap (λ (t : Bool). cond t (pos 1) (negsuc 0)) (sym 
 -- an edge right of p takes 1 away where its end does not lie above p
 pub takes_one : (p a b : Point) (r s : Bool) → r ≡ is_right p (edge a b) → r ≡ true → s ≡ int_lt p.y b.y → s ≡ false → negsuc 0 ≡ winding_of_edge p (edge a b)
 takes_one p a b r s e f g h = ap (λ (t : Bool). cond t (pos 1) (negsuc 0)) (sym h) ∙ adds_or_takes_one p a b r s e f g
-
 
 -- how far the winding number so far can be from 0 after i edges: half their number, with a half more on one side where the walk is on another side of the height than where it began
 pub record IsNear (i : ℕ) (first here total : ℤ) : Type 0 where
@@ -192,11 +188,6 @@ total_fits value p cs i start last x t w e h room f g near =
 pub total_added : (w : Width) (t r : ℤ) → FitsSigned w (t +ℤ r) → FitsSigned w r → to_z w (of_z w (t +ℤ to_z w (of_z w r))) ≡ t +ℤ r
 total_added w t r f g = rw (to_z-of_z w r g) (to_z-of_z w (t +ℤ r) f)
 
-
-
-
-
-
 -- ---- a walk by parts
 -- what holds of a walk over the whole contour, from its last point `first`, that has come to q and has added up the total: the rest of the points is left
 pub record IsWalked (p first : Point) (whole : List Point) (q : Point) (rest : List Point) (total : ℤ) : Type 0 where
@@ -205,10 +196,5 @@ pub record IsWalked (p first : Point) (whole : List Point) (q : Point) (rest : L
   pub closes : last_of q rest ≡ first
   pub told : total +ℤ winding_over p q rest ≡ winding_over p first whole
 
-
-
 wider : (r : ℤ) → FitsSigned w32 r → FitsSigned w64 r
 wider r f = let reach = fits-reach w32 r f in let from = reach.from in let below = reach.below in reach-fits w64 r (record { from = omega (arith, ints); below = omega (arith, ints) })
-
-
-

@@ -1,5 +1,5 @@
 -- Lists of a caller's points, read as lists of the library's.
-use Rattle.std.proofs.Common.{◌≡◌, ◌∙◌, ℕ, ◌<◌, List, [], ◌∷◌, ◌++◌, map, take, drop, length, get_or, slice_get, reverse, Bool, true, false, cond, Some, option_map, refl, sym, ap, ap₂}
+use Rattle.std.proofs.Common.{◌≡◌, ◌∙◌, ℕ, ◌<◌, List, [], ◌∷◌, ◌++◌, map, take, drop, length, get_or, slice_get, reverse, Bool, true, false, cond, Some, option_map, refl, sym, ap}
 use Rattle.std.specs.List.{find}
 use Rattle.std.proofs.lemmas.Option.{slice_get-map}
 use Rattle.std.proofs.lemmas.Simd.{map-map}
@@ -29,18 +29,6 @@ module _ {A B : Type 0} (point : A → B) (points : List A → List B) (each : (
   -- the same list, started at another place
   pub points-rotated : (list rotated : List A) (k : ℕ) → rotated ≡ drop k list ++ take k list → points rotated ≡ drop k (points list) ++ take k (points list)
   points-rotated list rotated k e = ap points e ∙ each (drop k list ++ take k list) ∙ map-rotated point k list ∙ ap (λ l. drop k l ++ take k l) (sym (each list))
-
-  -- the first ones, and the others
-  pub points-take : (list front : List A) (n : ℕ) → front ≡ take n list → points front ≡ take n (points list)
-  points-take list front n e = ap points e ∙ each (take n list) ∙ sym (take-map point n list) ∙ ap (take n) (sym (each list))
-
-  -- the points of a list without its first items are those behind the first points
-  pub points-drop : (list rest : List A) (n : ℕ) → rest ≡ drop n list → points rest ≡ drop n (points list)
-  points-drop list rest n e = ap points e ∙ each (drop n list) ∙ sym (drop-map point n list) ∙ ap (drop n) (sym (each list))
-
-  -- two lists end to end
-  pub points-append : (whole front back : List A) → whole ≡ front ++ back → points whole ≡ points front ++ points back
-  points-append whole front back e = ap points e ∙ each (front ++ back) ∙ map-append point front back ∙ ap₂ (λ (l m : List B). l ++ m) (sym (each front)) (sym (each back))
 
   -- the points at these places are read from those at them
   pub points-at-places : (list picked : List A) (places : List ℕ) → map (λ p. Some p) picked ≡ map (slice_get list) places → map (λ p. Some p) (points picked) ≡ map (slice_get (points list)) places

@@ -122,10 +122,6 @@ pub kept_spikeless : (c : List Point) (r : Option (List Point)) (visits : ℕ) �
 kept_spikeless c None visits w = collapsed_is_flat c w.rest (reach_by_weaker back_straightens.weaker w.reached) w.few
 kept_spikeless c (Some d) visits w = reach_keeps c d (reach_by_weaker back_straightens.weaker w.ended.reached)
 
--- a contour without a removable vertex is found after one visit of each
-pub whole_found : (P : Test) (c : List Point) (visits : ℕ) → End P c c → 3 ≤ length c → visits ≡ length c → WalkAnswer P c (Some c) visits
-whole_found P c visits ended enough all = record { ended = ended; enough = enough; least = omega (arith, all); most = omega (arith, all) }
-
 -- an answer that keeps what a walk has left answers what the walk does
 pub walk_kept : {X E : Type 0} (P : Test) (c : List Point) (shown : X → Option (List Point)) (count : X → ℕ) (result : Result X E) (left : Option (List Point)) (visits : ℕ)
     → IfOk result (λ r. (shown r ≡ left) × (count r ≡ visits)) → WalkAnswer P c left visits → IfOk result (λ r. WalkAnswer P c (shown r) (count r))

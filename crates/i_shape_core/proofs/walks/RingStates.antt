@@ -7,7 +7,7 @@ use Rattle.std.proofs.lemmas.List.FromFn.{length-range_with_len, get_or-range_wi
 use Rattle.std.specs.List.{All, range_with_len}
 use Rattle.i_shape_core.specs.Point.{Point, origin}
 use Rattle.i_shape_core.specs.Contour.{Test, point_at, IsRemovable}
-use Rattle.i_shape_core.specs.Walks.{Finds, Falls, IsFirst, IsRingWalk, IsRingState, RisingPlaces, PlacedRing, LeadKept, LeadRemoved, PassesAtPlace, from_contour_first}
+use Rattle.i_shape_core.specs.Walks.{Finds, Falls, IsFirst, IsRingWalk, IsRingState, RisingPlaces, PlacedRing, ring_of_all, LeadKept, LeadRemoved, PassesAtPlace, from_contour_first}
 use Rattle.i_shape_core.proofs.removal.Steps.{first, last, passes_from_removable}
 use Rattle.i_shape_core.proofs.walks.Ring.{turned_in_order, kept_in_order, removed_in_order, walk_starts, walk_keeps, walk_removes, walk_collapses, walk_ends}
 use Rattle.i_shape_core.proofs.walks.RisingPlaces.{rising_all, rising_without}
@@ -196,7 +196,11 @@ ends_rising c places u l n s = s.rising
 
 -- a ring of all places of c, in which the walk stands at place k, in memory for so many
 abbrev pub StartsAt : List Point → PlacedRing → ℕ → ℕ → Type 0
-StartsAt c r k room = r ≡ record { places = drop k (range_with_len 0 (length c)) ++ take k (range_with_len 0 (length c)); untested = length c - k; lead = length c - k; room = room }
+StartsAt c r k room = r ≡ ring_of_all (length c) k room
+
+-- it is the state of a walk that has visited none
+pub first_state : {P : Test} (c : List Point) (r : PlacedRing) (room : ℕ) → 3 ≤ length c → StartsAt c r 0 room → IsRingState P c r 0
+first_state c r room h e = rw e (state_starts c 0 h (omega arith) (λ j before _. absurd (omega (arith, before))))
 
 -- it has as many places as c
 pub starting_size : (c : List Point) (r : PlacedRing) (k room : ℕ) → StartsAt c r k room → length r.places ≡ length c

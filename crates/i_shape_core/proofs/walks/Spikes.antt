@@ -1,7 +1,7 @@
 -- The walk that looks for spikes.
-use Rattle.std.proofs.Common.{◌≡◌, ◌≢◌, ℕ, ◌-◌, ◌<◌, ◌≤◌, List, [], ◌∷◌, ◌++◌, reverse, length, get_or, Option, Some, None, option_map, unwrap_or, not, ℤ, pos, int_lt, ◌<ℤ◌, ◌≤ℤ◌, T, refl, sym, ap, subst, subst₂, ◌∙◌, arith, ◌⊎◌, inl, inr, ◌↔◌, Bool, true, false, cond, ◌&&◌, IsTrue, IsNone, is_some}
+use Rattle.std.proofs.Common.{◌≡◌, ◌≢◌, ℕ, ◌-◌, ◌<◌, ◌≤◌, List, [], ◌∷◌, ◌++◌, reverse, length, get_or, Option, Some, None, option_map, unwrap_or, not, ℤ, pos, int_lt, ◌<ℤ◌, ◌≤ℤ◌, T, refl, sym, ap, subst, ◌∙◌, arith, ◌⊎◌, inl, inr, ◌↔◌, Bool, true, false, cond, ◌&&◌, IsTrue, IsNone, is_some}
 use Rattle.std.proofs.lemmas.Int.{ints}
-use Rattle.std.proofs.lemmas.List.{reverse-append, append-nil, map-append}
+use Rattle.std.proofs.lemmas.List.{reverse-append, append-nil}
 use Rattle.std.proofs.lemmas.List.Elements.{All-head, All-tail, All-push}
 use Rattle.std.proofs.lemmas.List.Folds.{find-append}
 use Rattle.std.specs.List.{All, find}
@@ -10,7 +10,7 @@ use Rattle.std.specs.Option.{option_or}
 use Rattle.std.specs.Ordering.{int_eq}
 use Rattle.std.specs.Cmp.{signed_Decides}
 use Rattle.i_shape_core.specs.Point.{Point, origin, vector, cross, cross_of, dot, dot_of, IsBack}
-use Rattle.i_shape_core.specs.Contour.{Test, point_at, place_before, place_after, IsRemovable, IsSimple}
+use Rattle.i_shape_core.specs.Contour.{Test, point_at, place_before, place_after, IsRemovable}
 use Rattle.i_shape_core.specs.Blocks.{Reverses, GoesBack, last_change}
 use Rattle.i_shape_core.specs.Convex.{is_same, is_reversal, changes_after, last_of, dedup, NoSpikes, IsReversal, cross_at}
 use Rattle.i_shape_core.specs.IntPoint.{point_of, contour_of, IsSafe}
@@ -440,21 +440,6 @@ pub onward_stops : (block : List Point) (first start e p q : Point) (rest : List
     → IsOnward block first start e p (q ∷ rest) → GoesBack first start block
 onward_stops block first start e p q rest s z d w = w.told.0 (subst (λ (X : Type 0). X) (sym (back_at_other e p q rest s)) (inl (z, d)))
 
--- ---- the same over the points of a program
--- after a block among which the way doesn't go back the walk goes on
-pub block_goes_on : {I : Type 0} (value : I → ℤ) (c : List Point) (e p after end : Point) (rest block later : List (IntPoint I)) → rest ≡ block ++ later
-    → after ≡ last_change e p (contour_of value block) → end ≡ last_of p (contour_of value block) → (GoesBack e p (contour_of value block) → ⊥)
-    → EdgeWalking c e p (contour_of value rest) → EdgeWalking c after end (contour_of value later)
-block_goes_on value c e p after end rest block later r f g n w =
-    subst₂ (λ (v q : Point). EdgeWalking c v q (contour_of value later)) (sym f) (sym g)
-    (edge_over c e p (contour_of value block) (contour_of value later) n (subst (EdgeWalking c e p) (ap (contour_of value) r ∙ map-append (point_of value) block later) w))
-
--- at one in which it does there is a spike
-pub block_goes_back : {I : Type 0} (value : I → ℤ) (c : List Point) (e p : Point) (rest block later : List (IntPoint I)) → rest ≡ block ++ later
-    → GoesBack e p (contour_of value block) → EdgeWalking c e p (contour_of value rest) → NoSpikes c → ⊥
-block_goes_back value c e p rest block later r b w =
-    edge_ends c e p (contour_of value block) (contour_of value later) b (subst (EdgeWalking c e p) (ap (contour_of value) r ∙ map-append (point_of value) block later) w)
-
 -- the last block tells whether the contour has spikes
 pub last_block_tells : {I A : Type 0} (value : I → ℤ) (c : List Point) (e p : Point) (rest : List (IntPoint I)) (last_but_one_differs : Option A) (onward : Bool) → onward ≡ is_some last_but_one_differs
     → IsNone last_but_one_differs ↔ GoesBack e p (contour_of value rest) → EdgeWalking c e p (contour_of value rest) → IsTrue onward ↔ NoSpikes c
@@ -494,7 +479,3 @@ spikeless_end d h none = subst (λ (c : List Point). 3 ≤ length c → ((k : �
       within = r.within;
       passes = (r.straight, not_above (dot (point_at d (place_before (length d) k)) (point_at d k) (point_at d (place_after (length d) k))) r.back);
     })
-
--- a contour without zero turns has none
-pub simple_spikeless : (c : List Point) → IsSimple c → NoSpikes c
-simple_spikeless c s = spikeless_end c s.enough (λ k r. s.none k (record { enough = r.enough; within = r.within; passes = r.passes.0 }))

@@ -96,7 +96,7 @@ fn cleaned_parts<T: IntNumber, C: ContourCleaner>(
     let mut kept = FlatContoursBuffer::new(alloc);
     kept.clear_and_reserve(count, ranges.len())?;
     append_parts(
-        &mut C::with_room(alloc, 0),
+        &mut C::new(alloc),
         &mut kept.points,
         &mut kept.ranges,
         points,

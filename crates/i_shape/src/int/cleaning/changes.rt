@@ -84,7 +84,7 @@ pub fn shape_changes<I: IntNumber, C: InPlaceCleaner>(
     ensures memory { IsOkUnless result ShapeError.OutOfMemory }
 {
     let mut changes = Vec::new(alloc);
-    append_changes(&mut C::with_room(alloc, 0), &mut changes, 0, shape)?;
+    append_changes(&mut C::new(alloc), &mut changes, 0, shape)?;
     Ok(changes)
 }
 
@@ -100,7 +100,7 @@ pub fn list_changes<I: IntNumber, C: InPlaceCleaner>(
     ensures unclean { OnErr result (EachShape C.clean (shapes_of I.value shapes.now) → ⊥) }
     ensures memory { IsOkUnless result ShapeError.OutOfMemory }
 {
-    let mut cleaner = C::with_room(alloc, 0);
+    let mut cleaner = C::new(alloc);
     let mut changes = Vec::new(alloc);
     for (number, shape) in shapes.iter().enumerate() {
         append_changes(&mut cleaner, &mut changes, number, shape.as_slice())?;

@@ -65,7 +65,7 @@ impl<I: IntNumber> DeSpikeShape<I> for IntShape<I> {
     }
 
     fn despiked_shape(&self, alloc: Global) -> Result<Option<IntShape<I>>, ShapeError> {
-        let mut remover = SpikeRemover::with_room(alloc, 0);
+        let mut remover = SpikeRemover::new(alloc);
         clean_shape(&mut remover, alloc, self.as_slice())
     }
 }
@@ -78,7 +78,7 @@ impl<I: IntNumber> DeSpikeShapes<I> for IntShapes<I> {
     }
 
     fn despiked_shapes(&self, alloc: Global) -> Result<IntShapes<I>, ShapeError> {
-        let mut remover = SpikeRemover::with_room(alloc, 0);
+        let mut remover = SpikeRemover::new(alloc);
         clean_list(&mut remover, alloc, self.as_slice())
     }
 }

@@ -39,6 +39,21 @@ loop-place-preserved g c =
           c.loop-place.place c.loop-place.written end done room clean.end.0 under clean.before (rw (c.part-ring.ensures.part) at clean.cleaned);
     }
 
+pub make_room-requires : goal.make_room-requires
+make_room-requires g c =
+    let at = λ (p : g.row.P.Denot). point_of g.P.Coordinate.IntNumber.value (g.P.ContourPoint.point p) in
+    rw (c.part-ring.ensures.part)
+    (safe_part g.P.Coordinate.IntNumber.width at c.args.points.now c.args.offsets.now (c.loop-place.place - 1) c.loop-place.place c.requires.can.parted.order (omega arith) c.loop-place-test.true c.requires.points_safe)
+
+pub returns-in_err-make_room-clause-err : goal.returns-in_err-make_room-clause-err
+returns-in_err-make_room-clause-err g c =
+    let up = rises_to c.args.offsets.now (length c.args.offsets.now) (c.loop-place.place - 1) (length c.args.offsets.now - 1) c.requires.can.parted.order (omega (arith, c.loop-place-test.true)) (omega (arith, c.requires.can.parted.some)) in
+    let less : c.loop-place.written ≤ length c.args.points.now = omega (arith, up, c.requires.can.parted.last, c.loop-place.invariant.done.fewer) in
+    on_err {Q = IsWithin (length c.args.points.now) (length c.args.offsets.now) c.args.out_points.now c.loop-place.out_points c.args.out_offsets.now c.loop-place.out_offsets} c.from_residual.result (record {
+      points = same_further c.loop-place.out_points c.args.out_points.now c.loop-place.written (length c.args.points.now) less c.loop-place.invariant.points_rest;
+      offsets = same_further c.loop-place.out_offsets c.args.out_offsets.now c.loop-place.place (length c.args.offsets.now) (omega (arith, c.loop-place-test.true)) c.loop-place.invariant.offsets_rest;
+    })
+
 pub returns-in_err-written-clause-err : goal.returns-in_err-written-clause-err
 returns-in_err-written-clause-err g c =
     let up = rises_to c.args.offsets.now (length c.args.offsets.now) (c.loop-place.place - 1) (length c.args.offsets.now - 1) c.requires.can.parted.order (omega (arith, c.loop-place-test.true)) (omega (arith, c.requires.can.parted.some)) in
@@ -62,3 +77,11 @@ returns-in_err-written-clause-memory g c =
     on_err c.from_residual.result (λ none.
     let here = none (place - 1) (omega (arith, c.loop-place-test.true)) in
     c.in_err-written.ensures.memory (rw (c.part-ring.ensures.part) (rw next at here)))
+
+pub returns-in_err-make_room-clause-memory : goal.returns-in_err-make_room-clause-memory
+returns-in_err-make_room-clause-memory g c =
+    let place = c.loop-place.place in
+    let next : place - 1 + 1 ≡ place = omega arith in
+    on_err c.from_residual.result (λ none.
+    let here = none (place - 1) (omega (arith, c.loop-place-test.true)) in
+    c.in_err-make_room.ensures (rw (c.part-ring.ensures.part) (rw next at here)))

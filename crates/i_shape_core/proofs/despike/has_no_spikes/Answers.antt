@@ -1,10 +1,9 @@
-use Rattle.std.proofs.Common.{◌≡◌, ◌-◌, ◌<◌, get_or, length, arith, refl}
-use Rattle.i_shape_core.specs.IntPoint.{point_of, contour_of}
+use Rattle.std.proofs.Common.{◌≡◌, ◌-◌, ◌<◌, get_or, length, arith}
+use Rattle.i_shape_core.specs.IntPoint.{point_of}
 use Rattle.i_shape_core.proofs.plane.Contours.{read-safe}
 use Rattle.i_shape_core.proofs.arithmetic.Coordinates.{safe_points-apart}
 use Rattle.i_shape_core.proofs.plane.PointLists.{points-length, points-item}
-use Rattle.i_shape_core.proofs.walks.Spikes.{walking_begins, none_differs, found_safe, nothing_told, block_goes_on, block_goes_back, last_block_tells, simple_spikeless}
-use Rattle.i_shape_core.proofs.walks.StackReads.{holds_by_test}
+use Rattle.i_shape_core.proofs.walks.Spikes.{walking_begins, none_differs, found_safe, nothing_told, last_block_tells}
 use Rattle.i_shape_core.proofs.despike.has_no_spikes.Goals as goal
 
 pub returns-in_default : goal.returns-in_default

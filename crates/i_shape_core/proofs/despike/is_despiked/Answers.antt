@@ -1,14 +1,74 @@
-use Rattle.std.proofs.Common.{◌∙◌, arith}
+use Rattle.std.proofs.Common.{◌<◌, ◌+◌, ◌-◌, ◌↔◌, ◌∙◌, ℕ, List, length, false, IsTrue, inl, inr, refl, arith}
+use Rattle.i_shape_core.specs.Point.{Point, IsBack}
+use Rattle.i_shape_core.specs.Contour.{point_at}
+use Rattle.i_shape_core.specs.Cleaners.{IsDespikedAlready}
 use Rattle.i_shape_core.specs.IntPoint.{contour_of}
 use Rattle.i_shape_core.proofs.plane.Contours.{length-contour}
 use Rattle.i_shape_core.proofs.plane.PointLists.{points-length}
-use Rattle.i_shape_core.proofs.answers.Kept.{despiked_told}
+use Rattle.i_shape_core.proofs.removal.Places.{Follows}
+use Rattle.i_shape_core.proofs.lists.FirstPlaces.{removable_between, one_more, none_removable}
+use Rattle.i_shape_core.proofs.answers.Kept.{despiked_stays}
+use Rattle.i_shape_core.proofs.walks.StackReads.{fails_by_test}
 use Rattle.i_shape_core.proofs.despike.is_despiked.Goals as goal
+
+-- a contour that goes back isn't despiked
+spoiled : (c : List Point) (b k a : ℕ) → b < length c → k < length c → Follows (length c) b k → Follows (length c) k a → IsBack (point_at c b) (point_at c k) (point_at c a) → IsTrue false ↔ IsDespikedAlready c
+spoiled c b k a i j before after zero = (λ t. absurd (cc), λ despiked. absurd (despiked.ended.none_left k (removable_between c b k a despiked.enough i j before after zero)))
+
+pub returns-then-points-lt3 : goal.returns-then-points-lt3
+returns-then-points-lt3 g c =
+    let points = g.P.ContourPoint.points in
+    let count = points-length g.P.ContourPoint.point points g.P.ContourPoint.each c.args.points.now in
+    (λ t. absurd (cc), λ s. absurd (omega (arith, s.enough, count, length-contour g.P.Coordinate.IntNumber.value (points c.args.points.now))))
+
+pub returns-then-is_back : goal.returns-then-is_back
+returns-then-is_back g c =
+    let points = g.P.ContourPoint.points c.args.points.now in
+    let value = g.P.Coordinate.IntNumber.value in
+    let whole = contour_of value points in
+    let all = length-contour value points ∙ points-length g.P.ContourPoint.point g.P.ContourPoint.points g.P.ContourPoint.each c.args.points.now in
+    let last : ℕ = length c.args.points.now - 1 in
+    spoiled whole last 0 1 (omega (arith, all, c.if-points-lt3.false)) (omega (arith, all, c.if-points-lt3.false)) (inr (omega (arith, all, c.if-points-lt3.false), refl)) (inl (omega (arith, all, c.if-points-lt3.false), refl))
+    (c.is_back.ensures.0 c.if-is_back.true)
+
+pub returns-then-is_back-2 : goal.returns-then-is_back-2
+returns-then-is_back-2 g c =
+    let points = g.P.ContourPoint.points c.args.points.now in
+    let value = g.P.Coordinate.IntNumber.value in
+    let whole = contour_of value points in
+    let all = length-contour value points ∙ points-length g.P.ContourPoint.point g.P.ContourPoint.points g.P.ContourPoint.each c.args.points.now in
+    let last : ℕ = length c.args.points.now - 1 in
+    spoiled whole (last - 1) last 0 (omega (arith, all, c.if-points-lt3.false)) (omega (arith, all, c.if-points-lt3.false)) (inl (omega (arith, all, c.if-points-lt3.false), omega (arith, c.if-points-lt3.false)))
+    (inr (omega (arith, all, c.if-points-lt3.false), refl)) (c.is_back-2.ensures.0 c.if-is_back-2.true)
+
+pub returns-then-is_back-3 : goal.returns-then-is_back-3
+returns-then-is_back-3 g c =
+    let points = g.P.ContourPoint.points c.args.points.now in
+    let value = g.P.Coordinate.IntNumber.value in
+    let whole = contour_of value points in
+    let all = length-contour value points ∙ points-length g.P.ContourPoint.point g.P.ContourPoint.points g.P.ContourPoint.each c.args.points.now in
+    let last : ℕ = length c.args.points.now - 1 in
+    let place : ℕ = c.loop-place.place in
+    spoiled whole place (place + 1) (place + 2) (omega (arith, all, c.loop-place-test.true)) (omega (arith, all, c.loop-place-test.true)) (inl (omega (arith, all, c.loop-place-test.true), refl))
+    (inl (omega (arith, all, c.loop-place-test.true), omega arith)) (c.is_back-in-loop-place.ensures.0 c.if-is_back-3.true)
+
+pub loop-place-init : goal.loop-place-init
+loop-place-init g c = λ k less back. c.count_turning-place.ensures.turning k less back.0
+
+pub loop-place-preserved : goal.loop-place-preserved
+loop-place-preserved g c =
+    one_more IsBack (contour_of g.P.Coordinate.IntNumber.value (g.P.ContourPoint.points c.args.points.now)) c.loop-place.place c.loop-place.invariant
+    (fails_by_test c.is_back-in-loop-place.result c.is_back-in-loop-place.ensures c.if-is_back-3.false)
 
 pub returns : goal.returns
 returns g c =
-    let value = g.P.Coordinate.IntNumber.value in
     let points = g.P.ContourPoint.points c.args.points.now in
-    let long = length-contour value points ∙ points-length g.P.ContourPoint.point g.P.ContourPoint.points g.P.ContourPoint.each c.args.points.now in
-    despiked_told (contour_of value points) c.first_back.result c.first_back.new.probe.visits c.is_none.result (omega (arith, long, c.if-points-lt3.false))
-    (rw c.new.ensures.contour at c.first_back.ensures.answer) c.is_none.ensures
+    let value = g.P.Coordinate.IntNumber.value in
+    let whole = contour_of value points in
+    let all = length-contour value points ∙ points-length g.P.ContourPoint.point g.P.ContourPoint.points g.P.ContourPoint.each c.args.points.now in
+    let last : ℕ = length c.args.points.now - 1 in (
+      λ t. despiked_stays whole (omega (arith, all, c.if-points-lt3.false))
+          (none_removable whole c.loop-place.place last (omega (arith, all, c.if-points-lt3.false)) (omega (arith, all, c.if-points-lt3.false)) (omega (arith, c.loop-place-test.false)) c.loop-place.invariant
+          (fails_by_test c.is_back.result c.is_back.ensures c.if-is_back.false) (fails_by_test c.is_back-2.result c.is_back-2.ensures c.if-is_back-2.false)),
+      λ s. refl,
+    )

@@ -10,5 +10,4 @@ loop-place-preserved c =
           c.loop-place.invariant.items (omega (arith, c.loop-place.auto.place)) (omega (arith, c.loop-place.auto.place)) c.push_reserved.ensures.items;
       len = omega (arith, c.push_reserved.ensures.len, c.loop-place.invariant.len);
       room = omega (arith, c.push_reserved.ensures.capacity, c.loop-place.invariant.room);
-      kept = omega (arith, c.push_reserved.ensures.capacity, c.loop-place.invariant.kept);
     }

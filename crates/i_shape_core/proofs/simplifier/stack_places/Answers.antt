@@ -6,13 +6,21 @@ use Rattle.i_shape_core.proofs.plane.Contours.{length-contour}
 use Rattle.i_shape_core.proofs.walks.StackReads.{push-read}
 use Rattle.i_shape_core.proofs.simplifier.stack_places.Goals as goal
 
+pub fill-requires-clause-room : goal.fill-requires-clause-room
+fill-requires-clause-room g c = omega (arith, c.requires.room, c.requires.start.end_within, length-contour g.P.Coordinate.IntNumber.value c.args.probe.contour)
+
 pub loop-place-init : goal.loop-place-init
-loop-place-init g c = record { contour = refl; walked = c.requires.walked; room = c.requires.room; same_room = refl }
+loop-place-init g c = record {
+  contour = refl;
+  walked = rw c.fill.ensures.items c.requires.start.walked;
+  room = omega (arith, c.requires.room, c.fill.ensures.room);
+  same_room = refl;
+}
 
 pub loop-place-preserved : goal.loop-place-preserved
 loop-place-preserved g c =
-    let popped = c.pop_zero_turns.ensures in
-    let before = c.pop_zero_turns.new.stack.ok.0 in
+    let popped = c.pop_zero_turns-probe.ensures in
+    let before = c.pop_zero_turns-probe.new.stack.ok.0 in
     let after = c.push_reserved.new.self.ok.0 in
     let longer = c.push_reserved.ensures.len in
     record {
@@ -32,8 +40,8 @@ pub returns : goal.returns
 returns g c =
     let walked = c.loop-place.invariant.walked in
     let all : c.loop-place.place ≡ length (contour_of g.P.Coordinate.IntNumber.value c.args.probe.contour) =
-    omega (arith, length-contour g.P.Coordinate.IntNumber.value c.args.probe.contour, c.len-place-end.ensures, c.requires.within) in record {
+    omega (arith, length-contour g.P.Coordinate.IntNumber.value c.args.probe.contour, c.len-place-end.ensures, c.loop-place.auto.place-end, c.loop-place-test.false, c.requires.start.place_within) in record {
       contour = c.loop-place.invariant.contour;
       walked = subst (λ (k : ℕ). IsWalked IsZeroTurn (contour_of g.P.Coordinate.IntNumber.value c.args.probe.contour) c.loop-place.stack.items k c.loop-place.probe.visits) all walked;
-      room = c.loop-place.invariant.same_room;
+      room = omega (arith, c.loop-place.invariant.same_room, c.fill.ensures.room);
     }

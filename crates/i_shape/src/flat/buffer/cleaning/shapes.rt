@@ -215,7 +215,7 @@ fn cleaned_shapes<T: IntNumber, C: ContourCleaner>(
         counts.contours,
         shape_ranges.len(),
     )?;
-    let mut cleaner = C::with_room(alloc, 0);
+    let mut cleaner = C::new(alloc);
     for range in shape_ranges {
         append_cleaned_shape(
             &mut cleaner,

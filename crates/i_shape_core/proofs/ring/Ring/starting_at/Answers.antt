@@ -1,4 +1,4 @@
-use Rattle.std.proofs.Common.{◌≡◌, ◌-◌, arith}
+use Rattle.std.proofs.Common.{◌≡◌, ◌∙◌, ◌-◌, arith}
 use Rattle.i_shape_core.proofs.walks.Gaps.{full_more, starting_ring}
 use Rattle.i_shape_core.proofs.ring.Ring.starting_at.Goals as goal
 
@@ -14,4 +14,4 @@ pub returns : goal.returns
 returns c =
     let all : c.loop-each.each ≡ c.args.count = omega (arith, c.loop-each.auto.each-end, c.loop-each-test.false) in
     starting_ring c.loop-each.places.items c.args.count c.loop-each.each c.args.place (c.args.count - c.args.place) _ _ c.loop-each.invariant.places
-    (omega (arith, c.loop-each.invariant.len, c.loop-each.places.ok.0)) (omega (arith, all)) c.requires.within c.loop-each.invariant.kept
+    (omega (arith, c.loop-each.invariant.len, c.loop-each.places.ok.0)) (omega (arith, all)) c.requires.within (c.loop-each.invariant.kept ∙ c.clear.ensures.capacity)

@@ -1,4 +1,4 @@
-use Rattle.std.proofs.Common.{◌≡◌, ◌∙◌, ℕ, ℤ, List, length, Option, None, Some, option_map, ap, sym, arith}
+use Rattle.std.proofs.Common.{◌≡◌, ◌∙◌, ℕ, ℤ, List, Option, None, Some, option_map, arith}
 use Rattle.std.specs.Global.{Vec}
 use Rattle.std.specs.Int.{Width}
 use Rattle.std.specs.List.{All}
@@ -12,7 +12,7 @@ use Rattle.i_shape_core.specs.Written.{CleansInOrder}
 use Rattle.i_shape_core.specs.Walks.{WalkAnswer}
 use Rattle.i_shape_core.specs.declared.point.IntPoint.{IntPoint}
 use Rattle.i_shape_core.proofs.plane.Contours.{length-contour}
-use Rattle.i_shape_core.proofs.walks.Found.{simple_answer, kept_answer, visits_answer, short_answer, walk_kept, whole_found}
+use Rattle.i_shape_core.proofs.walks.Found.{simple_answer, kept_answer, visits_answer, short_answer, walk_kept}
 use Rattle.i_shape_core.proofs.walks.RisingPlaces.{each_rising_below}
 use Rattle.i_shape_core.proofs.answers.Written.{walked, unless_memory}
 use Rattle.i_shape_core.proofs.simplifier.ContourSimplifier.simplify_counted.Given.{Over}
@@ -38,22 +38,20 @@ pub returns-then-contour-lt3-clause-visits : goal.returns-then-contour-lt3-claus
 returns-then-contour-lt3-clause-visits g c =
     record { least = omega (arith, length-contour g.I.IntNumber.value c.before.args.contour.now); most = omega arith }
 
--- what is answered where no vertex is removed
-whole : (g : Over) (c : After-keep_whole g) → Found g.I.IntNumber.value c.args.contour.now c.keep_whole.result
-whole g c =
-    let points = contour_of g.I.IntNumber.value c.args.contour.now in
-    let same : c.start_of_walk.new.probe.contour ≡ c.args.contour.now = c.start_of_walk.ensures.contour ∙ c.new-probe.ensures.contour in
-    let long = length-contour g.I.IntNumber.value c.args.contour.now in
-    walk_kept IsZeroTurn points (shown g.I.IntNumber.value) (λ r. r.1) c.keep_whole.result (Some points) c.start_of_walk.new.probe.visits (rw same at c.keep_whole.ensures.kept)
-    (whole_found IsZeroTurn points c.start_of_walk.new.probe.visits (rw c.new-probe.ensures.contour at (c.start_of_walk.ensures.clean c.in_default.is)) (omega (arith, long, c.if-contour-lt3.false))
-    (c.start_of_walk.ensures.visits c.in_default.is ∙ ap length c.new-probe.ensures.contour ∙ sym long))
-
 -- what it answers, of what a walk finds
 told : {I E : Type 0} (width : Width) (value : I → ℤ) (contour : List (IntPoint I)) (result : Result (Option (Vec (IntPoint I)) × ℕ) E) → All (IsSafe width) (contour_of value contour) → Found value contour result
     → IfOk result (λ r. CleansInOrder SimpleAnswer width value (contour_of value contour) r.0)
 told {I} width value contour result safe found =
     IfOk-weaker result _ _ (λ r w. walked width IsZeroTurn SimpleAnswer (contour_of value contour) (λ (kept : Vec (IntPoint I)). contour_of value kept.items) r.0 r.1
     (simple_answer (contour_of value contour) (shown value r) r.1) (kept_answer (contour_of value contour) (shown value r) r.1) safe w) found
+
+-- what is answered where no vertex is removed
+whole : (g : Over) (c : After-keep_whole g) → Found g.I.IntNumber.value c.args.contour.now c.keep_whole.result
+whole g c =
+    let points = contour_of g.I.IntNumber.value c.args.contour.now in
+    let same : c.start_of_walk-probe.result.0.contour ≡ c.args.contour.now = c.start_of_walk-probe.ensures.contour ∙ c.new.ensures.contour in
+    walk_kept IsZeroTurn points (shown g.I.IntNumber.value) (λ r. r.1) c.keep_whole.result (Some points) c.start_of_walk-probe.result.0.visits (rw same at c.keep_whole.ensures.kept)
+    (rw c.new.ensures.contour at (c.start_of_walk-probe.ensures.clean c.in_default.is))
 
 pub returns-in_default-clause-answer : goal.returns-in_default-clause-answer
 returns-in_default-clause-answer g c =
@@ -72,7 +70,7 @@ pub returns-clause-answer : goal.returns-clause-answer
 returns-clause-answer g c =
     let value = g.I.IntNumber.value in
     let points = contour_of value c.args.contour.now in
-    let first : c.in_ok-probe.probe.contour ≡ c.args.contour.now = c.in_ok-probe.ensures.contour ∙ (c.start_of_walk.ensures.contour ∙ c.new-probe.ensures.contour) in
+    let first : c.stack_places-probe.result.contour ≡ c.args.contour.now = c.stack_places-probe.ensures.contour ∙ (c.start_of_walk-probe.ensures.contour ∙ c.new.ensures.contour) in
     let same : c.close-probe.result.0.contour ≡ c.args.contour.now = c.close-probe.ensures.contour ∙ first in
     let found : Found value c.args.contour.now c.keep_left.result = walk_kept IsZeroTurn points (shown value) (λ r. r.1) c.keep_left.result _ c.close-probe.result.0.visits (rw same at c.keep_left.ensures.kept) (rw first at c.close-probe.ensures.answer) in
     unless_memory c.keep_left.result _ (told g.I.IntNumber.width value c.args.contour.now c.keep_left.result c.requires found) c.keep_left.ensures.memory

@@ -7,33 +7,33 @@ use Rattle.i_shape_core.specs.Contour.{point_at}
 use Rattle.i_shape_core.specs.Walks.{Falls, IsRingState, from_contour_first}
 use Rattle.i_shape_core.proofs.plane.Contours.{refuted_by_test, length-contour}
 use Rattle.i_shape_core.proofs.walks.RingStates.{state_keeps, state_removes, state_collapses, state_ends}
-use Rattle.i_shape_core.proofs.despike.walk.Goals as goal
+use Rattle.i_shape_core.proofs.despike.walk_round.Goals as goal
 
 pub is_back_at-requires-clause-enough : goal.is_back_at-requires-clause-enough
 is_back_at-requires-clause-enough g c =
-    let whole : List Point = contour_of g.P.Coordinate.IntNumber.value c.args.probe.now.contour in
+    let whole : List Point = contour_of g.P.Coordinate.IntNumber.value c.args.probe.contour in
     omega (arith, c.loop-probe.invariant.state.walk.enough, length-map c.loop-probe.ring.places (point_at whole))
 
 pub is_back_at-requires-clause-below : goal.is_back_at-requires-clause-below
 is_back_at-requires-clause-below g c =
     let inv = c.loop-probe.invariant in
-    let whole : List Point = contour_of g.P.Coordinate.IntNumber.value c.args.probe.now.contour in
-    let long : length whole ≡ length c.loop-probe.probe.contour = length-contour g.P.Coordinate.IntNumber.value c.args.probe.now.contour ∙ ap length (sym inv.contour) in
+    let whole : List Point = contour_of g.P.Coordinate.IntNumber.value c.args.probe.contour in
+    let long : length whole ≡ length c.loop-probe.probe.contour = length-contour g.P.Coordinate.IntNumber.value c.args.probe.contour ∙ ap length (sym inv.contour) in
     subst (λ (n : ℕ). All (λ k. k < n) c.loop-probe.ring.places) long inv.state.below
 
 pub is_back_at-requires-clause-room : goal.is_back_at-requires-clause-room
 is_back_at-requires-clause-room g c =
-    grind (arith, c.requires.room, c.loop-probe.invariant.state.at_most, length-contour g.P.Coordinate.IntNumber.value c.args.probe.now.contour)
+    grind (arith, c.requires.room, c.loop-probe.invariant.state.at_most, length-contour g.P.Coordinate.IntNumber.value c.args.probe.contour)
 
 pub loop-probe-smaller-then-not-is_back_at : goal.loop-probe-smaller-then-not-is_back_at
 loop-probe-smaller-then-not-is_back_at g c =
-    let whole : List Point = contour_of g.P.Coordinate.IntNumber.value c.args.probe.now.contour in
+    let whole : List Point = contour_of g.P.Coordinate.IntNumber.value c.args.probe.contour in
     let same = simp (length-append, length-drop) at (ap length c.keep.ensures.places) in
     omega (arith, c.loop-probe.invariant.state.walk.enough, length-map c.loop-probe.ring.places (point_at whole), same, c.keep.ensures.untested)
 
 pub loop-probe-preserved-then-not-is_back_at : goal.loop-probe-preserved-then-not-is_back_at
 loop-probe-preserved-then-not-is_back_at g c =
-    let whole : List Point = contour_of g.P.Coordinate.IntNumber.value c.args.probe.now.contour in
+    let whole : List Point = contour_of g.P.Coordinate.IntNumber.value c.args.probe.contour in
     let inv = c.loop-probe.invariant in
     let ring = c.loop-probe.ring in
     let test = rw inv.contour at c.is_back_at.ensures.test in
@@ -53,7 +53,7 @@ loop-probe-smaller g c =
 
 pub loop-probe-preserved : goal.loop-probe-preserved
 loop-probe-preserved g c =
-    let whole : List Point = contour_of g.P.Coordinate.IntNumber.value c.args.probe.now.contour in
+    let whole : List Point = contour_of g.P.Coordinate.IntNumber.value c.args.probe.contour in
     let inv = c.loop-probe.invariant in
     let ring = c.loop-probe.ring in
     let test = rw inv.contour at c.is_back_at.ensures.test in
@@ -68,7 +68,7 @@ loop-probe-preserved g c =
 
 pub returns-else-len-gt3-clause-falls : goal.returns-else-len-gt3-clause-falls
 returns-else-len-gt3-clause-falls g c = λ no.
-    let whole : List Point = contour_of g.P.Coordinate.IntNumber.value c.args.probe.now.contour in
+    let whole : List Point = contour_of g.P.Coordinate.IntNumber.value c.args.probe.contour in
     let inv = c.loop-probe.invariant in
     let ring = c.loop-probe.ring in
     let test = rw inv.contour at c.is_back_at.ensures.test in
@@ -77,11 +77,11 @@ returns-else-len-gt3-clause-falls g c = λ no.
     (state_collapses whole ring.places ring.untested ring.lead c.loop-probe.probe.visits inv.state (test.0 c.if-not-is_back_at.false) three)
 
 pub returns-clause-rising : goal.returns-clause-rising
-returns-clause-rising g c = λ yes. rw (length-contour g.P.Coordinate.IntNumber.value c.args.probe.now.contour) at c.loop-probe.invariant.state.rising
+returns-clause-rising g c = λ yes. rw (length-contour g.P.Coordinate.IntNumber.value c.args.probe.contour) at c.loop-probe.invariant.state.rising
 
 pub returns-clause-uncollapsed : goal.returns-clause-uncollapsed
 returns-clause-uncollapsed g c = λ yes.
-    let whole : List Point = contour_of g.P.Coordinate.IntNumber.value c.args.probe.now.contour in
+    let whole : List Point = contour_of g.P.Coordinate.IntNumber.value c.args.probe.contour in
     let ring = c.loop-probe.ring in
     state_ends whole (map (point_at whole) (from_contour_first ring.places ring.lead)) ring.places ring.untested ring.lead c.loop-probe.probe.visits c.loop-probe.invariant.state
     (omega (arith, c.loop-probe-test.false, c.untested.ensures)) refl

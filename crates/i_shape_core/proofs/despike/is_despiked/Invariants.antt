@@ -1,0 +1,11 @@
+use Rattle.std.proofs.Common.{ℕ, ◌+◌, ◌<◌}
+use Rattle.i_shape_core.specs.Contour.{point_at}
+use Rattle.i_shape_core.specs.IntPoint.{contour_of}
+use Rattle.i_shape_core.specs.Point.{IsBack}
+use Rattle.i_shape_core.proofs.despike.is_despiked.Given as goal
+
+-- no turn so far goes back
+abbrev pub invariant-loop-place : goal.invariant-loop-place
+invariant-loop-place g l =
+    let c = contour_of g.P.Coordinate.IntNumber.value (g.P.ContourPoint.points l.points) in
+    (k : ℕ) → k < l.place → ¬ (IsBack (point_at c k) (point_at c (k + 1)) (point_at c (k + 2)))
