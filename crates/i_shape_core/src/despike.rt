@@ -281,14 +281,17 @@ fn first_back<'a, P: ContourPoint>(
         result.1 result.0.visits }
     ensures contour { result.0.contour ≡ probe.entry.contour }
 {
-    let count = probe.len();
-    let mut before = count - 1;
-    for place in 0..count {
-        let after = if place + 1 < count { place + 1 } else { 0 };
-        if is_back_between(&mut probe, before, place, after) {
+    let last = probe.len() - 1;
+    if is_back_between(&mut probe, last, 0, 1) {
+        return (probe, Some(0));
+    }
+    for place in 1..last {
+        if is_back_between(&mut probe, place - 1, place, place + 1) {
             return (probe, Some(place));
         }
-        before = place;
+    }
+    if is_back_between(&mut probe, last - 1, last, 0) {
+        return (probe, Some(last));
     }
     (probe, None)
 }

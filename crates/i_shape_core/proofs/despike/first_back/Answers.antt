@@ -1,59 +1,102 @@
-use Rattle.std.proofs.Common.{◌≡◌, ◌∙◌, ◌<◌, ◌≤◌, List, length, inl, inr, refl, arith}
-use Rattle.i_shape_core.specs.Point.{Point}
+use Rattle.std.proofs.Common.{◌≡◌, ◌∙◌, ◌-◌, ◌+◌, ◌<◌, ◌≤◌, length, List, ℕ, inl, inr, refl, arith}
+use Rattle.i_shape_core.specs.Point.{Point, IsBack}
+use Rattle.i_shape_core.specs.Contour.{IsRemovable}
 use Rattle.i_shape_core.specs.IntPoint.{contour_of}
 use Rattle.i_shape_core.proofs.plane.Contours.{refuted_by_test, length-contour}
 use Rattle.i_shape_core.proofs.removal.Places.{Follows}
 use Rattle.i_shape_core.proofs.lists.FirstPlaces.{removable_between, none_on}
-use Rattle.i_shape_core.proofs.despike.first_back.Given.{Over}
-use Rattle.i_shape_core.proofs.despike.first_back.Goals.{After-is_back_between, then-place-count, else-place-count}
 use Rattle.i_shape_core.proofs.despike.first_back.Goals as goal
 
-pub loop-place-init : goal.loop-place-init
-loop-place-init g c = record {
-  contour = refl;
-  visits = c.requires.fresh;
-  within = omega (arith, c.len-count.ensures, c.requires.enough);
-  follows = λ h. inr (omega (arith, c.len-count.ensures, c.requires.enough), refl);
-  earlier = λ k h m. absurd (omega (arith, h));
-}
+-- the neighbours of the first place, of one between the ends, and of the last, where m points are read as n and s is their number
+at_first : (n m s : ℕ) → n ≡ m → 3 ≤ m → s ≡ m → (3 ≤ n) × (s - 1 < n) × (0 < n) × Follows n (s - 1) 0 × Follows n 0 1
+at_first n m s e enough d = (omega arith, omega arith, omega arith, inr (omega arith, refl), inl (omega arith, refl))
 
--- the place before the walk's, the walk's and the one after it follow one another on the cycle of the contour
-around : (g : Over) (c : After-is_back_between g)
-    → let n = length (contour_of g.P.Coordinate.IntNumber.value c.args.probe.contour) in (3 ≤ n) × (c.loop-place.before < n) × (c.loop-place.place < n) × Follows n c.loop-place.before c.loop-place.place × Follows n c.loop-place.place c.if-place-count.after
-around g c =
-    let whole : List Point = contour_of g.P.Coordinate.IntNumber.value c.args.probe.contour in
-    let long : length whole ≡ length c.args.probe.contour = length-contour g.P.Coordinate.IntNumber.value c.args.probe.contour in
-    let inv = c.loop-place.invariant in
-    let here : c.loop-place.place < length c.args.probe.contour = omega (arith, c.loop-place-test.true, c.len-count.ensures) in
-    let after : Follows (length whole) c.loop-place.place c.if-place-count.after = elim c.if-place-count.branch [
-      | then-place-count w ↦ inl (omega (arith, w.if-place-count.true, c.len-count.ensures, long), w.after-is)
-      | else-place-count w ↦ inr (omega (arith, w.if-place-count.false, here, c.len-count.ensures, long), w.after-is)
-    ] in
-    (omega (arith, long, c.requires.enough), omega (arith, long, inv.within), omega (arith, long, here), rw long (inv.follows here), after)
+at_inside : (n m s k : ℕ) → n ≡ m → 3 ≤ m → s ≡ m → 1 ≤ k → k < s - 1 → (3 ≤ n) × (k - 1 < n) × (k < n) × Follows n (k - 1) k × Follows n k (k + 1)
+at_inside n m s k e enough d from before = (omega arith, omega arith, omega arith, inl (omega arith, omega arith), inl (omega arith, refl))
 
-pub loop-place-preserved : goal.loop-place-preserved
-loop-place-preserved g c =
-    let inv = c.loop-place.invariant in
-    let test = rw inv.contour at c.is_back_between.ensures.test in
-    let at = around g c.before in
-    let whole : List Point = contour_of g.P.Coordinate.IntNumber.value c.args.probe.contour in
-    record {
-      contour = c.is_back_between.ensures.contour ∙ inv.contour;
-      visits = omega (arith, c.is_back_between.ensures.visits, inv.visits);
-      within = omega (arith, c.loop-place-test.true, c.len-count.ensures);
-      follows = λ h. inl (h, refl);
-      earlier = none_on whole c.loop-place.before c.loop-place.place c.if-place-count.after at.1 at.2 at.3 at.4 (refuted_by_test c.is_back_between.result test (λ h. h, λ h. h) c.if-is_back_between.false) inv.earlier;
-    }
+at_last : (n m s : ℕ) → n ≡ m → 3 ≤ m → s ≡ m → (3 ≤ n) × (s - 1 - 1 < n) × (s - 1 < n) × Follows n (s - 1 - 1) (s - 1) × Follows n (s - 1) 0
+at_last n m s e enough d = (omega arith, omega arith, omega arith, inl (omega arith, omega arith), inr (omega arith, refl))
 
 pub returns-then-is_back_between-clause-answer : goal.returns-then-is_back_between-clause-answer
 returns-then-is_back_between-clause-answer g c =
-    let inv = c.loop-place.invariant in
-    let test = rw inv.contour at c.is_back_between.ensures.test in
-    let at = around g c.before in
-    let whole : List Point = contour_of g.P.Coordinate.IntNumber.value c.args.probe.contour in (
+    let whole : List Point = contour_of g.P.Coordinate.IntNumber.value c.args.probe.contour in
+    let long : length whole ≡ length c.args.probe.contour = length-contour g.P.Coordinate.IntNumber.value c.args.probe.contour in
+    let at = at_first (length whole) (length c.args.probe.contour) c.len-last.result long c.requires.enough c.len-last.ensures in (
       record {
-        here = removable_between whole c.loop-place.before c.loop-place.place c.if-place-count.after at.0 at.1 at.2 at.3 at.4 (test.0 c.if-is_back_between.true);
+        here = removable_between whole (c.len-last.result - 1) 0 1 at.0 at.1 at.2 at.3 at.4 (c.is_back_between.ensures.test.0 c.if-is_back_between.true);
+        earlier = λ k h m. absurd (omega (arith, h));
+      },
+      omega (arith, c.is_back_between.ensures.visits, c.requires.fresh),
+    )
+
+pub loop-place-init : goal.loop-place-init
+loop-place-init g c =
+    let whole : List Point = contour_of g.P.Coordinate.IntNumber.value c.args.probe.contour in
+    let long : length whole ≡ length c.args.probe.contour = length-contour g.P.Coordinate.IntNumber.value c.args.probe.contour in
+    let at = at_first (length whole) (length c.args.probe.contour) c.len-last.result long c.requires.enough c.len-last.ensures in
+    record {
+      contour = c.is_back_between.ensures.contour;
+      visits = omega (arith, c.is_back_between.ensures.visits, c.requires.fresh);
+      earlier = none_on whole (c.len-last.result - 1) 0 1 at.1 at.2 at.3 at.4
+          (refuted_by_test c.is_back_between.result c.is_back_between.ensures.test (λ h. h, λ h. h) c.if-is_back_between.false) (λ j h m. absurd (omega (arith, h)));
+    }
+
+pub returns-then-is_back_between-2-clause-answer : goal.returns-then-is_back_between-2-clause-answer
+returns-then-is_back_between-2-clause-answer g c =
+    let whole : List Point = contour_of g.P.Coordinate.IntNumber.value c.args.probe.contour in
+    let long : length whole ≡ length c.args.probe.contour = length-contour g.P.Coordinate.IntNumber.value c.args.probe.contour in
+    let inv = c.loop-place.invariant in
+    let test = rw inv.contour at c.is_back_between-in-loop-place.ensures.test in
+    let place : ℕ = c.loop-place.place in
+    let at = at_inside (length whole) (length c.args.probe.contour) c.len-last.result place long c.requires.enough c.len-last.ensures c.loop-place.auto.place c.loop-place-test.true in (
+      record {
+        here = removable_between whole (place - 1) place (place + 1) at.0 at.1 at.2 at.3 at.4 (test.0 c.if-is_back_between-2.true);
         earlier = inv.earlier;
       },
-      omega (arith, c.is_back_between.ensures.visits, inv.visits),
+      omega (arith, c.is_back_between-in-loop-place.ensures.visits, inv.visits),
+    )
+
+pub loop-place-preserved : goal.loop-place-preserved
+loop-place-preserved g c =
+    let whole : List Point = contour_of g.P.Coordinate.IntNumber.value c.args.probe.contour in
+    let long : length whole ≡ length c.args.probe.contour = length-contour g.P.Coordinate.IntNumber.value c.args.probe.contour in
+    let inv = c.loop-place.invariant in
+    let test = rw inv.contour at c.is_back_between-in-loop-place.ensures.test in
+    let place : ℕ = c.loop-place.place in
+    let at = at_inside (length whole) (length c.args.probe.contour) c.len-last.result place long c.requires.enough c.len-last.ensures c.loop-place.auto.place c.loop-place-test.true in
+    record {
+      contour = c.is_back_between-in-loop-place.ensures.contour ∙ inv.contour;
+      visits = omega (arith, c.is_back_between-in-loop-place.ensures.visits, inv.visits);
+      earlier = none_on whole (place - 1) place (place + 1) at.1 at.2 at.3 at.4
+          (refuted_by_test c.is_back_between-in-loop-place.result test (λ h. h, λ h. h) c.if-is_back_between-2.false) inv.earlier;
+    }
+
+pub returns-then-is_back_between-3-clause-answer : goal.returns-then-is_back_between-3-clause-answer
+returns-then-is_back_between-3-clause-answer g c =
+    let whole : List Point = contour_of g.P.Coordinate.IntNumber.value c.args.probe.contour in
+    let long : length whole ≡ length c.args.probe.contour = length-contour g.P.Coordinate.IntNumber.value c.args.probe.contour in
+    let inv = c.loop-place.invariant in
+    let test = rw inv.contour at c.is_back_between-2.ensures.test in
+    let last : ℕ = c.len-last.result - 1 in
+    let at : c.loop-place.place ≡ last = omega (arith, c.len-last.ensures, c.requires.enough, c.loop-place.auto.place-end, c.loop-place-test.false) in
+    let ends = at_last (length whole) (length c.args.probe.contour) c.len-last.result long c.requires.enough c.len-last.ensures in (
+      record {
+        here = removable_between whole (last - 1) last 0 ends.0 ends.1 ends.2 ends.3 ends.4 (test.0 c.if-is_back_between-3.true);
+        earlier = λ k h m. inv.earlier k (omega (arith, h, at)) m;
+      },
+      omega (arith, c.is_back_between-2.ensures.visits, inv.visits, at),
+    )
+
+pub returns-clause-answer : goal.returns-clause-answer
+returns-clause-answer g c =
+    let whole : List Point = contour_of g.P.Coordinate.IntNumber.value c.args.probe.contour in
+    let long : length whole ≡ length c.args.probe.contour = length-contour g.P.Coordinate.IntNumber.value c.args.probe.contour in
+    let inv = c.loop-place.invariant in
+    let test = rw inv.contour at c.is_back_between-2.ensures.test in
+    let last : ℕ = c.len-last.result - 1 in
+    let at : c.loop-place.place ≡ last = omega (arith, c.len-last.ensures, c.requires.enough, c.loop-place.auto.place-end, c.loop-place-test.false) in
+    let ends = at_last (length whole) (length c.args.probe.contour) c.len-last.result long c.requires.enough c.len-last.ensures in (
+      (λ k m. none_on whole (last - 1) last 0 ends.1 ends.2 ends.3 ends.4
+          (refuted_by_test c.is_back_between-2.result test (λ h. h, λ h. h) c.if-is_back_between-3.false) (λ j h r. inv.earlier j (omega (arith, h, at)) r) k (omega (arith, long, c.len-last.ensures, m.within)) m),
+      omega (arith, long, c.is_back_between-2.ensures.visits, inv.visits, at, c.len-last.ensures, c.requires.enough),
     )
