@@ -330,12 +330,12 @@ fn too_much_room_is_not_there(rt: HostRuntime) -> Result<(), Fail> {
 
 /// A generator of numbers, of which each is told by the one before it.
 #[derive(Drop)]
-struct Draws {
-    seed: u32,
+pub struct Draws {
+    pub seed: u32,
 }
 
 impl Draws {
-    fn below(&mut self, bound: u32) -> u32
+    pub fn below(&mut self, bound: u32) -> u32
         requires { 0 < bound }
         ensures { result < bound }
     {

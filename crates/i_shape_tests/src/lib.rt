@@ -40,8 +40,6 @@ mod in_place;
 #[cfg(test)]
 mod laws;
 #[cfg(test)]
-mod long_contours;
-#[cfg(test)]
 mod macros;
 #[cfg(test)]
 mod number;

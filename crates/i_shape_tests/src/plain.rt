@@ -163,11 +163,8 @@ pub fn is_rotation(one: &[Pair], other: &[Pair]) -> bool {
     false
 }
 
-/// The visits of the walk that keeps points on a stack, and then takes zero turns from both of its ends.
-pub fn visits_of_stack(alloc: Global, list: &[Pair]) -> Result<u128, AllocError> {
-    if list.len() < 3 {
-        return Ok(0);
-    }
+/// The walk that keeps points on a stack, and then takes zero turns from both of its ends: what it leaves, and its visits.
+pub fn stack_walk(alloc: Global, list: &[Pair]) -> Result<(Vec<Pair>, u128), AllocError> {
     let mut visits: u128 = 0;
     let mut stack: Vec<Pair> = Vec::new(alloc);
     for point in list {
@@ -200,59 +197,30 @@ pub fn visits_of_stack(alloc: Global, list: &[Pair]) -> Result<u128, AllocError>
         }
         stack.pop();
     }
-    Ok(visits)
+    Ok((stack, visits))
 }
 
-/// A vertex of the ring walk, and whether it was tested since its neighbours last changed.
-#[derive(Clone, Copy)]
-struct Vertex {
-    point: Pair,
-    is_tested: bool,
-}
-
-/// What the walk round the ring leaves where back vertices are removed, and its visits.
+/// The walk round the ring that removes back vertices, with the number of those, from its place on, that are untested: what it leaves,
+/// and its visits.
 pub fn ring_walk(alloc: Global, list: &[Pair]) -> Result<(Vec<Pair>, u128), AllocError> {
-    let mut ring = Vec::new(alloc);
-    for point in list {
-        ring.push(Vertex {
-            point: *point,
-            is_tested: false,
-        })?;
-    }
+    let mut ring = Vec::from_slice(alloc, list)?;
     let mut place = 0;
+    let mut untested = ring.len();
     let mut visits: u128 = 0;
-    for _ in 0..100 {
+    for _ in 0..list.len().wrapping_mul(3) {
         let count = ring.len();
-        if count < 3 || place >= count || ring.iter().all(|vertex| vertex.is_tested) {
+        if count < 3 || untested == 0 || place >= count {
             break;
         }
         visits = visits.wrapping_add(1);
-        place = ring_step(&mut ring, place);
+        if is_back_at(ring.as_slice(), place) {
+            ring.remove(place);
+            untested = untested.max(2).min(count - 1);
+            place = if place == 0 { count - 2 } else { place - 1 };
+        } else {
+            untested = untested - 1;
+            place = after(count, place);
+        }
     }
-    let mut left = Vec::new(alloc);
-    for vertex in &ring {
-        left.push(vertex.point)?;
-    }
-    Ok((left, visits))
-}
-
-/// Tests the vertex at the place, and answers the place of the next one.
-fn ring_step(ring: &mut Vec<Vertex>, place: usize) -> usize {
-    let count = ring.len();
-    if count < 3 || place >= count {
-        return place;
-    }
-    let behind = before(count, place);
-    let ahead = after(count, place);
-    if ring[place].is_tested {
-        return ahead;
-    }
-    if !is_back(ring[behind].point, ring[place].point, ring[ahead].point) {
-        ring[place].is_tested = true;
-        return ahead;
-    }
-    ring[behind].is_tested = false;
-    ring[ahead].is_tested = false;
-    ring.remove(place);
-    if place == 0 { count - 2 } else { behind }
+    Ok((ring, visits))
 }

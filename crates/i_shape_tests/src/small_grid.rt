@@ -1,10 +1,14 @@
+ghost use Rattle.std.specs.Prelude.{◌<◌};
+
+use crate::buffer::Draws;
 use crate::given::{all_hold, pairs, safe_contour};
-use crate::plain::{Order, Pair, deleted, is_rotation, ring_walk, visits_of_stack, winding};
+use crate::plain::{Order, Pair, deleted, is_rotation, ring_walk, stack_walk, winding};
 use i_shape::int::IntPoint;
 use i_shape::int::despike::DeSpikeContour;
 use i_shape::int::path::ContourExtension;
 use i_shape::int::simple::ContourSimplifier;
 use std::alloc::{AllocError, Global};
+use std::env;
 use std::process::Abort;
 
 /// The points with x in 0..=2 and y in 0..=1.
@@ -29,20 +33,42 @@ const SHORT_LISTS: [(&str, usize, usize); 5] = [
     ("four points", 4, 1296),
 ];
 
+/// The numbers of points of drawn lists.
+const DRAWN: [(&str, usize); 6] = [
+    ("seven points", 7),
+    ("eight points", 8),
+    ("nine points", 9),
+    ("ten points", 10),
+    ("eleven points", 11),
+    ("twelve points", 12),
+];
+
+/// The point at a place of the grid.
+fn grid_point(place: usize) -> Pair {
+    let x = match place % 3 {
+        0 => 0,
+        1 => 1,
+        _ => 2,
+    };
+    [x, if place < 3 { 0 } else { 1 }]
+}
+
 /// The list of so many points of the grid whose places in the grid are the digits of the code.
 fn list_of(alloc: Global, count: usize, code: usize) -> Result<Vec<Pair>, AllocError> {
     let mut list = Vec::new(alloc);
     let mut rest = code;
     for _ in 0..count {
-        let place = rest % GRID;
-        let x = match place % 3 {
-            0 => 0,
-            1 => 1,
-            _ => 2,
-        };
-        let y = if place < 3 { 0 } else { 1 };
-        list.push([x, y])?;
+        list.push(grid_point(rest % GRID))?;
         rest = rest / GRID;
+    }
+    Ok(list)
+}
+
+/// The list of so many points that are drawn from the grid.
+fn drawn_list(alloc: Global, draws: &mut Draws, count: usize) -> Result<Vec<Pair>, AllocError> {
+    let mut list = Vec::new(alloc);
+    for _ in 0..count {
+        list.push(grid_point(draws.below(6) as usize))?;
     }
     Ok(list)
 }
@@ -55,9 +81,9 @@ fn is_end(left: &[Pair], kept: &Option<Vec<Pair>>) -> bool {
     }
 }
 
-/// Both orders of deletion end in rotations of what `simplified` answers, or collapse where it is `None`; the visits are
-/// those of the plain walk.
-fn simplifies_as_each_order(
+/// `simplify_counted` leaves what the plain walk over a stack leaves, with its visits, and both orders of deletion end in
+/// rotations of that, or collapse where it is `None`.
+fn simplifies_as_the_stack_walk(
     rt: &impl Abort,
     alloc: Global,
     simplifier: &mut ContourSimplifier,
@@ -72,11 +98,16 @@ fn simplifies_as_each_order(
         Some(kept) => Some(pairs(alloc, kept.as_slice()).expect(rt, name)),
         None => None,
     };
+    let (left, walked) = stack_walk(alloc, list).expect(rt, name);
+    let is_left = match &kept {
+        Some(kept) => *kept == left,
+        None => left.len() < 3,
+    };
     let first = deleted(alloc, list, Order::First).expect(rt, name);
     let last = deleted(alloc, list, Order::Last).expect(rt, name);
-    let walked = visits_of_stack(alloc, list).expect(rt, name);
     let answers = [
-        (visits == walked, "the visits of the plain walk"),
+        (is_left, "what the walk over a stack leaves"),
+        (visits == walked, "the visits of the walk over a stack"),
         (is_end(first.as_slice(), &kept), "the first zero turn first"),
         (is_end(last.as_slice(), &kept), "the last zero turn first"),
     ];
@@ -198,6 +229,18 @@ fn every_small_list_keeps_its_winding_numbers(rt: HostRuntime) {
     }
 }
 
+/// Both counted cleaners leave as many points of the list as the plain walks, by as many visits.
+fn is_cleaned_as_by_plain_walks(
+    rt: &impl Abort,
+    alloc: Global,
+    simplifier: &mut ContourSimplifier,
+    name: &str,
+    list: &[Pair],
+) {
+    despikes_as_the_ring_walk(rt, alloc, simplifier, name, list);
+    simplifies_as_the_stack_walk(rt, alloc, simplifier, name, list);
+}
+
 #[test]
 fn every_small_list_is_cleaned_as_by_plain_loops(rt: HostRuntime) {
     let alloc = rt.alloc();
@@ -206,10 +249,46 @@ fn every_small_list_is_cleaned_as_by_plain_loops(rt: HostRuntime) {
     for (name, count, codes) in &LISTS {
         for code in 0..*codes {
             let list = list_of(alloc, *count, code).expect(&rt, name);
-            despikes_as_the_ring_walk(&rt, alloc, &mut simplifier, name, list.as_slice());
-            simplifies_as_each_order(&rt, alloc, &mut simplifier, name, list.as_slice());
+            is_cleaned_as_by_plain_walks(&rt, alloc, &mut simplifier, name, list.as_slice());
             lists = lists.wrapping_add(1);
         }
     }
     assert!(rt; lists == 9331);
+}
+
+/// Of how many lists of six points one is cleaned: of eleven, and of one where the variable LONG_TESTS is there.
+fn lists_for_one(rt: &HostRuntime) -> usize
+    ensures { 0 < result }
+{
+    match env::var(rt, "LONG_TESTS") {
+        Ok(_) => 1,
+        Err(_) => 11,
+    }
+}
+
+#[test]
+fn lists_of_six_points_are_cleaned_as_by_plain_loops(rt: HostRuntime) {
+    let alloc = rt.alloc();
+    let mut simplifier = ContourSimplifier::new(alloc);
+    let name = "six points";
+    let lists = lists_for_one(&rt);
+    for code in 0..46656 {
+        if code % lists == 0 {
+            let list = list_of(alloc, 6, code).expect(&rt, name);
+            is_cleaned_as_by_plain_walks(&rt, alloc, &mut simplifier, name, list.as_slice());
+        }
+    }
+}
+
+#[test]
+fn drawn_lists_are_cleaned_as_by_plain_loops(rt: HostRuntime) {
+    let alloc = rt.alloc();
+    let mut simplifier = ContourSimplifier::new(alloc);
+    let mut draws = Draws { seed: 1 };
+    for (name, count) in &DRAWN {
+        for _ in 0..1000 {
+            let list = drawn_list(alloc, &mut draws, *count).expect(&rt, name);
+            is_cleaned_as_by_plain_walks(&rt, alloc, &mut simplifier, name, list.as_slice());
+        }
+    }
 }
