@@ -2,7 +2,7 @@
 # Refuses the growths of memory of the calls in crates/refusals one by one: runs each test with its Nth growth refused, for
 # N = 1, 2, .. up to the first run in which no growth is refused. A test prints 'NAME done' or 'NAME refused' of its call, and
 # nothing where what the call is given was refused; calls that take no memory may share a test. growths.txt there lists how many
-# bytes each growth of a call asks for. A call passes that was refused at just these, and then done in that last run. It's a fault where a run fails,
+# growths a call makes. A call passes that was refused at so many, and then done in that last run. It's a fault where a run fails,
 # or tells that a call was done though a growth was refused; where a test has more growths than the limit; and where a call isn't
 # listed or two tests tell of it. The last line is 'refusals: N passed, M failed'.
 set -u
@@ -43,7 +43,7 @@ keep_told() {
         end='done'
     fi
     if grep -qv " $end\$" "$work/run"; then return 1; fi
-    sed "s/ refused\$/& $(sed -n 's/^growth refused: //p' "$work/errors")/" "$work/run" >> "$work/told"
+    cat "$work/run" >> "$work/told"
 }
 
 # Refuses the growths of the test $1, and answers whether no run has a fault. The last run's number is left in $growth.
@@ -64,27 +64,26 @@ refuse_all() {
     done
 }
 
-# How many bytes the growths of the call $1 asked for, one after the other, at which it was refused; 0 where there was none.
-bytes_refused() {
-    awk -v begin="$1 refused " 'index($0, begin) == 1 { bytes = bytes plus substr($0, length(begin) + 1); plus = "+" } END { print bytes ? bytes : 0 }' \
-        "$work/told"
+# How many runs told $1.
+runs() {
+    grep -cxF -- "$1" "$work/told"
 }
 
 # Compares what is told of each call with the list, counts those that agree, and prints a line for each other.
 compare() {
-    local bytes call
-    while read -r bytes call; do
+    local growths call
+    while read -r growths call; do
         echo "$call" >> "$work/calls"
-        if [ "$(grep -cxF -- "$call done" "$work/told")" != 1 ]; then
+        if [ "$(runs "$call done")" != 1 ]; then
             echo "$call: not done just once"
-        elif [ "$(bytes_refused "$call")" != "$bytes" ]; then
-            echo "$call: refused at growths of $(bytes_refused "$call") bytes, and not of $bytes"
+        elif [ "$(runs "$call refused")" != "$growths" ]; then
+            echo "$call: refused at $(runs "$call refused") growths, and not at $growths"
         else
             passed=$((passed + 1))
         fi
     done < <(grep '^[^#]' "$list")
     sort "$work/calls" | uniq -d | sed 's/$/: listed twice/'
-    sed -E 's/ (done|refused [0-9]+)$//' "$work/told" | sort -u | comm -23 - <(sort -u "$work/calls") | sed 's/$/: not listed/'
+    sed -E 's/ (done|refused)$//' "$work/told" | sort -u | comm -23 - <(sort -u "$work/calls") | sed 's/$/: not listed/'
 }
 
 work=$(mktemp -d) || exit 1
@@ -100,6 +99,6 @@ refuse_all > "$work/faults"
 compare >> "$work/faults"
 cat "$work/faults"
 failed=$(wc -l < "$work/faults")
-echo "growths refused within the calls: $(grep -cE ' refused [0-9]+$' "$work/told")"
+echo "growths refused within the calls: $(grep -c ' refused$' "$work/told")"
 echo "refusals: $passed passed, $failed failed"
 [ "$failed" -eq 0 ]
