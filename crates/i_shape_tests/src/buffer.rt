@@ -627,34 +627,3 @@ fn a_buffer_of_ten_thousand_contours_is_cleaned(rt: HostRuntime) -> Result<(), F
     }
     cleans(&rt, alloc, "ten thousand triangles", given, true, kept)
 }
-
-/// A triangle with a straight point is cleaned, as points of one width.
-fn cleans_at_width<I: IntNumber>(
-    rt: &impl Abort,
-    alloc: Global,
-    name: &str,
-    points: &[IntPoint<I>; 4],
-    kept: &[IntPoint<I>; 3],
-) -> Result<(), Fail> {
-    let buffer = flat(alloc, points, &[0..4])?;
-    cleans(rt, alloc, name, buffer, true, flat(alloc, kept, &[0..3])?)
-}
-
-#[test]
-fn cleaned_in_the_other_widths(rt: HostRuntime) -> Result<(), Fail> {
-    let alloc = rt.alloc();
-    let [a, b, c, d] = [
-        IntPoint::<i16>::new(0, 0),
-        IntPoint::new(1, 0),
-        IntPoint::new(2, 0),
-        IntPoint::new(0, 2),
-    ];
-    cleans_at_width(&rt, alloc, "16 bits", &[a, b, c, d], &[a, c, d])?;
-    let [a, b, c, d] = [
-        IntPoint::<i64>::new(0, 0),
-        IntPoint::new(1, 0),
-        IntPoint::new(2, 0),
-        IntPoint::new(0, 2),
-    ];
-    cleans_at_width(&rt, alloc, "64 bits", &[a, b, c, d], &[a, c, d])
-}

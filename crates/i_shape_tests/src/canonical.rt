@@ -1,4 +1,4 @@
-use crate::given::{SQUARES_16, SQUARES_64, all_hold, hostile_rings, rotated, safe_contour};
+use crate::given::{SQUARES_16, all_hold, hostile_rings, safe_contour};
 use i_shape::IntNumber;
 use i_shape::int::IntPoint;
 use i_shape::int::simple::{ContourSimplifier, SimpleContour};
@@ -46,72 +46,6 @@ const ROWS: [Row; 10] = [
     ),
 ];
 
-const A: [i32; 2] = [0, 0];
-
-const B: [i32; 2] = [4, 0];
-
-const C: [i32; 2] = [4, 4];
-
-const LATE: [i32; 2] = [5, 9];
-
-const EARLY: [i32; 2] = [2, 6];
-
-const NEXT: [i32; 2] = [0, 6];
-
-/// The corners of the widest square of 32 bits.
-const SOUTHWEST: [i32; 2] = [-1073741823, -1073741823];
-
-const SOUTHEAST: [i32; 2] = [1073741823, -1073741823];
-
-const NORTHEAST: [i32; 2] = [1073741823, 1073741823];
-
-const NORTHWEST: [i32; 2] = [-1073741823, 1073741823];
-
-/// A name, a contour, and the canonical form that it has from each start.
-const ROTATED: [Row; 7] = [
-    (
-        "a triangle four times",
-        &[A, B, C, A, B, C, A, B, C, A, B, C],
-        &[A, B, C, A, B, C, A, B, C, A, B, C],
-    ),
-    (
-        "a triangle three times and a later one",
-        &[A, B, C, A, B, C, A, B, C, A, B, LATE],
-        &[A, B, C, A, B, C, A, B, C, A, B, LATE],
-    ),
-    (
-        "a triangle and a later one, twice",
-        &[A, B, C, A, B, LATE, A, B, C, A, B, LATE],
-        &[A, B, C, A, B, LATE, A, B, C, A, B, LATE],
-    ),
-    (
-        "an earlier triangle and one three times",
-        &[A, EARLY, NEXT, A, B, C, A, B, C, A, B, C],
-        &[A, EARLY, NEXT, A, B, C, A, B, C, A, B, C],
-    ),
-    (
-        "an earlier triangle and one, twice",
-        &[A, EARLY, NEXT, A, B, C, A, EARLY, NEXT, A, B, C],
-        &[A, EARLY, NEXT, A, B, C, A, EARLY, NEXT, A, B, C],
-    ),
-    (
-        "a sliver",
-        &[[3, -9], [-2, 7], [-5, 8], [-5, 6]],
-        &[[-5, 6], [3, -9], [-2, 7], [-5, 8]],
-    ),
-    (
-        "the widest square of 32 bits, three times",
-        &[
-            SOUTHWEST, SOUTHEAST, NORTHEAST, NORTHWEST, SOUTHWEST, SOUTHEAST, NORTHEAST, NORTHWEST,
-            SOUTHWEST, SOUTHEAST, NORTHEAST, NORTHWEST,
-        ],
-        &[
-            SOUTHWEST, SOUTHEAST, NORTHEAST, NORTHWEST, SOUTHWEST, SOUTHEAST, NORTHEAST, NORTHWEST,
-            SOUTHWEST, SOUTHEAST, NORTHEAST, NORTHWEST,
-        ],
-    ),
-];
-
 /// Asks both calls for the canonical form of the points.
 macro_rules! has_canonical {
     ($rt:expr, $alloc:expr, $simplifier:expr, $name:expr, $points:expr, $wanted:expr) => {
@@ -155,17 +89,6 @@ fn has_canonical(
     has_canonical!(rt, alloc, simplifier, name, points, wanted);
 }
 
-fn wide_has_canonical(
-    rt: &impl Abort,
-    alloc: Global,
-    simplifier: &mut ContourSimplifier,
-    name: &str,
-    points: &[[i64; 2]],
-    wanted: &[[i64; 2]],
-) {
-    has_canonical!(rt, alloc, simplifier, name, points, wanted);
-}
-
 #[test]
 fn canonical_is_the_least_rotation_of_the_one_end(rt: HostRuntime) {
     let alloc = rt.alloc();
@@ -182,18 +105,6 @@ fn every_start_of_a_hostile_contour_has_one_canonical_form(rt: HostRuntime) {
     for (name, list, ring) in &hostile_rings(&rt, alloc) {
         let (list, ring) = (list.as_slice(), ring.as_slice());
         has_canonical(&rt, alloc, &mut simplifier, name, list, ring);
-    }
-}
-
-#[test]
-fn rotations_have_one_canonical_form(rt: HostRuntime) {
-    let alloc = rt.alloc();
-    let mut simplifier = ContourSimplifier::new(alloc);
-    for (name, list, wanted) in &ROTATED {
-        for start in 0..list.len() {
-            let turned = rotated(alloc, list, start).expect(&rt, name);
-            has_canonical(&rt, alloc, &mut simplifier, name, turned.as_slice(), wanted);
-        }
     }
 }
 
@@ -215,28 +126,6 @@ fn narrow_rotations_have_one_canonical_form(rt: HostRuntime) {
             turned.rotate_left(start);
             let points = turned.as_slice();
             narrow_has_canonical(&rt, rt.alloc(), &mut simplifier, name, points, wanted);
-        }
-    }
-}
-
-#[test]
-fn wide_rotations_have_one_canonical_form(rt: HostRuntime) {
-    let (square, twice) = SQUARES_64[1];
-    let rows: [(&str, &[[i64; 2]], &[[i64; 2]]); 2] = [
-        (square, twice, twice),
-        (
-            "a spike there and back",
-            &[[0, 0], [8, 0], [4, 0], [6, 0], [6, 4], [0, 4]],
-            &[[0, 0], [6, 0], [6, 4], [0, 4]],
-        ),
-    ];
-    let mut simplifier = ContourSimplifier::new(rt.alloc());
-    for (name, points, wanted) in &rows {
-        for start in 0..points.len() {
-            let mut turned = Vec::from_slice(rt.alloc(), points).expect(&rt, name);
-            turned.rotate_left(start);
-            let points = turned.as_slice();
-            wide_has_canonical(&rt, rt.alloc(), &mut simplifier, name, points, wanted);
         }
     }
 }

@@ -125,18 +125,6 @@ fn repeated_points_and_rotations_keep_convexity(rt: HostRuntime) {
     }
 }
 
-#[test]
-fn convex_at_each_width(rt: HostRuntime) {
-    let alloc = rt.alloc();
-    let narrow = safe_contour::<i16>(&rt, alloc, &[[0, 0], [4, 0], [0, 4]]);
-    let broad = safe_contour::<i64>(&rt, alloc, &[[0, 0], [4, 0], [1, 1], [0, 4]]);
-    let answers = [
-        (narrow.as_slice().is_convex(), "a triangle of 16 bits"),
-        (!broad.as_slice().is_convex(), "a dent of 64 bits"),
-    ];
-    all_hold(&rt, "convex", &answers);
-}
-
 /// Contours, and whether they run clockwise.
 const CLOCKWISE: [Row; 5] = [
     ("a square", &[[0, 0], [10, 0], [10, 10], [0, 10]], false),

@@ -1,17 +1,10 @@
-ghost use Rattle.std.specs.Prelude.{◌≡◌, ◌≤◌, length};
-ghost use Rattle.std.specs.List.{All};
-ghost use Rattle.i_shape.specs.IntPoint.{contour_of, IsSafe};
-
 use crate::claims::equal;
-use crate::given::{safe_contour, squares};
+use crate::given::safe_contour;
 use crate::given_shapes::shape;
+use i_shape::FillRule;
 use i_shape::int::IntPoint;
 use i_shape::int::path::ContourExtension;
-use i_shape::int::shape::IntContour;
 use i_shape::int::winding::ShapeExtension;
-use i_shape::{FillRule, IntNumber};
-use std::alloc::Global;
-use std::process::Abort;
 
 /// A square that is wound to the left.
 const SQUARE: [[i32; 2]; 4] = [[0, 0], [8, 0], [8, 8], [0, 8]];
@@ -125,67 +118,4 @@ fn contours_of_a_shape_wind_together(rt: HostRuntime) {
             equal(&rt, filled, rule.fills(turns), name, "is filled");
         }
     }
-}
-
-/// Writes how often the contour winds about each of these points.
-fn wind<I: IntNumber>(contour: &IntContour<I>, about: &IntContour<I>, turns: &mut [isize])
-    requires contour_safe { All (IsSafe I.width) (contour_of I.value contour.now.items) }
-    requires about_safe { All (IsSafe I.width) (contour_of I.value about.now.items) }
-    requires room { length about.now.items ≤ length turns.old }
-    ensures { length turns.new ≡ length turns.old }
-{
-    contour
-        .as_slice()
-        .winding_numbers_into(about.as_slice(), turns);
-}
-
-/// A square that is wound once and one that is wound twice, about the point in their middle and their far corner, and about none.
-fn squares_wind<I: IntNumber>(
-    rt: &impl Abort,
-    alloc: Global,
-    name: &str,
-    [once, twice]: [&[[I; 2]]; 2],
-    [about, none]: [&[[I; 2]]; 2],
-) {
-    let once = safe_contour(rt, alloc, once);
-    let twice = safe_contour(rt, alloc, twice);
-    let about = safe_contour(rt, alloc, about);
-    let none = safe_contour(rt, alloc, none);
-    let mut turns = [7; 3];
-    assert!(rt; about.len() <= turns.len() && none.len() <= turns.len());
-    wind(&once, &about, &mut turns);
-    assert!(rt; turns == [1, 0, 7], "{name}");
-    wind(&twice, &about, &mut turns);
-    assert!(rt; turns == [2, 0, 7], "{name}");
-    wind(&once, &none, &mut turns);
-    assert!(rt; turns == [2, 0, 7], "{name}");
-    wind(&none, &about, &mut turns);
-    assert!(rt; turns == [0, 0, 7], "{name}");
-}
-
-#[test]
-fn many_points_at_the_limits_of_16_bits(rt: HostRuntime) {
-    let far: i16 = 16383;
-    let [once, twice] = squares(rt.alloc(), -far, far).expect(&rt, "memory");
-    let about = [[0, 0], [far, far]];
-    let lists = [once.as_slice(), twice.as_slice()];
-    squares_wind(&rt, rt.alloc(), "16 bits", lists, [&about, &[]]);
-}
-
-#[test]
-fn many_points_at_the_limits_of_32_bits(rt: HostRuntime) {
-    let far: i32 = 1073741823;
-    let [once, twice] = squares(rt.alloc(), -far, far).expect(&rt, "memory");
-    let about = [[0, 0], [far, far]];
-    let lists = [once.as_slice(), twice.as_slice()];
-    squares_wind(&rt, rt.alloc(), "32 bits", lists, [&about, &[]]);
-}
-
-#[test]
-fn many_points_at_the_limits_of_64_bits(rt: HostRuntime) {
-    let far: i64 = 4611686018427387903;
-    let [once, twice] = squares(rt.alloc(), -far, far).expect(&rt, "memory");
-    let about = [[0, 0], [far, far]];
-    let lists = [once.as_slice(), twice.as_slice()];
-    squares_wind(&rt, rt.alloc(), "64 bits", lists, [&about, &[]]);
 }

@@ -1,5 +1,7 @@
 use crate::given::safe_contour;
 use i_shape::IntNumber;
+use i_shape::flat::buffer::{FlatContoursBuffer, FlatShapesBuffer};
+use i_shape::flat::float::{FloatFlatContoursBuffer, FloatFlatShapesBuffer};
 use i_shape::int::IntPoint;
 use i_shape_core::laws;
 
@@ -40,4 +42,17 @@ fn laws_may_be_cited_at_each_width(rt: HostRuntime) {
     laws_hold(middle.as_slice(), middle.as_slice());
     let wide = safe_contour::<i64>(&rt, alloc, &[[0, 0], [4, 0], [4, 4]]);
     laws_hold(wide.as_slice(), wide.as_slice());
+}
+
+#[test]
+fn laws_of_buffers_may_be_cited(rt: HostRuntime) {
+    let alloc = rt.alloc();
+    let contours = FlatContoursBuffer::<i32>::new(alloc);
+    i_shape::laws::contours_buffers_equal(&contours, &contours);
+    let shapes = FlatShapesBuffer::<i32>::new(alloc);
+    i_shape::laws::shapes_buffers_equal(&shapes, &shapes);
+    let contours = FloatFlatContoursBuffer::<[i32; 2]>::new(alloc);
+    i_shape::laws::float_contours_buffers_equal(&contours, &contours);
+    let shapes = FloatFlatShapesBuffer::<[i32; 2]>::new(alloc);
+    i_shape::laws::float_shapes_buffers_equal(&shapes, &shapes);
 }

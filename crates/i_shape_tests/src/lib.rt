@@ -6,15 +6,11 @@ mod area;
 #[cfg(test)]
 mod buffer;
 #[cfg(test)]
-mod buffer_equality;
-#[cfg(test)]
 mod calling;
 #[cfg(test)]
 mod canonical;
 #[cfg(test)]
 mod claims;
-#[cfg(test)]
-mod cleaned_into;
 #[cfg(test)]
 mod cleaners;
 #[cfg(test)]

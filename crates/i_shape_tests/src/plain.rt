@@ -41,30 +41,6 @@ fn is_back(a: Pair, b: Pair, c: Pair) -> bool {
             <= 0
 }
 
-/// How often the list winds about the point, to the left: the edges that pass its height upwards with the point on their left, less
-/// those that do so downwards with the point on their right.
-pub fn winding(list: &[Pair], point: Pair) -> isize {
-    let Some(last) = list.last() else {
-        return 0;
-    };
-    let mut start = *last;
-    let mut turns: isize = 0;
-    for end in list {
-        let v = way(start, *end);
-        let w = way(start, point);
-        let left = v[0].wrapping_mul(w[1]);
-        let right = v[1].wrapping_mul(w[0]);
-        if start[1] <= point[1] && point[1] < end[1] && left > right {
-            turns = turns.wrapping_add(1);
-        }
-        if end[1] <= point[1] && point[1] < start[1] && left < right {
-            turns = turns.wrapping_sub(1);
-        }
-        start = *end;
-    }
-    turns
-}
-
 fn is_zero_at(list: &[Pair], place: usize) -> bool
     requires { place < length list.now }
 {

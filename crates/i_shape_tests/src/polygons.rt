@@ -3,12 +3,9 @@
 use crate::claims::holds;
 use crate::given::contour;
 use crate::given_shapes::{shape, shapes};
-use i_shape::IntNumber;
 use i_shape::flat::buffer::{FlatContoursBuffer, FlatShapesBuffer};
 use i_shape::int::canonical::{CanonicalShape, CanonicalShapes};
 use i_shape::int::simple::SimpleContour;
-use std::alloc::Global;
-use std::process::Abort;
 use std::test::Fail;
 use uses::polygons::PolygonStore;
 use uses::store::Insertion;
@@ -42,112 +39,6 @@ const FLAT: Contour = &[[1, 1], [2, 2], [3, 3]];
 const SPIKED: Contour = &[[0, 0], [2, 0], [4, 0], [2, 0], [2, 2], [0, 2]];
 
 const BLUNT: Contour = &[[0, 0], [2, 0], [2, 2], [0, 2]];
-
-/// The two shapes are told the same by the canonical form exactly where `same` says so, and by the unoriented form where `either` does.
-fn told_same<I: IntNumber>(
-    rt: &impl Abort,
-    alloc: Global,
-    name: &str,
-    left: &[&[[I; 2]]],
-    right: &[&[[I; 2]]],
-    same: bool,
-    either: bool,
-) -> Result<(), Fail> {
-    let left = shape(rt, alloc, left)?;
-    let right = shape(rt, alloc, right)?;
-    let told = left.as_slice().canonical(alloc)? == right.as_slice().canonical(alloc)?;
-    holds(rt, told == same, name, "the same polygon");
-    let told = left.as_slice().canonical_unoriented(alloc)?
-        == right.as_slice().canonical_unoriented(alloc)?;
-    holds(rt, told == either, name, "the same either way round");
-    Ok(())
-}
-
-const PAIRS: [(&str, Shape, Shape, bool, bool); 9] = [
-    (
-        "other starts, a point on an edge, holes in another order, one that collapses",
-        &[OUTER, RIGHT, FLAT, LEFT],
-        &[OUTER_FORM, LEFT_FORM, RIGHT_FORM],
-        true,
-        true,
-    ),
-    (
-        "the outer contour turned round",
-        &[OUTER, LEFT],
-        &[OUTER_BACK, LEFT],
-        false,
-        true,
-    ),
-    (
-        "a hole turned round",
-        &[OUTER, LEFT, RIGHT],
-        &[OUTER, RIGHT, LEFT_BACK],
-        false,
-        true,
-    ),
-    ("a hole less", &[OUTER, LEFT], &[OUTER], false, false),
-    (
-        "a hole twice",
-        &[OUTER, LEFT, LEFT],
-        &[OUTER, LEFT],
-        false,
-        false,
-    ),
-    (
-        "two holes, one of them twice",
-        &[OUTER, LEFT, LEFT, RIGHT],
-        &[OUTER, LEFT, RIGHT, RIGHT],
-        false,
-        false,
-    ),
-    (
-        "a hole for the outer contour",
-        &[LEFT, OUTER],
-        &[OUTER, LEFT],
-        false,
-        false,
-    ),
-    (
-        "no contour and an outer contour that collapses",
-        &[],
-        &[FLAT, LEFT],
-        false,
-        false,
-    ),
-    (
-        "two outer contours that collapse",
-        &[FLAT, LEFT],
-        &[FLAT],
-        true,
-        true,
-    ),
-];
-
-#[test]
-fn polygons_told_same(rt: HostRuntime) -> Result<(), Fail> {
-    let alloc = rt.alloc();
-    for (name, left, right, same, either) in PAIRS {
-        told_same::<i32>(&rt, alloc, name, left, right, same, either)?;
-    }
-    told_same::<i16>(
-        &rt,
-        alloc,
-        "at i16",
-        &[&[[4, 4], [0, 0], [4, 0]]],
-        &[&[[0, 0], [4, 4], [4, 0]]],
-        false,
-        true,
-    )?;
-    told_same::<i64>(
-        &rt,
-        alloc,
-        "at i64",
-        &[&[[4, 4], [0, 0], [4, 0]]],
-        &[&[[0, 0], [4, 0], [4, 4]]],
-        true,
-        true,
-    )
-}
 
 /// A shape without contours.
 const NONE: Shape = &[];

@@ -2,10 +2,8 @@ ghost use Rattle.std.specs.Prelude.{◌<◌};
 
 use crate::buffer::Draws;
 use crate::given::{all_hold, pairs, safe_contour};
-use crate::plain::{Order, Pair, deleted, is_rotation, ring_walk, stack_walk, winding};
-use i_shape::int::IntPoint;
+use crate::plain::{Order, Pair, deleted, is_rotation, ring_walk, stack_walk};
 use i_shape::int::despike::DeSpikeContour;
-use i_shape::int::path::ContourExtension;
 use i_shape::int::simple::ContourSimplifier;
 use std::alloc::{AllocError, Global};
 use std::env;
@@ -22,15 +20,6 @@ const LISTS: [(&str, usize, usize); 6] = [
     ("three points", 3, 216),
     ("four points", 4, 1296),
     ("five points", 5, 7776),
-];
-
-/// Those of at most four points.
-const SHORT_LISTS: [(&str, usize, usize); 5] = [
-    ("no point", 0, 1),
-    ("one point", 1, 6),
-    ("two points", 2, 36),
-    ("three points", 3, 216),
-    ("four points", 4, 1296),
 ];
 
 /// The numbers of points of drawn lists.
@@ -151,82 +140,6 @@ fn despikes_as_the_ring_walk(
         ),
     ];
     all_hold(rt, name, &answers);
-}
-
-/// The list on a grid twice as fine.
-fn doubled(alloc: Global, list: &[Pair]) -> Result<Vec<Pair>, AllocError> {
-    let mut fine = Vec::new(alloc);
-    for [x, y] in list {
-        fine.push([(*x).wrapping_mul(2), (*y).wrapping_mul(2)])?;
-    }
-    Ok(fine)
-}
-
-/// The contour winds about each point of the fine grid as the plain loop counts of the list.
-fn winds_as(rt: &impl Abort, alloc: Global, name: &str, contour: &[IntPoint<i32>], list: &[Pair]) {
-    let left = pairs(alloc, contour).expect(rt, name);
-    let left = safe_contour::<i32>(rt, alloc, left.as_slice());
-    for y in 0..3 {
-        for x in 0..5 {
-            let point = IntPoint::new(x, y);
-            assert!(rt; point.is_in_safe_range());
-            let turns = left.as_slice().winding_number(point);
-            assert!(rt; turns == winding(list, [x, y]), "{name}");
-        }
-    }
-}
-
-/// What the cleaners and the canonical form leave of the list winds about each point of a grid twice as fine as the plain loop counts
-/// of the list itself.
-fn keeps_its_windings(
-    rt: &impl Abort,
-    alloc: Global,
-    simplifier: &mut ContourSimplifier,
-    name: &str,
-    list: &[Pair],
-) {
-    let fine = doubled(alloc, list).expect(rt, name);
-    let fine = fine.as_slice();
-    let points = safe_contour::<i32>(rt, alloc, fine);
-    winds_as(rt, alloc, name, points.as_slice(), fine);
-    let left = simplifier
-        .simplify_contour(points.as_slice())
-        .expect(rt, name);
-    winds_as(
-        rt,
-        alloc,
-        name,
-        left.unwrap_or(Vec::new(alloc)).as_slice(),
-        fine,
-    );
-    let left = points.despiked_contour(alloc).expect(rt, name);
-    winds_as(
-        rt,
-        alloc,
-        name,
-        left.unwrap_or(Vec::new(alloc)).as_slice(),
-        fine,
-    );
-    let form = simplifier.canonical(points.as_slice()).expect(rt, name);
-    winds_as(
-        rt,
-        alloc,
-        name,
-        form.unwrap_or(Vec::new(alloc)).as_slice(),
-        fine,
-    );
-}
-
-#[test]
-fn every_small_list_keeps_its_winding_numbers(rt: HostRuntime) {
-    let alloc = rt.alloc();
-    let mut simplifier = ContourSimplifier::new(alloc);
-    for (name, count, codes) in &SHORT_LISTS {
-        for code in 0..*codes {
-            let list = list_of(alloc, *count, code).expect(&rt, name);
-            keeps_its_windings(&rt, alloc, &mut simplifier, name, list.as_slice());
-        }
-    }
 }
 
 /// Both counted cleaners leave as many points of the list as the plain walks, by as many visits.

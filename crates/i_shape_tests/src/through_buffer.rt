@@ -8,7 +8,7 @@ use std::process::Abort;
 use std::test::Fail;
 
 /// Both cleaners leave `wanted` of `given`, through a buffer as without one.
-pub fn both_leave<I: IntNumber>(
+fn both_leave<I: IntNumber>(
     rt: &impl Abort,
     alloc: Global,
     name: &str,
@@ -31,29 +31,13 @@ pub fn both_leave<I: IntNumber>(
     Ok(())
 }
 
-const MIXED_16: &[&[&[[i16; 2]]]] = &[
+const MIXED: &[&[&[[i32; 2]]]] = &[
     &[],
     &[&[[0, 0], [0, 512], [0, 1]]],
     &[&[[0, 0], [4, 0], [4, 4]]],
 ];
 
-const KEPT_16: &[&[&[[i16; 2]]]] = &[&[], &[&[[0, 0], [4, 0], [4, 4]]]];
-
-const MIXED_32: &[&[&[[i32; 2]]]] = &[
-    &[],
-    &[&[[0, 0], [0, 512], [0, 1]]],
-    &[&[[0, 0], [4, 0], [4, 4]]],
-];
-
-const KEPT_32: &[&[&[[i32; 2]]]] = &[&[], &[&[[0, 0], [4, 0], [4, 4]]]];
-
-const MIXED_64: &[&[&[[i64; 2]]]] = &[
-    &[],
-    &[&[[0, 0], [0, 512], [0, 1]]],
-    &[&[[0, 0], [4, 0], [4, 4]]],
-];
-
-const KEPT_64: &[&[&[[i64; 2]]]] = &[&[], &[&[[0, 0], [4, 0], [4, 4]]]];
+const KEPT: &[&[&[[i32; 2]]]] = &[&[], &[&[[0, 0], [4, 0], [4, 4]]]];
 
 const CLEAN: &[&[&[[i32; 2]]]] = &[
     &[&[[0, 0], [1, 0], [1, 1]]],
@@ -64,8 +48,6 @@ const CLEAN: &[&[&[[i32; 2]]]] = &[
 fn what_both_cleaners_leave_through_a_buffer(rt: HostRuntime) -> Result<(), Fail> {
     let alloc = rt.alloc();
     let name = "an empty shape stays and a flat one goes";
-    both_leave(&rt, alloc, name, MIXED_16, KEPT_16)?;
-    both_leave(&rt, alloc, name, MIXED_32, KEPT_32)?;
-    both_leave(&rt, alloc, name, MIXED_64, KEPT_64)?;
+    both_leave(&rt, alloc, name, MIXED, KEPT)?;
     both_leave(&rt, alloc, "clean shapes come back", CLEAN, CLEAN)
 }

@@ -1,6 +1,6 @@
 use Rattle.std.proofs.Common.{rules, IsTrue}
 use Rattle.i_shape.proofs.CallerLemmas.{points_safe}
-use Rattle.i_shape_tests.proofs.cleaned_into.safe.Goals as goal
+use Rattle.i_shape_tests.proofs.cleaners.safe.Goals as goal
 
 pub returns-clause-points_safe : goal.returns-clause-points_safe
 returns-clause-points_safe g c =
