@@ -78,27 +78,6 @@ pub fn set_shape<I: IntNumber>(
     Ok(buffer.simplify_contours()?)
 }
 
-/// The same of a shape in a vector.
-#[tactic(auto, using(i_shape::proofs::CallerLemmas::contours_held))]
-pub fn set_shape_vector<I: IntNumber>(
-    buffer: &mut FlatContoursBuffer<I>,
-    shape: &IntShape<I>,
-) -> Result<bool, Refusal>
-    ensures range { IsErrOf result Refusal.OutOfRange
-        ↔ (IsSafeShape I.width (shape_of I.value shape.now.items) → ⊥) }
-    ensures untouched { IsErrOf result Refusal.OutOfRange → buffer.new ≡ buffer.old }
-    ensures compact { OnOk result
-        (Compact (shape_of I.value shape.now.items) (contours_in I.value buffer.new)) }
-    ensures flag { IfOk result
-        (λ changed. changed ≡ false ↔ All IsSimple (shape_of I.value shape.now.items)) }
-{
-    if !shape.is_in_safe_range() {
-        return Err(Refusal::OutOfRange);
-    }
-    buffer.set_with_shape(shape.as_slice())?;
-    Ok(buffer.simplify_contours()?)
-}
-
 /// Puts the contours of the shapes into the buffer, and removes zero turns there. Answers whether any had to be cleaned.
 #[tactic(auto, using(i_shape::proofs::CallerLemmas::shapes_held))]
 pub fn set_shapes<I: IntNumber>(

@@ -184,27 +184,3 @@ pub fn area_by_buffer<I: IntNumber>(
     let kept = buffer.to_contours()?;
     Ok(kept.as_slice().area_two())
 }
-
-/// Whether a point is inside a contour, told by what is left of it in a buffer.
-pub fn contains_by_buffer<I: IntNumber>(
-    buffer: &mut FlatContoursBuffer<I>,
-    contour: &[IntPoint<I>],
-    point: IntPoint<I>,
-) -> Result<bool, Refusal>
-    ensures range { IsErrOf result Refusal.OutOfRange
-        ↔ (All (IsSafe I.width) (contour_of I.value contour.now)
-        × IsSafe I.width (point_of I.value point) → ⊥) }
-    ensures inside { IfOk result (λ r. IsTrue r
-        ↔ Inside (contour_of I.value contour.now) (point_of I.value point)) }
-{
-    if !contour.is_in_safe_range() || !point.is_in_safe_range() {
-        return Err(Refusal::OutOfRange);
-    }
-    buffer.set_with_contour(contour)?;
-    buffer.simplify_contours()?;
-    let kept = buffer.to_contours()?;
-    match kept.first() {
-        Some(first) => Ok(first.as_slice().contains_point(point)),
-        None => Ok(false),
-    }
-}

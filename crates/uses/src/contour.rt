@@ -50,17 +50,6 @@ pub fn simplified<I: IntNumber>(
     Ok(contour.simplified(alloc)?)
 }
 
-/// The contour of a vector without zero turns.
-pub fn simplified_vector<I: IntNumber>(
-    alloc: Global,
-    contour: &IntContour<I>,
-) -> Result<Option<IntContour<I>>, Refusal> {
-    if !contour.is_in_safe_range() {
-        return Err(Refusal::OutOfRange);
-    }
-    Ok(contour.as_slice().simplified(alloc)?)
-}
-
 /// The contour of an array without zero turns.
 pub fn simplified_array<I: IntNumber, const N: usize>(
     alloc: Global,

@@ -6,14 +6,14 @@ ghost use Rattle.std.specs.List.{All};
 ghost use Rattle.std.specs.Int.{int_wrap};
 ghost use Rattle.i_shape_core.specs.IntPoint.{point_of, contour_of, IsSafe};
 ghost use Rattle.i_shape_core.specs.Edges.{shoelace};
-ghost use Rattle.i_shape_core.specs.Cleaners.{SimpleAnswer, EachEndCollapses};
+ghost use Rattle.i_shape_core.specs.Cleaners.{SimpleAnswer};
 ghost use Rattle.i_shape_core.specs.Written.{slot};
 
 use crate::refusal::Refusal;
 use i_shape::IntNumber;
 use i_shape::int::despike::ContourDeSpiker;
 use i_shape::int::safe_range::IntSafeRange;
-use i_shape::int::simple::{ContourSimplifier, SimpleContour};
+use i_shape::int::simple::ContourSimplifier;
 use i_shape::int::{ContourPoint, IntPoint};
 use i_shape_core::area::area_of;
 
@@ -39,31 +39,6 @@ pub fn area_into<I: IntNumber>(
     }
     let count = simplifier.simplify_into(contour, out)?;
     Ok(area_of(&out[..count]))
-}
-
-/// Whether something is left of a contour without zero turns, told by a test of what is written.
-pub fn is_left_into<I: IntNumber>(
-    simplifier: &mut ContourSimplifier,
-    contour: &[IntPoint<I>],
-    out: &mut [IntPoint<I>],
-) -> Result<bool, Refusal>
-    ensures range { IsErrOf result Refusal.OutOfRange
-        ↔ (All (IsSafe I.width) (contour_of I.value contour.now) → ⊥) }
-    ensures room { IsErrOf result Refusal.NoRoom
-        ↔ (All (IsSafe I.width) (contour_of I.value contour.now)
-        × (length out.old < length contour.now)) }
-    ensures uncollapsed { IfOk result (λ r. IsTrue r
-        ↔ (EachEndCollapses (contour_of I.value contour.now) → ⊥)) }
-{
-    if !contour.is_in_safe_range() {
-        return Err(Refusal::OutOfRange);
-    }
-    if out.len() < contour.len() {
-        return Err(Refusal::NoRoom);
-    }
-    let count = simplifier.simplify_into(contour, out)?;
-    let left: &[IntPoint<I>] = &out[..count];
-    Ok(left.is_simple())
 }
 
 fn is_safe<P: ContourPoint>(point: &P) -> bool

@@ -5,7 +5,6 @@
 pub mod at_i64;
 pub mod buffer;
 pub mod chain;
-pub mod chain_at_i64;
 pub mod contour;
 pub mod first;
 pub mod into;

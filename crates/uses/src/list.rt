@@ -50,23 +50,6 @@ pub fn simplified<I: IntNumber>(
     Ok(shapes.simplified(alloc)?)
 }
 
-/// The shapes of a vector without zero turns.
-pub fn simplified_vector<I: IntNumber>(
-    alloc: Global,
-    shapes: &IntShapes<I>,
-) -> Result<IntShapes<I>, Refusal>
-    ensures range { IsErrOf result Refusal.OutOfRange
-        ↔ (IsSafeList I.width (shapes_of I.value shapes.now.items) → ⊥) }
-    ensures kept { IfOk result
-        (λ kept. ListKept SimpleAnswer (shapes_of I.value shapes.now.items)
-        (shapes_of I.value kept.items)) }
-{
-    if !shapes.is_in_safe_range() {
-        return Err(Refusal::OutOfRange);
-    }
-    Ok(shapes.as_slice().simplified(alloc)?)
-}
-
 /// The shapes without spikes.
 pub fn despiked<I: IntNumber>(alloc: Global, shapes: &IntShapes<I>) -> Result<IntShapes<I>, Refusal>
     ensures range { IsErrOf result Refusal.OutOfRange

@@ -23,7 +23,7 @@ use i_shape::source::int::buffer::IntBufferResourceIterator;
 use i_shape::source::int::resource::IntShapeResource;
 use i_shape::source::{float, int};
 use i_shape::{IntNumber, ShapeError, int_path, int_shape, int_shapes, path, paths};
-use i_shape_core::{Probe, Triangle, Turn, WideIntNumber, laws};
+use i_shape_core::{Probe, Triangle, Turn, WideIntNumber};
 use std::alloc::Global;
 use std::iter::Copied;
 use std::ops::Range;
@@ -104,18 +104,6 @@ pub fn visits<I: IntNumber>(
     let (_kept, simplified) = simplifier.simplify_counted(contour.as_slice())?;
     let (_kept, despiked) = contour.despiked_counted(alloc)?;
     Ok(Some((simplified, despiked)))
-}
-
-/// The laws, at two contours.
-pub fn told_by_laws<I: IntNumber>(c: &[IntPoint<I>], d: &[IntPoint<I>]) {
-    laws::one_end(c);
-    laws::rotated(c, d);
-    laws::reversed(c);
-    laws::twice(c);
-    laws::agreed(c);
-    laws::area_kept(c, d);
-    laws::inside_kept(c, d);
-    laws::convex_kept(c);
 }
 
 /// Lists of points of any kind as they are written out, in the names for them.

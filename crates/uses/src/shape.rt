@@ -40,17 +40,6 @@ pub fn simplified_vector<I: IntNumber>(
     Ok(shape.as_slice().simplified(alloc)?)
 }
 
-/// The shape of a vector that was tested by its slice, without zero turns.
-pub fn simplified_by_slices<I: IntNumber>(
-    alloc: Global,
-    shape: &IntShape<I>,
-) -> Result<Option<IntShape<I>>, Refusal> {
-    if !shape.as_slice().is_in_safe_range() {
-        return Err(Refusal::OutOfRange);
-    }
-    Ok(shape.as_slice().simplified(alloc)?)
-}
-
 /// The shape without spikes.
 pub fn despiked<I: IntNumber>(
     alloc: Global,
