@@ -142,7 +142,7 @@ fn despikes_as_the_ring_walk(
     all_hold(rt, name, &answers);
 }
 
-/// Both counted cleaners leave as many points of the list as the plain walks, by as many visits.
+/// Both counted cleaners leave of the list what the plain walks leave, by as many visits.
 fn is_cleaned_as_by_plain_walks(
     rt: &impl Abort,
     alloc: Global,
