@@ -17,7 +17,7 @@ type Ranges = &'static [Range<usize>];
 type Points = &'static [IntPoint<i32>];
 
 /// A buffer of these points and ranges.
-pub fn flat<I: IntNumber>(
+fn flat<I: IntNumber>(
     alloc: Global,
     points: &[IntPoint<I>],
     ranges: &[Range<usize>],
@@ -519,7 +519,7 @@ fn simplify<I: IntNumber>(
 }
 
 /// The contours of these points and ranges are cleaned to those, and `answer` tells whether that changed them. They then stay.
-pub fn cleans<I: IntNumber>(
+fn cleans<I: IntNumber>(
     rt: &impl Abort,
     alloc: Global,
     name: &str,

@@ -25,7 +25,7 @@ fn way(a: Pair, b: Pair) -> Pair {
     [b[0].wrapping_sub(a[0]), b[1].wrapping_sub(a[1])]
 }
 
-pub fn is_zero_turn(a: Pair, b: Pair, c: Pair) -> bool {
+fn is_zero_turn(a: Pair, b: Pair, c: Pair) -> bool {
     let v = way(a, b);
     let w = way(b, c);
     v[0].wrapping_mul(w[1]) == v[1].wrapping_mul(w[0])
