@@ -1,8 +1,8 @@
 //! The cleaners by their one trait: whether a contour is clean, what is left of it as a copy, and what is written of it.
 
-ghost use Rattle.std.specs.Prelude.{◌≡◌, ◌≤◌, ◌↔◌, map, length, IsTrue, IfOk};
+ghost use Rattle.std.specs.Prelude.{◌≡◌, ◌≤◌, map, length, IfOk};
 ghost use Rattle.std.specs.List.{All};
-ghost use Rattle.i_shape.specs.IntPoint.{point_of, contour_of, IsSafe};
+ghost use Rattle.i_shape.specs.IntPoint.{contour_of, IsSafe};
 ghost use mathlib.Core.Path.{refl};
 
 use crate::claims::{equal, holds};
@@ -15,6 +15,7 @@ use i_shape::{IntNumber, ShapeError};
 use std::alloc::{AllocError, Global};
 use std::process::Abort;
 use std::test::Fail;
+use uses::into::are_safe;
 
 /// A point with a number of its own.
 #[derive(Clone, Copy, PartialEq, Eq, Debug)]
@@ -36,18 +37,6 @@ impl<I: IntNumber> ContourPoint for Vertex<I> {
     fn to_point(self) -> IntPoint<I> {
         IntPoint::new(self.x, self.y)
     }
-}
-
-fn is_safe<P: ContourPoint>(point: &P) -> bool
-    ensures { IsTrue result ↔ IsSafe P.Coordinate.width (point_of P.Coordinate.value (P.point point.now)) }
-{
-    point.to_point().is_in_safe_range()
-}
-
-fn are_safe<P: ContourPoint>(points: &[P]) -> bool
-    ensures { IsTrue result ↔ All (λ p. IsSafe P.Coordinate.width (point_of P.Coordinate.value (P.point p))) points.now }
-{
-    points.iter().all(|point| is_safe(point))
 }
 
 /// These points. The test stops where one isn't safe.
