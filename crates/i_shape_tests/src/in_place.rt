@@ -1,5 +1,5 @@
 use crate::claims::{equal, holds};
-use crate::given::contour;
+use crate::given::{contour, thousands};
 use i_shape::IntNumber;
 use i_shape::int::despike::DeSpike;
 use i_shape::int::simple::Simplify;
@@ -62,6 +62,11 @@ fn contours_that_collapse_are_left_empty(rt: HostRuntime) -> Result<(), Fail> {
     for (name, points) in COLLAPSED {
         simplifies::<i32>(&rt, alloc, name, points, &[])?;
         despikes::<i32>(&rt, alloc, name, points, true, &[])?;
+    }
+    let name = "a thousand points";
+    for points in &thousands(alloc)? {
+        simplifies::<i32>(&rt, alloc, name, points.as_slice(), &[])?;
+        despikes::<i32>(&rt, alloc, name, points.as_slice(), true, &[])?;
     }
     Ok(())
 }

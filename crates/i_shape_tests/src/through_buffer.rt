@@ -1,4 +1,5 @@
 use crate::claims::holds;
+use crate::given::thousands;
 use crate::given_shapes::shapes;
 use i_shape::IntNumber;
 use i_shape::int::despike::DeSpikeShapes;
@@ -49,5 +50,14 @@ fn what_both_cleaners_leave_through_a_buffer(rt: HostRuntime) -> Result<(), Fail
     let alloc = rt.alloc();
     let name = "an empty shape stays and a flat one goes";
     both_leave(&rt, alloc, name, MIXED, KEPT)?;
-    both_leave(&rt, alloc, "clean shapes come back", CLEAN, CLEAN)
+    both_leave(&rt, alloc, "clean shapes come back", CLEAN, CLEAN)?;
+    let [line, place] = thousands(alloc)?;
+    let name = "a thousand points collapse";
+    both_leave(
+        &rt,
+        alloc,
+        name,
+        &[&[line.as_slice()], &[place.as_slice()]],
+        &[],
+    )
 }
