@@ -231,16 +231,14 @@ def fault_of_gate():
 
 
 def fault_of_edits():
-    """docs/develop/CONTRACTS.md names each edit of must-fail/, beside each crate's name its edits alone, and behind `Mutants:` only edits that some crate has."""
+    """The table of docs/develop/CONTRACTS.md has a row for each edit of must-fail/ and no other, and behind `Mutants:` only edits that some crate has."""
     page = read(f"{TOP}/docs/develop/CONTRACTS.md")
     edits = {kind: {tuple(name.removesuffix(".edit").split("/")[-3::2]) for name in files([f"crates/*/{kind}/*.edit"])} for kind in ("must-fail", "wrong")}
     named = set()
-    for item in re.findall(r"^- (.*(?:\n  (?!Refused by).*)*)\n  Refused by: ", page, re.MULTILINE):
-        listed = " ".join(item.split()).partition(": ")[2]
-        for crate, names in re.findall(r"\b(core|source|shape|tool|uses) (`.*?)(?=; \w+ `|, \w+ `|$)", listed):
-            named |= {({"shape": "i_shape", "uses": "uses"}.get(crate, f"i_shape_{crate}"), name) for name in re.findall(r"`(\w+)`", names)}
+    for names, crate in re.findall(r"^\| (`\w+`(?:, `\w+`)*) \| (core|source|shape|tool)\b", page, re.MULTILINE):
+        named |= {("i_shape" if crate == "shape" else f"i_shape_{crate}", name) for name in re.findall(r"`(\w+)`", names)}
     missing = [f"{crate}'s {name} isn't named" for crate, name in edits["must-fail"] - named]
-    strange = [f"{crate} has no edit {name}" for crate, name in named - edits["must-fail"] - edits["wrong"]]
+    strange = [f"{crate} has no edit {name} in must-fail/" for crate, name in named - edits["must-fail"]]
     of_any_crate = {name for _, name in edits["must-fail"] | edits["wrong"]}
     for item in re.findall(r"^  Mutants: (.*(?:\n  .*)*)", page, re.MULTILINE):
         strange += [f"no crate has an edit {name}" for name in re.findall(r"`(\w+)`", item) if name not in of_any_crate]
