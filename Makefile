@@ -7,25 +7,31 @@ TO = $(DESTDIR)$(PREFIX)
 C_OUT := bindings/c/out$(if $(TARGET)$(CPU),/$(TARGET)$(if $(TARGET),$(if $(CPU),-))$(CPU))
 PROGRAM := crates/i_shape_tool_main/out/$(if $(TARGET)$(CPU),$(TARGET)$(CPU)/i_shape_tool,i_shape_tool_main)
 
-.PHONY: test gate check fmt program c wasm page wheel dist pictures install install-program install-c clean
+.PHONY: test gate help check fmt program c wasm page wheel dist pictures install install-program install-c clean
 
-# The tests of behaviour, without a proof, in minutes. What isn't built is skipped.
+# The tests of behaviour, without a proof, in two minutes. What isn't built is skipped.
 test:
-	@sh .ci/test.sh
+	@python3 .ci/parts.py test
 
 # The whole gate: proves everything, runs all tests, and checks that wrong bodies are refused and refused memory is told. docs/develop/GATE.md says more.
 gate:
-	@sh .ci/gate.sh
+	@python3 .ci/parts.py gate
 
+# These lines.
+help:
+	@awk -F: '/^# / { told = substr($$0, 3); next } told && /^[a-z-]+:/ { printf "make %-15s %s\n", $$1, told } { told = "" }' Makefile
+
+# Checks each crate, over the work that earlier checks kept.
 check:
 	rt all check
 
+# Formats each crate.
 fmt:
 	@for crate in crates/*/; do (cd $$crate && rt fmt) || exit 1; done
 
-# The program, in crates/i_shape_tool_main/out; with TARGET=aarch64 or CPU=x86-64 in the folder of that name below it.
+# Proves and builds the program, in crates/i_shape_tool_main/out; with TARGET=aarch64 or CPU=x86-64 in the folder of that name below it.
 program:
-	@$(if $(TARGET)$(CPU),bash scripts/program/build.sh $(if $(TARGET),--target $(TARGET)) $(if $(CPU),--cpu $(CPU)),printf '' | ./i_shape_tool simplify)
+	@bash scripts/program/build.sh $(if $(TARGET),--target $(TARGET)) $(if $(CPU),--cpu $(CPU))
 
 # The C library, in bindings/c/out; with TARGET=aarch64, TARGET=windows (an experiment) or CPU=x86-64 in the folder of that name below it.
 c:
@@ -51,15 +57,18 @@ dist:
 	@cat dist/SHA256SUMS
 
 # The pictures of docs/pictures, by the program.
-pictures:
+pictures: program
 	@examples/draw/draw_all.sh docs/pictures
 
+# Installs the program and the C library below PREFIX, /usr/local where none is given.
 install: install-program install-c
 
+# Installs the program alone.
 install-program: program
 	install -d "$(TO)/bin"
 	install -m 755 $(PROGRAM) "$(TO)/bin/i_shape_tool"
 
+# Installs the C library alone.
 install-c: c
 	$(if $(filter windows,$(TARGET)),$(error install-c takes no TARGET=windows: bindings/c/out/windows has what make c has built))
 	install -d "$(TO)/include" "$(TO)/lib/pkgconfig" "$(TO)/lib/cmake/i_shape"
@@ -70,5 +79,6 @@ install-c: c
 	chmod 644 "$(TO)/lib/pkgconfig/i_shape.pc"
 	install -m 644 bindings/c/cmake/*.cmake $(C_OUT)/i_shape-config-version.cmake "$(TO)/lib/cmake/i_shape"
 
+# Removes what is built and the kept work of the proofs.
 clean:
 	rm -rf crates/*/out bindings/c/out bindings/js/out bindings/python/out bindings/rust/target examples/page/out dist

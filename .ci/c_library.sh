@@ -3,8 +3,7 @@
 # turn, and with that for other machines; against the shared library; and under the address sanitizer and valgrind, where these are at hand. The tests of
 # i_shape.hpp run by each C++ compiler that is there, and the points that it refuses don't compile. A project of CMake finds the library, where there is a
 # CMake. The names of the archive are those of the header. The programs print what the pages say, and the crate for Rust passes its tests and lints, where there is
-# a cargo for it. With the word --if-built it builds nothing that would be proved: where that isn't built, its runs are skipped. The last line is
-# 'c library: N passed, M failed', and ', K skipped' behind it where K is above 0.
+# a cargo for it. With the word --if-built it builds nothing that would be proved: where that isn't built, it is skipped.
 set -u
 cd "$(dirname "$0")/.." || exit 1
 . .ci/c_tests.sh || exit 1
@@ -17,7 +16,7 @@ test_names() {
     nm -D --defined-only "$library/libi_shape.so" | sed -E 's/^[^ ]* //' | sort | diff - <(sed 's/^/T /' "$work/declared")
     count $? 'the names of the shared library'
     if ! command -v rt > /dev/null; then
-        skip 'the names of the archive' 1 'there is no rt of the Rattle kit'
+        skip 'the names of the archive' 'there is no rt of the Rattle kit'
         return
     fi
     "$(dirname "$(rt doc)")/toolchain/bin/llvm-ar" p "$archive" > "$work/all.o"
@@ -70,7 +69,7 @@ test_refused_points() {
 # The programs of the page and the tests of i_shape.hpp, by the compiler $1 at the level $2.
 test_cpp() {
     if ! command -v "$1" > /dev/null; then
-        skip "i_shape.hpp, $1" 3 "there is no $1"
+        skip "i_shape.hpp, $1" "there is no $1"
         return
     fi
     test_program docs/CPP.md bindings/c/sample.cpp "$1" -std=c++17
@@ -125,7 +124,7 @@ REQUESTS
 test_cmake() {
     local prefix="$work/a prefix"
     if ! cmake --version > /dev/null 2>&1; then
-        skip 'CMake' 21 'there is no cmake'
+        skip 'CMake' 'there is no cmake'
         return
     fi
     make -s install-c PREFIX="$prefix/usr" && ln -s usr/lib "$prefix/lib"
@@ -137,19 +136,10 @@ test_cmake() {
     test_versions
 }
 
-# How many tests the crate for Rust has by its sources: those that stand alone, three of each name that is tested at each width, and those of its example, rustdoc,
-# clippy and rustfmt.
-count_rust_tests() {
-    local sources=(bindings/rust/tests/*.rs bindings/rust/tests/*/*.rs) alone at_widths
-    alone=$(cat "${sources[@]}" | grep -c '^#\[test\]')
-    at_widths=$(sed -n '/^at_each_width!(/{:more;/);/!{N;b more};p}' "${sources[@]}" | grep -oE '[a-z_]+' | grep -vc '^at_each_width$')
-    echo $((alone + 3 * at_widths + 4))
-}
-
 # Runs cargo's command $1 on the crate for Rust, by the words from $2 on, if there is that command.
 lint_rust() {
     if ! cargo "$1" --help > /dev/null 2>&1; then
-        skip "cargo $1 of the crate for Rust" 1 "there is no cargo $1"
+        skip "cargo $1 of the crate for Rust" "there is no cargo $1"
         return
     fi
     cargo "$1" --manifest-path bindings/rust/Cargo.toml "${@:2}" > "$work/cargo" 2>&1
@@ -162,7 +152,7 @@ lint_rust() {
 test_rust() {
     local its=(--offline --locked --quiet --target-dir "$work/target" --manifest-path bindings/rust/Cargo.toml)
     if ! [[ $(cargo --version 2> /dev/null) =~ ^cargo\ 1\.([0-9]+) ]] || [ "${BASH_REMATCH[1]}" -lt 85 ]; then
-        skip 'the crate for Rust' "$(count_rust_tests)" 'there is no cargo from 1.85 on'
+        skip 'the crate for Rust' 'there is no cargo from 1.85 on'
         return
     fi
     cargo test "${its[@]}" > "$work/cargo" 2>&1
@@ -178,17 +168,9 @@ test_rust() {
 }
 
 if [ "${1-}" = --if-built ] && ! bash bindings/c/build.sh --is-built; then
-    echo 'the C library and the crate for Rust are not tested: `make c` builds them'
-    echo "c library: 0 passed, 0 failed, $((58 + $(count_rust_tests))) skipped"
-    exit 0
+    skip_part 'c library' '`make c` builds it'
 fi
-work=$(mktemp -d) || exit 1
-trap 'rm -rf "$work"' EXIT
-if ! bash bindings/c/build.sh > "$work/log" 2>&1; then
-    cat "$work/log"
-    echo 'c library: 0 passed, 1 failed'
-    exit 1
-fi
+bash bindings/c/build.sh > "$work/log" 2>&1 || fail_part 'c library'
 c=("${CC:-cc}" -std=c11 bindings/c/test.c)
 cpp=("${CXX:-c++}" -std=c++17 -x c++ bindings/c/test.c -x none)
 corners=$'0 0\n4 0\n4 4\n0 4'
@@ -216,12 +198,12 @@ if { echo 'int main(void) { return 0; }' | "${CC:-cc}" -x c "${sanitizers[@]}" -
     test_as 'address sanitizer, each growth refused' "${c[@]}" "${sanitizers[@]}" -DOWN_ALLOCATOR "$library/libi_shape.a"
     test_as 'address sanitizer, i_shape.hpp' "${CXX:-c++}" -std=c++17 "${sanitizers[@]}" bindings/c/test.cpp "$library/libi_shape.a"
 else
-    skip 'address sanitizer' 3 'the compiler has none that runs here'
+    skip 'address sanitizer' 'the compiler has none that runs here'
 fi
 if command -v valgrind > /dev/null; then
     runner=(valgrind -q --error-exitcode=9 --leak-check=full)
     test_as 'valgrind' "${c[@]}" -DOWN_ALLOCATOR "$library/libi_shape.a"
 else
-    skip 'valgrind' 1 'there is no valgrind'
+    skip 'valgrind' 'there is no valgrind'
 fi
 tell_counts 'c library'

@@ -2,14 +2,12 @@
 # Packs what a release holds, by scripts/dist.sh, and tries each archive as someone who has nothing else of the project: unpacked into an empty folder, with
 # no rt on the path. Packed again in another time zone, and as another user, where a namespace can be made for that, each has the same bytes. The libraries
 # ask for no symbol of a glibc above 2.17. What needs a tool that isn't there is skipped. With the word --if-built it builds nothing that would be proved, and
-# skips what holds that. The last line is 'dist: N passed, M failed', and ', K skipped' behind it where K is above 0.
+# skips what holds that.
 set -u
 cd "$(dirname "$0")/.." || exit 1
 . .ci/c_tests.sh || exit 1
 top=$PWD
-work=$(mktemp -d) || exit 1
 empty="$work/an empty folder"
-trap 'rm -rf "$work"' EXIT
 only_built=${1-}
 python=${PYTHON:-/usr/bin/python3}
 version=$(sed -n 's/^version = "\(.*\)"$/\1/p' bindings/rust/Cargo.toml)
@@ -43,14 +41,12 @@ has_modules() {
     bash bindings/js/build.sh --is-built || { [ "$only_built" != --if-built ] && command -v rt > /dev/null; }
 }
 
-# The tests of the part $1 follow, which are $2, if it can be packed; else they are skipped for the reason $3.
+# The tests of the part $1 follow, if what is asked by the words from $3 on holds; else they are skipped for the reason $2.
 plan() {
-    local part=$1 runs=$2 reason=$3
-    shift 3
-    if "$@"; then
-        parts+=("$part")
+    if "${@:3}"; then
+        parts+=("$1")
     else
-        skip "$part" "$runs" "$reason"
+        skip "$1" "$2"
     fi
 }
 
@@ -103,13 +99,6 @@ is_of_manylinux() {
     needs_glibc "$1" 17
 }
 
-# The test of that refuses a library that asks for what came with glibc 2.34.
-test_new_symbol() {
-    echo 'void *dlopen(const char *, int); void *opened(void) { return dlopen(0, 1); }' | "${CC:-cc}" -x c -shared -fPIC - -o "$work/new.so" &&
-        ! is_of_manylinux "$work/new.so" > "$work/log" && grep -q '^dlopen' "$work/log"
-    count $? 'a symbol that is too new'
-}
-
 # Each function that the header declares was proved, and so was the whole, for the machine $1.
 is_proved() {
     "${CC:-cc}" -E include/i_shape.h | grep -oE '\bi_shape_[a-z0-9_]+ ?\(' | tr -d ' (' | sort > "$work/declared"
@@ -149,7 +138,7 @@ test_page() {
         found=$((found + 1))
         for tool in cmake pkg-config; do
             [[ $command == *"$tool "* ]] && ! "$tool" --version > /dev/null 2>&1 || continue
-            skip "linux-x86_64: $command" 1 "there is no $tool"
+            skip "linux-x86_64: $command" "there is no $tool"
             continue 2
         done
         bash -c "$command" > "$work/log" 2>&1 < /dev/null && [ "$(tail -n 4 "$work/log")" = "$corners" ] || { cat "$work/log" && false; }
@@ -162,16 +151,15 @@ test_page() {
 test_x86_64() {
     local program
     test_linux x86_64
-    test_new_symbol
     test_page
     if qemu-x86_64 --version > /dev/null 2>&1; then
         runner=(qemu-x86_64 -cpu core2duo)
         prints_corners 'linux-x86_64: a processor before x86-64-v2' "${CC:-cc}" -std=c11 -Iinclude sample/sample.c lib/libi_shape.a
     else
-        skip 'linux-x86_64: a processor before x86-64-v2' 1 'there is no qemu-x86_64'
+        skip 'linux-x86_64: a processor before x86-64-v2' 'there is no qemu-x86_64'
     fi
     if ! cmake --version > /dev/null 2>&1; then
-        skip 'linux-x86_64: CMake' 6 'there is no cmake'
+        skip 'linux-x86_64: CMake' 'there is no cmake'
         return
     fi
     for program in {i_shape,static,shared}_in_{c,cpp}; do
@@ -185,7 +173,7 @@ test_aarch64() {
     test_linux aarch64
     for tool in aarch64-linux-gnu-gcc qemu-aarch64; do
         command -v "$tool" > /dev/null && continue
-        skip 'linux-aarch64: C' 2 "there is no $tool"
+        skip 'linux-aarch64: C' "there is no $tool"
         return
     done
     runner=(qemu-aarch64 -L /usr/aarch64-linux-gnu -E LD_LIBRARY_PATH=lib)
@@ -207,7 +195,7 @@ FILES
     grep -q "^logic=proved .* target=$1-unknown-linux-gnu " PROOF
     count $? "program-$1: what the kit said of the proof"
     if [ ${#runner[@]} -gt 0 ] && ! command -v "${runner[0]}" > /dev/null; then
-        skip "program-$1: its answer" 1 "there is no ${runner[0]}"
+        skip "program-$1: its answer" "there is no ${runner[0]}"
         return
     fi
     [ "$(printf '0 0 2 0 4 0 4 4 0 4\n' | "${runner[@]}" bin/i_shape_tool simplify)" = '0 0 4 0 4 4 0 4' ]
@@ -281,7 +269,7 @@ FILES
         diff <(npm pack --dry-run --offline --json 2> /dev/null | grep -oP '"path": "\K[^"]+' | sort) <(find . -type f | sed 's|^\./||' | sort)
         count $? 'javascript: the files that npm packs'
     else
-        skip 'javascript: the files that npm packs' 1 'there is no npm'
+        skip 'javascript: the files that npm packs' 'there is no npm'
     fi
     if node --input-type=module -e 'import.meta.resolve("node:fs")' 2> /dev/null; then
         sed -n '/^```js$/,/^```$/{/^```/!p}' README.md > ../sample.mjs
@@ -292,11 +280,11 @@ FILES
         node --input-type=module -e "$open_page" "$top/bindings/js/test/support/chromium.js"
         case $? in
         0) count 0 'javascript: what its page shows in a browser' ;;
-        3) skip 'javascript: what its page shows in a browser' 1 'there is no chromium' ;;
+        3) skip 'javascript: what its page shows in a browser' 'there is no chromium' ;;
         *) count 1 'javascript: what its page shows in a browser' ;;
         esac
     else
-        skip 'javascript: what its page shows' 2 'there is no Node from 20.6 on'
+        skip 'javascript: what its page shows' 'there is no Node from 20.6 on'
     fi
 }
 
@@ -308,10 +296,10 @@ test_rust() {
         src/int/{area,canonical,cleaned,count,despike,number,path,point,safe_range,shape,simple,winding}.rs src/source/int/resource.rs \
         tests/calls/{contours,errors,flat,main,original_examples,own_points,shapes,shared}.rs tests/refused_memory.rs)
     if ! is_packed linux-x86_64; then
-        skip 'rust: its tests' 2 'the library is not built for it'
+        skip 'rust: its tests' 'the library is not built for it'
         return
     elif ! cargo --version > /dev/null 2>&1; then
-        skip 'rust: its tests' 2 'there is no cargo'
+        skip 'rust: its tests' 'there is no cargo'
         return
     fi
     local library=$work/library
@@ -326,19 +314,19 @@ test_rust() {
 }
 
 parts=()
-plan linux-x86_64 16 'the library is not built for it' has_library x86_64
-plan linux-aarch64 6 'the library is not built for it' has_library aarch64
+plan linux-x86_64 'the library is not built for it' has_library x86_64
+plan linux-aarch64 'the library is not built for it' has_library aarch64
 for machine in x86_64 aarch64; do
     if is_packed "linux-$machine"; then
-        plan "wheel-$machine" 4 "$python has no numpy, setuptools, wheel or venv" has_python
+        plan "wheel-$machine" "$python has no numpy, setuptools, wheel or venv" has_python
     else
-        skip "wheel-$machine" 4 'the library is not built for it'
+        skip "wheel-$machine" 'the library is not built for it'
     fi
 done
 for machine in x86_64 aarch64; do
-    plan "program-$machine" 5 'it is not built' has_program "$machine"
+    plan "program-$machine" 'it is not built' has_program "$machine"
 done
-plan javascript 5 'the modules are not built' has_modules
+plan javascript 'the modules are not built' has_modules
 parts+=(rust)
 bash scripts/dist.sh "$work/dist" "${parts[@]}" > "$work/log" 2>&1
 status=$?

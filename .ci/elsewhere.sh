@@ -3,23 +3,21 @@
 # program, as C++17, and with each growth refused; for x86-64 before x86-64-v2 under qemu; linked statically with musl; and under the thread sanitizer.
 # For Windows the library's tests run under wine, and it answers random contours as the one for Linux does. The program for aarch64 answers a thousand texts by
 # the bytes of the one for x86-64. Builds by two compilers, and for two processors, answer random calls the same. What needs a tool that isn't there is
-# skipped. With the word --if-built it builds nothing that would be proved, and skips the runs over that. The last line is
-# 'elsewhere: N passed, M failed', and ', K skipped' behind it where K is above 0.
+# skipped. With the word --if-built it builds nothing that would be proved, and skips the runs over that.
 set -u
 cd "$(dirname "$0")/.." || exit 1
 . .ci/c_tests.sh || exit 1
-work=$(mktemp -d) || exit 1
 trap end EXIT
 only_built=${1-}
 tests=bindings/c/test.c
 
-# Whether the library is there for the tests of $1, which are $2, by the words of build.sh from $3 on.
+# Whether the library is there for the tests of $1, by the words of build.sh from $2 on.
 has_library() {
-    local name=$1 runs=$2
-    shift 2
+    local name=$1
+    shift
     if [ "$only_built" = --if-built ]; then
         bash bindings/c/build.sh --is-built "$@" && return
-        skip "$name" "$runs" 'the library is not built for it'
+        skip "$name" 'the library is not built for it'
         return 1
     fi
     bash bindings/c/build.sh "$@" > "$work/log" 2>&1 && return
@@ -34,13 +32,13 @@ end() {
     rm -rf "$work"
 }
 
-# Whether the tools from $3 on are there for the tests of $1, which are $2.
+# Whether the tools from $2 on are there for the tests of $1.
 has_tools() {
-    local name=$1 runs=$2 tool
-    shift 2
+    local name=$1 tool
+    shift
     for tool; do
         command -v "$tool" > /dev/null && continue
-        skip "$name" "$runs" "there is no $tool"
+        skip "$name" "there is no $tool"
         return 1
     done
 }
@@ -56,24 +54,24 @@ test_sample() {
 test_aarch64() {
     local machine=/usr/aarch64-linux-gnu library=bindings/c/out/aarch64 c=(aarch64-linux-gnu-gcc -std=c11)
     if [ ! -e "$machine/lib/libc.so.6" ]; then
-        skip aarch64 6 "there is no C library for it in $machine"
+        skip aarch64 "there is no C library for it in $machine"
         return
     fi
-    has_tools aarch64 6 aarch64-linux-gnu-gcc qemu-aarch64 && has_library aarch64 6 --target aarch64 || return
+    has_tools aarch64 aarch64-linux-gnu-gcc qemu-aarch64 && has_library aarch64 --target aarch64 || return
     runner=(qemu-aarch64 -L "$machine" -E "LD_LIBRARY_PATH=$library")
     test_sample 'aarch64' "$library/libi_shape.a" "${c[@]}"
     test_as 'aarch64' "${c[@]}" "$tests" "$library/libi_shape.a"
     test_as 'aarch64, shared' "${c[@]}" "$tests" "$library/libi_shape.so"
     test_as 'aarch64, static' "${c[@]}" -static "$tests" "$library/libi_shape.a"
     test_as 'aarch64, each growth refused' "${c[@]}" -DOWN_ALLOCATOR "$tests" "$library/libi_shape.a"
-    has_tools 'aarch64, C++17' 1 aarch64-linux-gnu-g++ || return
+    has_tools 'aarch64, C++17' aarch64-linux-gnu-g++ || return
     test_as 'aarch64, C++17' aarch64-linux-gnu-g++ -std=c++17 -x c++ "$tests" -x none "$library/libi_shape.a"
 }
 
 # On a processor that lacks the SSE4.2 of x86-64-v2, so that the default library is no good there.
 test_old_processor() {
     local library=bindings/c/out/x86-64 c=("${CC:-cc}" -std=c11)
-    has_tools x86-64 5 qemu-x86_64 && has_library x86-64 5 --cpu x86-64 || return
+    has_tools x86-64 qemu-x86_64 && has_library x86-64 --cpu x86-64 || return
     runner=(qemu-x86_64 -cpu core2duo -E "LD_LIBRARY_PATH=$library")
     "${c[@]}" -Iinclude -pthread "$tests" bindings/c/out/libi_shape.a -o "$work/tests"
     { "${runner[@]}" "$work/tests"; } > /dev/null 2>&1
@@ -87,7 +85,7 @@ test_old_processor() {
 
 test_musl() {
     local library=bindings/c/out c=(musl-gcc -std=c11 -static)
-    has_tools musl 3 musl-gcc && has_library musl 3 || return
+    has_tools musl musl-gcc && has_library musl || return
     runner=()
     test_sample 'musl' "$library/libi_shape.a" "${c[@]}"
     test_as 'musl' "${c[@]}" "$tests" "$library/libi_shape.a"
@@ -97,9 +95,9 @@ test_musl() {
 # It sees what the tests and the allocator do, and not the library's own accesses, which no compiler has marked for it.
 test_thread_sanitizer() {
     local library=bindings/c/out c=("${CC:-cc}" -std=c11 -fsanitize=thread)
-    has_library 'the thread sanitizer' 1 || return
+    has_library 'the thread sanitizer' || return
     if ! { echo 'int main(void) { return 0; }' | "${c[@]}" -x c -o "$work/probe" - && "$work/probe"; } 2> /dev/null; then
-        skip 'the thread sanitizer' 1 'the compiler has none that runs here'
+        skip 'the thread sanitizer' 'the compiler has none that runs here'
         return
     fi
     runner=()
@@ -109,7 +107,7 @@ test_thread_sanitizer() {
 # The same calls by another compiler, and for another processor, answer the same as the default's.
 test_builds() {
     local program=$work/compare
-    has_library 'two builds' 2 --backend rattle && has_library 'two builds' 2 --cpu x86-64 || return
+    has_library 'two builds' --backend rattle && has_library 'two builds' --cpu x86-64 || return
     "${CXX:-c++}" -std=c++17 -O1 "${warnings[@]}" -Iinclude bindings/c/compare.cpp -o "$program" -ldl
     "$program" 20000 bindings/c/out/libi_shape.so bindings/c/out/rattle/libi_shape.so
     count $? 'the builds by LLVM and by Rattle'
@@ -157,12 +155,12 @@ test_program() {
     local machine=/usr/aarch64-linux-gnu commands=(simplify despike area canonical compact) command
     local native=crates/i_shape_tool_main/out/i_shape_tool_main other=crates/i_shape_tool_main/out/aarch64/i_shape_tool
     if [ ! -e "$machine/lib/libc.so.6" ]; then
-        skip 'the program for aarch64' 8 "there is no C library for it in $machine"
+        skip 'the program for aarch64' "there is no C library for it in $machine"
         return
     fi
-    has_tools 'the program for aarch64' 8 aarch64-linux-gnu-gcc qemu-aarch64 || return
+    has_tools 'the program for aarch64' aarch64-linux-gnu-gcc qemu-aarch64 || return
     if [ "$only_built" = --if-built ] && ! bash scripts/program/build.sh --is-built --target aarch64; then
-        skip 'the program for aarch64' 8 'it is not built'
+        skip 'the program for aarch64' 'it is not built'
         return
     fi
     if ! bash scripts/program/build.sh --target aarch64 > "$work/log" 2>&1; then
@@ -203,7 +201,7 @@ answer_contours() {
 
 test_windows() {
     local library=bindings/c/out/windows gcc=x86_64-w64-mingw32-gcc c=(x86_64-w64-mingw32-gcc -std=c11)
-    has_tools Windows 8 $gcc wine && has_library Windows 8 --target windows || return
+    has_tools Windows $gcc wine && has_library Windows --target windows || return
     export WINEPREFIX=$work/wine
     runner=(by_wine)
     cp "$library/i_shape.dll" "$work"

@@ -3,25 +3,17 @@
 # of C, where there is a C compiler; in a browser, where there is a chromium. The types are checked, where there is a tsc. Of the calls that take no memory
 # the object file is that of the kit's own lowering. What the kit compiles for the tests is skipped where there is no rt. With the word --if-built it builds
 # nothing, and leaves the object file out. Where the modules aren't built then, or there is no Node from 20.6 on, all is skipped: Debian 12's own is older, and
-# one from NodeSource or nodejs.org serves. The last line is 'javascript: N passed, M failed', and ', K skipped' behind it where K is above 0.
+# one from NodeSource or nodejs.org serves.
 set -u
 cd "$(dirname "$0")/.." || exit 1
 . .ci/count.sh || exit 1
 package=bindings/js
 tests=("$package"/test/*.test.js examples/page/test/*.test.js)
-skipped=0
 
-skip_all() {
-    echo "the package for JavaScript is not tested: $1"
-    echo "javascript: 0 passed, 0 failed, $(grep -hoE '\b(test|check)\(' "${tests[@]}" | wc -l) skipped"
-    exit 0
-}
-
-# Counts $2 tests as skipped where there is no rt, and says so.
+# Whether there is an rt for $1, which is skipped where there is none.
 has_kit() {
     command -v rt > /dev/null && return
-    echo "$1: skipped, since there is no rt of the Rattle kit"
-    skipped=$((skipped + $2))
+    skip "$1" 'there is no rt of the Rattle kit'
     return 1
 }
 
@@ -56,38 +48,28 @@ build_answers() {
 
 # The steps that retarget the module stop at what they don't know.
 test_steps() {
-    local counts
-    python3 bindings/module/test_retarget.py wasm > "$work/log" 2>&1
-    counts=$(sed -nE 's/^tests of retarget.py: ([0-9]+) passed, ([0-9]+) failed$/\1 \2/p' "$work/log")
-    [ "${counts#* }" = 0 ] || cat "$work/log"
-    counts=${counts:-0 1}
-    passed=$((passed + ${counts% *}))
-    failed=$((failed + ${counts#* }))
+    python3 bindings/module/test_retarget.py wasm > "$work/told" 2>&1
+    local status=$?
+    sed 's/^tests of retarget.py: //' "$work/told" > "$work/log"
+    add "$status" 'the tests of retarget.py'
 }
 
 test_types() {
     if ! tsc --version > /dev/null 2>&1; then
-        echo 'the types are not tested: there is no tsc'
-        skipped=$((skipped + 1))
+        skip 'the types' 'there is no tsc'
         return
     fi
     tsc --noEmit --strict --target es2022 --lib es2022,dom --module node16 --moduleResolution node16 $package/test/types.ts
     count $? 'the types'
 }
 
-node --version > /dev/null 2>&1 || skip_all 'there is no Node'
-node --input-type=module -e 'import.meta.resolve("node:fs")' 2> /dev/null || skip_all "it needs Node 20.6 or later, and this one is $(node --version)"
+node --version > /dev/null 2>&1 || skip_part javascript 'there is no Node'
+node --input-type=module -e 'import.meta.resolve("node:fs")' 2> /dev/null || skip_part javascript "it needs Node 20.6 or later, and this one is $(node --version)"
 if ! bash $package/build.sh --is-built; then
-    [ "${1-}" != --if-built ] || skip_all '`make wasm` builds the modules'
-    command -v rt > /dev/null || skip_all 'there is no rt of the Rattle kit, which builds the modules'
+    [ "${1-}" != --if-built ] || skip_part javascript '`make wasm` builds the modules'
+    command -v rt > /dev/null || skip_part javascript 'there is no rt of the Rattle kit, which builds the modules'
 fi
-work=$(mktemp -d) || exit 1
-trap 'rm -rf "$work"' EXIT
-if ! bash $package/build.sh > "$work/log" 2>&1; then
-    cat "$work/log"
-    echo 'javascript: 0 passed, 1 failed'
-    exit 1
-fi
+bash $package/build.sh > "$work/log" 2>&1 || fail_part javascript
 # Before version 24 Node has memory of 64 bits only if it is asked for.
 flags=()
 node --experimental-wasm-memory64 -e 0 2> /dev/null && flags=(--experimental-wasm-memory64)
@@ -95,7 +77,7 @@ if command -v "${CC:-cc}" > /dev/null; then
     build_answers && export I_SHAPE_ANSWERS=$work/answers
     count $? 'the programs of the native library'
 fi
-if has_kit 'the tests of C as modules' 2; then
+if has_kit 'the tests of C as modules'; then
     for bits in 64 32; do
         sh $package/test/c/build.sh $bits "$work/c_tests$bits.wasm" && export I_SHAPE_C_TESTS=$work/c_tests
         count $? "the tests of C as a module of $bits bits"
@@ -103,14 +85,9 @@ if has_kit 'the tests of C as modules' 2; then
 fi
 test_by_node
 test_types
-has_kit 'the steps that retarget the module' 1 && test_steps
-if [ "${1-}" != --if-built ] && has_kit "the object file of the kit's own lowering" 1; then
+has_kit 'the steps that retarget the module' && test_steps
+if [ "${1-}" != --if-built ] && has_kit "the object file of the kit's own lowering"; then
     sh $package/wasm/same_object.sh "$PWD"
     count $? "the object file of the kit's own lowering"
 fi
-if [ "$skipped" -eq 0 ]; then
-    echo "javascript: $passed passed, $failed failed"
-else
-    echo "javascript: $passed passed, $failed failed, $skipped skipped"
-fi
-[ "$failed" -eq 0 ]
+tell_counts javascript

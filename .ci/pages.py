@@ -16,7 +16,7 @@ usage: .ci/pages.py [PAGE..]
 - the version: it is that of the header in CHANGELOG.md, in the archive, in the packages for Python and JavaScript and in the crate for Rust.
 
 The sources are proved, compiled and tested by other parts of the gate. A block `console` names what has to be there, as in `console library python`, and is
-skipped where it isn't. The last line is 'pages: N passed, M failed', and ', K skipped' behind it where K is above 0.
+skipped where it isn't.
 """
 import glob
 import json
@@ -27,7 +27,10 @@ import subprocess
 import sys
 import tempfile
 
-TOP = os.path.dirname(os.path.dirname(os.path.abspath(__file__)))
+sys.dont_write_bytecode = True
+import parts  # noqa: E402
+
+TOP = parts.TOP
 PAGES = ["README.md", "CHANGELOG.md", "docs/*.md", "docs/develop/*.md", "examples/*/README.md", "bench/*/README.md"]
 RUST = ["crates/*/src/**/*.rt", "bindings/rust/**/*.rs", "examples/**/*.rs", "bench/**/*.rs"]
 C = ["bindings/c/*.c", "bindings/c/*.cpp", "bindings/c/*.h", "examples/**/*.c", "bench/**/*.c", "include/*.h", "include/*.hpp"]
@@ -38,7 +41,8 @@ PROVED = """rt version && test -d crates/i_shape/out/rlib && test -z "$(find cra
     -newer "$(ls -t crates/i_shape/out/rlib/stamp crates/i_shape_c/out/libi_shape_c.a 2> /dev/null | head -n 1)" -print -quit)\""""
 NEEDED = {
     "proof": PROVED,
-    "program": "./i_shape_tool --is-built",
+    "rt": "rt version",
+    "program": "bash scripts/program/build.sh --is-built",
     "library": "bash bindings/c/build.sh --is-built",
     "wasm": "bash bindings/js/build.sh --is-built",
     "node": "node -e 'process.exit(parseInt(process.versions.node) < 20 ? 1 : 0)'",
@@ -223,10 +227,10 @@ def fault_of_lemmas():
 
 def fault_of_gate():
     """Each part of the gate has an item in docs/develop/GATE.md, and each script of an item is a part."""
-    parts = set(re.findall(r"^part (?:python3 )?(?:\./)?(\S+)", read(f"{TOP}/.ci/gate.sh"), re.MULTILINE))
+    gate = {command.split()[-1] if command.startswith("python3") else command.split()[0] for command in parts.BEFORE_PROOFS + parts.AFTER_PROOFS}
     shown = set(re.findall(r"^- \*\*.*?\*\*, `(\S+?)(?: [^`]*)?`", read(f"{TOP}/docs/develop/GATE.md"), re.MULTILINE))
-    missing = [f"{name} has no item" for name in parts - shown - {"rt", "wrong_bodies"}]
-    missing += [f"{name} is no part" for name in shown - parts if name.endswith(".sh")]
+    missing = [f"{name} has no item" for name in gate - shown]
+    missing += [f"{name} is no part" for name in shown - gate if name.endswith(".sh")]
     return "; ".join(sorted(missing)) or None
 
 
@@ -268,7 +272,7 @@ def tests_of(name):
 
 
 def main():
-    counts = {"passed": 0, "failed": 0, "skipped": 0}
+    counts = []
     pages = [os.path.abspath(name) for name in sys.argv[1:]] or files(PAGES)
     tests = [(os.path.relpath(name, TOP), *test) for name in pages for test in tests_of(name)]
     if not sys.argv[1:]:
@@ -277,13 +281,11 @@ def main():
     for page, place, needed, look in tests:
         missing = [name for name in needed if not is_at_hand(name)]
         fault = MISSING.get(missing[0], f"there is no {missing[0]}") if missing else look()
-        verdict = "skipped" if missing else "failed" if fault else "passed"
-        counts[verdict] += 1
+        counts.append((not fault, bool(fault) and not missing, bool(missing)))
         if fault:
-            print(f"{verdict}: {page}, {place}: {fault}")
-    skipped = f", {counts['skipped']} skipped" if counts["skipped"] else ""
-    print(f"pages: {counts['passed']} passed, {counts['failed']} failed{skipped}")
-    return counts["failed"] > 0
+            print(f"{'skipped' if missing else 'failed'}: {page}, {place}: {fault}")
+    print(f"pages: {parts.sum_line(counts)}")
+    return any(failed for _, failed, _ in counts)
 
 
 if __name__ == "__main__":

@@ -1,20 +1,12 @@
 #!/usr/bin/env bash
 # Draws the pictures of docs/pictures anew and compares them, byte by byte: examples/draw. Beside them, draw.py refuses lines that are no contour, and puts a
-# label into the picture as it is. It takes the program that ./i_shape_tool has built, or that
-# of the word $I_SHAPE_TOOL. Where there is none, they are skipped. The last line is 'pictures: N passed, M failed', and ', K skipped' behind it where K
-# is above 0.
+# label into the picture as it is. It takes the program of `make program`, or that of the word $I_SHAPE_TOOL. Where there is none, it is skipped.
 set -u
 cd "$(dirname "$0")/.." || exit 1
 . .ci/count.sh || exit 1
 
-if ! { [ -n "${I_SHAPE_TOOL-}" ] || ./i_shape_tool --is-built; }; then
-    echo "the pictures are not drawn: the program isn't built by ./i_shape_tool"
-    echo "pictures: 0 passed, 0 failed, 4 skipped"
-    exit 0
-fi
+[ -n "${I_SHAPE_TOOL-}" ] || bash scripts/program/build.sh --is-built || skip_part pictures '`make program` builds the program'
 export I_SHAPE_TOOL=${I_SHAPE_TOOL:-$PWD/crates/i_shape_tool_main/out/i_shape_tool_main}
-work=$(mktemp -d) || exit 1
-trap 'rm -rf "$work"' EXIT
 examples/draw/draw_all.sh "$work" && diff -qr docs/pictures "$work"
 count $? 'the pictures: `make pictures` draws them anew'
 
@@ -29,5 +21,4 @@ count $? 'a line of five words'
 count $? 'an empty line'
 drawn '0 0 4 0 4 4\n' --label 'a < b & c' | grep -q '>a &lt; b &amp; c</text>'
 count $? 'a label'
-echo "pictures: $passed passed, $failed failed"
-[ "$failed" -eq 0 ] && [ "$passed" -gt 0 ]
+tell_counts pictures

@@ -1,7 +1,6 @@
 #!/usr/bin/env bash
 # Tests that a text that `parallel` or `split` has parted gets the very answer of one run, for each command of the program, and what becomes of a
-# fault in a part: docs/SCALING.md. It takes the program that ./i_shape_tool has built, or that of the word $I_SHAPE_TOOL. Where there is none, or no
-# parallel, the tests are skipped. The last line is 'scaling: N passed, M failed', and ', K skipped' behind it where K is above 0.
+# fault in a part: docs/SCALING.md. It takes the program of `make program`, or that of the word $I_SHAPE_TOOL. Where there is none, or no parallel, it is skipped.
 set -u
 cd "$(dirname "$0")/.." || exit 1
 . .ci/count.sh || exit 1
@@ -9,13 +8,8 @@ export LC_ALL=C
 program=${I_SHAPE_TOOL:-crates/i_shape_tool_main/out/i_shape_tool_main}
 commands=(simplify despike area canonical compact)
 
-if ! { [ -n "${I_SHAPE_TOOL-}" ] || ./i_shape_tool --is-built; } || ! parallel --version > /dev/null 2>&1; then
-    echo "parallel is not tested: the program isn't built by ./i_shape_tool, or there is no parallel"
-    echo "scaling: 0 passed, 0 failed, $((${#commands[@]} + 4)) skipped"
-    exit 0
-fi
-work=$(mktemp -d) || exit 1
-trap 'rm -rf "$work"' EXIT
+[ -n "${I_SHAPE_TOOL-}" ] || bash scripts/program/build.sh --is-built || skip_part scaling '`make program` builds the program'
+parallel --version > /dev/null 2>&1 || skip_part scaling 'there is no parallel'
 
 # The program on each part of standard input, as many words of parallel as are given first.
 parted() {
@@ -59,5 +53,4 @@ status=$?
 [ "$status" = 1 ] && grep -q '^part 3:.*line 500: not a contour$' "$work/told" &&
     { sed -n '1,2000p' "$work/one" && sed -n '3001,4000p' "$work/one"; } | cmp - <(sed 's/^part [0-9]*:\t//' "$work/parts")
 count $? 'a fault in a part'
-echo "scaling: $passed passed, $failed failed"
-[ "$failed" -eq 0 ]
+tell_counts scaling

@@ -68,8 +68,6 @@ if [ "${1-}" != --check ]; then
     exit
 fi
 . .ci/count.sh
-work=$(mktemp -d)
-trap 'rm -rf "$work"' EXIT
 make_widths "$work"
 for part in src/calls proofs/calls; do
     same=0
@@ -79,5 +77,4 @@ done
 same=0
 diff "$header" <(made_header) || same=1
 count $same "$header: another width than scripts/widths.sh makes of 32 bits"
-echo "widths: $passed passed, $failed failed"
-[ "$failed" -eq 0 ]
+tell_counts widths

@@ -1,9 +1,10 @@
 #!/usr/bin/env bash
-# Builds the program i_shape_tool for another machine or processor, into a folder of that name below crates/i_shape_tool_main/out. ./i_shape_tool builds the
-# default first, and over its kept proofs the program is proved for the other. That for aarch64 is linked by Debian's compiler, with an allocator and functions of
-# the system in C, since the kit has none for it.
+# Proves and builds the program i_shape_tool, as crates/i_shape_tool_main/out/i_shape_tool_main, where it isn't built or its sources are newer; standard error tells
+# how far that is. Of several runs at once one builds, and the others wait for it. For another machine or processor it is proved again over the kept proofs, and built
+# as i_shape_tool in a folder of that name beside the first. That for aarch64 is linked by Debian's compiler, with an allocator and functions of the system in C,
+# since the kit has none for it.
 #
-# usage: build.sh [--is-built] --target aarch64 | --cpu NAME
+# usage: build.sh [--is-built] [--target aarch64 | --cpu NAME]
 #
 # With --is-built it builds nothing, and its status says whether there is nothing to build.
 set -eu
@@ -11,7 +12,12 @@ here=$(cd "$(dirname "$0")" && pwd)
 top=$(cd "$here/../.." && pwd)
 module=$top/bindings/module
 crate=$top/crates/i_shape_tool_main
+default=$crate/out/i_shape_tool_main
 allocator=$top/bindings/c/allocator.c
+name='make program'
+log=$crate/out/build.log
+# It stands from the start of a build to its good end, so that what a build that was cut short has left is not taken for built.
+started=$crate/out/build.started
 only_asks='' target='' cpu=''
 while [ $# -gt 0 ]; do
     case $1 in
@@ -23,14 +29,37 @@ while [ $# -gt 0 ]; do
     shift
 done
 case $target:$cpu in
-aarch64: | :?*) ;;
-*) echo "make program: TARGET is aarch64, or CPU a processor of x86-64, and not ${target:-neither}${cpu:+ with $cpu}" >&2 && exit 2 ;;
+: | aarch64: | :?*) ;;
+*) echo "make program: TARGET is aarch64, or CPU a processor of x86-64, and not $target${cpu:+ with $cpu}" >&2 && exit 2 ;;
 esac
 out=$crate/out/$target$cpu
 
+is_default_built() {
+    [ -x "$default" ] && [ ! -e "$started" ] &&
+        [ -z "$(find "$top"/crates/i_shape{,_core,_source,_tool,_tool_main} "$top/crates.txt" -path '*/out' -prune -o -type f \
+            \( -name '*.rt' -o -name '*.antt' -o -name crates.txt \) -newer "$default" -print -quit)" ]
+}
+
 is_built() {
-    [ -x "$out/i_shape_tool" ] && "$top/i_shape_tool" --is-built &&
-        [ -z "$(find "$here" "$module" "$allocator" "$crate/out/i_shape_tool_main" -type f -newer "$out/i_shape_tool" -print -quit)" ]
+    is_default_built || return
+    [ -n "$target$cpu" ] || return 0
+    [ -x "$out/i_shape_tool" ] && [ -z "$(find "$here" "$module" "$allocator" "$default" -type f -newer "$out/i_shape_tool" -print -quit)" ]
+}
+
+# Each library after those that it uses: asked for the program alone, rt reads all sources once more. Two jobs are done about as soon as four, for less work.
+build_default() {
+    local jobs=$(($(nproc) > 1 ? 2 : 1)) library
+    has_room 4000
+    touch "$started"
+    : > "$log"
+    echo "$name: proving and building the program with its four libraries: some fifteen minutes" >&2
+    for library in i_shape_core i_shape_source i_shape i_shape_tool; do
+        prove "$library" lib --jobs $jobs
+    done
+    prove i_shape_tool_main run --jobs $jobs -- simplify
+    # sources that were changed meanwhile are newer than the program
+    touch -r "$started" "$default"
+    rm "$started"
 }
 
 # The object file, in the folder $work: rt proves and compiles the crate and hands that to a linker, in whose place is one that links nothing.
@@ -65,7 +94,6 @@ if [ -n "$only_asks" ]; then
     is_built
     exit
 fi
-printf '' | "$top/i_shape_tool" simplify
 if is_built; then
     exit
 fi
@@ -76,6 +104,17 @@ fi
 if [ "$target" = aarch64 ] && ! command -v aarch64-linux-gnu-gcc > /dev/null; then
     echo "make program: TARGET=aarch64 needs Debian's gcc-aarch64-linux-gnu and libc6-dev-arm64-cross" >&2
     exit 1
+fi
+. "$top/scripts/prove.sh"
+mkdir -p "$crate/out"
+exec 9> "$crate/out/build.lock"
+if ! flock -n 9; then
+    echo 'make program: waiting for another run, which builds the program' >&2
+    flock 9
+fi
+is_default_built || build_default
+if is_built; then
+    exit
 fi
 echo "make program: proving and building it for ${target:-$cpu}" >&2
 kit=$(dirname "$(rt doc)")

@@ -1,0 +1,212 @@
+#!/usr/bin/env python3
+"""Runs the parts of the tests or of the gate, and adds up what they count.
+
+usage: .ci/parts.py test|gate|run
+
+test is what `make test` runs, gate what `make gate` runs, and run is both, for .ci/run. docs/develop/GATE.md says what each part shows.
+
+A part is a command. What it counts is its last line `[NAME: ]N passed, M failed[, K skipped]`; one without such a line, or that fails though it counts no
+failure, counts as one failed. Each tells its processor minutes. The last line adds up the counts, and the status is 0 where none failed. Whatever ends this
+script, all processes that it has started end with it, and its folder goes.
+"""
+import ctypes
+import os
+import re
+import shlex
+import shutil
+import signal
+import subprocess
+import sys
+import tempfile
+import threading
+import time
+
+TOP = os.path.dirname(os.path.dirname(os.path.realpath(__file__)))
+COUNTS = re.compile(r"^(?:[a-z. ]+: )?(\d+) passed, (\d+) failed(?:, (\d+) skipped)?$", re.MULTILINE)
+# What rt counts of a crate's tests, and what it says of those that pass.
+TESTED = re.compile(r"^test result: .*\. (\d+) passed; (\d+) failed;()", re.MULTILINE)
+PASSES = re.compile(r"test .* \.\.\. ok$")
+LEFT_OUT = shutil.ignore_patterns(".git", "out", "target", "dist", "environment", "__pycache__")
+# The parts of what may be built, for the tests. They share what is built, and so run one after another.
+OF_WHAT_IS_BUILT = (".ci/c_library.sh --if-built", ".ci/elsewhere.sh --if-built", ".ci/python_package.sh", ".ci/javascript.sh --if-built",
+                    ".ci/dist.sh --if-built", ".ci/scaling.sh", ".ci/pictures.sh", "python3 .ci/pages.py")
+# The parts of the gate, before and after the proofs.
+BEFORE_PROOFS = ("python3 .ci/test_ci.py", "scripts/widths.sh --check")
+AFTER_PROOFS = (".ci/long_tests.sh", ".ci/c_library.sh", ".ci/elsewhere.sh", ".ci/python_package.sh", ".ci/javascript.sh", ".ci/dist.sh", ".ci/refusals.sh",
+                ".ci/scaling.sh", ".ci/pictures.sh", "python3 .ci/pages.py")
+# It proves first what the C library is built from, and tries the wrong bodies over that. Two crates at once leave memory to rt ci.
+WRONG_BODIES = "nice -n 10 sh -c '(cd crates/i_shape_c && rt lib --jobs 2) && exec python3 .ci/wrong.py --lanes 2'"
+
+
+def counts_of(said, status, pattern=COUNTS):
+    """How many tests a part passed, failed and skipped that said this and ended with this status, and what is wrong with its counts, if something is."""
+    *_, last = [None, *pattern.findall(said)]
+    if not last:
+        return (0, 1, 0), "no count was given by"
+    passed, failed, skipped = (int(count or 0) for count in last)
+    if status and not failed:
+        return (passed, 1, skipped), "it counts no failure, but fails"
+    return (passed, failed, skipped), None
+
+
+def sum_line(counts):
+    passed, failed, skipped = (sum(column) for column in zip((0, 0, 0), *counts))
+    return f"{passed} passed, {failed} failed" + (f", {skipped} skipped" if skipped else "")
+
+
+def running_below(top):
+    """The processes that this one has started, and those that these have, but for those that have ended."""
+    listed = subprocess.run(["ps", "-eo", "pid=,ppid=,stat=,comm="], stdout=subprocess.PIPE, text=True, errors="replace", check=False).stdout
+    lines = [line.split(None, 3) for line in listed.splitlines()]
+    below = {top}
+    while more := {int(pid) for pid, parent, *_ in lines if int(parent) in below} - below:
+        below |= more
+    return {int(pid) for pid, _, state, name in lines if int(pid) in below - {top} and state[0] != "Z" and name != "ps"}
+
+
+class Parts:
+    """A run of parts, with what they count and a folder, which rt's programs and tests reach as nobody."""
+
+    def __init__(self):
+        self.counts, self.is_over, self.lock = [], False, threading.RLock()
+        # PR_SET_CHILD_SUBREAPER: what a part leaves behind stays below this process.
+        ctypes.CDLL(None).prctl(36, 1)
+        self.take_signals(lambda *_: sys.exit(130))
+        self.work = tempfile.mkdtemp()
+        os.chmod(self.work, 0o755)
+        os.environ["TMPDIR"] = self.work
+
+    @staticmethod
+    def take_signals(handler):
+        for number in (signal.SIGHUP, signal.SIGINT, signal.SIGTERM):
+            signal.signal(number, handler)
+
+    def start(self, command, folder):
+        with self.lock:
+            if self.is_over:
+                sys.exit()
+            how = {"stdin": subprocess.DEVNULL, "stdout": subprocess.PIPE, "stderr": subprocess.STDOUT, "text": True, "errors": "replace"}
+            return subprocess.Popen(shlex.split(command), cwd=folder, **how)
+
+    def run(self, command, folder, pattern=COUNTS, hidden=None, at_once=True):
+        """Runs a part in a folder. What it says, but for the lines that begin with what is hidden, is told at once or at its end."""
+        lines = []
+
+        def tell(told):
+            for line in told:
+                if not (hidden and hidden.match(line)):
+                    print(line, end="", flush=True)
+
+        def listen(said):
+            for line in said:
+                lines.append(line)
+                tell([line] if at_once else [])
+
+        part = self.start(command, folder)
+        listener = threading.Thread(target=listen, args=[part.stdout], daemon=True)
+        listener.start()
+        _, part.returncode, used = os.wait4(part.pid, 0)
+        # a process that it has left behind may hold its output open
+        listener.join(10)
+        with self.lock:
+            tell([] if at_once else lines)
+            print(f"processor minutes: {(used.ru_utime + used.ru_stime) / 60:.1f} ({command})", flush=True)
+            self.add(command, *counts_of("".join(lines), part.returncode, pattern))
+
+    def add(self, what, counts, fault=None):
+        if fault:
+            print(f"{fault}: {what}", flush=True)
+        self.counts.append(counts)
+
+    def beside(self, function, *words):
+        """Runs a function beside what follows. The thread is returned; what stops the function counts as one failed."""
+        def run():
+            try:
+                function(self, *words)
+            except OSError as error:
+                self.add(function.__name__, (0, 1, 0), f"it stopped, {error}")
+
+        thread = threading.Thread(target=run, daemon=True)
+        thread.start()
+        return thread
+
+    def end(self):
+        """Ends all that was started: by a signal first, so that it can tidy up, and then whatever it does."""
+        self.take_signals(signal.SIG_IGN)
+        with self.lock:
+            self.is_over = True
+        for turn in range(20):
+            running = running_below(os.getpid())
+            if not running:
+                break
+            for pid in running if turn in (0, 10, 15) else []:
+                try:
+                    os.kill(pid, signal.SIGKILL if turn else signal.SIGTERM)
+                except ProcessLookupError:
+                    pass
+            time.sleep(0.1)
+        shutil.rmtree(self.work, ignore_errors=True)
+
+
+def try_tests(parts):
+    """The tests of crates/i_shape_tests, without a proof."""
+    if shutil.which("rt"):
+        parts.run("rt try --test", f"{TOP}/crates/i_shape_tests", TESTED, PASSES, at_once=False)
+    else:
+        parts.add("crates/i_shape_tests: there is no rt of the Rattle kit on the path", (0, 0, 1), "skipped")
+
+
+def run_tests(parts):
+    tried = parts.beside(try_tests)
+    for command in OF_WHAT_IS_BUILT:
+        parts.run(command, TOP)
+    tried.join()
+
+
+def try_wrong_bodies(parts, copy):
+    """The wrong bodies, in a copy of the crates. It stands to the end of the gate: the C library is built from what is proved there."""
+    for name in (".ci", "crates"):
+        shutil.copytree(f"{TOP}/{name}", f"{copy}/{name}", ignore=LEFT_OUT)
+    for name in ("crates.txt", "HANDLES"):
+        shutil.copy(f"{TOP}/{name}", copy)
+    parts.run(WRONG_BODIES, copy, at_once=False)
+
+
+def run_gate(parts):
+    """All in a copy of the checkout, so that what is built in the checkout stays as it is."""
+    checkout = f"{parts.work}/checkout"
+    shutil.copytree(TOP, checkout, symlinks=True, ignore=LEFT_OUT)
+    for command in BEFORE_PROOFS:
+        parts.run(command, checkout)
+    tried = parts.beside(try_wrong_bodies, f"{parts.work}/copy")
+    parts.run("rt ci", checkout)
+    tried.join()
+    for command in AFTER_PROOFS:
+        parts.run(command, checkout)
+
+
+def run_both(parts):
+    """What the tests skip because it isn't built the gate runs."""
+    parts.run("make -s test", TOP)
+    parts.counts = [(passed, failed, 0) for passed, failed, _ in parts.counts]
+    parts.run("make -s gate", TOP)
+
+
+def main():
+    runs = {"test": run_tests, "gate": run_gate, "run": run_both}
+    if sys.argv[1:] not in [[name] for name in runs]:
+        sys.exit("usage: .ci/parts.py test|gate|run")
+    parts = Parts()
+    try:
+        try:
+            runs[sys.argv[1]](parts)
+        except OSError as error:
+            parts.add(sys.argv[1], (0, 1, 0), f"it stopped, {error}")
+        print(sum_line(parts.counts), flush=True)
+        return any(failed for _, failed, _ in parts.counts)
+    finally:
+        parts.end()
+
+
+if __name__ == "__main__":
+    sys.exit(main())

@@ -1,0 +1,272 @@
+#!/usr/bin/env python3
+"""Tests the scripts that test the rest: parts.py, pages.py, wrong.py, and how i_shape_tool and the program's build behave, over stand-ins for rt and small texts.
+
+The last line is 'tests of the scripts: N passed, M failed'.
+"""
+import os
+import shutil
+import signal
+import subprocess
+import sys
+import tempfile
+import time
+import unittest
+import unittest.mock
+
+sys.dont_write_bytecode = True
+sys.path.insert(0, os.path.dirname(os.path.realpath(__file__)))
+import pages  # noqa: E402
+import parts  # noqa: E402
+
+TOP = parts.TOP
+
+
+def write(file, text):
+    os.makedirs(os.path.dirname(file), exist_ok=True)
+    with open(file, "w", encoding="utf-8") as out:
+        out.write(text)
+    os.chmod(file, 0o755)
+
+
+class Case(unittest.TestCase):
+    """A test in a folder of its own, with a folder `bin` before the path, and one for what is temporary."""
+
+    def setUp(self):
+        self.room = tempfile.mkdtemp()
+        self.addCleanup(shutil.rmtree, self.room, ignore_errors=True)
+        os.makedirs(f"{self.room}/tmp")
+        self.environment = {**os.environ, "PATH": f"{self.room}/bin:{os.environ['PATH']}", "TMPDIR": f"{self.room}/tmp", "STAND_IN": self.room}
+
+    def started(self):
+        return pages.read(f"{self.room}/started").split() if os.path.exists(f"{self.room}/started") else []
+
+    def run_in(self, folder, *words, **how):
+        return subprocess.run(words, cwd=folder, env=self.environment, capture_output=True, text=True, check=False, **how)
+
+
+class PartsTest(Case):
+    def test_counts(self):
+        for said, status, counts in (
+            ("a b: 2 passed, 0 failed\n", 0, (2, 0, 0)),
+            ("1 passed, 0 failed\nc: 4 passed, 1 failed, 3 skipped\nmake: it failed\n", 2, (4, 1, 3)),
+            ("2 passed, 0 failed\n", 1, (2, 1, 0)),
+            ("no count\n", 0, (0, 1, 0)),
+        ):
+            self.assertEqual(parts.counts_of(said, status)[0], counts, said)
+        self.assertEqual(parts.counts_of("test result: ok. 7 passed; 0 failed; 0 ignored\n", 0, parts.TESTED), ((7, 0, 0), None))
+        self.assertEqual(parts.sum_line([(1, 0, 0), (2, 0, 0)]), "3 passed, 0 failed")
+        self.assertEqual(parts.sum_line([(1, 0, 0), (2, 1, 4)]), "3 passed, 1 failed, 4 skipped")
+
+    def test_runs(self):
+        """A part beside another, one that fails, one that leaves a process behind, and one that doesn't start."""
+        script = """import parts, sys
+run = parts.Parts()
+beside = run.beside(lambda run: run.run("sh -c 'sleep 0.3; echo shown; echo hidden; echo 1 passed, 0 failed'", "/", hidden=parts.re.compile("hidden"), at_once=False))
+run.run("sh -c 'echo 2 passed, 0 failed; exit 3'", "/")
+run.run("sh -c 'sleep 300 > /dev/null 2>&1 & echo 4 passed, 0 failed'", "/")
+run.beside(lambda run: run.run("no-such-program", "/")).join()
+beside.join()
+print(parts.sum_line(run.counts))
+run.end()
+"""
+        ran = self.run_in(f"{TOP}/.ci", sys.executable, "-B", "-c", script, timeout=20)
+        self.assertEqual(ran.stdout.splitlines()[-1], "7 passed, 2 failed")
+        self.assertIn("shown\n1 passed", ran.stdout)
+        self.assertNotIn("\nhidden", ran.stdout)
+        self.assertEqual(os.listdir(f"{self.room}/tmp"), [])
+
+    def test_stops(self):
+        """Ctrl-C ends the gate while rt ci and the wrong bodies run, and nothing is left of it."""
+        checkout = f"{self.room}/checkout"
+        for name in (".ci/test_ci.py", "scripts/widths.sh"):
+            write(f"{checkout}/{name}", "#!/bin/sh\necho '1 passed, 0 failed'\n")
+        write(f"{checkout}/.ci/test_ci.py", "print('1 passed, 0 failed')\n")
+        shutil.copy(f"{TOP}/.ci/parts.py", f"{checkout}/.ci")
+        for name in ("crates/i_shape_c/src/lib.rt", "crates.txt", "HANDLES"):
+            write(f"{checkout}/{name}", "")
+        write(f"{self.room}/bin/rt", '#!/bin/sh\necho started >> "$STAND_IN/started"\nwhile :; do sleep 300; done\n')
+        gate = subprocess.Popen([sys.executable, f"{checkout}/.ci/parts.py", "gate"], env=self.environment, start_new_session=True,
+                                stdout=subprocess.DEVNULL, stderr=subprocess.DEVNULL)
+        self.addCleanup(lambda: subprocess.run(["pkill", "-9", "-s", str(gate.pid)], check=False))
+        for _ in range(300):
+            if len(self.started()) == 2:
+                break
+            time.sleep(0.1)
+        self.assertEqual(len(self.started()), 2)
+        os.killpg(gate.pid, signal.SIGINT)
+        self.assertEqual(gate.wait(5), 130)
+        self.assertEqual(subprocess.run(["ps", "-o", "pid=", "-s", str(gate.pid)], capture_output=True, check=False).stdout, b"")
+        self.assertEqual(os.listdir(f"{self.room}/tmp"), [])
+
+
+class ToolTest(Case):
+    PROGRAM = "crates/i_shape_tool_main/out/i_shape_tool_main"
+    # It answers by rt try as it is told to, and builds one at a time.
+    RT = """#!/bin/sh
+echo "$1" >> "$STAND_IN/started"
+case $1 in
+try) cat > "$STAND_IN/given"; cat "$STAND_IN/answer"; cat "$STAND_IN/told" >&2; exit "$(cat "$STAND_IN/status")" ;;
+run) printf '#!/bin/sh\\necho built\\n' > out/i_shape_tool_main && chmod +x out/i_shape_tool_main ;;
+esac
+mkdir "$STAND_IN/one" && sleep 0.1 && rmdir "$STAND_IN/one"
+"""
+
+    def setUp(self):
+        super().setUp()
+        self.top = f"{self.room}/top"
+        for crate in ("", "_core", "_source", "_tool", "_tool_main"):
+            write(f"{self.top}/crates/i_shape{crate}/src/lib.rt", "")
+        write(f"{self.top}/crates.txt", "")
+        shutil.copy(f"{TOP}/i_shape_tool", self.top)
+        shutil.copytree(f"{TOP}/scripts", f"{self.top}/scripts")
+        write(f"{self.room}/bin/rt", self.RT)
+
+    def tool(self, text="", answer="", told="run=ended status=0 runners=1 proved=no\n", status=0):
+        for name, what in (("answer", answer), ("told", told), ("status", str(status))):
+            write(f"{self.room}/{name}", what)
+        ran = self.run_in("/", f"{self.top}/i_shape_tool", "area", input=text)
+        return ran.returncode, ran.stdout, ran.stderr
+
+    def test_tried(self):
+        status, answer, told = self.tool("1 2 3\n", "some\n", "line 1: not a contour\nchecked: ended status=1\nrun=ended status=1 runners=1 proved=no\n", 1)
+        self.assertEqual((status, answer, pages.read(f"{self.room}/given")), (1, "some\n", "1 2 3\n"))
+        self.assertRegex(told, r"\Ai_shape_tool: not built from these sources; .*`make program` proves and builds it\nline 1: not a contour\n\Z")
+        line = told.splitlines(True)[0]
+        self.assertEqual(self.tool(told="error\nrun=none proved=no\n", status=2), (4, "", f"{line}error\nrun=none proved=no\n"))
+        before = self.started()
+        self.assertEqual(self.tool("\n" * 174763), (4, "", line))
+        self.assertEqual(self.started(), before)
+        self.assertEqual(self.tool("\n" * 174762)[0], 0)
+        self.assertEqual(os.listdir(f"{self.room}/tmp"), [])
+
+    def test_built(self):
+        """Of two builds at once one builds. The program of these sources runs then, and one of older sources doesn't."""
+        builds = [subprocess.Popen(["bash", f"{self.top}/scripts/program/build.sh"], env=self.environment, stderr=subprocess.DEVNULL) for _ in range(2)]
+        self.assertEqual([build.wait(60) for build in builds], [0, 0])
+        self.assertEqual(self.started(), ["lib"] * 4 + ["run"])
+        self.assertEqual(self.tool(), (0, "built\n", ""))
+        os.utime(f"{self.top}/crates/i_shape_core/src/lib.rt", (time.time() + 5,) * 2)
+        self.assertEqual(self.tool(answer="tried\n")[:2], (0, "tried\n"))
+
+
+SAMPLE = pages.read(f"{TOP}/crates/uses/src/corners.rt")
+SAMPLE = SAMPLE[SAMPLE.index("use "):]
+CLAUSE = "    ensures memory { IsOkUnless result ShapeError.OutOfMemory }\n"
+RIGHT = f"""# One: two
+```rust
+{SAMPLE}```
+```text
+{CLAUSE.replace("result ", "result" + chr(10) + "    ")}```
+```c
+uint32_t i_shape_version(void);
+```
+```console
+$ mkdir ../mine && cd ../mine
+$ basename "$PWD"
+mine
+```
+[a](#one-two) [b](README.md#limits) [c](https://example.org)
+"""
+FAULTS = (
+    "```rust\n" + SAMPLE.replace("(2, 0)", "(3, 0)") + "```\n",
+    "```rust\n" + SAMPLE.replace("/// How many", "/// Just how many") + "```\n",
+    f"```rust\nuse std::fmt::Write;\n{SAMPLE}```\n",
+    "```text\n" + CLAUSE.replace("memory", "room") + "```\n",
+    "```cpp\nint nothing(void) {\n```\n",
+    "```js\nconsole.log(1);\n```\n",
+    "```console\n$ printf 'one\\ntwo\\n'\none\n```\n",
+    "```console\n$ echo one\none\n$ false\n```\n",
+    "[a](README.md#no-limits)\n",
+    "[a](nothing.md)\n",
+    ">>>>>>> other\n",
+)
+
+
+class PagesTest(Case):
+    def run_pages(self, text):
+        shutil.copy(f"{TOP}/README.md", self.room)
+        write(f"{self.room}/page.md", text)
+        ran = self.run_in(TOP, sys.executable, f"{TOP}/.ci/pages.py", f"{self.room}/page.md")
+        return ran.returncode, ran.stdout.splitlines()[-1]
+
+    def test_pages(self):
+        self.assertEqual(self.run_pages(RIGHT), (0, "pages: 5 passed, 0 failed"))
+        for text in FAULTS:
+            status, last = self.run_pages(text)
+            self.assertEqual((status, last.split(", ")[1]), (1, "1 failed"), text)
+
+    def test_lists(self):
+        """What a page leaves out of a list, or has too much in it."""
+        for name, old, new, look in (
+            ("rust/Cargo.toml", 'version = "', 'version = "9', pages.fault_of_version),
+            ("CONTRACTS.md", "`no_step_back`", "`no_step_back`, `nothing`", pages.fault_of_edits),
+            ("GATE.md", "`.ci/pictures.sh`", "`nothing`", pages.fault_of_gate),
+            ("GATE.md", "`.ci/pictures.sh`", "`.ci/pictures.sh`: both.\n- **more**, `.ci/nothing.sh`", pages.fault_of_gate),
+            ("ARCHITECTURE.md", "`CrossProducts`", "", pages.fault_of_lemmas),
+        ):
+            read = pages.read
+            with unittest.mock.patch.object(pages, "read", lambda path, name=name, old=old, new=new: read(path).replace(old, new) if path.endswith(name) else read(path)):
+                self.assertNotEqual(look(), None, f"{name}: {old}")
+
+
+DOUBLES = """#![tactic(auto)]
+
+ghost use Rattle.std.specs.Prelude.{◌≡◌, ◌+◌, ◌<◌};
+
+/// Twice the number.
+pub fn doubled(number: u32) -> u32
+    requires { number < 1000 }
+    ensures { result ≡ number + number }
+{
+    number + number
+}
+
+/// Four times the number.
+pub fn quadrupled(number: u32) -> u32
+    requires { number < 500 }
+    ensures { result ≡ (number + number) + (number + number) }
+{
+    doubled(doubled(number))
+}
+"""
+# Wrong bodies of these: a name, the function, an old and a new text, and what is said of each.
+EDITS = (
+    ("forgets_half", "doubled", "    number + number", "    number", "refused at doubled"),
+    ("turns_nothing", "doubled", "    number + number", "    number.wrapping_add(number)", "NOT REFUSED at doubled"),
+    ("turns_the_callee", "quadrupled", "    number + number", "    number", "NOT REFUSED at quadrupled, but at doubled"),
+    ("text_is_not_there", "doubled", "number * 2", "number * 3", "BAD EDIT: its old text stands in src/lib.rt 0 times"),
+    ("does_not_parse", "doubled", "    number + number", "    (number + number", "BAD EDIT: it did not reach the prover"),
+)
+
+
+@unittest.skipUnless(shutil.which("rt"), "there is no rt")
+class WrongTest(Case):
+    def run_wrong(self, *words):
+        self.environment["XDG_CACHE_HOME"] = f"{self.room}/cache"
+        ran = self.run_in(self.room, sys.executable, f"{self.room}/.ci/wrong.py", *words)
+        return ran.returncode, ran.stdout
+
+    def test_wrong(self):
+        write(f"{self.room}/crates.txt", "doubles:\n")
+        write(f"{self.room}/crates/doubles/src/lib.rt", DOUBLES)
+        write(f"{self.room}/.ci/wrong.py", pages.read(f"{TOP}/.ci/wrong.py"))
+        for name, function, old, new, _ in EDITS:
+            write(f"{self.room}/crates/doubles/wrong/{name}.edit", f"file: src/lib.rt\nrefused: {function}\nold: {old}\nnew: {new}\n")
+        status, said = self.run_wrong()
+        for name, *_, what in EDITS:
+            self.assertIn(f"wrong doubles/{name}: {what}", said)
+        self.assertEqual((status, said.splitlines()[-1]), (1, "wrong bodies: 1 passed, 4 failed"))
+        # What passed is noted, and tried again where something changes that it was judged by.
+        note = "wrong doubles/forgets_half: refused at doubled by an earlier run"
+        self.assertIn(note, self.run_wrong("--only", "forgets_half")[1])
+        write(f"{self.room}/crates/doubles/src/lib.rt", f"{DOUBLES}// changed\n")
+        status, said = self.run_wrong("--only", "forgets_half")
+        self.assertNotIn(note, said)
+        self.assertEqual((status, said.splitlines()[-1]), (0, "wrong bodies: 1 passed, 0 failed"))
+
+
+if __name__ == "__main__":
+    result = unittest.TextTestRunner(stream=sys.stdout).run(unittest.defaultTestLoader.loadTestsFromModule(sys.modules["__main__"]))
+    failed = len(result.failures) + len(result.errors)
+    print(f"tests of the scripts: {parts.sum_line([(result.testsRun - failed - len(result.skipped), failed, len(result.skipped))])}")
+    sys.exit(bool(failed))
