@@ -49,7 +49,7 @@ fail_part() {
 # Adds up what a run of tests counts. A run that counts nothing, or fails though it counts no failure, is one failure.
 add() {
     local its_passed its_failed its_skipped
-    read -r its_passed its_failed its_skipped <<< "$(sed -nE 's/^([0-9]+) passed, ([0-9]+) failed(, ([0-9]+) skipped)?$/\1 \2 \4/p' "$work/log" | tail -n 1)"
+    read -r its_passed its_failed its_skipped <<< "$(sed -nE 's/^([a-z. ]+: )?([0-9]+) passed, ([0-9]+) failed(, ([0-9]+) skipped)?$/\2 \3 \5/p' "$work/log" | tail -n 1)"
     if [ -z "$its_passed" ] || { [ "$1" != 0 ] && [ "$its_failed" = 0 ]; }; then
         echo "$2: it ended with status $1"
         tail -n 5 "$work/log"

@@ -209,10 +209,8 @@ test_windows() {
     test_as 'Windows' "${c[@]}" -static "$tests" "$library/libi_shape.a"
     test_as 'Windows, DLL' "${c[@]}" -static "$tests" "$library/libi_shape.dll.a"
     test_as 'Windows, each growth refused' "${c[@]}" -static -DOWN_ALLOCATOR "$tests" "$library/libi_shape.a"
-    python3 bindings/module/test_retarget.py windows > "$work/told" 2>&1
-    local status=$?
-    sed 's/^tests of retarget.py: //' "$work/told" > "$work/log"
-    add "$status" 'the tests of retarget.py'
+    python3 bindings/module/test_retarget.py windows > "$work/log" 2>&1
+    add $? 'the tests of retarget.py'
     [ "$(x86_64-w64-mingw32-objdump -p "$library/i_shape.dll" | sed -n 's/^\s*DLL Name: //p' | sort | tr '\n' ' ')" = 'KERNEL32.dll msvcrt.dll ' ]
     count $? 'Windows: what the DLL asks for'
     awk 'BEGIN {

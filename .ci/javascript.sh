@@ -17,24 +17,17 @@ has_kit() {
     return 1
 }
 
-# Node counts what it has run.
+# Node counts what it has run. A group of tests that is skipped counts as one.
 test_by_node() {
-    local status counts
-    timeout 1200 node "${flags[@]}" --test --test-reporter=tap "${tests[@]}" > "$work/log" 2>&1
-    status=$?
-    counts=$(sed -nE 's/^# (pass|fail|cancelled) ([0-9]+)$/\2/p' "$work/log" | tr '\n' ' ')
-    if ! [[ $counts =~ ^([0-9]+)\ ([0-9]+)\ ([0-9]+)\ $ ]]; then
-        tail -n 20 "$work/log"
-        count 1 "the tests by Node ended with status $status"
-        return
-    fi
-    local failures=$((BASH_REMATCH[2] + BASH_REMATCH[3]))
-    passed=$((passed + BASH_REMATCH[1]))
-    # a group of tests that is skipped counts as one
-    skipped=$((skipped + $(grep -cE '^ *ok .* # SKIP ' "$work/log")))
-    failed=$((failed + (failures == 0 && status != 0 ? 1 : failures)))
-    [ "$status" = 0 ] || grep -A 25 '^ *not ok ' "$work/log" | head -n 200
-    sed -nE 's/^ *ok [0-9]+ - .* # SKIP (.*)$/skipped: \1/p' "$work/log" | sort | uniq -c
+    timeout 1200 node "${flags[@]}" --test --test-reporter=tap "${tests[@]}" > "$work/told" 2>&1
+    local status=$?
+    [ "$status" = 0 ] || grep -A 25 '^ *not ok ' "$work/told" | head -n 200
+    sed -nE 's/^ *ok [0-9]+ - .* # SKIP (.*)$/skipped: \1/p' "$work/told" | sort | uniq -c
+    awk '/^# (pass|fail|cancelled) [0-9]+$/ { counts[$2] = $3; lines++ }
+        /^ *ok .* # SKIP / { skipped++ }
+        END { if (lines == 3) print counts["pass"] " passed, " counts["fail"] + counts["cancelled"] " failed, " skipped + 0 " skipped" }' "$work/told" > "$work/log"
+    [ -s "$work/log" ] || tail -n 20 "$work/told"
+    add "$status" 'the tests by Node'
 }
 
 # The programs that answer as the native library does, at each width.
@@ -48,10 +41,8 @@ build_answers() {
 
 # The steps that retarget the module stop at what they don't know.
 test_steps() {
-    python3 bindings/module/test_retarget.py wasm > "$work/told" 2>&1
-    local status=$?
-    sed 's/^tests of retarget.py: //' "$work/told" > "$work/log"
-    add "$status" 'the tests of retarget.py'
+    python3 bindings/module/test_retarget.py wasm > "$work/log" 2>&1
+    add $? 'the tests of retarget.py'
 }
 
 test_types() {

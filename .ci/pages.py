@@ -22,7 +22,6 @@ import glob
 import json
 import os
 import re
-import signal
 import subprocess
 import sys
 import tempfile
@@ -170,14 +169,12 @@ def fault_of_console(text):
             os.symlink(os.path.join(TOP, name), os.path.join(folder, name))
         for command, wanted in re.findall(r"^\$ (.*)\n((?:(?!\$ ).*\n)*)", text, re.MULTILINE):
             words = ["bash", "-c", f'{command}\nstatus=$?; pwd > "$0"; exit $status', os.path.join(work, "gone_to")]
-            run = subprocess.Popen(words, cwd=folder, stdout=subprocess.PIPE, stderr=subprocess.PIPE, text=True, start_new_session=True)
             try:
-                printed, told = run.communicate(timeout=LONGEST)
+                ran = subprocess.run(words, cwd=folder, capture_output=True, text=True, timeout=LONGEST, check=False)
             except subprocess.TimeoutExpired:
-                os.killpg(run.pid, signal.SIGTERM)
                 return f"`{command}` took more than {LONGEST} seconds"
-            if run.returncode or (wanted and printed != wanted):
-                return f"`{command}` ended with status {run.returncode} and printed {printed + told!r}"
+            if ran.returncode or (wanted and ran.stdout != wanted):
+                return f"`{command}` ended with status {ran.returncode} and printed {ran.stdout + ran.stderr!r}"
             folder = read(os.path.join(work, "gone_to")).rstrip("\n")
     return None
 

@@ -98,9 +98,13 @@ class Parts:
                     print(line, end="", flush=True)
 
         def listen(said):
-            for line in said:
-                lines.append(line)
-                tell([line] if at_once else [])
+            try:
+                for line in said:
+                    lines.append(line)
+                    tell([line] if at_once else [])
+            except OSError:
+                # whom it is told to has gone
+                os.kill(os.getpid(), signal.SIGTERM)
 
         part = self.start(command, folder)
         listener = threading.Thread(target=listen, args=[part.stdout], daemon=True)
@@ -196,6 +200,7 @@ def main():
     runs = {"test": run_tests, "gate": run_gate, "run": run_both}
     if sys.argv[1:] not in [[name] for name in runs]:
         sys.exit("usage: .ci/parts.py test|gate|run")
+    sys.stdout.reconfigure(errors="replace")
     parts = Parts()
     try:
         try:
