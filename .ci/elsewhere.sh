@@ -230,6 +230,7 @@ test_windows() {
     count $? 'Windows: the answers to random contours'
 }
 
+[ "$only_built" != --if-built ] || bash bindings/c/build.sh --is-built || skip_part elsewhere '`make c` builds the library'
 test_aarch64
 test_program
 test_old_processor

@@ -16,8 +16,9 @@ usage: .ci/pages.py [PAGE..]
 - the version: it is that of the header in CHANGELOG.md, in the archive, in the packages for Python and JavaScript and in the crate for Rust.
 
 The sources are proved, compiled and tested by other parts of the gate. A block `console` names what has to be there, as in `console library python`, and is
-skipped where it isn't.
+skipped where it isn't; what is skipped for one reason counts as one.
 """
+import functools
 import glob
 import json
 import os
@@ -148,6 +149,7 @@ def fault_of_javascript(text):
     return None if any(read(name) == text for name in files(JAVASCRIPT)) else "no file of JavaScript is this text"
 
 
+@functools.lru_cache
 def is_at_hand(needed):
     """Whether what a block needs is there."""
     return subprocess.run(["sh", "-c", NEEDED[needed]], cwd=TOP, capture_output=True, check=False).returncode == 0
@@ -262,27 +264,33 @@ def tests_of(name):
     for language, line, text in blocks(page):
         kind, *needed = (language or "none").split()
         if kind in FAULTS:
-            yield f"line {line} ({kind})", needed, lambda kind=kind, text=text: FAULTS[kind](text)
+            yield f"line {line}", needed, lambda kind=kind, text=text: FAULTS[kind](text)
     yield "links", [], lambda: fault_of_links(name, page)
     for line in re.findall(r"^(?:<{7}|>{7}) .*", page, re.MULTILINE):
         yield "merge", [], lambda line=line: f"{line} is left"
 
 
 def main():
-    counts = []
     pages = [os.path.abspath(name) for name in sys.argv[1:]] or files(PAGES)
     tests = [(os.path.relpath(name, TOP), *test) for name in pages for test in tests_of(name)]
     if not sys.argv[1:]:
         tests += [("CHANGELOG.md", "the version", [], fault_of_version), ("docs/develop/ARCHITECTURE.md", "lemma files", [], fault_of_lemmas),
                   ("docs/develop/CONTRACTS.md", "edits", [], fault_of_edits), ("docs/develop/GATE.md", "parts", [], fault_of_gate)]
+    passed, failed, skipped = 0, 0, {}
     for page, place, needed, look in tests:
-        missing = [name for name in needed if not is_at_hand(name)]
-        fault = MISSING.get(missing[0], f"there is no {missing[0]}") if missing else look()
-        counts.append((not fault, bool(fault) and not missing, bool(missing)))
-        if fault:
-            print(f"{'skipped' if missing else 'failed'}: {page}, {place}: {fault}")
-    print(f"pages: {parts.sum_line(counts)}")
-    return any(failed for _, failed, _ in counts)
+        missing = next((name for name in needed if not is_at_hand(name)), None)
+        fault = None if missing else look()
+        if missing:
+            skipped.setdefault(missing, []).append(f"{page}, {place}")
+        elif fault:
+            failed += 1
+            print(f"failed: {page}, {place}: {fault}")
+        else:
+            passed += 1
+    for name, places in skipped.items():
+        print(f"skipped: {MISSING.get(name, f'there is no {name}')}: {'; '.join(places)}")
+    print(f"pages: {parts.sum_line([(passed, failed, len(skipped))])}")
+    return failed > 0
 
 
 if __name__ == "__main__":

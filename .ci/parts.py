@@ -27,9 +27,10 @@ COUNTS = re.compile(r"^(?:[a-z. ]+: )?(\d+) passed, (\d+) failed(?:, (\d+) skipp
 TESTED = re.compile(r"^test result: .*\. (\d+) passed; (\d+) failed;()", re.MULTILINE)
 PASSES = re.compile(r"test .* \.\.\. ok$")
 LEFT_OUT = shutil.ignore_patterns(".git", "out", "target", "dist", "environment", "__pycache__")
-# The parts of what may be built, for the tests. They share what is built, and so run one after another.
+# The parts of what may be built, for the tests. They share what is built, and so run one after another. A page runs the program by rt try where it is not built,
+# which is done before the tests are, if it leaves the processors to these.
 OF_WHAT_IS_BUILT = (".ci/c_library.sh --if-built", ".ci/elsewhere.sh --if-built", ".ci/python_package.sh", ".ci/javascript.sh --if-built",
-                    ".ci/dist.sh --if-built", ".ci/scaling.sh", ".ci/pictures.sh", "python3 .ci/pages.py")
+                    ".ci/dist.sh --if-built", ".ci/scaling.sh", ".ci/pictures.sh", "nice -n 5 python3 .ci/pages.py")
 # The parts of the gate, before and after the proofs.
 BEFORE_PROOFS = ("python3 .ci/test_ci.py", "scripts/widths.sh --check")
 AFTER_PROOFS = (".ci/long_tests.sh", ".ci/c_library.sh", ".ci/elsewhere.sh", ".ci/python_package.sh", ".ci/javascript.sh", ".ci/dist.sh", ".ci/refusals.sh",
