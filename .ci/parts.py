@@ -9,6 +9,7 @@ A part is a command. What it counts is its last line `[NAME: ]N passed, M failed
 failure, counts as one failed. Each tells its processor minutes. The last line adds up the counts, and the status is 0 where none failed. Whatever ends this
 script, all processes that it has started end with it, and its folder goes.
 """
+import contextlib
 import ctypes
 import os
 import re
@@ -57,12 +58,16 @@ def sum_line(counts):
 
 def running_below(top):
     """The processes that this one has started, and those that these have, but for those that have ended."""
-    listed = subprocess.run(["ps", "-eo", "pid=,ppid=,stat=,comm="], stdout=subprocess.PIPE, text=True, errors="replace", check=False).stdout
-    lines = [line.split(None, 3) for line in listed.splitlines()]
+    parents = {}
+    for name in filter(str.isdigit, os.listdir("/proc")):
+        with contextlib.suppress(OSError), open(f"/proc/{name}/stat", encoding="utf-8", errors="replace") as stat:
+            state, parent = stat.read().rpartition(")")[2].split()[:2]
+            if state != "Z":
+                parents[int(name)] = int(parent)
     below = {top}
-    while more := {int(pid) for pid, parent, *_ in lines if int(parent) in below} - below:
+    while more := {pid for pid, parent in parents.items() if parent in below} - below:
         below |= more
-    return {int(pid) for pid, _, state, name in lines if int(pid) in below - {top} and state[0] != "Z" and name != "ps"}
+    return below - {top}
 
 
 class Parts:
@@ -141,14 +146,13 @@ class Parts:
         with self.lock:
             self.is_over = True
         for turn in range(20):
-            running = running_below(os.getpid())
+            # twice, since a process changes its parent while it is looked for where that one ends
+            running = running_below(os.getpid()) or running_below(os.getpid())
             if not running:
                 break
             for pid in running if turn in (0, 10, 15) else []:
-                try:
+                with contextlib.suppress(ProcessLookupError):
                     os.kill(pid, signal.SIGKILL if turn else signal.SIGTERM)
-                except ProcessLookupError:
-                    pass
             time.sleep(0.1)
         shutil.rmtree(self.work, ignore_errors=True)
 

@@ -74,6 +74,11 @@ run.end()
         self.assertNotIn("\nhidden", ran.stdout)
         self.assertEqual(os.listdir(f"{self.room}/tmp"), [])
 
+    @staticmethod
+    def in_session(leader):
+        listed = subprocess.run(["ps", "-o", "pid=,stat=", "-s", str(leader)], stdout=subprocess.PIPE, text=True, check=False).stdout
+        return [int(pid) for pid, state in map(str.split, listed.splitlines()) if state[0] != "Z"]
+
     def test_stops(self):
         """Ctrl-C ends the gate while rt ci and the wrong bodies run, and nothing is left of it."""
         checkout = f"{self.room}/checkout"
@@ -86,7 +91,7 @@ run.end()
         write(f"{self.room}/bin/rt", '#!/bin/sh\necho started >> "$STAND_IN/started"\nwhile :; do sleep 300; done\n')
         gate = subprocess.Popen([sys.executable, f"{checkout}/.ci/parts.py", "gate"], env=self.environment, start_new_session=True,
                                 stdout=subprocess.DEVNULL, stderr=subprocess.DEVNULL)
-        self.addCleanup(lambda: subprocess.run(["pkill", "-9", "-s", str(gate.pid)], check=False))
+        self.addCleanup(lambda: [os.kill(pid, signal.SIGKILL) for pid in self.in_session(gate.pid)])
         for _ in range(300):
             if len(self.started()) == 2:
                 break
@@ -94,7 +99,7 @@ run.end()
         self.assertEqual(len(self.started()), 2)
         os.killpg(gate.pid, signal.SIGINT)
         self.assertEqual(gate.wait(5), 130)
-        self.assertEqual(subprocess.run(["ps", "-o", "pid=", "-s", str(gate.pid)], capture_output=True, check=False).stdout, b"")
+        self.assertEqual(self.in_session(gate.pid), [])
         self.assertEqual(os.listdir(f"{self.room}/tmp"), [])
 
 
