@@ -112,7 +112,11 @@ class Parts:
                 # whom it is told to has gone
                 os.kill(os.getpid(), signal.SIGTERM)
 
-        part = self.start(command, folder)
+        try:
+            part = self.start(command, folder)
+        except OSError as error:
+            self.add(command, (0, 1, 0), f"it doesn't start, {error}")
+            return
         listener = threading.Thread(target=listen, args=[part.stdout], daemon=True)
         listener.start()
         _, part.returncode, used = os.wait4(part.pid, 0)
