@@ -21,20 +21,12 @@ has_python() {
     "$python" -c 'import numpy.typing, setuptools, wheel, venv, ensurepip' > /dev/null 2>&1
 }
 
-# Whether the library for the machine $1, and the default one that it is built over, are there, or can be built.
-has_library() {
+# Whether what the script $1 builds for the machine $2, and the default that it is built over, are there, or can be built.
+has() {
     local words=(--cpu x86-64)
-    [ "$1" = x86_64 ] || words=(--target aarch64)
-    if bash bindings/c/build.sh --is-built && bash bindings/c/build.sh --is-built "${words[@]}"; then return; fi
-    [ "$only_built" != --if-built ] && command -v rt > /dev/null && { [ "$1" = x86_64 ] || command -v aarch64-linux-gnu-gcc > /dev/null; }
-}
-
-# Whether the program for the machine $1, and the default one that it is built over, are there, or can be built.
-has_program() {
-    local words=(--cpu x86-64)
-    [ "$1" = x86_64 ] || words=(--target aarch64)
-    bash scripts/program/build.sh --is-built "${words[@]}" && return
-    [ "$only_built" != --if-built ] && command -v rt > /dev/null && { [ "$1" = x86_64 ] || command -v aarch64-linux-gnu-gcc > /dev/null; }
+    [ "$2" = x86_64 ] || words=(--target aarch64)
+    if bash "$1" --is-built && bash "$1" --is-built "${words[@]}"; then return; fi
+    [ "$only_built" != --if-built ] && command -v rt > /dev/null && { [ "$2" = x86_64 ] || command -v aarch64-linux-gnu-gcc > /dev/null; }
 }
 
 has_modules() {
@@ -314,8 +306,8 @@ test_rust() {
 }
 
 parts=()
-plan linux-x86_64 'the library is not built for it' has_library x86_64
-plan linux-aarch64 'the library is not built for it' has_library aarch64
+plan linux-x86_64 'the library is not built for it' has bindings/c/build.sh x86_64
+plan linux-aarch64 'the library is not built for it' has bindings/c/build.sh aarch64
 for machine in x86_64 aarch64; do
     if is_packed "linux-$machine"; then
         plan "wheel-$machine" "$python has no numpy, setuptools, wheel or venv" has_python
@@ -324,7 +316,7 @@ for machine in x86_64 aarch64; do
     fi
 done
 for machine in x86_64 aarch64; do
-    plan "program-$machine" 'it is not built' has_program "$machine"
+    plan "program-$machine" 'it is not built' has scripts/program/build.sh "$machine"
 done
 plan javascript 'the modules are not built' has_modules
 parts+=(rust)
