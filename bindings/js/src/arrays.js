@@ -9,11 +9,23 @@ const KINDS = {
     BigInt64Array: { Points: BigInt64Array, bits: 64, limit: 2n ** 62n },
 };
 
+const TYPED_ARRAY = Object.getPrototypeOf(Int8Array.prototype);
+
+/** Answers how many items a typed array has, whatever properties of its own it has. */
+export function lengthOf(array) {
+    return Reflect.get(TYPED_ARRAY, "length", array);
+}
+
+/** Answers how many bytes these take. */
+export function byteLengthOf(array) {
+    return Reflect.get(TYPED_ARRAY, "byteLength", array);
+}
+
 /** Answers the type of an array of points x0, y0, x1, y1, .. */
 export function kindOf(points) {
-    const kind = ArrayBuffer.isView(points) ? KINDS[points[Symbol.toStringTag]] : undefined;
+    const kind = ArrayBuffer.isView(points) ? KINDS[Reflect.get(TYPED_ARRAY, Symbol.toStringTag, points)] : undefined;
     if (!kind) throw new TypeError("points are no Int16Array, Int32Array or BigInt64Array");
-    if (points.length % 2 !== 0) throw new RangeError(`points have ${points.length} coordinates: an x without a y`);
+    if (lengthOf(points) % 2 !== 0) throw new RangeError(`points have ${lengthOf(points)} coordinates: an x without a y`);
     return kind;
 }
 

@@ -2,7 +2,7 @@
  * Contours of whole-number points, cleaned and measured by the proved calls of i_shape, compiled to WebAssembly.
  * i_shape.d.ts says what each call takes, answers and throws.
  */
-import { asOffsets, checkCoordinate, isInSafeRange, kindOf } from "./arrays.js";
+import { asOffsets, byteLengthOf, checkCoordinate, isInSafeRange, kindOf, lengthOf } from "./arrays.js";
 import { IShapeError, OffsetsError, OutOfMemoryError, UnsafePointError } from "./errors.js";
 import { borrow } from "./memory.js";
 
@@ -32,7 +32,7 @@ export async function load(source) {
 
 /** How many points an array has, as the library takes it. */
 function countOf(points) {
-    return BigInt(points.length / 2);
+    return BigInt(lengthOf(points) / 2);
 }
 
 /** The place of the first unsafe point among those from `first` to before `end`; undefined where there is none. */
@@ -45,7 +45,7 @@ function firstUnsafe(points, kind, first, end) {
 
 /** The error for a point of a contour, or of a ring, that isn't safe. */
 function unsafePoint(points, kind, offsets) {
-    const place = firstUnsafe(points, kind, offsets?.[0] ?? 0, offsets?.at(-1) ?? points.length / 2);
+    const place = firstUnsafe(points, kind, offsets?.[0] ?? 0, offsets?.at(-1) ?? lengthOf(points) / 2);
     const ring = place === undefined ? undefined : offsets?.findLastIndex((offset) => offset <= place);
     const where = `${ring === undefined ? "" : `ring ${ring}: `}point ${place}`;
     return new UnsafePointError(`${where} is (${points[2 * place]}, ${points[2 * place + 1]}), ${outside(kind)}`, place, ring);
@@ -149,7 +149,7 @@ class IShape {
         if (kindOf(about) !== kind) throw new TypeError("the points asked about are of another type");
         const from = asOffsets(offsets);
         return borrow(this.#exports, (loan) => {
-            const count = about.length / 2;
+            const count = lengthOf(about) / 2;
             const out = loan.take(8 * count);
             const answer = this.#call("windings", kind)(
                 loan.copy(points, kind), countOf(points), loan.copyWide(from), BigInt(from.length),
@@ -230,7 +230,7 @@ class IShape {
     #clean(name, contour) {
         const kind = kindOf(contour);
         return borrow(this.#exports, (loan) => {
-            const out = loan.take(contour.byteLength);
+            const out = loan.take(byteLengthOf(contour));
             const count = countOf(contour);
             const left = answered(this.#call(name, kind)(loan.copy(contour, kind), count, out, count), contour, kind);
             return loan.read(kind.Points, out, 2 * left);
@@ -273,7 +273,7 @@ class IShape {
         const kind = kindOf(points);
         const from = asOffsets(offsets);
         return borrow(this.#exports, (loan) => {
-            const out = loan.take(points.byteLength);
+            const out = loan.take(byteLengthOf(points));
             const outOffsets = loan.take(8 * from.length);
             const count = countOf(points);
             const offsetCount = BigInt(from.length);
@@ -288,7 +288,7 @@ class IShape {
         const rings = asOffsets(ringOffsets, "ringOffsets");
         const polygons = asOffsets(polygonOffsets, "polygonOffsets");
         return borrow(this.#exports, (loan) => {
-            const out = loan.take(points.byteLength);
+            const out = loan.take(byteLengthOf(points));
             const outRings = loan.take(8 * rings.length);
             const outPolygons = loan.take(8 * polygons.length);
             const count = countOf(points);

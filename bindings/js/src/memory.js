@@ -1,4 +1,5 @@
 /** The module's memory. An address is a bigint where it has 64 bits, and else a number, which comes with a sign. */
+import { byteLengthOf, lengthOf } from "./arrays.js";
 import { OutOfMemoryError } from "./errors.js";
 
 /** Where an address lies in the buffer of the memory. */
@@ -32,8 +33,8 @@ class Loan {
 
     /** Takes a block for points, and copies them there. */
     copy(points, { Points }) {
-        const address = this.take(points.byteLength);
-        this.#view(Points, address, points.length).set(points);
+        const address = this.take(byteLengthOf(points));
+        this.#view(Points, address, lengthOf(points)).set(points);
         return address;
     }
 

@@ -29,6 +29,14 @@ function callsOf(shapes, { points, number }) {
     return calls;
 }
 
+/** What an array may say of itself by properties of its own. */
+const OWN_PROPERTIES = {
+    "a length that is less": { length: { value: 2 } },
+    "a length that is more": { length: { value: 2 ** 20 } },
+    "a byteLength": { byteLength: { value: 0 } },
+    "a type": { [Symbol.toStringTag]: { value: "Int32Array" } },
+};
+
 /** Calls on a contour, on rings and on polygons with an unsafe point, and with offsets that part nothing. */
 function wrongCallsOf(shapes, { Points, limit, points }) {
     const wrong = Points.of(limit, limit);
@@ -60,6 +68,17 @@ describeModules((shapes, bits) => {
                 for (let turn = 0; turn < 1000; turn++) call();
                 assert.equal(shapes.memoryBytes, before);
                 assert.equal(shapes.heldBytes, 0);
+            });
+        }
+        for (const [own, properties] of Object.entries(OWN_PROPERTIES)) {
+            test(`each call at ${width.bits} bits: points whose array has ${own} of its own`, async () => {
+                const wanted = callsOf(shapes, width);
+                const points = (coordinates) => Object.defineProperties(width.points(coordinates), properties);
+                const fresh = await load(bytesOf(bits));
+                for (const [name, call] of Object.entries(callsOf(fresh, { ...width, points }))) {
+                    assert.deepEqual(call(), wanted[name](), name);
+                    assert.equal(fresh.heldBytes, 0, name);
+                }
             });
         }
         for (const [name, call] of Object.entries(wrongCallsOf(shapes, width))) {
