@@ -104,6 +104,21 @@ describeModules((shapes, bits) => {
         assert.equal(fresh.heldBytes, 0);
     });
 
+    test("the memory grows by an eighth at least, and by less where no more is left", () => {
+        const sizesOf = (bytes) => {
+            const { exports } = new WebAssembly.Instance(new WebAssembly.Module(bytes));
+            const sizes = [exports.memory.buffer.byteLength];
+            for (let turn = 0; turn < 1000 && exports.i_shape_take(40_000n); turn++) {
+                if (exports.memory.buffer.byteLength !== sizes.at(-1)) sizes.push(exports.memory.buffer.byteLength);
+            }
+            return sizes;
+        };
+        const sizes = sizesOf(bytesOf(bits));
+        assert.ok(sizes.at(-1) >= 40_000_000);
+        for (let k = 1; k < sizes.length; k++) assert.ok(sizes[k] >= 1.125 * sizes[k - 1], `${sizes[k]} after ${sizes[k - 1]}`);
+        assert.equal(sizesOf(limited(bytesOf(bits), 100)).at(-1), sizes[0] + 100 * 65536);
+    });
+
     // Points that fill the pages which the memory may grow by, in each way: those of the caller are refused, or those of the library.
     for (const width of WIDTHS) {
         const count = 16384;

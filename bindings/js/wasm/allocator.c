@@ -39,12 +39,17 @@ static uint64_t size_of(uint64_t order) {
     return UINT64_C(1) << order;
 }
 
-/* Whether the memory reaches to end, after it has grown where it must. */
+static _Bool grow(uint64_t pages) {
+    return __builtin_wasm_memory_grow(0, (uintptr_t)pages) != ~(uintptr_t)0;
+}
+
+/* Whether the memory reaches to end, after it has grown where it must: by an eighth at least, as each growth takes time, where there is so much left. */
 static _Bool reaches(uint64_t end) {
     if (end > end_of_memory) return 0;
-    uint64_t size = (uint64_t)__builtin_wasm_memory_size(0) * PAGE;
-    if (end <= size) return 1;
-    return __builtin_wasm_memory_grow(0, (uintptr_t)((end - size + PAGE - 1) / PAGE)) != ~(uintptr_t)0;
+    uint64_t pages = __builtin_wasm_memory_size(0);
+    if (end <= pages * PAGE) return 1;
+    uint64_t missing = (end + PAGE - 1) / PAGE - pages;
+    return (missing <= pages / 8 && grow(pages / 8 + 1)) || grow(missing);
 }
 
 /* A block behind all others, or null. */
