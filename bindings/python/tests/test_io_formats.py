@@ -10,6 +10,7 @@ import numpy as np
 import i_shape
 import samples
 from i_shape import io
+from i_shape.io import _geojson
 
 COUNT = 1500  # of which a thousand are multipolygons
 
@@ -26,7 +27,7 @@ class FormatCase(unittest.TestCase):
 
     def assert_fails(self, call, given, words, *place):
         """The call names the place: feature, polygon, ring, point."""
-        with self.subTest(given=str(given)[:80]):
+        with self.subTest(words=words, place=place):
             with self.assertRaises(io.FeatureError) as told:
                 call(given)
             error = told.exception
@@ -125,8 +126,32 @@ class GeoJSON(FormatCase):
         for document in (samples.geojson(), samples.geojson(None, None)):
             with self.assertRaisesRegex(ValueError, "in the document"):
                 io.to_geojson(one, document)
-        with self.assertRaisesRegex(ValueError, "one in the document"):
+        with self.assertRaisesRegex(ValueError, "1 in the document"):
             io.to_geojson(io.from_wkt([]), samples.polygon(samples.SQUARE))
+
+    def test_a_document_that_no_features_are_read_from(self):
+        one = io.from_wkt(["POLYGON EMPTY"])
+        for document, words in (
+                ([], "an object of GeoJSON is needed, not []"),
+                ("text", "an object of GeoJSON is needed, not 'text'"),
+                ({}, "a Polygon or a MultiPolygon is needed, not {}"),
+                ({"type": "Point", "coordinates": [0, 0]}, "'Point'"),
+                ({"type": "Feature", "geometry": 5}, "needed, not 5"),
+                ({"type": "FeatureCollection"}, "features are None"),
+                (samples.geojson([1]), "needed, not [1]"),
+                (samples.geojson({"type": "LineString"}), "'LineString'")):
+            self.assert_fails(lambda given: io.to_geojson(one, given),
+                              document, words, 0)
+
+    def test_properties_that_are_nested_too_deeply_are_not_written(self):
+        document = samples.geojson(None, None)
+        for _ in range(10 ** 5):
+            properties = document["features"][1]["properties"]
+            document["features"][1]["properties"] = {"in": properties}
+        features = io.from_geojson(document)
+        self.assert_fails(
+            lambda given: list(_geojson.texts(features, given).features),
+            document, "nested too deeply", 1)
 
     def test_what_is_refused_names_its_place(self):
         square = samples.polygon(samples.SQUARE)
@@ -171,6 +196,14 @@ class GeoJSON(FormatCase):
                  "the position 3 has no coordinates", 2, 0, 0, 1),
                 (coordinates("Polygon", [[[0, 0], "ab"]]),
                  "the position 'ab' has no coordinates", 2, 0, 0, 1),
+                (coordinates("Polygon", [[[0, 0], b"ab"]]),
+                 "the position b'ab' has no coordinates", 2, 0, 0, 1),
+                (coordinates("Polygon", [[[0, 0], {4: 0, 0: 4}]]),
+                 "the position {0: 4, 4: 0} has no", 2, 0, 0, 1),
+                (coordinates("Polygon", [[[0, 0], {0, 4}, [1, 1]]]),
+                 "the position {0, 4} has no coordinates", 2, 0, 0, 1),
+                (coordinates("Polygon", [[[0, 0], range(2)]]),
+                 "the position range(0, 2) has no", 2, 0, 0, 1),
                 (coordinates("Polygon", [[[0, 0], [1, 1, 1]]]),
                  "has 3 coordinates: 2 are needed", 2, 0, 0, 1),
                 (coordinates("Polygon", [[[0, 0]], [[1, 1], []]]),
@@ -185,6 +218,11 @@ class GeoJSON(FormatCase):
                  "[1] isn't a number", 2, 0, 0, 1),
                 (coordinates("Polygon", [[[0, 0], [0, 10 ** 400]]]),
                  "has no room in a float64", 2, 0, 0, 1),
+                (coordinates("Polygon", [[[0, 0], [0, -10 ** 5000]]]),
+                 "<a number of thousands of digits> has no room in a float64",
+                 2, 0, 0, 1),
+                (coordinates("Polygon", [[[0, 0], [10 ** 5000]]]),
+                 "has 1 coordinates: 2 are needed", 2, 0, 0, 1),
                 (coordinates("Polygon", [[[0, 0], [0, float("nan")]]]),
                  "(0.0, nan), and not finite", 2, 0, 0, 1),
                 (coordinates("MultiPolygon", [[[[0, 1], [2, 3]]], [

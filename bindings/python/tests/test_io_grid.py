@@ -26,12 +26,22 @@ class Grids(unittest.TestCase):
         self.assertEqual(hash(grid), hash(io.Grid(0.5, (1, 2))))
         with self.assertRaises(AttributeError):
             grid.step = 1
-        for step in (0, -1, float("nan"), float("inf")):
+        for step in (0, -1, float("nan"), float("inf"), 10 ** 400,
+                     10 ** 5000):
             with self.assertRaisesRegex(ValueError, "step is"):
                 io.Grid(step)
-        for origin in ((0, float("nan")), (float("inf"), 0), (0,), (0, 0, 0)):
+        for origin in ((0, float("nan")), (float("inf"), 0), (0,), (0, 0, 0),
+                       (0, 10 ** 400), (-10 ** 5000, 0)):
             with self.assertRaisesRegex(ValueError, "origin is"):
                 io.Grid(1, origin)
+
+    def test_whole_numbers_beyond_64_bits(self):
+        grid = io.Grid(10 ** 20, (10 ** 21, 0))
+        whole = io.to_grid([(5e20, 1e20)], grid)
+        self.assertEqual(whole.tolist(), [[-5, 1]])
+        there = io.from_grid(whole, grid)
+        self.assertEqual((there.tolist(), there.dtype),
+                         ([[5e20, 1e20]], np.float64))
 
     def test_the_nearest_is_taken(self):
         numbers = random.Random(1)

@@ -5,7 +5,7 @@ from __future__ import annotations
 import numbers
 from array import array
 from itertools import chain
-from reprlib import repr as short
+from reprlib import Repr
 from typing import Any, Iterable, Optional
 
 import numpy as np
@@ -32,8 +32,19 @@ class NumberText:
         return float(self.text)
 
 
+class _Short(Repr):
+    """Short texts of values, also where Python refuses to show a number."""
+
+    def repr_int(self, number: int, level: int) -> str:
+        try:
+            return super().repr_int(number, level)
+        except ValueError:
+            return "<a number of thousands of digits>"
+
+
 numbers.Real.register(NumberText)
 _PLAIN = {int, float, NumberText}
+short = _Short().repr
 
 
 def is_list(value: Any) -> bool:
@@ -69,7 +80,8 @@ class Builder:
                              f" {short(ring)}")
         try:
             coordinates = list(chain.from_iterable(ring))
-            if (set(map(len, ring)) <= {2}
+            if (set(map(type, ring)) <= {list, tuple}
+                    and set(map(len, ring)) <= {2}
                     and set(map(type, coordinates)) <= _PLAIN):
                 self.add_ring(coordinates)
                 return

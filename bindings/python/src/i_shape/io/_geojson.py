@@ -5,12 +5,11 @@ from __future__ import annotations
 import json
 import re
 import secrets
-from itertools import chain, repeat
-from reprlib import repr as short
+from itertools import chain, count, repeat
 from typing import (Any, Callable, Iterable, Iterator, Mapping, NamedTuple,
                     NoReturn, Optional, Union)
 
-from ._builder import Builder, NumberText, is_list
+from ._builder import Builder, NumberText, is_list, short
 from ._features import FeatureError, Features, as_features
 
 _ARE_MULTI = {"Polygon": False, "MultiPolygon": True}
@@ -25,6 +24,11 @@ def _number(text: str) -> Union[float, NumberText]:
     return number if repr(number) == text else NumberText(text)
 
 
+def _whole_number(text: str) -> Union[int, NumberText]:
+    """The same of a whole number; Python converts no thousands of digits."""
+    return NumberText(text) if text == "-0" or len(text) > 600 else int(text)
+
+
 def loads(text: str, object_hook: Callable[[dict[str, Any]], Any]) -> Any:
     """What a text of JSON stands for; numbers keep their digits."""
     def refuse(name: str) -> NoReturn:
@@ -34,16 +38,19 @@ def loads(text: str, object_hook: Callable[[dict[str, Any]], Any]) -> Any:
                                    place)
 
     return json.loads(text, object_hook=object_hook, parse_float=_number,
-                      parse_constant=refuse)
+                      parse_int=_whole_number, parse_constant=refuse)
 
 
 def _marked(number: NumberText) -> str:
     return _MARK + number.text
 
 
-def _dumps(value: Any) -> str:
+def _dumps(value: Any, feature: Optional[int] = None) -> str:
     """The text of what :func:`loads` has answered."""
-    text = json.dumps(value, allow_nan=False, default=_marked)
+    try:
+        text = json.dumps(value, allow_nan=False, default=_marked)
+    except RecursionError:
+        raise FeatureError("it is nested too deeply", feature) from None
     return _MARKED.sub(r"\1", text)
 
 
@@ -78,32 +85,37 @@ def _add_polygon(builder: Builder, rings: Any) -> None:
     builder.end_polygon()
 
 
-def _add_geometry(builder: Builder, geometry: Any) -> None:
+def _is_multi(geometry: Any, feature: int) -> bool:
+    kind = geometry.get("type") if isinstance(geometry, Mapping) else None
+    if not isinstance(kind, str) or kind not in _ARE_MULTI:
+        raise FeatureError("a Polygon or a MultiPolygon is needed, not "
+                           + (short(kind) if kind else short(geometry)),
+                           feature)
+    return _ARE_MULTI[kind]
+
+
+def _add_geometry(builder: Builder, geometry: Any, feature: int) -> None:
     if geometry is None:
         builder.end_feature(True)
         return
-    kind = geometry.get("type") if isinstance(geometry, Mapping) else None
-    if not isinstance(kind, str) or kind not in _ARE_MULTI:
-        raise builder.feature_fault(
-            "a Polygon or a MultiPolygon is needed, not "
-            + (short(kind) if kind else short(geometry)))
+    is_multi = _is_multi(geometry, feature)
     coordinates = geometry.get("coordinates")
     if not is_list(coordinates):
         raise builder.feature_fault(
             f"coordinates are {short(coordinates)}: a list is needed")
-    if _ARE_MULTI[kind]:
+    if is_multi:
         for rings in coordinates:
             _add_polygon(builder, rings)
     elif coordinates:
         _add_polygon(builder, coordinates)
-    builder.end_feature(_ARE_MULTI[kind])
+    builder.end_feature(is_multi)
 
 
 def read(geometries: Iterable[Any]) -> Features:
     """The features of geometries, with None for one without any."""
     builder = Builder()
-    for geometry in geometries:
-        _add_geometry(builder, geometry)
+    for feature, geometry in enumerate(geometries):
+        _add_geometry(builder, geometry, feature)
     return builder.features()
 
 
@@ -171,36 +183,35 @@ def geometries(features: Features) -> Iterator[dict[str, Any]]:
                    "coordinates": found[0] if found else []}
 
 
-def _replaced(geometry: Any, new: dict[str, Any]) -> Any:
+def _replaced(geometry: Any, new: dict[str, Any], feature: int) -> Any:
     """A geometry with new coordinates and its other members."""
-    if geometry is None and not new["coordinates"]:
-        return None
-    kept = {} if geometry is None else dict(geometry)
+    if geometry is None:
+        return new if new["coordinates"] else None
+    _is_multi(geometry, feature)
+    kept = {**geometry, **new}
     kept.pop("bbox", None)
-    return {**kept, **new}
+    return kept
 
 
 def _with_geometry(feature: Mapping[str, Any], new: Any) -> dict[str, Any]:
-    kept = {**feature, "geometry": _replaced(feature.get("geometry"), new)}
+    kept = {**feature, "geometry": new}
     kept.pop("bbox", None)
     return kept
 
 
 def _without_document(features: Features) -> dict[str, Any]:
     feature: dict[str, Any] = {"type": "Feature", "properties": None,
-                               "geometry": {}}
+                               "geometry": {"type": "Polygon"}}
     return {"type": "FeatureCollection",
             "features": [feature] * len(features.are_multi)}
 
 
-def _new_features(features: Features,
-                  document: Mapping[str, Any]) -> Iterator[dict[str, Any]]:
+def _new_geometries(features: Features, document: Any) -> Iterator[Any]:
     given = geometries_of(document)
     if len(given) != len(features.are_multi):
         raise ValueError(f"there are {len(features.are_multi)} features, and"
                          f" {len(given)} in the document")
-    for feature, new in zip(document["features"], geometries(features)):
-        yield _with_geometry(feature, new)
+    return map(_replaced, given, geometries(features), count())
 
 
 def to_geojson(features: Features,
@@ -225,8 +236,9 @@ def to_geojson(features: Features,
     Raises
     ------
     FeatureError
-        A feature with several polygons isn't said to be a multipolygon, or
-        a coordinate isn't finite.
+        A feature with several polygons isn't said to be a multipolygon, a
+        coordinate isn't finite, or :func:`from_geojson` would not read the
+        type of a part of ``document``.
     OffsetsError, TypeError, ValueError
         The arrays of ``features`` don't fit one another, or there are not
         as many as in ``document``.
@@ -241,17 +253,14 @@ def to_geojson(features: Features,
     features = as_features(features)
     if document is None:
         document = _without_document(features)
+    found = _new_geometries(features, document)
     if document.get("type") == "FeatureCollection":
-        return {**_head(document),
-                "features": list(_new_features(features, document))}
-    if len(features.are_multi) != 1:
-        raise ValueError(f"there are {len(features.are_multi)} features, and"
-                         " one in the document")
-    new = next(geometries(features))
+        return {**_head(document), "features": list(
+            map(_with_geometry, document["features"], found))}
+    new: dict[str, Any] = next(found)
     if document.get("type") == "Feature":
         return _with_geometry(document, new)
-    replaced: dict[str, Any] = _replaced(document, new)
-    return replaced
+    return new
 
 
 def _head(document: Mapping[str, Any]) -> dict[str, Any]:
@@ -274,10 +283,12 @@ def texts(features: Features,
     if document is None:
         document = _without_document(features)
     if document.get("type") != "FeatureCollection":
-        whole = _dumps(to_geojson(features, document))
+        whole = _dumps(to_geojson(features, document), 0)
         return Texts("", iter([whole]), "\n")
     head = _dumps(_head(document))[1:-1]
     between = chain([""], repeat(",\n"))
-    pieces = (f"{lead}{_dumps(feature)}" for lead, feature
-              in zip(between, _new_features(features, document)))
+    found = map(_with_geometry, document["features"],
+                _new_geometries(features, document))
+    pieces = (f"{lead}{_dumps(feature, place)}" for lead, feature, place
+              in zip(between, found, count()))
     return Texts(f'{{{head}, "features": [\n', pieces, "\n]}\n")

@@ -11,8 +11,16 @@ import numpy.typing as npt
 
 from .._errors import UnsafePointError
 from .._library import CALLS, Array, as_points, bound
+from ._builder import short
 from ._features import (FeatureError, Features, as_features,
                         as_plane_points)
+
+
+def _is_finite(number: float) -> bool:
+    try:
+        return math.isfinite(number)
+    except OverflowError:  # of a whole number beyond the floats
+        return False
 
 
 @dataclass(frozen=True)
@@ -43,12 +51,15 @@ class Grid:
     origin: Tuple[float, float] = (0.0, 0.0)
 
     def __post_init__(self) -> None:
-        if not (math.isfinite(self.step) and self.step > 0):
-            raise ValueError(f"step is {self.step}: a finite number above 0"
-                             " is needed")
-        if len(self.origin) != 2 or not all(map(math.isfinite, self.origin)):
-            raise ValueError(f"origin is {self.origin}: two finite numbers"
-                             " are needed")
+        if not (_is_finite(self.step) and self.step > 0):
+            raise ValueError(f"step is {short(self.step)}: a finite number"
+                             " above 0 is needed")
+        if len(self.origin) != 2 or not all(map(_is_finite, self.origin)):
+            raise ValueError(f"origin is {short(self.origin)}: two finite"
+                             " numbers are needed")
+
+    def _float_origin(self) -> Array:
+        return np.array(self.origin, np.float64)
 
     def _steps_to_one(self) -> Optional[float]:
         """How many steps make 1, where they are a whole number.
@@ -88,8 +99,8 @@ def _rounded(points: Array, grid: Grid, dtype: Any) -> _Rounded:
                         " byte order is needed")
     parts = grid._steps_to_one()
     with np.errstate(over="ignore", invalid="ignore"):
-        moved = points.astype(np.float64, copy=False) - grid.origin
-        steps = np.rint(moved * parts if parts else moved / grid.step)
+        moved = points.astype(np.float64, copy=False) - grid._float_origin()
+        steps = np.rint(moved * parts if parts else moved / float(grid.step))
         unsafe = ~(np.abs(steps) < bound(dtype)).all(axis=1)
     if not unsafe.any():
         return _Rounded(steps.astype(dtype))
@@ -191,8 +202,8 @@ def from_grid(points: npt.NDArray[Any],
     """
     counts = as_points(points).astype(np.float64)
     parts = grid._steps_to_one()
-    moved = counts / parts if parts else counts * grid.step
-    there: npt.NDArray[np.float64] = moved + grid.origin
+    moved = counts / parts if parts else counts * float(grid.step)
+    there: npt.NDArray[np.float64] = moved + grid._float_origin()
     return there
 
 

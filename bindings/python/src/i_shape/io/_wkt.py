@@ -4,10 +4,9 @@ from __future__ import annotations
 
 import re
 from itertools import chain
-from reprlib import repr as short
 from typing import Callable, Iterable, Iterator
 
-from ._builder import Builder
+from ._builder import Builder, short
 from ._features import FeatureError, Features, as_features
 
 _HEAD = re.compile(r"\s*(MULTIPOLYGON|POLYGON)\b\s*", re.IGNORECASE)
