@@ -7,6 +7,7 @@ import json
 import os
 import random
 import re
+import signal
 import subprocess
 import sys
 import tempfile
@@ -170,7 +171,8 @@ class Cleaned(CommandCase):
     def test_numbers_keep_their_digits(self):
         members = ('{"big": 1e400, "long": 0.12345678901234567890123,'
                    ' "short": 1.50, "in": [-2E5, {"a": 1e-400}, "1e400"],'
-                   ' "whole": 123456789012345678901234567890}')
+                   ' "whole": 123456789012345678901234567890,'
+                   f' "zeros": [-0, 0, -0.0], "huge": 1{"0" * 5000}}}')
         square = json.dumps(samples.polygon(
             [(float(x), float(y)) for x, y in samples.SQUARE]))
         feature = (f'{{"type": "Feature", "properties": {members}, "geometry":'
@@ -432,6 +434,9 @@ class Refused(CommandCase):
                 (second("[[[0, 0], [1, 1e999], [1, 1]]]"),
                  "feature 1, polygon 0, ring 0, point 1: the point is"
                  " (1.0, inf)"),
+                (second(f"[[[0, 0], [1, 1{'0' * 5000}], [1, 1]]]"),
+                 "feature 1, polygon 0, ring 0, point 1: the point is"
+                 " (1.0, inf)"),
                 (second("[[[0, 0, 0], [1, 1, 0], [2, 2, 0]]]"),
                  "feature 1, polygon 0, ring 0, point 0: the position"
                  " [0, 0, 0] has 3 coordinates"),
@@ -567,6 +572,48 @@ class Refused(CommandCase):
                     "simplify", self.given, self.out, "--step", "1",
                     "--report")
 
+    def test_nothing_is_written_where_standard_output_is_closed(self):
+        self.write(samples.geojson(samples.polygon(SPIKED)))
+        self.out.write_text("as it was")
+        with mock.patch.object(sys, "stdout", None), \
+                contextlib.redirect_stderr(text_io.StringIO()) as error:
+            status = command.main(["simplify", str(self.given), str(self.out),
+                                   "--step", "1", "--report"])
+        self.assertEqual(status, 1)
+        self.assertRegex(error.getvalue(), "^i_shape: .*standard output")
+        self.assertEqual(self.out.read_text(), "as it was")
+
+    def test_nothing_is_written_of_what_is_nested_too_deeply(self):
+        statuses = []
+        for depth in range(sys.getrecursionlimit() - 150,
+                           sys.getrecursionlimit()):
+            text = (f'{{"type": "Feature", "properties": {"[" * depth}'
+                    f'{"]" * depth}, "geometry": null}}\n')
+            self.write(text)
+            self.out.write_text("as it was")
+            with contextlib.redirect_stderr(text_io.StringIO()) as error:
+                statuses.append(command.main(
+                    ["simplify", str(self.given), str(self.out), "--step",
+                     "1"]))
+            if statuses[-1] == 0:
+                self.assertEqual(self.out.read_text(), text)
+            else:
+                self.assertIn("it is nested too deeply", error.getvalue())
+                self.assertEqual(self.out.read_text(), "as it was")
+        self.assertEqual(statuses, sorted(statuses))
+
+    def test_a_pipe_is_written_to(self):
+        self.write(samples.geojson(samples.polygon(SPIKED)))
+        os.mkfifo(self.out)
+        before = sorted(self.folder.iterdir())
+        end = os.open(self.out, os.O_RDWR | os.O_NONBLOCK)
+        self.addCleanup(os.close, end)
+        self.run_command("simplify", self.given, self.out, "--step", "0.1")
+        self.assertTrue(self.out.is_fifo())
+        self.assertEqual(sorted(self.folder.iterdir()), before)
+        self.assertEqual(json.loads(os.read(end, 10 ** 5)),
+                         samples.geojson(samples.polygon(SQUARE)))
+
     def test_nothing_is_written_where_a_path_is_a_folder(self):
         self.write(samples.geojson(samples.polygon(SPIKED)))
         self.out.write_text("as it was")
@@ -600,15 +647,16 @@ class Refused(CommandCase):
         self.run_command("simplify", self.given, self.out, "--step", "1")
         self.assertEqual(old.read_text(), "of another run")
 
-    def test_a_signal_leaves_nothing_behind(self):
+    def test_signals_leave_nothing_behind(self):
         self.write(samples.geojson(samples.polygon(SPIKED)))
         self.out.write_text("as it was")
         before = sorted(self.folder.iterdir())
         program = textwrap.dedent("""
+            import os
             import runpy
             import time
             from i_shape._command import files
-            texts = files.texts
+            texts, rmdir = files.texts, os.rmdir
 
             def slow(*words):
                 def features():
@@ -617,19 +665,31 @@ class Refused(CommandCase):
                     yield ""
                 return texts(*words)._replace(features=features())
 
-            files.texts = slow
+            def slow_rmdir(*words, **options):
+                print("it cleans", flush=True)
+                time.sleep(0.2)
+                rmdir(*words, **options)
+
+            files.texts, os.rmdir = slow, slow_rmdir
             runpy.run_module("i_shape", run_name="__main__", alter_sys=True)
         """)
-        with subprocess.Popen(
-                [sys.executable, "-c", program, "simplify", self.given,
-                 self.out, "--step", "1"], stdout=subprocess.PIPE,
-                text=True) as run:
-            self.assertEqual(run.stdout.readline(), "it writes\n")
-            self.assertNotEqual(sorted(self.folder.iterdir()), before)
-            run.terminate()
-            self.assertEqual(run.wait(30), 128 + 15)
-        self.assertEqual(sorted(self.folder.iterdir()), before)
-        self.assertEqual(self.out.read_text(), "as it was")
+        for first, second in ((signal.SIGTERM, signal.SIGINT),
+                              (signal.SIGINT, signal.SIGTERM),
+                              (signal.SIGINT, signal.SIGINT)):
+            with self.subTest(first=first, second=second), subprocess.Popen(
+                    [sys.executable, "-c", program, "simplify", self.given,
+                     self.out, "--step", "1"], stdout=subprocess.PIPE,
+                    stderr=subprocess.PIPE, text=True) as run:
+                self.assertEqual(run.stdout.readline(), "it writes\n")
+                self.assertNotEqual(sorted(self.folder.iterdir()), before)
+                run.send_signal(first)
+                self.assertEqual(run.stdout.readline(), "it cleans\n")
+                run.send_signal(second)
+                told = run.communicate(timeout=30)
+                self.assertEqual(sorted(self.folder.iterdir()), before)
+                self.assertEqual((run.returncode, *told),
+                                 (128 + first, "", ""))
+                self.assertEqual(self.out.read_text(), "as it was")
 
     def test_words_that_are_refused(self):
         self.write(samples.geojson())

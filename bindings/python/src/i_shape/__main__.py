@@ -7,7 +7,9 @@ grid, cleaned there, and brought back.
 from __future__ import annotations
 
 import argparse
+import errno
 import importlib.util
+import os
 import re
 import signal
 import sys
@@ -96,6 +98,9 @@ def _run(options: argparse.Namespace) -> None:
             beside = last.enter_context(files.replacing(options.plot))
             plot.draw(beside, options.plot.suffix[1:].lower(), given, answer)
         if options.report:
+            if sys.stdout is None:  # as where it was closed from the start
+                raise OSError(errno.EBADF, os.strerror(errno.EBADF),
+                              "standard output")
             for line in report.lines(given, whole, left, gone, options.grid):
                 print(line)
             sys.stdout.flush()
@@ -128,10 +133,17 @@ def _told(text: str) -> int:
 
 
 def _stop(number: int, _: Any) -> NoReturn:
-    """End after a signal by way of what takes new files away."""
+    """End after a signal by way of what takes new files away.
+
+    Another signal doesn't stop that.
+    """
+    for each in (signal.SIGINT, signal.SIGTERM):
+        signal.signal(each, lambda *_: None)
     sys.exit(128 + number)
 
 
 if __name__ == "__main__":
+    if signal.getsignal(signal.SIGINT) is signal.default_int_handler:
+        signal.signal(signal.SIGINT, _stop)
     signal.signal(signal.SIGTERM, _stop)
     sys.exit(main())

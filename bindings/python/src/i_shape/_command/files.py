@@ -4,6 +4,7 @@ from __future__ import annotations
 
 import errno
 import os
+import shutil
 import stat
 import tempfile
 from contextlib import contextmanager, suppress
@@ -108,17 +109,24 @@ def replacing(path: Path) -> Iterator[Path]:
 
     It has the mode of the file that was there. Where something fails, the
     path keeps what it had, and the new file is taken away with its folder,
-    which only the user can look into.
+    which only the user can look into. A device or a pipe stays, and what
+    the file has is written to it at the end.
     """
     goal = Path(os.path.realpath(path))
-    if goal.is_dir():
+    if path.is_dir():
         raise IsADirectoryError(errno.EISDIR, os.strerror(errno.EISDIR),
                                 str(path))
-    with tempfile.TemporaryDirectory(".part", ".", goal.parent) as folder:
+    is_replaced = path.is_file() or not path.exists()
+    with tempfile.TemporaryDirectory(
+            ".part", ".", goal.parent if is_replaced else None) as folder:
         beside = Path(folder, goal.name)
         yield beside
-        _take_rights(beside, goal)
-        os.replace(beside, goal)
+        if is_replaced:
+            _take_rights(beside, goal)
+            os.replace(beside, goal)
+        else:
+            with open(beside, "rb") as file, open(path, "wb") as device:
+                shutil.copyfileobj(file, device)
 
 
 @contextmanager
