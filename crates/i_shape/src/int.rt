@@ -10,7 +10,7 @@ pub mod shape;
 pub mod simple;
 pub mod winding;
 
-pub use i_shape_core::point::{ContourPoint, IntPoint};
+pub use i_shape_core::point::{ContourPoint, IntPoint, Origin};
 
 /// The cleaners of one contour, and what shapes and lists take of their answers.
 pub mod cleaner {

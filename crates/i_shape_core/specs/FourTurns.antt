@@ -3,13 +3,11 @@ use Rattle.std.specs.Prelude.{ℕ, ◌+◌, ◌<◌, List, ◌⊎◌}
 use Rattle.i_shape_core.specs.Point.{Point, IsZeroTurn}
 use Rattle.i_shape_core.specs.Contour.{point_at}
 
--- one of the four turns of the way over six points is a zero turn
-abbrev pub HasZeroTurn : (a b c d e f : Point) → Type 0
-HasZeroTurn a b c d e f = IsZeroTurn a b c ⊎ (IsZeroTurn b c d ⊎ (IsZeroTurn c d e ⊎ IsZeroTurn d e f))
-
--- one of the four turns of the points from place k on is
+-- one of the four turns of the points from place k on is a zero turn
 abbrev pub HasZeroTurnFrom : List Point → ℕ → Type 0
-HasZeroTurnFrom c k = HasZeroTurn (point_at c k) (point_at c (k + 1)) (point_at c (k + 2)) (point_at c (k + 3)) (point_at c (k + 4)) (point_at c (k + 5))
+HasZeroTurnFrom c k = IsZeroTurn (point_at c k) (point_at c (k + 1)) (point_at c (k + 2))
+    ⊎ (IsZeroTurn (point_at c (k + 1)) (point_at c (k + 2)) (point_at c (k + 3))
+    ⊎ (IsZeroTurn (point_at c (k + 2)) (point_at c (k + 3)) (point_at c (k + 4)) ⊎ IsZeroTurn (point_at c (k + 3)) (point_at c (k + 4)) (point_at c (k + 5))))
 
 -- none of the first n turns of the way over the points is
 abbrev pub IsTurning : List Point → ℕ → Type 0

@@ -6,6 +6,7 @@ ghost use Rattle.i_shape_core.specs.IntPoint.{contour_of, IsSafeContour};
 
 use crate::number::IntNumber;
 use crate::point::ContourPoint;
+use crate::zero_turns::ZeroTurns;
 
 /// How many turns from the first on are no zero turns, as far as blocks of four tell: all, or those before a block that has one. The
 /// closing turns aren't looked at. Below six points it is 0.

@@ -1,8 +1,8 @@
-//! The laws of cleaning, and of the comparison of points. Each function takes the contours or points that its law names, or none
-//! where it is of all lists of points, does nothing, and has the law alone for its clauses: they speak of definitions, and of
-//! every other list and point that they mention. No safe range is asked.
+//! The laws of cleaning, of the comparison of points, and of safe coordinates. Each function takes the contours or points that its
+//! law names, or none where it is of all lists of points, does nothing, and has the law alone for its clauses: they speak of
+//! definitions, and of every other list and point that they mention. No safe range is asked.
 
-ghost use Rattle.std.specs.Prelude.{◌≡◌, ◌≢◌, ◌↔◌, IsTrue, pos, List, Some};
+ghost use Rattle.std.specs.Prelude.{◌≡◌, ◌≢◌, ◌↔◌, ◌-ℤ◌, ◌*ℤ◌, ℤ, IsTrue, pos, List, Some, FitsSigned};
 ghost use Rattle.std.specs.Ordering.{MatchOrdering, partial_lt};
 ghost use Rattle.i_shape_core.specs.Canonical.{CanonicalJoined, IsBefore, Shortest, UnorientedJoined};
 ghost use Rattle.i_shape_core.specs.IntPoint.{contour_of, point_of};
@@ -10,6 +10,7 @@ ghost use Rattle.i_shape_core.specs.Edges.{Inside};
 ghost use Rattle.i_shape_core.specs.Point.{Point};
 ghost use Rattle.i_shape_core.specs.Boundary.{BoundaryWithin, IsOnEdge};
 ghost use Rattle.i_shape_core.specs.Filling.{FillingKept};
+ghost use Rattle.i_shape_core.specs.SafeCoordinates.{IsSafeCoordinate};
 ghost use Rattle.i_shape_core.specs.Moves.{Move, determinant};
 ghost use Rattle.i_shape_core.specs.RationalPoints.{WindingBetween};
 ghost use Rattle.i_shape_core.specs.Winding.{winding, IsOdd, WindingKept, WindingRotated};
@@ -167,4 +168,14 @@ pub fn points_compared<I: IntNumber>(_a: &IntPoint<I>, _b: &IntPoint<I>)
         ≡ Some (⟦<IntPoint<I> as Ord>⟧.cmp _a.now _b.now) }
     ensures less { IsTrue (partial_lt ⟦<IntPoint<I> as PartialOrd>⟧.partial_cmp _a.now _b.now)
         ↔ IsBefore (point_of I.value _a.now) (point_of I.value _b.now) }
+{}
+
+/// Why safe coordinates are called so: the difference of two of them fits the type, and the product of two such differences fits the
+/// wider type.
+pub fn safe_differences_fit<I: IntNumber>()
+    ensures differences { (a b : ℤ) → IsSafeCoordinate I.width a
+        → IsSafeCoordinate I.width b → FitsSigned I.width (a -ℤ b) }
+    ensures products { (a b c d : ℤ) → IsSafeCoordinate I.width a → IsSafeCoordinate I.width b
+        → IsSafeCoordinate I.width c → IsSafeCoordinate I.width d
+        → FitsSigned I.Wide.width ((a -ℤ b) *ℤ (c -ℤ d)) }
 {}

@@ -26,6 +26,7 @@ pub mod turn;
 mod unoriented;
 pub mod winding;
 mod write;
+mod zero_turns;
 
 pub use fill_rule::FillRule;
 pub use number::{IntNumber, WideIntNumber};

@@ -3,16 +3,11 @@
 ghost use Rattle.std.specs.Prelude.{◌≡◌, ◌≢◌, ◌+◌, ◌-◌, ◌*◌, ◌^◌, ◌≤◌, ◌↔◌, ◌+ℤ◌, ◌-ℤ◌, ◌*ℤ◌, ℕ, ℤ, pos, negsuc, Some, IsTrue, FitsSigned, int_div};
 ghost use Rattle.std.specs.Int.{Width, int_wrap, int_signum};
 ghost use Rattle.std.specs.Ordering.{int_cmp};
-ghost use Rattle.i_shape_core.specs.FourTurns.{HasZeroTurn};
-ghost use Rattle.i_shape_core.specs.IntPoint.{point_of, IsSafe};
 ghost use Rattle.i_shape_core.specs.Widths.{bits, hbits};
-ghost use Rattle.i_shape_core.specs.SafeCoordinates.{IsSafeCoordinate};
 
-use crate::point::IntPoint;
+use crate::zero_turns::ZeroTurns;
 
 mod coordinate;
-mod lanes;
-mod low_halves;
 mod wide;
 
 /// A signed integer type that holds the products of coordinates.
@@ -66,7 +61,7 @@ pub trait WideIntNumber: Copy + Ord {
 }
 
 /// A signed integer type of coordinates.
-pub trait IntNumber: Copy + Ord {
+pub trait IntNumber: ZeroTurns + Copy + Ord {
     /// The type in which products of coordinates fit.
     type Wide: WideIntNumber;
 
@@ -106,38 +101,10 @@ pub trait IntNumber: Copy + Ord {
         requires { FitsSigned width (value self -ℤ value other) }
         ensures { value result ≡ value self -ℤ value other };
 
-    /// Whether `a` times `b` is `c` times `d`, as whole numbers.
-    fn are_products_equal(a: Self, b: Self, c: Self, d: Self) -> bool
-        ensures { IsTrue result ↔ (value a *ℤ value b ≡ value c *ℤ value d) };
+    /// The supertrait's width is that of the type, and its numbers are those that the values stand for.
+    ghost same_width: { Self.number_width ≡ width };
 
-    /// Whether one of the four turns of the way over six points is a zero turn. It tests all four, without a branch between them.
-    fn has_zero_turn(
-        a: IntPoint<Self>,
-        b: IntPoint<Self>,
-        c: IntPoint<Self>,
-        d: IntPoint<Self>,
-        e: IntPoint<Self>,
-        f: IntPoint<Self>,
-    ) -> bool
-        requires a_safe { IsSafe width (point_of value a) }
-        requires b_safe { IsSafe width (point_of value b) }
-        requires c_safe { IsSafe width (point_of value c) }
-        requires d_safe { IsSafe width (point_of value d) }
-        requires e_safe { IsSafe width (point_of value e) }
-        requires f_safe { IsSafe width (point_of value f) }
-        ensures { IsTrue result ↔ HasZeroTurn (point_of value a)
-            (point_of value b) (point_of value c) (point_of value d)
-            (point_of value e) (point_of value f) };
-
-    /// Does nothing. Its clauses say why safe coordinates are called so: the difference of two of them fits the type, and the product of
-    /// two such differences fits the wider type.
-    fn safe_differences_fit()
-        ensures differences { (a b : ℤ) → IsSafeCoordinate width a
-            → IsSafeCoordinate width b → FitsSigned width (a -ℤ b) }
-        ensures products { (a b c d : ℤ) → IsSafeCoordinate width a → IsSafeCoordinate width b
-            → IsSafeCoordinate width c → IsSafeCoordinate width d
-            → FitsSigned Self.Wide.width ((a -ℤ b) *ℤ (c -ℤ d)) }
-    {}
+    ghost same_number: { Self.number ≡ value };
 
     ghost bits_are: { BITS ≡ bits width };
 

@@ -20,12 +20,6 @@ pub struct IntPoint<I> {
 pub type IntContour<I> = Vec<IntPoint<I>>;
 
 impl<I: IntNumber> IntPoint<I> {
-    /// The origin.
-    pub const ZERO: IntPoint<I> = IntPoint {
-        x: I::ZERO,
-        y: I::ZERO,
-    };
-
     pub fn new(x: I, y: I) -> IntPoint<I>
         ensures { result ≡ record { x = x; y = y } }
     {
@@ -65,6 +59,23 @@ impl<I: IntNumber> IntPoint<I> {
     {
         is_safe_coordinate(self.x) & is_safe_coordinate(self.y)
     }
+}
+
+/// A type with an origin. `IntPoint` has its own by this trait, so that callers know what it is.
+pub trait Origin {
+    ghost ZERO: { Self };
+
+    /// The origin.
+    const ZERO: Self;
+}
+
+impl<I: IntNumber> Origin for IntPoint<I> {
+    ghost ZERO = { record { x = I.ZERO; y = I.ZERO } };
+
+    const ZERO: IntPoint<I> = IntPoint {
+        x: I::ZERO,
+        y: I::ZERO,
+    };
 }
 
 /// A point that contours can be made of: the library's own, or a struct of a caller's with two coordinates.

@@ -2,7 +2,7 @@ use crate::given::safe_contour;
 use i_shape::IntNumber;
 use i_shape::flat::buffer::{FlatContoursBuffer, FlatShapesBuffer};
 use i_shape::flat::float::{FloatFlatContoursBuffer, FloatFlatShapesBuffer};
-use i_shape::int::IntPoint;
+use i_shape::int::{IntPoint, Origin};
 use i_shape_core::laws;
 
 /// Each law at two contours of this width. A law has no body, so that the calls stand is all there is to see.
@@ -25,7 +25,7 @@ fn laws_hold<I: IntNumber>(c: &[IntPoint<I>], d: &[IntPoint<I>]) {
     laws::points_equal(&IntPoint::<I>::ZERO, &IntPoint::<I>::ZERO);
     laws::points_ordered(&IntPoint::<I>::ZERO, &IntPoint::<I>::ZERO);
     laws::points_compared(&IntPoint::<I>::ZERO, &IntPoint::<I>::ZERO);
-    I::safe_differences_fit();
+    laws::safe_differences_fit::<I>();
     laws::winding_between();
     laws::winding_moved();
     laws::filling_kept();

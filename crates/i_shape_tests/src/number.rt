@@ -1,6 +1,6 @@
 use crate::given::all_hold;
 use i_shape::IntNumber;
-use i_shape::int::IntPoint;
+use i_shape::int::{IntPoint, Origin};
 use i_shape_core::number::WideIntNumber;
 use i_shape_core::triangle::Triangle;
 use std::process::Abort;
@@ -85,15 +85,7 @@ fn products_of_points_fit_at_the_limits(rt: HostRuntime) {
             "a dot product at the limits",
         ),
         (origin.dot_product(low) == 0, "a dot product with zero"),
-        (IntPoint::<i16>::ZERO == origin, "zero of 16 bits"),
-        (
-            IntPoint::<i32>::ZERO == IntPoint::new(0, 0),
-            "zero of 32 bits",
-        ),
-        (
-            IntPoint::<i64>::ZERO == IntPoint::new(0, 0),
-            "zero of 64 bits",
-        ),
+        (IntPoint::<i16>::ZERO == origin, "the origin"),
         (difference == IntPoint::new(-3, -7), "a difference"),
         (a.cross_product(b) == -2, "a cross product of 64 bits"),
         (a.dot_product(b) == 39, "a dot product of 64 bits"),

@@ -1,13 +1,14 @@
 //! Every path by which the library is asked for, and the calls that the other modules of this crate don't make, each once and in the
 //! types that a caller would write.
 
-ghost use Rattle.std.specs.Prelude.{◌≤◌, vec_len};
+ghost use Rattle.std.specs.Prelude.{◌≡◌, ◌≤◌, vec_len};
 ghost use Rattle.std.specs.List.{sum_by};
+ghost use Rattle.i_shape_core.specs.IntPoint.{point_of};
+ghost use Rattle.i_shape_core.specs.Point.{origin};
 
 use i_shape::base::data::{Contour, Path, Paths, Shape, Shapes};
 use i_shape::flat::buffer::{FlatContoursBuffer, FlatShapesBuffer};
 use i_shape::flat::float::{FloatFlatContoursBuffer, FloatFlatShapesBuffer};
-use i_shape::int::IntPoint;
 use i_shape::int::area::{Area, IteratorArea, UnsafeArea};
 use i_shape::int::count::PointsCount;
 use i_shape::int::despike::DeSpikeContour;
@@ -15,6 +16,7 @@ use i_shape::int::path::{ContourExtension, IntPath, IntPaths};
 use i_shape::int::safe_range::IntSafeRange;
 use i_shape::int::shape::{IntContour, IntShape, IntShapes};
 use i_shape::int::simple::ContourSimplifier;
+use i_shape::int::{IntPoint, Origin};
 use i_shape::source::float::buffer::{
     FloatContoursBufferResourceIterator, FloatShapesBufferResourceIterator,
 };
@@ -34,6 +36,13 @@ pub fn doubled<I: IntNumber>(a: I, b: I) -> (I::Wide, I::Wide) {
     let product = a.to_wide().wrapping_mul(b.to_wide());
     let twice = product.wrapping_add(product).wrapping_sub(I::Wide::ZERO);
     (twice, twice.signum())
+}
+
+/// The point at which both coordinates are zero.
+pub fn point_zero<I: IntNumber>() -> IntPoint<I>
+    ensures { point_of I.value result ≡ origin }
+{
+    IntPoint::<I>::ZERO
 }
 
 /// The products of two vectors from one safe point to two others, and whether the three turn clockwise. `None` where one isn't safe.

@@ -3,9 +3,9 @@ use Rattle.std.proofs.Common.{◌≡◌, ◌↔◌, ◌⊎◌, ◌∙◌, ◌+�
 use Rattle.std.proofs.lemmas.Int.{to_z-of_z, ints}
 use Rattle.std.proofs.lemmas.Nat.{pow-add}
 use Rattle.std.specs.Int.{Width, int_wrap}
-use Rattle.i_shape_core.specs.FourTurns.{HasZeroTurn}
-use Rattle.i_shape_core.specs.IntPoint.{IsSafe, IsSafeCoordinate}
-use Rattle.i_shape_core.specs.Point.{Point, cross, IsZeroTurn}
+use Rattle.i_shape_core.specs.FourTurns.{HasZeroTurnFrom}
+use Rattle.i_shape_core.specs.IntPoint.{IsSafe, IsSafeContour, IsSafeCoordinate}
+use Rattle.i_shape_core.specs.Point.{Point, cross, origin, IsZeroTurn}
 use Rattle.i_shape_core.specs.Widths.{bits, hbits}
 use Rattle.i_shape_core.proofs.arithmetic.Coordinates.{safe-difference}
 use Rattle.i_shape_core.proofs.arithmetic.WholeNumbers.{equal_of_difference}
@@ -116,11 +116,16 @@ module _ (w W : Width) (wide : hbits W ≡ 2 * hbits w + 1) (some : 2 ≤ hbits 
   abbrev pub turn_lane : Point → Point → Point → Bool
   turn_lane a b c = nat_eq (of_z W (lane_product w W (b.x -ℤ a.x) (c.y -ℤ b.y))) (of_z W (lane_product w W (b.y -ℤ a.y) (c.x -ℤ b.x)))
 
-  pub four_told : (h full : ℕ) → lane_bit h full true ≡ 1 → lane_bit h full false ≡ 0 → (a b c d e f : Point)
-      → IsSafe w a → IsSafe w b → IsSafe w c → IsSafe w d → IsSafe w e → IsSafe w f
+  pub four_told : (h full : ℕ) → lane_bit h full true ≡ 1 → lane_bit h full false ≡ 0 → (a b c d e f : Point) → IsSafeContour w (a ∷ b ∷ c ∷ d ∷ e ∷ f ∷ [])
       → IsTrue (not (nat_eq ((lane_bit h full (turn_lane a b c) + 2 * (lane_bit h full (turn_lane b c d) + 2 * (lane_bit h full (turn_lane c d e) + 2 * (lane_bit h full (turn_lane d e f) + 0)))) % 18446744073709551616) 0))
-      ↔ HasZeroTurn a b c d e f
-  four_told h full one none a b c d e f r s t u v x =
+      ↔ HasZeroTurnFrom (a ∷ b ∷ c ∷ d ∷ e ∷ f ∷ []) 0
+  four_told h full one none a b c d e f safe =
+      let r : IsSafe w a = safe 0 origin (omega arith) in
+      let s : IsSafe w b = safe 1 origin (omega arith) in
+      let t : IsSafe w c = safe 2 origin (omega arith) in
+      let u : IsSafe w d = safe 3 origin (omega arith) in
+      let v : IsSafe w e = safe 4 origin (omega arith) in
+      let x : IsSafe w f = safe 5 origin (omega arith) in
       let mask = some_lane h full one none (turn_lane a b c) (turn_lane b c d) (turn_lane c d e) (turn_lane d e f) in
       let first = turn_told w W wide some split a b c r s t in
       let second = turn_told w W wide some split b c d s t u in
@@ -129,6 +134,29 @@ module _ (w W : Width) (wide : hbits W ≡ 2 * hbits w + 1) (some : 2 ≤ hbits 
         λ m. elim (mask.0 m) [ inl g ↦ inl (first.0 g) | inr g ↦ elim g [ inl i ↦ inr (inl (second.0 i)) | inr i ↦ elim i [ inl j ↦ inr (inr (inl (third.0 j))) | inr j ↦ inr (inr (inr (fourth.0 j))) ] ] ],
         λ z. mask.1 (elim z [ inl g ↦ inl (first.1 g) | inr g ↦ elim g [ inl i ↦ inr (inl (second.1 i)) | inr i ↦ elim i [ inl j ↦ inr (inr (inl (third.1 j))) | inr j ↦ inr (inr (inr (fourth.1 j))) ] ] ]),
       )
+
+  -- the two products of a turn fit
+  abbrev pub LanesFit : Point → Point → Point → Type 0
+  LanesFit a b c = FitsSigned W (lane_product w W (b.x -ℤ a.x) (c.y -ℤ b.y)) × FitsSigned W (lane_product w W (b.y -ℤ a.y) (c.x -ℤ b.x))
+
+  turn_fits : (a b c : Point) → IsSafe w a → IsSafe w b → IsSafe w c → LanesFit a b c
+  turn_fits a b c r s t = (
+    fits _ _ (safe-difference w some split b.x a.x s.0 r.0) (safe-difference w some split c.y b.y t.1 s.1),
+    fits _ _ (safe-difference w some split b.y a.y s.1 r.1) (safe-difference w some split c.x b.x t.0 s.0),
+  )
+    where
+      fits : (a b : ℤ) → FitsSigned w a → FitsSigned w b → FitsSigned W (lane_product w W a b)
+      fits a b f g = rw (product_of_lanes w W wide a b f g) (product-fits w W wide a b f g)
+
+  pub lanes_fit : (a b c d e f : Point) → IsSafeContour w (a ∷ b ∷ c ∷ d ∷ e ∷ f ∷ []) → LanesFit a b c × LanesFit b c d × LanesFit c d e × LanesFit d e f
+  lanes_fit a b c d e f safe =
+      let r : IsSafe w a = safe 0 origin (omega arith) in
+      let s : IsSafe w b = safe 1 origin (omega arith) in
+      let t : IsSafe w c = safe 2 origin (omega arith) in
+      let u : IsSafe w d = safe 3 origin (omega arith) in
+      let v : IsSafe w e = safe 4 origin (omega arith) in
+      let x : IsSafe w f = safe 5 origin (omega arith) in
+      (turn_fits a b c r s t, turn_fits b c d s t u, turn_fits c d e t u v, turn_fits d e f u v x)
 
 -- the low halves of the two products of a zero turn are equal
 pub low_halves_equal : (W : Width) (a b c : Point) → IsZeroTurn a b c → int_wrap W ((b.x -ℤ a.x) *ℤ (c.y -ℤ b.y)) ≡ int_wrap W ((b.y -ℤ a.y) *ℤ (c.x -ℤ b.x))

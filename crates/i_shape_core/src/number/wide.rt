@@ -1,18 +1,10 @@
 //! The wide integer types of the language: each call is the type's own.
 
-ghost use Rattle.std.specs.Prelude.{◌≡◌, ◌↔◌, ◌*ℤ◌, pos, refl, IsTrue};
-ghost use Rattle.std.specs.Int.{w32, w64, w128, int_wrap};
+ghost use Rattle.std.specs.Prelude.{pos, refl};
+ghost use Rattle.std.specs.Int.{w32, w64, w128};
 ghost use Rattle.std.proofs.lemmas.Bool.Decides.{Decides-int_eq};
 
 use crate::number::WideIntNumber;
-
-/// Whether `a` times `b` is `c` times `d`, as the type wraps them.
-pub(super) fn are_wrapped_products_equal<W: WideIntNumber>(a: W, b: W, c: W, d: W) -> bool
-    ensures { IsTrue result
-        ↔ (int_wrap W.width (W.value a *ℤ W.value b) ≡ int_wrap W.width (W.value c *ℤ W.value d)) }
-{
-    a.wrapping_mul(b) == c.wrapping_mul(d)
-}
 
 impl WideIntNumber for i32 {
     ghost width = { w32 };
