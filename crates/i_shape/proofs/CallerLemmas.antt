@@ -36,6 +36,9 @@ use Rattle.i_shape_core.proofs.lists.Mapped.{all_mapped}
 use Rattle.i_shape.proofs.shapes.Kept.{inside_count-append}
 use Rattle.i_shape.proofs.lists.Surviving.{survivors_have}
 use Rattle.i_shape.proofs.buffers.ShapeRanges.{slice_range-map, slices-part_of}
+-- a simple contour is its own answer, and what relates the members of lists, or is left of them, does so end to end
+pub use Rattle.i_shape_core.proofs.walks.Found.{simple_stays}
+pub use Rattle.i_shape_core.proofs.lists.Survivors.{zip-append, survivors-append}
 
 -- the contours of a shape are read from the lists of its points
 pub shape_of_paths : {I : Type 0} (value : I → ℤ) (contours : List (Vec (IntPoint I))) → shape_of value contours ≡ map (contour_of value) (paths_of_shape contours)

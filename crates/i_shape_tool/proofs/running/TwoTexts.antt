@@ -6,7 +6,7 @@ use Rattle.std.proofs.lemmas.Grind.{flat_map-append}
 use Rattle.std.proofs.lemmas.List.Elements.{filter_map-append}
 use Rattle.i_shape.specs.Cleaners.{SimpleAnswer}
 use Rattle.i_shape.specs.Survivors.{Survivors}
-use Rattle.i_shape_core.proofs.lists.Survivors.{zip-append, survivors-append}
+use Rattle.i_shape.proofs.CallerLemmas.{zip-append, survivors-append}
 use Rattle.i_shape_tool.specs.declared.command.Command.{Command}
 use Rattle.i_shape_tool.specs.declared.command.Command.TheVariants.{Simplify, Despike, Area, Canonical, Compact}
 use Rattle.i_shape_tool.specs.declared.command.LineCommand.{LineCommand}

@@ -1,7 +1,7 @@
 use Rattle.std.proofs.Common.{◌++◌, string_bytes, refl, ap, ◌∙◌, subst}
 use Rattle.std.specs.Prelude.{Some}
-use Rattle.i_shape_core.specs.Contour.{IsSimple}
-use Rattle.i_shape_core.proofs.walks.Found.{simple_stays}
+use Rattle.i_shape.specs.Contour.{IsSimple}
+use Rattle.i_shape.proofs.CallerLemmas.{simple_stays}
 use Rattle.i_shape_tool.specs.Points.{contour_of}
 use Rattle.i_shape_tool.specs.Text.{shown}
 use Rattle.i_shape_tool.proofs.text.show_simplified.Goals as goal
