@@ -405,7 +405,7 @@ fn drawn_shapes_keep_their_number_of_contours(rt: HostRuntime) -> Result<(), Fai
     Ok(())
 }
 
-/// A buffer of contours is made, set with shapes, copied and added to.
+/// A buffer of contours is made, set with shapes, copied, cleared and added to.
 fn sets_contours<I: IntNumber>(
     rt: &impl Abort,
     alloc: Global,
@@ -417,6 +417,9 @@ fn sets_contours<I: IntNumber>(
     holds(rt, buffer.is_empty(), name, "new contours");
     buffer.set_with_shapes(shapes)?;
     holds(rt, buffer.clone()? == buffer, name, "a copy of contours");
+    buffer.clear_and_reserve(4, 4)?;
+    holds(rt, buffer.points.is_empty(), name, "points left");
+    holds(rt, buffer.ranges.is_empty(), name, "ranges left");
     buffer.add_contour(contour)?;
     for shape in shapes {
         buffer.set_with_shape(shape.as_slice())?;
@@ -424,7 +427,7 @@ fn sets_contours<I: IntNumber>(
     Ok(())
 }
 
-/// A buffer of contours is set with one, read and cleared.
+/// A buffer of contours is set with one and read.
 fn reads_contours<I: IntNumber>(
     rt: &impl Abort,
     alloc: Global,
@@ -438,13 +441,10 @@ fn reads_contours<I: IntNumber>(
     assert!(rt; buffer.can_read_first());
     let first = buffer.as_first_contour_mut().len();
     equal(rt, first, contour.len(), name, "the first contour");
-    buffer.clear_and_reserve(4, 4)?;
-    holds(rt, buffer.points.is_empty(), name, "points left");
-    holds(rt, buffer.ranges.is_empty(), name, "ranges left");
     Ok(())
 }
 
-/// A buffer of shapes is made, set with shapes and copied.
+/// A buffer of shapes is made, set with shapes, copied and cleared.
 fn sets_shapes<I: IntNumber>(
     rt: &impl Abort,
     alloc: Global,
@@ -457,10 +457,14 @@ fn sets_shapes<I: IntNumber>(
     buffer.set_with_contour(contour)?;
     buffer.set_with_shapes(shapes)?;
     holds(rt, buffer.clone()? == buffer, name, "a copy of shapes");
+    buffer.clear_and_reserve(4, 4, 4)?;
+    holds(rt, buffer.points.is_empty(), name, "points left");
+    holds(rt, buffer.contour_ranges.is_empty(), name, "contours left");
+    holds(rt, buffer.shape_ranges.is_empty(), name, "shapes left");
     Ok(())
 }
 
-/// A buffer of shapes is added to, read and cleared.
+/// A buffer of shapes is added to and read.
 fn reads_shapes<I: IntNumber>(
     rt: &impl Abort,
     alloc: Global,
@@ -475,10 +479,6 @@ fn reads_shapes<I: IntNumber>(
     assert!(rt; buffer.can_read_contours() && buffer.can_read_shapes());
     equal(rt, buffer.to_shapes()?.len(), 2, name, "the shapes");
     equal(rt, buffer.to_contours()?.len(), 4, name, "their contours");
-    buffer.clear_and_reserve(4, 4, 4)?;
-    holds(rt, buffer.points.is_empty(), name, "points left");
-    holds(rt, buffer.contour_ranges.is_empty(), name, "contours left");
-    holds(rt, buffer.shape_ranges.is_empty(), name, "shapes left");
     Ok(())
 }
 
@@ -502,8 +502,8 @@ fn every_call_at_each_width(rt: HostRuntime) -> Result<(), Fail> {
     let alloc = rt.alloc();
     let list: &[&[&[[i16; 2]]]] = &[&[&[[1, 2]]], &[&[[3, 4], [5, 6]], &[]]];
     every_call(&rt, alloc, "16 bits", list, &[IntPoint::new(i16::MIN, 1)])?;
-    let list: &[&[&[[i32; 2]]]] = &[&[&[[1, 2]]], &[&[[3, 4], [5, 6]], &[]]];
-    every_call(&rt, alloc, "32 bits", list, &[IntPoint::new(i32::MIN, 1)])?;
+    let contour = &[IntPoint::new(i32::MIN, 1)];
+    every_call(&rt, alloc, "32 bits", TWO_SHAPES, contour)?;
     let list: &[&[&[[i64; 2]]]] = &[&[&[[1, 2]]], &[&[[3, 4], [5, 6]], &[]]];
     every_call(&rt, alloc, "64 bits", list, &[IntPoint::new(i64::MIN, 1)])
 }

@@ -132,6 +132,20 @@ fn some_paths<P: Copy>(alloc: Global, path: &[P]) -> Result<[Vec<P>; 3], Fail> {
     ])
 }
 
+/// An array, the vector of its items and a slice of that, each behind one reference and behind two, lend these paths.
+macro_rules! lend_alike {
+    ($lends:ident, $rt:ident, $alloc:ident, $name:ident, $array:ident, $wanted:ident) => {
+        $lends($rt, $name, "an array", &$array, &$wanted);
+        $lends($rt, $name, "a reference to an array", &&$array, &$wanted);
+        let vector = Vec::from_array($alloc, $array)?;
+        $lends($rt, $name, "a vector", &vector, &$wanted);
+        $lends($rt, $name, "a reference to a vector", &&vector, &$wanted);
+        let slice = vector.as_slice();
+        $lends($rt, $name, "a slice", slice, &$wanted);
+        $lends($rt, $name, "a reference to a slice", &slice, &$wanted);
+    };
+}
+
 fn lends_lists_of_shapes<I: IntNumber>(
     rt: &impl Abort,
     alloc: Global,
@@ -140,14 +154,7 @@ fn lends_lists_of_shapes<I: IntNumber>(
 ) -> Result<(), Fail> {
     let wanted = paths_of_some_shapes(alloc, path)?;
     let array = some_shapes(alloc, path)?;
-    lends(rt, name, "an array", &array, &wanted);
-    lends(rt, name, "a reference to an array", &&array, &wanted);
-    let vector = Vec::from_array(alloc, array)?;
-    lends(rt, name, "a vector", &vector, &wanted);
-    lends(rt, name, "a reference to a vector", &&vector, &wanted);
-    let slice = vector.as_slice();
-    lends(rt, name, "a slice", slice, &wanted);
-    lends(rt, name, "a reference to a slice", &slice, &wanted);
+    lend_alike!(lends, rt, alloc, name, array, wanted);
     Ok(())
 }
 
@@ -157,16 +164,11 @@ fn lends_lists_of_paths<I: IntNumber>(
     name: &str,
     path: &[IntPoint<I>],
 ) -> Result<(), Fail> {
+    let wanted = some_paths(alloc, path)?;
     let array = some_paths(alloc, path)?;
-    lends(rt, name, "an array", &array, &array);
-    lends(rt, name, "a reference to an array", &&array, &array);
-    let vector = Vec::from_array(alloc, array)?;
-    lends(rt, name, "a vector", &vector, &vector);
-    lends(rt, name, "a reference to a vector", &&vector, &vector);
-    let slice = vector.as_slice();
-    lends(rt, name, "a slice", slice, slice);
-    lends(rt, name, "a reference to a slice", &slice, slice);
-    lends(rt, name, "an empty slice", &slice[..0], &slice[..0]);
+    lend_alike!(lends, rt, alloc, name, array, wanted);
+    let none = &wanted.as_slice()[..0];
+    lends(rt, name, "an empty slice", none, none);
     Ok(())
 }
 
@@ -176,17 +178,10 @@ fn lends_one_path<I: IntNumber>(
     name: &str,
     array: [IntPoint<I>; 2],
 ) -> Result<(), Fail> {
-    let vector = array.to_vec(alloc)?;
-    let wanted = vec![in alloc; array.to_vec(alloc)?]?;
-    lends(rt, name, "an array", &array, &wanted);
-    lends(rt, name, "a reference to an array", &&array, &wanted);
-    lends(rt, name, "a vector", &vector, &wanted);
-    lends(rt, name, "a reference to a vector", &&vector, &wanted);
-    let slice = vector.as_slice();
-    lends(rt, name, "a slice", slice, &wanted);
-    lends(rt, name, "a reference to a slice", &slice, &wanted);
     let wanted = vec![in alloc; Vec::new(alloc)]?;
-    lends(rt, name, "an empty slice", &slice[..0], &wanted);
+    lends(rt, name, "an empty slice", &array.as_slice()[..0], &wanted);
+    let wanted = vec![in alloc; array.to_vec(alloc)?]?;
+    lend_alike!(lends, rt, alloc, name, array, wanted);
     Ok(())
 }
 
@@ -198,14 +193,7 @@ fn lends_points_lists_of_shapes<P: ShapePoint + PartialEq>(
 ) -> Result<(), Fail> {
     let wanted = paths_of_some_shapes(alloc, path)?;
     let array = some_shapes(alloc, path)?;
-    lends_points(rt, name, "an array", &array, &wanted);
-    lends_points(rt, name, "a reference to an array", &&array, &wanted);
-    let vector = Vec::from_array(alloc, array)?;
-    lends_points(rt, name, "a vector", &vector, &wanted);
-    lends_points(rt, name, "a reference to a vector", &&vector, &wanted);
-    let slice = vector.as_slice();
-    lends_points(rt, name, "a slice", slice, &wanted);
-    lends_points(rt, name, "a reference to a slice", &slice, &wanted);
+    lend_alike!(lends_points, rt, alloc, name, array, wanted);
     Ok(())
 }
 
@@ -215,16 +203,11 @@ fn lends_points_lists_of_paths<P: ShapePoint + PartialEq>(
     name: &str,
     path: &[P],
 ) -> Result<(), Fail> {
+    let wanted = some_paths(alloc, path)?;
     let array = some_paths(alloc, path)?;
-    lends_points(rt, name, "an array", &array, &array);
-    lends_points(rt, name, "a reference to an array", &&array, &array);
-    let vector = Vec::from_array(alloc, array)?;
-    lends_points(rt, name, "a vector", &vector, &vector);
-    lends_points(rt, name, "a reference to a vector", &&vector, &vector);
-    let slice = vector.as_slice();
-    lends_points(rt, name, "a slice", slice, slice);
-    lends_points(rt, name, "a reference to a slice", &slice, slice);
-    lends_points(rt, name, "an empty slice", &slice[..0], &slice[..0]);
+    lend_alike!(lends_points, rt, alloc, name, array, wanted);
+    let none = &wanted.as_slice()[..0];
+    lends_points(rt, name, "an empty slice", none, none);
     Ok(())
 }
 
@@ -234,18 +217,22 @@ fn lends_points_one_path<P: ShapePoint + PartialEq>(
     name: &str,
     array: [P; 2],
 ) -> Result<(), Fail> {
-    let vector = array.to_vec(alloc)?;
-    let wanted = vec![in alloc; array.to_vec(alloc)?]?;
-    lends_points(rt, name, "an array", &array, &wanted);
-    lends_points(rt, name, "a reference to an array", &&array, &wanted);
-    lends_points(rt, name, "a vector", &vector, &wanted);
-    lends_points(rt, name, "a reference to a vector", &&vector, &wanted);
-    let slice = vector.as_slice();
-    lends_points(rt, name, "a slice", slice, &wanted);
-    lends_points(rt, name, "a reference to a slice", &slice, &wanted);
     let wanted = vec![in alloc; Vec::new(alloc)]?;
-    lends_points(rt, name, "an empty slice", &slice[..0], &wanted);
+    lends_points(rt, name, "an empty slice", &array.as_slice()[..0], &wanted);
+    let wanted = vec![in alloc; array.to_vec(alloc)?]?;
+    lend_alike!(lends_points, rt, alloc, name, array, wanted);
     Ok(())
+}
+
+/// A vector of borrowed paths, behind one reference and behind two, lends them.
+fn lends_vector<I: IntNumber>(
+    rt: &impl Abort,
+    name: &str,
+    vector: &Vec<&[IntPoint<I>]>,
+    wanted: &[Vec<IntPoint<I>>],
+) {
+    lends(rt, name, "a vector", vector, wanted);
+    lends(rt, name, "a reference to a vector", &vector, wanted);
 }
 
 /// A list of the points, of no point and of the last point, all borrowed, lends these three.
@@ -257,19 +244,25 @@ fn lends_borrowed_paths<I: IntNumber>(
 ) -> Result<(), Fail> {
     let wanted = some_paths(alloc, points)?;
     let array = [points, &points[..0], &points[1.min(points.len())..]];
-    let borrowed = &array;
-    lends(rt, name, "borrowed paths", borrowed, &wanted);
-    lends(
-        rt,
-        name,
-        "a reference to borrowed paths",
-        &borrowed,
-        &wanted,
-    );
+    lends(rt, name, "an array", &array, &wanted);
+    lends(rt, name, "a reference to an array", &&array, &wanted);
     let slice = array.as_slice();
     lends(rt, name, "a slice", slice, &wanted);
     lends(rt, name, "a reference to a slice", &slice, &wanted);
+    let vector = Vec::from_array(alloc, array)?;
+    lends_vector(rt, name, &vector, &wanted);
     Ok(())
+}
+
+/// A vector of borrowed paths, behind one reference and behind two, lends them.
+fn lends_points_vector<P: ShapePoint + PartialEq>(
+    rt: &impl Abort,
+    name: &str,
+    vector: &Vec<&[P]>,
+    wanted: &[Vec<P>],
+) {
+    lends_points(rt, name, "a vector", vector, wanted);
+    lends_points(rt, name, "a reference to a vector", &vector, wanted);
 }
 
 /// A list of the points, of no point and of the last point, all borrowed, lends these three.
@@ -281,18 +274,13 @@ fn lends_points_borrowed_paths<P: ShapePoint + PartialEq>(
 ) -> Result<(), Fail> {
     let wanted = some_paths(alloc, points)?;
     let array = [points, &points[..0], &points[1.min(points.len())..]];
-    let borrowed = &array;
-    lends_points(rt, name, "borrowed paths", borrowed, &wanted);
-    lends_points(
-        rt,
-        name,
-        "a reference to borrowed paths",
-        &borrowed,
-        &wanted,
-    );
+    lends_points(rt, name, "an array", &array, &wanted);
+    lends_points(rt, name, "a reference to an array", &&array, &wanted);
     let slice = array.as_slice();
     lends_points(rt, name, "a slice", slice, &wanted);
     lends_points(rt, name, "a reference to a slice", &slice, &wanted);
+    let vector = Vec::from_array(alloc, array)?;
+    lends_points_vector(rt, name, &vector, &wanted);
     Ok(())
 }
 
@@ -548,85 +536,59 @@ fn points_that_no_range_names_may_be_far(rt: HostRuntime) -> Result<(), Fail> {
     is_safe_by(&rt, alloc, "a range names it", &[0..1, 0..0, 1..2], false)
 }
 
-#[test]
-fn count_is_the_number_of_paths_left(rt: HostRuntime) -> Result<(), Fail> {
-    let alloc = rt.alloc();
-    let path = [IntPoint::new(7, 1), IntPoint::new(2, -3)];
-    let mut walk = (&path).iter_paths();
-    walk.next();
-    equal(&rt, walk.count(), 0, "points", "paths after one");
-    let shape = [path.to_vec(alloc)?, path.to_vec(alloc)?];
-    let mut walk = (&shape).iter_paths();
-    walk.next();
-    equal(&rt, walk.count(), 1, "two paths", "paths after one");
-    let two = vec![in alloc; path.to_vec(alloc)?, path.to_vec(alloc)?]?;
-    let one = vec![in alloc; path.to_vec(alloc)?]?;
-    let shapes = [two, one];
-    let mut walk = (&shapes).iter_paths();
-    walk.next();
-    equal(&rt, walk.count(), 2, "two shapes", "paths after one");
-    Ok(())
+/// The numbers of paths left: of a path, of a shape, and of lists of shapes, of which some may be empty.
+macro_rules! count_paths_left {
+    ($rt:ident, $alloc:ident, $name:ident, $path:ident) => {
+        let mut walk = $path.iter_paths();
+        walk.next();
+        equal($rt, walk.count(), 0, $name, "a path, after one");
+        let shape = [$path.to_vec($alloc)?, $path.to_vec($alloc)?];
+        let mut walk = (&shape).iter_paths();
+        walk.next();
+        equal($rt, walk.count(), 1, $name, "two paths, after one");
+        let two = vec![in $alloc; $path.to_vec($alloc)?, $path.to_vec($alloc)?]?;
+        let one = vec![in $alloc; $path.to_vec($alloc)?]?;
+        let shapes = [two, one];
+        let mut walk = (&shapes).iter_paths();
+        walk.next();
+        equal($rt, walk.count(), 2, $name, "two shapes, after one");
+        let shapes = some_shapes($alloc, $path)?;
+        let mut walk = (&shapes).iter_paths();
+        equal($rt, (&shapes).iter_paths().count(), 4, $name, "some shapes");
+        walk.next();
+        walk.next();
+        equal($rt, walk.count(), 2, $name, "some shapes, after two");
+        let mut walk = (&shapes).iter_paths();
+        walk.next();
+        walk.next();
+        walk.next();
+        walk.next();
+        equal($rt, walk.count(), 0, $name, "some shapes, after four");
+    };
 }
 
-#[test]
-fn count_passes_over_empty_shapes(rt: HostRuntime) -> Result<(), Fail> {
-    let path = [IntPoint::new(7, 1), IntPoint::new(2, -3)];
-    let shapes = some_shapes(rt.alloc(), &path)?;
-    let name = "shapes of which some are empty";
-    equal(&rt, (&shapes).iter_paths().count(), 4, name, "paths");
-    let mut walk = (&shapes).iter_paths();
-    walk.next();
-    walk.next();
-    equal(&rt, walk.count(), 2, name, "paths after two");
-    let mut walk = (&shapes).iter_paths();
-    walk.next();
-    walk.next();
-    walk.next();
-    walk.next();
-    equal(&rt, walk.count(), 0, name, "paths after four");
-    Ok(())
-}
-
-/// Of four nested paths three are left after one, and of three paths two.
 fn counts_paths_left<I: IntNumber>(
     rt: &impl Abort,
     alloc: Global,
     name: &str,
     path: &[IntPoint<I>],
 ) -> Result<(), Fail> {
-    let shapes = some_shapes(alloc, path)?;
-    equal(rt, (&shapes).iter_paths().count(), 4, name, "nested paths");
-    let mut walk = (&shapes).iter_paths();
-    walk.next();
-    equal(rt, walk.count(), 3, name, "nested paths after one");
-    let paths = some_paths(alloc, path)?;
-    let mut walk = (&paths).iter_paths();
-    walk.next();
-    equal(rt, walk.count(), 2, name, "paths after one");
+    count_paths_left!(rt, alloc, name, path);
     Ok(())
 }
 
-/// The same over points of another kind.
 fn counts_paths_of_points_left<P: ShapePoint>(
     rt: &impl Abort,
     alloc: Global,
     name: &str,
     path: &[P],
 ) -> Result<(), Fail> {
-    let shapes = some_shapes(alloc, path)?;
-    equal(rt, (&shapes).iter_paths().count(), 4, name, "nested paths");
-    let mut walk = (&shapes).iter_paths();
-    walk.next();
-    equal(rt, walk.count(), 3, name, "nested paths after one");
-    let paths = some_paths(alloc, path)?;
-    let mut walk = (&paths).iter_paths();
-    walk.next();
-    equal(rt, walk.count(), 2, name, "paths after one");
+    count_paths_left!(rt, alloc, name, path);
     Ok(())
 }
 
 #[test]
-fn nested_paths_of_each_width_are_counted(rt: HostRuntime) -> Result<(), Fail> {
+fn paths_left_are_counted_at_each_width(rt: HostRuntime) -> Result<(), Fail> {
     let alloc = rt.alloc();
     counts_paths_left(&rt, alloc, "16 bits", &[IntPoint::new(7i16, 1)])?;
     counts_paths_left(&rt, alloc, "32 bits", &[IntPoint::new(7i32, 1)])?;
