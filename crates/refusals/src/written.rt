@@ -136,8 +136,8 @@ fn despike_into(rt: HostRuntime) -> Result<(), Fail> {
 #[test]
 fn written_where_it_is_clean(rt: HostRuntime) -> Result<(), Fail> {
     let points = few(&rt, SQUARE.as_slice());
-    let mut simplifier = ContourSimplifier::with_room(rt.alloc(), 100);
-    let mut despiker = ContourDeSpiker::with_room(rt.alloc(), 100);
+    let mut simplifier = ContourSimplifier::new(rt.alloc());
+    let mut despiker = ContourDeSpiker::new(rt.alloc());
     let mut out = MARKS;
     let result = simplifier.simplify_into(points, out.as_mut_slice());
     let name = "ContourSimplifier::simplify_into of a clean contour";
@@ -245,9 +245,12 @@ fn told_of_growing(
 
 #[test]
 fn simplify_into_with_room(rt: HostRuntime) -> Result<(), Fail> {
-    let mut simplifier = ContourSimplifier::with_room(rt.alloc(), 9);
+    let mut simplifier = ContourSimplifier::new(rt.alloc());
     let mut out = MARKS;
-    let result = simplified_counts(&rt, &mut simplifier, &mut out);
+    let result = match simplifier.reserve(9) {
+        Ok(()) => simplified_counts(&rt, &mut simplifier, &mut out),
+        Err(error) => Err(error),
+    };
     let name = "ContourSimplifier::simplify_into of growing contours with room";
     told_of_growing(&rt, name, result, &out, &BOTH)?;
     Ok(())
@@ -255,9 +258,12 @@ fn simplify_into_with_room(rt: HostRuntime) -> Result<(), Fail> {
 
 #[test]
 fn canonical_into_with_room(rt: HostRuntime) -> Result<(), Fail> {
-    let mut simplifier = ContourSimplifier::with_room(rt.alloc(), 9);
+    let mut simplifier = ContourSimplifier::new(rt.alloc());
     let mut out = MARKS;
-    let result = canonical_counts(&rt, &mut simplifier, &mut out);
+    let result = match simplifier.reserve(9) {
+        Ok(()) => canonical_counts(&rt, &mut simplifier, &mut out),
+        Err(error) => Err(error),
+    };
     let name = "ContourSimplifier::canonical_into of growing contours with room";
     let last = points![[0, 0], [1, 0], [0, 1], [0, 0], [2, 0], [2, 2], [0, 2]];
     told_of_growing(&rt, name, result, &out, &last)?;
@@ -266,9 +272,12 @@ fn canonical_into_with_room(rt: HostRuntime) -> Result<(), Fail> {
 
 #[test]
 fn despike_into_with_room(rt: HostRuntime) -> Result<(), Fail> {
-    let mut despiker = ContourDeSpiker::with_room(rt.alloc(), 9);
+    let mut despiker = ContourDeSpiker::new(rt.alloc());
     let mut out = MARKS;
-    let result = despiked_counts(&rt, &mut despiker, &mut out);
+    let result = match despiker.reserve(9) {
+        Ok(()) => despiked_counts(&rt, &mut despiker, &mut out),
+        Err(error) => Err(error),
+    };
     let name = "ContourDeSpiker::despike_into of growing contours with room";
     told_of_growing(&rt, name, result, &out, &BOTH)?;
     Ok(())
