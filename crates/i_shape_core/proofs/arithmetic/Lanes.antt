@@ -135,29 +135,6 @@ module _ (w W : Width) (wide : hbits W ≡ 2 * hbits w + 1) (some : 2 ≤ hbits 
         λ z. mask.1 (elim z [ inl g ↦ inl (first.1 g) | inr g ↦ elim g [ inl i ↦ inr (inl (second.1 i)) | inr i ↦ elim i [ inl j ↦ inr (inr (inl (third.1 j))) | inr j ↦ inr (inr (inr (fourth.1 j))) ] ] ]),
       )
 
-  -- the two products of a turn fit
-  abbrev pub LanesFit : Point → Point → Point → Type 0
-  LanesFit a b c = FitsSigned W (lane_product w W (b.x -ℤ a.x) (c.y -ℤ b.y)) × FitsSigned W (lane_product w W (b.y -ℤ a.y) (c.x -ℤ b.x))
-
-  turn_fits : (a b c : Point) → IsSafe w a → IsSafe w b → IsSafe w c → LanesFit a b c
-  turn_fits a b c r s t = (
-    fits _ _ (safe-difference w some split b.x a.x s.0 r.0) (safe-difference w some split c.y b.y t.1 s.1),
-    fits _ _ (safe-difference w some split b.y a.y s.1 r.1) (safe-difference w some split c.x b.x t.0 s.0),
-  )
-    where
-      fits : (a b : ℤ) → FitsSigned w a → FitsSigned w b → FitsSigned W (lane_product w W a b)
-      fits a b f g = rw (product_of_lanes w W wide a b f g) (product-fits w W wide a b f g)
-
-  pub lanes_fit : (a b c d e f : Point) → IsSafeContour w (a ∷ b ∷ c ∷ d ∷ e ∷ f ∷ []) → LanesFit a b c × LanesFit b c d × LanesFit c d e × LanesFit d e f
-  lanes_fit a b c d e f safe =
-      let r : IsSafe w a = safe 0 origin (omega arith) in
-      let s : IsSafe w b = safe 1 origin (omega arith) in
-      let t : IsSafe w c = safe 2 origin (omega arith) in
-      let u : IsSafe w d = safe 3 origin (omega arith) in
-      let v : IsSafe w e = safe 4 origin (omega arith) in
-      let x : IsSafe w f = safe 5 origin (omega arith) in
-      (turn_fits a b c r s t, turn_fits b c d s t u, turn_fits c d e t u v, turn_fits d e f u v x)
-
 -- the low halves of the two products of a zero turn are equal
 pub low_halves_equal : (W : Width) (a b c : Point) → IsZeroTurn a b c → int_wrap W ((b.x -ℤ a.x) *ℤ (c.y -ℤ b.y)) ≡ int_wrap W ((b.y -ℤ a.y) *ℤ (c.x -ℤ b.x))
 low_halves_equal W a b c z = ap (int_wrap W) (zero_products a b c z)
