@@ -58,7 +58,7 @@ pub returns-in_err-written-clause-err : goal.returns-in_err-written-clause-err
 returns-in_err-written-clause-err g c =
     let up = rises_to c.args.offsets.now (length c.args.offsets.now) (c.loop-place.place - 1) (length c.args.offsets.now - 1) c.requires.can.parted.order (omega (arith, c.loop-place-test.true)) (omega (arith, c.requires.can.parted.some)) in
     let less : c.loop-place.written ≤ length c.args.points.now = omega (arith, up, c.requires.can.parted.last, c.loop-place.invariant.done.fewer) in
-    on_err {Q = IsWithin (length c.args.points.now) (length c.args.offsets.now) c.args.out_points.now c.clean_into.new.out c.args.out_offsets.now c.loop-place.out_offsets} c.from_residual.result (record {
+    on_err {Q = IsWithin (length c.args.points.now) (length c.args.offsets.now) c.args.out_points.now c.clean_into.new.out c.args.out_offsets.now c.loop-place.out_offsets} c.from_residual-in_err-written.result (record {
       points = ap (drop (length c.args.points.now)) c.in_err-written.ensures.err ∙ same_further c.loop-place.out_points c.args.out_points.now c.loop-place.written (length c.args.points.now) less c.loop-place.invariant.points_rest;
       offsets = same_further c.loop-place.out_offsets c.args.out_offsets.now c.loop-place.place (length c.args.offsets.now) (omega (arith, c.loop-place-test.true)) c.loop-place.invariant.offsets_rest;
     })
@@ -74,7 +74,7 @@ pub returns-in_err-written-clause-memory : goal.returns-in_err-written-clause-me
 returns-in_err-written-clause-memory g c =
     let place = c.loop-place.place in
     let next : place - 1 + 1 ≡ place = omega arith in
-    on_err c.from_residual.result (λ none.
+    on_err c.from_residual-in_err-written.result (λ none.
     let here = none (place - 1) (omega (arith, c.loop-place-test.true)) in
     c.in_err-written.ensures.memory (rw (c.part-ring.ensures.part) (rw next at here)))
 
