@@ -211,7 +211,7 @@ impl ContourDeSpiker {
         Ok(self.walk_into(contour, out))
     }
 
-    /// The same of a contour of more than three points, for whose places there is room, without a test before the walk.
+    /// The same of a contour of at least three points, for whose places there is room, without a test before the walk.
     fn walk_into<P: ContourPoint>(&mut self, contour: &[P], out: &mut [P]) -> usize
         requires points_safe { IsSafeContour P.Coordinate.width
             (contour_of P.Coordinate.value (P.points contour.now)) }
@@ -232,7 +232,8 @@ impl ContourDeSpiker {
         write_at(contour, self.places.as_slice(), out)
     }
 
-    /// The ring of all places below `count`, for which there is room, with the walk at `place` and the places before it tested.
+    /// The ring of all places below `count`, for which there is room, with the walk at `place` and the places before it tested. It takes
+    /// the memory of `places`, which `walk` gives back.
     fn ring_at(&mut self, count: usize, place: usize) -> Ring
         requires within { place < count }
         requires room { HasRoomToDespike self.old count }

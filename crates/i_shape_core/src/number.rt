@@ -60,7 +60,7 @@ pub trait WideIntNumber: Copy + Ord {
     ghost injective: { (a b : Self) → value a ≡ value b → a ≡ b };
 }
 
-/// A signed integer type of coordinates.
+/// A signed integer type of coordinates. No other crate can implement it.
 pub trait IntNumber: ZeroTurns + Copy + Ord {
     /// The type in which products of coordinates fit.
     type Wide: WideIntNumber;

@@ -151,8 +151,8 @@ impl ContourSimplifier {
     }
 }
 
-/// Where the contour has a zero turn: the first place and the end of a stack of places, none of them at a zero turn, and the place
-/// with which the walk goes on. It takes no memory.
+/// Where the contour has a zero turn: the first place and the end of a stack of places, and the place with which the walk goes on. No
+/// place between two others of the stack is a zero turn. It takes no memory.
 fn start_of_walk<'a, P: ContourPoint>(
     probe: Probe<'a, P::Coordinate, P>,
 ) -> (Probe<'a, P::Coordinate, P>, Option<(usize, usize, usize)>)
@@ -164,6 +164,7 @@ fn start_of_walk<'a, P: ContourPoint>(
         s.0 s.1 s.2 result.0.visits) }
     ensures clean { let c = contour_of P.Coordinate.value probe.entry.contour in
         result.1 ≡ None → Finds IsZeroTurn c c result.0.visits }
+    ensures counted { result.1 ≡ None → result.0.visits ≡ length probe.entry.contour }
 {
     let (mut probe, place) = clean_prefix(probe);
     let count = probe.len();
@@ -242,6 +243,8 @@ fn pop_zero_turns<'a, P: ContourPoint>(
     ensures room { vec_capacity stack.new ≡ vec_capacity stack.old }
     ensures most { result.visits + vec_len stack.new ≤ 2 * place + 1 }
     ensures least { place ≤ result.visits + min (vec_len stack.new) 1 }
+    ensures counted { result.visits + vec_len stack.new
+        ≡ probe.entry.visits + vec_len stack.old + min (vec_len stack.new - 1) 1 }
 {
     while stack.len() >= 2 {
         let top = stack.len() - 1;

@@ -1,4 +1,4 @@
-use Rattle.std.proofs.Common.{◌≡◌, vec_len, vec_capacity}
+use Rattle.std.proofs.Common.{◌≡◌, ◌+◌, vec_len, vec_capacity}
 use Rattle.i_shape_core.specs.IntPoint.{contour_of}
 use Rattle.i_shape_core.specs.Point.{IsZeroTurn}
 use Rattle.i_shape_core.specs.Walks.{IsWalked}
@@ -9,6 +9,7 @@ invariant-loop-stack g l = record {
   contour : l.probe.contour ≡ l.initial.probe.contour;
   walked : IsWalked IsZeroTurn (contour_of g.P.Coordinate.IntNumber.value l.initial.probe.contour) l.stack.items l.place l.probe.visits;
   room : vec_capacity l.stack ≡ vec_capacity l.initial.stack;
+  counted : l.probe.visits + vec_len l.stack ≡ l.initial.probe.visits + vec_len l.initial.stack;
 }
 
 abbrev pub decreases-loop-stack : goal.decreases-loop-stack
