@@ -5,7 +5,6 @@ pub use Rattle.i_shape_core.specs.Contour
 pub use Rattle.i_shape_core.specs.Edges
 pub use Rattle.i_shape_core.specs.Winding
 pub use Rattle.i_shape_core.specs.Moves
-pub use Rattle.i_shape_core.specs.RationalPoints
 pub use Rattle.i_shape_core.specs.Boundary
 pub use Rattle.i_shape_core.specs.Filling
 pub use Rattle.i_shape_core.specs.Convex

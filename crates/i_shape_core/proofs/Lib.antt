@@ -6,7 +6,7 @@ pub mod plane
 pub mod lists
 -- removals from a contour: steps, ends, rotations, both directions
 pub mod removal
--- sums over edges: area, containment, winding numbers, the boundary
+-- sums over edges: area, containment, winding numbers
 pub mod measure
 -- contours that are moved by an affine map
 pub mod moved

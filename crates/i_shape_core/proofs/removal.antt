@@ -7,7 +7,6 @@ pub mod Confluence
 pub mod Ends
 pub mod Reversal
 pub mod BackFirst
-pub mod DistinctPoints
 pub mod ZeroTurns
 pub mod Repeats
 pub mod Dedup

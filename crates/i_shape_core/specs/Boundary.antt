@@ -1,8 +1,7 @@
 -- The points on the edges of a contour.
-use Rattle.std.specs.Prelude.{◌≡◌, ◌<◌, ◌≤ℤ◌, ℕ, ℤ, pos, List, length}
-use Rattle.i_shape_core.specs.Point.{Point, cross, dot, IsZeroTurn}
-use Rattle.i_shape_core.specs.Contour.{point_at, place_after, Reach}
-use Rattle.i_shape_core.specs.Moves.{moved, scaling}
+use Rattle.std.specs.Prelude.{◌≡◌, ◌<◌, ◌≤ℤ◌, ℕ, pos, List, length}
+use Rattle.i_shape_core.specs.Point.{Point, cross, dot}
+use Rattle.i_shape_core.specs.Contour.{point_at, place_after}
 
 -- p lies on the segment from a to b, or is an end of it
 pub record IsBetween (a p b : Point) : Type 0 where
@@ -14,7 +13,3 @@ pub record IsOnEdge (c : List Point) (p : Point) : Type 0 where
   pub place : ℕ
   pub within : place < length c
   pub between : IsBetween (point_at c place) p (point_at c (place_after (length c) place))
-
--- removals add no point to the edges; n is a common denominator, other than 0: a point whose coordinates are p.x / n and p.y / n lies on an edge of c where p lies on an edge of c scaled by n
-abbrev pub BoundaryWithin : List Point → List Point → Type 0
-BoundaryWithin c d = Reach IsZeroTurn c d → (n : ℤ) (p : Point) → IsOnEdge (moved (scaling n) d) p → IsOnEdge (moved (scaling n) c) p

@@ -53,10 +53,6 @@ abbrev pub CanonicalJoined : List Point → List Point → Type 0
 CanonicalJoined c d = (e f l m : List Point) → End IsZeroTurn c e → 3 ≤ length e → End IsZeroTurn d f → 3 ≤ length f
     → IsLeast e l → IsLeast f m → (l ≡ m) ↔ Joined IsZeroTurn c d
 
--- no contour that is joined to c has fewer points than an end of c
-abbrev pub Shortest : List Point → List Point → Type 0
-Shortest c d = Joined IsZeroTurn c d → (e : List Point) → End IsZeroTurn c e → length e ≤ length d
-
 -- l is the canonical form of c, or that of c read backwards: the one that comes first
 pub record IsUnoriented (c l : List Point) : Type 0 where
   pub forwards : List Point
@@ -97,7 +93,3 @@ KeptEitherWay c (Some e) = IsKeptEitherWay c e
 -- c is joined to d, or to d read backwards
 abbrev pub JoinedEitherWay : List Point → List Point → Type 0
 JoinedEitherWay c d = Joined IsZeroTurn c d ⊎ Joined IsZeroTurn c (reverse d)
-
--- where two contours have unoriented forms, these are one list exactly where the contours are joined either way
-abbrev pub UnorientedJoined : List Point → List Point → Type 0
-UnorientedJoined c d = (l m : List Point) → UnorientedAnswer c (Some l) → UnorientedAnswer d (Some m) → (l ≡ m) ↔ JoinedEitherWay c d

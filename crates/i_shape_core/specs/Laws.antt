@@ -1,12 +1,9 @@
 -- The laws of removal, over whole numbers: what holds of the contours that removals lead to.
-use Rattle.std.specs.Prelude.{◌≡◌, ◌<◌, ◌≤◌, pos, neg_ℤ, ◌<ℤ◌, ◌⊎◌, List, [], ◌∷◌, ◌++◌, reverse, length, ◌↔◌, Option, option_map}
+use Rattle.std.specs.Prelude.{◌≡◌, ◌<◌, ◌≤◌, List, ◌∷◌, ◌++◌, reverse, length, ◌↔◌}
 use Rattle.i_shape_core.specs.Point.{Point, IsZeroTurn, IsBack}
 use Rattle.i_shape_core.specs.Contour.{Reach, End, Rotation, SameEnd, IsCollapsed, IsSimple}
 use Rattle.i_shape_core.specs.Edges.{shoelace, Inside}
 use Rattle.i_shape_core.specs.Convex.{NoSpikes, Convex}
-use Rattle.i_shape_core.specs.Cleaners.{SimpleAnswer, DespikeAnswer}
-use Rattle.i_shape_core.specs.Moves.{Move, determinant, moved_point, moved}
-use Rattle.i_shape_core.specs.Winding.{winding}
 
 -- any two ends of c are one cycle, or both have collapsed
 abbrev pub OneEnd : List Point → Type 0
@@ -31,20 +28,6 @@ pub record EveryOrder (c : List Point) : Type 0 where
   pub none : (d f : List Point) → Reach IsZeroTurn c d → IsCollapsed d → End IsZeroTurn c f → IsCollapsed f
   pub exists : (e : List Point) × End IsZeroTurn c e
 
--- p is one of the points of c
-abbrev pub IsIn : Point → List Point → Type 0
-IsIn p [] = ⊥
-IsIn p (q ∷ c) = (p ≡ q) ⊎ IsIn p c
-
--- no point stands twice in c
-abbrev pub Distinct : List Point → Type 0
-Distinct [] = Unit {0}
-Distinct (p ∷ c) = (IsIn p c → ⊥) × Distinct c
-
--- where no point stands twice, every order leaves one certain list
-abbrev pub OneCertainEnd : List Point → Type 0
-OneCertainEnd c = Distinct c → (e f : List Point) → End IsZeroTurn c e → 3 ≤ length e → End IsZeroTurn c f → f ≡ e
-
 -- what is left of c where back vertices alone are removed has collapsed where the ends of c have, and otherwise has their ends
 pub record Agreed (c : List Point) : Type 0 where
   pub alike : (d e : List Point) → End IsBack c d → End IsZeroTurn c e → IsCollapsed d ↔ IsCollapsed e
@@ -65,17 +48,3 @@ pub record ConvexKept (c : List Point) : Type 0 where
   pub rotated : (d : List Point) → Rotation c d → Convex c ↔ Convex d
   pub backwards : Convex c ↔ Convex (reverse c)
   pub repeated : (u : List Point) (p : Point) (t : List Point) → c ≡ u ++ p ∷ t → Convex c ↔ Convex (u ++ p ∷ p ∷ t)
-
--- where a move keeps different points apart, a contour and the moved one reach the same contours, moved, have the same ends, moved, also where points at which the way turns back are removed alone, and have the same answers of a cleaner, moved
-pub record MovedAlike (m : Move) (c : List Point) : Type 0 where
-  pub reached : (d : List Point) → Reach IsZeroTurn c d ↔ Reach IsZeroTurn (moved m c) (moved m d)
-  pub ends : (e : List Point) → End IsZeroTurn c e ↔ End IsZeroTurn (moved m c) (moved m e)
-  pub every : (f : List Point) → End IsZeroTurn (moved m c) f → (e : List Point) × End IsZeroTurn c e × (f ≡ moved m e)
-  pub backwards : (e : List Point) → End IsBack c e ↔ End IsBack (moved m c) (moved m e)
-  pub answers : (r : Option (List Point)) → SimpleAnswer c r ↔ SimpleAnswer (moved m c) (option_map (moved m) r)
-  pub despiked : (r : Option (List Point)) → DespikeAnswer c r ↔ DespikeAnswer (moved m c) (option_map (moved m) r)
-
--- a moved contour winds about the moved point as often as the contour about the point, and as often the other way where the move mirrors the plane
-pub record WindingMoved (m : Move) (c : List Point) (p : Point) : Type 0 where
-  pub kept : pos 0 <ℤ determinant m → winding (moved m c) (moved_point m p) ≡ winding c p
-  pub mirrored : determinant m <ℤ pos 0 → winding (moved m c) (moved_point m p) ≡ neg_ℤ (winding c p)

@@ -10,7 +10,6 @@ pub mod Convex
 pub mod Cleaners
 pub mod Laws
 pub mod Survivors
-pub mod RationalPoints
 pub mod Filling
 pub mod Boundary
 pub mod Written

@@ -1,7 +1,6 @@
 -- How often a contour winds about a point.
-use Rattle.std.specs.Prelude.{◌≡◌, ◌<◌, ◌%◌, ℕ, ℤ, pos, neg_ℤ, ◌+ℤ◌, ◌-ℤ◌, ◌≤ℤ◌, List, reverse, length, cond, unsigned_abs}
-use Rattle.i_shape_core.specs.Point.{Point, IsZeroTurn}
-use Rattle.i_shape_core.specs.Contour.{Reach, Rotation}
+use Rattle.std.specs.Prelude.{◌≡◌, ◌%◌, ℕ, ℤ, pos, neg_ℤ, ◌+ℤ◌, ◌-ℤ◌, ◌≤ℤ◌, List, cond, unsigned_abs}
+use Rattle.i_shape_core.specs.Point.{Point}
 use Rattle.i_shape_core.specs.Edges.{Edge, edges, sum_of, is_above, is_right}
 
 -- 1 for a point above p, and otherwise 0
@@ -25,16 +24,6 @@ pub record IsWithinHalf (n : ℕ) (z : ℤ) : Type 0 where
 abbrev pub shape_winding : List (List Point) → Point → ℤ
 shape_winding contours p = sum_of (λ c. winding c p) contours
 
--- removals keep how often the contour winds about each point; fewer than three points wind about none
-pub record WindingKept (c d : List Point) : Type 0 where
-  pub kept : Reach IsZeroTurn c d → (p : Point) → winding c p ≡ winding d p
-  pub none : length c < 3 → (p : Point) → winding c p ≡ pos 0
-
--- a point is inside where the contour winds about it an odd number of times
+-- z is odd: a point is inside where the contour winds about it an odd number of times
 abbrev pub IsOdd : ℤ → Type 0
 IsOdd z = unsigned_abs z % 2 ≡ 1
-
--- a contour has the same winding numbers from whichever point it starts, and the opposite ones backwards
-pub record WindingRotated (c d : List Point) : Type 0 where
-  pub rotated : Rotation c d → (p : Point) → winding c p ≡ winding d p
-  pub backwards : (p : Point) → winding (reverse c) p ≡ neg_ℤ (winding c p)

@@ -11,26 +11,27 @@ fn laws_hold<I: IntNumber>(c: &[IntPoint<I>], d: &[IntPoint<I>]) {
     laws::rotated(c, d);
     laws::reversed(c);
     laws::twice(c);
-    laws::every_order(c);
-    laws::one_certain_end(c);
     laws::agreed(c);
     laws::area_kept(c, d);
     laws::inside_kept(c, d);
     laws::convex_kept(c);
-    laws::winding_kept(c, d);
-    laws::winding_parity(c);
-    laws::winding_rotated(c, d);
     laws::canonical_joined(c, d);
-    laws::shortest();
     laws::points_equal(&IntPoint::<I>::ZERO, &IntPoint::<I>::ZERO);
     laws::points_ordered(&IntPoint::<I>::ZERO, &IntPoint::<I>::ZERO);
     laws::points_compared(&IntPoint::<I>::ZERO, &IntPoint::<I>::ZERO);
     laws::safe_differences_fit::<I>();
-    laws::winding_between();
-    laws::winding_moved();
-    laws::filling_kept();
-    laws::boundary_within();
-    laws::moved_alike();
+    i_shape_laws::every_order(c);
+    i_shape_laws::one_certain_end(c);
+    i_shape_laws::shortest();
+    i_shape_laws::unoriented_joined(c, d);
+    i_shape_laws::winding_kept(c, d);
+    i_shape_laws::winding_parity(c);
+    i_shape_laws::winding_rotated(c, d);
+    i_shape_laws::winding_between();
+    i_shape_laws::filling_kept();
+    i_shape_laws::boundary_within();
+    i_shape_laws::moved_alike();
+    i_shape_laws::winding_moved();
 }
 
 #[test]

@@ -2,15 +2,15 @@
 use Rattle.std.proofs.Common.{◌≡◌, ◌≤◌, List, length, sym, subst, arith}
 use Rattle.i_shape_core.specs.Point.{Point, IsZeroTurn}
 use Rattle.i_shape_core.specs.Contour.{Test, Reach, stay, step, End, Rotation, SameEnd, collapsed, rotated}
-use Rattle.i_shape_core.specs.Canonical.{IsLink, by_rotation, by_removal, by_insertion, Joined, alone, link, IsLeast, CanonicalJoined, Shortest}
+use Rattle.i_shape_core.specs.Canonical.{IsLink, by_rotation, by_removal, by_insertion, Joined, alone, link, IsLeast, CanonicalJoined}
 use Rattle.i_shape_core.proofs.removal.Tests.{Slides, Decided}
 use Rattle.i_shape_core.proofs.removal.Rotations.{rotation_sym, rotation_trans, rotation_length}
 use Rattle.i_shape_core.proofs.removal.Ends.{ends_alike, one_end, has_end, end_of_step, same_end_trans, reach_shrinks, step_length}
 use Rattle.i_shape_core.proofs.least_rotation.Order.{at_most_antisym}
 use Rattle.i_shape_core.proofs.removal.ZeroTurns.{zero_turn_slides, zero_turn_decided}
 
--- chains
-joined_first : {P : Test} {c d : List Point} → Joined P c d → 3 ≤ length c
+-- the first of joined contours has three points
+pub joined_first : {P : Test} {c d : List Point} → Joined P c d → 3 ≤ length c
 joined_first (alone h) = h
 joined_first (link h l j) = h
 
@@ -70,14 +70,3 @@ canonical_joined c d e f l m a i b j x y = (to, from)
 
     from : Joined IsZeroTurn c d → l ≡ m
     from k = same (ends_of_joined zero_turn_slides zero_turn_decided k a b)
-
--- an end of a contour is as short as any that is joined to it
-pub end_is_shortest : (c d : List Point) → Shortest c d
-end_is_shortest c d j e a = same (ends_of_joined zero_turn_slides zero_turn_decided j a f.1)
-  where
-    f : (f : List Point) × End IsZeroTurn d f
-    f = has_end zero_turn_decided d
-
-    same : SameEnd e f.0 → length e ≤ length d
-    same (collapsed h k) = let enough = joined_first (joined_sym j) in omega arith
-    same (rotated h k r) = let shorter = reach_shrinks f.1.reached in let alike = rotation_length r in omega arith

@@ -7,7 +7,7 @@ use native.Mathlib.Decide.{dec_le}
 use Rattle.i_shape_core.specs.Point.{Point, IsZeroTurn}
 use Rattle.i_shape_core.specs.Contour.{End, stay}
 use Rattle.i_shape_core.specs.Cleaners.{EachEndCollapses, IsKept, KeptAnswer}
-use Rattle.i_shape_core.specs.Canonical.{IsAtMost, IsLeast, IsCanonical, CanonicalAnswer, Joined, started_at, IsUnoriented, IsLesserWay, UnorientedAnswer, IsKeptBackwards, IsKeptEitherWay, KeptEitherWay, JoinedEitherWay, UnorientedJoined}
+use Rattle.i_shape_core.specs.Canonical.{IsAtMost, IsLeast, IsCanonical, CanonicalAnswer, Joined, started_at, IsUnoriented, IsLesserWay, UnorientedAnswer, IsKeptBackwards, IsKeptEitherWay, KeptEitherWay, JoinedEitherWay}
 use Rattle.i_shape_core.proofs.least_rotation.Order.{at_most_refl, at_most_total, at_most_antisym}
 use Rattle.i_shape_core.proofs.removal.Ends.{has_end, no_step, all_left}
 use Rattle.i_shape_core.proofs.removal.ZeroTurns.{zero_turn_decided, every_order}
@@ -73,10 +73,6 @@ module _ (c d l m : List Point) (a : IsUnoriented c l) (b : IsUnoriented d m) wh
 -- two unoriented forms are one list exactly where their contours lead to each other, or to each other read backwards
 pub unoriented_one : (c d l m : List Point) → UnorientedAnswer c (Some l) → UnorientedAnswer d (Some m) → (l ≡ m) ↔ JoinedEitherWay c d
 unoriented_one c d l m a b = (forms_joined c d l m a b a.one b.one, joined_forms c d l m a b)
-
--- the law of the unoriented form: it is one for all contours that lead to each other in either direction
-pub unoriented_joined : (c d : List Point) → UnorientedJoined c d
-unoriented_joined c d l m a b = unoriented_one c d l m a b
 
 -- what answers are made of
 pub unoriented_lesser : (c f b l : List Point) → IsCanonical c f → IsLeast (reverse f) b → (l ≡ f) ⊎ (l ≡ b) → IsAtMost l f → IsAtMost l b → IsUnoriented c l

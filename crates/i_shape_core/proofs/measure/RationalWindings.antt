@@ -1,18 +1,17 @@
 -- How often a contour winds about a point of rational coordinates, where zero turns are taken out, from another start, and backwards.
 use Rattle.std.proofs.Common.{◌≡◌, ℤ, pos, neg_ℤ, List, [], ◌∷◌, ◌++◌, map, reverse, refl, sym, ap, ◌∙◌, arith}
 use Rattle.std.proofs.lemmas.List.{length-map, map-append, reverse-append}
-use Rattle.i_shape_core.specs.Point.{Point}
-use Rattle.i_shape_core.specs.Contour.{Rotation, IsCollapsed}
+use Rattle.i_shape_core.specs.Point.{Point, IsZeroTurn}
+use Rattle.i_shape_core.specs.Contour.{Reach, Rotation, IsCollapsed}
 use Rattle.i_shape_core.specs.Winding.{winding, winding_of_edge}
 use Rattle.i_shape_core.specs.Moves.{moved_point, moved, scaling}
-use Rattle.i_shape_core.specs.RationalPoints.{WindingBetween}
 use Rattle.i_shape_core.proofs.measure.RotatedEdges.{same_sum}
 use Rattle.i_shape_core.proofs.measure.Windings.{winding_kept, winding_none, winding_reversed}
 use Rattle.i_shape_core.proofs.moved.Mapped.{reach_mapped, rotation_mapped}
 use Rattle.i_shape_core.proofs.moved.ZeroTurns.{zero_moved}
 
 -- removals keep how often a contour winds about each point of rational coordinates
-pub winding_between : (c d : List Point) → WindingBetween c d
+pub winding_between : (c d : List Point) → Reach IsZeroTurn c d → (n : ℤ) (p : Point) → winding (moved (scaling n) c) p ≡ winding (moved (scaling n) d) p
 winding_between c d r n = winding_kept (moved (scaling n) c) (moved (scaling n) d) (reach_mapped (moved_point (scaling n)) (zero_moved (scaling n)) r)
 
 -- fewer than three points wind about none

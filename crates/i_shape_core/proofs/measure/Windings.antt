@@ -1,35 +1,34 @@
 -- How often a contour winds about a point, where zero turns are taken out.
-use Rattle.std.proofs.Common.{◌≡◌, ℕ, ◌+◌, ◌%◌, ◌<◌, List, [], ◌∷◌, ◌++◌, length, reverse, ℤ, pos, negsuc, ◌+ℤ◌, ◌-ℤ◌, neg_ℤ, refl, sym, ap, ◌∙◌, arith, ◌↔◌, Bool, true, false, cond, int_lt, count_by, unsigned_abs}
+use Rattle.std.proofs.Common.{◌≡◌, ◌<◌, List, [], ◌∷◌, ◌++◌, length, reverse, ℤ, pos, ◌+ℤ◌, ◌-ℤ◌, neg_ℤ, refl, sym, ap, ◌∙◌, arith, Bool, true, false, cond, int_lt}
 use Rattle.std.proofs.lemmas.Int.{ints}
 use Rattle.std.proofs.lemmas.List.{reverse-append}
-use Rattle.std.proofs.lemmas.List.Sums.{sum_by-cons}
 use Rattle.i_shape_core.specs.Point.{Point, cross, IsZeroTurn}
 use Rattle.i_shape_core.specs.Contour.{Step, Reach, stay, step, Rotation}
-use Rattle.i_shape_core.specs.Edges.{Edge, edges_between, edges, sum_of, is_right, Inside}
+use Rattle.i_shape_core.specs.Edges.{edges_between, edges, sum_of}
 use Rattle.i_shape_core.proofs.plane.CrossProducts.{edge, triangle_identity}
 use Rattle.i_shape_core.proofs.measure.Edges.{sum_without}
 use Rattle.i_shape_core.proofs.measure.Inside.{right_when, right_low, right_high, above_by_test, not_above}
 use Rattle.i_shape_core.proofs.measure.RotatedEdges.{cut_path, same_sum}
-use Rattle.i_shape_core.specs.Winding.{winding_of_edge, winding, WindingKept, WindingRotated, IsOdd}
+use Rattle.i_shape_core.specs.Winding.{winding_of_edge, winding}
 
 -- ---- what one edge adds
 -- 1 where the test holds
-abbrev bit : Bool → ℤ
+abbrev pub bit : Bool → ℤ
 bit t = cond t (pos 1) (pos 0)
 
 -- an edge on one side of the height of p adds nothing
-flat : (p a b : Point) (s : Bool) → int_lt p.y a.y ≡ s → int_lt p.y b.y ≡ s → winding_of_edge p (edge a b) ≡ pos 0
+pub flat : (p a b : Point) (s : Bool) → int_lt p.y a.y ≡ s → int_lt p.y b.y ≡ s → winding_of_edge p (edge a b) ≡ pos 0
 unfolding winding_of_edge
 flat p a b true e f = rw (right_when p a b true true e f) refl
 flat p a b false e f = rw (right_when p a b false false e f) refl
 
 -- one that goes up adds 1 where it is to the right
-goes_up : (p a b : Point) → int_lt p.y a.y ≡ false → int_lt p.y b.y ≡ true → winding_of_edge p (edge a b) ≡ bit (int_lt (cross a p b) (pos 0))
+pub goes_up : (p a b : Point) → int_lt p.y a.y ≡ false → int_lt p.y b.y ≡ true → winding_of_edge p (edge a b) ≡ bit (int_lt (cross a p b) (pos 0))
 unfolding winding_of_edge
 goes_up p a b e f = rw (right_when p a b false true e f, e, f) refl
 
 -- one that goes down takes 1 away
-goes_down : (p a b : Point) → int_lt p.y a.y ≡ true → int_lt p.y b.y ≡ false → winding_of_edge p (edge a b) ≡ neg_ℤ (bit (int_lt (cross b p a) (pos 0)))
+pub goes_down : (p a b : Point) → int_lt p.y a.y ≡ true → int_lt p.y b.y ≡ false → winding_of_edge p (edge a b) ≡ neg_ℤ (bit (int_lt (cross b p a) (pos 0)))
 unfolding winding_of_edge
 goes_down p a b e f = rw (right_when p a b true false e f, e, f) (taken (int_lt (cross b p a) (pos 0)))
   where
@@ -96,11 +95,6 @@ unfolding winding
 winding_reversed [] p = refl
 winding_reversed (a ∷ u) p = same_sum (winding_of_edge p) (reverse (a ∷ u)) (a ∷ reverse u) (first_from_last (reverse (a ∷ u)) a (reverse u) (reverse-append (a ∷ []) u)) ∙ path_reversed p a u a
 
--- the start doesn't matter
-pub winding_rotated : (c d : List Point) → Rotation c d → (p : Point) → winding c p ≡ winding d p
-unfolding winding
-winding_rotated c d r p = same_sum (winding_of_edge p) c d r
-
 -- ---- few points
 nothing : (p a : Point) → winding_of_edge p (edge a a) ≡ pos 0
 nothing p a = go (int_lt p.y a.y) refl
@@ -115,56 +109,3 @@ winding_none [] h p = refl
 winding_none (a ∷ []) h p = let e = nothing p a in omega (arith, ints)
 winding_none (a ∷ b ∷ []) h p = let e = winding_flipped p a b in omega (arith, ints)
 winding_none (a ∷ b ∷ c ∷ cs) h p = absurd (omega arith)
-
--- ---- parity
--- ups and downs of the edges to the right of p: the winding number is their difference, and how many edges are to the right their sum
-record Passed (z : ℤ) (n : ℕ) : Type 0 where
-  up : ℕ
-  down : ℕ
-  difference : z ≡ pos up -ℤ pos down
-  sum : n ≡ up + down
-
-passed_edge : (p a b : Point) → Passed (winding_of_edge p (edge a b)) (cond (is_right p (edge a b)) 1 0)
-passed_edge p a b = go (int_lt p.y a.y) (int_lt p.y b.y) refl refl
-  where
-    upwards : (t : Bool) (z : ℤ) (n : ℕ) → z ≡ bit t → n ≡ cond t 1 0 → Passed z n
-    upwards true z n e f = record { up = 1; down = 0; difference = e; sum = f ∙ omega arith }
-    upwards false z n e f = record { up = 0; down = 0; difference = e; sum = f ∙ omega arith }
-
-    downwards : (t : Bool) (z : ℤ) (n : ℕ) → z ≡ neg_ℤ (bit t) → n ≡ cond t 1 0 → Passed z n
-    downwards true z n e f = record { up = 0; down = 1; difference = e; sum = f ∙ omega arith }
-    downwards false z n e f = record { up = 0; down = 0; difference = e; sum = f ∙ omega arith }
-
-    go : (s t : Bool) → int_lt p.y a.y ≡ s → int_lt p.y b.y ≡ t → Passed (winding_of_edge p (edge a b)) (cond (is_right p (edge a b)) 1 0)
-    go true true e f = upwards false _ _ (flat p a b true e f) (ap (λ (t : Bool). cond t 1 0) (right_when p a b true true e f))
-    go false false e f = upwards false _ _ (flat p a b false e f) (ap (λ (t : Bool). cond t 1 0) (right_when p a b false false e f))
-    go true false e f = downwards (int_lt (cross b p a) (pos 0)) _ _ (goes_down p a b e f) (ap (λ (t : Bool). cond t 1 0) (right_when p a b true false e f))
-    go false true e f = upwards (int_lt (cross a p b) (pos 0)) _ _ (goes_up p a b e f) (ap (λ (t : Bool). cond t 1 0) (right_when p a b false true e f))
-
-passed_edges : (p : Point) (es : List Edge) → Passed (sum_of (winding_of_edge p) es) (count_by (is_right p) es)
-passed_edges p [] = record { up = 0; down = 0; difference = refl; sum = refl }
-passed_edges p (e ∷ es) =
-    let one = passed_edge p e.start e.end in
-    let rest = passed_edges p es in
-    both one.up one.down rest.up rest.down one.difference rest.difference one.sum rest.sum (sum_by-cons (λ (f : Edge). cond (is_right p f) 1 0) e es)
-  where
-    both : (u v s t : ℕ) → winding_of_edge p e ≡ pos u -ℤ pos v → sum_of (winding_of_edge p) es ≡ pos s -ℤ pos t → cond (is_right p e) 1 0 ≡ u + v → count_by (is_right p) es ≡ s + t
-        → count_by (is_right p) (e ∷ es) ≡ cond (is_right p e) 1 0 + count_by (is_right p) es → Passed (sum_of (winding_of_edge p) (e ∷ es)) (count_by (is_right p) (e ∷ es))
-    both u v s t f g h k l = record { up = u + s; down = v + t; difference = omega (arith, ints); sum = omega arith }
-
-odd : (z : ℤ) (n : ℕ) → Passed z n → unsigned_abs z % 2 ≡ n % 2
-odd (pos k) n w = let e = w.difference in let f = w.sum in omega (arith, ints)
-odd (negsuc k) n w = let e = w.difference in let f = w.sum in omega (arith, ints)
-
--- a point is inside where the contour winds about it an odd number of times
-pub winding_parity : (c : List Point) (p : Point) → Inside c p ↔ IsOdd (winding c p)
-unfolding winding Inside
-winding_parity c p = let e = odd _ _ (passed_edges p (edges c)) in (λ h. e ∙ h, λ h. sym e ∙ h)
-
--- ---- the laws
-pub winding_laws : (c d : List Point) → WindingKept c d
-winding_laws c d = record { kept = winding_kept c d; none = winding_none c }
-
--- a contour winds as often from each start, and as often the other way backwards
-pub rotated_laws : (c d : List Point) → WindingRotated c d
-rotated_laws c d = record { rotated = winding_rotated c d; backwards = winding_reversed c }

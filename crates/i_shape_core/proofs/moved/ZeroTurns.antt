@@ -1,28 +1,30 @@
 -- Removals from a contour that is moved by an affine map.
-use Rattle.std.proofs.Common.{◌≡◌, ◌≢◌, List, [], ◌∷◌, ℤ, pos, ◌+ℤ◌, ◌-ℤ◌, ◌*ℤ◌, neg_ℤ, refl, sym, ap, ◌∙◌, arith, inl, inr, ◌⊎◌}
+use Rattle.std.proofs.Common.{◌≡◌, List, [], ◌∷◌, ℤ, pos, ◌*ℤ◌, refl, ap, ◌∙◌, arith}
 use Rattle.std.proofs.lemmas.Int.{ints}
 use Rattle.i_shape_core.specs.Point.{Point, cross, IsZeroTurn}
 use Rattle.i_shape_core.proofs.arithmetic.Polynomials.{Term, variable, plus, times, minus, by_polynomials}
-use Rattle.i_shape_core.proofs.plane.CrossProducts.{Place, cross_term, A, B, C, same_point}
-use Rattle.i_shape_core.proofs.arithmetic.WholeNumbers.{zero_product, equal_of_difference, sum_of_zeros}
+use Rattle.i_shape_core.proofs.plane.CrossProducts.{Place, cross_term, A, B, C}
 use Rattle.i_shape_core.specs.Moves.{Move, determinant, moved_point}
-use Rattle.i_shape_core.proofs.moved.Mapped.{Carries, Returns, Apart}
+use Rattle.i_shape_core.proofs.moved.Mapped.{Carries}
 
 -- the numbers of a move, after those of three points
 abbrev pub numbers_of_move : Point → Point → Point → Move → List ℤ
 numbers_of_move a b c m = a.x ∷ a.y ∷ b.x ∷ b.y ∷ c.x ∷ c.y ∷ m.xx ∷ m.xy ∷ m.yx ∷ m.yy ∷ m.x ∷ m.y ∷ []
 
-abbrev new_x : Place → Term
+-- the x of a point moved, as a term
+abbrev pub new_x : Place → Term
 new_x p = plus (plus (times (variable 6) p.x) (times (variable 7) p.y)) (variable 10)
 
-abbrev new_y : Place → Term
+-- and its y
+abbrev pub new_y : Place → Term
 new_y p = plus (plus (times (variable 8) p.x) (times (variable 9) p.y)) (variable 11)
 
 -- a point moved, as terms
 abbrev pub new_place : Place → Place
 new_place p = record { x = new_x p; y = new_y p }
 
-abbrev area_factor : Term
+-- how many times areas grow, as a term
+abbrev pub area_factor : Term
 area_factor = plus (times (variable 6) (variable 9)) (minus (times (variable 7) (variable 8)))
 
 -- a cross product grows as areas do
@@ -39,40 +41,3 @@ times_zero d x y e f = e ∙ ap (λ (z : ℤ). d *ℤ z) f ∙ nothing d
 -- straight on or back stays so
 pub zero_moved : (m : Move) → Carries (moved_point m) IsZeroTurn IsZeroTurn
 zero_moved m a b c e = times_zero (determinant m) _ (cross a b c) (cross_moved m a b c) e
-
-other_factor : (d x y : ℤ) → d ≢ pos 0 → x ≡ d *ℤ y → x ≡ pos 0 → y ≡ pos 0
-other_factor d x y some e f = go (zero_product d y (sym e ∙ f))
-  where
-    go : (d ≡ pos 0) ⊎ (y ≡ pos 0) → y ≡ pos 0
-    go (inl h) = absurd (some h)
-    go (inr h) = h
-
--- and a move that keeps areas apart from 0 makes no turn straight
-pub zero_back : (m : Move) → determinant m ≢ pos 0 → Returns (moved_point m) IsZeroTurn IsZeroTurn
-zero_back m some a b c e = other_factor (determinant m) _ (cross a b c) some (cross_moved m a b c) e
-
--- ---- different points stay different
-back_x : (m : Move) (p q : Point) → m.yy *ℤ ((moved_point m p).x -ℤ (moved_point m q).x) +ℤ neg_ℤ m.xy *ℤ ((moved_point m p).y -ℤ (moved_point m q).y) ≡ determinant m *ℤ (p.x -ℤ q.x)
-back_x m p q = by_polynomials (numbers_of_move p q q m)
-    (plus (times (variable 9) (plus (new_x A) (minus (new_x B)))) (times (minus (variable 7)) (plus (new_y A) (minus (new_y B)))))
-    (times area_factor (plus A.x (minus B.x))) refl
-
-back_y : (m : Move) (p q : Point) → m.xx *ℤ ((moved_point m p).y -ℤ (moved_point m q).y) +ℤ neg_ℤ m.yx *ℤ ((moved_point m p).x -ℤ (moved_point m q).x) ≡ determinant m *ℤ (p.y -ℤ q.y)
-back_y m p q = by_polynomials (numbers_of_move p q q m)
-    (plus (times (variable 6) (plus (new_y A) (minus (new_y B)))) (times (minus (variable 8)) (plus (new_x A) (minus (new_x B)))))
-    (times area_factor (plus A.y (minus B.y))) refl
-
-both_gone : (v w s t : ℤ) → s ≡ pos 0 → t ≡ pos 0 → v *ℤ s +ℤ w *ℤ t ≡ pos 0
-both_gone v w s t e f = ap (λ (z : ℤ). v *ℤ z +ℤ w *ℤ t) e ∙ ap (λ (z : ℤ). v *ℤ pos 0 +ℤ w *ℤ z) f ∙ sum_of_zeros v w
-
-none : (a b : ℤ) → a ≡ b → a -ℤ b ≡ pos 0
-none a b e = omega (arith, ints)
-
--- a move of a determinant other than 0 keeps different points apart
-pub moved_apart : (m : Move) → determinant m ≢ pos 0 → Apart (moved_point m)
-moved_apart m some p q e =
-    let x = none _ _ (ap (λ (r : Point). r.x) e) in
-    let y = none _ _ (ap (λ (r : Point). r.y) e) in
-    same_point p q
-    (equal_of_difference _ _ (other_factor (determinant m) _ (p.x -ℤ q.x) some (back_x m p q) (both_gone m.yy (neg_ℤ m.xy) _ _ x y)))
-    (equal_of_difference _ _ (other_factor (determinant m) _ (p.y -ℤ q.y) some (back_y m p q) (both_gone m.xx (neg_ℤ m.yx) _ _ y x)))

@@ -7,10 +7,11 @@ use Rattle.i_shape_core.proofs.arithmetic.WholeNumbers.{zero_product, equal_of_d
 use Rattle.i_shape_core.proofs.plane.CrossProducts.{Place, coordinates, cross_term, dot_term, A, B, C, D, triangle_identity, zero_reversed, dot_reversed, same_point, cross-same}
 
 -- the square of the way from a to b
-pub way_squared : Point → Point → ℤ
+unfoldable pub way_squared : Point → Point → ℤ
 way_squared a b = (b.x -ℤ a.x) *ℤ (b.x -ℤ a.x) +ℤ (b.y -ℤ a.y) *ℤ (b.y -ℤ a.y)
 
-abbrev square_term : Place → Place → Term
+-- the square of the way between two points, as a polynomial
+abbrev pub square_term : Place → Place → Term
 square_term a b = plus (times (plus b.x (minus a.x)) (plus b.x (minus a.x))) (times (plus b.y (minus a.y)) (plus b.y (minus a.y)))
 
 -- a squared distance isn't negative
@@ -33,7 +34,8 @@ dot-same : (a p : Point) → dot a p p ≡ pos 0
 unfolding dot
 dot-same a p = by_polynomials (coordinates (a ∷ p ∷ [])) (dot_term A B B) (number (pos 0)) refl
 
-dot_same-first : (a p : Point) → dot a a p ≡ pos 0
+-- where the path stands still first the dot product is 0
+pub dot_same-first : (a p : Point) → dot a a p ≡ pos 0
 unfolding dot
 dot_same-first a p = by_polynomials (coordinates (a ∷ p ∷ [])) (dot_term A A B) (number (pos 0)) refl
 

@@ -6,8 +6,7 @@ use Rattle.i_shape_core.specs.Contour.{Test, IsRemovable, Reach, stay, step, End
 use Rattle.i_shape_core.proofs.removal.Tests.{Decided, Slides, BothWays}
 use Rattle.i_shape_core.proofs.plane.CrossProducts.{zero_slides, zero_reversed}
 use native.Mathlib.Decide.{dec_lt}
-use Rattle.i_shape_core.specs.Laws.{RotatedEnds, ReversedEnds, Twice, Agreed, EveryOrder, OneCertainEnd}
-use Rattle.i_shape_core.proofs.removal.DistinctPoints as certain
+use Rattle.i_shape_core.specs.Laws.{RotatedEnds, ReversedEnds, Twice, Agreed, EveryOrder}
 use Rattle.i_shape_core.proofs.removal.Reversal.{reversed_alike}
 use Rattle.i_shape_core.proofs.removal.Ends as ends
 use Rattle.i_shape_core.proofs.removal.Ends.{ends_alike, has_end, no_step, reach_by_weaker}
@@ -94,7 +93,3 @@ every_order c = record {
   none = λ d f r h b. is_alone (one_end c d f (end_of_collapsed r h) b) h;
   exists = has_end zero_turn_decided c;
 }
-
--- of a contour without repeated points there is one end as a list
-pub one_certain_end : (c : List Point) → OneCertainEnd c
-one_certain_end c n e f a h b = certain.one_certain_end zero_turn_slides zero_turn_decided n a h b

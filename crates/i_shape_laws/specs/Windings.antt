@@ -1,0 +1,28 @@
+-- Laws of winding numbers and of fill rules.
+use Rattle.std.specs.Prelude.{◌≡◌, ◌<◌, ◌↔◌, ℤ, pos, neg_ℤ, List, reverse, length}
+use Rattle.i_shape_core.specs.Point.{Point, IsZeroTurn}
+use Rattle.i_shape_core.specs.Contour.{Reach, Rotation}
+use Rattle.i_shape_core.specs.Cleaners.{KeptAnswer}
+use Rattle.i_shape_core.specs.Survivors.{Survivors}
+use Rattle.i_shape_core.specs.Winding.{winding, shape_winding}
+use Rattle.i_shape_core.specs.Filling.{IsFilled}
+use Rattle.i_shape_core.specs.Moves.{moved, scaling}
+use Rattle.i_shape_core.specs.declared.fill_rule.FillRule.{FillRule}
+
+-- removals keep how often the contour winds about each point; fewer than three points wind about none
+pub record WindingKept (c d : List Point) : Type 0 where
+  pub kept : Reach IsZeroTurn c d → (p : Point) → winding c p ≡ winding d p
+  pub none : length c < 3 → (p : Point) → winding c p ≡ pos 0
+
+-- a contour has the same winding numbers from whichever point it starts, and the opposite ones backwards
+pub record WindingRotated (c d : List Point) : Type 0 where
+  pub rotated : Rotation c d → (p : Point) → winding c p ≡ winding d p
+  pub backwards : (p : Point) → winding (reverse c) p ≡ neg_ℤ (winding c p)
+
+-- removals keep how often the contour scaled by n winds about p: for n above 0 so often it winds about the point whose coordinates are p.x / n and p.y / n
+abbrev pub WindingBetween : List Point → List Point → Type 0
+WindingBetween c d = Reach IsZeroTurn c d → (n : ℤ) (p : Point) → winding (moved (scaling n) c) p ≡ winding (moved (scaling n) d) p
+
+-- where each contour is left with what it keeps, or left out where it winds about no point, the same points are filled by each rule
+abbrev pub FillingKept : List (List Point) → List (List Point) → Type 0
+FillingKept contours left = Survivors KeptAnswer contours left → (rule : FillRule) (p : Point) → IsFilled rule (shape_winding contours p) ↔ IsFilled rule (shape_winding left p)
