@@ -8,3 +8,4 @@ pub mod AreaWalk
 pub mod AreaByPlaces
 pub mod InsideWalk
 pub mod WindingWalk
+pub mod Heights

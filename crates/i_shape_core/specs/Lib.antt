@@ -19,4 +19,5 @@ pub mod Refusals
 pub mod Canonical
 pub mod Walks
 pub mod Blocks
+pub mod Heights
 pub mod FourTurns

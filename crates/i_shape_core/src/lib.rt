@@ -12,6 +12,7 @@ pub mod despike;
 pub mod error;
 pub mod fill_rule;
 mod four_turns;
+pub mod heights;
 pub mod laws;
 pub mod number;
 pub mod point;

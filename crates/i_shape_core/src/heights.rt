@@ -1,0 +1,241 @@
+//! Points in the order of their heights, and how often contours wind about each of them.
+
+ghost use Rattle.std.specs.Prelude.{◌≡◌, ◌<◌, ◌≤◌, ◌≤ℤ◌, ◌+ℤ◌, ◌++◌, true, false, ℤ, List, length, map, drop, IfOk, OnOk, OnErr};
+ghost use Rattle.std.specs.Int.{int_wrap, w64};
+ghost use Rattle.std.specs.List.{All};
+ghost use Rattle.std.specs.List.Sorted.{IsPermutation};
+ghost use Rattle.i_shape_core.specs.Point.{Point};
+ghost use Rattle.i_shape_core.specs.IntPoint.{point_of, contour_of, IsSafe, IsSafeContour};
+ghost use Rattle.i_shape_core.specs.Edges.{is_above};
+ghost use Rattle.i_shape_core.specs.Winding.{winding, winding_of_edge};
+ghost use Rattle.i_shape_core.specs.Heights.{asked_points, IsRising, IsPlaceOf, IsAdded, AllFit, asks, IsTotal};
+
+use crate::number::IntNumber;
+use crate::point::{ContourPoint, IntPoint};
+use crate::triangle::Triangle;
+use std::alloc::{AllocError, Global};
+
+/// A point that is asked about, and its place in the list of a caller.
+#[derive(Clone, Copy)]
+pub struct Asked<I> {
+    pub point: IntPoint<I>,
+    pub place: usize,
+}
+
+/// Adds what the edge from `start` up to `end` adds about each of the points, of which `start` lies above the first `from`. Answers above
+/// how many `end` lies.
+#[inline(always)]
+fn rise<I: IntNumber>(
+    asked: &[Asked<I>],
+    totals: &mut [isize],
+    from: usize,
+    start: IntPoint<I>,
+    end: IntPoint<I>,
+) -> usize
+    requires asked_safe { All (IsSafe I.width) (asked_points I.value asked.now) }
+    requires start_safe { IsSafe I.width (point_of I.value start) }
+    requires end_safe { IsSafe I.width (point_of I.value end) }
+    requires rising { IsRising (asked_points I.value asked.now) }
+    requires room { length totals.old ≡ length asked.now }
+    requires fit { AllFit totals.old }
+    requires here { IsPlaceOf (asked_points I.value asked.now) (point_of I.value start) from }
+    requires up { I.value start.y ≤ℤ I.value end.y }
+    ensures here { IsPlaceOf (asked_points I.value asked.now) (point_of I.value end) result }
+    ensures room { length totals.new ≡ length totals.old }
+    ensures fit { AllFit totals.new }
+    ensures added { IsAdded (asked_points I.value asked.now)
+        (λ p. winding_of_edge p (record { start = point_of I.value start; end = point_of I.value end }))
+        totals.old totals.new }
+{
+    let mut place = from;
+    while place < asked.len() && end.y > asked[place].point.y {
+        let turn = turn_of_rise(asked[place].point, start, end);
+        totals[place] = plus(totals[place], turn);
+        place += 1;
+    }
+    place
+}
+
+/// The same of an edge down to `end`.
+#[inline(always)]
+fn fall<I: IntNumber>(
+    asked: &[Asked<I>],
+    totals: &mut [isize],
+    from: usize,
+    start: IntPoint<I>,
+    end: IntPoint<I>,
+) -> usize
+    requires asked_safe { All (IsSafe I.width) (asked_points I.value asked.now) }
+    requires start_safe { IsSafe I.width (point_of I.value start) }
+    requires end_safe { IsSafe I.width (point_of I.value end) }
+    requires rising { IsRising (asked_points I.value asked.now) }
+    requires room { length totals.old ≡ length asked.now }
+    requires fit { AllFit totals.old }
+    requires here { IsPlaceOf (asked_points I.value asked.now) (point_of I.value start) from }
+    requires down { I.value end.y ≤ℤ I.value start.y }
+    ensures here { IsPlaceOf (asked_points I.value asked.now) (point_of I.value end) result }
+    ensures room { length totals.new ≡ length totals.old }
+    ensures fit { AllFit totals.new }
+    ensures added { IsAdded (asked_points I.value asked.now)
+        (λ p. winding_of_edge p (record { start = point_of I.value start; end = point_of I.value end }))
+        totals.old totals.new }
+{
+    let mut place = from;
+    while place > 0 && !(end.y > asked[place - 1].point.y) {
+        place -= 1;
+        let turn = turn_of_fall(asked[place].point, start, end);
+        totals[place] = plus(totals[place], turn);
+    }
+    place
+}
+
+/// What an edge from `start` adds about `point` where it rises to `end` past the height of `point`.
+#[inline(always)]
+fn turn_of_rise<I: IntNumber>(point: IntPoint<I>, start: IntPoint<I>, end: IntPoint<I>) -> isize
+    requires point_safe { IsSafe I.width (point_of I.value point) }
+    requires start_safe { IsSafe I.width (point_of I.value start) }
+    requires end_safe { IsSafe I.width (point_of I.value end) }
+    requires starts { is_above (point_of I.value point) (point_of I.value start) ≡ false }
+    requires ends { is_above (point_of I.value point) (point_of I.value end) ≡ true }
+    ensures { result ≡ winding_of_edge (point_of I.value point)
+        (record { start = point_of I.value start; end = point_of I.value end }) }
+{
+    if Triangle::is_clockwise(start, point, end) {
+        1
+    } else {
+        0
+    }
+}
+
+/// What an edge from `start` adds about `point` where it falls to `end` past the height of `point`.
+#[inline(always)]
+fn turn_of_fall<I: IntNumber>(point: IntPoint<I>, start: IntPoint<I>, end: IntPoint<I>) -> isize
+    requires point_safe { IsSafe I.width (point_of I.value point) }
+    requires start_safe { IsSafe I.width (point_of I.value start) }
+    requires end_safe { IsSafe I.width (point_of I.value end) }
+    requires starts { is_above (point_of I.value point) (point_of I.value start) ≡ true }
+    requires ends { is_above (point_of I.value point) (point_of I.value end) ≡ false }
+    ensures { result ≡ winding_of_edge (point_of I.value point)
+        (record { start = point_of I.value start; end = point_of I.value end }) }
+{
+    if Triangle::is_clockwise(end, point, start) {
+        -1
+    } else {
+        0
+    }
+}
+
+/// The sum, but for what 64 bits can't hold.
+#[inline(always)]
+fn plus(total: isize, turn: isize) -> isize
+    ensures { result ≡ int_wrap w64 (total +ℤ turn) }
+{
+    total.wrapping_add(turn)
+}
+
+/// Above how many of the points `start` lies.
+fn place_of<I: IntNumber>(asked: &[Asked<I>], start: IntPoint<I>) -> usize
+    requires { IsRising (asked_points I.value asked.now) }
+    ensures { IsPlaceOf (asked_points I.value asked.now) (point_of I.value start) result }
+{
+    let mut low = 0;
+    let mut high = asked.len();
+    while low < high {
+        let middle = low + (high - low) / 2;
+        if start.y > asked[middle].point.y {
+            low = middle + 1;
+        } else {
+            high = middle;
+        }
+    }
+    low
+}
+
+/// Adds how often the contour winds about each of the points to its total.
+pub fn add_contour<P: ContourPoint>(
+    asked: &[Asked<P::Coordinate>],
+    totals: &mut [isize],
+    contour: &[P],
+)
+    requires asked_safe { All (IsSafe P.Coordinate.width)
+        (asked_points P.Coordinate.value asked.now) }
+    requires contour_safe { IsSafeContour P.Coordinate.width
+        (contour_of P.Coordinate.value (P.points contour.now)) }
+    requires rising { IsRising (asked_points P.Coordinate.value asked.now) }
+    requires room { length totals.old ≡ length asked.now }
+    requires fit { AllFit totals.old }
+    ensures room { length totals.new ≡ length totals.old }
+    ensures fit { AllFit totals.new }
+    ensures added { IsAdded (asked_points P.Coordinate.value asked.now)
+        (winding (contour_of P.Coordinate.value (P.points contour.now))) totals.old totals.new }
+{
+    let Some(last) = contour.last() else {
+        return;
+    };
+    let mut start = last.to_point();
+    let mut place = place_of(asked, start);
+    for given in contour {
+        let end = (*given).to_point();
+        place = if end.y > start.y {
+            rise(asked, totals, place, start, end)
+        } else {
+            fall(asked, totals, place, start, end)
+        };
+        start = end;
+    }
+}
+
+/// The points with their places, in the order of their heights.
+pub fn by_height<Q: ContourPoint>(
+    alloc: Global,
+    points: &[Q],
+) -> Result<Vec<Asked<Q::Coordinate>>, AllocError>
+    ensures all { IfOk result (λ v. IsPermutation (asks 0 (Q.points points.now)) v.items) }
+    ensures rising { IfOk result (λ v. IsRising (asked_points Q.Coordinate.value v.items)) }
+{
+    let mut asked = Vec::with_capacity(alloc, points.len())?;
+    for (place, given) in points.iter().enumerate() {
+        let point = (*given).to_point();
+        asked.push(Asked { point, place })?;
+    }
+    asked.sort_unstable_by_key(|it| it.point.y);
+    Ok(asked)
+}
+
+/// Writes the total of each point to its place.
+pub fn write_totals<I: IntNumber>(asked: &[Asked<I>], totals: &[isize], out: &mut [isize])
+    requires room { length totals.now ≡ length asked.now }
+    requires fit { AllFit totals.now }
+    requires within { All (λ q. q.place < length out.old) asked.now }
+    ensures written { (points : List (IntPoint I)) (f : Point → ℤ) → IsPermutation (asks 0 points) asked.now
+        → IsTotal f (asked_points I.value asked.now) totals.now
+        → out.new ≡ map f (contour_of I.value points) ++ drop (length points) out.old }
+{
+    for (at, it) in asked.iter().enumerate() {
+        out[it.place] = totals[at];
+    }
+}
+
+/// Writes how often the contour winds about each of the points to the front of `out`, as `windings_about` does, in time that goes with
+/// the points, the edges and how many of the points' heights each edge passes, and with the sort of the points.
+pub fn windings_by_height<P: ContourPoint, Q: ContourPoint<Coordinate = P::Coordinate>>(
+    alloc: Global,
+    contour: &[P],
+    points: &[Q],
+    out: &mut [isize],
+) -> Result<(), AllocError>
+    requires contour_safe { IsSafeContour P.Coordinate.width
+        (contour_of P.Coordinate.value (P.points contour.now)) }
+    requires points_safe { IsSafeContour P.Coordinate.width
+        (contour_of P.Coordinate.value (Q.points points.now)) }
+    requires room { length points.now ≤ length out.old }
+    ensures answer { OnOk result (out.new ≡ map (winding (contour_of P.Coordinate.value (P.points contour.now)))
+        (contour_of P.Coordinate.value (Q.points points.now)) ++ drop (length points.now) out.old) }
+    ensures refused { OnErr result (out.new ≡ out.old) }
+{
+    let asked = by_height(alloc, points)?;
+    let mut totals = vec![in alloc; 0isize; asked.len()]?;
+    add_contour(&asked, &mut totals, contour);
+    write_totals(&asked, &totals, out);
+    Ok(())
+}
