@@ -9,3 +9,4 @@ pub mod AreaByPlaces
 pub mod InsideWalk
 pub mod WindingWalk
 pub mod Heights
+pub mod BoundaryWalk

@@ -7,11 +7,13 @@ ghost use Rattle.i_shape_core.specs.Point.{Point};
 ghost use Rattle.i_shape_core.specs.Edges.{shoelace, Inside, is_above, is_right};
 ghost use Rattle.i_shape_core.specs.Winding.{winding};
 ghost use Rattle.i_shape_core.specs.Filling.{IsFilled};
+ghost use Rattle.i_shape_core.specs.Boundary.{IsOnEdge};
 ghost use Rattle.i_shape_core.specs.Blocks.{inside_after};
 ghost use Rattle.i_shape_core.specs.Convex.{Convex};
 
 use crate::area::area_of;
 use crate::bend::{Bend, bend_of};
+use crate::boundary::is_on_boundary;
 use crate::fill_rule::FillRule;
 use crate::number::{IntNumber, WideIntNumber};
 use crate::point::{ContourPoint, IntPoint};
@@ -41,6 +43,12 @@ pub trait ContourExtension<I: IntNumber> {
         requires points_safe { IsSafeContour I.width (contour self.now) }
         requires point_safe { IsSafe I.width (point_of I.value point) }
         ensures { IsTrue result ↔ Inside (contour self.now) (point_of I.value point) };
+
+    /// Whether `point` lies on an edge, the ends of which lie on it too. A contour without points has no edge.
+    fn is_on_boundary(&self, point: IntPoint<I>) -> bool
+        requires points_safe { IsSafeContour I.width (contour self.now) }
+        requires point_safe { IsSafe I.width (point_of I.value point) }
+        ensures { IsTrue result ↔ IsOnEdge (contour self.now) (point_of I.value point) };
 
     /// How often the contour winds about `point`, to the left: how many edges pass the height of `point` upwards and strictly to
     /// the right of it, less those that do so downwards. A contour without points winds about none.
@@ -85,6 +93,15 @@ impl<I: IntNumber> ContourExtension<I> for &[IntPoint<I>] {
             (point_of I.value point) }
     {
         contains_point(*self, point)
+    }
+
+    fn is_on_boundary(&self, point: IntPoint<I>) -> bool
+        requires points_safe { IsSafeContour I.width (contour_of I.value self.now.now) }
+        requires point_safe { IsSafe I.width (point_of I.value point) }
+        ensures { IsTrue result ↔ IsOnEdge (contour_of I.value self.now.now)
+            (point_of I.value point) }
+    {
+        is_on_boundary(*self, point)
     }
 
     fn winding_number(&self, point: IntPoint<I>) -> isize

@@ -4,6 +4,7 @@
 
 pub mod area;
 mod bend;
+pub mod boundary;
 pub mod canonical;
 pub mod cleaner;
 mod comparer;
