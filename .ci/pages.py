@@ -238,7 +238,7 @@ def fault_of_edits():
     page = read(f"{TOP}/docs/develop/CONTRACTS.md")
     edits = {kind: {tuple(name.removesuffix(".edit").split("/")[-3::2]) for name in files([f"crates/*/{kind}/*.edit"])} for kind in ("must-fail", "wrong")}
     named = set()
-    for names, crate in re.findall(r"^\| (`\w+`(?:, `\w+`)*) \| (core|source|shape|tool)\b", page, re.MULTILINE):
+    for names, crate in re.findall(r"^\| (`\w+`(?:, `\w+`)*) \| (core|source|shape|text|tool)\b", page, re.MULTILINE):
         named |= {("i_shape" if crate == "shape" else f"i_shape_{crate}", name) for name in re.findall(r"`(\w+)`", names)}
     missing = [f"{crate}'s {name} isn't named" for crate, name in edits["must-fail"] - named]
     strange = [f"{crate} has no edit {name} in must-fail/" for crate, name in named - edits["must-fail"]]

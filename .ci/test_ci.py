@@ -119,8 +119,8 @@ mkdir "$STAND_IN/one" && sleep 0.1 && rmdir "$STAND_IN/one"
     def setUp(self):
         super().setUp()
         self.top = f"{self.room}/top"
-        for crate in ("", "_core", "_source", "_tool", "_tool_main"):
-            write(f"{self.top}/crates/i_shape{crate}/src/lib.rt", "")
+        for crate in ("core", "text", "tool_main"):
+            write(f"{self.top}/crates/i_shape_{crate}/src/lib.rt", "")
         write(f"{self.top}/crates.txt", "")
         shutil.copy(f"{TOP}/i_shape_tool", self.top)
         shutil.copytree(f"{TOP}/scripts", f"{self.top}/scripts")
@@ -148,7 +148,7 @@ mkdir "$STAND_IN/one" && sleep 0.1 && rmdir "$STAND_IN/one"
         """Of two builds at once one builds. The program of these sources runs then, and one of older sources doesn't."""
         builds = [subprocess.Popen(["bash", f"{self.top}/scripts/program/build.sh"], env=self.environment, stderr=subprocess.DEVNULL) for _ in range(2)]
         self.assertEqual([build.wait(60) for build in builds], [0, 0])
-        self.assertEqual(self.started(), ["lib"] * 4 + ["run"])
+        self.assertEqual(self.started(), ["lib"] * 2 + ["run"])
         self.assertEqual(self.tool(), (0, "built\n", ""))
         os.utime(f"{self.top}/crates/i_shape_core/src/lib.rt", (time.time() + 5,) * 2)
         self.assertEqual(self.tool(answer="tried\n")[:2], (0, "tried\n"))

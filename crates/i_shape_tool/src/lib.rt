@@ -1,20 +1,7 @@
-//! Cleans the contours of a text.
+//! Cleans the contours of a text, and shapes through a flat buffer.
 #![tactic(auto)]
 
 mod buffers;
-mod command;
-mod compact;
-mod decimal;
-mod fault;
-pub mod laws;
-mod line;
-mod number;
-mod program;
-mod show;
-mod text;
 
 pub use buffers::{clean_through_buffer, despike_through_buffer};
-pub use command::Command;
-pub use fault::ToolFault;
-pub use program::{Complaint, serve};
-pub use text::run;
+pub use i_shape_text::{Command, Complaint, ToolFault, laws, run, serve};

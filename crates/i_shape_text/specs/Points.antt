@@ -1,0 +1,19 @@
+-- Contours of 32 bits, which the lines of a text read.
+use Rattle.std.specs.Prelude.{ℤ, List}
+use Rattle.std.specs.Int.{w32}
+use Rattle.std.specs.List.{All}
+use Rattle.i_shape_core.specs.IntPoint as shape
+use Rattle.i_shape_core.specs.Point.{Point}
+use Rattle.i_shape_core.specs.declared.point.IntPoint.{IntPoint}
+
+-- the point that a program's point stands for
+abbrev pub point_of : IntPoint ℤ → Point
+point_of p = shape.point_of (λ z. z) p
+
+-- the contour that a list of the program's points stands for
+abbrev pub contour_of : List (IntPoint ℤ) → List Point
+contour_of points = shape.contour_of (λ z. z) points
+
+-- both coordinates of each point lie strictly between -2^30 and 2^30
+abbrev pub IsSafe : List Point → Type 0
+IsSafe c = All (shape.IsSafe w32) c

@@ -1,0 +1,117 @@
+//! What each command answers for a contour.
+
+ghost use Rattle.std.specs.Prelude.{◌≡◌, ◌++◌, ℕ, List, OnOk, IsOkUnless, string_bytes};
+ghost use Rattle.i_shape_core.specs.Point.{Point};
+ghost use Rattle.i_shape_core.specs.Written.{slot};
+ghost use Rattle.i_shape_text.specs.Points.{contour_of, IsSafe};
+ghost use Rattle.i_shape_text.specs.Run.{ShowsArea, ShowsCleaned, ShowsLeft};
+
+use crate::fault::ToolFault;
+use crate::show::{show_area, show_cleaned, show_left};
+use i_shape_core::cleaner::ContourCleaner;
+use i_shape_core::error::ShapeError;
+use i_shape_core::point::{IntContour, IntPoint};
+use i_shape_core::simplifier::ContourSimplifier;
+use std::alloc::Global;
+
+/// Answers the contours of a text one by one.
+pub(crate) trait ContourAnswer: Drop {
+    /// The contours that it has an answer for.
+    ghost takes: { List Point → Type 0 };
+
+    /// What it may answer for a contour.
+    ghost answers: { List Point → List ℕ → Type 0 };
+
+    /// Appends the answer.
+    fn answer(&mut self, contour: &[IntPoint<i32>], output: &mut String) -> Result<(), ToolFault>
+        requires { takes (contour_of contour.now) }
+        ensures ok { OnOk result ((answer : List ℕ)
+            × answers (contour_of contour.now) answer
+            × (string_bytes output.new ≡ string_bytes output.old ++ answer)) }
+        ensures memory { IsOkUnless result ToolFault.OutOfMemory };
+}
+
+/// Twice the area.
+#[derive(Clone, Copy)]
+pub(crate) struct Areas;
+
+impl ContourAnswer for Areas {
+    ghost takes = { λ c. Unit {0} };
+
+    ghost answers = { ShowsArea };
+
+    fn answer(&mut self, contour: &[IntPoint<i32>], output: &mut String) -> Result<(), ToolFault> {
+        Ok(show_area(output, contour)?)
+    }
+}
+
+/// What a cleaner leaves of a contour, or a word where it collapses.
+#[derive(Drop)]
+pub(crate) struct Cleaned<C> {
+    cleaner: C,
+    left: IntContour<i32>,
+}
+
+impl<C: ContourCleaner> Cleaned<C> {
+    pub(crate) fn new(alloc: Global) -> Cleaned<C> {
+        Cleaned {
+            cleaner: C::new(alloc),
+            left: Vec::new(alloc),
+        }
+    }
+}
+
+impl<C: ContourCleaner> ContourAnswer for Cleaned<C> {
+    ghost takes = { IsSafe };
+
+    ghost answers = { ShowsCleaned C.answers };
+
+    fn answer(&mut self, contour: &[IntPoint<i32>], output: &mut String) -> Result<(), ToolFault> {
+        clean(&mut self.cleaner, contour, &mut self.left)?;
+        Ok(show_cleaned(output, self.left.as_slice())?)
+    }
+}
+
+/// What is left of a contour without its zero turns, and nothing where it collapses.
+#[derive(Drop)]
+pub(crate) struct Compacted {
+    simplifier: ContourSimplifier,
+    left: IntContour<i32>,
+}
+
+impl Compacted {
+    pub(crate) fn new(alloc: Global) -> Compacted {
+        Compacted {
+            simplifier: ContourSimplifier::new(alloc),
+            left: Vec::new(alloc),
+        }
+    }
+}
+
+impl ContourAnswer for Compacted {
+    ghost takes = { IsSafe };
+
+    ghost answers = { ShowsLeft };
+
+    fn answer(&mut self, contour: &[IntPoint<i32>], output: &mut String) -> Result<(), ToolFault> {
+        clean(&mut self.simplifier, contour, &mut self.left)?;
+        Ok(show_left(output, self.left.as_slice())?)
+    }
+}
+
+/// Puts what a cleaner leaves of a contour in place of what `left` held: no point where the contour collapses.
+fn clean<C: ContourCleaner>(
+    cleaner: &mut C,
+    contour: &[IntPoint<i32>],
+    left: &mut IntContour<i32>,
+) -> Result<(), ShapeError>
+    requires { IsSafe (contour_of contour.now) }
+    ensures { OnOk result (C.answers (contour_of contour.now)
+        (slot (contour_of left.new.items))) }
+{
+    left.clear();
+    left.extend_from_slice(contour)?;
+    let count = cleaner.clean_into(contour, left.as_mut_slice())?;
+    left.truncate(count);
+    Ok(())
+}

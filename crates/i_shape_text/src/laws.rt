@@ -1,0 +1,48 @@
+//! Laws of what is read, what is shown, and what is answered for a text in parts.
+
+ghost use Rattle.std.specs.Prelude.{◌≡◌, ◌⊎◌, ◌++◌, ℕ, List};
+ghost use Rattle.std.specs.List.{AllByRecursion};
+ghost use Rattle.i_shape.specs.Point.{Point};
+ghost use Rattle.i_shape_text.specs.Run.{AnswersText, IsFirstFault};
+ghost use Rattle.i_shape_text.specs.PartedTexts.{EndsItsLines, PartedAnswer, IsFaultOfSecond};
+ghost use Rattle.i_shape_text.specs.Text.{FitPoint, Reads, shown};
+ghost use Rattle.i_shape_text.specs.declared.command.Command.{Command};
+ghost use Rattle.i_shape_text.specs.declared.fault.ToolFault.{ToolFault};
+
+/// A line reads one contour at most.
+pub fn one_reading()
+    ensures { (line : List ℕ) (c d : List Point) → Reads line c → Reads line d → c ≡ d }
+{}
+
+/// What is shown of a contour reads that contour.
+pub fn shown_reads_back()
+    ensures { (c : List Point) → AllByRecursion FitPoint c → Reads (shown c) c }
+{}
+
+/// What is answered for a text that ends its lines, and then what is answered for another, answers the texts as one.
+pub fn answers_concatenated()
+    ensures { (command : Command) (text more output added : List ℕ)
+        → EndsItsLines text → AnswersText command text output
+        → AnswersText command more added → AnswersText command (text ++ more) (output ++ added) }
+{}
+
+/// Whatever answers the two texts as one is an answer to the first and then one to the second.
+pub fn answers_parted()
+    ensures { (command : Command) (text more output : List ℕ)
+        → EndsItsLines text → AnswersText command (text ++ more) output
+        → PartedAnswer command text more output }
+{}
+
+/// The first fault of the two texts as one is that of the first text, or, where no line of it is faulty, that of the second, its
+/// line counted on from those of the first.
+pub fn fault_concatenated()
+    ensures first { (command : Command) (text more : List ℕ) (fault : ToolFault)
+        → EndsItsLines text → IsFirstFault command text fault
+        → IsFirstFault command (text ++ more) fault }
+    ensures second { (command : Command) (text more : List ℕ) (fault : ToolFault)
+        → EndsItsLines text → IsFaultOfSecond command text more fault
+        → IsFirstFault command (text ++ more) fault }
+    ensures one { (command : Command) (text more : List ℕ) (fault : ToolFault)
+        → EndsItsLines text → IsFirstFault command (text ++ more) fault
+        → IsFirstFault command text fault ⊎ IsFaultOfSecond command text more fault }
+{}

@@ -1,0 +1,82 @@
+//! Lines of a text, and the contours that they read.
+
+ghost use Rattle.std.specs.Prelude.{◌≡◌, ◌<◌, ◌↔◌, List, ◌∷◌, length, IsTrue, MatchBool, IfOk, IfErr, OnOk, IfSome, IfNone, option_copied};
+ghost use Rattle.i_shape_core.specs.Point.{Point};
+ghost use Rattle.i_shape_text.specs.Points.{contour_of, point_of, IsSafe};
+ghost use Rattle.i_shape_text.specs.Text.{Reads, ReadsNone, SayPoint, SayPoints, lines_of, words_of, words_left};
+ghost use Rattle.i_shape_text.specs.Run.{Gives, IsFaultOfLine};
+
+use crate::command::Command;
+use crate::fault::ToolFault;
+use crate::number::first_number;
+use i_shape_core::point::{IntContour, IntPoint};
+use i_shape_core::safe_range::are_safe;
+use std::alloc::AllocError;
+
+/// The first line of a text, and the text after it.
+pub fn first_line(text: &str) -> (&str, &str)
+    requires { 0 < length text.now }
+    ensures lines { lines_of text.now ≡ result.0.now ∷ lines_of result.1.now }
+    ensures shorter { length result.1.now < length text.now }
+{
+    text.split_once('\n').unwrap_or((text, ""))
+}
+
+/// Puts the contour that a line reads in place of what `contour` held. A cleaner is given safe points alone.
+pub fn read_line(
+    command: Command,
+    line: &str,
+    number: usize,
+    contour: &mut IntContour<i32>,
+) -> Result<(), ToolFault>
+    ensures ok { OnOk result (Gives command line.now (contour_of contour.new.items)) }
+    ensures err { IfErr result (IsFaultOfLine command line.now number) }
+{
+    if !read_contour(line, contour)? {
+        return Err(ToolFault::NotAContour(number));
+    }
+    if command.is_cleaner() && !is_safe(contour) {
+        return Err(ToolFault::OutOfRange(number));
+    }
+    Ok(())
+}
+
+/// Whether each point is safe.
+fn is_safe(contour: &IntContour<i32>) -> bool
+    ensures { IsTrue result ↔ IsSafe (contour_of contour.now.items) }
+{
+    are_safe(contour.as_slice())
+}
+
+/// Puts the contour that a line reads in place of what `contour` held, and tells whether it reads one.
+fn read_contour(line: &str, contour: &mut IntContour<i32>) -> Result<bool, AllocError>
+    ensures { IfOk result
+        (λ reads. MatchBool reads (Reads line.now (contour_of contour.new.items))
+        (ReadsNone line.now)) }
+{
+    contour.clear();
+    if line.is_empty() {
+        return Ok(true);
+    }
+    let mut rest = Some(line.as_bytes());
+    while let Some(text) = rest {
+        let Some((point, left)) = first_point(text) else {
+            return Ok(false);
+        };
+        contour.push(point)?;
+        rest = left;
+    }
+    Ok(true)
+}
+
+/// The point that the first two words of a text say, and the text after them.
+fn first_point(text: &[u8]) -> Option<(IntPoint<i32>, Option<&[u8]>)>
+    ensures says { IfSome result (λ r.
+        SayPoint (words_of text.now) (point_of r.0) (words_left (option_copied r.1))) }
+    ensures no_point { IfNone result ((c : List Point) → SayPoints (words_of text.now) c → ⊥) }
+    ensures shorter { IfSome result (λ r. IfSome r.1 (λ rest. length rest.now < length text.now)) }
+{
+    let (x, rest) = first_number(text)?;
+    let (y, rest) = first_number(rest?)?;
+    Some((IntPoint { x, y }, rest))
+}

@@ -1,0 +1,158 @@
+//! One run of the program: its words, its input, its two outputs and its exit status.
+
+ghost use Rattle.std.specs.Prelude.{◌≡◌, ◌++◌, ◌∷◌, [], Some, IfOk, IfErr, OnOk, IfSome, IfNone};
+ghost use Rattle.std.specs.Io.KnownBytes.{Appends, Keeps};
+ghost use Rattle.i_shape_text.specs.Text.{newline};
+ghost use Rattle.i_shape_text.specs.declared.program.Complaint.TheVariants.{Fault, Input};
+ghost use Rattle.i_shape_text.specs.Serve.{Asks, status_of, IsServed, IsTrueComplaint, KeepsOutput, EndsWith, told};
+
+use crate::command::Command;
+use crate::fault::ToolFault;
+use crate::text::run;
+use std::alloc::Global;
+use std::io::{Read, Write};
+use std::{fmt, io};
+
+/// Why the program stops, as it tells on standard error.
+#[derive(Clone, Copy, Debug, PartialEq, Eq)]
+pub enum Complaint {
+    /// The words aren't just one that names a command.
+    Usage,
+    /// The input isn't text.
+    NotUtf8,
+    /// The command has no answer to the input.
+    Fault(ToolFault),
+    /// The input could not be read, whatever the cause. The program tells it of its words too.
+    Input,
+    /// The answer could not be written, whatever the cause.
+    Output,
+}
+
+impl Complaint {
+    /// The exit status that goes with it.
+    pub fn status(self) -> u8
+        ensures { result ≡ status_of self }
+    {
+        match self {
+            Complaint::Fault(ToolFault::NotAContour(_) | ToolFault::OutOfRange(_)) => 1,
+            Complaint::NotUtf8 => 1,
+            Complaint::Usage => 2,
+            Complaint::Fault(ToolFault::OutOfMemory) => 3,
+            Complaint::Input | Complaint::Output => 4,
+        }
+    }
+
+    /// Writes it as a line of its own.
+    pub fn tell<W: Write>(self, errors: &mut W) -> io::Result<()>
+        ensures { OnOk result
+            (Appends (W.contents errors.old) (W.contents errors.new) (told self ++ newline ∷ [])) }
+    {
+        writeln!(errors, "{self}")
+    }
+}
+
+impl fmt::Display for Complaint {
+    ghost output = { λ complaint. Some (told complaint) };
+
+    fn fmt<W: fmt::Write>(&self, f: &mut fmt::Formatter<W>) -> fmt::Result {
+        match self {
+            Complaint::Usage => write!(
+                f,
+                "usage: i_shape_tool simplify|despike|area|canonical|compact"
+            ),
+            Complaint::NotUtf8 => write!(f, "input is not UTF-8"),
+            Complaint::Fault(ToolFault::NotAContour(number)) => {
+                write!(f, "line {number}: not a contour")
+            }
+            Complaint::Fault(ToolFault::OutOfRange(number)) => {
+                write!(f, "line {number}: out of range")
+            }
+            Complaint::Fault(ToolFault::OutOfMemory) => write!(f, "out of memory"),
+            Complaint::Input | Complaint::Output => write!(f, "input or output failed"),
+        }
+    }
+}
+
+impl From<ToolFault> for Complaint {
+    ghost from_gives = { λ fault complaint. complaint ≡ Fault fault };
+
+    fn from(fault: ToolFault) -> Complaint {
+        Complaint::Fault(fault)
+    }
+}
+
+/// The command that the words after the program's name ask for.
+fn asked(words: &[String]) -> Option<Command>
+    ensures asks { IfSome result (Asks words.now) }
+    ensures asks_nothing { IfNone result ((command : Command) → Asks words.now command → ⊥) }
+{
+    match words {
+        [word] => Command::from_word(word.as_str()),
+        _ => None,
+    }
+}
+
+/// All input that is left. The only complaint is `Input`, also where an allocation fails.
+fn read_all<R: Read>(alloc: Global, input: &mut R) -> Result<Vec<u8>, Complaint>
+    ensures ok { IfOk result (λ bytes. IfSome (R.remaining input.old) (λ xs. bytes.items ≡ xs)) }
+    ensures err { IfErr result (λ complaint. complaint ≡ Input) }
+{
+    let mut bytes = Vec::new(alloc);
+    input
+        .read_to_end(&mut bytes)
+        .map_err(|_error| Complaint::Input)?;
+    Ok(bytes)
+}
+
+/// Reads all input, and where it is `Ok`, has written the answer to it and nothing else.
+fn answer<R: Read, W: Write>(
+    alloc: Global,
+    words: &[String],
+    input: &mut R,
+    output: &mut W,
+) -> Result<(), Complaint>
+    ensures ok { OnOk result (IsServed words.now (R.remaining input.old)
+        (W.contents output.old) (W.contents output.new)) }
+    ensures err { IfErr result (IsTrueComplaint words.now (R.remaining input.old)) }
+    ensures kept { IfErr result (λ complaint.
+        KeepsOutput complaint (W.contents output.old) (W.contents output.new)) }
+{
+    let command = asked(words).ok_or(Complaint::Usage)?;
+    let bytes = read_all(alloc, input)?;
+    let Ok(text) = str::from_utf8(bytes.as_slice()) else {
+        return Err(Complaint::NotUtf8);
+    };
+    let answer = run(alloc, command, text)?;
+    write_whole(output, answer.as_bytes()).map_err(|_error| Complaint::Output)
+}
+
+/// Writes all bytes, and flushes, which no clause says.
+fn write_whole<W: Write>(output: &mut W, bytes: &[u8]) -> io::Result<()>
+    ensures { OnOk result (Appends (W.contents output.old) (W.contents output.new) bytes.now) }
+{
+    output.write_all(bytes)?;
+    output.flush()
+}
+
+/// Serves one run of the program: judges the words after its name, and where they name a command reads all input and writes the
+/// answer; where they don't, or where that fails, it writes a line to `errors`. It answers the exit status. A line that `errors`
+/// doesn't take is lost, and changes no status.
+pub fn serve<R: Read, W: Write, E: Write>(
+    alloc: Global,
+    words: &[String],
+    input: &mut R,
+    output: &mut W,
+    errors: &mut E,
+) -> u8
+    ensures ends { EndsWith words.now (R.remaining input.old)
+        (W.contents output.old) (W.contents output.new) result }
+    ensures quiet { result ≡ 0 → Keeps (E.contents errors.old) (E.contents errors.new) }
+{
+    match answer(alloc, words, input, output) {
+        Ok(()) => 0,
+        Err(complaint) => {
+            let _ = complaint.tell(errors);
+            complaint.status()
+        }
+    }
+}

@@ -1,0 +1,78 @@
+//! What a command answers for a text.
+
+ghost use Rattle.std.specs.Prelude.{◌≡◌, IfOk, IfErr, List, string_bytes};
+ghost use Rattle.i_shape_core.specs.Point.{Point};
+ghost use Rattle.i_shape_text.specs.Points.{IsSafe};
+ghost use Rattle.i_shape_text.specs.Command.{IsCleaner};
+ghost use Rattle.i_shape_text.specs.Run.{AnswersLines, AnswersText, IsFirstFault};
+
+use crate::answer::{Areas, Cleaned, Compacted, ContourAnswer};
+use crate::command::Command;
+use crate::fault::ToolFault;
+use crate::line::{first_line, read_line};
+use i_shape_core::cleaner::Canonicalizer;
+use i_shape_core::despike::ContourDeSpiker;
+use i_shape_core::simplifier::ContourSimplifier;
+use std::alloc::Global;
+
+/// The answer of a command to a text of contours: for each line, in order, what the command says of its contour on a line
+/// of its own, and nothing else. `Compact` leaves out the lines of contours that collapse, and says of the others what
+/// `Simplify` says.
+///
+/// Lines end at `\n`, and the last one needs no end. A line holds the coordinates of its points, x and y in turn, as
+/// decimals of 32 bits parted by single spaces; an empty line is the contour without points. `Simplify` says the points of
+/// the contour without zero turns in the same form, or `none` where it collapses; `Despike` says those of the contour without
+/// spikes, and `Canonical` the least rotation of what `Simplify` says. `Area` says twice the area of the contour, wrapped to
+/// 64 bits, or `empty` where it has no points.
+///
+/// `NotAContour` and `OutOfRange` tell the first line that is faulty for the command. `OutOfMemory` comes where an allocation
+/// failed and no faulty line was found before.
+pub fn run(alloc: Global, command: Command, text: &str) -> Result<String, ToolFault>
+    ensures ok { IfOk result (λ output. AnswersText command text.now (string_bytes output)) }
+    ensures err { IfErr result (IsFirstFault command text.now) }
+{
+    match command {
+        Command::Simplify => {
+            answer_lines(
+                alloc,
+                command,
+                Cleaned::<ContourSimplifier>::new(alloc),
+                text,
+            )
+        }
+        Command::Despike => {
+            answer_lines(alloc, command, Cleaned::<ContourDeSpiker>::new(alloc), text)
+        }
+        Command::Area => answer_lines(alloc, command, Areas, text),
+        Command::Canonical => {
+            answer_lines(alloc, command, Cleaned::<Canonicalizer>::new(alloc), text)
+        }
+        Command::Compact => answer_lines(alloc, command, Compacted::new(alloc), text),
+    }
+}
+
+/// The answers to the contours of a text's lines, one by one.
+fn answer_lines<A: ContourAnswer>(
+    alloc: Global,
+    command: Command,
+    mut answerer: A,
+    text: &str,
+) -> Result<String, ToolFault>
+    requires { (c : List Point) → (IsCleaner command → IsSafe c) → A.takes c }
+    ensures ok { IfOk result
+        (λ output. AnswersLines command A.answers text.now (string_bytes output)) }
+    ensures err { IfErr result (IsFirstFault command text.now) }
+{
+    let mut contour = Vec::new(alloc);
+    let mut output = String::new(alloc);
+    let mut number = 0;
+    let mut rest = text;
+    while !rest.is_empty() {
+        let (line, after) = first_line(rest);
+        number += 1;
+        read_line(command, line, number, &mut contour)?;
+        answerer.answer(contour.as_slice(), &mut output)?;
+        rest = after;
+    }
+    Ok(output)
+}
