@@ -2,12 +2,19 @@ PREFIX ?= /usr/local
 # Words of the command line alone: in an environment these names may mean something else.
 TARGET :=
 CPU :=
-TO = $(DESTDIR)$(PREFIX)
+BINDIR := $(PREFIX)/bin
+INCLUDEDIR := $(PREFIX)/include
+LIBDIR := $(PREFIX)/lib
+MANDIR := $(PREFIX)/share/man
+TO_BIN = $(DESTDIR)$(BINDIR)
+TO_INCLUDE = $(DESTDIR)$(INCLUDEDIR)
+TO_LIB = $(DESTDIR)$(LIBDIR)
+TO_MAN = $(DESTDIR)$(MANDIR)/man1
 # Where build.sh of the C library puts what it builds.
 C_OUT := bindings/c/out$(if $(TARGET)$(CPU),/$(TARGET)$(if $(TARGET),$(if $(CPU),-))$(CPU))
 PROGRAM := crates/i_shape_tool_main/out/$(if $(TARGET)$(CPU),$(TARGET)$(CPU)/i_shape_tool,i_shape_tool_main)
 
-.PHONY: test gate help check fmt program c wasm page wheel dist pictures install install-program install-c clean
+.PHONY: test gate help check fmt program c wasm page wheel dist pictures install install-program install-c uninstall uninstall-program uninstall-c clean
 
 # The tests of behaviour, without a proof, in two to three minutes. What isn't built is skipped.
 test:
@@ -60,24 +67,39 @@ dist:
 pictures: program
 	@examples/draw/draw_all.sh docs/pictures
 
-# Installs the program and the C library below PREFIX, /usr/local where none is given.
+# Installs the program and the C library below PREFIX, /usr/local where none is given, or in BINDIR, INCLUDEDIR, LIBDIR and MANDIR.
 install: install-program install-c
 
-# Installs the program alone.
+# Installs the program alone, with its man page.
 install-program: program
-	install -d "$(TO)/bin"
-	install -m 755 $(PROGRAM) "$(TO)/bin/i_shape_tool"
+	install -d "$(TO_BIN)" "$(TO_MAN)"
+	install -m 755 $(PROGRAM) "$(TO_BIN)/i_shape_tool"
+	sed "s|@VERSION@|$$(scripts/version.sh)|" scripts/program/i_shape_tool.1.in > "$(TO_MAN)/i_shape_tool.1"
+	chmod 644 "$(TO_MAN)/i_shape_tool.1"
 
 # Installs the C library alone.
 install-c: c
 	$(if $(filter windows,$(TARGET)),$(error install-c takes no TARGET=windows: bindings/c/out/windows has what make c has built))
-	install -d "$(TO)/include" "$(TO)/lib/pkgconfig" "$(TO)/lib/cmake/i_shape"
-	install -m 644 include/i_shape.h include/i_shape.hpp "$(TO)/include"
-	install -m 644 $(C_OUT)/libi_shape.a "$(TO)/lib"
-	install -m 755 $(C_OUT)/libi_shape.so "$(TO)/lib"
-	sed 's|@PREFIX@|$(PREFIX)|' $(C_OUT)/i_shape.pc.in > "$(TO)/lib/pkgconfig/i_shape.pc"
-	chmod 644 "$(TO)/lib/pkgconfig/i_shape.pc"
-	install -m 644 bindings/c/cmake/*.cmake $(C_OUT)/i_shape-config-version.cmake "$(TO)/lib/cmake/i_shape"
+	install -d "$(TO_INCLUDE)" "$(TO_LIB)/pkgconfig" "$(TO_LIB)/cmake/i_shape"
+	install -m 644 include/i_shape.h include/i_shape.hpp "$(TO_INCLUDE)"
+	install -m 644 $(C_OUT)/libi_shape.a "$(TO_LIB)"
+	cp -P --remove-destination $(C_OUT)/libi_shape.so* "$(TO_LIB)"
+	sed 's|@PREFIX@|$(PREFIX)|; s|@INCLUDEDIR@|$(INCLUDEDIR)|; s|@LIBDIR@|$(LIBDIR)|' $(C_OUT)/i_shape.pc.in > "$(TO_LIB)/pkgconfig/i_shape.pc"
+	install -m 644 bindings/c/cmake/*.cmake $(C_OUT)/i_shape-config-version.cmake "$(TO_LIB)/cmake/i_shape"
+	sed "s|@HEADERS@|$$(realpath -ms --relative-to='$(LIBDIR)' '$(INCLUDEDIR)')|" bindings/c/cmake/i_shape-config.cmake.in > "$(TO_LIB)/cmake/i_shape/i_shape-config.cmake"
+	chmod 644 "$(TO_LIB)/libi_shape.so" "$(TO_LIB)/pkgconfig/i_shape.pc" "$(TO_LIB)/cmake/i_shape/i_shape-config.cmake"
+
+# Removes what install has put there, by the same words; of the shared library each version.
+uninstall: uninstall-program uninstall-c
+
+# Removes the program alone.
+uninstall-program:
+	rm -f "$(TO_BIN)/i_shape_tool" "$(TO_MAN)/i_shape_tool.1"
+
+# Removes the C library alone.
+uninstall-c:
+	rm -f "$(TO_INCLUDE)/i_shape.h" "$(TO_INCLUDE)/i_shape.hpp" "$(TO_LIB)/libi_shape.a" "$(TO_LIB)"/libi_shape.so* "$(TO_LIB)/pkgconfig/i_shape.pc"
+	rm -rf "$(TO_LIB)/cmake/i_shape"
 
 # Removes what is built and the kept work of the proofs.
 clean:

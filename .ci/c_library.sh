@@ -12,7 +12,7 @@ archive=crates/i_shape_c/out/libi_shape_c.a
 
 # The names that the archive and the shared library export are those that the header declares.
 test_names() {
-    "${CC:-cc}" -E -Iinclude include/i_shape.h | grep -oE '\bi_shape_[a-z0-9_]+ ?\(' | tr -d ' (' | sort > "$work/declared"
+    "${CC:-cc}" -E -Iinclude include/i_shape.h | grep -v '^static inline' | grep -oE '\bi_shape_[a-z0-9_]+ ?\(' | tr -d ' (' | sort > "$work/declared"
     nm -D --defined-only "$library/libi_shape.so" | sed -E 's/^[^ ]* //' | sort | diff - <(sed 's/^/T /' "$work/declared")
     count $? 'the names of the shared library'
     if ! command -v rt > /dev/null; then
@@ -136,6 +136,22 @@ test_cmake() {
     test_versions
 }
 
+# `make install-c` into folders of one's own below DESTDIR: the shared library's name there has its version, as CMake is told; pkg-config and CMake name the
+# folders; and `make uninstall-c` leaves nothing.
+test_install() {
+    local to=$work/destdir its soname
+    its=(DESTDIR="$to" PREFIX=/usr LIBDIR=/usr/lib/of_a_machine INCLUDEDIR=/usr/include/of_its_own)
+    make -s install-c "${its[@]}" && soname=$(readelf -d "$to/usr/lib/of_a_machine/libi_shape.so" | sed -nE 's/.*SONAME.*\[(.*)\]/\1/p') &&
+        [ "$soname" = "libi_shape.so.$(scripts/version.sh | cut -d. -f1)" ] && [ -e "$to/usr/lib/of_a_machine/$soname" ] &&
+        grep -q "IMPORTED_SONAME $soname$" "$to/usr/lib/of_a_machine/cmake/i_shape/i_shape-targets.cmake"
+    count $? 'make install-c: the name of the shared library'
+    grep -qx 'includedir=/usr/include/of_its_own' "$to/usr/lib/of_a_machine/pkgconfig/i_shape.pc" &&
+        grep -q '"${i_shape_LIBRARY_DIR}/../../include/of_its_own"' "$to/usr/lib/of_a_machine/cmake/i_shape/i_shape-config.cmake"
+    count $? 'make install-c: the folders that pkg-config and CMake name'
+    make -s uninstall-c "${its[@]}" && [ -z "$(find "$to" ! -type d)" ]
+    count $? 'make uninstall-c'
+}
+
 # Runs cargo's command $1 on the crate for Rust, by the words from $2 on, if there is that command.
 lint_rust() {
     if ! cargo "$1" --help > /dev/null 2>&1; then
@@ -184,6 +200,7 @@ test_cpp g++ -O2
 test_cpp clang++ -O0
 test_refused_points
 test_cmake
+test_install
 test_rust
 test_as 'C11' "${c[@]}" "$library/libi_shape.a"
 test_as 'C++17' "${cpp[@]}" "$library/libi_shape.a"

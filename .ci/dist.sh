@@ -10,7 +10,7 @@ top=$PWD
 empty="$work/an empty folder"
 only_built=${1-}
 python=${PYTHON:-/usr/bin/python3}
-version=$(sed -n 's/^version = "\(.*\)"$/\1/p' bindings/rust/Cargo.toml)
+version=$(scripts/version.sh)
 corners=$'0 0\n4 0\n4 4\n0 4'
 export PYTHONDONTWRITEBYTECODE=1
 unset PYTHONPATH PYTHONHOME I_SHAPE_C_DIR
@@ -65,7 +65,7 @@ unpack() {
 
 # The files of the folder are those of standard input.
 holds() {
-    diff <(sort) <(find . -type f | sed 's|^\./||' | sort)
+    diff <(sort) <(find . -type f,l | sed 's|^\./||' | sort)
     count $? "$1: its files"
 }
 
@@ -93,7 +93,7 @@ is_of_manylinux() {
 
 # Each function that the header declares was proved, and so was the whole, for the machine $1.
 is_proved() {
-    "${CC:-cc}" -E include/i_shape.h | grep -oE '\bi_shape_[a-z0-9_]+ ?\(' | tr -d ' (' | sort > "$work/declared"
+    "${CC:-cc}" -E include/i_shape.h | grep -v '^static inline' | grep -oE '\bi_shape_[a-z0-9_]+ ?\(' | tr -d ' (' | sort > "$work/declared"
     sed -nE 's/^fn .*::(i_shape_[a-z0-9_]+): proved$/\1/p' PROOF | sort > "$work/proved"
     diff "$work/declared" "$work/proved" && [ -s "$work/proved" ] && grep -q "^logic=proved .* target=$1-unknown-linux-gnu " PROOF && ! grep -q cpu= PROOF
     count $? "linux-$1: what the kit said of the proof"
@@ -102,7 +102,8 @@ is_proved() {
 test_linux() {
     local machine=$1
     unpack "i_shape-$version-linux-$machine.tar.gz" || return
-    holds "linux-$machine" << 'FILES'
+    holds "linux-$machine" << FILES
+CMakeLists.txt
 LICENSE
 PROOF
 README.md
@@ -113,6 +114,8 @@ lib/cmake/i_shape/i_shape-config.cmake
 lib/cmake/i_shape/i_shape-targets.cmake
 lib/libi_shape.a
 lib/libi_shape.so
+lib/libi_shape.so.${version%%.*}
+lib/libi_shape.so.$version
 lib/pkgconfig/i_shape.pc
 sample/consumer/CMakeLists.txt
 sample/sample.c
@@ -123,7 +126,7 @@ FILES
     count $? "linux-$machine: what its library asks for"
 }
 
-# The four commands of the archive's page, each of which prints the corners at its end.
+# The five commands of the archive's page, each of which prints the corners at its end.
 test_page() {
     local command tool found=0
     while read -r command; do
@@ -136,7 +139,7 @@ test_page() {
         bash -c "$command" > "$work/log" 2>&1 < /dev/null && [ "$(tail -n 4 "$work/log")" = "$corners" ] || { cat "$work/log" && false; }
         count $? "linux-x86_64: $command"
     done < <(sed -n 's/^    //p' README.md | sed '/\\$/ { N; s/\\\n *// }')
-    [ $found = 4 ] || count 1 "linux-x86_64: its page has $found commands"
+    [ $found = 5 ] || count 1 "linux-x86_64: its page has $found commands"
 }
 
 # Its commands have built the project of CMake, if there is one.
@@ -158,6 +161,10 @@ test_x86_64() {
         [ "$("build/$program")" = "$corners" ]
         count $? "linux-x86_64: CMake: $program"
     done
+    cmake -S sample/consumer -B fetched -DI_SHAPE_ARCHIVE="$work/dist/i_shape-$version-linux-x86_64.tar.gz" > "$work/log" 2>&1 &&
+        cmake --build fetched >> "$work/log" 2>&1 || cat "$work/log"
+    [ "$(fetched/shared_in_c)" = "$corners" ]
+    count $? 'linux-x86_64: CMake, by FetchContent'
 }
 
 test_aarch64() {
@@ -181,7 +188,10 @@ LICENSE
 PROOF
 README.md
 bin/i_shape_tool
+share/man/man1/i_shape_tool.1
 FILES
+    grep -q "i_shape_tool $version\"" share/man/man1/i_shape_tool.1
+    count $? "program-$1: the version of its man page"
     needs_glibc bin/i_shape_tool 34
     count $? "program-$1: what it asks for"
     grep -q "^logic=proved .* target=$1-unknown-linux-gnu " PROOF
@@ -200,7 +210,7 @@ test_wheel() {
     rm -rf "$empty" && mkdir "$empty" && cd "$empty" || return
     "$python" -m zipfile -e "$wheel" . && grep -qx "Tag: py3-none-manylinux_2_17_$1" i_shape-*.dist-info/WHEEL && ! grep -q 'Purelib: true' i_shape-*.dist-info/WHEEL &&
         [ -e i_shape/__init__.py ] && [ -e i_shape/py.typed ] && [ -e "i_shape-$version.dist-info/LICENSE" ] &&
-        tar -xzOf "$work/dist/i_shape-$version-linux-$1.tar.gz" "i_shape-$version-linux-$1/lib/libi_shape.so" | cmp - i_shape/libi_shape.so
+        tar -xzOf "$work/dist/i_shape-$version-linux-$1.tar.gz" "i_shape-$version-linux-$1/lib/libi_shape.so.$version" | cmp - i_shape/libi_shape.so
     count $? "wheel-$1: its tag and files"
     is_of_manylinux i_shape/libi_shape.so
     count $? "wheel-$1: what its library asks for"

@@ -47,6 +47,22 @@ typedef struct { int64_t x, y; } i_shape_point_i64;
 /* The two halves of the 128 bits of a whole number. */
 typedef struct { uint64_t low, high; } i_shape_halves;
 
+/* The number of two halves, and the double that is nearest to it, of two the one whose last bit is 0. These two are
+ * tested. */
+#ifdef __SIZEOF_INT128__
+__extension__ typedef __int128 i_shape_int128;
+static inline i_shape_int128 i_shape_halves_to_int128(i_shape_halves halves) {
+    return (int64_t)halves.high * ((i_shape_int128)1 << 64) + halves.low;
+}
+#endif
+static inline double i_shape_halves_to_double(i_shape_halves halves) {
+    bool is_negative = halves.high >> 63;
+    uint64_t low = is_negative ? 0 - halves.low : halves.low, high = is_negative ? ~halves.high + !halves.low : halves.high;
+    double unit = is_negative ? -1 : 1;
+    for (; high; high >>= 1, unit *= 2) low = low >> 1 | (low & 1) | high << 63; /* a bit that is lost leaves its trace in the last one */
+    return (double)low * unit;
+}
+
 /* The calls at 32 bits. Those at 16 and at 64 bits stand below. */
 
 /* One contour. These answer how many points are written to the front of out: at least 3, at most count, and 0 where the

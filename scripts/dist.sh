@@ -14,7 +14,7 @@ top=$(cd "$(dirname "$0")/.." && pwd)
 folder=${1:?the folder to pack into}
 shift
 [ $# -gt 0 ] || set -- linux-x86_64 linux-aarch64 wheel-x86_64 wheel-aarch64 program-x86_64 program-aarch64 javascript rust
-version=$(sed -n 's/^version = "\(.*\)"$/\1/p' "$top/bindings/rust/Cargo.toml")
+version=$("$top/scripts/version.sh")
 SOURCE_DATE_EPOCH=${SOURCE_DATE_EPOCH:-$(git -C "$top" log -1 --format=%ct)}
 export SOURCE_DATE_EPOCH
 work=$(mktemp -d)
@@ -48,7 +48,8 @@ pack_linux() {
     build_library "$machine"
     make -s -C "$top" install-c "$choice" DESTDIR="$work/$name" PREFIX=
     # so that the folder may lie anywhere
-    sed 's|@PREFIX@|${pcfiledir}/../..|' "$library/i_shape.pc.in" > "$work/$name/lib/pkgconfig/i_shape.pc"
+    sed 's|@PREFIX@|${pcfiledir}/../..|; s|@INCLUDEDIR@|${prefix}/include|; s|@LIBDIR@|${prefix}/lib|' "$library/i_shape.pc.in" > "$work/$name/lib/pkgconfig/i_shape.pc"
+    cp "$top/bindings/c/archive.cmake" "$work/$name/CMakeLists.txt"
     mkdir "$work/$name/sample"
     cp -R "$top"/bindings/c/{sample.c,sample.cpp,consumer} "$work/$name/sample"
     cp "$top/LICENSE" "$work/$name"

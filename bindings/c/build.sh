@@ -1,6 +1,6 @@
 #!/usr/bin/env bash
-# Builds the C library into bindings/c/out: libi_shape.a, libi_shape.so, and for installing them i_shape.pc.in and i_shape-config-version.cmake. It is proved
-# first, where it isn't built yet or its sources are newer, and standard error tells how far that is. Both libraries hold the allocator of the C library; a
+# Builds the C library into bindings/c/out: libi_shape.a, libi_shape.so as links to the file that has its version in its name, and for installing them
+# i_shape.pc.in and i_shape-config-version.cmake. It is proved first, where it isn't built yet or its sources are newer, and standard error tells how far that is. Both libraries hold the allocator of the C library; a
 # program that defines rattle_alloc, rattle_realloc and rattle_dealloc itself takes its own with libi_shape.a.
 #
 # usage: build.sh [--is-built] [--target aarch64|windows] [--cpu NAME] [--backend rattle]
@@ -12,7 +12,7 @@ set -eu
 top=$(cd "$(dirname "$0")/../.." && pwd)
 here=$top/bindings/c
 archive=$top/crates/i_shape_c/out/libi_shape_c.a
-version=$(printf '%d.%d.%d' $(sed -n 's/^#define I_SHAPE_VERSION 0x\(..\)\(..\)\(..\)$/0x\1 0x\2 0x\3/p' "$top/include/i_shape.h"))
+version=$("$top/scripts/version.sh")
 only_asks='' target='' cpu='' backend=''
 while [ $# -gt 0 ]; do
     case $1 in
@@ -49,7 +49,8 @@ is_proved() {
 }
 
 is_built() {
-    is_proved && [ -e "$out/libi_shape.a" ] && [ -e "$out/libi_shape.so" ] && [ -e "$out/i_shape-config-version.cmake" ] && [ -e "$out/i_shape.pc.in" ] &&
+    is_proved && [ -e "$out/libi_shape.a" ] && [ -e "$out/libi_shape.so" ] && [ -e "$out/libi_shape.so.$version" ] &&
+        [ -e "$out/i_shape-config-version.cmake" ] && [ -e "$out/i_shape.pc.in" ] &&
         ! is_older_than_one_of "$out/i_shape.pc.in" "$proved" "$top/include" "$here/build.sh" "$here/allocator.c" "$here/i_shape.pc.in" "$here/cmake"
 }
 
@@ -94,10 +95,13 @@ add_allocator() {
 }
 
 link_shared() {
-    local linker=("$kit/toolchain/bin/clang" -fuse-ld=lld)
+    local linker=("$kit/toolchain/bin/clang" -fuse-ld=lld) soname=libi_shape.so.${version%%.*}
     [ "$target" != aarch64 ] || linker=(aarch64-linux-gnu-gcc)
     echo '{ global: i_shape_*; local: *; };' > "$out/names"
-    "${linker[@]}" -shared -Wl,-soname,libi_shape.so -Wl,--version-script,"$out/names" -o "$out/libi_shape.so" "$out"/objects/*.o
+    rm -f "$out"/libi_shape.so*
+    "${linker[@]}" -shared -Wl,-soname,"$soname" -Wl,--version-script,"$out/names" -o "$out/libi_shape.so.$version" "$out"/objects/*.o
+    ln -s "libi_shape.so.$version" "$out/$soname"
+    ln -s "$soname" "$out/libi_shape.so"
 }
 
 if [ -n "$only_asks" ]; then

@@ -148,6 +148,23 @@ static void test_great_area(void) {
     check(i_shape_area_two_i64(square, 4, &area) && area.low == 0 && area.high == UINT64_C(1) << 59, 64, "area_two", "a great square");
 }
 
+/* The numbers that halves stand for. Halfway between two doubles, that with the last bit 0 is taken. */
+static void test_halves(void) {
+    static const struct { i_shape_halves halves; double number; } told[] = {
+        {{0, 0}, 0}, {{1, 0}, 1}, {{UINT64_MAX, UINT64_MAX}, -1}, {{0, UINT64_C(1) << 59}, 0x1p123}, {{0, UINT64_C(1) << 63}, -0x1p127},
+        {{UINT64_MAX, 0}, 0x1p64}, {{2048, 1}, 0x1p64}, {{2049, 1}, 0x1.0000000000001p64}, {{6144, 1}, 0x1.0000000000002p64},
+        {{1, UINT64_C(1) << 11}, 0x1p75}, {{UINT64_MAX - 2048, UINT64_MAX - 1}, -0x1.0000000000001p64}
+    };
+    for (size_t k = 0; k < sizeof told / sizeof *told; k++) {
+        const i_shape_halves halves = told[k].halves;
+        check(i_shape_halves_to_double(halves) >= told[k].number && i_shape_halves_to_double(halves) <= told[k].number, 64, "halves", "as a double");
+#ifdef __SIZEOF_INT128__
+        const i_shape_int128 number = i_shape_halves_to_int128(halves);
+        check((uint64_t)number == halves.low && (uint64_t)(number >> 64) == halves.high, 64, "halves", "as a whole number");
+#endif
+    }
+}
+
 #ifndef REFUSES
 enum { THREADS = 4, POINTS = 20000, TURNS = 20 };
 
@@ -188,6 +205,7 @@ int main(void) {
     test_width_i32();
     test_width_i64();
     test_great_area();
+    test_halves();
     test_threads();
     printf("%d passed, %d failed\n", passed, failed);
     return failed != 0;

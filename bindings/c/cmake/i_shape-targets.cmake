@@ -12,7 +12,7 @@ set_target_properties(i_shape::static PROPERTIES
 add_library(i_shape::shared SHARED IMPORTED GLOBAL)
 set_target_properties(i_shape::shared PROPERTIES
   IMPORTED_LOCATION "${i_shape_LIBRARY_DIR}/libi_shape.so"
-  IMPORTED_SONAME libi_shape.so
+  IMPORTED_SONAME libi_shape.so.0
   INTERFACE_INCLUDE_DIRECTORIES "${i_shape_INCLUDE_DIR}")
 
 add_library(i_shape::i_shape INTERFACE IMPORTED GLOBAL)
