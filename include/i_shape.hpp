@@ -3,8 +3,9 @@
  * i_shape.h describes; docs/CPP.md has samples.
  *
  * These take points and offsets from whatever std::data and std::size take: a vector, an array, or a pointer and a count
- * as i_shape::Span. Many items are answered as vectors. A code of C is thrown as an i_shape::Error; where an answer's
- * vector gets no memory, std::bad_alloc is. Whatever is thrown, nothing that was given is changed. */
+ * as i_shape::Span. Offsets are of any unsigned type; those of another one than std::size_t are copied. Many items are
+ * answered as vectors. A code of C is thrown as an i_shape::Error; where a vector gets no memory, std::bad_alloc is.
+ * Whatever is thrown, nothing that was given is changed. */
 #ifndef I_SHAPE_HPP
 #define I_SHAPE_HPP
 
@@ -12,6 +13,7 @@
 
 #include <cstddef>
 #include <cstdint>
+#include <cstdio>
 #include <cstring>
 #include <exception>
 #include <iterator>
@@ -28,23 +30,41 @@ enum class Code : std::int32_t {
     no_memory = I_SHAPE_NO_MEMORY /* an allocation failed */
 };
 
+/* The array of a call in which something is refused: points, points that are asked about, offsets of contours, offsets
+ * of polygons, the array of the answer; nothing where there is no memory. */
+enum class Array { none, points, about, offsets, shapes, out };
+
 class Error : public std::exception {
 public:
-    explicit Error(Code code) noexcept : code_(code) {}
-
-    Code code() const noexcept { return code_; }
-
-    const char *what() const noexcept override {
-        switch (code_) {
-        case Code::unsafe: return "i_shape: a point isn't in the safe range";
-        case Code::unfit: return "i_shape: the offsets don't part the points, or the array of the answer is too short";
-        case Code::no_memory: break;
-        }
-        return "i_shape: out of memory";
+    explicit Error(Code code, Array array = Array::none, std::optional<std::size_t> place = std::nullopt) noexcept
+        : code_(code), array_(array), place_(place) {
+        static constexpr const char *names[] = {"", ": points", ": about", ": offsets", ": shapes", ": out"};
+        std::snprintf(what_, sizeof what_, place ? "i_shape: %s%s[%zu]" : "i_shape: %s%s", words_of(code), names[static_cast<int>(array)], place.value_or(0));
     }
 
+    Code code() const noexcept { return code_; }
+    Array array() const noexcept { return array_; }
+
+    /* The place in that array of the first point that isn't safe, or of the first offset that is below the one before it
+     * or above the count. Nothing where the array has no item, or is too short. */
+    std::optional<std::size_t> place() const noexcept { return place_; }
+
+    const char *what() const noexcept override { return what_; }
+
 private:
+    static const char *words_of(Code code) noexcept {
+        switch (code) {
+        case Code::unsafe: return "a point isn't in the safe range";
+        case Code::unfit: return "the offsets don't part the points, or the array of the answer is too short";
+        case Code::no_memory: break;
+        }
+        return "out of memory";
+    }
+
     Code code_;
+    Array array_;
+    std::optional<std::size_t> place_;
+    char what_[128];
 };
 
 /* A pointer and a count: items that lie somewhere else. Items of a class below Item aren't taken: they may lie further
@@ -188,9 +208,19 @@ typename CallsFor<Point>::Point *write(std::vector<Point> &points) noexcept {
     return address<typename CallsFor<Point>::Point>(points.data());
 }
 
-template <class Offsets>
-const std::size_t *read_offsets(const Offsets &offsets) noexcept {
-    return address<const std::size_t>(static_cast<const std::size_t *>(std::data(offsets)));
+using Offsets = Span<const std::size_t>;
+
+/* Offsets where they lie, or a copy of those that C would read as others. */
+template <class Given>
+auto as_offsets(const Given &given) {
+    using Offset = std::remove_cv_t<std::remove_pointer_t<decltype(std::data(given))>>;
+    static_assert(std::is_integral_v<Offset> && std::is_unsigned_v<Offset> && !std::is_same_v<Offset, bool>, "i_shape: offsets are of an unsigned type");
+    if constexpr (std::is_same_v<Offset, std::size_t>) return Offsets(std::data(given), std::size(given));
+    else return std::vector<std::size_t>(std::data(given), std::data(given) + std::size(given));
+}
+
+inline const std::size_t *read_offsets(Offsets offsets) noexcept {
+    return address<const std::size_t>(offsets.data());
 }
 
 template <class Point>
@@ -200,9 +230,62 @@ typename CallsFor<Point>::Point as_c(const Point &point) noexcept {
     return copy;
 }
 
-inline std::size_t count_of(std::ptrdiff_t answer) {
-    if (answer < 0) throw Error(static_cast<Code>(answer));
+/* The place of the first point from first on, and before end, that isn't safe. */
+template <class Points>
+std::optional<std::size_t> first_unsafe(const Points &points, std::size_t first, std::size_t end) noexcept {
+    for (std::size_t k = first; k < end; k++)
+        if (!CallsOf<Points>::is_safe(read(points) + k, 1)) return k;
+    return std::nullopt;
+}
+
+/* The place of the first offset of so many items that doesn't part them. */
+inline std::optional<std::size_t> first_unfit(Offsets offsets, std::size_t count) noexcept {
+    for (std::size_t k = 0; k < offsets.size(); k++)
+        if (offsets.data()[k] > count || (k > 0 && offsets.data()[k] < offsets.data()[k - 1])) return k;
+    return std::nullopt;
+}
+
+/* The error of offsets that don't part so many items; nothing where they do. */
+inline std::optional<Error> unfit(Array array, Offsets offsets, std::size_t count) noexcept {
+    const auto place = first_unfit(offsets, count);
+    if (place || offsets.size() == 0) return Error(Code::unfit, array, place);
+    return std::nullopt;
+}
+
+/* The error of a code of a call on a contour. */
+template <class Points>
+Error error_of(Code code, const Points &points) noexcept {
+    if (code == Code::unsafe) return Error(code, Array::points, first_unsafe(points, 0, std::size(points)));
+    return Error(code, code == Code::unfit ? Array::out : Array::none);
+}
+
+/* The same of many contours. */
+template <class Points>
+Error error_of(Code code, const Points &points, Offsets offsets) noexcept {
+    if (code == Code::unfit) return unfit(Array::offsets, offsets, std::size(points)).value_or(Error(code, Array::out));
+    if (code == Code::no_memory) return Error(code);
+    return Error(code, Array::points, first_unsafe(points, offsets.data()[0], offsets.data()[offsets.size() - 1]));
+}
+
+/* The same of polygons. */
+template <class Points>
+Error error_of(Code code, const Points &points, Offsets contours, Offsets shapes) noexcept {
+    const Error error = error_of(code, points, contours);
+    if (error.array() != Array::out) return error;
+    return unfit(Array::shapes, shapes, contours.size() - 1).value_or(error);
+}
+
+/* The answer of a call, or the error of its code. What the call was given is named behind it. */
+template <class... Given>
+std::size_t count_of(std::ptrdiff_t answer, const Given &...given) {
+    if (answer < 0) throw error_of(static_cast<Code>(answer), given...);
     return static_cast<std::size_t>(answer);
+}
+
+/* Throws where a point that is asked about isn't safe. */
+template <class About>
+void check_asked(const About &about) {
+    if (const auto place = first_unsafe(about, 0, std::size(about))) throw Error(Code::unsafe, Array::about, place);
 }
 
 /* The vector of an answer, before its points are written. */
@@ -215,7 +298,7 @@ std::vector<Point> room_for(std::size_t count) {
 template <class Points, class Call>
 std::size_t clean_into(Call call, const Points &points, Span<PointOf<Points>> out) {
     using Point = typename CallsOf<Points>::Point;
-    return count_of(call(read(points), std::size(points), address<Point>(out.data()), out.size()));
+    return count_of(call(read(points), std::size(points), address<Point>(out.data()), out.size()), points);
 }
 
 template <class Points, class Call>
@@ -225,26 +308,31 @@ std::vector<PointOf<Points>> clean(Call call, const Points &points) {
     return left;
 }
 
-template <class Points, class Offsets, class Call>
-Contours<PointOf<Points>> clean_contours(Call call, const Points &points, const Offsets &offsets) {
+template <class Points, class Given, class Call>
+Contours<PointOf<Points>> clean_contours(Call call, const Points &points, const Given &given) {
+    const auto all = as_offsets(given);
+    const Offsets offsets = all;
     Contours<PointOf<Points>> left;
     left.points = room_for<PointOf<Points>>(std::size(points));
-    left.offsets.resize(std::size(offsets));
-    left.points.resize(count_of(call(read(points), std::size(points), read_offsets(offsets), std::size(offsets), write(left.points),
-                                     left.points.size(), address<std::size_t>(left.offsets.data()), left.offsets.size())));
+    left.offsets.resize(offsets.size());
+    left.points.resize(count_of(call(read(points), std::size(points), read_offsets(offsets), offsets.size(), write(left.points), left.points.size(),
+                                     address<std::size_t>(left.offsets.data()), left.offsets.size()), points, offsets));
     return left;
 }
 
-template <class Points, class Offsets, class ShapeOffsets, class Call>
-Shapes<PointOf<Points>> clean_shapes(Call call, const Points &points, const Offsets &contours, const ShapeOffsets &shapes) {
+template <class Points, class GivenContours, class GivenShapes, class Call>
+Shapes<PointOf<Points>> clean_shapes(Call call, const Points &points, const GivenContours &given_contours, const GivenShapes &given_shapes) {
+    const auto all_contours = as_offsets(given_contours);
+    const auto all_shapes = as_offsets(given_shapes);
+    const Offsets contours = all_contours, shapes = all_shapes;
     Shapes<PointOf<Points>> left;
     left.points = room_for<PointOf<Points>>(std::size(points));
-    left.contours.resize(std::size(contours));
-    left.shapes.resize(std::size(shapes));
-    const std::size_t count = count_of(call(read(points), std::size(points), read_offsets(contours), std::size(contours), read_offsets(shapes),
-                                            std::size(shapes), write(left.points), left.points.size(),
+    left.contours.resize(contours.size());
+    left.shapes.resize(shapes.size());
+    const std::size_t count = count_of(call(read(points), std::size(points), read_offsets(contours), contours.size(), read_offsets(shapes),
+                                            shapes.size(), write(left.points), left.points.size(),
                                             address<std::size_t>(left.contours.data()), left.contours.size(),
-                                            address<std::size_t>(left.shapes.data()), left.shapes.size()));
+                                            address<std::size_t>(left.shapes.data()), left.shapes.size()), points, contours, shapes);
     left.shapes.resize(count + 1);
     left.contours.resize(left.shapes.back() + 1);
     left.points.resize(left.contours.back());
@@ -253,15 +341,16 @@ Shapes<PointOf<Points>> clean_shapes(Call call, const Points &points, const Offs
 
 template <class Points, class Call>
 bool test(Call call, const Points &points) {
-    return count_of(call(read(points), std::size(points))) != 0;
+    return count_of(call(read(points), std::size(points)), points) != 0;
 }
 
 /* An item of each contour, by a call that answers 0. */
-template <class Item, class Points, class Offsets, class Call>
-std::vector<Item> measure_contours(Call call, const Points &points, const Offsets &offsets) {
-    const std::size_t offset_count = std::size(offsets);
-    std::vector<Item> items(offset_count == 0 ? 0 : offset_count - 1);
-    count_of(call(read(points), std::size(points), read_offsets(offsets), offset_count, address<Item>(items.data()), items.size()));
+template <class Item, class Points, class Given, class Call>
+std::vector<Item> measure_contours(Call call, const Points &points, const Given &given) {
+    const auto all = as_offsets(given);
+    const Offsets offsets = all;
+    std::vector<Item> items(offsets.size() == 0 ? 0 : offsets.size() - 1);
+    count_of(call(read(points), std::size(points), read_offsets(offsets), offsets.size(), address<Item>(items.data()), items.size()), points, offsets);
     return items;
 }
 
@@ -383,7 +472,9 @@ bool is_convex(const Points &points) {
 template <class Points>
 bool contains(const Points &points, const PointOf<Points> &about) {
     const auto at = detail::as_c(about);
-    return detail::count_of(detail::CallsOf<Points>::contains(detail::read(points), std::size(points), at.x, at.y)) != 0;
+    const std::int32_t answer = detail::CallsOf<Points>::contains(detail::read(points), std::size(points), at.x, at.y);
+    if (answer == I_SHAPE_UNSAFE) detail::check_asked(Span<const PointOf<Points>>(&about, 1));
+    return detail::count_of(answer, points) != 0;
 }
 
 template <class Points>
@@ -396,18 +487,22 @@ template <class Points>
 std::ptrdiff_t winding(const Points &points, const PointOf<Points> &about) {
     const auto at = detail::as_c(about);
     const std::ptrdiff_t number = detail::CallsOf<Points>::winding(detail::read(points), std::size(points), at.x, at.y);
-    if (number == I_SHAPE_NO_WINDING) throw Error(Code::unsafe);
-    return number;
+    if (number != I_SHAPE_NO_WINDING) return number;
+    detail::check_asked(Span<const PointOf<Points>>(&about, 1));
+    throw detail::error_of(Code::unsafe, points);
 }
 
 /* How often many contours together wind about each of the points about. */
 template <class Points, class Offsets, class About>
 std::vector<std::ptrdiff_t> windings(const Points &points, const Offsets &offsets, const About &about) {
     static_assert(std::is_same_v<PointOf<Points>, PointOf<About>>, "i_shape: the points of both are of one type");
+    const auto all = detail::as_offsets(offsets);
     std::vector<std::ptrdiff_t> numbers(std::size(about));
-    detail::count_of(detail::CallsOf<Points>::windings(detail::read(points), std::size(points), detail::read_offsets(offsets), std::size(offsets),
-                                                       detail::read(about), std::size(about),
-                                                       detail::address<std::ptrdiff_t>(numbers.data()), numbers.size()));
+    const std::ptrdiff_t answer =
+        detail::CallsOf<Points>::windings(detail::read(points), std::size(points), detail::read_offsets(all), all.size(), detail::read(about),
+                                          std::size(about), detail::address<std::ptrdiff_t>(numbers.data()), numbers.size());
+    if (answer == I_SHAPE_UNSAFE) detail::check_asked(about);
+    detail::count_of(answer, points, detail::Offsets(all));
     return numbers;
 }
 
@@ -449,10 +544,10 @@ std::vector<AreaOf<Points>> area_two_contours(const Points &points, const Offset
     return detail::measure_contours<AreaOf<Points>>(detail::CallsOf<Points>::area_two_contours, points, offsets);
 }
 
-/* Contours, each in a vector of its own, end to end, and back. */
+/* Contours, each in a vector of its own, end to end, and back. The vectors given may have any allocators. */
 
-template <class Point>
-Contours<Point> flat(const std::vector<std::vector<Point>> &contours) {
+template <class Point, class A, class B>
+Contours<Point> flat(const std::vector<std::vector<Point, A>, B> &contours) {
     Contours<Point> all{{}, {0}};
     for (const auto &contour : contours) {
         all.points.insert(all.points.end(), contour.begin(), contour.end());
@@ -469,10 +564,17 @@ std::vector<std::vector<Point>> nested(const Contours<Point> &all) {
     return contours;
 }
 
-/* The same of polygons, each a vector of contours. */
+/* The winding numbers of such contours. */
+template <class Point, class A, class B, class About>
+std::vector<std::ptrdiff_t> windings(const std::vector<std::vector<Point, A>, B> &contours, const About &about) {
+    const auto all = flat(contours);
+    return windings(all.points, all.offsets, about);
+}
 
-template <class Point>
-Shapes<Point> flat(const std::vector<std::vector<std::vector<Point>>> &shapes) {
+/* Polygons, each a vector of contours, end to end, and back. */
+
+template <class Point, class A, class B, class C>
+Shapes<Point> flat(const std::vector<std::vector<std::vector<Point, A>, B>, C> &shapes) {
     Shapes<Point> all{{}, {0}, {0}};
     for (const auto &shape : shapes) {
         for (const auto &contour : shape) {

@@ -11,7 +11,7 @@ static void clean(const std::vector<Vertex> &points, const std::vector<std::size
         std::cout << left.points.size() << " points are left\n";
     } catch (const i_shape::Error &error) {
         switch (error.code()) {
-        case i_shape::Code::unsafe: std::cout << "a coordinate is out of the safe range: scale down, or take 32 bits\n"; break;
+        case i_shape::Code::unsafe: std::cout << "point " << *error.place() << " is out of the safe range: scale down, or take 32 bits\n"; break;
         case i_shape::Code::unfit: std::cout << "the offsets don't part the points\n"; break;
         case i_shape::Code::no_memory: std::cout << "there is no memory for it\n"; break;
         }

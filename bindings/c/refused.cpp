@@ -29,6 +29,12 @@ struct Point { std::int8_t x, y; };
 struct Point { Point(std::int32_t across, std::int32_t up) : x(across), y(up) {} std::int32_t x, y; };
 #elif REFUSED == 11 /* a coordinate isn't const */
 struct Point { const std::int32_t x = 0, y = 0; };
+#elif REFUSED == 12 /* offsets are of an unsigned type */
+struct Point { std::int32_t x, y; };
+std::vector<std::uint8_t> told(const std::vector<Point> &points, const std::vector<int> &offsets);
+std::vector<std::uint8_t> told(const std::vector<Point> &points, const std::vector<int> &offsets) {
+    return i_shape::is_simple_contours(points, offsets);
+}
 #endif
 
 std::vector<Point> left(const std::vector<Point> &points);

@@ -6,6 +6,7 @@
 #include <cstdio>
 #include <cstdlib>
 #include <functional>
+#include <memory_resource>
 #include <string>
 
 #if __has_include(<polyclipping/clipper.hpp>)
@@ -190,6 +191,8 @@ public:
         test_area();
         test_codes();
         test_codes_of_cleaners();
+        test_places();
+        test_allocators();
         test_large();
     }
 
@@ -368,6 +371,8 @@ private:
         check(i_shape::winding(Contour(given.begin() + 4, given.end()), point(2, 2)) == -1, "winding", "a square that turns right");
         check(i_shape::windings(given, offsets, about) == std::vector<std::ptrdiff_t>{0, 1, 0}, "windings", "two contours together");
         check(i_shape::windings(given, offsets, Contour()).empty(), "windings", "about no point");
+        check(i_shape::windings(i_shape::nested(i_shape::Contours<Point>{given, {0, 4, 8}}), about) == std::vector<std::ptrdiff_t>{0, 1, 0},
+              "windings", "two vectors together");
     }
 
     static bool is_area(std::int32_t area, std::int64_t wanted) { return area == wanted; }
@@ -431,6 +436,51 @@ private:
         throws(Code::no_memory, name, "refused memory, of polygons", [&] { clean_shapes(given, whole, polygon); });
         is_refused = false;
         check(are_equal(out, before), name, "what a code leaves");
+    }
+
+    /* An error names what is refused. */
+    void test_places() const {
+        using i_shape::Array;
+        using Offsets = std::vector<std::uint16_t>;
+        Contour unsafe = square();
+        unsafe[2] = unsafe[3] = point(least_unsafe, 0);
+        const Offsets whole = {0, 4}, first = {0, 2}, backwards = {0, 3, 2, 4}, outside = {0, 9}, none;
+        names(Array::points, 2, [&] { i_shape::simplify(unsafe); });
+        names(Array::points, 2, [&] { i_shape::winding(unsafe, point(1, 1)); });
+        names(Array::points, 3, [&] { i_shape::is_simple_contours(unsafe, Offsets{3, 4}); });
+        names(Array::points, 2, [&] { i_shape::simplify_shapes(unsafe, whole, Offsets{0}); });
+        names(Array::about, 2, [&] { i_shape::windings(square(), whole, unsafe); });
+        names(Array::about, 0, [&] { i_shape::contains(square(), unsafe[2]); });
+        names(Array::about, 0, [&] { i_shape::winding(square(), unsafe[2]); });
+        names(Array::offsets, 2, [&] { i_shape::area_two_contours(square(), backwards); });
+        names(Array::offsets, 1, [&] { i_shape::simplify_shapes(square(), outside, first); });
+        names(Array::offsets, std::nullopt, [&] { i_shape::simplify_contours(square(), none); });
+        names(Array::shapes, 1, [&] { i_shape::canonical_shapes(square(), whole, first); });
+        names(Array::shapes, std::nullopt, [&] { i_shape::canonical_shapes(square(), whole, none); });
+        names(Array::out, std::nullopt, [&] { i_shape::despike_into(square(), i_shape::Span<Point>(unsafe.data(), 3)); });
+        check(i_shape::simplify_contours(square(), whole).points.size() == 4, "simplify_contours", "offsets of 16 bits");
+    }
+
+    template <class Call>
+    void names(i_shape::Array array, std::optional<std::size_t> place, Call call) const {
+        try {
+            call();
+            check(false, "an error", "it is thrown");
+        } catch (const i_shape::Error &error) {
+            const std::string what = error.what();
+            check(error.array() == array && error.place() == place, "an error", what.c_str());
+            check(!place || what.find('[' + std::to_string(*place) + ']') != std::string::npos, "what", what.c_str());
+        }
+    }
+
+    /* Vectors of another allocator lie end to end as others do. */
+    void test_allocators() const {
+        const Contour corners = square();
+        std::pmr::vector<std::pmr::vector<std::pmr::vector<Point>>> given(1);
+        given[0].emplace_back(corners.begin(), corners.end());
+        const auto all = i_shape::flat(given);
+        check(are_equal(all.points, corners) && all.shapes == std::vector<std::size_t>{0, 1}, "flat", "polygons of another allocator");
+        check(i_shape::flat(given[0]).offsets == std::vector<std::size_t>{0, 4}, "flat", "contours of another allocator");
     }
 
     void test_codes_of_cleaners() const {
