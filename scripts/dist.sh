@@ -1,6 +1,6 @@
 #!/usr/bin/env bash
 # Packs what a release holds into a folder: the C library for each Linux, in an archive and in a wheel, the program for each, the package for JavaScript, the
-# crate for Rust in source, and SHA256SUMS. What isn't built yet is built first; the C library and the program for each processor of their machine. Two runs over one commit give the same bytes:
+# crate for Rust in source with both libraries, and SHA256SUMS. What isn't built yet is built first; the C library and the program for each processor of their machine. Two runs over one commit give the same bytes:
 # names are sorted, and each time is that of the commit, or SOURCE_DATE_EPOCH.
 #
 # usage: dist.sh FOLDER [PART..]
@@ -83,10 +83,16 @@ pack_javascript() {
     pack package "i_shape-$version-javascript.tgz"
 }
 
-# The crate alone, so the example that it shares with C lies in it.
+# The crate with the library for each machine. The example that it shares with C lies in it.
 pack_rust() {
-    local its=$top/bindings/rust name=i_shape-$version-rust
-    mkdir "$work/$name"
+    local its=$top/bindings/rust name=i_shape-$version-rust machine to
+    for machine in x86_64 aarch64; do
+        build_library $machine
+        to=$work/$name/lib/linux-$machine
+        mkdir -p "$to"
+        cp "$library/libi_shape.a" "$to"
+        print_proof "$library/build.log" > "$to/PROOF"
+    done
     cp -R "$its"/{Cargo.lock,README.md,build.rs,examples,src,tests} "$top/LICENSE" "$work/$name"
     cp "$top/examples/clean.rs" "$work/$name/examples"
     sed 's|"../../examples/clean.rs"|"examples/clean.rs"|' "$its/Cargo.toml" > "$work/$name/Cargo.toml"

@@ -3,11 +3,23 @@
 use super::IntNumber;
 use super::shape::IntContour;
 use crate::calls::holds;
+use std::fmt;
 use std::mem::{ManuallyDrop, offset_of};
+use std::ops::{Add, Neg, Sub};
 
-/// A point, laid out as the C library has it. Points are ordered by x and then by y.
+/// A point, laid out as the C library has it. Points are ordered by x and then by y. Sums overflow
+/// where those of the coordinates do.
+///
+/// ```
+/// use i_shape::int::IntPoint;
+///
+/// let point = IntPoint::from([5, -2]) - (1, 2).into() + IntPoint::default();
+/// assert_eq!(point, -IntPoint::new(-4, 4));
+/// assert_eq!(point.to_string(), "(4, -4)");
+/// assert_eq!(<[i32; 2]>::from(point), [4, -4]);
+/// ```
 #[repr(C)]
-#[derive(Clone, Copy, PartialEq, Eq, PartialOrd, Ord, Hash, Debug)]
+#[derive(Clone, Copy, Default, PartialEq, Eq, PartialOrd, Ord, Hash, Debug)]
 pub struct IntPoint<I> {
     /// To the right.
     pub x: I,
@@ -30,6 +42,60 @@ impl<I: IntNumber> IntPoint<I> {
     /// of bits.
     pub fn is_in_safe_range(&self) -> bool {
         holds(I::IS_SAFE, std::slice::from_ref(self)) == Ok(true)
+    }
+}
+
+impl<I> From<[I; 2]> for IntPoint<I> {
+    fn from([x, y]: [I; 2]) -> Self {
+        IntPoint { x, y }
+    }
+}
+
+impl<I> From<(I, I)> for IntPoint<I> {
+    fn from((x, y): (I, I)) -> Self {
+        IntPoint { x, y }
+    }
+}
+
+impl<I> From<IntPoint<I>> for [I; 2] {
+    fn from(point: IntPoint<I>) -> Self {
+        [point.x, point.y]
+    }
+}
+
+impl<I> From<IntPoint<I>> for (I, I) {
+    fn from(point: IntPoint<I>) -> Self {
+        (point.x, point.y)
+    }
+}
+
+impl<I: Add<Output = I>> Add for IntPoint<I> {
+    type Output = Self;
+
+    fn add(self, other: Self) -> Self {
+        IntPoint::new(self.x + other.x, self.y + other.y)
+    }
+}
+
+impl<I: Sub<Output = I>> Sub for IntPoint<I> {
+    type Output = Self;
+
+    fn sub(self, other: Self) -> Self {
+        IntPoint::new(self.x - other.x, self.y - other.y)
+    }
+}
+
+impl<I: Neg<Output = I>> Neg for IntPoint<I> {
+    type Output = Self;
+
+    fn neg(self) -> Self {
+        IntPoint::new(-self.x, -self.y)
+    }
+}
+
+impl<I: fmt::Display> fmt::Display for IntPoint<I> {
+    fn fmt(&self, formatter: &mut fmt::Formatter<'_>) -> fmt::Result {
+        write!(formatter, "({}, {})", self.x, self.y)
     }
 }
 
