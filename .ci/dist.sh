@@ -263,8 +263,10 @@ out/i_shape64.wasm
 package.json
 src/arrays.js
 src/errors.js
+src/geojson.js
 src/i_shape.d.ts
 src/i_shape.js
+src/loading.js
 src/memory.js
 FILES
     if npm --version > /dev/null 2>&1; then

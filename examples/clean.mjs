@@ -1,8 +1,7 @@
 /** Cleans many contours by one call, and shows each one that is left in a line. */
-import { readFile } from "node:fs/promises";
 import { load } from "../bindings/js/src/i_shape.js";
 
-const shapes = await load(readFile(new URL("../bindings/js/out/i_shape32.wasm", import.meta.url)));
+const shapes = await load();
 const points = Int32Array.of(
     0, 0, 2, 0, 4, 0, 4, 4, 0, 4, // a point on an edge
     0, 0, 3, 3, 6, 6, // no area: it collapses

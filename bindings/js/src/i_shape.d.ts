@@ -25,6 +25,13 @@ export interface Polygons<P extends Points> {
     polygonOffsets: Uint32Array;
 }
 
+/** The same as it is given to a call. */
+export interface GivenPolygons {
+    points: Points;
+    ringOffsets: Offsets;
+    polygonOffsets: Offsets;
+}
+
 /** What the calls throw; `code` is that of the C library. */
 export class IShapeError extends Error {
     readonly code: -1 | -2 | -3;
@@ -47,17 +54,38 @@ export class OutOfMemoryError extends IShapeError {}
 /** Whether the engine has memory of 64 bits, which `i_shape64.wasm` needs; `i_shape32.wasm` doesn't. */
 export function supportsMemory64(): boolean;
 
-/** Instantiates the library from the bytes of one of the two modules, what `fetch` gives for it, a compiled module, or a promise of one of these. */
-export function load(
-    source: BufferSource | WebAssembly.Module | Response | PromiseLike<BufferSource | WebAssembly.Module | Response>,
-): Promise<IShape>;
+/** What a module is had from: its URL, what `fetch` gives for it, its bytes, or the compiled module. */
+export type Source = URL | Response | BufferSource | WebAssembly.Module;
+
+/**
+ * Instantiates the library: by default from the module in the package, that with memory of 64 bits where the engine has such a memory. A fault names the
+ * URL, where there is one.
+ */
+export function load(source?: Source | PromiseLike<Source>): Promise<IShape>;
+
+/** A grid of whole numbers among the numbers of GeoJSON: k stands for k * step. `step` is 1 by default, and `Points` an `Int32Array`. */
+export interface GeoJsonOptions<P extends Points> {
+    step?: number;
+    Points?: new (length: number) => P;
+}
+
+/**
+ * The polygons of a `Polygon`, a `MultiPolygon`, or a `Feature` or a collection of these, each coordinate as the number of steps that is nearest to it, of two
+ * the even one. The point that closes a ring, heights and properties are left out.
+ * @throws {UnsafePointError} a coordinate has too many steps for the safe range
+ * @throws {TypeError} it is something else
+ */
+export function fromGeoJson<P extends Points = Int32Array>(object: object, options?: GeoJsonOptions<P>): Polygons<P>;
+
+/** The polygons as a `MultiPolygon`, each ring closed. */
+export function toGeoJson(polygons: Polygons<Points>, options?: { step?: number }): { type: "MultiPolygon"; coordinates: number[][][][] };
 
 /**
  * The calls. A contour is read as a cycle: the last point isn't the first one again. No call changes what it is given,
  * and each array of an answer is a new one. A call throws a `TypeError` where an array or a number is of another type or
  * a number isn't whole, a `RangeError` where points have an x without a y, an `OutOfMemoryError` where an allocation in the
  * module's memory fails, an `OffsetsError` where offsets don't part the points or the rings, and an `UnsafePointError` where
- * a point that it reads isn't safe; `isSafe`, `isSafeRings`, `areaTwo` and `areaTwoRings` take any points.
+ * a point that it reads isn't safe; `isSafe`, `isSafeRings`, `areaTwo`, `areaTwoRings` and `areaTwoPolygons` take any points.
  */
 export interface IShape {
     /** `major.minor.patch`. */
@@ -145,6 +173,22 @@ export interface IShape {
     canonicalRings<P extends Points>(points: P, offsets: Offsets): Rings<P>;
 
     canonicalUnorientedRings<P extends Points>(points: P, offsets: Offsets): Rings<P>;
+
+    /**
+     * A key of each ring, or of each polygon where there are `polygonOffsets`: two are equal exactly where the canonical forms are, for points of any of the
+     * types. It is empty where the ring, or the outer ring of the polygon, collapses. What else stands in a key may differ between versions. `oriented: false`
+     * lets each ring be read backwards too.
+     */
+    canonicalKeys(points: Points, ringOffsets: Offsets, polygonOffsets?: Offsets, options?: { oriented?: boolean }): string[];
+
+    /** For each ring of `a` the least number of a ring of `b` that has the same key, and -1 where none has. */
+    sameRings(a: { points: Points; offsets: Offsets }, b: { points: Points; offsets: Offsets }, options?: { oriented?: boolean }): Int32Array;
+
+    /** Whether two lists of polygons have equal canonical forms. */
+    samePolygons(a: GivenPolygons, b: GivenPolygons, options?: { oriented?: boolean }): boolean;
+
+    /** The sum of what `areaTwo` answers of the rings of each polygon, which wraps as it does: a hole counts against an outer ring that turns the other way. */
+    areaTwoPolygons(points: Points, ringOffsets: Offsets, polygonOffsets: Offsets): bigint[];
 
     /**
      * The polygons with each ring as `simplify` leaves it, without holes that collapse and without polygons whose outer ring

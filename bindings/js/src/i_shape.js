@@ -4,9 +4,11 @@
  */
 import { asOffsets, byteLengthOf, checkCoordinate, isInSafeRange, kindOf, lengthOf } from "./arrays.js";
 import { IShapeError, OffsetsError, OutOfMemoryError, UnsafePointError } from "./errors.js";
+import { fromGeoJson, toGeoJson } from "./geojson.js";
+import { compiled } from "./loading.js";
 import { borrow } from "./memory.js";
 
-export { IShapeError, OffsetsError, OutOfMemoryError, UnsafePointError };
+export { IShapeError, OffsetsError, OutOfMemoryError, UnsafePointError, fromGeoJson, toGeoJson };
 
 // The codes of include/i_shape.h.
 const UNSAFE = -1;
@@ -20,12 +22,11 @@ export function supportsMemory64() {
     return WebAssembly.validate(MEMORY64);
 }
 
-export async function load(source) {
-    const given = await source;
-    const isResponse = typeof Response !== "undefined" && given instanceof Response;
-    if (isResponse && !given.ok) throw new Error(`${given.url}: ${given.status} ${given.statusText}`);
-    const module = given instanceof WebAssembly.Module ? given : await WebAssembly.compile(isResponse ? await given.arrayBuffer() : given);
-    const { exports } = await WebAssembly.instantiate(module);
+// Each stands as a whole, so that a bundler finds it and packs the file.
+const ownModule = () => supportsMemory64() ? new URL("../out/i_shape64.wasm", import.meta.url) : new URL("../out/i_shape32.wasm", import.meta.url);
+
+export async function load(source = ownModule()) {
+    const { exports } = await WebAssembly.instantiate(await compiled(source));
     if (!exports.i_shape_version) throw new TypeError("the module isn't that of i_shape");
     return new IShape(exports);
 }
@@ -79,6 +80,20 @@ function readAreas(loan, address, count, { bits }) {
     if (bits === 32) return Array.from(loan.read(BigInt64Array, address, count));
     const halves = loan.read(BigUint64Array, address, 2 * count);
     return Array.from({ length: count }, (_, k) => BigInt.asIntN(128, (halves[2 * k + 1] << 64n) | halves[2 * k]));
+}
+
+/** Parts what there is of each ring into polygons. */
+function cut(items, polygonOffsets) {
+    const offsets = asOffsets(polygonOffsets, "polygonOffsets");
+    if (!offsets.length || offsets.at(-1) > items.length || offsets.some((offset, k) => offset < offsets[k - 1])) throw new OffsetsError();
+    return Array.from(offsets.subarray(1), (end, k) => items.slice(offsets[k], end));
+}
+
+/** The key of a polygon by those of its rings, of which the outer one comes first. */
+function keyOfPolygon([outer, ...holes]) {
+    if (outer === "") return "";
+    const left = outer === undefined ? [] : [outer, ...holes.filter((hole) => hole !== "").sort()];
+    return `${left.join(";")};`;
 }
 
 class IShape {
@@ -205,6 +220,33 @@ class IShape {
 
     canonicalUnorientedRings(points, offsets) {
         return this.#cleanRings("canonical_unoriented_contours", points, offsets);
+    }
+
+    canonicalKeys(points, ringOffsets, polygonOffsets, { oriented = true } = {}) {
+        const forms = oriented ? this.canonicalRings(points, ringOffsets) : this.canonicalUnorientedRings(points, ringOffsets);
+        const ends = forms.offsets;
+        const keys = Array.from({ length: ends.length - 1 }, (_, k) => forms.points.subarray(2 * ends[k], 2 * ends[k + 1]).join(" "));
+        return polygonOffsets ? cut(keys, polygonOffsets).map(keyOfPolygon) : keys;
+    }
+
+    sameRings(a, b, options) {
+        const [ours, theirs] = [a, b].map(({ points, offsets }) => this.canonicalKeys(points, offsets, undefined, options));
+        const places = new Map();
+        theirs.forEach((key, place) => places.has(key) || places.set(key, place));
+        return Int32Array.from(ours, (key) => places.get(key) ?? -1);
+    }
+
+    samePolygons(a, b, { oriented = true } = {}) {
+        const [ours, theirs] = [a, b].map(({ points, ringOffsets, polygonOffsets }) =>
+            this.#cleanPolygons(oriented ? "canonical_shapes" : "canonical_unoriented_shapes", points, ringOffsets, polygonOffsets));
+        const areEqual = (name) => ours[name].length === theirs[name].length && ours[name].every((item, k) => item == theirs[name][k]); // a bigint too
+        return ["polygonOffsets", "ringOffsets", "points"].every(areEqual);
+    }
+
+    areaTwoPolygons(points, ringOffsets, polygonOffsets) {
+        const { bits } = kindOf(points);
+        const sum = (areas) => BigInt.asIntN(2 * bits, areas.reduce((one, other) => one + other, 0n));
+        return cut(this.areaTwoRings(points, ringOffsets), polygonOffsets).map(sum);
     }
 
     simplifyPolygons(points, ringOffsets, polygonOffsets) {

@@ -27,4 +27,19 @@ test("the calls are what their types declare", async () => {
     assert.deepEqual(names.sort(), declared.sort());
 });
 
+test("the entries at the top are those of exports", () => {
+    const { types, default: main } = description.exports["."];
+    assert.deepEqual([description.types, description.main], [types, main]);
+});
+
+test("docs/CALLS.md has each call of C and of this package", async () => {
+    const page = readFileSync(new URL("../../../docs/CALLS.md", import.meta.url), "utf8");
+    const column = (place) => [...page.matchAll(/^\| (?!answer).*`.*$/gm)].flatMap(([row]) => [...row.split("|")[place].matchAll(/`(\w+)`/g)].map(([, name]) => name));
+    const header = readFileSync(new URL("../../../include/i_shape.h", import.meta.url), "utf8");
+    assert.deepEqual([...new Set(column(2))].sort(), [...header.matchAll(/^[a-z].* i_shape_(\w+?)(?:_i32)?\((?:const i_shape_point_i32|void)/gm)].map(([, name]) => name).sort());
+    const shapes = await load();
+    const names = Object.getOwnPropertyNames(Object.getPrototypeOf(shapes)).filter((name) => !["constructor", "memoryBytes", "heldBytes"].includes(name));
+    assert.deepEqual(column(5).sort(), [...names, "fromGeoJson", "toGeoJson"].sort());
+});
+
 test("nothing is depended on", () => assert.deepEqual(Object.keys(description).filter((key) => /dependencies/i.test(key)), []));

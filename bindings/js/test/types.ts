@@ -1,5 +1,7 @@
 /** What i_shape.d.ts lets through, and what it refuses; compiled by tsc, and not run. */
-import { IShapeError, OffsetsError, UnsafePointError, load, supportsMemory64, type IShape, type Polygons, type Rings } from "../src/i_shape.js";
+import {
+    IShapeError, OffsetsError, UnsafePointError, fromGeoJson, load, supportsMemory64, toGeoJson, type IShape, type Polygons, type Rings,
+} from "../src/i_shape.js";
 
 class Own extends Int32Array {
     readonly owner = "a class of the caller's";
@@ -27,6 +29,21 @@ async function contours(): Promise<void> {
     console.log(other, plain, own);
 }
 
+async function keys(): Promise<void> {
+    const shapes = await load();
+    await load(new URL("i_shape32.wasm", "https://example.org/"));
+    const polygons: Polygons<Int32Array> = fromGeoJson({ type: "Polygon", coordinates: [] }, { step: 0.5 });
+    const wide: Polygons<BigInt64Array> = fromGeoJson({}, { Points: BigInt64Array });
+    const told: string[] = shapes.canonicalKeys(wide.points, wide.ringOffsets, undefined, { oriented: false });
+    const places: Int32Array = shapes.sameRings({ points: polygons.points, offsets: [0] }, { points: wide.points, offsets: [0n] });
+    const areSame: boolean = shapes.samePolygons(polygons, wide);
+    const areas: bigint[] = shapes.areaTwoPolygons(polygons.points, polygons.ringOffsets, polygons.polygonOffsets);
+    const coordinates: number[][][][] = toGeoJson(wide, { step: 0.5 }).coordinates;
+    console.log(told, places, areSame, areas, coordinates);
+    // @ts-expect-error: keys are asked of points and offsets
+    shapes.canonicalKeys(polygons);
+}
+
 async function rings(shapes: IShape): Promise<void> {
     const points = Int32Array.of(0, 0);
     const told: boolean[] = shapes.isSimpleRings(points, [0, 1]);
@@ -46,4 +63,4 @@ function errors(error: unknown): number | undefined {
     return error instanceof IShapeError ? error.code : undefined;
 }
 
-export { contours, errors, rings };
+export { contours, errors, keys, rings };

@@ -1,0 +1,34 @@
+/** How the module is had from what `load` is given. A fault names the URL, where there is one. */
+
+// A variable, behind words for bundlers, so that none of them looks for the module: it is for Node.
+const FILES = "node:fs/promises";
+
+async function readFile(url) {
+    const files = await import(/* webpackIgnore: true */ /* @vite-ignore */ FILES);
+    return files.readFile(url);
+}
+
+/** Whether something is of a class that not each engine has everywhere. */
+function isOf(name, given) {
+    return typeof globalThis[name] === "function" && given instanceof globalThis[name];
+}
+
+/** Answers the module of a URL, of what `fetch` gives, or of bytes. */
+async function compiledFrom(given) {
+    if (isOf("URL", given) && given.protocol === "file:") return WebAssembly.compile(await readFile(given));
+    const bytes = isOf("URL", given) ? await fetch(given) : given;
+    if (!isOf("Response", bytes)) return WebAssembly.compile(bytes);
+    if (!bytes.ok) throw new Error(`${bytes.status} ${bytes.statusText}`);
+    return WebAssembly.compile(await bytes.arrayBuffer());
+}
+
+export async function compiled(source) {
+    const given = await source;
+    if (given instanceof WebAssembly.Module) return given;
+    try {
+        return await compiledFrom(given);
+    } catch (error) {
+        const url = isOf("URL", given) ? given.href : isOf("Response", given) ? given.url : "";
+        throw url ? new Error(`${url}: ${error.message}`, { cause: error }) : error;
+    }
+}

@@ -1,0 +1,93 @@
+/** How the module is found, and what is said where it isn't. The recipes of docs/JAVASCRIPT.md run in Chromium. */
+import assert from "node:assert/strict";
+import { execFileSync, spawnSync } from "node:child_process";
+import { mkdirSync, mkdtempSync, rmSync, symlinkSync, writeFileSync } from "node:fs";
+import os from "node:os";
+import path from "node:path";
+import { after, before, describe, test } from "node:test";
+import { fileURLToPath } from "node:url";
+import { load } from "../src/i_shape.js";
+import { Browser, hasChromium, serve } from "./support/chromium.js";
+
+const PACKAGE = fileURLToPath(new URL("..", import.meta.url));
+const POLICY = "default-src 'none'; script-src 'self' 'wasm-unsafe-eval'; connect-src 'self'; worker-src 'self'";
+const CONTOUR = "Int32Array.of(0, 0, 2, 0, 4, 0, 4, 4, 0, 4)";
+const FILES = {
+    "/": ["text/html", '<!DOCTYPE html><script type="module" src="page.js"></script>'],
+    "/page.js": ["text/javascript", `
+        import { load } from "./src/i_shape.js";
+        const own = (await load()).simplify(${CONTOUR});
+        const worker = new Worker(new URL("worker.js", import.meta.url), { type: "module" });
+        worker.onmessage = ({ data }) => (document.title = own.join(" ") + ", " + data.join(" "));
+        worker.postMessage(${CONTOUR});`],
+    "/worker.js": ["text/javascript", `
+        import { load } from "./src/i_shape.js";
+        const shapes = load();
+        onmessage = async ({ data }) => {
+            const left = (await shapes).simplify(data);
+            postMessage(left, [left.buffer]);
+        };`],
+    "/page.wasm": ["text/html", "<!DOCTYPE html>"],
+};
+
+/** Answers a request for one of these, under the policy. */
+function answer(request, response) {
+    const [type, text] = FILES[request.url] ?? [];
+    response.setHeader("content-security-policy", POLICY);
+    return type ? Boolean(response.writeHead(200, { "content-type": type }).end(text)) : false;
+}
+
+describe("loading", () => {
+    let served;
+    before(async () => (served = await serve(PACKAGE, answer)));
+    after(() => served.server.close());
+
+    test("the module of the package, and one by its URL", async () => {
+        for (const shapes of [await load(), await load(new URL("../out/i_shape32.wasm", import.meta.url)), await load(new URL("out/i_shape32.wasm", served.url))]) {
+            assert.equal(shapes.version, "0.1.0");
+        }
+    });
+
+    for (const [name, path, message] of [["a module that isn't there", "none.wasm", /: 404 Not Found$/], ["what isn't a module", "page.wasm", /: WebAssembly\.compile/]]) {
+        test(`${name} is named`, async () => {
+            const { href } = new URL(path, served.url);
+            for (const source of [new URL(href), fetch(href)]) {
+                await assert.rejects(load(source), (error) => error.message.startsWith(href) && message.test(error.message) && error.cause instanceof Error);
+            }
+        });
+    }
+
+    test("a file that isn't there is named", async () => {
+        const url = new URL("none.wasm", import.meta.url);
+        await assert.rejects(load(url), (error) => error.message.startsWith(url.href) && error.cause.code === "ENOENT");
+    });
+
+    test("bundled by esbuild", { skip: spawnSync("esbuild", ["--version"]).status !== 0 && "there is no esbuild" }, () => {
+        const folder = mkdtempSync(path.join(os.tmpdir(), "bundled-"));
+        try {
+            mkdirSync(path.join(folder, "node_modules"));
+            symlinkSync(PACKAGE, path.join(folder, "node_modules/i_shape"));
+            writeFileSync(path.join(folder, "app.js"), `
+                import { load } from "i_shape";
+                import module from "i_shape/i_shape32.wasm";
+                const shapes = await load(new URL(module, import.meta.url));
+                console.log(shapes.simplify(${CONTOUR}).join(" "));`);
+            execFileSync("esbuild", ["app.js", "--bundle", "--format=esm", "--outfile=out/app.mjs", "--loader:.wasm=file", "--log-level=warning"], { cwd: folder });
+            rmSync(path.join(folder, "node_modules"), { recursive: true });
+            assert.equal(execFileSync(process.execPath, ["out/app.mjs"], { cwd: folder, encoding: "utf8" }), "0 0 4 0 4 4 0 4\n");
+        } finally {
+            rmSync(folder, { recursive: true });
+        }
+    });
+
+    test("a page and its worker, under a strict policy", { skip: !hasChromium && "there is no chromium" }, async () => {
+        const browser = await Browser.open();
+        try {
+            await browser.goTo(served.url);
+            await browser.until("document.title === '0 0 4 0 4 4 0 4, 0 0 4 0 4 4 0 4'");
+            assert.deepEqual(browser.thrown, []);
+        } finally {
+            await browser.close();
+        }
+    });
+});
