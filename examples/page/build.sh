@@ -5,7 +5,11 @@ here=$(cd "$(dirname "$0")" && pwd)
 top=$here/../..
 to=${1:-$here/out}
 mkdir -p "$to/i_shape/out" "$to/i_shape/src" "$to/coastlines"
-cp "$here"/*.html "$here"/*.css "$here"/*.js "$to"
+cp "$here"/*.html "$here"/*.css "$here"/*.js "$here"/*.svg "$to"
+cp "$here/README.md" "$to/about.txt"
+cp "$top/docs/JAVASCRIPT.md" "$to/javascript.txt"
+cp "$top/docs/THEOREM.md" "$to/theorem.txt"
+cp "$top/LICENSE" "$to/licence.txt"
 cp "$top"/bindings/js/src/*.js "$to/i_shape/src"
 cp "$top"/bindings/js/out/*.wasm "$to/i_shape/out"
 cp "$top"/examples/draw/*.txt "$to/coastlines"

@@ -47,7 +47,7 @@ export function startCoast(shapes, byId) {
         const left = shapes.simplify(rounded);
         const ring = pointsOn(1, given);
         byId("coast").replaceChildren(
-            ...drawFrame(byId("coast"), frameOf([[ring]])),
+            ...drawFrame(byId("coast"), frameOf([[ring]], byId("coast").clientWidth || undefined)),
             element("path", { class: "given", d: pathOf([ring]) }),
             element("path", { class: "cleaned", d: pathOf([pointsOn(grid, left)]) }),
         );

@@ -1,15 +1,14 @@
 /** A polygon that is drawn or pasted, what is left of it, and why. */
-import { drawFrame, element, frameOf, mark, pathOf } from "./board.js";
+import { answersOf, polygonsIn } from "./answers.js";
+import { drawFrame, element, frameOf, marks, pathOf } from "./board.js";
 import { startCoast } from "./coast.js";
-import { readPolygons, scaled } from "./formats.js";
 import { load, supportsMemory64 } from "./i_shape/src/i_shape.js";
-import { areEqual, checkRange, flat, polygonsOf, ringsOf } from "./polygons.js";
-import { reasonsOf } from "./reasons.js";
+import { flat } from "./polygons.js";
 
 // A square with straight points, a spike, a point that comes twice and a bend to the right; and a hole.
 const EXAMPLE = [[
-    [[-8, -5], [-2, -5], [2, -5], [8, -5], [8, 0], [11, 0], [8, 0], [8, 5], [8, 5], [0, 5], [-4, 1], [-8, 5], [-8, 2]],
-    [[-2, -2], [-2, 0], [2, 0], [4, 0], [2, -2]],
+    [[-4, -3], [-1, -3], [2, -3], [3, -3], [3, 0], [4, 0], [3, 0], [3, 3], [3, 3], [0, 3], [-2, 1], [-4, 3], [-4, -1]],
+    [[-2, -2], [-2, -1], [0, -1], [2, -1], [1, -2]],
 ]];
 const RULES = {
     "even-odd": (winding) => winding % 2 !== 0,
@@ -20,6 +19,10 @@ const RULES = {
 
 // The greatest safe coordinate of 32 bits.
 const GREATEST = 2 ** 30 - 1;
+// A text of more characters is read by a worker.
+const LONG = 100_000;
+// The radius of a mark, in pixels.
+const RADIUS = 7;
 
 const byId = (id) => document.getElementById(id);
 const say = (id, text) => {
@@ -28,13 +31,15 @@ const say = (id, text) => {
 const board = byId("board");
 
 const bits = supportsMemory64() ? 64 : 32;
-const shapes = await load(fetch(`i_shape/out/i_shape${bits}.wasm`)).catch((error) => {
+const shapes = await load().catch((error) => {
     say("problem", `the page has no library: ${error.message}`);
     throw error;
 });
-let polygons = [[[]]];
+let polygons = structuredClone(EXAMPLE);
+let answers;
+let frame;
 let cursor = [0, 0];
-let left = [];
+let worker;
 
 function written(point) {
     return `(${point[0]}, ${point[1]})`;
@@ -44,69 +49,53 @@ function counted(number, word) {
     return `${number} ${word}${number === 1 ? "" : "s"}`;
 }
 
-/** Why points of all rings are removed: for each reason its points. */
-function removedPoints(rings, leftRings) {
-    const removed = { straight: [], spike: [], repeated: [], collapsed: [] };
-    rings.forEach((ring, k) => {
-        for (const [place, reason] of reasonsOf(ring, leftRings[k])) removed[reason].push(ring[place]);
-    });
-    return removed;
-}
-
-/** The area of all rings together, as text: it is a half at the finest. */
-function areaOf(rings) {
-    const twice = rings.reduce((sum, ring) => sum + (shapes.areaTwo(Int32Array.from(ring.flat())) ?? 0n), 0n);
+/** A half of a number, as text. */
+function halfOf(twice) {
     const sign = twice < 0n ? "-" : "";
     const size = twice < 0n ? -twice : twice;
     return `${sign}${size / 2n}${size % 2n ? ".5" : ""}`;
 }
 
-function showNumbers(rings, removed, canonical) {
-    const points = rings.flat();
-    const leftPoints = left.flat(2);
+function showNumbers({ left, removed, start, areaTwo, isConvex }) {
+    const rings = polygons.flat();
+    const [given, leftPoints] = [rings.flat().length, left.flat(2).length];
     const gone = Object.entries(removed).filter(([, those]) => those.length > 0);
     const count = gone.reduce((sum, [, those]) => sum + those.length, 0);
-    say("given", `${counted(points.length, "point")} in ${counted(rings.filter((ring) => ring.length > 0).length, "ring")}`);
-    const isGone = points.length > 0 && leftPoints.length === 0;
-    say("left", isGone ? "none: it collapses" : `${counted(leftPoints.length, "point")} in ${counted(left.flat().length, "ring")}`);
+    say("given", `${counted(given, "point")} in ${counted(rings.filter((ring) => ring.length > 0).length, "ring")}`);
+    say("left", given > 0 && leftPoints === 0 ? "none: it collapses" : `${counted(leftPoints, "point")} in ${counted(left.flat().length, "ring")}`);
     say("removed", `${count}${count ? ": " : ""}${gone.map(([reason, those]) => `${those.length} ${reason}`).join(", ")}`);
-    say("area", areaOf(rings));
-    say("convex", rings[0]?.length ? (shapes.isConvex(Int32Array.from(rings[0].flat())) ? "yes" : "no") : "-");
-    say("start", canonical.points.length ? written(canonical.points) : "-");
+    say("area", halfOf(areaTwo));
+    say("convex", isConvex === undefined ? "-" : isConvex ? "yes" : "no");
+    say("start", start ? written(start) : "-");
 }
 
-function draw(rings, removed, canonical) {
-    const frame = frameOf(polygons);
-    const size = frame.step / 4;
-    const parts = drawFrame(board, frame);
-    parts.push(element("path", { class: "cleaned", d: pathOf(left.flat()) }), element("path", { class: "given", d: pathOf(rings) }));
-    for (const [x, y] of left.flat(2)) parts.push(element("circle", { class: "kept", cx: x, cy: -y, r: size * 0.8 }));
-    for (const [reason, points] of Object.entries(removed)) for (const point of points) parts.push(mark(reason, point, size));
-    if (canonical.points.length) parts.push(element("circle", { class: "start", cx: canonical.points[0], cy: -canonical.points[1], r: size * 1.7 }));
-    parts.push(element("path", { class: "cursor", id: "cross", d: "" }));
-    board.replaceChildren(...parts);
-}
-
-/** Shows the polygons, and what the library answers of them. */
-function show() {
-    const rings = polygons.flat();
-    const { points, ringOffsets, polygonOffsets } = flat(polygons);
-    const simplified = shapes.simplifyRings(points, ringOffsets);
-    const canonical = shapes.canonicalPolygons(points, ringOffsets, polygonOffsets);
-    const removed = removedPoints(rings, ringsOf(simplified.points, simplified.offsets));
-    left = polygonsOf(shapes.simplifyPolygons(points, ringOffsets, polygonOffsets));
-    draw(rings, removed, canonical);
-    showNumbers(rings, removed, canonical);
+function draw({ left, removed, start }) {
+    frame = frameOf(polygons, board.clientWidth || undefined);
+    const radius = RADIUS * frame.pixel;
+    board.replaceChildren(
+        ...drawFrame(board, frame),
+        element("path", { class: "cleaned", d: pathOf(left.flat()) }),
+        element("path", { class: "given", d: pathOf(polygons.flat()) }),
+        marks("kept", left.flat(2), radius * 0.7),
+        ...Object.entries(removed).filter(([, points]) => points.length > 0).map(([reason, points]) => marks(reason, points, radius)),
+        marks("start", start ? [start] : [], radius * 1.6),
+        element("path", { class: "cursor", id: "cross", d: "" }),
+    );
     showCursor();
+}
+
+/** Shows the polygons, and what the library answers of them, or has answered in a worker. */
+function show(known) {
+    answers = known ?? answersOf(shapes, polygons);
+    draw(answers);
+    showNumbers(answers);
     say("problem", "");
 }
 
 function showCursor() {
-    const { step } = frameOf(polygons);
-    const [x, y] = cursor;
-    byId("cross")?.setAttribute("d", `M${x - step / 2} ${-y}h${step}M${x} ${-y - step / 2}v${step}`);
-    const { points, ringOffsets } = flat(polygons);
-    const [winding] = shapes.windingNumbers(points, ringOffsets, Int32Array.of(x, y));
+    const [[x, y], arm] = [cursor, 1.5 * RADIUS * frame.pixel];
+    byId("cross").setAttribute("d", `M${x - arm} ${-y}h${2 * arm}M${x} ${-y - arm}v${2 * arm}`);
+    const [winding] = shapes.windingNumbers(answers.all.points, answers.all.ringOffsets, Int32Array.of(x, y));
     const rules = Object.keys(RULES).filter((rule) => RULES[rule](winding));
     say("cursor", written(cursor));
     say("winding", `${winding}`);
@@ -115,7 +104,7 @@ function showCursor() {
 
 /** The point of the grid that is next to a place of the window. */
 function pointAt({ clientX, clientY }) {
-    const { step, minX, minY, maxX, maxY } = frameOf(polygons);
+    const { step, minX, minY, maxX, maxY } = frame;
     const { x, y } = new DOMPoint(clientX, clientY).matrixTransform(board.getScreenCTM().inverse());
     return [within(minX, x, maxX, step), within(minY, -y, maxY, step)];
 }
@@ -154,17 +143,6 @@ function clear() {
     show();
 }
 
-/** Answers the polygons of a text area, in safe whole numbers of 32 bits. */
-function polygonsIn(id) {
-    const scale = Number(byId("scale").value);
-    if (!(scale > 0)) throw new RangeError("the scale is no number above 0");
-    const found = scaled(readPolygons(byId(id).value), scale);
-    checkRange(found);
-    const { points, ringOffsets } = flat(found);
-    shapes.simplifyRings(points, ringOffsets); // it names a point that isn't safe
-    return found;
-}
-
 /** Does what is asked for, and tells where it fails. */
 function attempt(action) {
     try {
@@ -174,27 +152,56 @@ function attempt(action) {
     }
 }
 
+function given(id) {
+    return { text: byId(id).value, scale: Number(byId("scale").value) };
+}
+
+/** Takes polygons that were read, with what is known of them. */
+function take({ polygons: read, proposed, answers: known }) {
+    polygons = read;
+    show(known);
+    propose(proposed);
+}
+
+/** Offers a scale for coordinates that have fractions. */
+function propose(proposed) {
+    byId("proposal").hidden = !proposed;
+    if (!proposed) return;
+    const { scale, areDegrees } = proposed;
+    say("proposed", `Rounded to whole numbers. By a scale of ${scale} a step is ${1 / scale}${areDegrees ? " of a degree, if these are degrees" : ""}:`);
+    byId("rescale").onclick = () => attempt(() => {
+        byId("scale").value = scale;
+        read();
+    });
+}
+
+/** Reads the text; a long one in a worker, which another reading ends. */
 function read() {
-    polygons = polygonsIn("text");
-    show();
+    worker?.terminate();
+    say("reading", "");
+    const { text, scale } = given("text");
+    if (text.length <= LONG) return take(polygonsIn(shapes, text, scale));
+    say("reading", "Reading ..");
+    worker = new Worker(new URL("worker.js", import.meta.url), { type: "module" });
+    worker.onmessage = ({ data }) => {
+        worker.terminate();
+        say("reading", "");
+        if (data.problem) say("problem", data.problem);
+        else take(data);
+    };
+    worker.postMessage({ text, scale });
 }
 
 function write() {
-    byId("text").value = left.map((rings) => rings.map((ring) => ring.flat().join(" ")).join("\n")).join("\n\n");
+    byId("text").value = answers.left.map((rings) => rings.map((ring) => ring.flat().join(" ")).join("\n")).join("\n\n");
 }
 
 function compare() {
     say("same", "");
-    const [one, other] = [polygons, polygonsIn("other")].map(flat);
-    const isSame = (call) => {
-        const [a, b] = [one, other].map(({ points, ringOffsets, polygonOffsets }) => shapes[call](points, ringOffsets, polygonOffsets));
-        return areEqual(a, b);
-    };
-    const verdicts = [
-        ["canonicalPolygons", "the same polygons"],
-        ["canonicalUnorientedPolygons", "the same polygons, but for the way round of a ring"],
-    ];
-    say("same", verdicts.find(([call]) => isSame(call))?.[1] ?? "other polygons");
+    const { text, scale } = given("other");
+    const other = flat(polygonsIn(shapes, text, scale).polygons);
+    const verdicts = [[true, "the same polygons"], [false, "the same polygons, but for the way round of a ring"]];
+    say("same", verdicts.find(([oriented]) => shapes.samePolygons(answers.all, other, { oriented }))?.[1] ?? "other polygons");
 }
 
 const STEPS = { ArrowLeft: [-1, 0], ArrowRight: [1, 0], ArrowUp: [0, 1], ArrowDown: [0, -1] };
@@ -209,7 +216,7 @@ function pressKey(event) {
 }
 
 function moveCursor([x, y], steps) {
-    const { step, minX, minY, maxX, maxY } = frameOf(polygons);
+    const { step, minX, minY, maxX, maxY } = frame;
     cursor = [within(minX, cursor[0] + x * steps * step, maxX, step), within(minY, cursor[1] + y * steps * step, maxY, step)];
     showCursor();
 }
@@ -240,7 +247,12 @@ const actions = {
 };
 for (const [id, action] of Object.entries(actions)) byId(id).addEventListener("click", () => attempt(action));
 
-say("version", `i_shape ${shapes.version}, in WebAssembly with ${bits} bits of memory`);
+say("version", `i_shape ${shapes.version}, in WebAssembly with ${bits} bits of memory.`);
 show();
+let width = board.clientWidth;
+new ResizeObserver(() => {
+    if (width !== board.clientWidth) draw(answers);
+    width = board.clientWidth;
+}).observe(board);
 await startCoast(shapes, byId);
 document.body.dataset.ready = "yes";

@@ -31,12 +31,6 @@ function pointsOf(coordinates) {
     return Array.from({ length: coordinates.length / 2 }, (_, k) => [coordinates[2 * k], coordinates[2 * k + 1]]);
 }
 
-/** Answers whether two answers of a canonical form are equal. */
-export function areEqual(one, other) {
-    return ["points", "ringOffsets", "polygonOffsets"].every(
-        (name) => one[name].length === other[name].length && one[name].every((each, k) => each === other[name][k]));
-}
-
 /** Throws where a coordinate doesn't fit the 32 bits that the page takes. */
 export function checkRange(polygons) {
     const wide = polygons.flat(3).find((each) => each !== (each | 0));

@@ -39,7 +39,7 @@ class Page {
     }
 
     marks(name) {
-        return this.browser.read(`document.querySelectorAll("#board > .${name}").length`);
+        return this.browser.read(`document.querySelector("#board > .${name}")?.getAttribute("d").match(/M/g)?.length ?? 0`);
     }
 
     /** Where a point of the board lies in the window. */
@@ -82,10 +82,19 @@ describe("the step of the grid", () => {
         ["no point", [], 1],
         ["a small polygon about 0", [[0, 0], [12, 8]], 1],
         ["a small polygon far away", [[1000, 1000], [1002, 1001]], 1],
-        ["a polygon as wide as the lines are many", [[1000, 1000], [1025, 1000]], 1],
-        ["a wider one", [[1000, 1000], [1026, 1000]], 10],
+        ["a polygon as wide as the cells are many", [[1000, 1000], [1024, 1000]], 1],
+        ["a wider one", [[1000, 1000], [1025, 1000]], 2],
+        ["one of 50 in 24 cells", [[1000, 1000], [1050, 1000]], 5],
+        ["one of 200 in 24 cells", [[1000, 1000], [1200, 1000]], 10],
     ]) {
         test(name, () => assert.equal(frameOf([[ring]]).step, step));
+    }
+
+    for (const width of [358, 640, 1000]) {
+        test(`a cell of a board of ${width} pixels`, () => {
+            const { minX, maxX, step, pixel } = frameOf([[[]]], width);
+            assert.ok(step / pixel >= 39 && Math.abs((maxX - minX + step) / pixel - width) < 1);
+        });
     }
 });
 
@@ -166,16 +175,11 @@ describe("the page", () => {
             });
             after(() => browser?.close());
 
-            check("nothing is drawn at first", () =>
-                page.texts({
-                    version: `i_shape 0.1.0, in WebAssembly with ${bits} bits of memory`,
-                    given: "0 points in 0 rings",
-                    left: "0 points in 0 rings",
-                    removed: "0",
-                    area: "0",
-                    start: "-",
-                    problem: "",
-                }));
+            check("an example at first, and nothing once it is cleared", async () => {
+                await page.texts({ version: `i_shape 0.1.0, in WebAssembly with ${bits} bits of memory.`, given: "18 points in 2 rings", problem: "" });
+                await page.fresh();
+                await page.texts({ given: "0 points in 0 rings", left: "0 points in 0 rings", removed: "0", area: "0", start: "-", problem: "" });
+            });
 
             check("a square by clicks, with a straight point", async () => {
                 await page.fresh();
@@ -188,7 +192,7 @@ describe("the page", () => {
             check("the numbers at the cursor", async () => {
                 for (const [point, winding, filled] of [
                     [[1, 1], "1", "by even-odd, non-zero, positive"],
-                    [[5, 1], "0", "by no rule"],
+                    [[-1, 1], "0", "by no rule"],
                 ]) {
                     await browser.move(...(await page.placeOf(point)));
                     await page.texts({ cursor: `(${point.join(", ")})`, winding, filled });
@@ -205,28 +209,28 @@ describe("the page", () => {
 
             check("each reason, by clicks", async () => {
                 await page.fresh();
-                await page.put([-8, -5], [-2, -5], [2, -5], [8, -5], [8, 0], [11, 0], [8, 0], [8, 5], [8, 5], [0, 5], [-4, 1], [-8, 5], [-8, 2]);
+                await page.put([-4, -3], [-1, -3], [2, -3], [3, -3], [3, 0], [4, 0], [3, 0], [3, 3], [3, 3], [0, 3], [-2, 1], [-4, 3], [-4, -1]);
                 await page.texts({
                     given: "13 points in 1 ring",
                     left: "6 points in 1 ring",
                     removed: "7: 4 straight, 1 spike, 2 repeated",
-                    area: "144",
+                    area: "38",
                     convex: "no",
-                    start: "(-8, -5)",
+                    start: "(-4, -3)",
                 });
             });
 
             check("a square and a hole, by keys alone", async () => {
                 await page.fresh();
-                await browser.move(...(await page.placeOf([0, 0])));
+                await browser.move(...(await page.placeOf([-3, -3])));
                 await browser.read("document.getElementById('board').focus()");
                 const go = (key, times) => Array.from({ length: times }, () => key);
                 await page.press("Enter", ...go("ArrowRight", 6), "Enter", ...go("ArrowUp", 6), " ", ...go("ArrowLeft", 6), "Enter");
-                await page.texts({ given: "4 points in 1 ring", area: "36", cursor: "(0, 6)" });
+                await page.texts({ given: "4 points in 1 ring", area: "36", cursor: "(-3, 3)" });
                 await page.press("n", ...go("ArrowDown", 4), ...go("ArrowRight", 2), "Enter");
                 await page.press(...go("ArrowUp", 2), "Enter", ...go("ArrowRight", 2), "Enter");
                 await page.texts({ given: "7 points in 2 rings", left: "7 points in 2 rings", removed: "0", area: "34" });
-                await browser.move(...(await page.placeOf([2, 3])));
+                await browser.move(...(await page.placeOf([-1, 0])));
                 await page.texts({ winding: "0", filled: "by no rule" });
                 await browser.read("document.getElementById('board').focus()");
                 await page.press("Escape", "N", "Enter");
@@ -257,8 +261,29 @@ describe("the page", () => {
             check("a point is put beside polygons that end where coordinates do", async () => {
                 await page.paste("text", "1073741823 0 0 1073741823 -1073741823 0");
                 await browser.clickOn("read");
-                await page.put([1150000000, 0]);
+                await page.put([1300000000, 0]);
                 await page.texts({ given: "4 points in 1 ring", cursor: "(1073741823, 0)", problem: "" });
+            });
+
+            check("a scale is proposed for degrees, and taken", async () => {
+                await page.paste("text", "POLYGON((8.5 42.25, 9.125 42.25, 9.75 42.25, 9.5 43))");
+                await browser.clickOn("read");
+                await page.texts({ given: "4 points in 1 ring", proposed: "Rounded to whole numbers. By a scale of 10000000 a step is 1e-7 of a degree, if these are degrees:" });
+                await browser.clickOn("rescale");
+                await page.texts({ given: "4 points in 1 ring", left: "3 points in 1 ring", removed: "1: 1 straight", start: "(85000000, 422500000)" });
+                assert.equal(await browser.read("document.getElementById('proposal').hidden"), true);
+                await browser.read("document.getElementById('scale').value = 1");
+            });
+
+            check("a long text is read beside the page", async () => {
+                const line = Array.from({ length: 20000 }, (_, x) => `${x} ${x % 2}`).join(" ");
+                await browser.read(`document.getElementById("text").value = ${JSON.stringify(`${line} 20000 40000`)}`);
+                await browser.clickOn("read");
+                await browser.until("document.getElementById('given').textContent === '20001 points in 1 ring'");
+                await page.texts({ reading: "", removed: "0", problem: "" });
+                await browser.read(`document.getElementById("text").value = ${JSON.stringify(`${line} one`)}`);
+                await browser.clickOn("read");
+                await browser.until("document.getElementById('problem').textContent.endsWith('\"one\" is no number')");
             });
 
             check("what is left is written", async () => {
@@ -282,7 +307,7 @@ describe("the page", () => {
                     await browser.clickOn("read");
                     assert.match(await page.text("problem"), new RegExp(`${problem.replace(/[()*]/g, "\\$&")}$`));
                     await page.texts({ given: "8 points in 2 rings", left: "7 points in 2 rings" });
-                    await page.put([-5, -5]);
+                    await page.put([-1, -1]);
                     await page.texts({ given: "9 points in 2 rings", problem: "" });
                     await browser.clickOn("undo");
                 });
@@ -318,7 +343,10 @@ describe("the page", () => {
 
             check("nothing stands out of the window, and nothing was thrown", async () => {
                 await browser.clickOn("example");
-                await page.texts({ given: "18 points in 2 rings", left: "10 points in 2 rings" });
+                await page.texts({ given: "18 points in 2 rings", left: "10 points in 2 rings", removed: "8: 5 straight, 1 spike, 2 repeated" });
+                for (const link of await browser.read("Array.from(document.querySelectorAll('a, link'), ({ href }) => href)")) {
+                    if (link.startsWith(served.url)) assert.equal((await fetch(link)).status, 200, link);
+                }
                 assert.ok(await browser.read("document.documentElement.scrollWidth <= innerWidth"));
                 await browser.read("scrollTo(0, 0)");
                 if (SCREENSHOTS) await browser.screenshot(path.join(SCREENSHOTS, `${name.replaceAll(" ", "_")}.png`));
