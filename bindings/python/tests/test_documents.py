@@ -52,7 +52,8 @@ class Documents(unittest.TestCase):
                     for its in inspect.signature(item).parameters.values():
                         self.assertEqual(
                             its.kind is its.KEYWORD_ONLY,
-                            its.name in ("oriented", "rule", "threads"),
+                            its.name in ("halves", "oriented", "rule",
+                                         "threads"),
                             (name, its.name))
 
     def test_the_examples_of_the_pages(self):

@@ -188,6 +188,24 @@ class Polygons(unittest.TestCase):
             np.testing.assert_array_equal(
                 i_shape.area_two_polygons(points, rings, part), right)
 
+    def test_areas_in_halves(self):
+        numbers = random.Random(29)
+        most = np.iinfo(np.int64).max
+        polygons = [[[(numbers.randint(-most, most),
+                       numbers.randint(-most, most)) for _ in range(4)]
+                     for _ in range(count)] for count in (1, 0, 3) * 50]
+        points, rings, parts = flat(polygons, np.int64)
+        for call, offsets in ((i_shape.area_two_rings, [rings]),
+                              (i_shape.area_two_polygons, [rings, parts])):
+            found = call(points, *offsets, halves=True)
+            self.assertEqual((found["low"].dtype, found["high"].dtype),
+                             (np.uint64, np.int64))
+            self.assertEqual(
+                [high * 2**64 + low for low, high in found.tolist()],
+                call(points, *offsets).tolist())
+            with self.assertRaisesRegex(ValueError, "have no halves"):
+                call(points.astype(np.int32), *offsets, halves=True)
+
     def test_despike_polygons_follows_the_rule(self):
         for dtype in plain.DTYPES:
             numbers = random.Random(28)
@@ -195,9 +213,8 @@ class Polygons(unittest.TestCase):
                 polygons = random_polygons(numbers, dtype)
                 right = []
                 for rings in polygons:
-                    left = [ring if plain.has_no_spikes(ring)
-                            else plain.tuples(i_shape.despike(
-                                plain.array(ring, dtype))) for ring in rings]
+                    left = [plain.tuples(i_shape.despike(
+                        plain.array(ring, dtype))) for ring in rings]
                     if not rings or left[0]:
                         right.append([ring for ring in left if ring])
                 for threads in (1, 3):

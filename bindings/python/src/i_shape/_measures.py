@@ -194,20 +194,30 @@ def is_safe_rings(points: npt.NDArray[Int], offsets: npt.ArrayLike, *,
     return _test_rings("is_safe", points, offsets, threads)
 
 
-def _areas(points: Any, offsets: Array, threads: Any, name: str = "offsets",
-           before: int = 0) -> Array:
-    """Twice the area of each ring, of 128 bits as whole numbers of Python."""
-    points = as_points(points)
-    areas = _measure_rings(CALLS[points.itemsize].areas, points, offsets,
-                           _AREAS[points.itemsize], threads, name, before)
+def _areas(points: Array, offsets: Array, threads: Any,
+           name: str = "offsets", before: int = 0) -> Array:
+    """Twice the area of each ring, as the library writes it."""
+    return _measure_rings(CALLS[points.itemsize].areas, points, offsets,
+                          _AREAS[points.itemsize], threads, name, before)
+
+
+def _as_whole(areas: Array) -> Array:
+    """Areas of 128 bits as whole numbers of Python, and others as they are."""
     if areas.dtype.names is None:
         return areas
     high: Array = areas["high"].astype(object)
     return high * 2**64 + areas["low"]
 
 
+def _require_halves(points: Array) -> None:
+    if points.itemsize != 8:
+        raise ValueError(f"areas of points of {points.dtype} have no halves:"
+                         " those of int64 have")
+
+
 def area_two_rings(points: npt.NDArray[Int], offsets: npt.ArrayLike, *,
-                   threads: int = 1) -> npt.NDArray[Any]:
+                   threads: int = 1,
+                   halves: bool = False) -> npt.NDArray[Any]:
     """Return twice the signed area of each ring.
 
     Parameters
@@ -218,6 +228,10 @@ def area_two_rings(points: npt.NDArray[Int], offsets: npt.ArrayLike, *,
     offsets : array of shape (m + 1,), of whole numbers
     threads : int
         As for :func:`is_simple_rings`.
+    halves : bool
+        True answers the areas of points of int64 as two numbers of 64 bits
+        each, which numpy, pandas and databases have: the fields ``low``, of
+        uint64, and ``high``, of int64, of ``high * 2**64 + low``.
 
     Returns
     -------
@@ -230,7 +244,8 @@ def area_two_rings(points: npt.NDArray[Int], offsets: npt.ArrayLike, *,
     Raises
     ------
     OffsetsError, TypeError, ValueError, MemoryError
-        As :func:`is_simple_rings` does.
+        As :func:`is_simple_rings` does. ValueError also where ``halves`` are
+        asked for of points of another dtype than int64.
 
     Examples
     --------
@@ -240,13 +255,22 @@ def area_two_rings(points: npt.NDArray[Int], offsets: npt.ArrayLike, *,
     ...                    (0, 0), (0, 3), (3, 0)], "int32")
     >>> area_two_rings(points, [0, 4, 4, 7]).tolist()
     [32, 0, -9]
+    >>> areas = area_two_rings(points.astype("int64"), [0, 4, 4, 7],
+    ...                        halves=True)
+    >>> areas["low"].astype("int64").tolist(), areas["high"].tolist()
+    ([32, 0, -9], [0, 0, -1])
     """
-    return _areas(points, as_offsets(offsets), threads)
+    points = as_points(points)
+    if halves:
+        _require_halves(points)
+    areas = _areas(points, as_offsets(offsets), threads)
+    return areas if halves else _as_whole(areas)
 
 
 def area_two_polygons(points: npt.NDArray[Int], ring_offsets: npt.ArrayLike,
                       polygon_offsets: npt.ArrayLike, *,
-                      threads: int = 1) -> npt.NDArray[Any]:
+                      threads: int = 1,
+                      halves: bool = False) -> npt.NDArray[Any]:
     """Return twice the signed area of each polygon.
 
     It is the sum over its rings, each above 0 where it turns left: a hole
@@ -262,6 +286,8 @@ def area_two_polygons(points: npt.NDArray[Int], ring_offsets: npt.ArrayLike,
         As for :func:`simplify_polygons`.
     threads : int
         As for :func:`is_simple_rings`.
+    halves : bool
+        As for :func:`area_two_rings`.
 
     Returns
     -------
@@ -273,7 +299,7 @@ def area_two_polygons(points: npt.NDArray[Int], ring_offsets: npt.ArrayLike,
     Raises
     ------
     OffsetsError, TypeError, ValueError, MemoryError
-        As :func:`simplify_polygons` does.
+        As :func:`simplify_polygons` and :func:`area_two_rings` do.
 
     Examples
     --------
@@ -285,12 +311,18 @@ def area_two_polygons(points: npt.NDArray[Int], ring_offsets: npt.ArrayLike,
     [124, 0]
     """
     given = given_polygons(points, ring_offsets, polygon_offsets)
-    areas = _areas(given.points, given.rings, threads, "ring_offsets",
-                   given.before)
+    if halves:
+        _require_halves(given.points)
+    areas = _as_whole(_areas(given.points, given.rings, threads,
+                             "ring_offsets", given.before))
     sums = np.zeros(len(areas) + 1, areas.dtype)
     # What wraps on the way doesn't change a difference.
     np.cumsum(areas, dtype=areas.dtype, out=sums[1:])
     its = sums[given.parts[1:]] - sums[given.parts[:-1]]
     if its.dtype == object:
         its = (its + 2**127) % 2**128 - 2**127
-    return its
+    if not halves:
+        return its
+    parted = np.empty(len(its), _AREAS[8])
+    parted["low"], parted["high"] = its & (2**64 - 1), its >> 64
+    return parted

@@ -12,7 +12,8 @@ import numpy.typing as npt
 
 from ._library import (CALLS, Array, address, as_offsets, as_parts, as_points,
                        as_threads, raise_offsets, run_parts)
-from ._rings import canonical_cleaner, equal_cuts, raise_codes
+from ._rings import (canonical_cleaner, clean_rings, equal_cuts,
+                     raise_codes)
 
 Int = TypeVar("Int", np.int16, np.int32, np.int64)
 
@@ -182,11 +183,15 @@ def simplify_polygons(points: npt.NDArray[Int], ring_offsets: npt.ArrayLike,
 def despike_polygons(points: npt.NDArray[Int], ring_offsets: npt.ArrayLike,
                      polygon_offsets: npt.ArrayLike, *,
                      threads: int = 1) -> Polygons:
-    """Return each polygon without the spikes of its rings.
+    """Return each polygon without the back points of its rings.
 
     It is :func:`simplify_polygons`, but a ring is left as :func:`despike`
-    answers it, with vertices that lie on an edge, and a ring without spikes
-    (:func:`has_no_spikes`) stays as it is, with points that repeat.
+    answers it: without repeated points and spikes, and with vertices that
+    lie on an edge. :func:`i_shape.io.despike_features` does the same to the
+    polygons of features.
+
+    The answer is that of two proved calls, one after the other: each ring
+    is cleaned, and what collapses is left out.
 
     Parameters
     ----------
@@ -221,7 +226,12 @@ def despike_polygons(points: npt.NDArray[Int], ring_offsets: npt.ArrayLike,
     """
     given = given_polygons(points, ring_offsets, polygon_offsets)
     parts = as_parts(threads, len(given.parts) - 1)
-    return _clean_polygons("despike", given, parts)
+    # The call on polygons leaves a ring without spikes as it is, also with
+    # points that repeat. None of these rings has any.
+    rings = clean_rings("despike", given.points, given.rings, threads,
+                        "ring_offsets", given.before)
+    return _clean_polygons("despike", given._replace(
+        points=rings.points, rings=rings.offsets), parts)
 
 
 def canonical_polygons(points: npt.NDArray[Int], ring_offsets: npt.ArrayLike,
