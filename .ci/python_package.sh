@@ -1,8 +1,8 @@
 #!/usr/bin/env bash
 # Builds the wheel of the Python package, installs it into an empty virtual environment and runs its tests there, the examples of its docstrings
 # and of docs/PYTHON.md among them. It takes the library of `make c`, or of the folder I_SHAPE_C_DIR. Where that isn't built, or where Debian's Python, or the one
-# that $PYTHON names, has no numpy, setuptools, wheel or venv, it is skipped, and where it has no distributed, shapely, matplotlib or mapbox_earcut, or there is
-# no klayout, the tests that need it are.
+# that $PYTHON names, has no numpy, setuptools, wheel or venv, it is skipped, and where it has no distributed, shapely, geopandas, matplotlib or mapbox_earcut, or
+# there is no klayout or ogr2ogr, the tests that need it are.
 set -u
 cd "$(dirname "$0")/.." || exit 1
 . .ci/count.sh || exit 1

@@ -22,7 +22,7 @@ import samples
 from i_shape import __main__ as command
 from i_shape import _command
 from i_shape import io
-from i_shape._command import files, progress
+from i_shape._command import progress, text_files
 
 HAS_MATPLOTLIB = importlib.util.find_spec("matplotlib") is not None
 WHY_NOT = "a plot is not tested: there is no matplotlib"
@@ -52,8 +52,14 @@ class CommandCase(unittest.TestCase):
         return path
 
     def write_features(self, path, features):
-        with files.writing(path, features, None):
-            pass
+        path.write_text("\n".join(io.to_wkt(features)) + "\n"
+                        if path.suffix == ".wkt"
+                        else json.dumps(io.to_geojson(features)))
+
+    def read_features(self, path):
+        text = path.read_text()
+        return (io.from_wkt(text.splitlines()) if path.suffix == ".wkt"
+                else io.from_geojson(json.loads(text)))
 
     def run_command(self, *words, status=0):
         """What it prints, on standard output and on standard error."""
@@ -324,21 +330,18 @@ collapsed: feature 2, polygon 1, ring 0
         self.assertEqual(shown.bar.update.call_count, 3)
         self.assertEqual(shown.tqdm.call_args.kwargs["total"], 3)
 
-    def test_a_feature_written_is_a_step(self):
+    def test_a_feature_read_is_a_step(self):
         self.write(samples.geojson(*[samples.polygon(SPIKED)] * 3))
         for out in ("out.geojson", "out.wkt"):
             shown = mock.MagicMock()
             shown.tqdm.return_value.__enter__.return_value = shown.bar
             with mock.patch.dict(sys.modules, {"tqdm": shown}):
-                self.write_features(self.folder / out,
-                                    files.read(self.given).features)
+                self.run_command("simplify", self.given, self.folder / out,
+                                 "--step", "0.1")
             steps = [(call.kwargs["desc"], call.kwargs["total"])
                      for call in shown.tqdm.call_args_list]
-            self.assertEqual(steps, [
-                ("objects read", None), ("features parsed", 3),
-                ("features written", 3)])
-            # ten objects are the collection, and three for each feature
-            self.assertEqual(shown.bar.update.call_count, 10 + 3 + 3)
+            self.assertEqual(steps, [("features read", None)])
+            self.assertEqual(shown.bar.update.call_count, 3)
 
     def test_short_files_show_no_progress(self):
         self.write(samples.geojson(samples.polygon(SPIKED)))
@@ -381,11 +384,11 @@ class Plots(CommandCase):
         self.write(samples.geojson(samples.polygon(SPIKED)))
         before = sorted(self.folder.iterdir())
 
-        def draw(path, *_):
+        def draw(_, path, *__):
             path.write_text("half")
             raise OSError("no room")
 
-        with mock.patch.object(_command.plot, "draw", draw), \
+        with mock.patch.object(_command.plot.Picture, "draw", draw), \
                 mock.patch.object(importlib.util, "find_spec", str):
             self.run_command("simplify", self.given, self.out, "--step",
                              "0.1", "--plot", self.folder / "plot.svg",
@@ -419,7 +422,13 @@ class Refused(CommandCase):
                 ("{", "line 1 column 2"),
                 ("[" * 10 ** 5, "nested too deeply"),
                 ('{"type": "FeatureCollection", "features": [{"a": 1}',
-                 "line 1 column"),
+                 "feature 0: a Feature is needed, not {'a': 1}"),
+                ('{"type": "FeatureCollection", "features": [\n',
+                 "Expecting value: line 2 column 1 (char 44)"),
+                ('{"features": [], "type": "Feature"}', "not 'Feature'"),
+                ('{"features": [], "features": []}', "twice"),
+                ('{"type": "FeatureCollection"}', "features are None"),
+                (square + "\n]", "Extra data: line 2 column 1"),
                 ("[]", "feature 0: an object of GeoJSON is needed"),
                 ("null", "feature 0: an object of GeoJSON is needed"),
                 (second("[0, 0]", "Point"), "feature 1: a Polygon or"),
@@ -500,7 +509,7 @@ class Refused(CommandCase):
                 statuses.append(command.main(
                     ["simplify", str(path), str(self.out), "--step", "1e300"]))
             if statuses[-1] == 0:
-                files.read(self.out)
+                self.read_features(self.out)
             else:
                 self.assertIn(str(path), error.getvalue())
                 self.assertEqual(self.out.read_text(), "as it was")
@@ -540,24 +549,19 @@ class Refused(CommandCase):
 
     def test_nothing_is_half_written_where_writing_stops(self):
         self.write(samples.geojson(*[samples.polygon(SPIKED)] * 3))
-        texts = files.texts
-
-        def fewer(error):
-            def first(pieces):
-                yield next(pieces)
+        def stops(error):
+            def texts(*_):
+                yield "[]"
                 raise error
-
-            def stops(*words):
-                found = texts(*words)
-                return found._replace(features=first(found.features))
-            return stops
+            return texts
 
         for error, status, words in (
                 (OSError("no room"), 1, "i_shape: no room\n"),
                 (MemoryError(), 1, "there is not enough memory"),
                 (KeyboardInterrupt(), 130, "")):
             with self.subTest(error=error):
-                with mock.patch.object(files, "texts", fewer(error)):
+                with mock.patch.object(text_files, "coordinate_texts",
+                                       stops(error)):
                     told = self.assert_nothing_is_written(
                         "simplify", self.given, self.out, "--step", "1",
                         status=status)
@@ -566,7 +570,7 @@ class Refused(CommandCase):
     def test_nothing_is_written_where_the_report_fails(self):
         self.write(samples.geojson(samples.polygon(SPIKED)))
         for error in (OSError("no room"), MemoryError()):
-            with mock.patch.object(_command.report, "lines",
+            with mock.patch.object(_command.report.Cleaning, "lines",
                                    side_effect=error):
                 self.assert_nothing_is_written(
                     "simplify", self.given, self.out, "--step", "1",
@@ -654,23 +658,24 @@ class Refused(CommandCase):
         program = textwrap.dedent("""
             import os
             import runpy
+            import sys
             import time
-            from i_shape._command import files
-            texts, rmdir = files.texts, os.rmdir
+            from i_shape._command import text_files
+            rmdir = os.rmdir
 
-            def slow(*words):
-                def features():
-                    print("it writes", flush=True)
-                    time.sleep(60)
-                    yield ""
-                return texts(*words)._replace(features=features())
+            def slow(*_):
+                print("it writes", flush=True)
+                time.sleep(60)
+                yield "[]"
 
             def slow_rmdir(*words, **options):
                 print("it cleans", flush=True)
                 time.sleep(0.2)
                 rmdir(*words, **options)
 
-            files.texts, os.rmdir = slow, slow_rmdir
+            os.rmdir = slow_rmdir
+            if "despike" not in sys.argv:
+                text_files.coordinate_texts = slow
             runpy.run_module("i_shape", run_name="__main__", alter_sys=True)
         """)
         for first, second in ((signal.SIGTERM, signal.SIGINT),
@@ -690,6 +695,14 @@ class Refused(CommandCase):
                 self.assertEqual((run.returncode, *told),
                                  (128 + first, "", ""))
                 self.assertEqual(self.out.read_text(), "as it was")
+        with subprocess.Popen(
+                [sys.executable, "-c", program, "despike", self.given,
+                 self.out, "--step", "1"], stdout=subprocess.PIPE) as run:
+            self.assertEqual(run.stdout.readline(), b"it cleans\n")
+            run.send_signal(signal.SIGTERM)
+            run.communicate(timeout=30)
+            self.assertEqual(run.returncode, 128 + signal.SIGTERM)
+            self.assertEqual(sorted(self.folder.iterdir()), before)
 
     def test_words_that_are_refused(self):
         self.write(samples.geojson())
@@ -711,25 +724,6 @@ class Refused(CommandCase):
             with self.subTest(words=words):
                 self.assertIn(told, self.assert_nothing_is_written(
                     *words, status=2))
-
-
-class Formats(CommandCase):
-
-    def test_many_features_through_the_files(self):
-        given = samples.arrays(samples.random_features(random.Random(1), 500))
-        for name in ("a.geojson", "a.json", "a.wkt"):
-            path = self.folder / name
-            self.write_features(path, given)
-            features = files.read(path).features
-            self.assertEqual(samples.lists(features), samples.lists(given))
-            self.assertEqual(path.stat().st_mode & 0o777,
-                             0o666 & ~self.umask())
-            self.assertEqual(io.to_wkt(features), io.to_wkt(given))
-
-    def umask(self):
-        mask = os.umask(0)
-        os.umask(mask)
-        return mask
 
 
 if __name__ == "__main__":

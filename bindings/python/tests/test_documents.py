@@ -10,8 +10,8 @@ from pathlib import Path
 import i_shape
 from i_shape import (_contours, _keys, _measures, _polygons, _rings,
                      _windings, io)
-from i_shape.io import (_cleaners, _closing, _features, _geojson, _grid,
-                        _shapely, _wkt)
+from i_shape.io import (_cleaners, _closing, _features, _geojson,
+                        _geoseries, _grid, _shapely, _wkb, _wkt)
 
 TOP = Path(__file__).resolve().parents[3]
 PAGE = TOP / "docs" / "PYTHON.md"
@@ -26,8 +26,8 @@ class Documents(unittest.TestCase):
             faults, count = doctest.testmod(module)
             self.assertEqual(faults, 0)
             self.assertGreater(count, 10)
-        for module in (_cleaners, _closing, _features, _geojson, _grid,
-                       _shapely, _wkt):
+        for module in (_cleaners, _closing, _features, _geojson, _geoseries,
+                       _grid, _shapely, _wkb, _wkt):
             faults, count = doctest.testmod(module)
             self.assertEqual(faults, 0)
             self.assertGreater(count, 1)
@@ -52,8 +52,8 @@ class Documents(unittest.TestCase):
                     for its in inspect.signature(item).parameters.values():
                         self.assertEqual(
                             its.kind is its.KEYWORD_ONLY,
-                            its.name in ("halves", "oriented", "rule",
-                                         "threads"),
+                            its.name in ("halves", "others", "oriented",
+                                         "rule", "threads"),
                             (name, its.name))
 
     def test_the_examples_of_the_pages(self):

@@ -10,7 +10,6 @@ import numpy as np
 import i_shape
 import samples
 from i_shape import io
-from i_shape.io import _geojson
 
 COUNT = 1500  # of which a thousand are multipolygons
 
@@ -142,16 +141,6 @@ class GeoJSON(FormatCase):
                 (samples.geojson({"type": "LineString"}), "'LineString'")):
             self.assert_fails(lambda given: io.to_geojson(one, given),
                               document, words, 0)
-
-    def test_properties_that_are_nested_too_deeply_are_not_written(self):
-        document = samples.geojson(None, None)
-        for _ in range(10 ** 5):
-            properties = document["features"][1]["properties"]
-            document["features"][1]["properties"] = {"in": properties}
-        features = io.from_geojson(document)
-        self.assert_fails(
-            lambda given: list(_geojson.texts(features, given).features),
-            document, "nested too deeply", 1)
 
     def test_what_is_refused_names_its_place(self):
         square = samples.polygon(samples.SQUARE)

@@ -1,13 +1,14 @@
 """Cleans a file's polygons: ``python -m i_shape simplify IN OUT --step S``.
 
-What is read are files of GeoJSON or WKT; their floats are rounded onto a
-grid, cleaned there, and brought back.
+What is read are files of GeoJSON or WKT, or GeoPackages, some features at a
+time; their floats are rounded onto a grid, cleaned there, and brought back.
 """
 
 from __future__ import annotations
 
 import argparse
 import errno
+import gc
 import importlib.util
 import os
 import re
@@ -15,9 +16,10 @@ import signal
 import sys
 from contextlib import ExitStack
 from pathlib import Path
-from typing import Any, NoReturn, Optional, Sequence
+from typing import Any, Iterable, NoReturn, Optional, Sequence
 
-from ._command import files, plot, report
+from ._command import decimals, dedup, files, plot, report
+from ._library import version
 from ._rings import canonical_rings, despike_rings, simplify_rings
 from .io import Grid, features_from_grid, features_to_grid
 from .io._cleaners import Cleaner, clean, in_order
@@ -46,64 +48,133 @@ def _picture(text: str) -> Path:
     return path
 
 
-def _options(words: Optional[Sequence[str]]) -> argparse.Namespace:
+def _parser() -> argparse.ArgumentParser:
+    is_script = Path(sys.argv[0]).stem == "i_shape"
     parser = argparse.ArgumentParser(
-        prog="python -m i_shape",
+        prog="i_shape" if is_script else "python -m i_shape",
         description="Cleans the polygons of a file on a grid. Properties"
-        " stay in GeoJSON, and a feature of which nothing is left is empty."
-        " OUT is written whole or not at all.")
+        " stay, and a feature of which nothing is left is empty. OUT is"
+        " written whole or not at all.")
     # -1e6 is a number too, and no option begins with a digit.
     parser._negative_number_matcher = re.compile(r"-\.?\d")
     parser.add_argument(
-        "cleaner", choices=list(_CLEANERS),
+        "call", choices=[*_CLEANERS, "dedup"],
         help="what is removed: points on straight edges, repeated points and"
         " spikes; repeated points and spikes alone; or the first, with each"
-        " feature in its canonical form")
+        " feature in its canonical form; or features whose form is that of"
+        " one before, and nothing else")
     parser.add_argument("given", metavar="IN", type=_file,
-                        help="a file .geojson, .json, or .wkt with a geometry"
-                        " a line, in which blank lines count for nothing")
+                        help="a file of GeoJSON (.geojson, .json), of a"
+                        " feature of it a line (.geojsonl, .geojsons,"
+                        " .ndjson, .jsonl, or - for standard input), of WKT"
+                        " with a geometry a line (.wkt), or a GeoPackage"
+                        " (.gpkg)")
     parser.add_argument("out", metavar="OUT", type=_file,
-                        help="the file to write; it may be IN")
+                        help="the file to write; it may be IN, and - is"
+                        " standard output")
     parser.add_argument("--step", type=float, required=True,
                         help="how far neighbours on the grid are apart")
     parser.add_argument("--origin", type=float, nargs=2, default=(0.0, 0.0),
                         metavar=("X", "Y"), help="where (0, 0) of the grid"
                         " lies; 0 0 unless told")
+    parser.add_argument("--others", choices=("error", "keep", "drop"),
+                        default="error", help="what becomes of a feature"
+                        " that is no polygon, or has more than two"
+                        " coordinates a point; one without a geometry stays"
+                        " but with drop")
+    parser.add_argument("--layer", action="append", default=[],
+                        metavar="NAME", help="a layer of the GeoPackage, and"
+                        " no other; it may be given again")
+    parser.add_argument("--oriented", action="store_true",
+                        help="dedup: a ring that turns the other way is"
+                        " another one")
     parser.add_argument("--report", action="store_true",
                         help="print what was removed and what collapsed, and"
-                        " the areas before and after")
+                        " the areas before and after, or which features went"
+                        " and which they equal")
     parser.add_argument("--plot", metavar="FILE", type=_picture,
                         help="draw the rings before and after, by"
                         " matplotlib: .svg, .png or .pdf")
+    parser.add_argument("--version", action="version",
+                        version=f"i_shape {version()}")
+    return parser
+
+
+def _fault(options: argparse.Namespace) -> Optional[str]:
+    """What doesn't fit together in the words."""
+    given, out = map(files.format_of, (options.given, options.out))
+    is_package = given == files.GEOPACKAGE
+    if (out == files.GEOPACKAGE) != is_package:
+        return "a GeoPackage is written of a GeoPackage, and of nothing else"
+    if options.layer and not is_package:
+        return "--layer is for GeoPackages"
+    if options.others == "keep" and (given == "WKT") != (out == "WKT"):
+        return "--others keep doesn't turn GeoJSON into WKT, nor WKT into it"
+    if options.oriented and options.call != "dedup":
+        return "--oriented is for dedup"
+    if options.plot and options.call == "dedup":
+        return "--plot isn't for dedup"
+    return None
+
+
+def _options(words: Optional[Sequence[str]]) -> argparse.Namespace:
+    parser = _parser()
     options = parser.parse_args(words)
     try:
         x, y = options.origin
         options.grid = Grid(options.step, (x, y))
     except ValueError as error:
         parser.error(str(error))
+    fault = _fault(options)
+    if fault:
+        parser.error(fault)
     return options
 
 
+def _clean(pair: files.Pair, options: argparse.Namespace,
+           picture: plot.Picture) -> Iterable[str]:
+    """Clean the features, and answer the lines of the report."""
+    told = report.Cleaning(options.grid)
+    for block in pair.blocks():
+        with block.naming():
+            whole = features_to_grid(block.features, options.grid)
+        left, gone = clean(whole, _CLEANERS[options.call])
+        if options.call == "canonical":
+            left = in_order(left)
+        answer = features_from_grid(left, options.grid)
+        pair.write(block, answer)
+        if options.report:
+            told.add(block, whole, left, gone)
+        if options.plot:
+            picture.add(block.features, answer)
+    return told.lines()
+
+
+def _print(lines: Iterable[str], is_beside: bool) -> None:
+    """Print the report, on standard error beside an OUT on output."""
+    stream = sys.stderr if is_beside else sys.stdout
+    if stream is None:  # as where it was closed from the start
+        raise OSError(errno.EBADF, os.strerror(errno.EBADF),
+                      "standard output")
+    for line in lines:
+        print(line, file=stream)
+    stream.flush()
+
+
 def _run(options: argparse.Namespace) -> None:
-    given, document, lines = files.read(options.given)
-    with files.naming_lines(lines):
-        whole = features_to_grid(given, options.grid)
-    left, gone = clean(whole, _CLEANERS[options.cleaner])
-    if options.cleaner == "canonical":
-        left = in_order(left)
-    answer = features_from_grid(left, options.grid)
-    with ExitStack() as last:
-        last.enter_context(files.writing(options.out, answer, document))
+    picture = plot.Picture()
+    with files.opened(
+            options.given, options.out, options.others, options.layer,
+            decimals.places_of(options.grid)) as pair, ExitStack() as last:
+        if options.call == "dedup":
+            lines = dedup.run(pair, options.grid, options.oriented)
+        else:
+            lines = _clean(pair, options, picture)
         if options.plot:
             beside = last.enter_context(files.replacing(options.plot))
-            plot.draw(beside, options.plot.suffix[1:].lower(), given, answer)
+            picture.draw(beside, options.plot.suffix[1:].lower())
         if options.report:
-            if sys.stdout is None:  # as where it was closed from the start
-                raise OSError(errno.EBADF, os.strerror(errno.EBADF),
-                              "standard output")
-            for line in report.lines(given, whole, left, gone, options.grid):
-                print(line)
-            sys.stdout.flush()
+            _print(lines, options.out == files.STANDARD)
 
 
 def main(words: Optional[Sequence[str]] = None) -> int:
@@ -142,8 +213,14 @@ def _stop(number: int, _: Any) -> NoReturn:
     sys.exit(128 + number)
 
 
-if __name__ == "__main__":
+def run() -> NoReturn:
+    """Run the command as a program does, which signals may end."""
+    gc.disable()  # many lists are made, and no cycles
     if signal.getsignal(signal.SIGINT) is signal.default_int_handler:
         signal.signal(signal.SIGINT, _stop)
     signal.signal(signal.SIGTERM, _stop)
     sys.exit(main())
+
+
+if __name__ == "__main__":
+    run()

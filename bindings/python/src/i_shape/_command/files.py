@@ -1,94 +1,50 @@
-"""Files of features: read whole, and written whole or not at all."""
+"""Files of features: read in pieces, and written whole or not at all."""
 
 from __future__ import annotations
 
 import errno
+import io as standard_io
 import os
 import shutil
 import stat
+import sys
 import tempfile
-from contextlib import contextmanager, suppress
+from contextlib import contextmanager, nullcontext, suppress
 from pathlib import Path
-from typing import Any, Iterator, NamedTuple, Optional, Sequence, TextIO
+from typing import (Any, BinaryIO, ContextManager, Iterator, Optional,
+                    Sequence, TextIO, Union)
 
-from ..io import FeatureError, Features, _geojson, _wkt, from_wkt
-from ..io._features import as_features
-from .progress import bar, track
+from .geopackage import GeoPackage, copied
+from .text_files import TextPair
 
-FORMATS = {".geojson": "GeoJSON", ".json": "GeoJSON", ".wkt": "WKT"}
+LINES, GEOPACKAGE = "GeoJSON lines", "GeoPackage"
+FORMATS = {
+    ".geojson": "GeoJSON", ".json": "GeoJSON", ".geojsonl": LINES,
+    ".geojsons": LINES, ".ndjson": LINES, ".jsonl": LINES, ".wkt": "WKT",
+    ".gpkg": GEOPACKAGE}
+STANDARD = Path("-")  # standard input or output
+
+Pair = Union[TextPair, GeoPackage]
 
 
 def format_of(path: Path) -> Optional[str]:
     """The format that the end of a file's name tells."""
-    return FORMATS.get(path.suffix.lower())
+    return LINES if path == STANDARD else FORMATS.get(path.suffix.lower())
 
 
-class Given(NamedTuple):
-    """The features of a file.
-
-    Where it is GeoJSON, its document stands beside them, and where it is
-    WKT, the number of the line of each feature.
-    """
-
-    features: Features
-    document: Optional[dict[str, Any]]
-    lines: Sequence[int]
+def _open(stream: Optional[Any], name: str) -> BinaryIO:
+    """The bytes of a standard stream, which may be closed."""
+    if stream is None:
+        raise OSError(errno.EBADF, os.strerror(errno.EBADF), name)
+    file: BinaryIO = stream.buffer
+    return file
 
 
-def _document(file: TextIO) -> Any:
-    """What a file of JSON holds."""
-    with bar("objects read") as shown:
-        def counted(value: dict[str, Any]) -> dict[str, Any]:
-            shown.update()
-            return value
-
-        try:
-            return _geojson.loads(file.read(), counted)
-        except RecursionError:
-            raise ValueError("it is nested too deeply") from None
-
-
-@contextmanager
-def naming_lines(lines: Sequence[int]) -> Iterator[None]:
-    """Name the line of a feature that has a fault, where it has one."""
-    try:
-        yield
-    except FeatureError as error:
-        if not lines or error.feature is None:
-            raise
-        raise ValueError(f"line {lines[error.feature]}: {error}") from error
-
-
-def _lines(file: TextIO, numbers: list[int]) -> Iterator[str]:
-    """The lines that aren't blank; their numbers are added to the list."""
-    for number, line in enumerate(file, 1):
-        if line.strip():
-            numbers.append(number)
-            yield line
-
-
-def read(path: Path) -> Given:
-    """The features of a file of GeoJSON, or of WKT with one a line."""
-    with open(path, encoding="utf-8-sig") as file:
-        if format_of(path) == "WKT":
-            numbers: list[int] = []
-            with naming_lines(numbers):
-                lines = track(_lines(file, numbers), "features read")
-                return Given(from_wkt(lines), None, numbers)
-        document = _document(file)
-    geometries = _geojson.geometries_of(document)
-    return Given(_geojson.read(track(geometries, "features parsed",
-                                     len(geometries))), document, ())
-
-
-def texts(path: Path, features: Features,
-          document: Optional[dict[str, Any]]) -> _geojson.Texts:
-    """What a file of features has, in pieces."""
-    features = as_features(features)
-    if format_of(path) == "GeoJSON":
-        return _geojson.texts(features, document)
-    lines = (f"{text}\n" for text in _wkt.texts(features))
-    return _geojson.Texts("", lines, "")
+def _given_text(path: Path) -> ContextManager[TextIO]:
+    if path != STANDARD:
+        return open(path, encoding="utf-8-sig")
+    file = _open(sys.stdin, "standard input")
+    return nullcontext(standard_io.TextIOWrapper(file, "utf-8-sig"))
 
 
 def _take_rights(beside: Path, goal: Path) -> None:
@@ -103,6 +59,39 @@ def _take_rights(beside: Path, goal: Path) -> None:
     os.chmod(beside, stat.S_IMODE(rights.st_mode))
 
 
+def _store(path: Path) -> None:
+    """Wait until the bytes of a file are on the disk."""
+    file = os.open(path, os.O_RDWR)
+    try:
+        os.fsync(file)
+    finally:
+        os.close(file)
+
+
+def _copy(beside: Path, path: Path) -> None:
+    """Write a file to a device, a pipe, or standard output."""
+    out: ContextManager[Any] = (
+        nullcontext(_open(sys.stdout, "standard output"))
+        if path == STANDARD else open(path, "wb"))
+    with open(beside, "rb") as file, out as device:
+        shutil.copyfileobj(file, device)
+        device.flush()
+
+
+@contextmanager
+def _hidden_folder(parent: Optional[Path]) -> Iterator[Path]:
+    """A folder that only the user can look into, and that goes again."""
+    folder = tempfile.TemporaryDirectory(".part", ".", parent)
+    try:
+        yield Path(folder.name)
+    finally:
+        try:
+            folder.cleanup()
+        except BaseException:  # as of a signal, which the next one isn't
+            shutil.rmtree(folder.name, ignore_errors=True)
+            raise
+
+
 @contextmanager
 def replacing(path: Path) -> Iterator[Path]:
     """A path of a new file, which takes the path's place at the end.
@@ -110,36 +99,38 @@ def replacing(path: Path) -> Iterator[Path]:
     It has the mode of the file that was there. Where something fails, the
     path keeps what it had, and the new file is taken away with its folder,
     which only the user can look into. A device or a pipe stays, and what
-    the file has is written to it at the end.
+    the file has is written to it at the end, as to standard output.
     """
     goal = Path(os.path.realpath(path))
-    if path.is_dir():
+    is_replaced = path != STANDARD and (path.is_file() or not path.exists())
+    if path != STANDARD and path.is_dir():
         raise IsADirectoryError(errno.EISDIR, os.strerror(errno.EISDIR),
                                 str(path))
-    is_replaced = path.is_file() or not path.exists()
-    with tempfile.TemporaryDirectory(
-            ".part", ".", goal.parent if is_replaced else None) as folder:
-        beside = Path(folder, goal.name)
+    with _hidden_folder(goal.parent if is_replaced else None) as folder:
+        beside = folder / goal.name
         yield beside
         if is_replaced:
+            _store(beside)
             _take_rights(beside, goal)
             os.replace(beside, goal)
         else:
-            with open(beside, "rb") as file, open(path, "wb") as device:
-                shutil.copyfileobj(file, device)
+            _copy(beside, path)
 
 
 @contextmanager
-def writing(path: Path, features: Features,
-            document: Optional[dict[str, Any]]) -> Iterator[None]:
-    """Write a file of features, which takes the path's place at the end."""
-    with replacing(path) as beside:
-        pieces = texts(path, features, document)
-        with open(beside, "w", encoding="utf-8") as file:
-            file.write(pieces.head)
-            file.writelines(track(pieces.features, "features written",
-                                  len(features.are_multi)))
-            file.write(pieces.tail)
-            file.flush()
-            os.fsync(file.fileno())
-        yield
+def opened(given: Path, out: Path, others: str, layers: Sequence[str],
+           places: Optional[int] = None) -> Iterator[Pair]:
+    """What is read and what is written, which takes its place at the end."""
+    given_format, out_format = format_of(given), format_of(out)
+    assert given_format and out_format
+    with replacing(out) as beside:
+        if given_format == GEOPACKAGE:
+            with copied(given, beside, out, others, layers) as package:
+                yield package
+            return
+        with _given_text(given) as text, open(
+                beside, "w", encoding="utf-8") as file:
+            pair = TextPair(text, given_format, file, out_format, others,
+                            places)
+            yield pair
+            pair.end()

@@ -7,10 +7,10 @@ from typing import Iterator, Sequence, TypeVar
 
 import numpy as np
 
-from .._contours import area_two
 from .._library import Array
+from .._measures import area_two_rings
 from ..io import Features, Grid
-from .progress import track
+from .blocks import Block
 
 Number = TypeVar("Number", int, float)
 
@@ -41,12 +41,11 @@ def _float_areas(features: Features, step: float) -> list[float]:
     return list(areas.tolist())
 
 
-def _whole_areas(features: Features, name: str) -> list[int]:
-    """Twice the signed area of each ring, as :func:`area_two` answers it."""
+def _whole_areas(features: Features) -> list[int]:
+    """Twice the signed area of each ring."""
     points, ends, _ = features.polygons
-    rings = zip(ends.tolist(), ends[1:].tolist())
-    return [area_two(points[start:end]) or 0
-            for start, end in track(rings, name, len(ends) - 1)]
+    areas: list[int] = area_two_rings(points, ends).tolist()
+    return areas
 
 
 def _total(areas: Sequence[Number], features: Features) -> Number:
@@ -69,26 +68,43 @@ def _cells_text(doubled: int, grid: Grid) -> str:
             f" {sign}{abs(doubled) // 2}{half} cells of the grid")
 
 
-def _collapsed(whole: Features, gone: Array) -> Iterator[str]:
-    """The place of each ring that collapsed."""
-    for ring in np.flatnonzero(gone).tolist():
-        yield "feature {}, polygon {}, ring {}".format(*whole.ring_place(ring))
+def _counts(features: Features) -> Array:
+    """The features that have polygons, the polygons, rings and points."""
+    points, rings, parts = features.polygons
+    return np.array([(np.diff(features.feature_offsets) > 0).sum(),
+                     len(parts) - 1, len(rings) - 1, len(points)])
 
 
-def lines(given: Features, whole: Features, left: Features, gone: Array,
-          grid: Grid) -> Iterator[str]:
-    """What is told of features that were given, rounded and cleaned."""
-    def counts(features: Features) -> tuple[int, int, int, int]:
-        points, rings, parts = features.polygons
-        return (int((np.diff(features.feature_offsets) > 0).sum()),
-                len(parts) - 1, len(rings) - 1, len(points))
+class Cleaning:
+    """What cleaning removes, and the areas, block by block."""
 
-    names = ("features with polygons", "polygons", "rings", "points")
-    for name, before, after in zip(names, counts(given), counts(left)):
-        yield f"{name}: {before} before, {after} after"
-    area = _total(_float_areas(given, grid.step), given)
-    yield f"area as given: {_area_text(area, grid)}"
-    for name, features in (("before", whole), ("after", left)):
-        doubled = _total(_whole_areas(features, f"areas {name}"), features)
-        yield f"area {name}: {_cells_text(doubled, grid)}"
-    yield from (f"collapsed: {place}" for place in _collapsed(whole, gone))
+    def __init__(self, grid: Grid) -> None:
+        self._grid = grid
+        self._before, self._after = np.zeros((2, 4), np.int64)
+        self._given_area = 0.0
+        self._areas = [0, 0]
+        self._collapsed: list[str] = []
+
+    def add(self, block: Block, whole: Features, left: Features,
+            gone: Array) -> None:
+        """Add features as rounded and as cleaned, and which rings went."""
+        self._before += _counts(whole)
+        self._after += _counts(left)
+        self._given_area += _total(
+            _float_areas(block.features, self._grid.step), block.features)
+        for place, features in enumerate((whole, left)):
+            self._areas[place] += _total(_whole_areas(features), features)
+        records = block.polygon_records
+        for ring in np.flatnonzero(gone).tolist():
+            feature, polygon, place = whole.ring_place(ring)
+            self._collapsed.append(f"{records[feature].name}, polygon"
+                                   f" {polygon}, ring {place}")
+
+    def lines(self) -> Iterator[str]:
+        names = ("features with polygons", "polygons", "rings", "points")
+        for name, before, after in zip(names, self._before, self._after):
+            yield f"{name}: {before} before, {after} after"
+        yield f"area as given: {_area_text(self._given_area, self._grid)}"
+        for name, doubled in zip(("before", "after"), self._areas):
+            yield f"area {name}: {_cells_text(doubled, self._grid)}"
+        yield from (f"collapsed: {place}" for place in self._collapsed)

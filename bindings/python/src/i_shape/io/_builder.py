@@ -11,7 +11,8 @@ from typing import Any, Iterable, Optional
 import numpy as np
 
 from .._polygons import Polygons
-from ._features import FeatureError, Features, as_finite
+from ._features import (FeatureError, Features, OtherGeometryError,
+                        as_finite)
 
 
 class NumberText:
@@ -66,8 +67,21 @@ class Builder:
 
         If its first point stands at its end again, that one is left out.
         """
-        start = 2 * self._rings[-1]
         self._numbers.extend(numbers)
+        self._end_ring()
+
+    def add_ring_bytes(self, coordinates: bytes, is_swapped: bool) -> None:
+        """Add a ring by the bytes of its coordinates as float64."""
+        start = len(self._numbers)
+        self._numbers.frombytes(coordinates)
+        if is_swapped:
+            ring = self._numbers[start:]
+            ring.byteswap()
+            self._numbers[start:] = ring
+        self._end_ring()
+
+    def _end_ring(self) -> None:
+        start = 2 * self._rings[-1]
         if (len(self._numbers) - start > 2
                 and self._numbers[start:start + 2] == self._numbers[-2:]):
             del self._numbers[-2:]
@@ -96,7 +110,8 @@ class Builder:
             if not is_list(position) or len(position) != 2:
                 count = len(position) if is_list(position) else "no"
                 raise self.fault(f"the position {short(position)} has {count}"
-                                 " coordinates: 2 are needed", place)
+                                 " coordinates: 2 are needed", place,
+                                 is_other=count in (3, 4))
             for number in position:
                 self._require_number(number, place)
 
@@ -116,18 +131,33 @@ class Builder:
         self._features.append(len(self._polygons) - 1)
         self._are_multi.append(is_multi)
 
+    def next_feature(self) -> int:
+        return len(self._features) - 1
+
     def fault(self, message: str, point: Optional[int] = None,
-              is_in_ring: bool = True) -> FeatureError:
+              is_in_ring: bool = True,
+              is_other: bool = False) -> FeatureError:
         """An error in the ring, or the polygon, that would be the next."""
         ring = len(self._rings) - 1 - self._polygons[-1]
-        return FeatureError(
-            message, len(self._features) - 1,
+        kind = OtherGeometryError if is_other else FeatureError
+        return kind(
+            message, self.next_feature(),
             len(self._polygons) - 1 - self._features[-1],
             ring if is_in_ring else None, point)
 
     def feature_fault(self, message: str) -> FeatureError:
         """An error in the feature that would be the next."""
-        return FeatureError(message, len(self._features) - 1)
+        return FeatureError(message, self.next_feature())
+
+    def other(self, message: str) -> OtherGeometryError:
+        """An error of a next feature that has no polygons to read."""
+        return OtherGeometryError(message, self.next_feature())
+
+    def leave_out(self) -> None:
+        """Forget what there is of the feature that would be the next."""
+        del self._polygons[self._features[-1] + 1:]
+        del self._rings[self._polygons[-1] + 1:]
+        del self._numbers[2 * self._rings[-1]:]
 
     def features(self) -> Features:
         """The features, whose coordinates are tested to be finite."""

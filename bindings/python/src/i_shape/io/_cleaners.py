@@ -2,10 +2,12 @@
 
 from __future__ import annotations
 
-from typing import Callable, NamedTuple
+from typing import Any, Callable, NamedTuple
 
 import numpy as np
+import numpy.typing as npt
 
+from .._keys import canonical_keys
 from .._library import Array
 from .._polygons import Polygons, canonical_polygons
 from .._rings import Rings, canonical_rings, despike_rings, simplify_rings
@@ -50,7 +52,7 @@ def clean(features: Features, cleaner: Cleaner, threads: int = 1) -> Cleaned:
     return Cleaned(_left(features, rings), np.diff(rings.offsets) == 0)
 
 
-def in_order(features: Features) -> Features:
+def in_order(features: Features, oriented: bool = True) -> Features:
     """Put the rings and polygons of each feature in canonical order.
 
     Their rings are canonical already, so that only a feature with several
@@ -64,7 +66,8 @@ def in_order(features: Features) -> Features:
         first, last = offsets[place], offsets[place + 1]
         its_ends = ends[parts[first]:parts[last] + 1]
         form = canonical_polygons(points, its_ends,
-                                  parts[first:last + 1] - parts[first])
+                                  parts[first:last + 1] - parts[first],
+                                  oriented=oriented)
         points[its_ends[0]:its_ends[-1]] = form.points
         ends[parts[first]:parts[last] + 1] = form.ring_offsets + its_ends[0]
         parts[first:last + 1] = form.polygon_offsets + parts[first]
@@ -76,6 +79,8 @@ def simplify_features(features: Features, *, threads: int = 1) -> Features:
 
     A hole that collapses is left out, and so is a polygon whose outer ring
     does. A feature of which nothing is left is empty and keeps its place.
+    Where polygons share a border, one may lose a vertex on it that the
+    other keeps: :func:`despike_features` keeps both.
 
     Parameters
     ----------
@@ -110,6 +115,11 @@ def simplify_features(features: Features, *, threads: int = 1) -> Features:
 
 def despike_features(features: Features, *, threads: int = 1) -> Features:
     """Return each feature without the back points of its rings.
+
+    These are repeated points and spikes. Vertices that lie on an edge stay,
+    also those that a neighbour shares: so of polygons that share borders,
+    as parcels do, each border keeps the same vertices on both sides, but
+    for the spikes. :func:`i_shape.despike_polygons` does the same.
 
     Parameters
     ----------
@@ -173,3 +183,58 @@ def canonical_features(features: Features, *, threads: int = 1) -> Features:
     ['POLYGON ((0 0, 4 0, 4 4, 0 0))']
     """
     return in_order(clean(features, canonical_rings, threads).features)
+
+
+def feature_keys(features: Features, *, oriented: bool = True,
+                 threads: int = 1) -> npt.NDArray[np.object_]:
+    """Return a key of each feature.
+
+    Two keys are equal where :func:`canonical_features` answers equal lists
+    of polygons, of which those without rings don't count; a polygon equals
+    a multipolygon that has just this one. So a dictionary or a table of a
+    database finds equal features among many.
+
+    Parameters
+    ----------
+    features : Features
+        Of whole numbers, as :func:`features_to_grid` answers them.
+    oriented : bool
+        False lets each ring be read backwards too, as for
+        :func:`i_shape.canonical_keys`.
+    threads : int
+        As for :func:`i_shape.simplify_rings`.
+
+    Returns
+    -------
+    array of shape (n,) and dtype object
+        For each feature the keys that :func:`i_shape.canonical_keys` makes
+        of its polygons, end to end in canonical order, as ``bytes``. It is
+        empty where nothing is left.
+
+    Raises
+    ------
+    UnsafePointError, OffsetsError, FeatureError
+        As :func:`simplify_features` does.
+    TypeError, ValueError, MemoryError
+        As :func:`simplify_features` does.
+
+    Examples
+    --------
+    >>> from i_shape.io import Grid, feature_keys, features_to_grid, from_wkt
+    >>> features = from_wkt(["POLYGON ((0 0, 4 0, 4 4, 0 0))",
+    ...                      "MULTIPOLYGON (((4 4, 0 0, 2 0, 4 0, 4 4)))"])
+    >>> one, other = feature_keys(features_to_grid(features, Grid(1)))
+    >>> one == other
+    True
+    """
+    def cleaner(*rings: Any, threads: int) -> Rings:
+        return canonical_rings(*rings, oriented=oriented, threads=threads)
+
+    forms = in_order(clean(features, cleaner, threads).features, oriented)
+    keys = canonical_keys(*forms.polygons, oriented=oriented, threads=threads)
+    keys[np.diff(forms.polygons.polygon_offsets) == 0] = b""
+    ends = forms.feature_offsets.tolist()
+    joined = np.empty(len(ends) - 1, object)
+    joined[:] = [b"".join(keys[start:end])
+                 for start, end in zip(ends, ends[1:])]
+    return joined

@@ -32,15 +32,34 @@ class FeatureError(ValueError):
     def __init__(self, message: str, feature: Optional[int] = None,
                  polygon: Optional[int] = None, ring: Optional[int] = None,
                  point: Optional[int] = None) -> None:
-        places = {"feature": feature, "polygon": polygon, "ring": ring,
-                  "point": point}
-        named = ", ".join(f"{name} {place}" for name, place in places.items()
-                          if place is not None)
-        super().__init__(f"{named}: {message}" if named else message)
         self.feature = feature
         self.polygon = polygon
         self.ring = ring
         self.point = point
+        self._message = message
+        super().__init__(self.named("" if feature is None
+                                    else f"feature {feature}"))
+
+    def of(self, feature: int) -> FeatureError:
+        """The same error with another number for the feature."""
+        return FeatureError(self._message, feature, self.polygon, self.ring,
+                            self.point)
+
+    def named(self, name: str) -> str:
+        """The same words with another name for the feature."""
+        places = {"polygon": self.polygon, "ring": self.ring,
+                  "point": self.point}
+        within = [f"{part} {place}" for part, place in places.items()
+                  if place is not None]
+        named = ", ".join([name] * bool(name) + within)
+        return f"{named}: {self._message}" if named else self._message
+
+
+class OtherGeometryError(FeatureError):
+    """A geometry is no polygon or multipolygon of two coordinates a point.
+
+    What it is made of may be without a fault.
+    """
 
 
 class Place(NamedTuple):

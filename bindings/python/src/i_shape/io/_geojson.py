@@ -1,60 +1,20 @@
-"""GeoJSON, as the standard library's json reads and writes it."""
+"""Documents of GeoJSON, as the standard library's json has them."""
 
 from __future__ import annotations
 
-import json
-import re
-import secrets
-from itertools import chain, count, repeat
-from typing import (Any, Callable, Iterable, Iterator, Mapping, NamedTuple,
-                    NoReturn, Optional, Union)
+from itertools import count
+from typing import Any, Iterator, Mapping, Optional
 
-from ._builder import Builder, NumberText, is_list, short
-from ._features import FeatureError, Features, as_features
+from ._builder import Builder, is_list, short
+from ._features import (FeatureError, Features, OtherGeometryError,
+                        as_features)
 
 _ARE_MULTI = {"Polygon": False, "MultiPolygon": True}
-_NO_NUMBER = re.compile(r'"(?:[^"\\]|\\.)*"|(NaN|Infinity)')
-_MARK = secrets.token_hex(16)  # stands in no text
-_MARKED = re.compile(f'"{_MARK}([^"]*)"')
+_OTHERS = {"Point", "MultiPoint", "LineString", "MultiLineString",
+           "GeometryCollection"}
 
 
-def _number(text: str) -> Union[float, NumberText]:
-    """What a text stands for, which is written as this text again."""
-    number = float(text)
-    return number if repr(number) == text else NumberText(text)
-
-
-def _whole_number(text: str) -> Union[int, NumberText]:
-    """The same of a whole number; Python converts no thousands of digits."""
-    return NumberText(text) if text == "-0" or len(text) > 600 else int(text)
-
-
-def loads(text: str, object_hook: Callable[[dict[str, Any]], Any]) -> Any:
-    """What a text of JSON stands for; numbers keep their digits."""
-    def refuse(name: str) -> NoReturn:
-        place = next(found.start(1) for found in _NO_NUMBER.finditer(text)
-                     if found[1])
-        raise json.JSONDecodeError(f"{name} isn't a number of JSON", text,
-                                   place)
-
-    return json.loads(text, object_hook=object_hook, parse_float=_number,
-                      parse_int=_whole_number, parse_constant=refuse)
-
-
-def _marked(number: NumberText) -> str:
-    return _MARK + number.text
-
-
-def _dumps(value: Any, feature: Optional[int] = None) -> str:
-    """The text of what :func:`loads` has answered."""
-    try:
-        text = json.dumps(value, allow_nan=False, default=_marked)
-    except RecursionError:
-        raise FeatureError("it is nested too deeply", feature) from None
-    return _MARKED.sub(r"\1", text)
-
-
-def geometries_of(document: Any) -> list[Any]:
+def _geometries_of(document: Any) -> list[Any]:
     """The geometries of a document, and None where a feature has none."""
     if not isinstance(document, Mapping):
         raise FeatureError(
@@ -88,17 +48,19 @@ def _add_polygon(builder: Builder, rings: Any) -> None:
 def _is_multi(geometry: Any, feature: int) -> bool:
     kind = geometry.get("type") if isinstance(geometry, Mapping) else None
     if not isinstance(kind, str) or kind not in _ARE_MULTI:
-        raise FeatureError("a Polygon or a MultiPolygon is needed, not "
-                           + (short(kind) if kind else short(geometry)),
-                           feature)
+        is_other = isinstance(kind, str) and kind in _OTHERS
+        error = OtherGeometryError if is_other else FeatureError
+        raise error("a Polygon or a MultiPolygon is needed, not "
+                    + (short(kind) if kind else short(geometry)), feature)
     return _ARE_MULTI[kind]
 
 
-def _add_geometry(builder: Builder, geometry: Any, feature: int) -> None:
+def add_geometry(builder: Builder, geometry: Any) -> None:
+    """Add the feature of a geometry, or of None."""
     if geometry is None:
         builder.end_feature(True)
         return
-    is_multi = _is_multi(geometry, feature)
+    is_multi = _is_multi(geometry, builder.next_feature())
     coordinates = geometry.get("coordinates")
     if not is_list(coordinates):
         raise builder.feature_fault(
@@ -109,14 +71,6 @@ def _add_geometry(builder: Builder, geometry: Any, feature: int) -> None:
     elif coordinates:
         _add_polygon(builder, coordinates)
     builder.end_feature(is_multi)
-
-
-def read(geometries: Iterable[Any]) -> Features:
-    """The features of geometries, with None for one without any."""
-    builder = Builder()
-    for feature, geometry in enumerate(geometries):
-        _add_geometry(builder, geometry, feature)
-    return builder.features()
 
 
 def from_geojson(document: Mapping[str, Any]) -> Features:
@@ -157,11 +111,14 @@ def from_geojson(document: Mapping[str, Any]) -> Features:
     >>> features.polygons.points.tolist()
     [[0.0, 0.0], [4.0, 0.0], [4.0, 4.5]]
     """
-    return read(geometries_of(document))
+    builder = Builder()
+    for geometry in _geometries_of(document):
+        add_geometry(builder, geometry)
+    return builder.features()
 
 
-def geometries(features: Features) -> Iterator[dict[str, Any]]:
-    """The geometry of each feature, its rings closed."""
+def coordinates_of(features: Features) -> Iterator[list[Any]]:
+    """The coordinates of each feature, its rings closed."""
     polygons, offsets, are_multi = features
     points, rings, parts = polygons
     ends = rings.tolist()
@@ -176,11 +133,14 @@ def geometries(features: Features) -> Iterator[dict[str, Any]]:
                                            parts_ends[part + 1])]
                  for part in range(feature_ends[place],
                                    feature_ends[place + 1])]
-        if is_multi:
-            yield {"type": "MultiPolygon", "coordinates": found}
-        else:
-            yield {"type": "Polygon",
-                   "coordinates": found[0] if found else []}
+        yield found if is_multi else (found[0] if found else [])
+
+
+def _geometries(features: Features) -> Iterator[dict[str, Any]]:
+    for is_multi, coordinates in zip(features.are_multi.tolist(),
+                                     coordinates_of(features)):
+        yield {"type": "MultiPolygon" if is_multi else "Polygon",
+               "coordinates": coordinates}
 
 
 def _replaced(geometry: Any, new: dict[str, Any], feature: int) -> Any:
@@ -207,11 +167,11 @@ def _without_document(features: Features) -> dict[str, Any]:
 
 
 def _new_geometries(features: Features, document: Any) -> Iterator[Any]:
-    given = geometries_of(document)
+    given = _geometries_of(document)
     if len(given) != len(features.are_multi):
         raise ValueError(f"there are {len(features.are_multi)} features, and"
                          f" {len(given)} in the document")
-    return map(_replaced, given, geometries(features), count())
+    return map(_replaced, given, _geometries(features), count())
 
 
 def to_geojson(features: Features,
@@ -255,40 +215,11 @@ def to_geojson(features: Features,
         document = _without_document(features)
     found = _new_geometries(features, document)
     if document.get("type") == "FeatureCollection":
-        return {**_head(document), "features": list(
+        kept = {name: value for name, value in document.items()
+                if name not in ("features", "bbox")}
+        return {**kept, "features": list(
             map(_with_geometry, document["features"], found))}
     new: dict[str, Any] = next(found)
     if document.get("type") == "Feature":
         return _with_geometry(document, new)
     return new
-
-
-def _head(document: Mapping[str, Any]) -> dict[str, Any]:
-    """The members of a collection beside its features and its box."""
-    return {name: value for name, value in document.items()
-            if name not in ("features", "bbox")}
-
-
-class Texts(NamedTuple):
-    """A document in pieces: one for each feature, and what is about them."""
-
-    head: str
-    features: Iterator[str]
-    tail: str
-
-
-def texts(features: Features,
-          document: Optional[Mapping[str, Any]] = None) -> Texts:
-    """The text of :func:`to_geojson` in pieces."""
-    if document is None:
-        document = _without_document(features)
-    if document.get("type") != "FeatureCollection":
-        whole = _dumps(to_geojson(features, document), 0)
-        return Texts("", iter([whole]), "\n")
-    head = _dumps(_head(document))[1:-1]
-    between = chain([""], repeat(",\n"))
-    found = map(_with_geometry, document["features"],
-                _new_geometries(features, document))
-    pieces = (f"{lead}{_dumps(feature, place)}" for lead, feature, place
-              in zip(between, found, count()))
-    return Texts(f'{{{head}, "features": [\n', pieces, "\n]}\n")

@@ -2,28 +2,36 @@
 
 from __future__ import annotations
 
-from typing import Any, Iterable, Sequence
+from typing import Any, Iterable, Optional, Sequence
 
 import numpy as np
 
 from .._polygons import Polygons
 from .._rings import Rings
-from ._builder import Builder
 from ._closing import close_rings, open_rings
 from ._features import FeatureError, Features, as_features, as_finite
+from ._wkb import blobs_of, from_wkb
 
 _FEWEST = 3  # points that a ring of shapely has, the last one aside
 
 
-def _are_multi(geometries: Sequence[Any]) -> list[bool]:
+def fault_of(geometry: Any) -> Optional[str]:
+    """What keeps a geometry from being read, if anything does."""
     from shapely.geometry import MultiPolygon, Polygon
+    if not isinstance(geometry, (Polygon, MultiPolygon)):
+        return ("a Polygon or a MultiPolygon is needed, not a"
+                f" {type(geometry).__name__}")
+    if not geometry.is_empty and geometry.has_z:
+        return "it has three coordinates a point, and two are needed"
+    return None
+
+
+def _are_multi(geometries: Sequence[Any]) -> list[bool]:
+    from shapely.geometry import MultiPolygon
     for place, geometry in enumerate(geometries):
-        if not isinstance(geometry, (Polygon, MultiPolygon)):
-            raise FeatureError("a Polygon or a MultiPolygon is needed, not a"
-                               f" {type(geometry).__name__}", place)
-        if not geometry.is_empty and geometry.has_z:
-            raise FeatureError("it has three coordinates a point, and two are"
-                               " needed", place)
+        fault = fault_of(geometry)
+        if fault:
+            raise FeatureError(fault, place)
     return [isinstance(geometry, MultiPolygon) for geometry in geometries]
 
 
@@ -47,17 +55,23 @@ def _from_ragged(shapely: Any, geometries: list[Any],
         np.asarray(features, np.int64), np.array(are_multi, np.bool_)))
 
 
+def _without_empty(features: Features) -> Features:
+    """The features without polygons that have no rings."""
+    parts = features.polygons.polygon_offsets
+    stay = np.diff(parts) > 0
+    counts = np.concatenate([np.zeros(1, np.int64), np.cumsum(stay)])
+    return features._replace(
+        polygons=features.polygons._replace(
+            polygon_offsets=np.concatenate([parts[:1], parts[1:][stay]])),
+        feature_offsets=counts[features.feature_offsets])
+
+
 def _from_objects(geometries: list[Any], are_multi: list[bool]) -> Features:
-    builder = Builder()
-    for geometry, is_multi in zip(geometries, are_multi):
-        for polygon in geometry.geoms if is_multi else [geometry]:
-            if polygon.is_empty:
-                continue
-            for ring in (polygon.exterior, *polygon.interiors):
-                builder.add_positions(list(ring.coords))
-            builder.end_polygon()
-        builder.end_feature(is_multi)
-    return builder.features()
+    # A geometry of shapely 1.8 that is empty may have no bytes.
+    features = from_wkb([None if geometry.is_empty else geometry.wkb
+                         for geometry in geometries])
+    return _without_empty(features._replace(
+        are_multi=np.array(are_multi, np.bool_)))
 
 
 def from_shapely(geometries: Iterable[Any]) -> Features:
@@ -68,7 +82,7 @@ def from_shapely(geometries: Iterable[Any]) -> Features:
     geometries : iterable of Polygon or MultiPolygon
         A list, an array or a GeoSeries. Those of shapely 2 are read by
         ``shapely.to_ragged_array`` where none is empty or has an empty
-        polygon, and else ring by ring, as those of 1.8 are.
+        polygon, and else by their WKB, as those of 1.8 are.
 
     Returns
     -------
@@ -126,21 +140,8 @@ def _to_ragged(shapely: Any, features: Features) -> list[Any]:
 
 
 def _to_objects(features: Features) -> list[Any]:
-    from shapely.geometry import MultiPolygon, Polygon
-    (points, ends, parts), offsets, are_multi = features
-    rings = [points[start:end] for start, end in zip(ends, ends[1:])]
-    polygons = [Polygon(rings[start], rings[start + 1:end])
-                if start < end else Polygon()
-                for start, end in zip(parts.tolist(), parts[1:].tolist())]
-    found = []
-    for place, is_multi in enumerate(are_multi.tolist()):
-        its = polygons[offsets[place]:offsets[place + 1]]
-        if is_multi:
-            its = [polygon for polygon in its if not polygon.is_empty]
-            found.append(MultiPolygon(its))
-        else:
-            found.append(its[0] if its else Polygon())
-    return found
+    from shapely import wkb
+    return [wkb.loads(blob) for blob in blobs_of(_without_empty(features))]
 
 
 def _closed(features: Features) -> Features:
@@ -191,8 +192,7 @@ def to_shapely(features: Features) -> list[Any]:
     import shapely
     features = as_features(features)
     _require_long_rings(features)
-    closed = _closed(features)
     if (not len(features.are_multi) or _has_empty(features)
             or not hasattr(shapely, "from_ragged_array")):
-        return _to_objects(closed)
-    return _to_ragged(shapely, closed)
+        return _to_objects(features)
+    return _to_ragged(shapely, _closed(features))

@@ -4,12 +4,16 @@ from __future__ import annotations
 
 import re
 from itertools import chain
-from typing import Callable, Iterable, Iterator
+from typing import Any, Callable, Iterable, Iterator
 
 from ._builder import Builder, short
 from ._features import FeatureError, Features, as_features
 
 _HEAD = re.compile(r"\s*(MULTIPOLYGON|POLYGON)\b\s*", re.IGNORECASE)
+_OTHER = re.compile(
+    r"\s*(POINT|LINESTRING|MULTIPOINT|MULTILINESTRING|GEOMETRYCOLLECTION|"
+    r"CIRCULARSTRING|COMPOUNDCURVE|CURVEPOLYGON|MULTICURVE|MULTISURFACE|"
+    r"POLYHEDRALSURFACE|TIN|TRIANGLE)\b", re.IGNORECASE)
 _DIMENSIONS = re.compile(r"(ZM|Z|M)\b", re.IGNORECASE)
 _OPEN, _CLOSE, _COMMA = (re.compile(rf"\s*{mark}\s*")
                          for mark in (r"\(", r"\)", ","))
@@ -49,11 +53,12 @@ class _Reader:
     def read(self) -> None:
         kind = self._takes(_HEAD).strip().upper()
         if not kind:
-            raise self._builder.feature_fault(
-                "POLYGON or MULTIPOLYGON is needed, not"
-                f" {short(self._text.strip())}")
+            fault = (self._builder.other if _OTHER.match(self._text)
+                     else self._builder.feature_fault)
+            raise fault("POLYGON or MULTIPOLYGON is needed, not"
+                        f" {short(self._text.strip())}")
         if self._takes(_DIMENSIONS):
-            raise self._builder.feature_fault(
+            raise self._builder.other(
                 f"a {kind} of two coordinates a point is needed, and it has"
                 " more")
         is_multi = kind == "MULTIPOLYGON"
@@ -101,12 +106,20 @@ class _Reader:
             if len(words) != 2:
                 return self._builder.fault(
                     f"the point {short(' '.join(words))} has {len(words)}"
-                    " coordinates: 2 are needed", place)
+                    " coordinates: 2 are needed", place,
+                    is_other=len(words) in (3, 4))
             for word in words:
                 if not _NUMBER.fullmatch(word):
                     return self._builder.fault(
                         f"{short(word)} isn't a finite number", place)
         raise AssertionError("each point is one")
+
+
+def read(builder: Builder, text: Any) -> None:
+    """Add the feature that a text stands for."""
+    if not isinstance(text, str):
+        raise builder.feature_fault(f"a text is needed, not {short(text)}")
+    _Reader(builder, text).read()
 
 
 def from_wkt(texts: Iterable[str]) -> Features:
@@ -148,9 +161,7 @@ def from_wkt(texts: Iterable[str]) -> Features:
         raise TypeError("texts are one text: a list of texts is needed")
     builder = Builder()
     for text in texts:
-        if not isinstance(text, str):
-            raise builder.feature_fault(f"a text is needed, not {short(text)}")
-        _Reader(builder, text).read()
+        read(builder, text)
     return builder.features()
 
 

@@ -1,0 +1,33 @@
+"""Equal features: the first of each stays."""
+
+from __future__ import annotations
+
+import hashlib
+from typing import Iterable
+
+from ..io import Grid, feature_keys, features_to_grid
+from .files import Pair
+
+
+def run(pair: Pair, grid: Grid, oriented: bool) -> Iterable[str]:
+    """Leave out features that equal one before, and answer the report."""
+    firsts: dict[tuple[str, bytes], str] = {}
+    count = 0
+    gone: list[str] = []
+    for block in pair.blocks():
+        with block.naming():
+            whole = features_to_grid(block.features, grid)
+        its: list[int] = []
+        keys = feature_keys(whole, oriented=oriented)
+        for place, (key, record) in enumerate(
+                zip(keys, block.polygon_records)):
+            # A digest takes less memory than a key.
+            digest = block.group, hashlib.sha256(key).digest()
+            first = firsts.setdefault(digest, record.name)
+            if key and first != record.name:
+                its.append(place)
+                gone.append(f"gone: {record.name}, equal to {first}")
+        count += len(keys)
+        pair.write(block, gone=its)
+    return [f"features with polygons: {count} before,"
+            f" {count - len(gone)} after", *gone]

@@ -1,0 +1,159 @@
+"""The polygons of a GeoSeries of geopandas, cleaned on a grid."""
+
+from __future__ import annotations
+
+from typing import Any, Callable, Union
+
+import numpy as np
+
+from .._library import Array
+from ._builder import short
+from ._cleaners import (canonical_features, despike_features,
+                        simplify_features)
+from ._features import FeatureError, Features
+from ._grid import Grid, features_from_grid, features_to_grid
+from ._shapely import fault_of, from_shapely, to_shapely
+
+
+def _places(geometries: Any, others: str) -> Array:
+    """Which of the geometries are polygons; None is none of them."""
+    if others not in ("raise", "keep"):
+        raise ValueError(f"others is {short(others)}: raise or keep is"
+                         " needed")
+    faults = ["" if geometry is None else fault_of(geometry)
+              for geometry in geometries]
+    if others == "raise":
+        for place, fault in enumerate(faults):
+            if fault:
+                raise FeatureError(fault, place)
+    return np.flatnonzero([fault is None for fault in faults])
+
+
+def _cleaned(series: Any, step: Union[float, Grid],
+             cleaner: Callable[..., Features], others: str,
+             threads: int) -> Any:
+    import geopandas
+    grid = step if isinstance(step, Grid) else Grid(step)
+    answer = series.array.copy()
+    places = _places(answer, others)
+    try:
+        whole = features_to_grid(from_shapely(answer[places]), grid)
+        left = features_from_grid(cleaner(whole, threads=threads), grid)
+    except FeatureError as error:
+        assert error.feature is not None
+        raise error.of(int(places[error.feature])) from None
+    answer[places] = geopandas.GeoSeries(to_shapely(left),
+                                         crs=series.crs).array
+    return geopandas.GeoSeries(answer, index=series.index, name=series.name)
+
+
+def simplify_geoseries(series: Any, step: Union[float, Grid], *,
+                       others: str = "raise", threads: int = 1) -> Any:
+    """Return a GeoSeries whose polygons are rounded onto a grid and cleaned.
+
+    Each is what :func:`simplify_features` leaves of it. Where neighbours
+    share a border, :func:`despike_geoseries` keeps the vertices on it.
+
+    Parameters
+    ----------
+    series : geopandas.GeoSeries
+        As ``frame.geometry``. It isn't changed.
+    step : float or Grid
+        How far neighbours on the grid are apart, in the unit of the
+        series, or the grid.
+    others : "raise" or "keep"
+        What becomes of a geometry that is no Polygon or MultiPolygon, or
+        has three coordinates a point. None stays in either case.
+    threads : int
+        As for :func:`i_shape.simplify_rings`.
+
+    Returns
+    -------
+    geopandas.GeoSeries
+        With the same index, name and CRS. One of which nothing is left is
+        empty and keeps its place.
+
+    Raises
+    ------
+    ImportError
+        There is no geopandas.
+    FeatureError
+        A geometry is another one and ``others`` is "raise", or a coordinate
+        isn't finite or is too far from the origin. ``feature`` is its place
+        in the series, from 0 on, whatever the index is.
+    ValueError, TypeError, MemoryError
+        As :class:`Grid` and :func:`i_shape.simplify_rings` do.
+
+    Examples
+    --------
+    >>> from i_shape.io import simplify_geoseries
+    >>> def cleaned(frame):
+    ...     return frame.set_geometry(simplify_geoseries(frame.geometry, 1e-7))
+    """
+    return _cleaned(series, step, simplify_features, others, threads)
+
+
+def despike_geoseries(series: Any, step: Union[float, Grid], *,
+                      others: str = "raise", threads: int = 1) -> Any:
+    """Return a GeoSeries whose polygons are rounded and have no spikes.
+
+    Each is what :func:`despike_features` leaves of it.
+
+    Parameters
+    ----------
+    series : geopandas.GeoSeries
+    step : float or Grid
+    others : "raise" or "keep"
+    threads : int
+        As for :func:`simplify_geoseries`.
+
+    Returns
+    -------
+    geopandas.GeoSeries
+        As :func:`simplify_geoseries`.
+
+    Raises
+    ------
+    ImportError, FeatureError, ValueError, TypeError, MemoryError
+        As :func:`simplify_geoseries` does.
+
+    Examples
+    --------
+    >>> from i_shape.io import despike_geoseries
+    >>> def without_spikes(frame):
+    ...     return frame.set_geometry(despike_geoseries(frame.geometry, 1e-7))
+    """
+    return _cleaned(series, step, despike_features, others, threads)
+
+
+def canonical_geoseries(series: Any, step: Union[float, Grid], *,
+                        others: str = "raise", threads: int = 1) -> Any:
+    """Return a GeoSeries of the canonical forms of its rounded polygons.
+
+    Each is what :func:`canonical_features` answers of it.
+
+    Parameters
+    ----------
+    series : geopandas.GeoSeries
+    step : float or Grid
+    others : "raise" or "keep"
+    threads : int
+        As for :func:`simplify_geoseries`.
+
+    Returns
+    -------
+    geopandas.GeoSeries
+        As :func:`simplify_geoseries`.
+
+    Raises
+    ------
+    ImportError, FeatureError, ValueError, TypeError, MemoryError
+        As :func:`simplify_geoseries` does.
+
+    Examples
+    --------
+    >>> from i_shape.io import canonical_geoseries
+    >>> def forms(frame):
+    ...     return frame.set_geometry(canonical_geoseries(frame.geometry, 1))
+    """
+    return _cleaned(series, step, canonical_features, others, threads)

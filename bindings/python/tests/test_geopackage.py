@@ -1,0 +1,323 @@
+"""GeoPackages through the command, made by sqlite3 here, and hostile ones."""
+
+import contextlib
+import os
+import shutil
+import sqlite3
+import struct
+import subprocess
+import sys
+import textwrap
+import unittest
+from unittest import mock
+
+import samples
+from i_shape import io
+from i_shape._command import geopackage
+from test_command import FLAT, SPIKED, SQUARE, CommandCase
+
+HAS_GDAL = shutil.which("ogr2ogr") is not None
+WHY_NOT = "a file of GDAL is not tested: there is no ogr2ogr"
+if not HAS_GDAL:
+    print(WHY_NOT)
+
+SCHEMA = """
+CREATE TABLE IF NOT EXISTS gpkg_contents (table_name TEXT PRIMARY KEY, last_change TEXT);
+CREATE TABLE IF NOT EXISTS gpkg_geometry_columns (table_name TEXT, column_name TEXT,
+    geometry_type_name TEXT, srs_id INTEGER);
+CREATE TABLE {0} (fid INTEGER PRIMARY KEY, name TEXT, geom BLOB);
+INSERT INTO gpkg_contents VALUES ('{0}', 'then');
+INSERT INTO gpkg_geometry_columns VALUES ('{0}', 'geom', '{1}', 4326);
+CREATE VIRTUAL TABLE rtree_{0} USING rtree(id, minx, maxx, miny, maxy);
+CREATE TRIGGER rtree_{0}_insert AFTER INSERT ON {0}
+WHEN NEW.geom NOT NULL AND NOT ST_IsEmpty(NEW.geom) BEGIN
+    INSERT OR REPLACE INTO rtree_{0} VALUES (NEW.fid, ST_MinX(NEW.geom),
+        ST_MaxX(NEW.geom), ST_MinY(NEW.geom), ST_MaxY(NEW.geom)); END;
+CREATE TRIGGER rtree_{0}_update1 AFTER UPDATE OF geom ON {0}
+WHEN NEW.geom NOT NULL AND NOT ST_IsEmpty(NEW.geom) BEGIN
+    INSERT OR REPLACE INTO rtree_{0} VALUES (NEW.fid, ST_MinX(NEW.geom),
+        ST_MaxX(NEW.geom), ST_MinY(NEW.geom), ST_MaxY(NEW.geom)); END;
+CREATE TRIGGER rtree_{0}_update2 AFTER UPDATE OF geom ON {0}
+WHEN NEW.geom IS NULL OR ST_IsEmpty(NEW.geom) BEGIN
+    DELETE FROM rtree_{0} WHERE id = OLD.fid; END;
+CREATE TRIGGER rtree_{0}_delete AFTER DELETE ON {0} BEGIN
+    DELETE FROM rtree_{0} WHERE id = OLD.fid; END;
+"""
+
+
+def polygons(*lists):
+    """Features of one polygon each, of lists of rings."""
+    return samples.arrays([(False, [list(rings)]) for rings in lists])
+
+
+def blob(wkb, srs=4326, order="<", flags=0):
+    return (b"GP\0" + bytes([flags | (order == "<")])
+            + struct.pack(order + "i", srs) + wkb)
+
+
+SPIKED_BLOB, SQUARE_BLOB, FLAT_BLOB, HIGH_BLOB = map(blob, io.to_wkb(polygons(
+    [SPIKED], [SQUARE], [FLAT], [[(0, 0), (1, 0), (1, 9), (1, 1)]])))
+BIG_ENDIAN = blob(struct.pack(">BIII8d", 0, 3, 1, 4, 0.5, 0, 0.9, 0, 0.9, 0.4,
+                              0.5, 0), order=">")
+POINT = blob(struct.pack("<BI2d", 1, 1, 1, 2))
+
+
+class GeoPackageCase(CommandCase):
+
+    def setUp(self):
+        super().setUp()
+        self.given = self.folder / "given.gpkg"
+        self.out = self.folder / "out.gpkg"
+
+    def change(self, words, *values, path=None):
+        store = sqlite3.connect(path or self.given)
+        geopackage._add_functions(store)
+        with store:
+            rows = store.execute(words, values).fetchall()
+        store.close()
+        return rows
+
+    def fill(self, *blobs, layer="parcels", kind="POLYGON"):
+        """A layer with features 3, 5, 7, .."""
+        store = sqlite3.connect(self.given)
+        geopackage._add_functions(store)
+        with store:
+            store.executescript(SCHEMA.format(layer, kind))
+            store.executemany(
+                f"INSERT INTO {layer} VALUES (?, ?, ?)",
+                [(2 * place + 3, f"no {place}", one)
+                 for place, one in enumerate(blobs)])
+        store.close()
+
+    def dump(self):
+        with contextlib.closing(sqlite3.connect(self.given)) as store:
+            return list(store.iterdump())
+
+    def rows(self, path, layer="parcels"):
+        return self.change(f"SELECT * FROM {layer}", path=path)
+
+    def geometries(self, path=None, layer="parcels"):
+        """The text of each geometry by its fid."""
+        def text(one):
+            if one is None:
+                return None
+            return io.to_wkt(io.from_wkb([one[40:] if one[3] & 2
+                                          else one[8:]]))[0]
+        return {fid: text(one)
+                for fid, _, one in self.rows(path or self.out, layer)}
+
+    def run_clean(self, *words, call="simplify", status=0, out=None):
+        return self.run_command(call, self.given, out or self.out, "--step",
+                                "0.1", *words, status=status)
+
+
+class Cleaned(GeoPackageCase):
+
+    def test_only_what_changes_is_written(self):
+        self.fill(SPIKED_BLOB, SQUARE_BLOB, None, FLAT_BLOB, BIG_ENDIAN,
+                  HIGH_BLOB)
+        told, _ = self.run_clean("--report")
+        self.assertIn("collapsed: layer 'parcels', fid 9, polygon 0", told)
+        square = io.to_wkt(polygons([SQUARE]))[0]
+        self.assertEqual(self.geometries(), {
+            3: square, 5: square, 7: None, 9: "POLYGON EMPTY",
+            11: "POLYGON ((0.5 0, 0.9 0, 0.9 0.4, 0.5 0))",
+            13: "POLYGON ((0 0, 1 0, 1 1, 0 0))"})
+        rows = {fid: (name, one) for fid, name, one in self.rows(self.out)}
+        self.assertEqual(rows[5], ("no 1", SQUARE_BLOB))
+        self.assertEqual(rows[11], ("no 4", BIG_ENDIAN))
+        self.assertEqual(rows[3][1], b"GP\0\3" + struct.pack(
+            "<i4d", 4326, 0.5, 0.9, 0, 0.4) + SQUARE_BLOB[8:])
+        self.assertEqual(rows[9][1][:8], b"GP\0\x11" + SPIKED_BLOB[4:8])
+        tree = self.change("SELECT * FROM rtree_parcels ORDER BY id",
+                           path=self.out)
+        self.assertEqual([row[0] for row in tree], [3, 5, 11, 13])
+        self.assertEqual(tree[-1], (13, 0, 1, 0, 1))
+        self.assertNotEqual(self.change(
+            "SELECT last_change FROM gpkg_contents", path=self.out),
+            [("then",)])
+
+    def test_a_second_run_changes_nothing(self):
+        for call in ("simplify", "despike", "canonical"):
+            self.given.unlink(missing_ok=True)
+            self.fill(SPIKED_BLOB, SQUARE_BLOB, FLAT_BLOB, BIG_ENDIAN)
+            self.run_clean(call=call, out=self.given)
+            before = self.dump()
+            self.run_clean(call=call, out=self.given)
+            self.assertEqual(self.dump(), before)
+
+    def test_layers_are_those_of_polygons_or_those_named(self):
+        self.fill(SPIKED_BLOB)
+        self.fill(SPIKED_BLOB, POINT, layer="mixed", kind="GEOMETRY")
+        self.fill(POINT, layer="points", kind="POINT")
+        self.run_clean("--others", "keep")
+        square = io.to_wkt(polygons([SQUARE]))[0]
+        self.assertEqual(self.geometries(), {3: square})
+        mixed = self.rows(self.out, "mixed")
+        self.assertEqual(mixed[1], (5, "no 1", POINT))
+        self.run_clean("--others", "drop")
+        self.assertEqual(self.geometries(layer="mixed"), {3: square})
+        self.assertEqual(len(self.rows(self.out, "points")), 1)
+        self.assertEqual(self.change("SELECT id FROM rtree_mixed",
+                                     path=self.out), [(3,)])
+        self.run_clean("--layer", "parcels")
+        self.assertEqual(self.rows(self.out, "mixed"),
+                         self.rows(self.given, "mixed"))
+
+    def test_equal_features_of_a_layer(self):
+        turned = blob(io.to_wkb(polygons([SQUARE[:0:-1] + SQUARE[:1]]))[0])
+        self.fill(SPIKED_BLOB, FLAT_BLOB, turned, None, FLAT_BLOB, SQUARE_BLOB)
+        self.fill(SQUARE_BLOB, layer="other")
+        told, _ = self.run_clean("--report", call="dedup")
+        self.assertEqual(told, """\
+features with polygons: 6 before, 4 after
+gone: layer 'parcels', fid 7, equal to layer 'parcels', fid 3
+gone: layer 'parcels', fid 13, equal to layer 'parcels', fid 3
+""")
+        self.assertEqual(self.rows(self.out), [
+            row for row in self.rows(self.given) if row[0] not in (7, 13)])
+        self.run_clean("--oriented", call="dedup")
+        self.assertIn(7, self.geometries())
+
+
+class Refused(GeoPackageCase):
+
+    def assert_refused(self, *words, told, out=None):
+        """It fails and says this, and each file stays as it was."""
+        self.out.write_text("as it was")
+        before = {path: path.read_bytes() for path in self.folder.iterdir()}
+        _, error = self.run_clean(*words, status=1, out=out)
+        self.assertIn(told, error)
+        self.assertEqual(error.count("\n"), 1, error)
+        self.assertEqual({path: path.read_bytes()
+                          for path in self.folder.iterdir()}, before)
+
+    def test_faulty_geometries_name_layer_and_fid(self):
+        self.fill(SQUARE_BLOB, SQUARE_BLOB)
+        for one, told in (
+                (SQUARE_BLOB[:7], "isn't a geometry of GeoPackage"),
+                (b"PG" + SQUARE_BLOB[2:], "isn't a geometry of GeoPackage"),
+                (SQUARE_BLOB[8:], "isn't a geometry of GeoPackage"),
+                ("text", "isn't a geometry of GeoPackage"),
+                (b"GP\0\x0b" + SQUARE_BLOB[4:], "isn't a geometry"),
+                (b"GP\0\x21" + SQUARE_BLOB[4:], "of an extension"),
+                (SQUARE_BLOB[:50], "5 points need 80 bytes"),
+                (b"GP\0\3" + SQUARE_BLOB[4:], "byte"),
+                (blob(SQUARE_BLOB[8:], 4327), "its SRS is 4327, and that of"
+                 " the layer 4326"),
+                (POINT, "not a Point"),
+                (blob(io.to_wkb(polygons([[(0, 0), (1e300, 1), (2, 2)]]))[0]),
+                 "polygon 0, ring 0, point 1: x is 1e+300")):
+            self.change("DROP TRIGGER IF EXISTS rtree_parcels_update1")
+            self.change("UPDATE parcels SET geom = ? WHERE fid = 5", one)
+            with self.subTest(told=told):
+                self.assert_refused(told=told)
+                self.assert_refused(told="layer 'parcels', fid 5")
+
+    def test_files_that_are_no_geopackages(self):
+        for text, told in ((b"", "it is no GeoPackage"), (b"x" * 9999, "not"),
+                           (b"SQLite format 3\0" + b"x" * 9999, "")):
+            self.given.write_bytes(text)
+            self.assert_refused(told=told or str(self.given))
+        self.given.unlink()
+        self.assert_refused(told="[Errno 2]")
+        self.fill(*[SQUARE_BLOB] * 2000)
+        self.given.write_bytes(self.given.read_bytes()[:99_000])
+        self.assert_refused(told=f"i_shape: {self.given}: ")
+
+    def test_layers_that_can_not_be_written(self):
+        self.fill(SQUARE_BLOB)
+        self.assert_refused("--layer", "none", told="there is no layer 'none'"
+                            ": those there are 'parcels'")
+        self.change("CREATE VIEW seen AS SELECT * FROM parcels")
+        self.change("INSERT INTO gpkg_geometry_columns VALUES"
+                    " ('seen', 'geom', 'POLYGON', 4326)")
+        self.assert_refused(told="layer 'seen' is a view")
+        self.change("UPDATE gpkg_geometry_columns SET table_name = 'gone'"
+                    " WHERE table_name = 'seen'")
+        self.assert_refused(told="layer 'gone' is no table")
+
+    def test_a_trigger_of_strange_functions(self):
+        self.fill(SPIKED_BLOB)
+        self.change("CREATE TRIGGER other AFTER UPDATE ON parcels BEGIN"
+                    " SELECT strange(NEW.geom); END")
+        self.assert_refused(told=f"i_shape: {self.out}: layer 'parcels': no"
+                            " such function: strange")
+
+    def test_a_file_that_another_program_writes(self):
+        self.fill(SPIKED_BLOB)
+        other = sqlite3.connect(self.given, isolation_level=None)
+        self.addCleanup(other.close)
+        other.execute("BEGIN EXCLUSIVE")
+        with mock.patch.object(geopackage, "_PATIENCE", 0.0):
+            self.assert_refused(told=f"{self.given}: database is locked")
+        other.execute("ROLLBACK")
+        log = self.folder / "out.gpkg-wal"
+        log.write_text("of another program")
+        self.assert_refused(told="out.gpkg-wal beside it says that another")
+        log.unlink()
+        self.out.unlink()
+        other.execute("PRAGMA journal_mode = wal")
+        other.execute("UPDATE parcels SET name = 'new'")
+        self.run_clean()
+        self.assertEqual(self.rows(self.out)[0][:2], (3, "new"))
+
+    def test_a_file_that_may_only_be_read(self):
+        self.fill(SPIKED_BLOB)
+        self.given.chmod(0o400)
+        self.run_clean()
+        self.assertEqual(self.out.stat().st_mode & 0o200, 0o200)
+
+    def test_a_full_disk(self):
+        self.fill(*[SPIKED_BLOB] * 2000)
+        program = textwrap.dedent("""
+            import resource
+            import runpy
+            import sys
+            limit = int(sys.argv.pop(1))
+            resource.setrlimit(resource.RLIMIT_FSIZE, (limit, limit))
+            runpy.run_module("i_shape", run_name="__main__", alter_sys=True)
+        """)
+        self.out.write_text("as it was")
+        lines = self.folder / "out.geojson"
+        given = self.folder / "given.geojsonl"
+        for path, out in ((self.given, self.out), (given, lines)):
+            if path == given:
+                given.write_text(
+                    "".join(f'{{"type": "Feature", "geometry": {one}}}\n'
+                            for one in ["null"] * 9000))
+                lines.write_text("as it was")
+            before = sorted(self.folder.iterdir())
+            run = subprocess.run(
+                [sys.executable, "-c", program, "150000", "simplify", path,
+                 out, "--step", "0.1"], capture_output=True, text=True,
+                check=False)
+            self.assertEqual(run.returncode, 1, run.stderr)
+            self.assertRegex(run.stderr, "^i_shape: .*(full|disk|large)")
+            self.assertEqual(out.read_text(), "as it was")
+            self.assertEqual(sorted(self.folder.iterdir()), before)
+
+
+@unittest.skipUnless(HAS_GDAL, WHY_NOT)
+class OfGdal(GeoPackageCase):
+
+    def test_a_file_of_gdal_stays_one(self):
+        document = self.write(samples.geojson(
+            samples.polygon(SPIKED), None, samples.polygon(FLAT)))
+        subprocess.run(["ogr2ogr", "-f", "GPKG", self.given, document,
+                        "-nln", "parcels"], check=True, capture_output=True)
+        self.run_clean()
+        told = subprocess.run(
+            ["ogrinfo", "-al", "-q", self.out], check=True, text=True,
+            capture_output=True).stdout
+        self.assertIn("POLYGON ((0.5 0.0,0.9 0.0,0.9 0.4,0.5 0.4,0.5 0.0))",
+                      told)
+        self.assertIn("POLYGON EMPTY", told)
+        rows = self.change("SELECT count(*) FROM rtree_parcels_geom",
+                           path=self.out)
+        self.assertEqual(rows, [(1,)])
+        self.assertFalse(os.path.exists(f"{self.out}-journal"))
+
+
+if __name__ == "__main__":
+    unittest.main()
