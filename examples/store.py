@@ -28,26 +28,20 @@ CREATE TABLE IF NOT EXISTS polygons (
 CREATE TABLE IF NOT EXISTS places (
     polygon INTEGER NOT NULL REFERENCES polygons, file TEXT NOT NULL,
     number INTEGER NOT NULL, UNIQUE (file, number));
-CREATE TABLE IF NOT EXISTS grid (step REAL NOT NULL, version TEXT NOT NULL);
+CREATE TABLE IF NOT EXISTS grid (step REAL NOT NULL);
 """
 
 
 def opened(path: str, step: float) -> sqlite3.Connection:
-    """The store, all of whose polygons are on one grid.
-
-    All keys are of one version of the package, since another may make
-    others.
-    """
+    """The store, all of whose polygons are on one grid."""
     store = sqlite3.connect(path)
     store.executescript(TABLES)
-    known = store.execute("SELECT step, version FROM grid").fetchone()
-    its = step, i_shape.__version__
+    known = store.execute("SELECT step FROM grid").fetchone()
     if known is None:
         with store:
-            store.execute("INSERT INTO grid VALUES (?, ?)", its)
-    elif known != its:
-        raise ValueError("{} has the step {} and keys of i_shape {}, not {}"
-                         " and {}".format(path, *known, *its))
+            store.execute("INSERT INTO grid VALUES (?)", (step,))
+    elif known != (step,):
+        raise ValueError(f"{path} has the step {known[0]}, not {step}")
     return store
 
 

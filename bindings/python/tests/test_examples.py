@@ -122,15 +122,6 @@ class Store(ExampleCase):
         with self.assertRaises(ValueError):
             self.opened(step=0.5)
 
-    def test_keys_of_another_version_are_refused(self):
-        self.opened()
-        version = i_shape.__version__
-        with mock.patch.object(i_shape, "__version__", "0.0.7"):
-            with self.assertRaisesRegex(ValueError,
-                                        f"{version}, not .* and 0.0.7"):
-                self.opened()
-        self.opened()
-
 
 class Parcels(ExampleCase):
 

@@ -3,13 +3,14 @@
 import random
 import tracemalloc
 import unittest
+from pathlib import Path
 from unittest import mock
 
 import numpy as np
 
 import i_shape
 import plain
-from i_shape import _keys
+from i_shape import _keys, io
 from test_polygons import flat, form, moved, random_polygons
 
 RINGS = [[(0, 0), (1, 0), (0, 1)], [(1, 0), (0, 1), (0, 0)],
@@ -230,6 +231,28 @@ class OfPolygons(unittest.TestCase):
             keys = i_shape.canonical_keys(*flat([[], []], dtype))
             self.assertEqual(keys[0], keys[1])
             self.assertNotEqual(keys[0], b"")
+
+
+class Golden(unittest.TestCase):
+
+    def test_no_version_changes_a_key(self):
+        path = Path(__file__).resolve().parents[2] / "keys.txt"
+        lines = path.read_text().splitlines()[1:]
+        self.assertEqual(len(lines), 12)
+        for line in lines:
+            step, oriented, text, wanted = line.split("\t")
+            whole = io.features_to_grid(io.from_wkt([text]),
+                                        io.Grid(float(step)))
+            keys = sorted(i_shape.canonical_keys(
+                *whole.polygons, oriented=oriented == "t").tolist())
+            if text.startswith("MULTI"):
+                # The key of several is that of each, in the forms' order.
+                parts = [bytes.fromhex(wanted)[a:b] for a, b in
+                         ((0, 64), (64, 128), (128, 248), (248, 312))]
+                self.assertEqual(b"".join(parts), bytes.fromhex(wanted))
+                self.assertEqual(keys, [b""] + sorted(parts))
+            else:
+                self.assertEqual([key.hex() for key in keys], [wanted])
 
 
 class SameRings(unittest.TestCase):

@@ -1,11 +1,7 @@
 """Keys of rings and of polygons: bytes that are equal where forms are.
 
-A key holds whole numbers of 64 bits, the low byte first, so keys of arrays
-of any dtype can be compared. That of a ring is the points of its form; that
-of a polygon is how many rings its form has, and 2**62 more, and for each
-ring how many points, and these. Nothing is left of what collapses, and its
-key is empty. No coordinate of a form is 2**62 or above, so no other key is
-both a ring's and a polygon's.
+docs/DEFINITIONS.md has their form, which no version changes. Whole numbers
+take 64 bits, so keys of arrays of any dtype can be compared.
 """
 
 from __future__ import annotations
@@ -24,6 +20,7 @@ Pair = Union[Rings, Tuple[npt.NDArray[Any], npt.ArrayLike]]
 
 _WORD = np.dtype("<i8")
 _OF_POLYGON = 1 << 62  # what no safe coordinate is
+_LEAST = np.int64(-1 << 63)
 _BLOCK = 1 << 16  # rings, or polygons
 
 
@@ -53,7 +50,7 @@ def _picked(points: Array, offsets: Array, rings: Array) -> Rings:
 
 def _sort_holes(forms: Rings, rings: Array, firsts: Array,
                 counts: Array) -> None:
-    """Put the holes of each polygon in an order that their forms decide.
+    """Put the holes of each polygon in the order of their forms.
 
     ``rings`` are those of the polygons, end to end: polygon k has
     ``counts[k]`` of them from the place ``firsts[k]`` on.
@@ -61,7 +58,10 @@ def _sort_holes(forms: Rings, rings: Array, firsts: Array,
     several = np.flatnonzero(counts > 2)
     if not len(several):
         return
-    keys = list(_keys_of_rings(forms))
+    # Of numbers from 0 on, the high byte first, the bytes are ordered as the
+    # points are.
+    ordered = (forms.points.astype(np.int64) ^ _LEAST).byteswap()
+    keys = list(_keys_of_rings(Rings(ordered, forms.offsets)))
     for first, count in zip(firsts[several].tolist(),
                             counts[several].tolist()):
         holes = rings[first + 1:first + count]
@@ -152,7 +152,7 @@ def canonical_keys(points: npt.NDArray[Int], ring_offsets: npt.ArrayLike,
         In order, each of type ``bytes``. It is empty where the ring, or the
         outer ring of the polygon, collapses; that of a polygon without
         rings isn't. But for the empty one, no key of a polygon is that of a
-        ring. What else stands in a key may differ between versions.
+        ring. No version changes a key.
 
     Raises
     ------
