@@ -14,7 +14,7 @@ TO_MAN = $(DESTDIR)$(MANDIR)/man1
 C_OUT := bindings/c/out$(if $(TARGET)$(CPU),/$(TARGET)$(if $(TARGET),$(if $(CPU),-))$(CPU))
 PROGRAM := crates/i_shape_tool_main/out/$(if $(TARGET)$(CPU),$(TARGET)$(CPU)/i_shape_tool,i_shape_tool_main)
 
-.PHONY: test gate help check fmt program c wasm page wheel dist pictures install install-program install-c uninstall uninstall-program uninstall-c clean
+.PHONY: test gate help check fmt program c wasm page wheel postgres dist pictures install install-program install-c install-postgres uninstall uninstall-program uninstall-c clean
 
 # The tests of behaviour, without a proof, in two to three minutes. What isn't built is skipped.
 test:
@@ -56,6 +56,11 @@ page: wasm
 # The wheel of the Python package, in bindings/python/out, by Debian's Python or another PYTHON=.., over the C library or that of the folder I_SHAPE_C_DIR.
 wheel: $(if $(I_SHAPE_C_DIR),,c)
 	@sh bindings/python/build.sh
+
+# The extension of PostgreSQL, in bindings/postgres/out, for the server of pg_config or another PG_CONFIG=.., over the C library; it takes CPU=x86-64 too.
+postgres: c
+	@mkdir -p bindings/postgres/out
+	@$(MAKE) -s -C bindings/postgres/out -f ../Makefile I_SHAPE_C_DIR=$(abspath $(C_OUT))
 
 # What a release holds, in dist: docs/develop/RELEASE.md says what that is.
 dist:
@@ -101,6 +106,10 @@ uninstall-c:
 	rm -f "$(TO_INCLUDE)/i_shape.h" "$(TO_INCLUDE)/i_shape.hpp" "$(TO_LIB)/libi_shape.a" "$(TO_LIB)"/libi_shape.so* "$(TO_LIB)/pkgconfig/i_shape.pc"
 	rm -rf "$(TO_LIB)/cmake/i_shape"
 
+# Installs the extension into that server.
+install-postgres: postgres
+	@$(MAKE) -s -C bindings/postgres/out -f ../Makefile I_SHAPE_C_DIR=$(abspath $(C_OUT)) install
+
 # Removes what is built and the kept work of the proofs.
 clean:
-	rm -rf crates/*/out bindings/c/out bindings/js/out bindings/python/out bindings/rust/target examples/page/out dist
+	rm -rf crates/*/out bindings/c/out bindings/js/out bindings/postgres/out bindings/python/out bindings/rust/target examples/page/out dist

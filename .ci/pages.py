@@ -50,11 +50,12 @@ NEEDED = {
     "clipper": "test -e /usr/include/polyclipping/clipper.hpp",
     "pkg-config": "pkg-config --version",
     "python": "/usr/bin/python3 -c 'import numpy.typing, setuptools, wheel, venv, ensurepip'",
+    "postgres": "test -n \"$PGHOST\" && psql -Atc 'SELECT 1' && test -w \"$(pg_config --sharedir)/extension\"",
     "cargo": "cargo metadata --offline --no-deps --format-version 1 --manifest-path bindings/rust/Cargo.toml",
 }
 # What is said where one of these isn't there.
 MISSING = {"proof": "there is no rt, or the libraries aren't proved", "program": "the program isn't built", "library": "the C library isn't built",
-           "wasm": "the WebAssembly modules aren't built"}
+           "wasm": "the WebAssembly modules aren't built", "postgres": "there is no server of PostgreSQL at PGHOST to install into"}
 # How many seconds a command of a page may take.
 LONGEST = 600
 LEFT_OUT = re.compile(r"\s*(///|//!|#!?\[|ensures\b|↔|×)|\s*$")

@@ -1,0 +1,153 @@
+#!/usr/bin/env bash
+# Builds the extension of PostgreSQL and tests it in a server of its own: a copy of the installed one, whose data, socket and extensions lie in the folder of this
+# run, and which runs as nobody where root runs this. By pg_regress what the calls answer and refuse, keys, tables and plans; beside that a restore, keys beside
+# Python's, refused allocations, a processor without SSE4.2, and the commands of docs/POSTGIS.md. Before that the reader is fuzzed under the address sanitizer. It
+# takes the library of `make c`. Where that isn't built, or where PostgreSQL 15, its headers or PostGIS aren't there, it is skipped.
+set -u
+cd "$(dirname "$0")/.." || exit 1
+. .ci/count.sh || exit 1
+export LC_ALL=C PYTHONDONTWRITEBYTECODE=1
+config=${PG_CONFIG:-/usr/lib/postgresql/15/bin/pg_config}
+library=$PWD/bindings/c/out
+here=bindings/postgres
+fuzzed=1000000
+
+[ -e "$("$config" --pgxs 2> /dev/null)" ] || skip_part 'postgres' 'there is no server of PostgreSQL 15 with its headers'
+[ -e "$("$config" --sharedir)/extension/postgis.control" ] || skip_part 'postgres' 'there is no PostGIS for PostgreSQL 15'
+bash bindings/c/build.sh --is-built || skip_part 'postgres' '`make c` builds the library that it takes'
+
+# Runs what follows as whom the server runs as, which may not be root.
+as_server() {
+    if [ "$(id -u)" = 0 ]; then setpriv --reuid=nobody --regid=nogroup --clear-groups "$@"; else "$@"; fi
+}
+
+stop_server() {
+    [ ! -e "$work/data/postmaster.pid" ] || as_server "$bin/pg_ctl" -D "$work/data" -m immediate stop > /dev/null 2>&1
+    rm -rf "$work"
+}
+
+# The trees of a server find each other wherever they lie, so a copy writes nothing into that which is installed.
+start_server() {
+    local own=$work/own name
+    for name in bindir libdir sharedir includedir-server; do
+        mkdir -p "$own/$(realpath -m --relative-to=/usr "$("$config" "--$name")")"
+    done
+    cp -a /usr/lib/postgresql/15 "$own/lib/postgresql/" && cp -a /usr/share/postgresql/15 "$own/share/postgresql/" &&
+        cp -a /usr/include/postgresql "$own/include/" || return 1
+    bin=$own/lib/postgresql/15/bin
+    mkdir "$work/data" "$work/socket" && { [ "$(id -u)" != 0 ] || chown nobody "$work/data" "$work/socket"; } &&
+        as_server "$bin/initdb" -D "$work/data" -A trust -U postgres --locale=C.UTF-8 --no-sync || return 1
+    printf '%s\n' "listen_addresses = ''" "unix_socket_directories = '$work/socket'" 'fsync = off' 'jit = off' >> "$work/data/postgresql.conf"
+    as_server "$bin/pg_ctl" -w -D "$work/data" -l "$work/data/log" start
+}
+
+# The extension, built in the folder $1 with the words from $2 on.
+build() {
+    local out=$1
+    mkdir -p "$out"
+    make -s -C "$out" -f "$PWD/$here/Makefile" "PG_CONFIG=$bin/pg_config" "I_SHAPE_C_DIR=$library" "${@:2}"
+}
+
+# A statement, or more words, of psql. An error ends it.
+ask() {
+    psql -XAtq -v ON_ERROR_STOP=1 "$@"
+}
+
+# Counts whether what follows answers $2, of the test $1.
+answers() {
+    local answer
+    answer=$("${@:3}" 2>&1)
+    [ "$answer" = "$2" ] || printf '%s\n' "$1 answers: $answer"
+    [ "$answer" = "$2" ]
+    count $? "$1"
+}
+
+# The reader, the writers and the order of forms, over mutated WKB. No block is left, which the sanitizer looks for at the end.
+test_fuzz() {
+    local sanitizers=(-fsanitize=address,undefined -fno-sanitize-recover=undefined)
+    if ! { echo 'int main(void) { return 0; }' | "${CC:-cc}" -x c "${sanitizers[@]}" -o "$work/probe" - && "$work/probe"; } 2> /dev/null; then
+        skip 'mutated WKB' 'the compiler has no address sanitizer that runs here'
+        return
+    fi
+    "${CC:-cc}" -g -O1 "${sanitizers[@]}" -Iinclude "-I$here" "$here"/tests/fuzz.c "$here"/{wkb,forms}.c "$library/libi_shape.a" -lm -o "$work/fuzz" &&
+        "$work/fuzz" "$fuzzed"
+    count $? 'mutated WKB'
+}
+
+test_regress() {
+    local name
+    build "$work/out" installcheck > "$work/log" 2>&1 || cat "$work/out/regression.diffs" "$work/log"
+    for name in $(sed -n 's/^REGRESS = //p' "$here/Makefile"); do
+        grep -qE "^test $name +\.\.\. ok" "$work/log"
+        count $? "pg_regress, $name"
+    done
+}
+
+# A dump, which empties the search path, of a table with an index, a column and a check over the calls.
+test_restore() {
+    ask -c 'CREATE DATABASE dumped' -c 'CREATE DATABASE restored' -d template1 &&
+        ask -d dumped -c 'SET client_min_messages = error' -c 'CREATE EXTENSION i_shape CASCADE' \
+            -c 'CREATE TABLE kept (geom geometry CHECK (i_shape_is_clean(geom, 1)), digest bytea GENERATED ALWAYS AS (i_shape_digest(geom, 1)) STORED)' \
+            -c 'CREATE UNIQUE INDEX ON kept (i_shape_key(geom, 1))' \
+            -c 'INSERT INTO kept SELECT ST_MakeEnvelope(x, 0, x + 1, 1) FROM generate_series(1, 100) AS x'
+    "$bin/pg_dump" dumped | ask -d restored > /dev/null
+    answers 'a restore' 100 ask -d restored -c 'SELECT count(*) FROM kept WHERE digest = sha256(i_shape_key(ST_Reverse(geom), 1))'
+}
+
+# Keys of the package for Python, made of the same polygons.
+test_python_keys() {
+    if ! /usr/bin/python3 -c 'import numpy.typing' 2> /dev/null; then
+        skip "keys beside Python's" "Debian's Python has no numpy"
+        return
+    fi
+    I_SHAPE_C_DIR=$library PYTHONPATH=bindings/python/src /usr/bin/python3 "$here/tests/keys.py" 20000 > "$work/keys"
+    ask -c 'CREATE TABLE python_keys (wkb bytea, oriented bytea, unoriented bytea)' -c "\\copy python_keys FROM '$work/keys'"
+    answers "keys beside Python's" '20000|0' ask -c "SELECT count(*), count(*) FILTER (WHERE i_shape_wkb_key(wkb, 0.25, true) IS DISTINCT FROM nullif(oriented, '')
+        OR i_shape_wkb_key(wkb, 0.25) IS DISTINCT FROM nullif(unoriented, '') OR i_shape_key(ST_GeomFromEWKB(wkb), 0.25) IS DISTINCT FROM nullif(unoriented, ''))
+        FROM python_keys"
+}
+
+# Each growth of memory in each call, refused; and answers above what a server takes, which this module has lowered to 1000 bytes.
+test_refusals() {
+    sed 's/AS .MODULE_PATHNAME./AS '"'${work//\//\\/}\/refusing\/i_shape'"'/; /^\\echo/d' "$here"/i_shape--*.sql > "$work/refusing.sql"
+    mkdir -p "$work/refusing/tests" && build "$work/refusing" MORE_OBJS=tests/refuse.o MORE_CPPFLAGS=-DMOST_BYTES=1000 > "$work/log" 2>&1 || cat "$work/log"
+    ask -c 'CREATE DATABASE refusing' -d template1
+    ask -d refusing -c 'SET client_min_messages = error' -c 'CREATE EXTENSION postgis' -f "$work/refusing.sql"
+    ask -d refusing -v "module=$work/refusing/i_shape" < "$here/tests/refuse.sql" > "$work/printed" 2>&1
+    diff "$here/tests/refuse.out" "$work/printed"
+    count $? 'each allocation refused, and answers that are too long'
+}
+
+# A module that finds a processor without SSE4.2 refuses to be loaded.
+test_processor() {
+    [ "$(uname -m)" = x86_64 ] || return
+    build "$work/old" 'MORE_CPPFLAGS="-D__builtin_cpu_supports(name)=0"' > "$work/log" 2>&1 || cat "$work/log"
+    answers 'a processor without SSE4.2' 'ERROR:  0A000' ask -v VERBOSITY=sqlstate -c "LOAD '$work/old/i_shape'"
+}
+
+# The module shows the server nothing but its calls, and has the library's version.
+test_module() {
+    answers 'the names of the module' 'Pg_magic_func _PG_init' \
+        bash -c "nm -D --defined-only '$work/out/i_shape.so' | sed 's/.* //' | grep -vE '^(pg_finfo_)?pg_i_shape_' | sort | xargs"
+    answers 'the version' "$(sed -n '/^## /{s/^## //p;q}' CHANGELOG.md)" ask -c 'SELECT i_shape_version()'
+}
+
+test_page() {
+    PATH="$bin:$PATH" PGDATABASE=page python3 .ci/pages.py docs/POSTGIS.md > "$work/log" 2>&1
+    add $? 'docs/POSTGIS.md'
+}
+
+chmod 755 "$work"
+trap stop_server EXIT
+test_fuzz
+start_server > "$work/log" 2>&1 && build "$work/out" install >> "$work/log" 2>&1 || { cat "$work/data/log"; fail_part 'postgres'; }
+export PGHOST=$work/socket PGUSER=postgres PGDATABASE=contrib_regression
+test_regress
+test_module
+test_restore
+test_python_keys
+test_refusals
+test_processor
+ask -d template1 -c 'CREATE DATABASE page'
+test_page
+tell_counts 'postgres'

@@ -1,0 +1,302 @@
+/* WKB of random polygons, as it is and mutated, through the reader, the cleaners, the order of forms and the writers, each block as long as what it holds, for the
+ * address sanitizer. What is answered is compared with the calls of the C library on polygons, and with itself when it is read again. Then each growth of the C
+ * library is refused in turn. usage: fuzz COUNT */
+#include "polygons.h"
+
+#include <stdio.h>
+#include <stdlib.h>
+#include <string.h>
+
+static void must(bool holds, const char *what) {
+    if (holds) return;
+    printf("%s\n", what);
+    exit(1);
+}
+
+/* ---- the allocator of the C library, which refuses a growth ---- */
+
+static size_t growths, refused, blocks;
+
+struct tried {
+    uintptr_t ok;
+    void *at;
+};
+struct tried rattle_alloc(size_t size, size_t align);
+struct tried rattle_realloc(void *at, size_t kept, size_t size, size_t align);
+void rattle_dealloc(void *at);
+
+static struct tried grown(void *old, size_t size) {
+    static char nothing;
+    void *at = ++growths == refused ? NULL : realloc(old, size ? size : 1);
+    blocks += at && !old;
+    return (struct tried){at != NULL, at ? at : &nothing};
+}
+
+struct tried rattle_alloc(size_t size, size_t align) {
+    (void)align;
+    return grown(NULL, size);
+}
+
+struct tried rattle_realloc(void *at, size_t kept, size_t size, size_t align) {
+    (void)kept;
+    (void)align;
+    return grown(at, size);
+}
+
+void rattle_dealloc(void *at) {
+    blocks--;
+    free(at);
+}
+
+/* ---- random WKB ---- */
+
+static uint64_t state = 88172645463325252u;
+
+static uint64_t below(uint64_t end) {
+    state ^= state << 13;
+    state ^= state >> 7;
+    state ^= state << 17;
+    return state % end;
+}
+
+static unsigned char bytes[1 << 14];
+static size_t length;
+static bool is_swapped;
+
+static void put(const void *from, size_t size) {
+    for (size_t k = 0; k < size; k++) bytes[length++] = ((const unsigned char *)from)[is_swapped ? size - 1 - k : k];
+}
+
+static void put_number(uint32_t number) {
+    put(&number, sizeof number);
+}
+
+static void put_head(uint32_t type) {
+    is_swapped = below(2);
+    bytes[length++] = (__BYTE_ORDER__ == __ORDER_LITTLE_ENDIAN__) != is_swapped;
+    put_number(type);
+}
+
+/* On few places of the grid, so that vertices are collinear, and rings collapse and equal one another. */
+static void put_ring(void) {
+    uint32_t count = (uint32_t)below(12), side = 2 + (uint32_t)below(6);
+    double first[2] = {0, 0};
+    put_number(count);
+    for (uint32_t k = 0; k < count; k++) {
+        double xy[2] = {(double)below(side) - 2, (double)below(side) - 2};
+        if (k == 0) memcpy(first, xy, sizeof xy);
+        if (k + 1 == count && below(4)) memcpy(xy, first, sizeof xy);
+        put(xy, sizeof *xy);
+        put(xy + 1, sizeof *xy);
+    }
+}
+
+static void put_polygon(void) {
+    uint32_t rings = (uint32_t)below(5);
+    put_number(rings);
+    while (rings--) put_ring();
+}
+
+static void make_wkb(void) {
+    bool is_multi = below(2), has_srid = below(2);
+    uint32_t parts = is_multi ? (uint32_t)below(5) : 0;
+    length = 0;
+    put_head((is_multi ? WKB_MULTIPOLYGON : WKB_POLYGON) | (has_srid ? 0x20000000u : 0));
+    if (has_srid) put_number(4326);
+    if (is_multi) put_number(parts);
+    else put_polygon();
+    while (parts--) {
+        put_head(WKB_POLYGON);
+        put_polygon();
+    }
+}
+
+static void mutate(void) {
+    switch (below(4)) {
+    case 0: length = below(length + 1); break;
+    case 1: bytes[below(length)] = (unsigned char)below(256); break;
+    case 2: bytes[below(length < 30 ? length : 30)] = (unsigned char)below(256); break;
+    default: bytes[below(length)] ^= (unsigned char)(1 << below(8));
+    }
+}
+
+/* ---- what is asked of each ---- */
+
+static void no_pause(void) {}
+
+static void *block_of(size_t size) {
+    return malloc(size ? size : 1);
+}
+
+static void take_block(Geometry *geometry, Counts counts) {
+    geometry->counts = counts;
+    use_block(geometry, block_of(block_size(counts)));
+}
+
+typedef struct {
+    unsigned char *at;
+    size_t size;
+} Block;
+
+static bool take_if_same(Block one, Block other) {
+    bool is_same = one.size == other.size && memcmp(one.at, other.at, one.size) == 0;
+    free(other.at);
+    return is_same;
+}
+
+static Block written(const Geometry *geometry, Grid grid) {
+    Block wkb = {block_of(wkb_size(geometry)), wkb_size(geometry)};
+    write_wkb(geometry, grid, no_pause, wkb.at);
+    return wkb;
+}
+
+static Block key_of(const Geometry *form) {
+    Block key = {block_of(key_size(form)), key_size(form)};
+    write_key(form, no_pause, key.at);
+    return key;
+}
+
+/* Takes no block where it isn't fine. */
+static FaultKind read_block(Block wkb, Grid grid, Geometry *to) {
+    Counts counts;
+    Fault fault = count_wkb(wkb.at, wkb.size, &counts);
+    if (fault.kind != FINE) return fault.kind;
+    take_block(to, counts);
+    fault = read_wkb(wkb.at, wkb.size, grid, no_pause, to);
+    if (fault.kind != FINE) free(to->points);
+    return fault.kind;
+}
+
+typedef ptrdiff_t Call(const i_shape_point_i64 *, size_t, const size_t *, size_t, const size_t *, size_t, i_shape_point_i64 *, size_t, size_t *, size_t,
+                       size_t *, size_t);
+
+/* What the call on polygons leaves, read from its arrays. */
+static bool is_as_by_call(Call *call, const Geometry *given, const Geometry *left) {
+    static size_t rings[1 << 12], parts[1 << 12], out_rings[1 << 12], out_parts[1 << 12];
+    static i_shape_point_i64 out[1 << 12];
+    size_t count = given->counts.points, ring_count = given->counts.rings, part_count = given->counts.polygons, ring = 0;
+    rings[0] = parts[0] = 0;
+    for (size_t k = 0; k < ring_count; k++) rings[k + 1] = rings[k] + given->rings[k].count;
+    for (size_t k = 0; k < part_count; k++) parts[k + 1] = parts[k] + given->polygons[k].count;
+    ptrdiff_t n = call(given->points, count, rings, ring_count + 1, parts, part_count + 1, out, count, out_rings, ring_count + 1, out_parts, part_count + 1);
+    bool is_same = n == (ptrdiff_t)left->counts.polygons;
+    for (size_t k = 0; is_same && k < left->counts.polygons; k++) {
+        is_same = out_parts[k + 1] - out_parts[k] == left->polygons[k].count;
+        for (size_t at = 0; is_same && at < left->polygons[k].count; at++, ring++) {
+            Ring its = left->polygons[k].rings[at];
+            is_same = out_rings[ring + 1] - out_rings[ring] == its.count && memcmp(out + out_rings[ring], its.points, its.count * sizeof *out) == 0;
+        }
+    }
+    return is_same;
+}
+
+static Geometry cleaned(Cleaner *cleaner, const Geometry *given) {
+    Geometry left;
+    take_block(&left, given->counts);
+    must(clean_polygons(cleaner, given, no_pause, &left), "no memory");
+    return left;
+}
+
+static void check_written(const Geometry *left, Grid grid) {
+    Block wkb = written(left, grid);
+    Geometry again;
+    must(read_block(wkb, grid, &again) == FINE, "what is written isn't read");
+    must(is_clean(&again, no_pause), "what is left isn't clean");
+    Geometry twice = cleaned(i_shape_simplify_i64, &again);
+    must(take_if_same(wkb, written(&twice, grid)), "cleaned again it is another one");
+    free(wkb.at);
+    free(again.points);
+    free(twice.points);
+}
+
+static Geometry form_of(const Geometry *given, bool oriented) {
+    Geometry form = cleaned(oriented ? i_shape_canonical_i64 : i_shape_canonical_unoriented_i64, given);
+    sort_polygons(&form);
+    return form;
+}
+
+static void check_key(const Geometry *given, const Geometry *left, bool oriented) {
+    Geometry form = form_of(given, oriented), other = form_of(left, oriented);
+    Call *call = oriented ? i_shape_canonical_shapes_i64 : i_shape_canonical_unoriented_shapes_i64;
+    Block key = key_of(&form);
+    must(is_as_by_call(call, given, &form), "the form isn't that of the C library");
+    must(take_if_same(key, key_of(&other)), "what is left has another key");
+    free(key.at);
+    free(form.points);
+    free(other.points);
+}
+
+static FaultKind check_block(Block wkb) {
+    Grid grid;
+    Geometry given;
+    make_grid(below(4) ? 1 : 0.3, &grid);
+    FaultKind kind = read_block(wkb, grid, &given);
+    if (kind != FINE) return kind;
+    Geometry left = cleaned(i_shape_simplify_i64, &given), despiked = cleaned(i_shape_despike_i64, &given);
+    must(is_as_by_call(i_shape_simplify_shapes_i64, &given, &left), "what is left isn't what the C library leaves");
+    for (size_t k = 0; k < despiked.counts.rings; k++)
+        must(i_shape_has_no_spikes_i64(despiked.rings[k].points, despiked.rings[k].count), "what is despiked has spikes");
+    check_written(&left, grid);
+    check_key(&given, &left, below(2));
+    area_two(&given, no_pause);
+    winding(&given, (i_shape_point_i64){1, 1}, no_pause);
+    free(given.points);
+    free(left.points);
+    free(despiked.points);
+    return FINE;
+}
+
+static FaultKind check_bytes(void) {
+    double xy[2];
+    int32_t srid;
+    Block wkb = {block_of(length), length};
+    memcpy(wkb.at, bytes, length);
+    read_point_wkb(wkb.at, wkb.size, xy, &srid);
+    FaultKind kind = check_block(wkb);
+    free(wkb.at);
+    return kind;
+}
+
+/* Each growth of a cleaner over several polygons, refused, is told, and leaves no block. It answers how many there were. */
+static size_t check_refusals(Cleaner *cleaner) {
+    Block wkb = {bytes, 0};
+    Geometry given, left;
+    Grid grid;
+    make_grid(1, &grid);
+    do make_wkb();
+    while (wkb.size = length, length < 1000 || read_block(wkb, grid, &given) != FINE);
+    take_block(&left, given.counts);
+    growths = refused = 0;
+    must(clean_polygons(cleaner, &given, no_pause, &left), "no memory");
+    size_t all = growths;
+    for (size_t k = 1; k <= all; k++) {
+        growths = 0;
+        refused = k;
+        must(!clean_polygons(cleaner, &given, no_pause, &left), "a growth that is refused isn't told");
+        must(blocks == 0, "a block is left");
+    }
+    refused = 0;
+    free(given.points);
+    free(left.points);
+    return all;
+}
+
+int main(int count, char **words) {
+    long rounds = count > 1 ? atol(words[1]) : 100000, kinds[OUT_OF_RANGE + 1] = {0};
+    for (long round = 0; round < rounds; round++) {
+        make_wkb();
+        if (below(4))
+            for (uint64_t k = below(4) + 1; k-- && length;) mutate();
+        kinds[check_bytes()]++;
+        must(blocks == 0, "a block is left");
+    }
+    Cleaner *const cleaners[] = {i_shape_simplify_i64, i_shape_despike_i64, i_shape_canonical_i64, i_shape_canonical_unoriented_i64};
+    for (int k = 0; k < 4; k++) {
+        size_t all = 0;
+        for (int times = 0; times < 20; times++) all += check_refusals(cleaners[k]);
+        must(all > 20, "it takes no memory");
+    }
+    printf("%ld of %ld answered; refused: type %ld, dimensions %ld, bytes %ld, SRIDs %ld, range %ld\n", kinds[FINE], rounds, kinds[OTHER_TYPE],
+           kinds[HAS_Z_OR_M], kinds[NOT_WKB], kinds[MIXED_SRIDS], kinds[OUT_OF_RANGE]);
+    return 0;
+}

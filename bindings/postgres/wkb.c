@@ -1,0 +1,289 @@
+#include "polygons.h"
+
+#include <float.h>
+#include <math.h>
+#include <string.h>
+
+_Static_assert(FLT_EVAL_METHOD == 0, "double is rounded at each operation, on which keys rest");
+_Static_assert(sizeof(size_t) == 8, "sizes of a WKB don't overflow");
+
+enum { EWKB_SRID = 0x20000000, ISO_DIMENSIONS = 1000, POINT_SIZE = 16, HEAD_SIZE = 5, COUNT_SIZE = 4 };
+static const uint32_t EWKB_Z_OR_M = 0xC0000000;
+/* Up to here rounding again what was brought back leads to the same whole numbers. */
+static const double LIMIT = 562949953421312.0; /* 2^49 */
+
+bool make_grid(double step, Grid *grid) {
+    if (!(isfinite(step) && step > 0)) return false;
+    double whole = rint(1 / step);
+    grid->step = step;
+    grid->steps_to_one = isfinite(whole) && whole != 0 && 1 / whole == step ? whole : 0;
+    return true;
+}
+
+static double steps_of(double x, Grid grid) {
+    return rint(grid.steps_to_one != 0 ? x * grid.steps_to_one : x / grid.step);
+}
+
+static double brought_back(int64_t k, Grid grid) {
+    return grid.steps_to_one != 0 ? (double)k / grid.steps_to_one : (double)k * grid.step;
+}
+
+bool to_grid(const double xy[2], Grid grid, i_shape_point_i64 *point) {
+    double x = steps_of(xy[0], grid), y = steps_of(xy[1], grid);
+    if (!(fabs(x) < LIMIT && fabs(y) < LIMIT)) return false;
+    point->x = (int64_t)x;
+    point->y = (int64_t)y;
+    return true;
+}
+
+size_t block_size(Counts counts) {
+    return counts.points * sizeof(i_shape_point_i64) + counts.rings * sizeof(Ring) + counts.polygons * sizeof(Polygon);
+}
+
+void use_block(Geometry *geometry, void *block) {
+    geometry->points = block;
+    geometry->rings = (Ring *)(geometry->points + geometry->counts.points);
+    geometry->polygons = (Polygon *)(geometry->rings + geometry->counts.rings);
+}
+
+/* ---- reading ---- */
+
+/* Without a geometry it only counts. */
+typedef struct {
+    const unsigned char *at, *end;
+    bool is_swapped;
+    Counts counts;
+    Geometry *to;
+    Grid grid;
+    Pause *pause;
+    Fault fault;
+} Reader;
+
+static Reader reader_of(const void *wkb, size_t size) {
+    Reader from = {.at = wkb, .end = (const unsigned char *)wkb + size};
+    return from;
+}
+
+static bool not_wkb(Reader *from, const char *what) {
+    from->fault = (Fault){.kind = NOT_WKB, .what = what};
+    return false;
+}
+
+static bool has(Reader *from, uint64_t size) {
+    return (uint64_t)(from->end - from->at) >= size || not_wkb(from, "it ends too soon");
+}
+
+static bool has_ended(Reader *from) {
+    return from->at == from->end || not_wkb(from, "bytes are left over");
+}
+
+static bool next_number(Reader *from, uint32_t *number) {
+    if (!has(from, COUNT_SIZE)) return false;
+    memcpy(number, from->at, COUNT_SIZE);
+    if (from->is_swapped) *number = __builtin_bswap32(*number);
+    from->at += COUNT_SIZE;
+    return true;
+}
+
+typedef struct {
+    uint32_t type;
+    bool has_srid;
+    int32_t srid;
+} Head;
+
+/* The byte order, the type and, where it is there, the SRID. */
+static bool next_head(Reader *from, Head *head) {
+    uint32_t number = 0;
+    *head = (Head){0};
+    if (!has(from, 1)) return false;
+    if (*from->at > 1) return not_wkb(from, "its byte order is neither 0 nor 1");
+    from->is_swapped = (*from->at++ == 1) == (__BYTE_ORDER__ == __ORDER_BIG_ENDIAN__);
+    if (!next_number(from, &head->type)) return false;
+    head->has_srid = (head->type & EWKB_SRID) != 0;
+    if (head->has_srid && !next_number(from, &number)) return false;
+    head->srid = (int32_t)number;
+    bool is_planar = !(head->type & EWKB_Z_OR_M);
+    head->type &= ~(EWKB_SRID | EWKB_Z_OR_M);
+    uint32_t dimensions = head->type / ISO_DIMENSIONS;
+    if (is_planar && !(dimensions >= 1 && dimensions <= 3)) return true;
+    from->fault = (Fault){.kind = HAS_Z_OR_M};
+    return false;
+}
+
+/* The point of a number among those that follow. */
+static void point_at(const Reader *from, size_t number, double xy[2]) {
+    uint64_t bits[2];
+    memcpy(bits, from->at + number * POINT_SIZE, POINT_SIZE);
+    if (from->is_swapped)
+        for (int k = 0; k < 2; k++) bits[k] = __builtin_bswap64(bits[k]);
+    memcpy(xy, bits, POINT_SIZE);
+}
+
+static bool out_of_range(Reader *from, const double xy[2], size_t number) {
+    const Polygon *polygon = from->to->polygons + from->to->counts.polygons;
+    bool is_x = !(fabs(steps_of(xy[0], from->grid)) < LIMIT);
+    from->fault = (Fault){.kind = OUT_OF_RANGE,
+                          .polygon = from->counts.polygons + 1,
+                          .ring = polygon->count + 1,
+                          .point = number + 1,
+                          .axis = is_x ? 'x' : 'y',
+                          .value = is_x ? xy[0] : xy[1]};
+    return false;
+}
+
+/* How many of the points of a ring are left without a last one that is the first one again. */
+static size_t open_count(const Reader *from, size_t count) {
+    double first[2], last[2];
+    if (count < 2) return count;
+    point_at(from, 0, first);
+    point_at(from, count - 1, last);
+    return first[0] == last[0] && first[1] == last[1] ? count - 1 : count;
+}
+
+static bool add_ring(Reader *from, size_t count) {
+    Geometry *to = from->to;
+    i_shape_point_i64 *points = to->points + to->counts.points;
+    size_t open = open_count(from, count);
+    bool is_on_grid = open < count;
+    for (size_t k = 0; k < open; k++) {
+        double xy[2];
+        if (k % PAUSE_POINTS == 0) from->pause();
+        point_at(from, k, xy);
+        if (!to_grid(xy, from->grid, points + k)) return out_of_range(from, xy, k);
+        is_on_grid = is_on_grid && brought_back(points[k].x, from->grid) == xy[0] && brought_back(points[k].y, from->grid) == xy[1];
+    }
+    to->is_on_grid = to->is_on_grid && is_on_grid;
+    to->rings[to->counts.rings++] = (Ring){points, open};
+    to->counts.points += open;
+    to->polygons[to->counts.polygons].count++;
+    return true;
+}
+
+static bool walk_ring(Reader *from) {
+    uint32_t count;
+    if (!next_number(from, &count) || !has(from, (uint64_t)count * POINT_SIZE)) return false;
+    if (from->to && !add_ring(from, count)) return false;
+    from->counts.rings++;
+    from->counts.points += count;
+    from->at += (size_t)count * POINT_SIZE;
+    return true;
+}
+
+/* A polygon without rings is left out: so PostGIS writes POLYGON EMPTY. */
+static bool walk_polygon(Reader *from) {
+    Geometry *to = from->to;
+    uint32_t count;
+    if (!next_number(from, &count)) return false;
+    if (to) to->polygons[to->counts.polygons] = (Polygon){to->rings + to->counts.rings, 0};
+    for (uint32_t k = 0; k < count; k++)
+        if (!walk_ring(from)) return false;
+    if (to && count > 0) to->counts.polygons++;
+    if (to && count == 0 && to->is_multi) to->is_on_grid = false;
+    from->counts.polygons++;
+    return true;
+}
+
+static bool walk_parts(Reader *from, const Head *whole) {
+    uint32_t count;
+    if (!next_number(from, &count)) return false;
+    for (uint32_t k = 0; k < count; k++) {
+        Head head;
+        if (!next_head(from, &head)) return false;
+        if (head.type != WKB_POLYGON) return not_wkb(from, "a part of a MultiPolygon isn't a Polygon");
+        if (head.has_srid && head.srid != whole->srid) {
+            from->fault = (Fault){.kind = MIXED_SRIDS};
+            return false;
+        }
+        if (!walk_polygon(from)) return false;
+    }
+    return true;
+}
+
+static Fault walk(Reader *from) {
+    Head head;
+    if (!next_head(from, &head)) return from->fault;
+    bool is_multi = head.type == WKB_MULTIPOLYGON;
+    if (!is_multi && head.type != WKB_POLYGON) return (Fault){.kind = OTHER_TYPE, .type = head.type};
+    if (from->to) {
+        from->to->is_multi = is_multi;
+        from->to->has_srid = head.has_srid;
+        from->to->srid = head.srid;
+    }
+    if ((is_multi ? walk_parts(from, &head) : walk_polygon(from)) && has_ended(from)) return (Fault){.kind = FINE};
+    return from->fault;
+}
+
+Fault count_wkb(const void *wkb, size_t size, Counts *counts) {
+    Reader from = reader_of(wkb, size);
+    Fault fault = walk(&from);
+    *counts = from.counts;
+    return fault;
+}
+
+Fault read_wkb(const void *wkb, size_t size, Grid grid, Pause *pause, Geometry *to) {
+    Reader from = reader_of(wkb, size);
+    from.to = to;
+    from.grid = grid;
+    from.pause = pause;
+    to->counts = (Counts){0, 0, 0};
+    to->is_on_grid = true;
+    return walk(&from);
+}
+
+Fault read_point_wkb(const void *wkb, size_t size, double xy[2], int32_t *srid) {
+    Reader from = reader_of(wkb, size);
+    Head head;
+    if (!next_head(&from, &head)) return from.fault;
+    if (head.type != WKB_POINT) return (Fault){.kind = OTHER_TYPE, .type = head.type};
+    if (!has(&from, POINT_SIZE)) return from.fault;
+    point_at(&from, 0, xy);
+    *srid = head.srid;
+    from.at += POINT_SIZE;
+    return has_ended(&from) ? (Fault){.kind = FINE} : from.fault;
+}
+
+/* ---- writing, in the machine's byte order ---- */
+
+size_t wkb_size(const Geometry *geometry) {
+    size_t parts = geometry->is_multi ? geometry->counts.polygons : 0;
+    size_t heads = HEAD_SIZE + (geometry->has_srid ? COUNT_SIZE : 0) + parts * HEAD_SIZE;
+    size_t counted = (geometry->is_multi || geometry->counts.polygons == 0) + geometry->counts.polygons + geometry->counts.rings;
+    return heads + counted * COUNT_SIZE + (geometry->counts.points + geometry->counts.rings) * POINT_SIZE;
+}
+
+static unsigned char *put_number(unsigned char *at, uint32_t number) {
+    memcpy(at, &number, COUNT_SIZE);
+    return at + COUNT_SIZE;
+}
+
+static unsigned char *put_head(unsigned char *at, uint32_t type) {
+    *at++ = __BYTE_ORDER__ == __ORDER_LITTLE_ENDIAN__;
+    return put_number(at, type);
+}
+
+static unsigned char *put_point(unsigned char *at, i_shape_point_i64 point, Grid grid) {
+    double xy[2] = {brought_back(point.x, grid), brought_back(point.y, grid)};
+    memcpy(at, xy, POINT_SIZE);
+    return at + POINT_SIZE;
+}
+
+static unsigned char *put_ring(unsigned char *at, Ring ring, Grid grid, Pause *pause) {
+    at = put_number(at, (uint32_t)ring.count + 1);
+    for (size_t k = 0; k < ring.count; k++) {
+        if (k % PAUSE_POINTS == 0) pause();
+        at = put_point(at, ring.points[k], grid);
+    }
+    return put_point(at, ring.points[0], grid);
+}
+
+void write_wkb(const Geometry *geometry, Grid grid, Pause *pause, void *to) {
+    size_t count = geometry->counts.polygons;
+    unsigned char *at = put_head(to, (geometry->is_multi ? WKB_MULTIPOLYGON : WKB_POLYGON) | (geometry->has_srid ? EWKB_SRID : 0));
+    if (geometry->has_srid) at = put_number(at, (uint32_t)geometry->srid);
+    if (geometry->is_multi || count == 0) at = put_number(at, (uint32_t)count);
+    for (const Polygon *polygon = geometry->polygons; polygon < geometry->polygons + count; polygon++) {
+        if (geometry->is_multi) at = put_head(at, WKB_POLYGON);
+        at = put_number(at, (uint32_t)polygon->count);
+        for (size_t ring = 0; ring < polygon->count; ring++) at = put_ring(at, polygon->rings[ring], grid, pause);
+    }
+}
