@@ -4,7 +4,7 @@ ghost use Rattle.std.specs.Prelude.{◌≡◌, ◌<◌, ◌↔◌, ◌≤◌, �
 ghost use Rattle.std.specs.Int.{int_wrap};
 ghost use Rattle.i_shape_core.specs.IntPoint.{point_of, contour_of, IsSafe, IsSafeContour};
 ghost use Rattle.i_shape_core.specs.Point.{Point};
-ghost use Rattle.i_shape_core.specs.Edges.{shoelace, Inside, is_above, is_right};
+ghost use Rattle.i_shape_core.specs.Edges.{shoelace, Inside};
 ghost use Rattle.i_shape_core.specs.Winding.{winding};
 ghost use Rattle.i_shape_core.specs.Filling.{IsFilled};
 ghost use Rattle.i_shape_core.specs.Boundary.{IsOnEdge};
@@ -18,8 +18,7 @@ use crate::fill_rule::FillRule;
 use crate::number::{IntNumber, WideIntNumber};
 use crate::point::{ContourPoint, IntPoint};
 use crate::same::{are_same, last_other};
-use crate::triangle::Triangle;
-use crate::winding::{winding_about, windings_about};
+use crate::winding::{passes_right, winding_about, windings_about};
 
 /// Tests of a contour as a whole. Each takes no memory, and time linear in its points, `winding_numbers_into` for each point asked
 /// about.
@@ -209,27 +208,4 @@ fn is_inside_after<P: ContourPoint>(
         start = end;
     }
     is_inside
-}
-
-/// Whether the edge from `start` to `end` passes the height of `point` strictly to the right of it.
-pub(crate) fn passes_right<I: IntNumber>(
-    point: IntPoint<I>,
-    start: IntPoint<I>,
-    end: IntPoint<I>,
-) -> bool
-    requires point_safe { IsSafe I.width (point_of I.value point) }
-    requires start_safe { IsSafe I.width (point_of I.value start) }
-    requires end_safe { IsSafe I.width (point_of I.value end) }
-    ensures { result ≡ is_right (point_of I.value point)
-        (record { start = point_of I.value start; end = point_of I.value end }) }
-{
-    let is_start_above = start.y > point.y;
-    let is_end_above = end.y > point.y;
-    if is_start_above == is_end_above {
-        false
-    } else if is_start_above {
-        Triangle::is_clockwise(end, point, start)
-    } else {
-        Triangle::is_clockwise(start, point, end)
-    }
 }

@@ -2,11 +2,12 @@
 
 ghost use Rattle.std.specs.Prelude.{◌≡◌, ◌≤◌, ◌++◌, length, map, drop};
 ghost use Rattle.i_shape_core.specs.IntPoint.{point_of, contour_of, IsSafe, IsSafeContour};
+ghost use Rattle.i_shape_core.specs.Edges.{is_right};
 ghost use Rattle.i_shape_core.specs.Winding.{winding, winding_of_edge, IsWithinHalf};
 
-use crate::contour::passes_right;
 use crate::number::IntNumber;
 use crate::point::{ContourPoint, IntPoint};
+use crate::triangle::Triangle;
 
 /// How often the contour winds about `point`, to the left: how many edges pass the height of `point` upwards and strictly to the
 /// right of it, less those that do so downwards. That is at most half the number of points away from 0. A contour without points
@@ -78,5 +79,28 @@ fn edge_winding<I: IntNumber>(point: IntPoint<I>, start: IntPoint<I>, end: IntPo
         1
     } else {
         -1
+    }
+}
+
+/// Whether the edge from `start` to `end` passes the height of `point` strictly to the right of it.
+pub(crate) fn passes_right<I: IntNumber>(
+    point: IntPoint<I>,
+    start: IntPoint<I>,
+    end: IntPoint<I>,
+) -> bool
+    requires point_safe { IsSafe I.width (point_of I.value point) }
+    requires start_safe { IsSafe I.width (point_of I.value start) }
+    requires end_safe { IsSafe I.width (point_of I.value end) }
+    ensures { result ≡ is_right (point_of I.value point)
+        (record { start = point_of I.value start; end = point_of I.value end }) }
+{
+    let is_start_above = start.y > point.y;
+    let is_end_above = end.y > point.y;
+    if is_start_above == is_end_above {
+        false
+    } else if is_start_above {
+        Triangle::is_clockwise(end, point, start)
+    } else {
+        Triangle::is_clockwise(start, point, end)
     }
 }

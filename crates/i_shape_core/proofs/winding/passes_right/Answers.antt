@@ -1,7 +1,7 @@
 use Rattle.i_shape_core.specs.IntPoint.{point_of}
 use Rattle.i_shape_core.proofs.arithmetic.Comparisons.{gt-tells, below-tells}
 use Rattle.i_shape_core.proofs.measure.InsideWalk.{right_flat, right_down, right_up}
-use Rattle.i_shape_core.proofs.contour.passes_right.Goals as goal
+use Rattle.i_shape_core.proofs.winding.passes_right.Goals as goal
 
 pub returns-then-is_start_above-is_end_above : goal.returns-then-is_start_above-is_end_above
 returns-then-is_start_above-is_end_above g c =
