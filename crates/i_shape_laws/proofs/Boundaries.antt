@@ -53,7 +53,7 @@ between_two a p q b z w = by_lt_z (pos 0) (way_squared a p) apart (λ h. inl (su
         on_line : (a ≡ b) ⊎ ((cross p b q ≡ pos 0) × (cross p a q ≡ pos 0)) → IsBetween a p q ⊎ IsBetween q p b
         on_line (inl e) = absurd (back e h)
         on_line (inr s) = by_lt_z (dot a p q) (pos 0)
-            (λ l. inr (record { straight = triangle_identity q p b ∙ s.0; ahead = negated (dot q p b) (not_positive_of (dot a p b) (way_squared a p) (dot a p q) (neg_ℤ (dot q p b)) w.ahead h (drop (dot a p b *ℤ dot a p q) (cross a p q) (cross a p b) _ (two_ways a p q b) w.straight) (weak (dot a p q) l)) }))
+            (λ l. inr (record { straight = triangle_identity q p b ∙ s.0; ahead = negated (dot q p b) (not_positive_of (dot a p b) (way_squared a p) (dot a p q) (neg_ℤ (dot q p b)) w.ahead h (sym (drop_last _ (dot a p b *ℤ dot a p q) (cross a p q) (cross a p b) (sym (two_ways a p q b)) w.straight)) (weak (dot a p q) l)) }))
             (λ l. inl (record { straight = triangle_identity a p q ∙ triangle_identity p q a ∙ zero_reversed p a q s.1; ahead = l }))
           where
             negated : (x : ℤ) → neg_ℤ x ≤ℤ pos 0 → pos 0 ≤ℤ x
@@ -61,9 +61,6 @@ between_two a p q b z w = by_lt_z (pos 0) (way_squared a p) apart (λ h. inl (su
 
             weak : (x : ℤ) → x <ℤ pos 0 → x ≤ℤ pos 0
             weak x g = omega (arith, ints)
-
-            drop : (u v t s : ℤ) → u +ℤ v *ℤ t ≡ s → t ≡ pos 0 → u ≡ s
-            drop u v t s e f = sym (drop_last s u v t (sym e) f)
 
 -- ---- removals
 without_point : (c : List Point) (k : ℕ) (p : Point) → IsZeroTurn (point_at c (place_before (length c) k)) (point_at c k) (point_at c (place_after (length c) k)) → k < length c → IsOnEdge (remove c k) p → IsOnEdge c p

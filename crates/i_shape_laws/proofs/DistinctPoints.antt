@@ -1,5 +1,5 @@
 -- Parts of a list without repeated points are told by their points.
-use Rattle.std.proofs.Common.{◌≡◌, ℕ, zero, suc, ◌≤◌, ◌⊎◌, List, [], ◌∷◌, ◌++◌, length, take, drop, inl, inr, refl, sym, ap, subst, arith}
+use Rattle.std.proofs.Common.{◌≡◌, ℕ, zero, suc, ◌⊎◌, List, [], ◌∷◌, ◌++◌, take, drop, inl, inr, refl, sym, ap, subst, arith}
 use Rattle.i_shape_core.specs.Point.{Point}
 use Rattle.i_shape_core.specs.Contour.{Test, Reach, stay, step, Rotation, SameEnd, collapsed, rotated}
 use Rattle.i_shape_laws.specs.Ends.{IsIn, Distinct, OneCertainEnd}

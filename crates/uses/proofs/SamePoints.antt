@@ -1,21 +1,12 @@
 -- What comparing lists of the program's points says of the contours that they stand for.
-use Rattle.std.proofs.Common.{◌≡◌, ◌≢◌, ◌↔◌, ◌<◌, ℕ, Bool, true, false, ◌&&◌, IsTrue, MatchBool, Decides, ℤ, List, [], ◌∷◌}
-use Rattle.std.proofs.Common.{Contains, HoldsAt, length, get_or, map, refl, sym, ap, ◌∙◌, arith}
+use Rattle.std.proofs.Common.{◌≡◌, ◌≢◌, ◌↔◌, ◌<◌, ℕ, Bool, true, false, IsTrue, MatchBool, Decides, List, [], ◌∷◌}
+use Rattle.std.proofs.Common.{Contains, HoldsAt, length, get_or, map, refl, sym, ◌∙◌, arith}
 use Rattle.std.specs.List.{AllWithin}
 use Rattle.std.specs.Cmp.Lexicographic.{pointwise}
 use Rattle.std.proofs.lemmas.Bool.Decides.{Decides-and, Decides-like}
 use Rattle.std.proofs.lemmas.Iterator.Search.{true_from_Any}
 use Rattle.std.proofs.lemmas.List.{get_or-map, length-map}
 use Rattle.std.proofs.lemmas.List.Elements.{Contains-get_or}
-use Rattle.i_shape.specs.IntPoint.{point_of}
-use Rattle.i_shape.specs.IntPoints.{IntPoint}
-
--- points whose coordinates are compared stand for one point where both are equal
-pub points_decided : {I : Type 0} (value : I → ℤ) (E : I → I → Bool) → ((a b : I) → IsTrue (E a b) ↔ (value a ≡ value b))
-    → (p q : IntPoint I) → Decides (E p.x q.x && E p.y q.y) (point_of value p ≡ point_of value q)
-points_decided value E same p q =
-    Decides-like _ (λ h. λ i. record { x = h.0 i; y = h.1 i }) (λ e. (ap (λ r. r.x) e, ap (λ r. r.y) e))
-    (Decides-and (E p.x q.x) (E p.y q.y) (same p.x q.x) (same p.y q.y))
 
 -- where a test of two members decides whether f gives the same for them, it decides so for two lists
 pub lists_decided : {X Y : Type 0} (E : X → X → Bool) (f : X → Y) → ((a b : X) → Decides (E a b) (f a ≡ f b))

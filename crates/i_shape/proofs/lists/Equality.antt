@@ -1,12 +1,10 @@
 -- What comparing two lists member by member says.
-use Rattle.std.proofs.Common.{◌≡◌, ℕ, ◌==◌, ◌&&◌, Bool, IsTrue, ◌↔◌, Decides, ℤ, List, [], ◌∷◌, refl, sym, ap, subst}
+use Rattle.std.proofs.Common.{◌≡◌, ℕ, ◌==◌, ◌&&◌, Bool, IsTrue, Decides, List, [], ◌∷◌, refl, sym, ap, subst}
 use Rattle.std.specs.List.{AllZip}
 use Rattle.std.specs.Cmp.Lexicographic.{pointwise}
 use Rattle.std.specs.declared.ops.Range.{Range}
 use Rattle.std.proofs.lemmas.Bool.Decides.{Decides-and, Decides-like, Decides-eqb}
 use Rattle.std.proofs.lemmas.List.Elements.{same_from_all_zip}
-use Rattle.i_shape_core.specs.declared.point.IntPoint.{IntPoint}
-use Rattle.i_shape_core.proofs.plane.Contours.{points-same}
 
 module _ {X : Type 0} (E : X → X → Bool) where
   -- lists are told equal where they are of one length and each pair of members is told equal
@@ -26,13 +24,6 @@ module _ {X : Type 0} (E : X → X → Bool) where
       Decides-like _ (λ h. sym (same_from_all_zip (λ x y. IsTrue (E x y)) xs ys h (λ x y t. sym ((decides x y).0 t))))
       (λ e. subst (λ zs. AllZip (λ x y. IsTrue (E x y)) xs zs) e (with_itself (λ x. (decides x x).1 refl) xs))
       (pairs_decided xs ys)
-
--- points whose coordinates are told equal where they stand for one number
-pub points_decided : {I : Type 0} (value : I → ℤ) (E : I → I → Bool) → ((a b : I) → IsTrue (E a b) ↔ (value a ≡ value b))
-    → ((a b : I) → value a ≡ value b → a ≡ b) → (p q : IntPoint I) → Decides (E p.x q.x && E p.y q.y) (p ≡ q)
-points_decided value E told one p q =
-    Decides-like _ (λ h. points-same value one p q h.0 h.1) (λ e. (ap (λ r. value r.x) e, ap (λ r. value r.y) e))
-    (Decides-and (E p.x q.x) (E p.y q.y) (told p.x q.x) (told p.y q.y))
 
 -- ranges are told equal by their ends
 range_decided : (r s : Range ℕ) → Decides (r.start == s.start && r.end == s.end) (r ≡ s)

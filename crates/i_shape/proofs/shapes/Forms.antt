@@ -18,6 +18,7 @@ use Rattle.i_shape_core.specs.Winding.{winding}
 use Rattle.i_shape_core.specs.Moves.{moved, scaling}
 use Rattle.i_shape_core.specs.Cleaners.{EachEndCollapses}
 use Rattle.i_shape_core.specs.Canonical.{IsAtMost, CanonicalAnswer, Joined, UnorientedAnswer, IsKeptEitherWay, JoinedEitherWay}
+use Rattle.i_shape_core.proofs.arithmetic.WholeNumbers.{add_swap}
 use Rattle.i_shape_core.proofs.least_rotation.Order.{at_most_refl, at_most_total, at_most_trans, at_most_antisym}
 use Rattle.i_shape_core.proofs.forms.Unoriented.{canonical_uncollapsed, canonical_one, has_canonical, canonical_again, canonical_kept, unoriented_uncollapsed, unoriented_one, has_unoriented, unoriented_again, unoriented_kept}
 use Rattle.i_shape.specs.ShapeAnswers.{Survivors, sum_of, shape_winding, inside_count, ShapeClean, AreKept}
@@ -172,11 +173,8 @@ pub unoriented_has_list : (s : List (List (List Point))) → HasListForm Unorien
 unoriented_has_list = has_list_form UnorientedAnswer JoinedEitherWay (λ c. iff_itself) unoriented_uncollapsed unoriented_one has_unoriented unoriented_again
 
 -- what forms keep of shapes
-sum_exchanged : (a b c : ℤ) → a +ℤ (b +ℤ c) ≡ b +ℤ (a +ℤ c)
-sum_exchanged a b c = omega (arith, ints)
-
 sum_shuffled : {X : Type 0} (f : X → ℤ) (xs ys : List X) → IsPermutation xs ys → sum_of f xs ≡ sum_of f ys
-sum_shuffled f = along_permutation (λ xs ys. sum_of f xs ≡ sum_of f ys) (λ xs. refl) (λ x xs ys h. ap (λ z. f x +ℤ z) h) (λ x y xs. sum_exchanged (f x) (f y) (sum_of f xs)) (λ xs ys zs h k. h ∙ k)
+sum_shuffled f = along_permutation (λ xs ys. sum_of f xs ≡ sum_of f ys) (λ xs. refl) (λ x xs ys h. ap (λ z. f x +ℤ z) h) (λ x y xs. add_swap (f x) (f y) (sum_of f xs)) (λ xs ys zs h k. h ∙ k)
 
 inside_shuffled : (k l : List (List Point)) → IsPermutation k l → (p : Point) → inside_count l p ≡ inside_count k p
 unfolding inside_count

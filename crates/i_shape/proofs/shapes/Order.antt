@@ -1,19 +1,12 @@
 -- The order of shapes, contour by contour.
 use Rattle.std.proofs.Common.{◌≡◌, ◌⊎◌, inl, inr, List, [], ◌∷◌, refl, sym, ◌∙◌, subst}
 use Rattle.i_shape_core.specs.Point.{Point}
-use Rattle.i_shape_core.specs.Canonical.{IsBefore, IsAtMost}
-use Rattle.i_shape_core.proofs.least_rotation.Order.{Order3, comes_before, comes_level, comes_after, order3, before_clash, at_most_total, at_most_trans, at_most_antisym}
+use Rattle.i_shape_core.specs.Canonical.{IsAtMost}
+use Rattle.i_shape_core.proofs.removal.Repeats.{same_decided}
+use Rattle.i_shape_core.proofs.least_rotation.Order.{at_most_total, at_most_trans, at_most_antisym}
 use Rattle.i_shape.specs.CanonicalShapes.{IsShapeAtMost}
 
--- equality of points, of lists and so on is decided
-point_decided : (p q : Point) → Dec (p ≡ q)
-point_decided p q = go (order3 p q)
-  where
-    go : Order3 p q → Dec (p ≡ q)
-    go (comes_before h) = no (λ e. let x = subst (λ (z : Point). IsBefore p z) (sym e) h in before_clash p p x x)
-    go (comes_level e) = yes e
-    go (comes_after h) = no (λ e. let x = subst (λ (z : Point). IsBefore z p) (sym e) h in before_clash p p x x)
-
+-- equality of lists and so on is decided
 module _ {X : Type 0} (decide : (x y : X) → Dec (x ≡ y)) where
   list_decided : (xs ys : List X) → Dec (xs ≡ ys)
   list_decided [] [] = yes refl
@@ -28,7 +21,7 @@ module _ {X : Type 0} (decide : (x y : X) → Dec (x ≡ y)) where
 
 -- two contours are one, or they are not
 pub contour_decided : (c d : List Point) → Dec (c ≡ d)
-contour_decided = list_decided point_decided
+contour_decided = list_decided same_decided
 
 -- two shapes are one, or they are not
 pub shape_decided : (s t : List (List Point)) → Dec (s ≡ t)

@@ -8,7 +8,7 @@ use Rattle.i_shape_core.specs.IntPoint.{IsSafe, IsSafeContour, IsSafeCoordinate}
 use Rattle.i_shape_core.specs.Point.{Point, cross, origin, IsZeroTurn}
 use Rattle.i_shape_core.specs.Widths.{bits, hbits}
 use Rattle.i_shape_core.proofs.arithmetic.Coordinates.{safe-difference}
-use Rattle.i_shape_core.proofs.arithmetic.WholeNumbers.{equal_of_difference}
+use Rattle.i_shape_core.proofs.arithmetic.WholeNumbers.{equal_of_difference, difference_of_equal}
 use Rattle.i_shape_core.proofs.arithmetic.Products.{InReach, reach-fits, widened, product-fits, products-told}
 use lib.Lanes.{top}
 
@@ -64,13 +64,10 @@ zero_products : (a b c : Point) → IsZeroTurn a b c → (b.x -ℤ a.x) *ℤ (c.
 unfolding cross
 zero_products a b c z = equal_of_difference ((b.x -ℤ a.x) *ℤ (c.y -ℤ b.y)) ((b.y -ℤ a.y) *ℤ (c.x -ℤ b.x)) z
 
-none_between : (x y : ℤ) → x ≡ y → x -ℤ y ≡ pos 0
-none_between x y e = omega (arith, ints, e)
-
 -- and only those
 zero_of : (a b c : Point) → (b.x -ℤ a.x) *ℤ (c.y -ℤ b.y) ≡ (b.y -ℤ a.y) *ℤ (c.x -ℤ b.x) → IsZeroTurn a b c
 unfolding cross
-zero_of a b c e = none_between ((b.x -ℤ a.x) *ℤ (c.y -ℤ b.y)) ((b.y -ℤ a.y) *ℤ (c.x -ℤ b.x)) e
+zero_of a b c e = difference_of_equal ((b.x -ℤ a.x) *ℤ (c.y -ℤ b.y)) ((b.y -ℤ a.y) *ℤ (c.x -ℤ b.x)) e
 
 -- a turn is a zero turn where the lanes of its two products are equal
 turn_told : (w W : Width) → hbits W ≡ 2 * hbits w + 1 → 2 ≤ hbits w → bits w ≡ hbits w + 1 → (a b c : Point) → IsSafe w a → IsSafe w b → IsSafe w c

@@ -3,7 +3,7 @@
 use Rattle.std.proofs.Common.{T, ◌≡◌, ℕ, zero, suc, Bool, true, false, cond, eqb, ltb, List, [], ◌∷◌, get_or, ℤ, pos, negsuc, ◌+ℤ◌, ◌*ℤ◌, neg_ℤ, ap, refl, sym, subst, ◌∙◌, arith}
 use Rattle.std.proofs.lemmas.Int.{ints}
 use lib.Dec.{eqb→eq}
-use Rattle.i_shape_core.proofs.arithmetic.WholeNumbers.{add-mul, mul-add, mul_assoc, mul_comm, zero-mul, one-mul, zero_add, equal_of_difference}
+use Rattle.i_shape_core.proofs.arithmetic.WholeNumbers.{add-mul, mul-add, mul_assoc, mul_comm, zero-mul, one-mul, zero_add, equal_of_difference, add_assoc, add_swap}
 
 -- a polynomial as it is written
 pub data Term : Type 0 where
@@ -105,12 +105,6 @@ same_is (j ∷ js) (k ∷ ks) h = first (same_is js ks) (eqb j k) refl h
 same_is_path : (js ks : List ℕ) → same_variables js ks ≡ true → js ≡ ks
 same_is_path js ks e = same_is js ks (subst T (sym e) tt)
 
-swapped : (a b c : ℤ) → a +ℤ (b +ℤ c) ≡ b +ℤ (a +ℤ c)
-swapped a b c = omega (arith, ints)
-
-regrouped : (a b c : ℤ) → (a +ℤ b) +ℤ c ≡ a +ℤ (b +ℤ c)
-regrouped a b c = omega (arith, ints)
-
 kept_total : (v : List ℤ) (n : ℤ) (ks : List ℕ) (ms : List Monomial) → total v (unless_zero n ks ms) ≡ n *ℤ product v ks +ℤ total v ms
 kept_total v (pos zero) ks ms = sym (ap (λ (z : ℤ). z +ℤ total v ms) (zero-mul (product v ks)) ∙ zero_add (total v ms))
 kept_total v (pos (suc n)) ks ms = refl
@@ -123,16 +117,16 @@ with_monomial_total v n ks (m ∷ ms) = step (with_monomial_total v n ks ms) (sa
     step : total v (with_monomial n ks ms) ≡ n *ℤ product v ks +ℤ total v ms → (t : Bool) → same_variables ks m.places ≡ t → total v (cond t (unless_zero (n +ℤ m.factor) ks ms) (m ∷ with_monomial n ks ms)) ≡ n *ℤ product v ks +ℤ (m.factor *ℤ product v m.places +ℤ total v ms)
     step rest true e = kept_total v (n +ℤ m.factor) ks ms
         ∙ ap (λ (z : ℤ). z +ℤ total v ms) (add-mul n m.factor (product v ks))
-        ∙ regrouped (n *ℤ product v ks) (m.factor *ℤ product v ks) (total v ms)
+        ∙ add_assoc (n *ℤ product v ks) (m.factor *ℤ product v ks) (total v ms)
         ∙ ap (λ (ns : List ℕ). n *ℤ product v ks +ℤ (m.factor *ℤ product v ns +ℤ total v ms)) (same_is_path ks m.places e)
     step rest false e = ap (λ (z : ℤ). m.factor *ℤ product v m.places +ℤ z) rest
-        ∙ swapped (m.factor *ℤ product v m.places) (n *ℤ product v ks) (total v ms)
+        ∙ add_swap (m.factor *ℤ product v m.places) (n *ℤ product v ks) (total v ms)
 
 sum_of_total : (v : List ℤ) (ms qs : List Monomial) → total v (sum_of ms qs) ≡ total v ms +ℤ total v qs
 sum_of_total v [] qs = sym (zero_add (total v qs))
 sum_of_total v (m ∷ ms) qs = with_monomial_total v m.factor m.places (sum_of ms qs)
     ∙ ap (λ (z : ℤ). m.factor *ℤ product v m.places +ℤ z) (sum_of_total v ms qs)
-    ∙ sym (regrouped (m.factor *ℤ product v m.places) (total v ms) (total v qs))
+    ∙ sym (add_assoc (m.factor *ℤ product v m.places) (total v ms) (total v qs))
 
 swapped_factors : (a b c : ℤ) → a *ℤ (b *ℤ c) ≡ b *ℤ (a *ℤ c)
 swapped_factors a b c = sym (mul_assoc a b c) ∙ ap (λ (z : ℤ). z *ℤ c) (mul_comm a b) ∙ mul_assoc b a c

@@ -1,5 +1,5 @@
 -- Laws of ℤ that the library lacks.
-use Rattle.std.proofs.Common.{◌≡◌, ℕ, zero, suc, ◌*◌, ℤ, pos, negsuc, ◌+ℤ◌, ◌-ℤ◌, ◌*ℤ◌, ◌≤ℤ◌, ◌<ℤ◌, int_lt, true, false, ap, refl, sym, ◌∙◌, arith, ◌⊎◌, inl, inr}
+use Rattle.std.proofs.Common.{◌≡◌, ℕ, zero, suc, ◌*◌, ℤ, pos, negsuc, ◌+ℤ◌, ◌-ℤ◌, ◌*ℤ◌, neg_ℤ, ◌≤ℤ◌, ◌<ℤ◌, int_lt, true, false, ap, refl, sym, ◌∙◌, arith, ◌⊎◌, inl, inr}
 use Rattle.std.proofs.lemmas.Int.{ints}
 use borrow.Author.Differences.{up, down, sum_is_lem, product_is}
 
@@ -38,13 +38,33 @@ zero-mul a = omega (arith, ints)
 pub one-mul : (a : ℤ) → pos 1 *ℤ a ≡ a
 one-mul a = omega (arith, ints)
 
+-- a number times zero
+pub mul-zero : (a : ℤ) → a *ℤ pos 0 ≡ pos 0
+mul-zero a = omega (arith, ints)
+
 -- zero and a number
 pub zero_add : (a : ℤ) → pos 0 +ℤ a ≡ a
 zero_add a = omega (arith, ints)
 
+-- the grouping of summands doesn't matter
+pub add_assoc : (a b c : ℤ) → (a +ℤ b) +ℤ c ≡ a +ℤ (b +ℤ c)
+add_assoc a b c = omega (arith, ints)
+
+-- nor does their order
+pub add_swap : (a b c : ℤ) → a +ℤ (b +ℤ c) ≡ b +ℤ (a +ℤ c)
+add_swap a b c = omega (arith, ints)
+
+-- naturals that are one number
+pub pos_injective : (m n : ℕ) → pos m ≡ pos n → m ≡ n
+pos_injective m n e = omega (arith, ints)
+
 -- numbers without a difference are equal
 pub equal_of_difference : (a b : ℤ) → a -ℤ b ≡ pos 0 → a ≡ b
 equal_of_difference a b e = omega (arith, ints)
+
+-- and equal numbers have none
+pub difference_of_equal : (a b : ℤ) → a ≡ b → a -ℤ b ≡ pos 0
+difference_of_equal a b e = omega (arith, ints)
 
 -- multiples of zero add up to zero
 pub sum_of_zeros : (v w : ℤ) → v *ℤ pos 0 +ℤ w *ℤ pos 0 ≡ pos 0
@@ -69,6 +89,18 @@ zero_product (negsuc a) (pos (suc b)) e = absurd (omega (arith, ints))
 zero_product (negsuc a) (negsuc b) e = absurd (omega (arith, ints))
 
 -- ---- order
+-- zero is at most zero
+pub low_of_zero : (x : ℤ) → x ≡ pos 0 → x ≤ℤ pos 0
+low_of_zero x e = omega (arith, ints)
+
+-- zero isn't above zero
+pub zero_not_above : (x : ℤ) → x ≡ pos 0 → pos 0 <ℤ x → ⊥
+zero_not_above x e h = omega (arith, ints)
+
+-- nor below it
+pub zero_not_below : (x : ℤ) → x ≡ pos 0 → x <ℤ pos 0 → ⊥
+zero_not_below x e h = omega (arith, ints)
+
 pub square_not_negative : (x : ℤ) → pos 0 ≤ℤ (x *ℤ x)
 square_not_negative (pos n) = omega (arith, ints)
 square_not_negative (negsuc n) = omega (arith, ints)
@@ -126,6 +158,18 @@ drop_last u v w z f g = f ∙ ap (λ (t : ℤ). v +ℤ w *ℤ t) g ∙ plus_zero
     plus_zero v w = omega (arith, ints)
 
 -- ---- signs
+-- a negated number is below zero where the number is above it
+pub below_negated : (x : ℤ) → int_lt (neg_ℤ x) (pos 0) ≡ int_lt (pos 0) x
+below_negated (pos zero) = refl
+below_negated (pos (suc n)) = omega (arith, ints)
+below_negated (negsuc n) = sym (omega (arith, ints))
+
+-- and above it where the number is below it
+pub above_negated : (x : ℤ) → int_lt (pos 0) (neg_ℤ x) ≡ int_lt x (pos 0)
+above_negated (pos zero) = refl
+above_negated (pos (suc n)) = omega (arith, ints)
+above_negated (negsuc n) = sym (omega (arith, ints))
+
 -- both are below 0 or none is, and both are above 0 or none is
 pub record Alike (x y : ℤ) : Type 0 where
   pub below : int_lt x (pos 0) ≡ int_lt y (pos 0)

@@ -11,7 +11,8 @@ use Rattle.i_shape_core.specs.Walks.{IsBend, bend_of_both}
 use Rattle.i_shape_core.specs.declared.bend.Bend.{Bend}
 use Rattle.i_shape_core.specs.declared.bend.Bend.TheVariants.{Straight, Left, Right, Reversal}
 use Rattle.i_shape_core.proofs.arithmetic.Polynomials.{number, by_polynomials}
-use Rattle.i_shape_core.proofs.plane.CrossProducts.{A, B, cross_term, dot_term, coordinates, cross-same}
+use Rattle.i_shape_core.proofs.plane.CrossProducts.{A, B, cross_term, coordinates, cross-same}
+use Rattle.i_shape_core.proofs.plane.Back.{dot-same}
 use Rattle.i_shape_core.proofs.convex.Laws.{IsLeft, IsRight, IsReversed}
 use Rattle.i_shape_core.proofs.convex.Around.{Passed, Met, Changed, changed_start, changed_skip, changed_on, changed_end, met_is, last_of_dedup, bulges_by_walk}
 use Rattle.i_shape_core.proofs.plane.Contours.{rest-read, rest-none}
@@ -233,16 +234,12 @@ bending_repeat value cs seen repeats i e p x h r a w = record {
       (subst (Bending (contour_of value cs) seen w.passed w.behind (point_of value p)) (rest-read value cs i x h r) w.bending);
 }
 
-dot_still : (o p : Point) → dot o p p ≡ pos 0
-unfolding dot
-dot_still o p = by_polynomials (coordinates (o ∷ p ∷ [])) (dot_term A B B) (number (pos 0)) refl
-
 -- the way over a point to the same point goes straight on
 straight_still : (o p : Point) (b : Bend) → IsBend o p p b → b ≡ Straight
 straight_still o p Straight h = refl
 straight_still o p Left h = let z = cross-same o p in absurd (omega (arith, ints))
 straight_still o p Right h = let z = cross-same o p in absurd (omega (arith, ints))
-straight_still o p Reversal h = let z = dot_still o p in let k = h.1 in absurd (omega (arith, ints))
+straight_still o p Reversal h = let z = dot-same o p in let k = h.1 in absurd (omega (arith, ints))
 
 -- so where a way bends, its edge leads to another point
 differ : (o p q : Point) (b : Bend) → IsBend o p q b → (b ≡ Straight → is_same p q ≡ false) → is_same p q ≡ false

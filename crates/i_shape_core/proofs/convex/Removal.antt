@@ -1,25 +1,15 @@
 -- The removal of straight points keeps which way a contour turns.
-use Rattle.std.proofs.Common.{◌≡◌, ◌≢◌, ℕ, zero, suc, ◌+◌, ◌-◌, ◌<◌, List, length, remove, ℤ, pos, negsuc, ◌+ℤ◌, ◌*ℤ◌, neg_ℤ, ◌≤ℤ◌, ◌<ℤ◌, int_lt, T, refl, sym, ap, subst, ◌∙◌, arith, ◌⊎◌, inl, inr, ◌↔◌}
+use Rattle.std.proofs.Common.{◌≡◌, ◌≢◌, ℕ, ◌+◌, ◌-◌, ◌<◌, List, length, remove, ℤ, pos, ◌+ℤ◌, ◌*ℤ◌, neg_ℤ, ◌≤ℤ◌, ◌<ℤ◌, int_lt, T, refl, sym, ap, subst, ◌∙◌, arith, ◌⊎◌, inl, inr, ◌↔◌}
 use Rattle.std.proofs.lemmas.Int.{ints}
 use Rattle.std.proofs.lemmas.List.Edits.{length-remove}
 use Rattle.i_shape_core.specs.Point.{Point, cross, dot, IsZeroTurn}
 use Rattle.i_shape_core.specs.Contour.{point_at, place_before, place_after, IsRemovable, Step, Reach, stay, step}
 use Rattle.i_shape_core.specs.Convex.{cross_at, BendsOneWay}
 use Rattle.i_shape_core.proofs.plane.CrossProducts.{cross_reversed, zero_reversed, dot_reversed}
-use Rattle.i_shape_core.proofs.arithmetic.WholeNumbers.{Alike, alike_same, alike_scaled, sum_above, drop_last}
+use Rattle.i_shape_core.proofs.arithmetic.WholeNumbers.{Alike, alike_same, alike_scaled, sum_above, drop_last, below_negated, above_negated, zero_not_above, zero_not_below}
 use Rattle.i_shape_core.proofs.plane.Back.{straight_cross, way_squared, square_at_least, no_way, back_from_cases}
 use Rattle.i_shape_core.proofs.removal.Places.{Follows, after_is, before_is, Stood, place_stood, stood_point, stood_within, follows_over, before_from, after_from, before_within, one_neighbour}
 use Rattle.i_shape_core.proofs.removal.WithoutBack.{HasNoBack, none_in_a_row, zero_turn_straight, no_back_after_step}
-
-below_negated : (x : ℤ) → int_lt (neg_ℤ x) (pos 0) ≡ int_lt (pos 0) x
-below_negated (pos zero) = refl
-below_negated (pos (suc n)) = omega (arith, ints)
-below_negated (negsuc n) = sym (omega (arith, ints))
-
-above_negated : (x : ℤ) → int_lt (pos 0) (neg_ℤ x) ≡ int_lt x (pos 0)
-above_negated (pos zero) = refl
-above_negated (pos (suc n)) = omega (arith, ints)
-above_negated (negsuc n) = sym (omega (arith, ints))
 
 alike_negated : (x y x' y' : ℤ) → x' ≡ neg_ℤ x → y' ≡ neg_ℤ y → Alike x y → Alike x' y'
 alike_negated x y x' y' e f a = record {
@@ -150,12 +140,6 @@ one_way_before c k h r w = record {
 
     zero : (m : ℕ) → m ≡ k → cross_at c m ≡ pos 0
     zero m e = ap (cross_at c) e ∙ zero_at c k r
-
-    zero_not_above : (x : ℤ) → x ≡ pos 0 → pos 0 <ℤ x → ⊥
-    zero_not_above x e h = omega (arith, ints)
-
-    zero_not_below : (x : ℤ) → x ≡ pos 0 → x <ℤ pos 0 → ⊥
-    zero_not_below x e h = omega (arith, ints)
 
     go : (m n : ℕ) → pos 0 <ℤ cross_at c m → cross_at c n <ℤ pos 0
         → (i : ℕ) × (i < length (remove c k)) × Stood k i m → (j : ℕ) × (j < length (remove c k)) × Stood k j n → ⊥

@@ -8,6 +8,7 @@ use Rattle.i_shape_core.specs.declared.point.IntPoint.{IntPoint}
 use Rattle.i_shape_core.specs.Contour.{Step, Rotation}
 use Rattle.i_shape_core.specs.Edges.{Edge, edges_between, edges, sum_of, area_of_edge, shoelace, is_above, is_right, Inside}
 use Rattle.i_shape_core.specs.Canonical.{IsLeast, IsCanonical, by_rotation, by_removal, by_insertion, Joined, alone, link}
+use Rattle.i_shape_core.proofs.arithmetic.WholeNumbers.{pos_injective}
 use Rattle.i_shape_core.proofs.arithmetic.Polynomials.{variable, plus, times, minus, by_polynomials}
 use Rattle.i_shape_core.proofs.measure.Edges.{sum_alike}
 use Rattle.i_shape_core.proofs.removal.Rotations.{rotation_sym, rotation_trans, rotation_length}
@@ -63,10 +64,7 @@ right_flipped p e = go (is_above p e.start) (is_above p e.end) (int_lt (cross e.
     go false false x y = refl
 
 count_reversed : (p : Point) (c : List Point) → count_by (is_right p) (edges (reverse c)) ≡ count_by (is_right p) (edges c)
-count_reversed p c = of_sums _ _ (sym (count_as_sum p (edges (reverse c))) ∙ sum_reversed (λ e. pos (bit_of_edge p e)) c ∙ sum_alike _ _ (λ e. ap (λ b. pos (bit_of b)) (right_flipped p e)) (edges c) ∙ count_as_sum p (edges c))
-  where
-    of_sums : (m n : ℕ) → pos m ≡ pos n → m ≡ n
-    of_sums m n e = omega (arith, ints)
+count_reversed p c = pos_injective _ _ (sym (count_as_sum p (edges (reverse c))) ∙ sum_reversed (λ e. pos (bit_of_edge p e)) c ∙ sum_alike _ _ (λ e. ap (λ b. pos (bit_of b)) (right_flipped p e)) (edges c) ∙ count_as_sum p (edges c))
 
 -- and the same points inside
 pub inside_reversed : (c : List Point) (p : Point) → Inside (reverse c) p ↔ Inside c p

@@ -2,7 +2,7 @@
 use Rattle.std.proofs.Common.{◌≡◌, ◌↔◌, ◌∙◌, ℕ, ◌+◌, ◌-◌, ◌<◌, ◌≤◌, List, [], ◌∷◌, ◌++◌, length, take, drop, slice_range, get_or, map, Bool, ◌&&◌, IsTrue, Some, refl, subst, sym, ap, arith, length-drop}
 use Rattle.std.specs.List.{All}
 use Rattle.std.proofs.lemmas.Bool.Decides.{Decides-and}
-use Rattle.std.proofs.lemmas.List.{take_all, take_more, take-take, take-append-drop, drop-take}
+use Rattle.std.proofs.lemmas.List.{map-append, take_all, take_more, take-take, take-append-drop, drop-take}
 use Rattle.std.proofs.lemmas.List.Elements.{All-nil, All-cons, All-head, All-tail, All-push, All-pop, All-map, All-append, All-take, All-drop}
 
 module _ {X : Type 0} where
@@ -44,3 +44,8 @@ module _ {X Y : Type 0} (P : X → Type 0) (f : Y → X) where
   -- what holds of each member, read through a function, is what holds of each member of the mapped list
   pub all_mapped : (ys : List Y) → All (λ y. P (f y)) ys ↔ All P (map f ys)
   all_mapped ys = (All-map P f ys, unmapped ys)
+
+-- what holds of each member, read through a function, and of one more holds of all
+pub all_pushed : {X Y : Type 0} (f : X → Y) (P : Y → Type 0) (xs ys : List X) (x : X) → ys ≡ xs ++ x ∷ [] → All P (map f xs) → P (f x) → All P (map f ys)
+all_pushed {X} f P xs ys x e holds one =
+    subst (λ (zs : List X). All P (map f zs)) (sym e) (subst (All P) (sym (map-append f xs (x ∷ []))) (All-push P (map f xs) (f x) holds one))

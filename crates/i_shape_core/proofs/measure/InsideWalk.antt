@@ -1,6 +1,5 @@
 -- The walk over a contour that starts from its last point, and counts the edges that pass a point on its right.
-use Rattle.std.proofs.Common.{◌≡◌, ℕ, suc, ◌+◌, ◌%◌, ◌<◌, ◌≤◌, List, [], ◌∷◌, ◌++◌, length, drop, get_or, ℤ, pos, int_lt, refl, sym, ap, subst, ◌∙◌, arith, ◌↔◌, Bool, true, false, not, cond, count_by, IsTrue, neg_ℤ, ◌-◌}
-use Rattle.std.proofs.lemmas.Int.{ints}
+use Rattle.std.proofs.Common.{◌≡◌, ℕ, suc, ◌+◌, ◌%◌, ◌<◌, ◌≤◌, List, [], ◌∷◌, ◌++◌, length, drop, get_or, ℤ, pos, int_lt, refl, sym, ap, subst, ◌∙◌, arith, ◌↔◌, Bool, true, false, not, cond, count_by, IsTrue, ◌-◌}
 use Rattle.i_shape_core.specs.IntPoint.{point_of, contour_of}
 use Rattle.i_shape_core.specs.declared.point.IntPoint.{IntPoint}
 use Rattle.std.proofs.lemmas.List.Sums.{sum_by-cons, sum_by_push}
@@ -31,15 +30,6 @@ pub right_up : (p a b : Point) (s t r : Bool) → s ≡ int_lt p.y a.y → t ≡
 right_up p a b false true r e f h k g = g ∙ sym (right_when p a b false true (sym e) (sym f))
 right_up p a b false false r e f h k g = absurd (cc)
 right_up p a b true t r e f h k g = absurd (cc)
-
-opposite : (z : ℤ) → int_lt (neg_ℤ z) (pos 0) ≡ int_lt (pos 0) z
-opposite z = go (int_lt (neg_ℤ z) (pos 0)) (int_lt (pos 0) z) refl refl
-  where
-    go : (s t : Bool) → int_lt (neg_ℤ z) (pos 0) ≡ s → int_lt (pos 0) z ≡ t → s ≡ t
-    go true true e f = refl
-    go true false e f = absurd (omega (arith, ints))
-    go false true e f = absurd (omega (arith, ints))
-    go false false e f = refl
 
 -- the edges of a closed path are those of the open path, and the closing one
 pub between_is : (a : Point) (bs : List Point) (z : Point) → edges_between a bs z ≡ path_over a bs ++ edge (last_of a bs) z ∷ []

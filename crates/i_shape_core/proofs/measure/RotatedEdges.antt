@@ -1,10 +1,11 @@
 -- Rotations have the same edges, so the same sums over them, and as many to the right of a point.
-use Rattle.std.proofs.Common.{◌≡◌, ℕ, List, [], ◌∷◌, ◌++◌, ℤ, pos, ◌+ℤ◌, sym, ap, ◌∙◌, arith, append-nil}
+use Rattle.std.proofs.Common.{◌≡◌, List, [], ◌∷◌, ◌++◌, ℤ, pos, ◌+ℤ◌, sym, ap, ◌∙◌, arith, append-nil}
 use Rattle.std.specs.List.{count_by}
 use Rattle.std.proofs.lemmas.Int.{ints}
 use Rattle.i_shape_core.specs.Point.{Point}
 use Rattle.i_shape_core.specs.Contour.{Rotation}
 use Rattle.i_shape_core.specs.Edges.{Edge, edges_between, edges, sum_of, is_right}
+use Rattle.i_shape_core.proofs.arithmetic.WholeNumbers.{pos_injective}
 use Rattle.i_shape_core.proofs.measure.Inside.{bit_of_edge, count_as_sum}
 
 -- a sum over the edges of a path is that up to one of its points and that from there on
@@ -28,7 +29,4 @@ same_sum f c d r =
 
 -- rotations have as many edges to the right of a point
 pub same_count : (p : Point) (c d : List Point) → Rotation c d → count_by (is_right p) (edges c) ≡ count_by (is_right p) (edges d)
-same_count p c d r = of_sums _ _ (sym (count_as_sum p (edges c)) ∙ same_sum (λ e. pos (bit_of_edge p e)) c d r ∙ count_as_sum p (edges d))
-  where
-    of_sums : (m n : ℕ) → pos m ≡ pos n → m ≡ n
-    of_sums m n e = omega (arith, ints)
+same_count p c d r = pos_injective _ _ (sym (count_as_sum p (edges c)) ∙ same_sum (λ e. pos (bit_of_edge p e)) c d r ∙ count_as_sum p (edges d))

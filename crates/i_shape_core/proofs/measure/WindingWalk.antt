@@ -10,6 +10,7 @@ use Rattle.i_shape_core.specs.Winding.{level, winding_of_edge, winding, IsWithin
 use Rattle.i_shape_core.specs.Convex.{last_of}
 use Rattle.i_shape_core.specs.Blocks.{path_over, winding_over}
 use Rattle.std.specs.Int.{Width}
+use Rattle.i_shape_core.proofs.arithmetic.WholeNumbers.{add_assoc}
 use Rattle.i_shape_core.proofs.plane.Contours.{rest-read, rest-none}
 use Rattle.i_shape_core.proofs.measure.Edges.{sum_push}
 use Rattle.i_shape_core.proofs.plane.CrossProducts.{edge}
@@ -116,10 +117,6 @@ unfolding winding
 no_points value p [] h = refl
 no_points value p (x ∷ xs) h = absurd (omega arith)
 
--- the walk starts its sum at 0
-pub walk_first : (s : ℤ) → pos 0 +ℤ s ≡ s
-walk_first s = omega (arith, ints)
-
 -- ---- the walk
 -- a point more is walked to
 pub walk_edge : {I : Type 0} (value : I → ℤ) (p : Point) (cs : List (IntPoint I)) (i : ℕ) (start x : IntPoint I) (t w s : ℤ) → i < length cs → x ≡ get_or cs i x
@@ -127,10 +124,7 @@ pub walk_edge : {I : Type 0} (value : I → ℤ) (p : Point) (cs : List (IntPoin
     → t +ℤ w +ℤ winding_over p (point_of value x) (contour_of value (drop (i + 1) cs)) ≡ s
 walk_edge value p cs i start x t w s h e f g =
     let k = subst (λ (ps : List Point). t +ℤ winding_over p (point_of value start) ps ≡ s) (rest-read value cs i x h e) g in
-    rw f (grouped t (winding_of_edge p (edge (point_of value start) (point_of value x))) (winding_over p (point_of value x) (contour_of value (drop (i + 1) cs))) ∙ k)
-  where
-    grouped : (a b c : ℤ) → a +ℤ b +ℤ c ≡ a +ℤ (b +ℤ c)
-    grouped a b c = omega (arith, ints)
+    rw f (add_assoc t (winding_of_edge p (edge (point_of value start) (point_of value x))) (winding_over p (point_of value x) (contour_of value (drop (i + 1) cs))) ∙ k)
 
 -- the walk from the last point over all points winds as the contour does
 pub walk_all : {I : Type 0} (value : I → ℤ) (p : Point) (cs : List (IntPoint I)) (last : IntPoint I) → 0 < length cs → last ≡ get_or cs (length cs - 1) last

@@ -3,7 +3,7 @@ use Rattle.std.proofs.Common.{◌≡◌, zero, suc, [], ◌∷◌, ℤ, pos, neg
 use Rattle.std.proofs.lemmas.Int.{ints}
 use Rattle.i_shape_core.specs.Point.{Point, cross, dot, IsBack}
 use Rattle.i_shape_core.proofs.arithmetic.Polynomials.{Term, number, plus, times, minus, by_polynomials}
-use Rattle.i_shape_core.proofs.arithmetic.WholeNumbers.{zero_product, equal_of_difference, squares_not_negative, squares_zero, zero_of_positive, not_positive_of, sum_above, drop_last}
+use Rattle.i_shape_core.proofs.arithmetic.WholeNumbers.{zero_product, equal_of_difference, squares_not_negative, squares_zero, zero_of_positive, not_positive_of, sum_above, drop_last, low_of_zero, mul-zero}
 use Rattle.i_shape_core.proofs.plane.CrossProducts.{Place, coordinates, cross_term, dot_term, A, B, C, D, triangle_identity, zero_reversed, dot_reversed, same_point, cross-same}
 
 -- the square of the way from a to b
@@ -30,7 +30,8 @@ squares : (a b c : Point) → way_squared a b *ℤ way_squared b c ≡ cross a b
 unfolding way_squared cross dot
 squares a b c = by_polynomials (coordinates (a ∷ b ∷ c ∷ [])) (times (square_term A B) (square_term B C)) (plus (times (cross_term A B C) (cross_term A B C)) (times (dot_term A B C) (dot_term A B C))) refl
 
-dot-same : (a p : Point) → dot a p p ≡ pos 0
+-- where the path stands still last the dot product is 0
+pub dot-same : (a p : Point) → dot a p p ≡ pos 0
 unfolding dot
 dot-same a p = by_polynomials (coordinates (a ∷ p ∷ [])) (dot_term A B B) (number (pos 0)) refl
 
@@ -77,14 +78,8 @@ back_cases a b c h = go (sign (dot a b c) h.1)
 
 -- a path goes back at a point that equals a neighbour, or at a reversal
 pub back_from_cases : (a b c : Point) → (a ≡ b) ⊎ ((b ≡ c) ⊎ ((cross a b c ≡ pos 0) × (dot a b c <ℤ pos 0))) → IsBack a b c
-back_from_cases a b c (inl e) = subst (λ (q : Point). IsBack a q c) e (cross_same-first a c, at_most (dot a a c) (dot_same-first a c))
-  where
-    at_most : (d : ℤ) → d ≡ pos 0 → d ≤ℤ pos 0
-    at_most d e = omega (arith, ints)
-back_from_cases a b c (inr (inl e)) = subst (λ (q : Point). IsBack a b q) e (cross-same a b, at_most (dot a b b) (dot-same a b))
-  where
-    at_most : (d : ℤ) → d ≡ pos 0 → d ≤ℤ pos 0
-    at_most d e = omega (arith, ints)
+back_from_cases a b c (inl e) = subst (λ (q : Point). IsBack a q c) e (cross_same-first a c, low_of_zero (dot a a c) (dot_same-first a c))
+back_from_cases a b c (inr (inl e)) = subst (λ (q : Point). IsBack a b q) e (cross-same a b, low_of_zero (dot a b b) (dot-same a b))
 back_from_cases a b c (inr (inr h)) = (h.0, omega (arith, ints, h.1))
 
 -- ---- a straight point
@@ -107,7 +102,7 @@ straight_dot x a p b = by_polynomials (coordinates (x ∷ a ∷ p ∷ b ∷ []))
 -- where a path goes straight on at p, and turns back at a without p, it turns back at a with p
 pub back_before_straight : (x a p b : Point) → cross a p b ≡ pos 0 → pos 0 <ℤ dot a p b → IsBack x a b → IsBack x a p
 back_before_straight x a p b e l h = (
-  zero_of_positive s (cross x a p) above (sym (drop_last (way_squared a p *ℤ cross x a b) (s *ℤ cross x a p) (dot x a p) (cross a p b) (straight_cross x a p b) e) ∙ ap (λ (z : ℤ). way_squared a p *ℤ z) h.0 ∙ times_zero (way_squared a p)),
+  zero_of_positive s (cross x a p) above (sym (drop_last (way_squared a p *ℤ cross x a b) (s *ℤ cross x a p) (dot x a p) (cross a p b) (straight_cross x a p b) e) ∙ ap (λ (z : ℤ). way_squared a p *ℤ z) h.0 ∙ mul-zero (way_squared a p)),
   not_positive_of (way_squared a p) s (dot x a b) (dot x a p) (square_at_least a p) above (drop_last (way_squared a p *ℤ dot x a b) (s *ℤ dot x a p) (neg_ℤ (cross x a p)) (cross a p b) (straight_dot x a p b) e) h.1,
 )
   where
@@ -116,9 +111,6 @@ back_before_straight x a p b e l h = (
 
     above : pos 0 <ℤ (way_squared a p +ℤ dot a p b)
     above = sum_above (way_squared a p) (dot a p b) (square_at_least a p) l
-
-    times_zero : (a : ℤ) → a *ℤ pos 0 ≡ pos 0
-    times_zero a = omega (arith, ints)
 
 -- where p lies straight between a and b, a path from a that turns back at b does so from p
 pub back_after_straight : (a p b y : Point) → cross a p b ≡ pos 0 → pos 0 <ℤ dot a p b → IsBack a b y → IsBack p b y

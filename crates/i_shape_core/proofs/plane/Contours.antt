@@ -1,7 +1,8 @@
 -- Reading a contour of the program's points as a contour of points.
-use Rattle.std.proofs.Common.{◌≡◌, ◌↔◌, Bool, false, IsTrue, ℕ, suc, Some, slice_get, map, take, ◌++◌, ◌+◌, ◌<◌, ◌≤◌, ℤ, List, [], ◌∷◌, length, drop, get_or, ap, subst, sym, ◌∙◌, refl, arith, add-one}
+use Rattle.std.proofs.Common.{◌≡◌, ◌↔◌, Bool, false, IsTrue, ℕ, suc, Some, slice_get, map, take, ◌++◌, ◌+◌, ◌<◌, ◌≤◌, ℤ, List, [], ◌∷◌, length, drop, get_or, ap, subst, sym, ◌∙◌, refl, arith, add-one, ◌&&◌, Decides}
 use Rattle.std.proofs.Math.Seq.{drop-cons, take-suc}
 use Rattle.std.proofs.lemmas.List.{get_or-map, length-map, map-append, drop_all}
+use Rattle.std.proofs.lemmas.Bool.Decides.{Decides-and, Decides-like}
 use Rattle.std.proofs.lemmas.Option.{slice_get-get_or, slice_get_within, get_or_from_slice_get}
 use Rattle.std.proofs.lemmas.List.Elements.{All-get_or}
 use Rattle.std.specs.List.{All}
@@ -47,6 +48,19 @@ points-same {I} value one p q e f =
     let in_x : (i : I) → IntPoint I = λ i. record { x = i; y = p.y } in
     let in_y : (j : I) → IntPoint I = λ j. record { x = q.x; y = j } in
     ap in_x (one p.x q.x e) ∙ ap in_y (one p.y q.y f)
+
+-- points whose coordinates are told equal stand for one point
+pub points_decided : {I : Type 0} (value : I → ℤ) (E : I → I → Bool) → ((a b : I) → IsTrue (E a b) ↔ (value a ≡ value b))
+    → (p q : IntPoint I) → Decides (E p.x q.x && E p.y q.y) (point_of value p ≡ point_of value q)
+points_decided value E told p q =
+    Decides-like _ (λ h. λ i. record { x = h.0 i; y = h.1 i }) (λ e. (ap (λ r. r.x) e, ap (λ r. r.y) e))
+    (Decides-and (E p.x q.x) (E p.y q.y) (told p.x q.x) (told p.y q.y))
+
+-- and are the same where one value stands for each number
+pub values_decided : {I : Type 0} (value : I → ℤ) (E : I → I → Bool) → ((a b : I) → IsTrue (E a b) ↔ (value a ≡ value b))
+    → ((a b : I) → value a ≡ value b → a ≡ b) → (p q : IntPoint I) → Decides (E p.x q.x && E p.y q.y) (p ≡ q)
+values_decided value E told one p q =
+    Decides-like _ (λ e. points-same value one p q (ap (λ r. r.x) e) (ap (λ r. r.y) e)) (ap (point_of value)) (points_decided value E told p q)
 
 -- what is left of a list at a place is what stands there and the rest
 pub drop-read : {A : Type 0} (xs : List A) (k : ℕ) (a : A) → k < length xs → a ≡ get_or xs k a → drop k xs ≡ a ∷ drop (k + 1) xs

@@ -98,7 +98,8 @@ four_points a p q b = by_polynomials (coordinates (a ∷ p ∷ q ∷ b ∷ [])) 
 pub same_point : (p q : Point) → p.x ≡ q.x → p.y ≡ q.y → p ≡ q
 same_point p q e f = λ i. record { x = e i; y = f i }
 
-both_zero : (u v w : ℤ) (s t : ℤ) → s ≡ pos 0 → t ≡ pos 0 → u ≡ v *ℤ s +ℤ w *ℤ t → u ≡ pos 0
+-- a sum of multiples of zero is zero
+pub both_zero : (u v w : ℤ) (s t : ℤ) → s ≡ pos 0 → t ≡ pos 0 → u ≡ v *ℤ s +ℤ w *ℤ t → u ≡ pos 0
 both_zero u v w s t e f g = g ∙ ap (λ (z : ℤ). v *ℤ z +ℤ w *ℤ t) e ∙ ap (λ (z : ℤ). v *ℤ pos 0 +ℤ w *ℤ z) f ∙ sum_of_zeros v w
 
 -- where p and q are two points and b lies on their line, and a too, b lies on the line of a and q, and on that of a and p

@@ -25,7 +25,8 @@ repeat_both_ways : BothWays IsRepeat
 repeat_both_ways a b c (inl e) = inr (sym e)
 repeat_both_ways a b c (inr e) = inl (sym e)
 
-same_decided : (a b : Point) → Dec (a ≡ b)
+-- two points are one, or they are not
+pub same_decided : (a b : Point) → Dec (a ≡ b)
 same_decided a b = go (is_same a b) refl
   where
     go : (t : Bool) → is_same a b ≡ t → Dec (a ≡ b)

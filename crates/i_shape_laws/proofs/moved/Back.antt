@@ -4,10 +4,11 @@ use Rattle.std.proofs.lemmas.Int.{ints, by_lt_z}
 use Rattle.i_shape_core.specs.Point.{Point, cross, dot, IsBack}
 use Rattle.i_shape_core.specs.Moves.{Move, determinant, moved_point}
 use Rattle.i_shape_core.proofs.arithmetic.Polynomials.{Term, number, variable, plus, times, minus, by_polynomials}
-use Rattle.i_shape_core.proofs.arithmetic.WholeNumbers.{not_positive_of, drop_last, alike_scaled}
+use Rattle.i_shape_core.proofs.arithmetic.WholeNumbers.{not_positive_of, drop_last, alike_scaled, low_of_zero, zero_not_above, zero_not_below}
 use Rattle.i_shape_core.proofs.plane.CrossProducts.{coordinates, cross_term, dot_term, A, B, C}
 use Rattle.i_shape_core.proofs.plane.Back as plane
 use Rattle.i_shape_core.proofs.plane.Back.{way_squared, square_term, square_at_least, dot_same-first}
+use Rattle.i_shape_core.proofs.convex.Laws.{IsReversed}
 use Rattle.i_shape_core.proofs.moved.Mapped.{Carries}
 use Rattle.i_shape_core.proofs.moved.ZeroTurns.{numbers_of_move, new_place, zero_moved}
 use Rattle.i_shape_laws.proofs.moved.Ends.{Returns}
@@ -39,10 +40,7 @@ no_way a p h = plane.no_way a p (least (way_squared a p) (square_at_least a p) h
     least x f g = omega (arith, ints)
 
 dot_standing_still : (a b c : Point) → a ≡ b → dot a b c ≤ℤ pos 0
-dot_standing_still a b c e = subst (λ (x : Point). dot a x c ≤ℤ pos 0) e (let f = dot_same-first a c in none (dot a a c) f)
-  where
-    none : (x : ℤ) → x ≡ pos 0 → x ≤ℤ pos 0
-    none x f = omega (arith, ints)
+dot_standing_still a b c e = subst (λ (x : Point). dot a x c ≤ℤ pos 0) e (low_of_zero (dot a a c) (dot_same-first a c))
 
 -- what turns back is moved to what turns back
 pub back_moved : (m : Move) → Carries (moved_point m) IsBack IsBack
@@ -64,15 +62,8 @@ back_back m some a b c (z, d) =
     )
 
 -- ---- where the way goes back and doesn't stand still
--- it goes back from b to c
-abbrev pub Reverses : Point → Point → Point → Type 0
-Reverses a b c = (cross a b c ≡ pos 0) × (dot a b c <ℤ pos 0)
-
 not_still : (a b c : Point) → dot a b c <ℤ pos 0 → pos 0 <ℤ way_squared a b
-not_still a b c h = by_lt_z (pos 0) (way_squared a b) (λ l. l) (λ l. absurd (none (dot a b c) (subst (λ (x : Point). dot a x c ≡ pos 0) (no_way a b l) (dot_same-first a c)) h))
-  where
-    none : (x : ℤ) → x ≡ pos 0 → x <ℤ pos 0 → ⊥
-    none x f g = omega (arith, ints)
+not_still a b c h = by_lt_z (pos 0) (way_squared a b) (λ l. l) (λ l. absurd (zero_not_below (dot a b c) (subst (λ (x : Point). dot a x c ≡ pos 0) (no_way a b l) (dot_same-first a c)) h))
 
 same_sign : (m : Move) (a b c : Point) → cross a b c ≡ pos 0 → pos 0 <ℤ way_squared a b → pos 0 <ℤ way_squared (moved_point m a) (moved_point m b)
     → int_lt (dot (moved_point m a) (moved_point m b) (moved_point m c)) (pos 0) ≡ int_lt (dot a b c) (pos 0)
@@ -84,13 +75,10 @@ below x (pos n) e h = absurd (omega (arith, ints))
 
 no_square : (a b : Point) → a ≡ b → pos 0 <ℤ way_squared a b → ⊥
 unfolding way_squared
-no_square a b e h = clash (way_squared a b) (sym (ap (λ (x : Point). way_squared a x) e) ∙ zero a) h
+no_square a b e h = zero_not_above (way_squared a b) (sym (ap (λ (x : Point). way_squared a x) e) ∙ zero a) h
   where
     zero : (a : Point) → way_squared a a ≡ pos 0
     zero a = by_polynomials (coordinates (a ∷ [])) (square_term A A) (number (pos 0)) refl
-
-    clash : (s : ℤ) → s ≡ pos 0 → pos 0 <ℤ s → ⊥
-    clash s f g = omega (arith, ints)
 
 apart_squares : (m : Move) → determinant m ≢ pos 0 → (a b : Point) → pos 0 <ℤ way_squared a b → pos 0 <ℤ way_squared (moved_point m a) (moved_point m b)
 apart_squares m some a b h = by_lt_z (pos 0) (way_squared (moved_point m a) (moved_point m b)) (λ l. l) (λ l. absurd (no_square a b (moved_apart m some a b (no_way (moved_point m a) (moved_point m b) l)) h))
@@ -99,13 +87,13 @@ squares_apart : (m : Move) (a b : Point) → pos 0 <ℤ way_squared (moved_point
 squares_apart m a b h = by_lt_z (pos 0) (way_squared a b) (λ l. l) (λ l. absurd (no_square (moved_point m a) (moved_point m b) (ap (moved_point m) (no_way a b l)) h))
 
 -- a way that goes back is moved to one that goes back, at a move of a determinant other than 0
-pub reverses_moved : (m : Move) → determinant m ≢ pos 0 → Carries (moved_point m) Reverses Reverses
+pub reverses_moved : (m : Move) → determinant m ≢ pos 0 → Carries (moved_point m) IsReversed IsReversed
 reverses_moved m some a b c (z, d) =
     let s = not_still a b c d in
     (zero_moved m a b c z, below _ (dot a b c) (same_sign m a b c z s (apart_squares m some a b s)) d)
 
 -- where a moved way goes back, the way did, at a move of a determinant other than 0
-pub reverses_back : (m : Move) → determinant m ≢ pos 0 → Returns (moved_point m) Reverses Reverses
+pub reverses_back : (m : Move) → determinant m ≢ pos 0 → Returns (moved_point m) IsReversed IsReversed
 reverses_back m some a b c (z, d) =
     let z' = zero_back m some a b c z in
     let s' = not_still (moved_point m a) (moved_point m b) (moved_point m c) d in

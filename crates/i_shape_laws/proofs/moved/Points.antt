@@ -1,11 +1,10 @@
 -- Moves that keep areas apart from zero: zero turns alone become zero turns, and different points stay different.
-use Rattle.std.proofs.Common.{◌≡◌, ◌≢◌, ℤ, pos, ◌+ℤ◌, ◌-ℤ◌, ◌*ℤ◌, neg_ℤ, refl, sym, ap, ◌∙◌, arith, inl, inr, ◌⊎◌}
-use Rattle.std.proofs.lemmas.Int.{ints}
+use Rattle.std.proofs.Common.{◌≡◌, ◌≢◌, ℤ, pos, ◌+ℤ◌, ◌-ℤ◌, ◌*ℤ◌, neg_ℤ, refl, sym, ap, ◌∙◌, inl, inr, ◌⊎◌}
 use Rattle.i_shape_core.specs.Point.{Point, cross, IsZeroTurn}
 use Rattle.i_shape_core.specs.Moves.{Move, determinant, moved_point}
 use Rattle.i_shape_core.proofs.arithmetic.Polynomials.{variable, plus, times, minus, by_polynomials}
-use Rattle.i_shape_core.proofs.arithmetic.WholeNumbers.{zero_product, equal_of_difference, sum_of_zeros}
-use Rattle.i_shape_core.proofs.plane.CrossProducts.{A, B, same_point}
+use Rattle.i_shape_core.proofs.arithmetic.WholeNumbers.{zero_product, equal_of_difference, difference_of_equal}
+use Rattle.i_shape_core.proofs.plane.CrossProducts.{A, B, same_point, both_zero}
 use Rattle.i_shape_core.proofs.moved.ZeroTurns.{numbers_of_move, new_x, new_y, area_factor, cross_moved}
 use Rattle.i_shape_laws.proofs.moved.Ends.{Returns, Apart}
 
@@ -31,17 +30,11 @@ back_y m p q = by_polynomials (numbers_of_move p q q m)
     (plus (times (variable 6) (plus (new_y A) (minus (new_y B)))) (times (minus (variable 8)) (plus (new_x A) (minus (new_x B)))))
     (times area_factor (plus A.y (minus B.y))) refl
 
-both_gone : (v w s t : ℤ) → s ≡ pos 0 → t ≡ pos 0 → v *ℤ s +ℤ w *ℤ t ≡ pos 0
-both_gone v w s t e f = ap (λ (z : ℤ). v *ℤ z +ℤ w *ℤ t) e ∙ ap (λ (z : ℤ). v *ℤ pos 0 +ℤ w *ℤ z) f ∙ sum_of_zeros v w
-
-none : (a b : ℤ) → a ≡ b → a -ℤ b ≡ pos 0
-none a b e = omega (arith, ints)
-
 -- a move of a determinant other than 0 keeps different points apart
 pub moved_apart : (m : Move) → determinant m ≢ pos 0 → Apart (moved_point m)
 moved_apart m some p q e =
-    let x = none _ _ (ap (λ (r : Point). r.x) e) in
-    let y = none _ _ (ap (λ (r : Point). r.y) e) in
+    let x = difference_of_equal _ _ (ap (λ (r : Point). r.x) e) in
+    let y = difference_of_equal _ _ (ap (λ (r : Point). r.y) e) in
     same_point p q
-    (equal_of_difference _ _ (other_factor (determinant m) _ (p.x -ℤ q.x) some (back_x m p q) (both_gone m.yy (neg_ℤ m.xy) _ _ x y)))
-    (equal_of_difference _ _ (other_factor (determinant m) _ (p.y -ℤ q.y) some (back_y m p q) (both_gone m.xx (neg_ℤ m.yx) _ _ y x)))
+    (equal_of_difference _ _ (other_factor (determinant m) _ (p.x -ℤ q.x) some (back_x m p q) (both_zero _ m.yy (neg_ℤ m.xy) _ _ x y refl)))
+    (equal_of_difference _ _ (other_factor (determinant m) _ (p.y -ℤ q.y) some (back_y m p q) (both_zero _ m.xx (neg_ℤ m.yx) _ _ y x refl)))

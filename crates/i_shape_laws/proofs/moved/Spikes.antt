@@ -8,7 +8,7 @@ use Rattle.i_shape_core.specs.Cleaners.{IsDespiked, SpikelessAnswer, DespikeAnsw
 use Rattle.i_shape_core.proofs.removal.Dedup.{same_yes, same_self, same_no, apart_no}
 use Rattle.i_shape_core.proofs.moved.Mapped.{Carries, point_mapped, point_before_mapped, point_after_mapped, passes_at_equal_points, rotation_mapped}
 use Rattle.i_shape_laws.proofs.moved.Ends.{Returns, Apart, end_mapped, end_back, end_back_to, one_mapped, rotation_back, answer_mapped}
-use Rattle.i_shape_laws.proofs.moved.Back.{Reverses}
+use Rattle.i_shape_core.proofs.convex.Laws.{IsReversed}
 
 module _ (f : Point → Point) (apart : Apart f) where
   same_mapped : (p q : Point) → is_same (f p) (f q) ≡ is_same p q
@@ -37,18 +37,18 @@ module _ (f : Point → Point) (apart : Apart f) where
   dedup_mapped [] = refl
   dedup_mapped (p ∷ ps) = ap (λ (x : Point). changes_after x (map f (p ∷ ps))) (last_mapped p ps) ∙ changes_mapped (last_of p ps) (p ∷ ps)
 
-module _ (f : Point → Point) (apart : Apart f) (carries : Carries f Reverses Reverses) (returns : Returns f Reverses Reverses) where
+module _ (f : Point → Point) (apart : Apart f) (carries : Carries f IsReversed IsReversed) (returns : Returns f IsReversed IsReversed) where
   reversal_mapped : (c : List Point) (k : ℕ) → IsReversal c k → IsReversal (map f c) k
   unfolding cross_at
   reversal_mapped c k r =
-      let w = passes_at_equal_points f Reverses _ _ _ _ _ _ (sym (point_before_mapped f c k r.within)) (sym (point_mapped f c k r.within)) (sym (point_after_mapped f c k r.within)) (carries _ _ _ (r.straight, r.back)) in
+      let w = passes_at_equal_points f IsReversed _ _ _ _ _ _ (sym (point_before_mapped f c k r.within)) (sym (point_mapped f c k r.within)) (sym (point_after_mapped f c k r.within)) (carries _ _ _ (r.straight, r.back)) in
       record { within = omega (arith, length-map c f, r.within); straight = w.0; back = w.1 }
 
   reversal_back : (c : List Point) (k : ℕ) → IsReversal (map f c) k → IsReversal c k
   unfolding cross_at
   reversal_back c k r =
       let within : k < length c = omega (arith, length-map c f, r.within) in
-      let w = returns _ _ _ (passes_at_equal_points f Reverses _ _ _ _ _ _ (point_before_mapped f c k within) (point_mapped f c k within) (point_after_mapped f c k within) (r.straight, r.back)) in
+      let w = returns _ _ _ (passes_at_equal_points f IsReversed _ _ _ _ _ _ (point_before_mapped f c k within) (point_mapped f c k within) (point_after_mapped f c k within) (r.straight, r.back)) in
       record { within = within; straight = w.0; back = w.1 }
 
   same_length : (c : List Point) → length (dedup (map f c)) ≡ length (dedup c)

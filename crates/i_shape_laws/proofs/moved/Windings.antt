@@ -10,7 +10,7 @@ use Rattle.i_shape_core.specs.Moves.{Move, determinant, moved_point, moved}
 use Rattle.i_shape_core.specs.Boundary.{IsBetween, IsOnEdge}
 use Rattle.i_shape_core.proofs.arithmetic.Polynomials.{Term, number, variable, plus, times, minus, by_polynomials}
 use Rattle.i_shape_core.proofs.plane.CrossProducts.{Place, coordinates, cross_term, dot_term, A, B, C, D, edge, cross_reversed}
-use Rattle.i_shape_core.proofs.arithmetic.WholeNumbers.{alike_scaled, drop_last}
+use Rattle.i_shape_core.proofs.arithmetic.WholeNumbers.{alike_scaled, drop_last, zero_not_above, zero_not_below}
 use Rattle.i_shape_core.proofs.measure.Inside.{right_when}
 use Rattle.i_shape_core.proofs.measure.Edges.{sum_alike}
 use Rattle.i_shape_core.proofs.removal.Places.{after_is, Follows}
@@ -393,13 +393,7 @@ winding_moved m c p off =
     let all = edges_off c p off in
     record {
       kept = λ d. winding_after m p c ∙ sum_alike (after m p) (crossing_along (heights m) p) (λ e. factor_kept _ _ (determinant m) (cross e.start p e.end) d) (edges c)
-          ∙ by_any (heights m) p c (some_heights m (λ z. zero_above (determinant m) z d)) all ∙ sym (winding_up p c);
+          ∙ by_any (heights m) p c (some_heights m (λ z. zero_not_above (determinant m) z d)) all ∙ sym (winding_up p c);
       mirrored = λ d. winding_after m p c ∙ sum_alike (after m p) (swapped (heights m) p) (λ e. factor_mirrored _ _ (determinant m) (cross e.start p e.end) d) (edges c)
-          ∙ contour_swapped (heights m) p c all ∙ ap neg_ℤ (by_any (heights m) p c (some_heights m (λ z. zero_below (determinant m) z d)) all ∙ sym (winding_up p c));
+          ∙ contour_swapped (heights m) p c all ∙ ap neg_ℤ (by_any (heights m) p c (some_heights m (λ z. zero_not_below (determinant m) z d)) all ∙ sym (winding_up p c));
     }
-  where
-    zero_above : (x : ℤ) → x ≡ pos 0 → pos 0 <ℤ x → ⊥
-    zero_above x e h = omega (arith, ints)
-
-    zero_below : (x : ℤ) → x ≡ pos 0 → x <ℤ pos 0 → ⊥
-    zero_below x e h = omega (arith, ints)

@@ -2,9 +2,10 @@ use Rattle.std.proofs.Common.{◌≡◌, ◌+ℤ◌, ◌-◌, ◌^◌, ◌<◌, 
 use Rattle.std.proofs.lemmas.Int.{to_z-of_z}
 use Rattle.i_shape_core.specs.IntPoint.{point_of}
 use Rattle.i_shape_core.specs.Winding.{level}
+use Rattle.i_shape_core.proofs.arithmetic.WholeNumbers.{zero_add}
 use Rattle.i_shape_core.proofs.plane.Contours.{read-safe}
 use Rattle.i_shape_core.proofs.plane.PointLists.{points-length, points-at}
-use Rattle.i_shape_core.proofs.measure.WindingWalk.{near_first, near_step, no_points, walk_first, walk_edge, walk_over, total_fits, total_added}
+use Rattle.i_shape_core.proofs.measure.WindingWalk.{near_first, near_step, no_points, walk_edge, walk_over, total_fits, total_added}
 use Rattle.i_shape_core.proofs.winding.winding_by_edges.Goals as goal
 
 pub returns-in_default : goal.returns-in_default
@@ -29,7 +30,7 @@ loop-given-init g c =
     record {
       before_safe = read-safe width value (points whole) (length (points whole) - 1) c.to_point-before.result c.requires.points_safe (omega (arith, count, c.in-Some.ensures.item.3.0)) last;
       near = near_first _;
-      told = walk_first _;
+      told = zero_add _;
     }
 
 pub edge_winding-total-requires-clause-end_safe : goal.edge_winding-total-requires-clause-end_safe

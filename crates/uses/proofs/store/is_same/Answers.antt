@@ -1,7 +1,8 @@
 use Rattle.std.proofs.Common.{ℤ}
 use Rattle.std.proofs.lemmas.Bool.Decides.{Decides-at}
 use Rattle.i_shape.specs.IntPoint.{point_of}
-use Rattle.uses.proofs.SamePoints.{points_decided, lists_decided}
+use Rattle.i_shape_core.proofs.plane.Contours.{points_decided}
+use Rattle.uses.proofs.SamePoints.{lists_decided}
 use Rattle.uses.proofs.store.is_same.Goals as goal
 
 pub returns : goal.returns

@@ -1,3 +1,0 @@
-pub mod GivenLemmas
-pub mod GivenShapes
-pub mod FilledLemmas
