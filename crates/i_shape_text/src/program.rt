@@ -3,7 +3,7 @@
 ghost use Rattle.std.specs.Prelude.{◌≡◌, ◌++◌, ◌∷◌, [], Some, IfOk, IfErr, OnOk, IfSome, IfNone};
 ghost use Rattle.std.specs.Io.KnownBytes.{Appends, Keeps};
 ghost use Rattle.i_shape_text.specs.Text.{newline};
-ghost use Rattle.i_shape_text.specs.declared.program.Complaint.TheVariants.{Fault, Input};
+ghost use Rattle.i_shape_text.specs.declared.program.Complaint.TheVariants.{Fault, Input, Usage};
 ghost use Rattle.i_shape_text.specs.Serve.{Asks, status_of, IsServed, IsTrueComplaint, KeepsOutput, EndsWith, told};
 
 use crate::command::Command;
@@ -116,6 +116,8 @@ fn answer<R: Read, W: Write>(
     ensures err { IfErr result (IsTrueComplaint words.now (R.remaining input.old)) }
     ensures kept { IfErr result (λ complaint.
         KeepsOutput complaint (W.contents output.old) (W.contents output.new)) }
+    ensures unread { IfErr result (λ complaint. complaint ≡ Usage
+        → Keeps (R.remaining input.old) (R.remaining input.new)) }
 {
     let command = asked(words).ok_or(Complaint::Usage)?;
     let bytes = read_all(alloc, input)?;
@@ -135,8 +137,8 @@ fn write_whole<W: Write>(output: &mut W, bytes: &[u8]) -> io::Result<()>
 }
 
 /// Serves one run of the program: judges the words after its name, and where they name a command reads all input and writes the
-/// answer; where they don't, or where that fails, it writes a line to `errors`. It answers the exit status. A line that `errors`
-/// doesn't take is lost, and changes no status.
+/// answer. Where they don't, it reads nothing. Then, or where an answer fails, it writes a line to `errors`. It answers the exit
+/// status. A line that `errors` doesn't take is lost, and changes no status.
 pub fn serve<R: Read, W: Write, E: Write>(
     alloc: Global,
     words: &[String],
@@ -147,6 +149,8 @@ pub fn serve<R: Read, W: Write, E: Write>(
     ensures ends { EndsWith words.now (R.remaining input.old)
         (W.contents output.old) (W.contents output.new) result }
     ensures quiet { result ≡ 0 → Keeps (E.contents errors.old) (E.contents errors.new) }
+    ensures unread { ((command : Command) → Asks words.now command → ⊥)
+        → Keeps (R.remaining input.old) (R.remaining input.new) }
 {
     match answer(alloc, words, input, output) {
         Ok(()) => 0,

@@ -6,10 +6,11 @@ use std::alloc::{AllocError, Global};
 use std::process::Abort;
 use std::test::Fail;
 
-/// What a run of the program left.
+/// What a run of the program left: of its input so many bytes.
 #[derive(Drop)]
 pub struct Left {
     pub status: u8,
+    pub unread: usize,
     pub output: Vec<u8>,
     pub errors: Vec<u8>,
 }
@@ -35,12 +36,13 @@ pub fn serve_bytes(alloc: Global, texts: &[&str], mut input: &[u8]) -> Result<Le
     );
     Ok(Left {
         status,
+        unread: input.len(),
         output,
         errors,
     })
 }
 
-/// A run with these words and this input leaves this.
+/// A run with these words and this input leaves this. Words that name no command leave the input unread, and all others nothing of it.
 pub fn serves(
     rt: &impl Abort,
     alloc: Global,
@@ -50,6 +52,8 @@ pub fn serves(
 ) -> Result<(), Fail> {
     let left = serve_bytes(alloc, words, input)?;
     equal(rt, left.status, status, name, "the status");
+    let unread = if status == 2 { input.len() } else { 0 };
+    equal(rt, left.unread, unread, name, "what is left of the input");
     equal(
         rt,
         left.output.as_slice(),
