@@ -1,13 +1,15 @@
-//! Laws of what is read, what is shown, and what is answered for a text in parts.
+//! Laws of what is read, what is shown, what is answered for a text in parts, and of `==` and `clone`.
 
-ghost use Rattle.std.specs.Prelude.{◌≡◌, ◌⊎◌, ◌++◌, ℕ, List};
+ghost use Rattle.std.specs.Prelude.{◌≡◌, ◌↔◌, ◌⊎◌, ◌++◌, ℕ, List, IsTrue};
 ghost use Rattle.std.specs.List.{AllByRecursion};
-ghost use Rattle.i_shape.specs.Point.{Point};
+ghost use Rattle.i_shape_core.specs.Point.{Point};
 ghost use Rattle.i_shape_text.specs.Run.{AnswersText, IsFirstFault};
 ghost use Rattle.i_shape_text.specs.PartedTexts.{EndsItsLines, PartedAnswer, IsFaultOfSecond};
 ghost use Rattle.i_shape_text.specs.Text.{FitPoint, Reads, shown};
-ghost use Rattle.i_shape_text.specs.declared.command.Command.{Command};
-ghost use Rattle.i_shape_text.specs.declared.fault.ToolFault.{ToolFault};
+
+use crate::command::Command;
+use crate::fault::ToolFault;
+use crate::program::Complaint;
 
 /// A line reads one contour at most.
 pub fn one_reading()
@@ -45,4 +47,22 @@ pub fn fault_concatenated()
     ensures one { (command : Command) (text more : List ℕ) (fault : ToolFault)
         → EndsItsLines text → IsFirstFault command (text ++ more) fault
         → IsFirstFault command text fault ⊎ IsFaultOfSecond command text more fault }
+{}
+
+/// Commands are told equal by `==` exactly where they are one, and a clone is the command itself.
+pub fn commands_equal(_a: &Command, _b: &Command)
+    ensures compared { IsTrue (⟦<Command as PartialEq>⟧.eq _a.now _b.now) ↔ (_a.now ≡ _b.now) }
+    ensures cloned { ⟦<Command as Clone>⟧.is_clone _a.now _b.now → _b.now ≡ _a.now }
+{}
+
+/// So are faults, with their lines.
+pub fn faults_equal(_a: &ToolFault, _b: &ToolFault)
+    ensures compared { IsTrue (⟦<ToolFault as PartialEq>⟧.eq _a.now _b.now) ↔ (_a.now ≡ _b.now) }
+    ensures cloned { ⟦<ToolFault as Clone>⟧.is_clone _a.now _b.now → _b.now ≡ _a.now }
+{}
+
+/// So are complaints, with their faults.
+pub fn complaints_equal(_a: &Complaint, _b: &Complaint)
+    ensures compared { IsTrue (⟦<Complaint as PartialEq>⟧.eq _a.now _b.now) ↔ (_a.now ≡ _b.now) }
+    ensures cloned { ⟦<Complaint as Clone>⟧.is_clone _a.now _b.now → _b.now ≡ _a.now }
 {}

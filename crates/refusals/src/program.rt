@@ -24,7 +24,7 @@ fn told_of_run(
         }
         Err(fault) => {
             println!(rt; "run of {command:?}{kind} refused")?;
-            assert_eq!(rt; fault, ToolFault::OutOfMemory);
+            assert!(rt; matches!(fault, ToolFault::OutOfMemory));
         }
     }
     Ok(())

@@ -82,7 +82,8 @@ fn new_cleaners(rt: HostRuntime) -> Result<(), Fail> {
 #[test]
 fn command_of_a_word(rt: HostRuntime) -> Result<(), Fail> {
     let command = Command::from_word("despike");
-    told_done(&rt, "Command::from_word", command == Some(Command::Despike))?;
+    let is_named = matches!(command, Some(Command::Despike));
+    told_done(&rt, "Command::from_word", is_named)?;
     Ok(())
 }
 
