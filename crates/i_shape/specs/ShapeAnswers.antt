@@ -1,5 +1,5 @@
 -- What cleaning leaves of a shape and of a list of shapes, where `Answer` relates a contour to its cleaned one, and to none where it collapses.
-use Rattle.std.specs.Prelude.{◌≡◌, List, Option, ℕ, ◌<◌, ◌%◌, ℤ, [], ◌∷◌, length, map, Some, None, IfSome}
+use Rattle.std.specs.Prelude.{◌≡◌, List, Option, ℕ, ◌<◌, ◌%◌, ℤ, [], ◌∷◌, length, map, get_or, Some, None, IfSome}
 use Rattle.std.specs.Global.{Vec}
 use Rattle.std.specs.Int.{Width}
 use Rattle.std.specs.List.{count_by, sum_by, All}
@@ -9,6 +9,7 @@ use Rattle.i_shape_source.specs.ShapeLists.{shape_of, shapes_of, IsSafeShape, Is
 use Rattle.i_shape_core.specs.Point.{Point}
 use Rattle.i_shape_core.specs.Edges.{edges, is_right, shoelace}
 use Rattle.i_shape_core.specs.Moves.{moved, scaling}
+use Rattle.i_shape_core.specs.Boundary.{IsOnEdge}
 pub use Rattle.i_shape_core.specs.Edges.{sum_of}
 pub use Rattle.i_shape_core.specs.Winding.{shape_winding}
 pub use Rattle.i_shape_core.specs.Survivors.{Survivors}
@@ -24,6 +25,12 @@ shapes_shoelace shapes = sum_of shape_shoelace shapes
 -- how many of the contours p is inside of: 1 for each of which an odd number of edges lie to the right of p
 unfoldable pub inside_count : List (List Point) → Point → ℕ
 inside_count contours p = sum_by (λ c. count_by (is_right p) (edges c) % 2) contours
+
+-- p lies on an edge of one of the contours
+pub record IsOnBoundary (contours : List (List Point)) (p : Point) : Type 0 where
+  pub place : ℕ
+  pub within : place < length contours
+  pub on : IsOnEdge (get_or contours place []) p
 
 -- the contour has a point
 abbrev pub HasPoints : List Point → Type 0

@@ -1,15 +1,17 @@
-//! How often the contours of a shape wind about a point, and which points they fill.
+//! How often the contours of a shape wind about a point, which points they fill, and which lie on their edges.
 
 ghost use Rattle.std.specs.Prelude.{◌≡◌, ◌↔◌, List, IsTrue};
 ghost use Rattle.i_shape.specs.IntPoint.{point_of, IsSafe};
 ghost use Rattle.i_shape.specs.Point.{Point};
 ghost use Rattle.i_shape.specs.ShapeLists.{shape_of, IsSafeShape};
-ghost use Rattle.i_shape.specs.ShapeAnswers.{shape_winding};
+ghost use Rattle.i_shape.specs.ShapeAnswers.{shape_winding, IsOnBoundary};
 ghost use Rattle.i_shape.specs.Filling.{IsFilled};
 
 use crate::int::IntPoint;
 use crate::int::shape::IntContour;
+pub use i_shape_core::boundary::is_on_boundary;
 use i_shape_core::fill_rule::FillRule;
+pub use i_shape_core::heights::windings_by_height;
 use i_shape_core::number::IntNumber;
 pub use i_shape_core::winding::{winding_about, windings_about};
 
@@ -30,6 +32,12 @@ pub trait ShapeExtension<I: IntNumber> {
         requires point_safe { IsSafe I.width (point_of I.value point) }
         ensures { IsTrue result
             ↔ IsFilled rule (shape_winding (shape self.now) (point_of I.value point)) };
+
+    /// Whether `point` lies on an edge of one of the contours, the ends of which lie on it too.
+    fn is_on_boundary(&self, point: IntPoint<I>) -> bool
+        requires points_safe { IsSafeShape I.width (shape self.now) }
+        requires point_safe { IsSafe I.width (point_of I.value point) }
+        ensures { IsTrue result ↔ IsOnBoundary (shape self.now) (point_of I.value point) };
 }
 
 impl<I: IntNumber> ShapeExtension<I> for &[IntContour<I>] {
@@ -56,5 +64,20 @@ impl<I: IntNumber> ShapeExtension<I> for &[IntContour<I>] {
             (shape_winding (shape_of I.value self.now.now) (point_of I.value point)) }
     {
         rule.fills(self.winding_number(point))
+    }
+
+    fn is_on_boundary(&self, point: IntPoint<I>) -> bool
+        requires points_safe { IsSafeShape I.width (shape_of I.value self.now.now) }
+        requires point_safe { IsSafe I.width (point_of I.value point) }
+        ensures { IsTrue result ↔ IsOnBoundary (shape_of I.value self.now.now)
+            (point_of I.value point) }
+    {
+        let contours: &[IntContour<I>] = *self;
+        for contour in contours {
+            if is_on_boundary(contour.as_slice(), point) {
+                return true;
+            }
+        }
+        false
     }
 }
