@@ -74,37 +74,6 @@ fn list_of(alloc: Global, count: usize, code: usize) -> Result<Vec<Pair>, AllocE
 }
 
 #[test]
-fn comparisons_of_worked_contours(rt: HostRuntime) -> Result<(), Fail> {
-    let alloc = rt.alloc();
-    let [a, b, c, d] = [[0, 0], [0, 4], [4, 4], [4, 0]];
-    for (list, start, comparisons) in [
-        // one point: nothing to compare
-        ([c].as_slice(), 0, 0),
-        // two points, then a point twice: both pairs of its rotations
-        ([a, b].as_slice(), 0, 1),
-        ([b, a].as_slice(), 1, 1),
-        ([a, a].as_slice(), 0, 2),
-        // each other corner of a square loses at its first point
-        ([a, b, c, d].as_slice(), 0, 3),
-        // a corner that comes before the kept one is kept from there on
-        ([c, d, a, b].as_slice(), 2, 3),
-        ([d, c, b, a].as_slice(), 3, 3),
-        // one point five times: all five pairs of the first two rotations
-        ([a, a, a, a, a].as_slice(), 0, 5),
-        // a square twice: three corners that lose, and then all eight pairs
-        ([a, b, c, d, a, b, c, d].as_slice(), 0, 11),
-        // a and b in turn: b loses, and then all six pairs
-        ([a, b, a, b, a, b].as_slice(), 0, 7),
-        // lists of five and of eight points with the most comparisons: 2 and 3 and 4, then 5 and 6 and 7
-        ([a, a, b, a, a].as_slice(), 3, 9),
-        ([a, a, a, a, a, b, a, a].as_slice(), 6, 18),
-    ] {
-        has_count(&rt, alloc, list, (start, comparisons))?;
-    }
-    Ok(())
-}
-
-#[test]
 fn comparisons_of_each_short_list_are_those_of_a_plain_loop(rt: HostRuntime) -> Result<(), Fail> {
     let alloc = rt.alloc();
     for (count, codes) in [(1, 3), (2, 9), (3, 27), (4, 81), (5, 243), (6, 729)] {

@@ -4,11 +4,13 @@ ghost use Rattle.std.specs.Prelude.{◌≤◌, length, IfOk};
 ghost use Rattle.std.specs.List.{All};
 ghost use Rattle.i_shape.specs.IntPoint.{contour_of, IsSafe};
 
+use crate::texts;
 use i_shape::IntNumber;
 use i_shape::int::IntPoint;
 use i_shape::int::shape::IntContour;
 use std::alloc::{AllocError, Global};
 use std::process::Abort;
+use std::test::Fail;
 
 /// The contour of these points. The test stops where one isn't safe.
 pub fn contour<I: IntNumber>(
@@ -61,11 +63,7 @@ pub fn squares<I: IntNumber>(
     low: I,
     high: I,
 ) -> Result<[Vec<[I; 2]>; 2], AllocError> {
-    let mut once = Vec::new(alloc);
-    once.push([low, low])?;
-    once.push([high, low])?;
-    once.push([high, high])?;
-    once.push([low, high])?;
+    let once = Vec::from_array(alloc, [[low, low], [high, low], [high, high], [low, high]])?;
     let mut twice = Vec::from_slice(alloc, once.as_slice())?;
     twice.extend_from_slice(once.as_slice())?;
     Ok([once, twice])
@@ -82,181 +80,45 @@ pub fn thousands(alloc: Global) -> Result<[Vec<[i32; 2]>; 2], AllocError> {
     Ok([line, place])
 }
 
-/// A name, a list of points, and the ring that is left of it without zero turns, from its least start.
-type Left = (&'static str, &'static [[i32; 2]], &'static [[i32; 2]]);
-
-/// Contours with repeated points, reversals and spikes, among them two whose answer depends on where they start.
-const HOSTILE: [Left; 7] = [
-    (
-        "doubled corners",
-        &[
-            [0, 0],
-            [0, 1024],
-            [0, 1024],
-            [512, 1024],
-            [1024, 1024],
-            [1024, 1024],
-            [1024, 0],
-        ],
-        &[[0, 0], [0, 1024], [1024, 1024], [1024, 0]],
-    ),
-    (
-        "a spike whose end depends on the start",
-        &[[6, 0], [0, 0], [2, 0], [1, 0], [1, 5]],
-        &[[1, 0], [1, 5], [6, 0]],
-    ),
-    (
-        "the first point again at the end",
-        &[[0, 0], [4, 0], [4, 4], [0, 4], [0, 0]],
-        &[[0, 0], [4, 0], [4, 4], [0, 4]],
-    ),
-    (
-        "repeated points and a straight one",
-        &[[0, 0], [1, 0], [1, 0], [2, 0], [2, 2], [0, 2], [0, 0]],
-        &[[0, 0], [2, 0], [2, 2], [0, 2]],
-    ),
-    (
-        "a spike there and back",
-        &[[0, 0], [8, 0], [4, 0], [6, 0], [6, 4], [0, 4]],
-        &[[0, 0], [6, 0], [6, 4], [0, 4]],
-    ),
-    (
-        "a spike of six points on a line",
-        &[
-            [0, 0],
-            [10, 0],
-            [2, 0],
-            [8, 0],
-            [4, 0],
-            [6, 0],
-            [6, 6],
-            [0, 6],
-        ],
-        &[[0, 0], [6, 0], [6, 6], [0, 6]],
-    ),
-    (
-        "a spike after a repeated point",
-        &[[0, 0], [4, 0], [4, 0], [2, 0], [2, 2], [0, 2]],
-        &[[0, 0], [2, 0], [2, 2], [0, 2]],
-    ),
+/// Contours with repeated points, reversals and spikes, among them one whose despiked form depends on where it starts; and the ring that is left of each
+/// without zero turns, from its least start.
+const HOSTILE: [[&str; 2]; 6] = [
+    [
+        "0 0 0 1024 0 1024 512 1024 1024 1024 1024 1024 1024 0",
+        "0 0 0 1024 1024 1024 1024 0",
+    ],
+    ["6 0 0 0 2 0 1 0 1 5", "1 0 1 5 6 0"],
+    ["0 0 4 0 4 4 0 4 0 0", "0 0 4 0 4 4 0 4"],
+    ["0 0 1 0 1 0 2 0 2 2 0 2 0 0", "0 0 2 0 2 2 0 2"],
+    ["0 0 8 0 4 0 6 0 6 4 0 4", "0 0 6 0 6 4 0 4"],
+    ["0 0 10 0 2 0 8 0 4 0 6 0 6 6 0 6", "0 0 6 0 6 6 0 6"],
 ];
 
-/// A name, a list of points, and the ring that is left of it.
-type Ring = (&'static str, Vec<[i32; 2]>, Vec<[i32; 2]>);
+/// A name, a list of points, and the ring that is left of it, from its least start.
+pub type Ring = (&'static str, Vec<[i32; 2]>, Vec<[i32; 2]>);
 
-/// The hostile contours from every start in both directions, each with its name and the ring that is left of it, from its least
-/// start. That is one point of a ring alone, so backwards it is the same one.
-pub fn hostile_rings(rt: &impl Abort, alloc: Global) -> Vec<Ring> {
+/// A list and its ring from every start in both directions. The least start of a ring is one point of it alone, so backwards it is the same one.
+pub fn rings(alloc: Global, name: &'static str, ring: &str) -> Result<Vec<Ring>, Fail> {
+    let list = texts::points(alloc, name)?;
+    let ring = texts::points(alloc, ring)?;
+    let other = rotated(alloc, ring.as_slice(), ring.len().min(1))?;
     let mut rings = Vec::new(alloc);
-    for (name, list, ring) in &HOSTILE {
-        let other = rotated(alloc, ring, ring.len().min(1)).expect(rt, name);
-        for start in 0..list.len() {
-            let given = rotated(alloc, list, start).expect(rt, name);
-            let turned = reversed(alloc, given.as_slice()).expect(rt, name);
-            let left = Vec::from_slice(alloc, ring).expect(rt, name);
-            rings.push((*name, given, left)).expect(rt, name);
-            let left = reversed(alloc, other.as_slice()).expect(rt, name);
-            rings.push((*name, turned, left)).expect(rt, name);
+    for start in 0..list.len() {
+        let given = rotated(alloc, list.as_slice(), start)?;
+        let turned = reversed(alloc, given.as_slice())?;
+        rings.push((name, given, Vec::from_slice(alloc, ring.as_slice())?))?;
+        rings.push((name, turned, reversed(alloc, other.as_slice())?))?;
+    }
+    Ok(rings)
+}
+
+/// The hostile contours from every start in both directions.
+pub fn hostile_rings(alloc: Global) -> Result<Vec<Ring>, Fail> {
+    let mut all = Vec::new(alloc);
+    for [list, ring] in HOSTILE {
+        for ring in rings(alloc, list, ring)? {
+            all.push(ring)?;
         }
     }
-    rings
+    Ok(all)
 }
-
-/// The contour of these points. The test stops where one isn't safe, and where there is no memory.
-pub fn safe_contour<I: IntNumber>(
-    rt: &impl Abort,
-    alloc: Global,
-    points: &[[I; 2]],
-) -> IntContour<I>
-    ensures { All (IsSafe I.width) (contour_of I.value result.items) }
-{
-    contour(rt, alloc, points).expect(rt, "there is no memory")
-}
-
-/// Each of these answers is the one that is wanted. The test stops at the first that isn't, and names the row and the answer.
-pub fn all_hold(rt: &impl Abort, row: &str, answers: &[(bool, &str)]) {
-    for (holds, answer) in answers {
-        assert!(rt; *holds, "{row}: {answer}");
-    }
-}
-
-/// A name and a contour.
-pub type Named<I> = (&'static str, &'static [[I; 2]]);
-
-/// The square at the safe limits of 16 bits, once and twice round.
-pub const SQUARES_16: [Named<i16>; 2] = [
-    (
-        "the widest square of 16 bits",
-        &[
-            [-16383, -16383],
-            [16383, -16383],
-            [16383, 16383],
-            [-16383, 16383],
-        ],
-    ),
-    (
-        "the widest square of 16 bits, twice",
-        &[
-            [-16383, -16383],
-            [16383, -16383],
-            [16383, 16383],
-            [-16383, 16383],
-            [-16383, -16383],
-            [16383, -16383],
-            [16383, 16383],
-            [-16383, 16383],
-        ],
-    ),
-];
-
-/// The square at the safe limits of 32 bits, once and twice round.
-pub const SQUARES_32: [Named<i32>; 2] = [
-    (
-        "the widest square of 32 bits",
-        &[
-            [-1073741823, -1073741823],
-            [1073741823, -1073741823],
-            [1073741823, 1073741823],
-            [-1073741823, 1073741823],
-        ],
-    ),
-    (
-        "the widest square of 32 bits, twice",
-        &[
-            [-1073741823, -1073741823],
-            [1073741823, -1073741823],
-            [1073741823, 1073741823],
-            [-1073741823, 1073741823],
-            [-1073741823, -1073741823],
-            [1073741823, -1073741823],
-            [1073741823, 1073741823],
-            [-1073741823, 1073741823],
-        ],
-    ),
-];
-
-/// The square at the safe limits of 64 bits, once and twice round.
-pub const SQUARES_64: [Named<i64>; 2] = [
-    (
-        "the widest square of 64 bits",
-        &[
-            [-4611686018427387903, -4611686018427387903],
-            [4611686018427387903, -4611686018427387903],
-            [4611686018427387903, 4611686018427387903],
-            [-4611686018427387903, 4611686018427387903],
-        ],
-    ),
-    (
-        "the widest square of 64 bits, twice",
-        &[
-            [-4611686018427387903, -4611686018427387903],
-            [4611686018427387903, -4611686018427387903],
-            [4611686018427387903, 4611686018427387903],
-            [-4611686018427387903, 4611686018427387903],
-            [-4611686018427387903, -4611686018427387903],
-            [4611686018427387903, -4611686018427387903],
-            [4611686018427387903, 4611686018427387903],
-            [-4611686018427387903, 4611686018427387903],
-        ],
-    ),
-];

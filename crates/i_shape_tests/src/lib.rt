@@ -8,8 +8,6 @@ mod buffer;
 #[cfg(test)]
 mod calling;
 #[cfg(test)]
-mod canonical;
-#[cfg(test)]
 mod claims;
 #[cfg(test)]
 mod cleaners;
@@ -18,31 +16,19 @@ mod comparisons;
 #[cfg(test)]
 mod contour;
 #[cfg(test)]
-mod count;
-#[cfg(test)]
 mod debug;
 #[cfg(test)]
-mod despike;
-#[cfg(test)]
-mod filling;
+mod forms;
 #[cfg(test)]
 mod generic_buffer;
 #[cfg(test)]
 mod given;
 #[cfg(test)]
-mod given_shapes;
-#[cfg(test)]
-mod in_place;
-#[cfg(test)]
 mod laws;
 #[cfg(test)]
 mod macros;
 #[cfg(test)]
-mod number;
-#[cfg(test)]
 mod plain;
-#[cfg(test)]
-mod polygons;
 #[cfg(test)]
 mod probe;
 #[cfg(test)]
@@ -50,12 +36,10 @@ mod resource;
 #[cfg(test)]
 mod shapes;
 #[cfg(test)]
-mod simple;
-#[cfg(test)]
 mod small_grid;
 #[cfg(test)]
-mod through_buffer;
-#[cfg(test)]
-mod too_many_points;
+mod texts;
 #[cfg(test)]
 mod tool;
+#[cfg(test)]
+mod worked;

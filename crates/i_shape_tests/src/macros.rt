@@ -1,6 +1,6 @@
 use crate::claims::{equal, holds};
 use crate::given::contour;
-use crate::given_shapes::{shape, shapes};
+use crate::texts;
 use i_shape::int::shape::{IntContour, IntShape, IntShapes};
 use i_shape::{int_path, int_shape, int_shapes, path, paths};
 use std::process::Abort;
@@ -55,19 +55,19 @@ fn contours_of_whole_numbers(rt: HostRuntime) -> Result<(), Fail> {
 #[test]
 fn shapes_of_whole_numbers(rt: HostRuntime) -> Result<(), Fail> {
     let alloc = rt.alloc();
-    let wanted = shape::<i32>(&rt, alloc, &[])?;
+    let wanted = texts::shape(&rt, alloc, "")?;
     let none: IntShape<i32> = int_shape![alloc;]?;
     holds(&rt, none == wanted, "none", "the shape");
-    let wanted = shape::<i32>(&rt, alloc, &[&[[0, 0], [1, 0]], &[[2, 2]]])?;
+    let wanted = texts::shape(&rt, alloc, "0 0 1 0;2 2;")?;
     let two: IntShape<i32> = int_shape![alloc; [[0, 0], [1, 0],], [[2, 2]],]?;
     holds(&rt, two == wanted, "two contours", "the shape");
-    let wanted = shapes::<i32>(&rt, alloc, &[])?;
+    let wanted = texts::shapes(&rt, alloc, "")?;
     let list: IntShapes<i32> = int_shapes![alloc;]?;
     holds(&rt, list == wanted, "none", "the list");
-    let wanted = shapes::<i32>(&rt, alloc, &[&[&[[3, 4]]]])?;
+    let wanted = texts::shapes(&rt, alloc, "3 4;/")?;
     let list: IntShapes<i32> = int_shapes![alloc; [[[3, 4]]]]?;
     holds(&rt, list == wanted, "one shape", "the list");
-    let wanted = shapes::<i32>(&rt, alloc, &[&[&[[0, 0], [1, 0], [1, 1]]], &[]])?;
+    let wanted = texts::shapes(&rt, alloc, "0 0 1 0 1 1;//")?;
     let list: IntShapes<i32> = int_shapes![alloc; [[[0, 0], [1, 0], [1, 1],],], [],]?;
     holds(&rt, list == wanted, "two shapes", "the list");
     Ok(())
@@ -90,7 +90,7 @@ fn expressions_are_evaluated_from_left_to_right(rt: HostRuntime) -> Result<(), F
         [[[next(&mut count), 0]], [[next(&mut count), 0]]],
         [[[next(&mut count), 0]]]
     ]?;
-    let wanted = shapes::<i32>(&rt, alloc, &[&[&[[1, 0]], &[[2, 0]]], &[&[[3, 0]]]])?;
+    let wanted = texts::shapes(&rt, alloc, "1 0;2 0;/3 0;/")?;
     holds(&rt, list == wanted, "points of shapes", "the list");
     Ok(())
 }

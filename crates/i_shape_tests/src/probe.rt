@@ -1,80 +1,87 @@
-use crate::given::{all_hold, safe_contour};
+//! Three points: the products of the two ways at the second of them, and the turn there.
+
+use crate::claims::{equal, holds};
+use crate::given::contour;
+use crate::texts;
+use i_shape::IntNumber;
+use i_shape::int::IntPoint;
 use i_shape_core::probe::Probe;
 use i_shape_core::turn::Turn;
 use std::alloc::Global;
 use std::process::Abort;
+use std::test::Fail;
 
-/// Asks for the turn of three points, told at the second of them, with one visit, at a width.
-macro_rules! turns {
-    ($width:ty, $rt:expr, $alloc:expr, $name:expr, $points:expr, $wanted:expr) => {
-        let [a, b, c]: [[$width; 2]; 3] = $points;
-        let given = safe_contour::<$width>($rt, $alloc, &[a, b, c]);
-        let mut probe = Probe::new(given.as_slice());
-        assert!($rt; probe.len() == 3, "{}: three points", $name);
-        let none = probe.visits();
-        let told = probe.turn(0, 1, 2);
-        let one = probe.visits();
-        probe.skip();
-        let two = probe.visits();
-        let is_whole = probe.len() == 3;
-        let (kept, visits) = probe.keep($alloc, &[2, 0, 2]).expect($rt, $name);
-        let listed = safe_contour::<$width>($rt, $alloc, &[c, a, c]);
-        let before = safe_contour::<$width>($rt, $alloc, &[a, b, c]);
-        let answers = [
-            (told == $wanted, "turn"),
-            (none == 0 && one == 1 && two == 2, "visits"),
-            (is_whole, "three points again"),
-            (visits == 2, "visits of keep"),
-            (kept == listed, "keep"),
-            (given == before, "the contour after it"),
-        ];
-        all_hold($rt, $name, &answers);
-    };
+/// The turn at the second of three points is this one, and counts one visit; one that is skipped counts another.
+fn turns<I: IntNumber>(
+    rt: &impl Abort,
+    alloc: Global,
+    name: &str,
+    points: &[[I; 2]],
+    wanted: Turn,
+) -> Result<(), Fail> {
+    let given = contour(rt, alloc, points)?;
+    let mut probe = Probe::new(given.as_slice());
+    assert!(rt;
+        given.len() == 3 && probe.len() == 3,
+        "{name}: three points"
+    );
+    equal(rt, probe.visits(), 0, name, "no visit");
+    equal(rt, probe.turn(0, 1, 2), wanted, name, "the turn");
+    equal(rt, probe.visits(), 1, name, "a visit");
+    probe.skip();
+    let (kept, visits) = probe.keep(alloc, &[2, 0, 2])?;
+    equal(rt, visits, 2, name, "visits of keep");
+    holds(
+        rt,
+        kept.as_slice() == [given[2], given[0], given[2]].as_slice(),
+        name,
+        "keep",
+    );
+    Ok(())
 }
 
-fn narrow_turns(rt: &impl Abort, alloc: Global, name: &str, points: [[i16; 2]; 3], wanted: Turn) {
-    turns!(i16, rt, alloc, name, points, wanted);
+/// The vector from one point to another.
+fn way([ax, ay]: [i32; 2], [bx, by]: [i32; 2]) -> IntPoint<i32> {
+    IntPoint::new(bx.wrapping_sub(ax), by.wrapping_sub(ay))
 }
 
-fn turns(rt: &impl Abort, alloc: Global, name: &str, points: [[i32; 2]; 3], wanted: Turn) {
-    turns!(i32, rt, alloc, name, points, wanted);
-}
-
-fn wide_turns(rt: &impl Abort, alloc: Global, name: &str, points: [[i64; 2]; 3], wanted: Turn) {
-    turns!(i64, rt, alloc, name, points, wanted);
-}
-
-fn wide([x, y]: [i32; 2]) -> [i64; 2] {
-    [x as i64, y as i64]
-}
-
-const ROWS: [(&str, [[i32; 2]; 3], Turn); 8] = [
-    ("to the left", [[0, 0], [2, 0], [2, 3]], Turn::Turning),
-    ("to the right", [[0, 0], [2, 0], [2, -3]], Turn::Turning),
-    ("straight", [[0, 0], [2, 0], [5, 0]], Turn::Straight),
-    ("half back", [[0, 0], [2, 0], [1, 0]], Turn::Back),
-    ("all the way back", [[0, 0], [2, 0], [0, 0]], Turn::Back),
-    (
-        "the first point twice",
-        [[0, 0], [0, 0], [1, 4]],
-        Turn::Back,
-    ),
-    ("the last point twice", [[3, 1], [5, 5], [5, 5]], Turn::Back),
-    (
-        "straight up a slope",
-        [[1, 1], [3, 5], [4, 7]],
-        Turn::Straight,
-    ),
+/// Three points, the cross product, the dot product and the turn.
+const TURNS: [(&str, i64, i64, Turn); 8] = [
+    ("0 0 2 0 2 3", 6, 0, Turn::Turning),
+    ("0 0 2 0 2 -3", -6, 0, Turn::Turning),
+    ("0 0 2 0 5 0", 0, 6, Turn::Straight),
+    ("0 0 2 0 1 0", 0, -2, Turn::Back),
+    ("0 0 2 0 0 0", 0, -4, Turn::Back),
+    ("0 0 0 0 1 4", 0, 0, Turn::Back),
+    ("3 1 5 5 5 5", 0, 0, Turn::Back),
+    ("1 1 3 5 4 7", 0, 10, Turn::Straight),
 ];
 
 #[test]
-fn a_turn_is_told_by_its_three_points(rt: HostRuntime) {
-    let alloc = rt.alloc();
-    for (name, points, wanted) in &ROWS {
-        turns(&rt, alloc, name, *points, *wanted);
-        let [a, b, c] = *points;
-        wide_turns(&rt, alloc, name, [wide(a), wide(b), wide(c)], *wanted);
+fn a_turn_is_told_by_its_three_points(rt: HostRuntime) -> Result<(), Fail> {
+    for (name, cross, dot, turn) in TURNS {
+        let points = texts::points(rt.alloc(), name)?;
+        turns::<i32>(&rt, rt.alloc(), name, points.as_slice(), turn)?;
+        let [a, b, c] = points.as_slice() else {
+            return Err(Fail::new("three points"));
+        };
+        let (first, second) = (way(*a, *b), way(*b, *c));
+        assert!(rt; i32::MIN < first.x, "{name}: too long for the product");
+        equal(&rt, first.cross_product(second), cross, name, "cross");
+        equal(&rt, first.dot_product(second), dot, name, "dot");
     }
-    let points = [[-16383, -16383], [16383, 16383], [16383, -16383]];
-    narrow_turns(&rt, alloc, "the widest of 16 bits", points, Turn::Turning);
+    Ok(())
+}
+
+#[test]
+fn the_widest_turn_of_16_bits(rt: HostRuntime) -> Result<(), Fail> {
+    let name = "the widest";
+    let far: i16 = 16383;
+    let points = [[-far, -far], [far, far], [far, -far]];
+    turns::<i16>(&rt, rt.alloc(), name, &points, Turn::Turning)?;
+    let first = IntPoint::new(far, far) - IntPoint::new(-far, -far);
+    let second = IntPoint::new(far, -far) - IntPoint::new(far, far);
+    equal(&rt, first.cross_product(second), -1073610756, name, "cross");
+    equal(&rt, first.dot_product(second), -1073610756, name, "dot");
+    Ok(())
 }

@@ -336,7 +336,7 @@ fn are_safe<I: IntNumber>(alloc: Global, points: &[IntPoint<I>]) -> Result<[bool
     Ok([of_contour, of_shape, (&shapes).is_in_safe_range()])
 }
 
-/// The corners with this point more aren't safe.
+/// The point isn't safe, and nor are the corners with it.
 fn is_far<I: IntNumber>(
     rt: &impl Abort,
     alloc: Global,
@@ -344,6 +344,7 @@ fn is_far<I: IntNumber>(
     corners: &[IntPoint<I>],
     far: IntPoint<I>,
 ) -> Result<(), Fail> {
+    holds(rt, !far.is_in_safe_range(), name, "a point by itself");
     let mut points = corners.to_vec(alloc)?;
     points.push(far)?;
     let safe = are_safe(alloc, points.as_slice())?;
@@ -361,6 +362,9 @@ fn safe_range_ends_at<I: IntNumber>(
 ) -> Result<(), Fail> {
     let safe = are_safe(alloc, corners)?;
     holds(rt, safe == [true; 3], name, "the corners");
+    for corner in corners {
+        holds(rt, corner.is_in_safe_range(), name, "a corner");
+    }
     for coordinate in beyond {
         is_far(
             rt,

@@ -1,325 +1,209 @@
-use crate::claims::holds;
-use crate::given_shapes::{shape, shapes};
-use i_shape::IntNumber;
+//! Shapes and lists without zero turns, and without spikes: as copies, in place, inside a buffer and through one.
+
+use crate::claims::{equal, holds};
+use crate::texts;
+use i_shape::flat::buffer::FlatShapesBuffer;
 use i_shape::int::despike::{DeSpike, DeSpikeShape, DeSpikeShapes};
-use i_shape::int::shape::IntShape;
+use i_shape::int::shape::{IntShape, IntShapes};
 use i_shape::int::simple::{SimpleShape, SimpleShapes, Simplify};
+use i_shape_tool::{clean_through_buffer, despike_through_buffer};
 use std::alloc::Global;
 use std::process::Abort;
 use std::test::Fail;
 
-type Contour = &'static [[i32; 2]];
-
-type Shape = &'static [Contour];
-
-type Shapes = &'static [Shape];
-
-const SQUARE: Contour = &[[0, 0], [4, 0], [4, 4], [0, 4]];
-
-const TRIANGLE: Contour = &[[0, 0], [4, 0], [4, 4]];
-
-const CLOCKWISE: Contour = &[[-10, -10], [-10, 10], [10, 10], [10, -10]];
-
-const HOLE: Contour = &[[-5, -5], [5, -5], [5, 5], [-5, 5]];
-
-const BACK_AND_FORTH: Contour = &[
-    [-10, -10],
-    [-10, 10],
-    [10, 10],
-    [-10, 10],
-    [-10, -10],
-    [10, -10],
-];
-
-const FLAT_HOLE: Contour = &[[-5, -5], [5, -5], [-5, -5]];
-
-const DIAGONAL: Contour = &[[1, 1], [2, 2], [3, 3]];
-
-const VERTICAL: Contour = &[[0, 0], [0, 512], [0, 1]];
-
-const CLOSED: Contour = &[[0, 0], [1, 0], [1, 0], [2, 0], [2, 2], [0, 2], [0, 0]];
-
-const CLOSED_SIMPLIFIED: Contour = &[[2, 0], [2, 2], [0, 2], [0, 0]];
-
-const SPIKED: Contour = &[[0, 0], [2, 0], [4, 0], [2, 0], [2, 2], [0, 2]];
-
-const BLUNT: Contour = &[[0, 0], [2, 0], [2, 2], [0, 2]];
-
-const NO_POINTS: Contour = &[];
-
-/// A copy has the contours that are left, or there is none where none is wanted.
-fn is_left<I: IntNumber>(
-    kept: Option<IntShape<I>>,
-    left: &IntShape<I>,
-    wanted: Option<&[&[[I; 2]]]>,
-) -> bool {
-    match kept {
-        Some(kept) => wanted.is_some() && kept == *left,
-        None => wanted.is_none(),
-    }
-}
-
-/// Without zero turns the shape of `given` becomes that of `wanted`, or collapses: as a copy, and in place, where it is told
-/// whether that changed it.
-fn simplifies_shape<I: IntNumber>(
+/// Without zero turns `left` is left of the list, and it is told in place whether that changed it.
+fn list_is_simplified(
     rt: &impl Abort,
     alloc: Global,
-    name: &str,
-    given: &[&[[I; 2]]],
-    wanted: Option<&[&[[I; 2]]]>,
+    [given, left]: [&str; 2],
 ) -> Result<(), Fail> {
-    let before = shape(rt, alloc, given)?;
-    let kept = before.as_slice().simplified(alloc)?;
-    let mut cleaned = shape(rt, alloc, given)?;
-    let changed = cleaned.simplify_contour()?;
+    let mut list = texts::shapes(rt, alloc, given)?;
+    let left = texts::shapes(rt, alloc, left)?;
+    let is_clean = list == left;
+    equal(rt, list.as_slice().is_simple(), is_clean, given, "simple");
     holds(
         rt,
-        changed == (cleaned != before),
-        name,
-        "the answer in place",
+        list.as_slice().simplified(alloc)? == left,
+        given,
+        "simplified",
     );
-    let simple = before.as_slice().is_simple();
-    holds(rt, changed != simple, name, "whether it is simple");
-    let left = shape(rt, alloc, wanted.unwrap_or(&[]))?;
-    holds(rt, cleaned == left, name, "without zero turns, in place");
-    let is_left = is_left(kept, &left, wanted);
-    holds(rt, is_left, name, "without zero turns");
+    let kept = clean_through_buffer(alloc, list.as_slice())?;
+    holds(rt, kept == left, given, "simplified through a buffer");
+    equal(
+        rt,
+        list.simplify_contour()?,
+        !is_clean,
+        given,
+        "what is told",
+    );
+    holds(rt, list == left, given, "simplified in place");
     Ok(())
 }
 
 /// The same without spikes.
-fn despikes_shape<I: IntNumber>(
-    rt: &impl Abort,
-    alloc: Global,
-    name: &str,
-    given: &[&[[I; 2]]],
-    wanted: Option<&[&[[I; 2]]]>,
-) -> Result<(), Fail> {
-    let before = shape(rt, alloc, given)?;
-    let kept = before.despiked_shape(alloc)?;
-    let mut cleaned = shape(rt, alloc, given)?;
-    let changed = cleaned.remove_spikes()?;
-    holds(
-        rt,
-        changed == (cleaned != before),
-        name,
-        "the answer in place",
-    );
-    let clean = before.has_no_spikes();
-    holds(rt, changed != clean, name, "whether it has no spikes");
-    let left = shape(rt, alloc, wanted.unwrap_or(&[]))?;
-    holds(rt, cleaned == left, name, "without spikes, in place");
-    let is_left = is_left(kept, &left, wanted);
-    holds(rt, is_left, name, "without spikes");
+fn list_is_despiked(rt: &impl Abort, alloc: Global, [given, left]: [&str; 2]) -> Result<(), Fail> {
+    let mut list = texts::shapes(rt, alloc, given)?;
+    let left = texts::shapes(rt, alloc, left)?;
+    let is_clean = list == left;
+    equal(rt, list.has_no_spikes(), is_clean, given, "no spikes");
+    holds(rt, list.despiked_shapes(alloc)? == left, given, "despiked");
+    let kept = despike_through_buffer(alloc, list.as_slice())?;
+    holds(rt, kept == left, given, "despiked through a buffer");
+    equal(rt, list.remove_spikes()?, !is_clean, given, "spikes told");
+    holds(rt, list == left, given, "despiked in place");
     Ok(())
 }
 
-/// Without zero turns the list of `given` becomes that of `wanted`: as a copy, and in place, where it is told whether that
-/// changed it.
-fn simplifies_list<I: IntNumber>(
+/// The list is cleaned so in a buffer, where a second call changes nothing.
+#[tactic(auto, using(i_shape::proofs::CallerLemmas::named_held))]
+fn buffer_is_cleaned(
     rt: &impl Abort,
     alloc: Global,
-    name: &str,
-    given: &[&[&[[I; 2]]]],
-    wanted: &[&[&[[I; 2]]]],
+    [given, simple, blunt]: [&str; 3],
 ) -> Result<(), Fail> {
-    let wanted = shapes(rt, alloc, wanted)?;
-    let before = shapes(rt, alloc, given)?;
-    let mut cleaned = shapes(rt, alloc, given)?;
-    let kept = before.as_slice().simplified(alloc)?;
-    holds(rt, kept == wanted, name, "without zero turns");
-    let simple = before.as_slice().is_simple();
+    let list = texts::shapes(rt, alloc, given)?;
+    let mut buffer = FlatShapesBuffer::new(alloc);
+    buffer.set_with_shapes(list.as_slice())?;
+    let changed = buffer.remove_spikes()?;
+    let left = texts::shapes(rt, alloc, blunt)?;
+    equal(rt, changed, list != left, given, "spikes told in a buffer");
     holds(
         rt,
-        simple == (before == wanted),
-        name,
-        "whether it is simple",
+        buffer.to_shapes()? == left,
+        given,
+        "despiked in a buffer",
     );
-    let changed = cleaned.simplify_contour()?;
+    buffer.set_with_shapes(list.as_slice())?;
+    let changed = buffer.simplify_shapes()?;
+    let left = texts::shapes(rt, alloc, simple)?;
+    equal(rt, changed, list != left, given, "what is told in a buffer");
     holds(
         rt,
-        changed == (before != wanted),
-        name,
-        "the answer in place",
+        buffer.to_shapes()? == left,
+        given,
+        "simplified in a buffer",
     );
-    holds(rt, cleaned == wanted, name, "without zero turns, in place");
+    holds(
+        rt,
+        !buffer.simplify_shapes()?,
+        given,
+        "told in a buffer again",
+    );
     Ok(())
 }
 
-/// The same without spikes.
-fn despikes_list<I: IntNumber>(
+/// Whether the answer is the shape of the list, or none where the list has none.
+fn is_of(answer: Option<IntShape<i32>>, list: IntShapes<i32>) -> bool {
+    match answer {
+        Some(shape) => list.len() == 1 && list[0] == shape,
+        None => list.is_empty(),
+    }
+}
+
+/// The shape is cleaned as the list of it, and is left empty in place where the list is.
+fn shape_is_cleaned(
     rt: &impl Abort,
     alloc: Global,
-    name: &str,
-    given: &[&[&[[I; 2]]]],
-    wanted: &[&[&[[I; 2]]]],
+    given: &str,
+    [simple, blunt]: [&str; 2],
 ) -> Result<(), Fail> {
-    let wanted = shapes(rt, alloc, wanted)?;
-    let before = shapes(rt, alloc, given)?;
-    let mut cleaned = shapes(rt, alloc, given)?;
-    let kept = before.despiked_shapes(alloc)?;
-    holds(rt, kept == wanted, name, "without spikes");
-    let clean = before.has_no_spikes();
+    let mut shape = texts::shape(rt, alloc, given)?;
+    let left = texts::shapes(rt, alloc, simple)?;
     holds(
         rt,
-        clean == (before == wanted),
-        name,
-        "whether it has no spikes",
+        is_of(shape.as_slice().simplified(alloc)?, left),
+        given,
+        "a simplified shape",
     );
-    let changed = cleaned.remove_spikes()?;
+    let left = texts::shapes(rt, alloc, blunt)?;
     holds(
         rt,
-        changed == (before != wanted),
-        name,
-        "the answer in place",
+        is_of(shape.despiked_shape(alloc)?, left),
+        given,
+        "a despiked shape",
     );
-    holds(rt, cleaned == wanted, name, "without spikes, in place");
+    let mut other = texts::shape(rt, alloc, given)?;
+    let is_spikeless = shape.has_no_spikes();
+    equal(
+        rt,
+        shape.remove_spikes()?,
+        !is_spikeless,
+        given,
+        "spikes of a shape told",
+    );
+    let left = texts::shape(rt, alloc, blunt.trim_end_matches('/'))?;
+    holds(rt, shape == left, given, "a shape despiked in place");
+    let is_simple = other.as_slice().is_simple();
+    equal(
+        rt,
+        other.simplify_contour()?,
+        !is_simple,
+        given,
+        "what is told of a shape",
+    );
+    let left = texts::shape(rt, alloc, simple.trim_end_matches('/'))?;
+    holds(rt, other == left, given, "a shape simplified in place");
     Ok(())
 }
 
-/// A name, a shape, and what is left of it where it doesn't collapse.
-type LeftOfShape = (&'static str, Shape, Option<Shape>);
+/// All calls clean the list so, and those of a shape, where it has one.
+fn is_cleaned(
+    rt: &impl Abort,
+    alloc: Global,
+    [given, simple, blunt]: [&str; 3],
+) -> Result<(), Fail> {
+    list_is_simplified(rt, alloc, [given, simple])?;
+    list_is_despiked(rt, alloc, [given, blunt])?;
+    buffer_is_cleaned(rt, alloc, [given, simple, blunt])?;
+    match given.strip_suffix('/') {
+        Some(shape) if !shape.contains('/') => shape_is_cleaned(rt, alloc, shape, [simple, blunt]),
+        _ => Ok(()),
+    }
+}
 
-const SIMPLIFIED_SHAPES: [LeftOfShape; 8] = [
-    ("an empty shape stays empty", &[], Some(&[])),
-    (
-        "a clean shape is its own copy",
-        &[CLOCKWISE, HOLE],
-        Some(&[CLOCKWISE, HOLE]),
-    ),
-    (
-        "a flat hole is left out",
-        &[CLOCKWISE, FLAT_HOLE],
-        Some(&[CLOCKWISE]),
-    ),
-    (
-        "a diagonal hole is left out",
-        &[SQUARE, DIAGONAL],
-        Some(&[SQUARE]),
-    ),
-    (
-        "the closing point is taken off",
-        &[CLOSED],
-        Some(&[CLOSED_SIMPLIFIED]),
-    ),
-    (
-        "the closing point of the outer contour is taken off",
-        &[CLOSED, HOLE],
-        Some(&[CLOSED_SIMPLIFIED, HOLE]),
-    ),
-    (
-        "nothing is left without the outer contour",
-        &[BACK_AND_FORTH, HOLE, HOLE],
-        None,
-    ),
-    ("a contour without points", &[NO_POINTS], None),
-];
+/// A list, what is left of it without zero turns, and what is left without spikes.
+const LISTS: &str = "\
+||
+/|/|/
+-10 -10 -10 10 10 10 10 -10; -5 -5 5 -5 5 5 -5 5;/|-10 -10 -10 10 10 10 10 -10; -5 -5 5 -5 5 5 -5 5;/|-10 -10 -10 10 10 10 10 -10; -5 -5 5 -5 5 5 -5 5;/
+-10 -10 -10 10 10 10 10 -10; -5 -5 5 -5 -5 -5;/|-10 -10 -10 10 10 10 10 -10;/|-10 -10 -10 10 10 10 10 -10;/
+0 0 4 0 4 4 0 4; 1 1 2 2 3 3;/|0 0 4 0 4 4 0 4;/|0 0 4 0 4 4 0 4;/
+0 0 4 0 4 4 0 4; 1 1 2 2 3 3;//|0 0 4 0 4 4 0 4;//|0 0 4 0 4 4 0 4;//
+0 0 1 0 1 0 2 0 2 2 0 2 0 0;/|2 0 2 2 0 2 0 0;/|0 0 1 0 1 0 2 0 2 2 0 2 0 0;/
+0 0 2 0 4 0 2 0 2 2 0 2; 1 1 2 2 3 3;/|0 0 2 0 2 2 0 2;/|0 0 2 0 2 2 0 2;/
+-10 -10 -10 10 10 10 -10 10 -10 -10 10 -10; -5 -5 5 -5 5 5 -5 5; -5 -5 5 -5 5 5 -5 5;/||
+-10 -10 -10 10 10 10 -10 10 -10 -10 10 -10; -5 -5 5 -5 5 5 -5 5;/-10 -10 -10 10 10 10 10 -10;/|-10 -10 -10 10 10 10 10 -10;/|-10 -10 -10 10 10 10 10 -10;/
+-10 -10 -10 10 10 10 -10 10 -10 -10 10 -10; -5 -5 5 -5 5 5 -5 5;/-10 -10 -10 10 10 10 -10 10 -10 -10 10 -10; -5 -5 5 -5 5 5 -5 5;/||
+;/||
+/0 0 0 512 0 1;/0 0 4 0 4 4;/|/0 0 4 0 4 4;/|/0 0 4 0 4 4;/
+0 0 1 0 1 1;/5 5 6 5 6 6; 7 7 8 7 8 8;/|0 0 1 0 1 1;/5 5 6 5 6 6; 7 7 8 7 8 8;/|0 0 1 0 1 1;/5 5 6 5 6 6; 7 7 8 7 8 8;/";
 
 #[test]
-fn shapes_without_zero_turns(rt: HostRuntime) -> Result<(), Fail> {
-    for (name, given, wanted) in SIMPLIFIED_SHAPES {
-        simplifies_shape::<i32>(&rt, rt.alloc(), name, given, wanted)?;
+fn lists_and_shapes_are_cleaned(rt: HostRuntime) -> Result<(), Fail> {
+    for row in LISTS.lines() {
+        let columns: Vec<&str> = row.split('|').collect(rt.alloc())?;
+        let [given, simple, blunt] = columns.as_slice() else {
+            return Err(Fail::new("a row has three columns"));
+        };
+        is_cleaned(&rt, rt.alloc(), [*given, *simple, *blunt])?;
     }
     Ok(())
 }
 
-const DESPIKED_SHAPES: [LeftOfShape; 8] = [
-    ("an empty shape stays empty", &[], Some(&[])),
-    (
-        "straight ways and repeated points are no spikes, beside a hole",
-        &[CLOSED, HOLE],
-        Some(&[CLOSED, HOLE]),
-    ),
-    (
-        "straight ways and repeated points are no spikes",
-        &[CLOSED],
-        Some(&[CLOSED]),
-    ),
-    (
-        "a spike and a flat hole go",
-        &[SPIKED, DIAGONAL],
-        Some(&[BLUNT]),
-    ),
-    ("a flat hole goes", &[SQUARE, DIAGONAL], Some(&[SQUARE])),
-    (
-        "nothing is left without a vertical outer contour",
-        &[VERTICAL, HOLE],
-        None,
-    ),
-    (
-        "nothing is left without the outer contour",
-        &[BACK_AND_FORTH, HOLE, HOLE],
-        None,
-    ),
-    ("a contour without points", &[NO_POINTS], None),
-];
-
-#[test]
-fn shapes_without_spikes(rt: HostRuntime) -> Result<(), Fail> {
-    for (name, given, wanted) in DESPIKED_SHAPES {
-        despikes_shape::<i32>(&rt, rt.alloc(), name, given, wanted)?;
+/// A list of a square with a thousand flat holes.
+fn flat_holes(alloc: Global) -> Result<String, Fail> {
+    let mut list = String::from_str(alloc, "0 0 10 0 10 10 0 10;")?;
+    for _ in 0..1000 {
+        list.push_str("1 1 2 2 3 3;")?;
     }
-    Ok(())
+    list.push('/')?;
+    Ok(list)
 }
 
 #[test]
 fn a_thousand_flat_holes_are_left_out(rt: HostRuntime) -> Result<(), Fail> {
-    let alloc = rt.alloc();
-    let mut given = Vec::new(alloc);
-    given.push(SQUARE)?;
-    for _ in 0..1000 {
-        given.push(DIAGONAL)?;
-    }
-    let name = "a thousand flat holes";
-    let wanted = [SQUARE];
-    simplifies_shape(&rt, alloc, name, given.as_slice(), Some(&wanted))?;
-    despikes_shape(&rt, alloc, name, given.as_slice(), Some(&wanted))
-}
-
-/// A name, a list of shapes, and what is left of it.
-type LeftOfList = (&'static str, Shapes, Shapes);
-
-/// What is left of lists by both cleaners.
-const CLEANED_LISTS: [LeftOfList; 6] = [
-    (
-        "a collapsed shape is left out",
-        &[&[BACK_AND_FORTH, HOLE, HOLE], &[CLOCKWISE]],
-        &[&[CLOCKWISE]],
-    ),
-    (
-        "two collapsed shapes are left out",
-        &[&[BACK_AND_FORTH, HOLE, HOLE], &[BACK_AND_FORTH, HOLE, HOLE]],
-        &[],
-    ),
-    ("a contour without points is left out", &[&[NO_POINTS]], &[]),
-    (
-        "a shape that was empty before stays",
-        &[&[], &[VERTICAL], &[TRIANGLE]],
-        &[&[], &[TRIANGLE]],
-    ),
-    (
-        "a flat hole is left out, and an empty shape stays",
-        &[&[SQUARE, DIAGONAL], &[]],
-        &[&[SQUARE], &[]],
-    ),
-    (
-        "clean shapes stay",
-        &[&[CLOCKWISE, HOLE], &[]],
-        &[&[CLOCKWISE, HOLE], &[]],
-    ),
-];
-
-const CLOSED_LIST: Shapes = &[&[CLOSED]];
-
-const OPENED_LIST: Shapes = &[&[CLOSED_SIMPLIFIED]];
-
-#[test]
-fn lists_without_zero_turns_and_without_spikes(rt: HostRuntime) -> Result<(), Fail> {
-    let alloc = rt.alloc();
-    for (name, given, wanted) in CLEANED_LISTS {
-        simplifies_list::<i32>(&rt, alloc, name, given, wanted)?;
-        despikes_list::<i32>(&rt, alloc, name, given, wanted)?;
-    }
-    simplifies_list::<i32>(&rt, alloc, "closed", CLOSED_LIST, OPENED_LIST)?;
-    despikes_list::<i32>(&rt, alloc, "closed", CLOSED_LIST, CLOSED_LIST)
+    let list = flat_holes(rt.alloc())?;
+    let left = "0 0 10 0 10 10 0 10;/";
+    is_cleaned(&rt, rt.alloc(), [list.as_str(), left, left])?;
+    Ok(())
 }

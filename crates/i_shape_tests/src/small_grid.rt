@@ -1,36 +1,20 @@
+//! Lists of points of a small grid, cleaned as by plain loops.
+
 ghost use Rattle.std.specs.Prelude.{◌<◌};
 
 use crate::buffer::Draws;
-use crate::given::{all_hold, pairs, safe_contour};
+use crate::claims::{equal, holds};
+use crate::given::{contour, pairs};
 use crate::plain::{Order, Pair, deleted, is_rotation, ring_walk, stack_walk};
 use i_shape::int::despike::DeSpikeContour;
 use i_shape::int::simple::ContourSimplifier;
 use std::alloc::{AllocError, Global};
 use std::env;
 use std::process::Abort;
+use std::test::Fail;
 
 /// The points with x in 0..=2 and y in 0..=1.
 const GRID: usize = 6;
-
-/// A name, a number of points, and how many lists of so many points of the grid there are.
-const LISTS: [(&str, usize, usize); 6] = [
-    ("no point", 0, 1),
-    ("one point", 1, 6),
-    ("two points", 2, 36),
-    ("three points", 3, 216),
-    ("four points", 4, 1296),
-    ("five points", 5, 7776),
-];
-
-/// The numbers of points of drawn lists.
-const DRAWN: [(&str, usize); 6] = [
-    ("seven points", 7),
-    ("eight points", 8),
-    ("nine points", 9),
-    ("ten points", 10),
-    ("eleven points", 11),
-    ("twelve points", 12),
-];
 
 /// The point at a place of the grid.
 fn grid_point(place: usize) -> Pair {
@@ -78,29 +62,41 @@ fn simplifies_as_the_stack_walk(
     simplifier: &mut ContourSimplifier,
     name: &str,
     list: &[Pair],
-) {
-    let points = safe_contour::<i32>(rt, alloc, list);
-    let (kept, visits) = simplifier
-        .simplify_counted(points.as_slice())
-        .expect(rt, name);
+) -> Result<(), Fail> {
+    let points = contour::<i32>(rt, alloc, list)?;
+    let (kept, visits) = simplifier.simplify_counted(points.as_slice())?;
     let kept = match kept {
-        Some(kept) => Some(pairs(alloc, kept.as_slice()).expect(rt, name)),
+        Some(kept) => Some(pairs(alloc, kept.as_slice())?),
         None => None,
     };
-    let (left, walked) = stack_walk(alloc, list).expect(rt, name);
+    let (left, walked) = stack_walk(alloc, list)?;
     let is_left = match &kept {
         Some(kept) => *kept == left,
         None => left.len() < 3,
     };
-    let first = deleted(alloc, list, Order::First).expect(rt, name);
-    let last = deleted(alloc, list, Order::Last).expect(rt, name);
-    let answers = [
-        (is_left, "what the walk over a stack leaves"),
-        (visits == walked, "the visits of the walk over a stack"),
-        (is_end(first.as_slice(), &kept), "the first zero turn first"),
-        (is_end(last.as_slice(), &kept), "the last zero turn first"),
-    ];
-    all_hold(rt, name, &answers);
+    holds(rt, is_left, name, "what the walk over a stack leaves");
+    equal(
+        rt,
+        visits,
+        walked,
+        name,
+        "the visits of the walk over a stack",
+    );
+    let first = deleted(alloc, list, Order::First)?;
+    holds(
+        rt,
+        is_end(first.as_slice(), &kept),
+        name,
+        "the first zero turn first",
+    );
+    let last = deleted(alloc, list, Order::Last)?;
+    holds(
+        rt,
+        is_end(last.as_slice(), &kept),
+        name,
+        "the last zero turn first",
+    );
+    Ok(())
 }
 
 /// `despiked_counted` is `None` exactly where `simplified` is, its `Some` is what the plain walk round the ring leaves and is
@@ -111,35 +107,41 @@ fn despikes_as_the_ring_walk(
     simplifier: &mut ContourSimplifier,
     name: &str,
     list: &[Pair],
-) {
-    let points = safe_contour::<i32>(rt, alloc, list);
-    let kept = simplifier
-        .simplify_contour(points.as_slice())
-        .expect(rt, name);
-    let (despiked, visits) = points.despiked_counted(alloc).expect(rt, name);
-    let (left, walked) = ring_walk(alloc, list).expect(rt, name);
-    assert!(rt;
-        visits == walked,
-        "{name}: the visits of the walk round the ring"
+) -> Result<(), Fail> {
+    let points = contour::<i32>(rt, alloc, list)?;
+    let kept = simplifier.simplify_contour(points.as_slice())?;
+    let (despiked, visits) = points.despiked_counted(alloc)?;
+    let (left, walked) = ring_walk(alloc, list)?;
+    equal(
+        rt,
+        visits,
+        walked,
+        name,
+        "the visits of the walk round the ring",
     );
     let Some(despiked) = despiked else {
-        assert!(rt; kept.is_none() && left.len() < 3, "{name}: it collapsed");
-        return;
+        holds(rt, kept.is_none() && left.len() < 3, name, "it collapsed");
+        return Ok(());
     };
-    let survivors = pairs(alloc, despiked.as_slice()).expect(rt, name);
+    let survivors = pairs(alloc, despiked.as_slice())?;
+    holds(
+        rt,
+        survivors == left,
+        name,
+        "what the walk round the ring leaves",
+    );
     let again = simplifier
-        .simplify_contour(despiked.as_slice())
-        .expect(rt, name);
-    let again = pairs(alloc, again.expect(rt, name).as_slice()).expect(rt, name);
-    let kept = pairs(alloc, kept.expect(rt, name).as_slice()).expect(rt, name);
-    let answers = [
-        (survivors == left, "what the walk round the ring leaves"),
-        (
-            is_rotation(again.as_slice(), kept.as_slice()),
-            "the ring that the contour is simplified to",
-        ),
-    ];
-    all_hold(rt, name, &answers);
+        .simplify_contour(despiked.as_slice())?
+        .ok_or("it collapsed")?;
+    let again = pairs(alloc, again.as_slice())?;
+    let kept = pairs(alloc, kept.ok_or("it collapsed")?.as_slice())?;
+    holds(
+        rt,
+        is_rotation(again.as_slice(), kept.as_slice()),
+        name,
+        "the one ring",
+    );
+    Ok(())
 }
 
 /// Both counted cleaners leave of the list what the plain walks leave, by as many visits.
@@ -149,24 +151,32 @@ fn is_cleaned_as_by_plain_walks(
     simplifier: &mut ContourSimplifier,
     name: &str,
     list: &[Pair],
-) {
-    despikes_as_the_ring_walk(rt, alloc, simplifier, name, list);
-    simplifies_as_the_stack_walk(rt, alloc, simplifier, name, list);
+) -> Result<(), Fail> {
+    despikes_as_the_ring_walk(rt, alloc, simplifier, name, list)?;
+    simplifies_as_the_stack_walk(rt, alloc, simplifier, name, list)
 }
 
+/// A name, a number of points, and how many lists of so many points of the grid there are: 9,331 together.
+const LISTS: [(&str, usize, usize); 6] = [
+    ("no point", 0, 1),
+    ("one point", 1, 6),
+    ("two points", 2, 36),
+    ("three points", 3, 216),
+    ("four points", 4, 1296),
+    ("five points", 5, 7776),
+];
+
 #[test]
-fn every_small_list_is_cleaned_as_by_plain_loops(rt: HostRuntime) {
+fn every_small_list_is_cleaned_as_by_plain_loops(rt: HostRuntime) -> Result<(), Fail> {
     let alloc = rt.alloc();
     let mut simplifier = ContourSimplifier::new(alloc);
-    let mut lists: usize = 0;
-    for (name, count, codes) in &LISTS {
-        for code in 0..*codes {
-            let list = list_of(alloc, *count, code).expect(&rt, name);
-            is_cleaned_as_by_plain_walks(&rt, alloc, &mut simplifier, name, list.as_slice());
-            lists = lists.wrapping_add(1);
+    for (name, count, codes) in LISTS {
+        for code in 0..codes {
+            let list = list_of(alloc, count, code)?;
+            is_cleaned_as_by_plain_walks(&rt, alloc, &mut simplifier, name, list.as_slice())?;
         }
     }
-    assert!(rt; lists == 9331);
+    Ok(())
 }
 
 /// Of how many lists of six points one is cleaned: of eleven, and of one where the variable LONG_TESTS is there.
@@ -180,28 +190,41 @@ fn lists_for_one(rt: &HostRuntime) -> usize
 }
 
 #[test]
-fn lists_of_six_points_are_cleaned_as_by_plain_loops(rt: HostRuntime) {
+fn lists_of_six_points_are_cleaned_as_by_plain_loops(rt: HostRuntime) -> Result<(), Fail> {
     let alloc = rt.alloc();
     let mut simplifier = ContourSimplifier::new(alloc);
-    let name = "six points";
     let lists = lists_for_one(&rt);
     for code in 0..46656 {
         if code % lists == 0 {
-            let list = list_of(alloc, 6, code).expect(&rt, name);
-            is_cleaned_as_by_plain_walks(&rt, alloc, &mut simplifier, name, list.as_slice());
+            let list = list_of(alloc, 6, code)?;
+            is_cleaned_as_by_plain_walks(
+                &rt,
+                alloc,
+                &mut simplifier,
+                "six points",
+                list.as_slice(),
+            )?;
         }
     }
+    Ok(())
 }
 
 #[test]
-fn drawn_lists_are_cleaned_as_by_plain_loops(rt: HostRuntime) {
+fn drawn_lists_are_cleaned_as_by_plain_loops(rt: HostRuntime) -> Result<(), Fail> {
     let alloc = rt.alloc();
     let mut simplifier = ContourSimplifier::new(alloc);
     let mut draws = Draws { seed: 1 };
-    for (name, count) in &DRAWN {
+    for count in 7..13 {
         for _ in 0..1000 {
-            let list = drawn_list(alloc, &mut draws, *count).expect(&rt, name);
-            is_cleaned_as_by_plain_walks(&rt, alloc, &mut simplifier, name, list.as_slice());
+            let list = drawn_list(alloc, &mut draws, count)?;
+            is_cleaned_as_by_plain_walks(
+                &rt,
+                alloc,
+                &mut simplifier,
+                "seven points or more",
+                list.as_slice(),
+            )?;
         }
     }
+    Ok(())
 }

@@ -4,7 +4,7 @@ ghost use Rattle.std.specs.Prelude.{◌≡◌, [], ◌∷◌, OnOk, OnErr, IfOk,
 ghost use Rattle.i_shape_core.specs.Contour.{IsSimple};
 ghost use Rattle.i_shape_core.specs.IntPoint.{contour_of, IsSafeContour};
 ghost use Rattle.i_shape.specs.Paths.{concatenated};
-ghost use Rattle.i_shape.specs.ShapeLists.{shape_of, shapes_of, IsSafeList, IsSafeShape};
+ghost use Rattle.i_shape.specs.ShapeLists.{shapes_of, IsSafeList};
 ghost use Rattle.i_shape.specs.Buffers.{Compact, contours_in, CanReadContours};
 ghost use Rattle.std.specs.List.{All};
 
@@ -13,7 +13,7 @@ use i_shape::IntNumber;
 use i_shape::flat::buffer::FlatContoursBuffer;
 use i_shape::int::IntPoint;
 use i_shape::int::safe_range::IntSafeRange;
-use i_shape::int::shape::{IntContour, IntShape};
+use i_shape::int::shape::IntShape;
 
 /// Removes zero turns inside the buffer, whatever ranges it was given.
 pub fn simplify<I: IntNumber>(buffer: &mut FlatContoursBuffer<I>) -> Result<bool, Refusal>
@@ -54,27 +54,6 @@ pub fn set_contour<I: IntNumber>(
         return Err(Refusal::OutOfRange);
     }
     buffer.set_with_contour(contour)?;
-    Ok(buffer.simplify_contours()?)
-}
-
-/// Puts the contours of the shape into the buffer, and removes zero turns there. Answers whether any had to be cleaned.
-#[tactic(auto, using(i_shape::proofs::CallerLemmas::contours_held))]
-pub fn set_shape<I: IntNumber>(
-    buffer: &mut FlatContoursBuffer<I>,
-    shape: &[IntContour<I>],
-) -> Result<bool, Refusal>
-    ensures range { IsErrOf result Refusal.OutOfRange
-        ↔ (IsSafeShape I.width (shape_of I.value shape.now) → ⊥) }
-    ensures untouched { IsErrOf result Refusal.OutOfRange → buffer.new ≡ buffer.old }
-    ensures compact { OnOk result
-        (Compact (shape_of I.value shape.now) (contours_in I.value buffer.new)) }
-    ensures flag { IfOk result
-        (λ changed. changed ≡ false ↔ All IsSimple (shape_of I.value shape.now)) }
-{
-    if !shape.is_in_safe_range() {
-        return Err(Refusal::OutOfRange);
-    }
-    buffer.set_with_shape(shape)?;
     Ok(buffer.simplify_contours()?)
 }
 

@@ -1,13 +1,13 @@
 //! Straight programs: each tests the points, cleans, and goes on with what is left. The double area stays what it was.
 
-ghost use Rattle.std.specs.Prelude.{◌≡◌, ◌<◌, ◌↔◌, None, length, IsTrue, IfOk, IfSome, OnOk, OnErr, IsErrOf, Ok, false};
+ghost use Rattle.std.specs.Prelude.{◌≡◌, ◌<◌, ◌↔◌, length, IsTrue, IfOk, OnOk, OnErr, IsErrOf, Ok, false};
 ghost use Rattle.std.specs.List.{All};
 ghost use Rattle.std.specs.Int.{int_wrap};
 ghost use Rattle.i_shape_core.specs.Point.{Point};
 ghost use Rattle.i_shape_core.specs.IntPoint.{point_of, contour_of, IsSafe};
 ghost use Rattle.i_shape_core.specs.Contour.{IsSimple};
 ghost use Rattle.i_shape_core.specs.Edges.{shoelace, Inside};
-ghost use Rattle.i_shape_core.specs.Cleaners.{SimpleAnswer, EachEndCollapses};
+ghost use Rattle.i_shape_core.specs.Cleaners.{SimpleAnswer};
 ghost use Rattle.i_shape.specs.ShapeLists.{shape_of, shapes_of, IsSafeShape, IsSafeList};
 ghost use Rattle.i_shape.specs.ShapeAnswers.{ShapeClean, ListKept, EachContour, EachShape, inside_count, shape_shoelace, shapes_shoelace};
 ghost use Rattle.i_shape.specs.InPlace.{Leaves};
@@ -23,28 +23,6 @@ use i_shape::int::shape::{IntContour, IntShape, IntShapes};
 use i_shape::int::simple::{SimpleContour, Simplify};
 use i_shape_core::contour::ContourExtension;
 use std::alloc::Global;
-
-/// Twice the area of a contour, told by its copy without zero turns. `None` where the contour collapses.
-pub fn cleaned_area<I: IntNumber>(
-    alloc: Global,
-    contour: &[IntPoint<I>],
-) -> Result<Option<I::Wide>, Refusal>
-    ensures range { IsErrOf result Refusal.OutOfRange
-        ↔ (All (IsSafe I.width) (contour_of I.value contour.now) → ⊥) }
-    ensures none { IfOk result (λ r. (r ≡ None)
-        ↔ EachEndCollapses (contour_of I.value contour.now)) }
-    ensures area { IfOk result
-        (λ r. IfSome r (λ area. I.Wide.value area
-        ≡ int_wrap I.Wide.width (shoelace (contour_of I.value contour.now)))) }
-{
-    if !contour.is_in_safe_range() {
-        return Err(Refusal::OutOfRange);
-    }
-    match contour.simplified(alloc)? {
-        Some(kept) => Ok(Some(kept.as_slice().area_two())),
-        None => Ok(None),
-    }
-}
 
 /// Whether a point is inside a contour, told by its copy without zero turns.
 pub fn cleaned_contains<I: IntNumber>(

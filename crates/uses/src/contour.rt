@@ -1,13 +1,12 @@
-//! Contours that are tested, and then asked about or cleaned.
+//! Contours that are tested, and then asked about or cleaned, where `chain` doesn't.
 
 use crate::refusal::Refusal;
 use i_shape::IntNumber;
 use i_shape::int::IntPoint;
-use i_shape::int::despike::{DeSpike, DeSpikeContour};
+use i_shape::int::despike::DeSpikeContour;
 use i_shape::int::safe_range::IntSafeRange;
 use i_shape::int::shape::IntContour;
-use i_shape::int::simple::{ContourSimplifier, SimpleContour, Simplify};
-use i_shape_core::Probe;
+use i_shape::int::simple::{ContourSimplifier, SimpleContour};
 use i_shape_core::contour::ContourExtension;
 use std::alloc::Global;
 
@@ -24,41 +23,6 @@ pub fn is_convex<I: IntNumber>(contour: &[IntPoint<I>]) -> bool {
 /// Whether the points are safe, and the contour has no spikes.
 pub fn has_no_spikes<I: IntNumber>(contour: &IntContour<I>) -> bool {
     contour.is_in_safe_range() && contour.has_no_spikes()
-}
-
-/// Whether all these points are safe, and this one inside.
-pub fn contains<I: IntNumber>(contour: &[IntPoint<I>], point: IntPoint<I>) -> bool {
-    contour.is_in_safe_range() && point.is_in_safe_range() && contour.contains_point(point)
-}
-
-/// A probe of the contour, where its points are safe.
-pub fn probe<'a, I: IntNumber>(contour: &'a [IntPoint<I>]) -> Option<Probe<'a, I>> {
-    if !contour.is_in_safe_range() {
-        return None;
-    }
-    Some(Probe::new(contour))
-}
-
-/// The contour without zero turns.
-pub fn simplified<I: IntNumber>(
-    alloc: Global,
-    contour: &[IntPoint<I>],
-) -> Result<Option<IntContour<I>>, Refusal> {
-    if !contour.is_in_safe_range() {
-        return Err(Refusal::OutOfRange);
-    }
-    Ok(contour.simplified(alloc)?)
-}
-
-/// The contour of an array without zero turns.
-pub fn simplified_array<I: IntNumber, const N: usize>(
-    alloc: Global,
-    contour: &[IntPoint<I>; N],
-) -> Result<Option<IntContour<I>>, Refusal> {
-    if !contour.is_in_safe_range() {
-        return Err(Refusal::OutOfRange);
-    }
-    Ok(contour.as_slice().simplified(alloc)?)
 }
 
 /// The contours without zero turns, one after another over the same memory.
@@ -92,20 +56,4 @@ pub fn despiked<I: IntNumber>(
         return Err(Refusal::OutOfRange);
     }
     Ok(contour.despiked_contour(alloc)?)
-}
-
-/// Removes zero turns in place.
-pub fn simplify<I: IntNumber>(contour: &mut IntContour<I>) -> Result<bool, Refusal> {
-    if !contour.is_in_safe_range() {
-        return Err(Refusal::OutOfRange);
-    }
-    Ok(contour.simplify_contour()?)
-}
-
-/// Removes spikes in place.
-pub fn despike<I: IntNumber>(contour: &mut IntContour<I>) -> Result<bool, Refusal> {
-    if !contour.is_in_safe_range() {
-        return Err(Refusal::OutOfRange);
-    }
-    Ok(contour.remove_spikes()?)
 }

@@ -1,18 +1,18 @@
-//! Lists of shapes that are tested, and then asked about or cleaned.
+//! Lists of shapes that are tested, and then asked about or copied.
 
-ghost use Rattle.std.specs.Prelude.{◌≡◌, ◌↔◌, length, IsTrue, IfOk, OnOk, OnErr, Ok, false, IsErrOf};
+ghost use Rattle.std.specs.Prelude.{◌↔◌, IsTrue, IfOk, IsErrOf};
 ghost use Rattle.i_shape_core.specs.Contour.{IsSimple};
 ghost use Rattle.i_shape_core.specs.Convex.{NoSpikes};
 ghost use Rattle.i_shape_core.specs.Cleaners.{SimpleAnswer, DespikeAnswer};
 ghost use Rattle.i_shape.specs.ShapeLists.{shapes_of, IsSafeList};
-ghost use Rattle.i_shape.specs.ShapeAnswers.{shapes_shoelace, ListKept, EachShape};
+ghost use Rattle.i_shape.specs.ShapeAnswers.{ListKept, EachShape};
 
 use crate::refusal::Refusal;
 use i_shape::IntNumber;
-use i_shape::int::despike::{DeSpike, DeSpikeShapes};
+use i_shape::int::despike::DeSpikeShapes;
 use i_shape::int::safe_range::IntSafeRange;
 use i_shape::int::shape::{IntShape, IntShapes};
-use i_shape::int::simple::{SimpleShapes, Simplify};
+use i_shape::int::simple::SimpleShapes;
 use std::alloc::Global;
 
 /// Whether the points are safe, and each contour of each shape simple.
@@ -62,52 +62,4 @@ pub fn despiked<I: IntNumber>(alloc: Global, shapes: &IntShapes<I>) -> Result<In
         return Err(Refusal::OutOfRange);
     }
     Ok(shapes.despiked_shapes(alloc)?)
-}
-
-/// Removes zero turns in place. The double area is kept where as many shapes are left.
-#[tactic(auto, using(i_shape::proofs::CallerLemmas::simplified_list_area))]
-pub fn simplify<I: IntNumber>(shapes: &mut IntShapes<I>) -> Result<bool, Refusal>
-    ensures range { IsErrOf result Refusal.OutOfRange
-        ↔ (IsSafeList I.width (shapes_of I.value shapes.old.items) → ⊥) }
-    ensures kept { OnOk result
-        (ListKept SimpleAnswer (shapes_of I.value shapes.old.items)
-        (shapes_of I.value shapes.new.items)) }
-    ensures err { OnErr result (shapes_of I.value shapes.new.items
-        ≡ shapes_of I.value shapes.old.items) }
-    ensures area { length (shapes_of I.value shapes.new.items)
-        ≡ length (shapes_of I.value shapes.old.items)
-        → shapes_shoelace (shapes_of I.value shapes.new.items)
-        ≡ shapes_shoelace (shapes_of I.value shapes.old.items) }
-    ensures flag { result ≡ Ok false
-        ↔ (IsSafeList I.width (shapes_of I.value shapes.old.items)
-        × EachShape IsSimple (shapes_of I.value shapes.old.items)) }
-{
-    if !shapes.is_in_safe_range() {
-        return Err(Refusal::OutOfRange);
-    }
-    Ok(shapes.simplify_contour()?)
-}
-
-/// Removes spikes in place. The double area is kept where as many shapes are left.
-#[tactic(auto, using(i_shape::proofs::CallerLemmas::despiked_list_area))]
-pub fn despike<I: IntNumber>(shapes: &mut IntShapes<I>) -> Result<bool, Refusal>
-    ensures range { IsErrOf result Refusal.OutOfRange
-        ↔ (IsSafeList I.width (shapes_of I.value shapes.old.items) → ⊥) }
-    ensures kept { OnOk result
-        (ListKept DespikeAnswer (shapes_of I.value shapes.old.items)
-        (shapes_of I.value shapes.new.items)) }
-    ensures err { OnErr result (shapes_of I.value shapes.new.items
-        ≡ shapes_of I.value shapes.old.items) }
-    ensures area { length (shapes_of I.value shapes.new.items)
-        ≡ length (shapes_of I.value shapes.old.items)
-        → shapes_shoelace (shapes_of I.value shapes.new.items)
-        ≡ shapes_shoelace (shapes_of I.value shapes.old.items) }
-    ensures flag { result ≡ Ok false
-        ↔ (IsSafeList I.width (shapes_of I.value shapes.old.items)
-        × EachShape NoSpikes (shapes_of I.value shapes.old.items)) }
-{
-    if !shapes.is_in_safe_range() {
-        return Err(Refusal::OutOfRange);
-    }
-    Ok(shapes.remove_spikes()?)
 }

@@ -1,11 +1,11 @@
-//! Shapes that are tested, and then asked about or cleaned.
+//! Shapes that are tested, and then asked about or copied.
 
 use crate::refusal::Refusal;
 use i_shape::IntNumber;
-use i_shape::int::despike::{DeSpike, DeSpikeShape};
+use i_shape::int::despike::DeSpikeShape;
 use i_shape::int::safe_range::IntSafeRange;
 use i_shape::int::shape::{IntContour, IntShape};
-use i_shape::int::simple::{SimpleShape, Simplify};
+use i_shape::int::simple::SimpleShape;
 use std::alloc::Global;
 
 /// Whether the points are safe, and each contour simple.
@@ -29,17 +29,6 @@ pub fn simplified<I: IntNumber>(
     Ok(shape.simplified(alloc)?)
 }
 
-/// The shape of a vector without zero turns.
-pub fn simplified_vector<I: IntNumber>(
-    alloc: Global,
-    shape: &IntShape<I>,
-) -> Result<Option<IntShape<I>>, Refusal> {
-    if !shape.is_in_safe_range() {
-        return Err(Refusal::OutOfRange);
-    }
-    Ok(shape.as_slice().simplified(alloc)?)
-}
-
 /// The shape without spikes.
 pub fn despiked<I: IntNumber>(
     alloc: Global,
@@ -49,20 +38,4 @@ pub fn despiked<I: IntNumber>(
         return Err(Refusal::OutOfRange);
     }
     Ok(shape.despiked_shape(alloc)?)
-}
-
-/// Removes zero turns in place.
-pub fn simplify<I: IntNumber>(shape: &mut IntShape<I>) -> Result<bool, Refusal> {
-    if !shape.is_in_safe_range() {
-        return Err(Refusal::OutOfRange);
-    }
-    Ok(shape.simplify_contour()?)
-}
-
-/// Removes spikes in place.
-pub fn despike<I: IntNumber>(shape: &mut IntShape<I>) -> Result<bool, Refusal> {
-    if !shape.is_in_safe_range() {
-        return Err(Refusal::OutOfRange);
-    }
-    Ok(shape.remove_spikes()?)
 }
