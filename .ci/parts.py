@@ -35,7 +35,7 @@ OF_WHAT_IS_BUILT = (".ci/c_library.sh --if-built", ".ci/elsewhere.sh --if-built"
 # The parts of the gate, before and after the proofs.
 BEFORE_PROOFS = ("python3 .ci/test_ci.py", "scripts/widths.sh --check")
 AFTER_PROOFS = (".ci/long_tests.sh", ".ci/c_library.sh", ".ci/elsewhere.sh", ".ci/python_package.sh", ".ci/postgres.sh", ".ci/javascript.sh", ".ci/dist.sh",
-                ".ci/refusals.sh", ".ci/scaling.sh", ".ci/pictures.sh", "python3 .ci/pages.py")
+                "python3 .ci/refusals.py", ".ci/scaling.sh", ".ci/pictures.sh", "python3 .ci/pages.py")
 # It proves first what the C library is built from, and tries the wrong bodies over that. Two crates at once leave memory to rt ci.
 WRONG_BODIES = "nice -n 10 sh -c '(cd crates/i_shape_c && rt lib --jobs 2) && exec python3 .ci/wrong.py --lanes 2'"
 

@@ -1,7 +1,7 @@
-// A library for LD_PRELOAD that refuses one growth of the memory of a proved program, which takes it by malloc and realloc alone.
-// REFUSED_GROWTH in the environment is that growth's number, counted from 1 once the libraries are loaded. The refusal is told
-// on standard error, with how many bytes were asked for, so that a run without one is known. No header is used, since the kit's clang has none: the C library is
-// glibc, in which the functions behind malloc and realloc have the names below.
+// A library for LD_PRELOAD that refuses one growth of the memory of a proved program, which takes it by malloc and realloc alone, and counts the blocks that it
+// holds. REFUSED_GROWTH in the environment is that growth's number, counted from 1 once the libraries are loaded. The refusal is told on standard output, and at
+// the end how many blocks are left. No header is used, since the kit's clang has none: the C library is glibc, in which the functions behind malloc, realloc and
+// free have the names below.
 
 typedef __SIZE_TYPE__ size_t;
 
@@ -10,28 +10,45 @@ long strtol(const char *text, char **end, int base);
 int dprintf(int file, const char *format, ...);
 void *__libc_malloc(size_t size);
 void *__libc_realloc(void *memory, size_t size);
+void __libc_free(void *memory);
 
 // How many growths there are up to the one to refuse; 0 where none is left to refuse.
 static long growths_left = 0;
 
+static long blocks = 0;
+
 __attribute__((constructor)) static void read_environment(void) {
     const char *number = getenv("REFUSED_GROWTH");
     growths_left = number ? strtol(number, 0, 10) : 0;
+    blocks = 0;
 }
 
-// Counts a growth to so many bytes, and answers whether it is the one to refuse.
-static _Bool is_refused(size_t size) {
+__attribute__((destructor)) static void tell_blocks(void) {
+    dprintf(1, "blocks left: %ld\n", blocks);
+}
+
+// Counts a growth, and answers whether it is the one to refuse.
+static _Bool is_refused(void) {
     if (growths_left == 0 || --growths_left > 0) {
         return 0;
     }
-    dprintf(2, "growth refused: %zu\n", size);
+    dprintf(1, "growth refused\n");
     return 1;
 }
 
 void *malloc(size_t size) {
-    return is_refused(size) ? 0 : __libc_malloc(size);
+    void *memory = is_refused() ? 0 : __libc_malloc(size);
+    blocks += memory != 0;
+    return memory;
 }
 
 void *realloc(void *memory, size_t size) {
-    return is_refused(size) ? 0 : __libc_realloc(memory, size);
+    void *grown = is_refused() ? 0 : __libc_realloc(memory, size);
+    blocks += memory == 0 && grown != 0;
+    return grown;
+}
+
+void free(void *memory) {
+    blocks -= memory != 0;
+    __libc_free(memory);
 }

@@ -1,185 +1,78 @@
-use crate::given::{CANONICAL, FLAT, SPIKED, SQUARE, SQUARE_BACK, TURNED, contour, safe};
-use crate::told::{told, told_of_contour, told_unrefused};
-use i_shape::int::despike::{ContourDeSpiker, DeSpikeContour};
-use i_shape::int::simple::{ContourSimplifier, SimpleContour};
-use std::test::Fail;
+//! The cleaners of one contour.
+
+use crate::given::{FLAT, SPIKED, SQUARE, contour, safe};
+use crate::told::{begun, call, ended, on};
+use i_shape::int::despike::{ContourDeSpiker, DeSpike, DeSpikeContour};
+use i_shape::int::simple::{ContourSimplifier, SimpleContour, Simplify};
 
 #[test]
-fn simplified(rt: HostRuntime) -> Result<(), Fail> {
-    let points = safe(&rt, SPIKED.as_slice());
-    let result = points.simplified(rt.alloc());
-    told_of_contour(&rt, "SimpleContour::simplified", result, &SQUARE)
-}
-
-#[test]
-fn simplified_where_it_is_clean(rt: HostRuntime) -> Result<(), Fail> {
-    let points = safe(&rt, SQUARE.as_slice());
-    let result = points.simplified(rt.alloc());
-    let name = "SimpleContour::simplified of a clean contour";
-    told_of_contour(&rt, name, result, &SQUARE)
-}
-
-#[test]
-fn simplify_counted(rt: HostRuntime) -> Result<(), Fail> {
+fn of_a_contour(rt: HostRuntime) {
     let alloc = rt.alloc();
     let points = safe(&rt, SPIKED.as_slice());
-    let mut simplifier = ContourSimplifier::new(alloc);
-    let Ok(_) = simplifier.simplify_counted(safe(&rt, &SPIKED[..5])) else {
-        return Ok(());
-    };
-    let result = simplifier.simplify_counted(points);
-    if let Some((kept, _visits)) = told(&rt, "ContourSimplifier::simplify_counted", result)? {
-        assert!(rt; kept.ok_or("it collapsed")?.as_slice() == SQUARE.as_slice());
-    } else {
-        let again = simplifier.simplify_counted(points)?;
-        let fresh = ContourSimplifier::new(alloc).simplify_counted(points)?;
-        assert!(rt; again == fresh);
-        let (kept, _visits) = again;
-        assert!(rt; kept.ok_or("it collapsed")?.as_slice() == SQUARE.as_slice());
+    call!(rt, "SimpleContour::simplified" => points.simplified(alloc));
+    call!(rt, "SimpleContour::canonical" => points.canonical(alloc));
+    call!(rt, "SimpleContour::canonical_unoriented" => points.canonical_unoriented(alloc));
+    call!(rt, "DeSpikeContour::despiked_contour" => points.despiked_contour(alloc));
+    call!(rt, "DeSpikeContour::despiked_counted" => points.despiked_counted(alloc));
+}
+
+#[test]
+fn of_a_new_cleaner(rt: HostRuntime) {
+    let alloc = rt.alloc();
+    let points = safe(&rt, SPIKED.as_slice());
+    call!(rt, "ContourSimplifier::simplify_contour" => ContourSimplifier::new(alloc).simplify_contour(points));
+    call!(rt, "ContourSimplifier::canonical" => ContourSimplifier::new(alloc).canonical(points));
+    call!(rt, "ContourSimplifier::canonical_unoriented" => ContourSimplifier::new(alloc).canonical_unoriented(points));
+    call!(rt, "ContourDeSpiker::despike_contour" => ContourDeSpiker::new(alloc).despike_contour(points));
+    call!(rt, "ContourDeSpiker::despike_counted" => ContourDeSpiker::new(alloc).despike_counted(points));
+}
+
+/// A simplifier that has cleaned a shorter contour before, and one that was refused is used again.
+#[test]
+fn of_a_used_cleaner(rt: HostRuntime) {
+    let points = safe(&rt, SPIKED.as_slice());
+    let mut simplifier = ContourSimplifier::new(rt.alloc());
+    if simplifier.simplify_counted(safe(&rt, &SPIKED[..5])).is_ok() {
+        call!(rt, "ContourSimplifier::simplify_counted" => simplifier.simplify_counted(points));
+        call!(rt, "ContourSimplifier::simplify_counted again" => simplifier.simplify_counted(points));
     }
-    Ok(())
 }
 
 #[test]
-fn simplify_contour(rt: HostRuntime) -> Result<(), Fail> {
-    let points = safe(&rt, SPIKED.as_slice());
-    let result = ContourSimplifier::new(rt.alloc()).simplify_contour(points);
-    told_of_contour(&rt, "ContourSimplifier::simplify_contour", result, &SQUARE)
-}
-
-#[test]
-fn despiked_contour(rt: HostRuntime) -> Result<(), Fail> {
+fn of_a_clean_contour(rt: HostRuntime) {
     let alloc = rt.alloc();
-    let Ok(given) = contour(&rt, alloc, SPIKED.as_slice()) else {
-        return Ok(());
-    };
-    let result = given.despiked_contour(alloc);
-    told_of_contour(&rt, "DeSpikeContour::despiked_contour", result, &SQUARE)
-}
-
-#[test]
-fn despiked_counted(rt: HostRuntime) -> Result<(), Fail> {
-    let alloc = rt.alloc();
-    let Ok(given) = contour(&rt, alloc, SPIKED.as_slice()) else {
-        return Ok(());
-    };
-    let result = given.despiked_counted(alloc).map(|(kept, _visits)| kept);
-    told_of_contour(&rt, "DeSpikeContour::despiked_counted", result, &SQUARE)
-}
-
-#[test]
-fn despike_contour(rt: HostRuntime) -> Result<(), Fail> {
-    let points = safe(&rt, SPIKED.as_slice());
-    let result = ContourDeSpiker::new(rt.alloc()).despike_contour(points);
-    told_of_contour(&rt, "ContourDeSpiker::despike_contour", result, &SQUARE)
-}
-
-#[test]
-fn despike_counted(rt: HostRuntime) -> Result<(), Fail> {
-    let points = safe(&rt, SPIKED.as_slice());
-    let result = ContourDeSpiker::new(rt.alloc())
-        .despike_counted(points)
-        .map(|(kept, _visits)| kept);
-    told_of_contour(&rt, "ContourDeSpiker::despike_counted", result, &SQUARE)
-}
-
-#[test]
-fn despiked_contour_where_it_is_clean(rt: HostRuntime) -> Result<(), Fail> {
     let points = safe(&rt, SQUARE.as_slice());
-    let result = points.despiked_contour(rt.alloc());
-    let name = "DeSpikeContour::despiked_contour of a clean contour";
-    told_of_contour(&rt, name, result, &SQUARE)
-}
-
-#[test]
-fn despiked_counted_where_it_is_clean(rt: HostRuntime) -> Result<(), Fail> {
-    let points = safe(&rt, SQUARE.as_slice());
-    let result = points
-        .despiked_counted(rt.alloc())
-        .map(|(kept, _visits)| kept);
-    let name = "DeSpikeContour::despiked_counted of a clean contour";
-    told_of_contour(&rt, name, result, &SQUARE)
-}
-
-#[test]
-fn despiked_where_three_points_collapse(rt: HostRuntime) -> Result<(), Fail> {
-    let alloc = rt.alloc();
+    call!(rt, "SimpleContour::simplified of a clean contour" => points.simplified(alloc));
+    call!(rt, "DeSpikeContour::despiked_contour of a clean contour" => points.despiked_contour(alloc));
+    call!(rt, "DeSpikeContour::despiked_counted of a clean contour" => points.despiked_counted(alloc));
     let points = safe(&rt, FLAT.as_slice());
-    let result = points.despiked_contour(alloc);
-    let name = "DeSpikeContour::despiked_contour of three points that collapse";
-    told_unrefused(&rt, name, result, None)?;
-    let result = points.despiked_counted(alloc);
-    let name = "DeSpikeContour::despiked_counted of three points that collapse";
-    if let Some((kept, _visits)) = told(&rt, name, result)? {
-        assert!(rt; kept == None);
-    }
-    Ok(())
+    call!(rt, "DeSpikeContour::despiked_contour of three points that collapse" => points.despiked_contour(alloc));
+    call!(rt, "DeSpikeContour::despiked_counted of three points that collapse" => points.despiked_counted(alloc));
 }
 
 #[test]
-fn canonical(rt: HostRuntime) -> Result<(), Fail> {
-    let points = safe(&rt, TURNED.as_slice());
-    let result = points.canonical(rt.alloc());
-    told_of_contour(&rt, "SimpleContour::canonical", result, &CANONICAL)
-}
-
-#[test]
-fn canonical_of_a_simplifier(rt: HostRuntime) -> Result<(), Fail> {
-    let points = safe(&rt, TURNED.as_slice());
-    let result = ContourSimplifier::new(rt.alloc()).canonical(points);
-    told_of_contour(&rt, "ContourSimplifier::canonical", result, &CANONICAL)
-}
-
-#[test]
-fn canonical_unoriented(rt: HostRuntime) -> Result<(), Fail> {
-    let points = safe(&rt, SPIKED.as_slice());
-    let result = points.canonical_unoriented(rt.alloc());
-    let name = "SimpleContour::canonical_unoriented";
-    told_of_contour(&rt, name, result, &SQUARE_BACK)
-}
-
-#[test]
-fn canonical_unoriented_of_a_simplifier(rt: HostRuntime) -> Result<(), Fail> {
-    let points = safe(&rt, SPIKED.as_slice());
-    let result = ContourSimplifier::new(rt.alloc()).canonical_unoriented(points);
-    let name = "ContourSimplifier::canonical_unoriented";
-    told_of_contour(&rt, name, result, &SQUARE_BACK)
-}
-
-#[test]
-fn below_three_points(rt: HostRuntime) -> Result<(), Fail> {
+fn below_three_points(rt: HostRuntime) {
     let alloc = rt.alloc();
-    let Ok(given) = contour(&rt, alloc, &SQUARE[..2]) else {
-        return Ok(());
-    };
-    let points = given.as_slice();
+    let points = safe(&rt, &SQUARE[..2]);
     let mut simplifier = ContourSimplifier::new(alloc);
-    let result = points.simplified(alloc);
-    let name = "SimpleContour::simplified below three points";
-    told_unrefused(&rt, name, result, None)?;
-    let result = points.canonical(alloc);
-    let name = "SimpleContour::canonical below three points";
-    told_unrefused(&rt, name, result, None)?;
-    let result = simplifier.simplify_contour(points);
-    let name = "ContourSimplifier::simplify_contour below three points";
-    told_unrefused(&rt, name, result, None)?;
-    let result = simplifier.simplify_counted(points);
-    let name = "ContourSimplifier::simplify_counted below three points";
-    told_unrefused(&rt, name, result, (None, 0))?;
-    let result = simplifier.canonical(points);
-    let name = "ContourSimplifier::canonical below three points";
-    told_unrefused(&rt, name, result, None)?;
-    let result = given.despiked_contour(alloc);
-    let name = "DeSpikeContour::despiked_contour below three points";
-    told_unrefused(&rt, name, result, None)?;
-    let result = given.despiked_counted(alloc);
-    let name = "DeSpikeContour::despiked_counted below three points";
-    told_unrefused(&rt, name, result, (None, 0))?;
-    let result = points.canonical_unoriented(alloc);
-    let name = "SimpleContour::canonical_unoriented below three points";
-    told_unrefused(&rt, name, result, None)?;
-    let result = simplifier.canonical_unoriented(points);
-    let name = "ContourSimplifier::canonical_unoriented below three points";
-    told_unrefused(&rt, name, result, None)?;
-    Ok(())
+    call!(rt, "SimpleContour::simplified below three points" => points.simplified(alloc));
+    call!(rt, "SimpleContour::canonical below three points" => points.canonical(alloc));
+    call!(rt, "SimpleContour::canonical_unoriented below three points" => points.canonical_unoriented(alloc));
+    call!(rt, "ContourSimplifier::simplify_contour below three points" => simplifier.simplify_contour(points));
+    call!(rt, "ContourSimplifier::simplify_counted below three points" => simplifier.simplify_counted(points));
+    call!(rt, "ContourSimplifier::canonical below three points" => simplifier.canonical(points));
+    call!(rt, "ContourSimplifier::canonical_unoriented below three points" => simplifier.canonical_unoriented(points));
+    call!(rt, "DeSpikeContour::despiked_contour below three points" => points.despiked_contour(alloc));
+    call!(rt, "DeSpikeContour::despiked_counted below three points" => points.despiked_counted(alloc));
+}
+
+#[test]
+fn in_place(rt: HostRuntime) {
+    let alloc = rt.alloc();
+    on!(rt, contour(&rt, alloc, &SPIKED), "IntContour::simplify_contour", it => it.simplify_contour());
+    on!(rt, contour(&rt, alloc, &SPIKED), "IntContour::remove_spikes", it => it.remove_spikes());
+    on!(rt, contour(&rt, alloc, &SQUARE), "IntContour::simplify_contour of a clean value", it => it.simplify_contour());
+    on!(rt, contour(&rt, alloc, &SQUARE), "IntContour::remove_spikes of a clean value", it => it.remove_spikes());
+    on!(rt, contour(&rt, alloc, &SQUARE[..1]), "IntContour::simplify_contour below three points", it => it.simplify_contour());
+    on!(rt, contour(&rt, alloc, &SQUARE[..1]), "IntContour::remove_spikes below three points", it => it.remove_spikes());
 }

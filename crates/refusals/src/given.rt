@@ -25,18 +25,6 @@ pub const SPIKED: [IntPoint<i32>; 6] = points![[0, 0], [2, 0], [4, 0], [2, 0], [
 /// That square without the spike.
 pub const SQUARE: [IntPoint<i32>; 4] = points![[0, 0], [2, 0], [2, 2], [0, 2]];
 
-/// The square twice, as two contours with its spike leave it.
-pub const SQUARES: [IntPoint<i32>; 8] = points![
-    [0, 0],
-    [2, 0],
-    [2, 2],
-    [0, 2],
-    [0, 0],
-    [2, 0],
-    [2, 2],
-    [0, 2]
-];
-
 /// Three points on a line.
 pub const FLAT: [IntPoint<i32>; 3] = points![[0, 0], [2, 0], [1, 0]];
 
@@ -67,32 +55,11 @@ pub const SPIKED_AND_TRIANGLE: [IntPoint<i32>; 9] = points![
     [0, 1]
 ];
 
-/// The least rotation of the square read backwards.
-pub const SQUARE_BACK: [IntPoint<i32>; 4] = points![[0, 0], [0, 2], [2, 2], [2, 0]];
-
-/// And that of the triangle.
-pub const TRIANGLE_BACK: [IntPoint<i32>; 3] = points![[0, 0], [0, 1], [1, 0]];
-
 /// A contour with a spike, and a canonical form that starts elsewhere.
 pub const TURNED: [IntPoint<i32>; 5] = points![[6, 0], [0, 0], [2, 0], [1, 0], [1, 5]];
 
-/// That form.
-pub const CANONICAL: [IntPoint<i32>; 3] = points![[1, 0], [1, 5], [6, 0]];
-
 /// What a buffer holds before a call.
 pub const MARK: [IntPoint<i32>; 1] = points![[9, 9]];
-
-/// The same before the square and the triangle.
-pub const MARK_AND_BOTH: [IntPoint<i32>; 8] = points![
-    [9, 9],
-    [0, 0],
-    [2, 0],
-    [2, 2],
-    [0, 2],
-    [0, 0],
-    [1, 0],
-    [0, 1]
-];
 
 /// Whether all points are safe.
 pub fn are_safe<I: IntNumber>(points: &[IntPoint<I>]) -> bool
@@ -144,21 +111,4 @@ pub fn one_shape<I: IntNumber>(
     ensures { IfOk result (λ s. IsSafeList I.width (shapes_of I.value s.items)) }
 {
     Ok(Vec::from_array(alloc, [shape(rt, alloc, contours)?])?)
-}
-
-/// The square and the triangle.
-pub fn two_contours(alloc: Global) -> Result<[IntContour<i32>; 2], AllocError> {
-    Ok([
-        Vec::from_slice(alloc, &SQUARE)?,
-        Vec::from_slice(alloc, &TRIANGLE)?,
-    ])
-}
-
-/// A shape of the square and one of the triangle.
-pub fn two_shapes(alloc: Global) -> Result<[IntShape<i32>; 2], AllocError> {
-    let [square, triangle] = two_contours(alloc)?;
-    Ok([
-        Vec::from_array(alloc, [square])?,
-        Vec::from_array(alloc, [triangle])?,
-    ])
 }

@@ -1,5 +1,9 @@
-use crate::given::{SQUARE, TRIANGLE, contour, one_shape, shape};
-use crate::told::told_done;
+//! Tests and measures, which take no memory.
+
+use crate::flat_buffers::{contours, shapes, spot_contours, spot_shapes};
+use crate::given::{BOTH, SQUARE, TRIANGLE, safe};
+use crate::spots;
+use crate::told::{begun, call, ended, on};
 use i_shape::FillRule;
 use i_shape::int::IntPoint;
 use i_shape::int::area::{Area, IteratorArea, UnsafeArea};
@@ -10,127 +14,104 @@ use i_shape::int::shape::{IntContour, IntShape};
 use i_shape::int::simple::{SimpleContour, SimpleShape, SimpleShapes};
 use i_shape::int::winding::ShapeExtension;
 use i_shape_core::canonical::least_start_counted;
-use std::test::Fail;
 
 #[test]
-fn tests_of_a_contour(rt: HostRuntime) -> Result<(), Fail> {
-    let Ok(given) = contour(&rt, rt.alloc(), SQUARE.as_slice()) else {
-        return Ok(());
-    };
-    let points = given.as_slice();
+fn tests_of_a_contour(rt: HostRuntime) {
+    let points = safe(&rt, SQUARE.as_slice());
     let centre = IntPoint::new(1, 1);
     assert!(rt; !points.is_empty() && centre.is_in_safe_range());
-    told_done(&rt, "SimpleContour::is_simple", points.is_simple())?;
-    told_done(&rt, "DeSpikeContour::has_no_spikes", given.has_no_spikes())?;
-    told_done(&rt, "ContourExtension::is_convex", points.is_convex())?;
-    told_done(
-        &rt,
-        "ContourExtension::is_clockwise_ordered",
-        !points.is_clockwise_ordered(),
-    )?;
-    told_done(
-        &rt,
-        "ContourExtension::contains_point",
-        points.contains_point(centre),
-    )?;
-    told_done(
-        &rt,
-        "ContourExtension::winding_number",
-        points.winding_number(centre) == 1,
-    )?;
-    let filled = points.contains_by(centre, FillRule::NonZero);
-    told_done(&rt, "ContourExtension::contains_by", filled)?;
+    call!(rt, "SimpleContour::is_simple" => Ok(points.is_simple()));
+    call!(rt, "DeSpikeContour::has_no_spikes" => Ok(points.has_no_spikes()));
+    call!(rt, "ContourExtension::is_convex" => Ok(points.is_convex()));
+    call!(rt, "ContourExtension::is_clockwise_ordered" => Ok(points.is_clockwise_ordered()));
+    call!(rt, "ContourExtension::contains_point" => Ok(points.contains_point(centre)));
+    call!(rt, "ContourExtension::winding_number" => Ok(points.winding_number(centre)));
+    call!(rt, "ContourExtension::contains_by" => Ok(points.contains_by(centre, FillRule::NonZero)));
     let mut numbers = [7; 5];
     assert!(rt; points.len() <= numbers.len());
-    points.winding_numbers_into(points, &mut numbers);
-    told_done(
-        &rt,
-        "ContourExtension::winding_numbers_into",
-        numbers == [1, 0, 0, 0, 7],
-    )?;
-    let rule = FillRule::Negative;
-    told_done(&rt, "FillRule::fills", rule.fills(-1))?;
-    Ok(())
+    call!(rt, "ContourExtension::winding_numbers_into" => Ok(points.winding_numbers_into(points, &mut numbers)));
+    call!(rt, "FillRule::fills" => Ok(FillRule::Negative.fills(-1)));
 }
 
 #[test]
-fn tests_of_shapes(rt: HostRuntime) -> Result<(), Fail> {
+fn tests_of_shapes(rt: HostRuntime) {
     let alloc = rt.alloc();
     let (Ok(given), Ok(list)) = (
-        shape(&rt, alloc, &[&SQUARE, &TRIANGLE]),
-        one_shape(&rt, alloc, &[&SQUARE, &TRIANGLE]),
+        crate::given::shape(&rt, alloc, &[&SQUARE, &TRIANGLE]),
+        crate::given::one_shape(&rt, alloc, &[&SQUARE, &TRIANGLE]),
     ) else {
-        return Ok(());
+        return;
     };
     let centre = IntPoint::new(1, 1);
     assert!(rt; centre.is_in_safe_range());
-    let turns = given.as_slice().winding_number(centre);
-    told_done(&rt, "ShapeExtension::winding_number", turns == 1)?;
-    let filled = given.as_slice().contains_by(centre, FillRule::EvenOdd);
-    told_done(&rt, "ShapeExtension::contains_by", filled)?;
-    told_done(&rt, "SimpleShape::is_simple", given.as_slice().is_simple())?;
-    told_done(&rt, "SimpleShapes::is_simple", list.as_slice().is_simple())?;
-    told_done(&rt, "DeSpikeShape::has_no_spikes", given.has_no_spikes())?;
-    told_done(&rt, "DeSpikeShapes::has_no_spikes", list.has_no_spikes())?;
-    Ok(())
+    call!(rt, "ShapeExtension::winding_number" => Ok(given.as_slice().winding_number(centre)));
+    call!(rt, "ShapeExtension::contains_by" => Ok(given.as_slice().contains_by(centre, FillRule::EvenOdd)));
+    call!(rt, "SimpleShape::is_simple" => Ok(given.as_slice().is_simple()));
+    call!(rt, "SimpleShapes::is_simple" => Ok(list.as_slice().is_simple()));
+    call!(rt, "DeSpikeShape::has_no_spikes" => Ok(given.has_no_spikes()));
+    call!(rt, "DeSpikeShapes::has_no_spikes" => Ok(list.has_no_spikes()));
 }
 
 #[test]
-fn measures_of_a_contour(rt: HostRuntime) -> Result<(), Fail> {
+fn measures_of_a_contour(rt: HostRuntime) {
     let points = SQUARE.as_slice();
-    told_done(&rt, "Area::area_two of a contour", points.area_two() == 8)?;
-    told_done(&rt, "Area::area of a contour", points.area() == 4)?;
-    let iter = SQUARE.as_slice().iter().copied();
-    told_done(&rt, "UnsafeArea::unsafe_area", iter.unsafe_area() == 8)?;
-    let iter = SQUARE.as_slice().iter().copied();
-    told_done(
-        &rt,
-        "IteratorArea::area_two",
-        IteratorArea::area_two(iter) == 8,
-    )?;
-    let iter = SQUARE.as_slice().iter().copied();
-    told_done(&rt, "IteratorArea::area", IteratorArea::area(iter) == 4)?;
-    let (start, _comparisons) = least_start_counted(points);
-    told_done(&rt, "least_start_counted", start == 0)?;
-    Ok(())
+    call!(rt, "Area::area_two of a contour" => Ok(points.area_two()));
+    call!(rt, "Area::area of a contour" => Ok(points.area()));
+    call!(rt, "UnsafeArea::unsafe_area" => Ok(points.iter().copied().unsafe_area()));
+    call!(rt, "IteratorArea::area_two" => Ok(IteratorArea::area_two(points.iter().copied())));
+    call!(rt, "IteratorArea::area" => Ok(IteratorArea::area(points.iter().copied())));
+    call!(rt, "least_start_counted" => Ok(least_start_counted(points)));
 }
 
 #[test]
-fn measures_of_shapes(rt: HostRuntime) -> Result<(), Fail> {
+fn measures_of_shapes(rt: HostRuntime) {
     let alloc = rt.alloc();
     let (Ok(square), Ok(triangle), Ok(alone)) = (
         Vec::from_slice(alloc, &SQUARE),
         Vec::from_slice(alloc, &TRIANGLE),
         Vec::from_slice(alloc, &SQUARE),
     ) else {
-        return Ok(());
+        return;
     };
     let paths: [IntContour<i32>; 2] = [square, triangle];
     let Ok(given) = Vec::from_array(alloc, [alone]) else {
-        return Ok(());
+        return;
     };
     let shapes: [IntShape<i32>; 1] = [given];
-    told_done(
-        &rt,
-        "PointsCount::points_count of paths",
-        paths.as_slice().points_count() == 7,
-    )?;
-    told_done(
-        &rt,
-        "PointsCount::points_count of shapes",
-        shapes.as_slice().points_count() == 4,
-    )?;
-    told_done(
-        &rt,
-        "Area::area_two of a shape",
-        paths.as_slice().area_two() == 9,
-    )?;
-    told_done(&rt, "Area::area of a shape", paths.as_slice().area() == 4)?;
-    told_done(
-        &rt,
-        "Area::area_two of shapes",
-        shapes.as_slice().area_two() == 8,
-    )?;
-    told_done(&rt, "Area::area of shapes", shapes.as_slice().area() == 4)?;
-    Ok(())
+    call!(rt, "PointsCount::points_count of paths" => Ok(paths.as_slice().points_count()));
+    call!(rt, "PointsCount::points_count of shapes" => Ok(shapes.as_slice().points_count()));
+    call!(rt, "Area::area_two of a shape" => Ok(paths.as_slice().area_two()));
+    call!(rt, "Area::area of a shape" => Ok(paths.as_slice().area()));
+    call!(rt, "Area::area_two of shapes" => Ok(shapes.as_slice().area_two()));
+    call!(rt, "Area::area of shapes" => Ok(shapes.as_slice().area()));
+}
+
+#[test]
+fn tests_of_buffers_of_contours(rt: HostRuntime) {
+    if let Ok(mut it) = contours(rt.alloc(), &BOTH, &[0..4, 4..7]) {
+        call!(rt, "FlatContoursBuffer::is_empty" => Ok(it.is_empty()));
+        call!(rt, "FlatContoursBuffer::is_single_contour" => Ok(it.is_single_contour()));
+        call!(rt, "FlatContoursBuffer::can_read_contours" => Ok(it.can_read_contours()));
+        call!(rt, "FlatContoursBuffer::can_read_first" => Ok(it.can_read_first()));
+        assert!(rt; it.can_read_first());
+        call!(rt, "FlatContoursBuffer::as_first_contour" => Ok(it.as_first_contour().len()));
+        call!(rt, "FlatContoursBuffer::as_first_contour_mut" => Ok(it.as_first_contour_mut().len()));
+    }
+    let alloc = rt.alloc();
+    on!(rt, spot_contours(alloc, &spots::BOTH, &[0..2, 2..5]), "FloatFlatContoursBuffer::is_empty", it => Ok(it.is_empty()));
+    on!(rt, spot_contours(alloc, &spots::BOTH, &[0..2, 2..5]), "FloatFlatContoursBuffer::can_read_contours", it => Ok(it.can_read_contours()));
+}
+
+#[test]
+fn tests_of_buffers_of_shapes(rt: HostRuntime) {
+    if let Ok(it) = shapes(rt.alloc(), &BOTH, &[0..4, 4..7]) {
+        call!(rt, "FlatShapesBuffer::is_empty" => Ok(it.is_empty()));
+        call!(rt, "FlatShapesBuffer::can_read_contours" => Ok(it.can_read_contours()));
+        call!(rt, "FlatShapesBuffer::can_read_shapes" => Ok(it.can_read_shapes()));
+    }
+    if let Ok(it) = spot_shapes(rt.alloc(), &spots::BOTH, &[0..2, 2..5]) {
+        call!(rt, "FloatFlatShapesBuffer::is_empty" => Ok(it.is_empty()));
+        call!(rt, "FloatFlatShapesBuffer::can_read_contours" => Ok(it.can_read_contours()));
+        call!(rt, "FloatFlatShapesBuffer::can_read_shapes" => Ok(it.can_read_shapes()));
+    }
 }

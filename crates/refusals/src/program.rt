@@ -1,73 +1,29 @@
 use i_shape_tool::{Command, ToolFault, run, serve};
 use std::alloc::{AllocError, Global};
-use std::io;
-use std::process::Abort;
 use std::test::Fail;
 
-/// Tells how the command ended on the text, which has the answer `wanted`: that of a clean line is the line itself.
-fn told_of_run(
-    rt: &(impl Abort + Print),
-    alloc: Global,
-    command: Command,
-    text: &str,
-    wanted: &str,
-) -> io::Result<()> {
-    let kind = if text == wanted {
-        " of a clean line"
-    } else {
-        ""
-    };
-    match run(alloc, command, text) {
-        Ok(answer) => {
-            println!(rt; "run of {command:?}{kind} done")?;
-            assert_eq!(rt; answer.as_str(), wanted);
-        }
-        Err(fault) => {
-            println!(rt; "run of {command:?}{kind} refused")?;
-            assert!(rt; matches!(fault, ToolFault::OutOfMemory));
+/// The commands, each with a text, and the words behind its name.
+const TEXTS: [(Command, &str, &str); 6] = [
+    (Command::Simplify, "0 0 2 0 4 0 4 4\n", ""),
+    (Command::Simplify, "0 0 4 0 4 4\n", " of a clean line"),
+    (Command::Despike, "0 0 4 0 8 0 4 0 4 4\n", ""),
+    (Command::Area, "0 0 1 0 0 1\n", ""),
+    (Command::Canonical, "4 0 4 4 0 0 2 0\n", ""),
+    (Command::Compact, "0 0 2 0 4 0 4 4\n", ""),
+];
+
+#[test]
+fn runs(rt: HostRuntime) -> Result<(), Fail> {
+    for (command, text, kind) in TEXTS {
+        println!(rt; "run of {command:?}{kind} begins")?;
+        match run(rt.alloc(), command, text) {
+            Ok(_) => println!(rt; "run of {command:?}{kind} done")?,
+            Err(fault) => {
+                println!(rt; "run of {command:?}{kind} refused")?;
+                assert!(rt; matches!(fault, ToolFault::OutOfMemory));
+            }
         }
     }
-    Ok(())
-}
-
-#[test]
-fn simplify(rt: HostRuntime) -> Result<(), Fail> {
-    let text = "0 0 2 0 4 0 4 4\n";
-    told_of_run(&rt, rt.alloc(), Command::Simplify, text, "0 0 4 0 4 4\n")?;
-    Ok(())
-}
-
-#[test]
-fn simplify_a_clean_line(rt: HostRuntime) -> Result<(), Fail> {
-    let line = "0 0 4 0 4 4\n";
-    told_of_run(&rt, rt.alloc(), Command::Simplify, line, line)?;
-    Ok(())
-}
-
-#[test]
-fn despike(rt: HostRuntime) -> Result<(), Fail> {
-    let text = "0 0 4 0 8 0 4 0 4 4\n";
-    told_of_run(&rt, rt.alloc(), Command::Despike, text, "0 0 4 0 4 4\n")?;
-    Ok(())
-}
-
-#[test]
-fn area(rt: HostRuntime) -> Result<(), Fail> {
-    told_of_run(&rt, rt.alloc(), Command::Area, "0 0 1 0 0 1\n", "1\n")?;
-    Ok(())
-}
-
-#[test]
-fn canonical(rt: HostRuntime) -> Result<(), Fail> {
-    let text = "4 0 4 4 0 0 2 0\n";
-    told_of_run(&rt, rt.alloc(), Command::Canonical, text, "0 0 4 0 4 4\n")?;
-    Ok(())
-}
-
-#[test]
-fn compact(rt: HostRuntime) -> Result<(), Fail> {
-    let text = "0 0 2 0 4 0 4 4\n";
-    told_of_run(&rt, rt.alloc(), Command::Compact, text, "0 0 4 0 4 4\n")?;
     Ok(())
 }
 
@@ -87,6 +43,7 @@ fn served(rt: HostRuntime) -> Result<(), Fail> {
         return Ok(());
     };
     let mut input = b"0 0 2 0 4 0 4 4\n".as_slice();
+    println!(rt; "serve begins")?;
     let status = serve(alloc, &[word], &mut input, &mut output, &mut errors);
     let is_read = input.is_empty();
     let (wanted, line, end) = match status {

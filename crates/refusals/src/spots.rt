@@ -28,20 +28,6 @@ pub const TRIPLE: [Spot; 3] = spots![[2, 2], [3, 2], [3, 3]];
 /// The pair and the triple, end to end.
 pub const BOTH: [Spot; 5] = spots![[0, 0], [1, 0], [2, 2], [3, 2], [3, 3]];
 
-/// What `Repeated` gives.
-pub const SEVENS: [Spot; 5] = spots![[7, 7], [7, 7], [7, 7], [7, 7], [7, 7]];
-
-/// Those behind the pair.
-pub const PAIR_AND_SEVENS: [Spot; 7] = spots![
-    [0, 0],
-    [1, 0],
-    [7, 7],
-    [7, 7],
-    [7, 7],
-    [7, 7],
-    [7, 7]
-];
-
 /// The same point, as often as is left. Nothing tells how often that is.
 #[derive(Drop)]
 pub struct Repeated {

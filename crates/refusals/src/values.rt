@@ -1,135 +1,114 @@
-use crate::flat_buffers::{FlatBuffer, SQUARE_AND_TRIANGLE};
-use crate::given::{FLAT, MARK, SQUARE, contour, safe, two_contours};
-use crate::told::{told_done, told_unrefused};
+//! Calls of numbers, points, probes, new values and walks over paths, which take no memory.
+
+use crate::flat_buffers::{contours, shapes, spot_contours, spot_shapes};
+use crate::given::{BOTH, FLAT, MARK, SQUARE, TRIANGLE, safe};
+use crate::spots::{self, PAIR, Spot, TRIPLE};
+use crate::told::{begun, call, ended};
 use i_shape::IntNumber;
 use i_shape::flat::buffer::{FlatContoursBuffer, FlatShapesBuffer};
 use i_shape::flat::float::{FloatFlatContoursBuffer, FloatFlatShapesBuffer};
 use i_shape::int::IntPoint;
-use i_shape::int::despike::{ContourDeSpiker, DeSpike};
-use i_shape::int::simple::{ContourSimplifier, Simplify};
+use i_shape::int::despike::ContourDeSpiker;
+use i_shape::int::safe_range::IntSafeRange;
+use i_shape::int::simple::ContourSimplifier;
+use i_shape::source::float::resource::ShapeResource;
 use i_shape::source::int::resource::IntShapeResource;
 use i_shape_core::number::WideIntNumber;
 use i_shape_core::probe::Probe;
 use i_shape_core::triangle::Triangle;
 use i_shape_tool::Command;
-use std::test::Fail;
 
 #[test]
-fn calls_of_numbers(rt: HostRuntime) -> Result<(), Fail> {
-    let wide = 7i32.to_wide();
-    told_done(&rt, "IntNumber::to_wide", wide == 7i64)?;
-    told_done(&rt, "IntNumber::minus", 7i32.minus(4) == 3)?;
-    let sum = WideIntNumber::wrapping_add(7i64, 2);
-    told_done(&rt, "WideIntNumber::wrapping_add", sum == 9)?;
-    let difference = WideIntNumber::wrapping_sub(7i64, 2);
-    told_done(&rt, "WideIntNumber::wrapping_sub", difference == 5)?;
-    let product = WideIntNumber::wrapping_mul(7i64, 2);
-    told_done(&rt, "WideIntNumber::wrapping_mul", product == 14)?;
-    let sign = WideIntNumber::signum(-7i64);
-    told_done(&rt, "WideIntNumber::signum", sign == -1)?;
-    told_done(&rt, "WideIntNumber::divide", 7i64.divide(2) == 3)?;
-    Ok(())
+fn numbers(rt: HostRuntime) {
+    call!(rt, "IntNumber::to_wide" => Ok(7i32.to_wide()));
+    call!(rt, "IntNumber::minus" => Ok(7i32.minus(4)));
+    call!(rt, "WideIntNumber::wrapping_add" => Ok(WideIntNumber::wrapping_add(7i64, 2)));
+    call!(rt, "WideIntNumber::wrapping_sub" => Ok(WideIntNumber::wrapping_sub(7i64, 2)));
+    call!(rt, "WideIntNumber::wrapping_mul" => Ok(WideIntNumber::wrapping_mul(7i64, 2)));
+    call!(rt, "WideIntNumber::signum" => Ok(WideIntNumber::signum(-7i64)));
+    call!(rt, "WideIntNumber::divide" => Ok(7i64.divide(2)));
 }
 
 #[test]
-fn calls_of_points(rt: HostRuntime) -> Result<(), Fail> {
-    let a = IntPoint::new(3, 1);
-    told_done(&rt, "IntPoint::new", a.x == 3 && a.y == 1)?;
-    let b = IntPoint::new(1, 2);
-    let difference = a - b;
-    told_done(&rt, "IntPoint::sub", difference == IntPoint::new(2, -1))?;
-    told_done(&rt, "IntPoint::cross_product", a.cross_product(b) == 5i64)?;
-    told_done(&rt, "IntPoint::dot_product", a.dot_product(b) == 5i64)?;
-    told_done(&rt, "IntPoint::is_in_safe_range", a.is_in_safe_range())?;
-    let zero = IntPoint::new(0, 0);
+fn points(rt: HostRuntime) {
+    call!(rt, "IntPoint::new" => Ok(IntPoint::new(3, 1)));
+    let [a, b, zero] = [
+        IntPoint::new(3, 1),
+        IntPoint::new(1, 2),
+        IntPoint::new(0, 0),
+    ];
+    call!(rt, "IntPoint::sub" => Ok(a - b));
+    call!(rt, "IntPoint::cross_product" => Ok(a.cross_product(b)));
+    call!(rt, "IntPoint::dot_product" => Ok(a.dot_product(b)));
+    call!(rt, "IntPoint::is_in_safe_range" => Ok(a.is_in_safe_range()));
     assert!(rt; zero.is_in_safe_range() && a.is_in_safe_range() && b.is_in_safe_range());
-    let is_clockwise = Triangle::is_clockwise(zero, a, b);
-    told_done(&rt, "Triangle::is_clockwise", !is_clockwise)?;
-    Ok(())
+    call!(rt, "Triangle::is_clockwise" => Ok(Triangle::is_clockwise(zero, a, b)));
+    call!(rt, "Command::from_word" => Ok(Command::from_word("despike")));
 }
 
 #[test]
-fn new_buffers(rt: HostRuntime) -> Result<(), Fail> {
-    let alloc = rt.alloc();
-    let contours: FlatContoursBuffer<i32> = FlatContoursBuffer::new(alloc);
-    told_done(&rt, "FlatContoursBuffer::new", contours.is_empty())?;
-    let shapes: FlatShapesBuffer<i32> = FlatShapesBuffer::new(alloc);
-    told_done(&rt, "FlatShapesBuffer::new", shapes.is_empty())?;
-    let contours: FloatFlatContoursBuffer<[i32; 2]> = FloatFlatContoursBuffer::new(alloc);
-    told_done(&rt, "FloatFlatContoursBuffer::new", contours.is_empty())?;
-    let shapes: FloatFlatShapesBuffer<[i32; 2]> = FloatFlatShapesBuffer::new(alloc);
-    told_done(&rt, "FloatFlatShapesBuffer::new", shapes.is_empty())?;
-    Ok(())
+fn probes(rt: HostRuntime) {
+    let points = safe(&rt, SQUARE.as_slice());
+    call!(rt, "Probe::new" => Ok(Probe::new(points).len()));
+    let mut probe = Probe::new(points);
+    assert!(rt; probe.len() == 4 && probe.visits() == 0);
+    call!(rt, "Probe::len" => Ok(probe.len()));
+    call!(rt, "Probe::turn" => Ok(probe.turn(0, 1, 2)));
+    call!(rt, "Probe::skip" => Ok(probe.skip()));
+    call!(rt, "Probe::visits" => Ok(probe.visits()));
+    call!(rt, "Probe::keep" => probe.keep(rt.alloc(), &[2, 0, 2]));
 }
 
 #[test]
-fn new_cleaners(rt: HostRuntime) -> Result<(), Fail> {
+fn new_values(rt: HostRuntime) {
     let alloc = rt.alloc();
+    call!(rt, "FlatContoursBuffer::new" => Ok(FlatContoursBuffer::<i32>::new(alloc)));
+    call!(rt, "FlatShapesBuffer::new" => Ok(FlatShapesBuffer::<i32>::new(alloc)));
+    call!(rt, "FloatFlatContoursBuffer::new" => Ok(FloatFlatContoursBuffer::<Spot>::new(alloc)));
+    call!(rt, "FloatFlatShapesBuffer::new" => Ok(FloatFlatShapesBuffer::<Spot>::new(alloc)));
     let mark = safe(&rt, MARK.as_slice());
     let mut out = SQUARE;
     assert!(rt; mark.len() <= out.len());
-    let mut simplifier = ContourSimplifier::new(alloc);
-    let left = simplifier.simplify_into(mark, &mut out);
-    told_done(&rt, "ContourSimplifier::new", left == Ok(0))?;
-    let mut remover = ContourDeSpiker::new(alloc);
-    let left = remover.despike_into(mark, &mut out);
-    told_done(&rt, "ContourDeSpiker::new", left == Ok(0))?;
-    let probe = Probe::new(mark);
-    told_done(&rt, "Probe::new", probe.len() == 1)?;
-    Ok(())
+    call!(rt, "ContourSimplifier::new" => ContourSimplifier::new(alloc).simplify_into(mark, &mut out));
+    call!(rt, "ContourDeSpiker::new" => ContourDeSpiker::new(alloc).despike_into(mark, &mut out));
 }
 
 #[test]
-fn command_of_a_word(rt: HostRuntime) -> Result<(), Fail> {
-    let command = Command::from_word("despike");
-    let is_named = matches!(command, Some(Command::Despike));
-    told_done(&rt, "Command::from_word", is_named)?;
-    Ok(())
-}
-
-#[test]
-fn counts_of_iterators(rt: HostRuntime) -> Result<(), Fail> {
-    let walk = (&SQUARE).iter_paths();
-    told_done(&rt, "ContourResourceIterator::count", walk.count() == 1)?;
+fn paths_of_lists(rt: HostRuntime) {
+    let alloc = rt.alloc();
+    let points = safe(&rt, SQUARE.as_slice());
+    call!(rt, "IntShapeResource::iter_paths of a contour" => Ok(points.iter_paths().count()));
     let borrowed = [SQUARE.as_slice(), FLAT.as_slice()];
-    let walk = (&borrowed).iter_paths();
-    told_done(&rt, "Copied::count of borrowed paths", walk.count() == 2)?;
-    Ok(())
+    call!(rt, "IntShapeResource::iter_paths of borrowed paths" => Ok((&borrowed).iter_paths().count()));
+    if let Ok(given) = crate::given::one_shape(&rt, alloc, &[&SQUARE, &TRIANGLE]) {
+        call!(rt, "IntShapeResource::iter_paths of a shape" => Ok((&given[0]).iter_paths().count()));
+        call!(rt, "IntShapeResource::iter_paths of shapes" => Ok((&given).iter_paths().count()));
+        call!(rt, "IntSafeRange::is_in_safe_range" => Ok((&given).is_in_safe_range()));
+    }
+    call!(rt, "ShapeResource::iter_paths of a contour" => Ok(PAIR.as_slice().iter_paths().count()));
+    let borrowed = [PAIR.as_slice(), TRIPLE.as_slice()];
+    call!(rt, "ShapeResource::iter_paths of borrowed paths" => Ok((&borrowed).iter_paths().count()));
 }
 
 #[test]
-fn counts_of_lent_paths(rt: HostRuntime) -> Result<(), Fail> {
+fn paths_of_buffers(rt: HostRuntime) {
     let alloc = rt.alloc();
-    let (Ok(contours), Ok(buffer)) = (
-        two_contours(alloc),
-        FlatContoursBuffer::full(alloc, SQUARE_AND_TRIANGLE),
+    let (Ok(one), Ok(other)) = (
+        contours(alloc, &BOTH, &[0..4, 4..7]),
+        shapes(alloc, &BOTH, &[0..4, 4..7]),
     ) else {
-        return Ok(());
+        return;
     };
-    let walk = (&contours).iter_paths();
-    told_done(&rt, "ShapeResourceIterator::count", walk.count() == 2)?;
-    assert!(rt; buffer.can_read_contours());
-    let walk = (&buffer).iter_paths();
-    told_done(&rt, "IntBufferResourceIterator::len", walk.len() == 2)?;
-    let walk = (&buffer).iter_paths();
-    told_done(&rt, "IntBufferResourceIterator::count", walk.count() == 2)?;
-    Ok(())
-}
-
-#[test]
-fn in_place_below_three_points(rt: HostRuntime) -> Result<(), Fail> {
-    let alloc = rt.alloc();
-    let (Ok(mut one), Ok(mut two)) = (
-        contour(&rt, alloc, MARK.as_slice()),
-        contour(&rt, alloc, MARK.as_slice()),
+    assert!(rt; one.can_read_contours() && other.can_read_contours());
+    call!(rt, "IntShapeResource::iter_paths of FlatContoursBuffer" => Ok((&one).iter_paths().count()));
+    call!(rt, "IntBufferResourceIterator::len" => Ok((&one).iter_paths().len()));
+    call!(rt, "IntShapeResource::iter_paths of FlatShapesBuffer" => Ok((&other).iter_paths().count()));
+    let (Ok(one), Ok(other)) = (
+        spot_contours(alloc, &spots::BOTH, &[0..2, 2..5]),
+        spot_shapes(alloc, &spots::BOTH, &[0..2, 2..5]),
     ) else {
-        return Ok(());
+        return;
     };
-    let result = one.simplify_contour();
-    let name = "IntContour::simplify_contour below three points";
-    told_unrefused(&rt, name, result, true)?;
-    let result = two.remove_spikes();
-    let name = "IntContour::remove_spikes below three points";
-    told_unrefused(&rt, name, result, true)?;
-    Ok(())
+    call!(rt, "ShapeResource::iter_paths of FloatFlatContoursBuffer" => Ok((&one).iter_paths().count()));
+    call!(rt, "ShapeResource::iter_paths of FloatFlatShapesBuffer" => Ok((&other).iter_paths().count()));
 }

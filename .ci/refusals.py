@@ -1,0 +1,96 @@
+#!/usr/bin/env python3
+"""Refuses the growths of memory of the calls in crates/refusals one by one.
+
+Runs each test with its growth of number N refused, for N = 1, 2, .. up to the first run in which none is. A test prints 'NAME begins' before a call, and behind it
+'NAME done' or 'NAME refused'. growths.txt there lists how many growths a call makes: it passes where it was refused at so many, and done in the last run. It is a
+fault where a run fails, or leaves a block of memory; where a call is done though a growth was refused within it, or refused though none was; and where a call isn't
+listed, or is told of twice. The last line is 'refusals: N passed, M failed'.
+"""
+import collections
+import os
+import re
+import subprocess
+import sys
+import tempfile
+
+TOP = os.path.dirname(os.path.dirname(os.path.realpath(__file__)))
+CRATE = f"{TOP}/crates/refusals"
+PROGRAM = f"{CRATE}/out/refusals_tests"
+MOST = 200
+
+
+def is_built():
+    """Whether the tests' program is there, and newer than the crates."""
+    words = ["find", "crates", "crates.txt", "(", "-name", "out", "-o", "-name", "growths.txt", ")", "-prune", "-o", "-type", "f", "-newer", PROGRAM, "-print", "-quit"]
+    return os.access(PROGRAM, os.X_OK) and not subprocess.run(words, cwd=TOP, stdout=subprocess.PIPE, check=True).stdout
+
+
+def build(library):
+    """Builds the tests, where they aren't built, and by the kit's compiler the library that refuses a growth."""
+    if not is_built():
+        subprocess.run(["rt", "test"], cwd=CRATE, check=True)
+    kit = os.path.dirname(subprocess.run(["rt", "doc"], stdout=subprocess.PIPE, text=True, check=True).stdout.strip())
+    words = "-std=c11 -shared -fPIC -nostdlib -fuse-ld=lld -fno-builtin -o".split()
+    subprocess.run([f"{kit}/toolchain/bin/clang", *words, library, f"{TOP}/.ci/refuse_growth.c"], check=True)
+
+
+class Run:
+    """A run of a test with one growth refused: the calls that it told of as done and as refused, and its faults."""
+
+    def __init__(self, library, test, growth):
+        told = {**os.environ, "LD_PRELOAD": library, "REFUSED_GROWTH": str(growth)}
+        ran = subprocess.run([PROGRAM, test], env=told, stdout=subprocess.PIPE, stderr=subprocess.STDOUT, text=True, timeout=60, check=False)
+        self.done, self.refused, self.faults, self.has_refused = [], [], [], False
+        call, within = None, False
+        for line in map(str.strip, ran.stdout.splitlines()):
+            what = re.fullmatch(r"(.*) (begins|done|refused)", line)
+            if line == "growth refused":
+                self.has_refused = within = True
+            elif what and what[2] == "begins":
+                call, within = what[1], False
+            elif what:
+                # one that doesn't tell that it begins is alone in its test
+                if (what[2] == "refused") != within and (call == what[1] or what[2] == "refused" or self.has_refused):
+                    self.faults.append(f"{line}, with a growth refused within it" if within else line)
+                getattr(self, what[2]).append(what[1])
+                call, within = None, False
+        if ran.returncode or "test result: ok" not in ran.stdout or "blocks left: 0" not in ran.stdout:
+            self.faults.append(ran.stdout)
+
+
+def compare(done, refused):
+    """The faults of the calls, and how many calls are as they are listed."""
+    faults, listed = [], collections.Counter()
+    with open(f"{CRATE}/growths.txt", encoding="utf-8") as rows:
+        for growths, call in (row.strip().split(" ", 1) for row in rows if row[:1].isdigit()):
+            listed[call] += 1
+            if (done[call], refused[call]) != (1, int(growths)):
+                faults.append(f"{call}: done {done[call]} times, and refused at {refused[call]} growths, and not at {growths}")
+    faults += [f"{call}: listed twice" for call, times in listed.items() if times > 1]
+    faults += [f"{call}: not listed" for call in done.keys() - listed.keys()]
+    return faults, len(listed) - len(faults)
+
+
+def main():
+    done, refused, faults = collections.Counter(), collections.Counter(), []
+    with tempfile.TemporaryDirectory() as work:
+        library = f"{work}/refuse_growth.so"
+        build(library)
+        tests = subprocess.run([PROGRAM, "--list"], stdout=subprocess.PIPE, text=True, check=True).stdout
+        for test in re.findall(r"^(\S+): test$", tests, re.M):
+            for growth in range(1, MOST):
+                run = Run(library, test, growth)
+                faults += [f"{test}, growth {growth}: {fault}" for fault in run.faults]
+                refused.update(run.refused)
+                if run.faults or not run.has_refused:
+                    break
+            done.update(run.done)
+    more, passed = compare(done, refused)
+    faults += more
+    print(*faults, f"growths refused within the calls: {refused.total()}", sep="\n")
+    print(f"refusals: {max(passed, 0)} passed, {len(faults)} failed")
+    return bool(faults)
+
+
+if __name__ == "__main__":
+    sys.exit(main())
