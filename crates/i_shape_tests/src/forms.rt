@@ -94,12 +94,12 @@ fn the_form_of_a_contour_either_way_round(rt: HostRuntime) -> Result<(), Fail> {
     Ok(())
 }
 
-/// Contours, and what becomes of each in a store that was given those above.
+/// Shapes of one contour, and what becomes of each in a store that was given those above.
 const INSERTED: [(&str, Insertion); 4] = [
-    ("6 0 0 0 2 0 1 0 1 5", Insertion::New),
-    ("2 0 1 0 1 5 6 0 0 0", Insertion::Known),
-    ("0 0 0 512 0 1", Insertion::Collapsed),
-    ("0 0 4 0 4 4 0 4 0 0", Insertion::New),
+    ("6 0 0 0 2 0 1 0 1 5;", Insertion::New),
+    ("2 0 1 0 1 5 6 0 0 0;", Insertion::Known),
+    ("0 0 0 512 0 1;", Insertion::Collapsed),
+    ("0 0 4 0 4 4 0 4 0 0;", Insertion::New),
 ];
 
 #[test]
@@ -108,7 +108,7 @@ fn joined_contours_are_one_in_a_store(rt: HostRuntime) -> Result<(), Fail> {
     let mut contours = CanonicalStore::new(alloc);
     let mut polygons = PolygonStore::new(alloc);
     for (name, inserted) in INSERTED {
-        let given = texts::contour(&rt, alloc, name)?;
+        let given = texts::contour(&rt, alloc, name.trim_end_matches(';'))?;
         let answer = contours.insert(given.as_slice())?;
         equal(&rt, answer, inserted, name, "what became of the contour");
         let wanted = inserted != Insertion::Collapsed;
@@ -119,7 +119,7 @@ fn joined_contours_are_one_in_a_store(rt: HostRuntime) -> Result<(), Fail> {
             name,
             "whether it is there",
         );
-        let shape = [given];
+        let shape = texts::shape(&rt, alloc, name)?;
         let answer = polygons.insert(shape.as_slice())?;
         equal(&rt, answer, inserted, name, "what became of the polygon");
         equal(
