@@ -10,7 +10,7 @@ use Rattle.std.specs.declared.cmp.Ordering.{Ordering}
 use Rattle.std.specs.declared.cmp.Ordering.TheVariants.{Less, Equal, Greater}
 use Rattle.std.proofs.lemmas.Bool.{false≢true}
 use Rattle.std.proofs.lemmas.List.{get_or_default}
-use Rattle.std.proofs.lemmas.List.Elements.{All-contains}
+use Rattle.std.proofs.lemmas.List.Elements.{All-contains, Contains-append_right}
 use Rattle.i_shape_core.specs.Point.{Point}
 use Rattle.i_shape_core.specs.IntPoint.{point_of, contour_of}
 use Rattle.i_shape_core.specs.declared.point.IntPoint.{IntPoint}
@@ -69,9 +69,6 @@ contains_cases x xs y (suc k, lt, e) = inr (k, omega arith, e)
 contains_here : {X : Type 0} (x : X) (xs : List X) (y : X) → x ≡ y → Contains (x ∷ xs) y
 contains_here x xs y e = (0, omega arith, e)
 
-contains_later : {X : Type 0} (x : X) (xs : List X) (y : X) → Contains xs y → Contains (x ∷ xs) y
-contains_later x xs y (k, lt, e) = (suc k, omega arith, e)
-
 module _ {K Y : Type 0} (cmp : K → K → Ordering) (g : K → Y) (exact : Exact cmp g) where
   -- a set has a key exactly where what the key stands for is there
   pub key_listed : (k : K) (ks : List K) → IsTrue (list_any (is_at (cmp k)) ks) ↔ Contains (map g ks) (g k)
@@ -81,8 +78,8 @@ module _ {K Y : Type 0} (cmp : K → K → Ordering) (g : K → Y) (exact : Exac
       go : (o : Ordering) → (o ≡ Equal) ↔ (g k ≡ g x) → IsTrue (list_any (is_at (cmp k)) ks) ↔ Contains (map g ks) (g k)
           → IsTrue (is_eq o || list_any (is_at (cmp k)) ks) ↔ Contains (g x ∷ map g ks) (g k)
       go Equal h t = (λ _. contains_here (g x) (map g ks) (g k) (sym (h.0 refl)), λ _. refl)
-      go Less h t = (λ q. contains_later (g x) (map g ks) (g k) (t.0 q), λ c. elim (contains_cases (g x) (map g ks) (g k) c) [ inl e ↦ (let r = h.1 (sym e) in absurd cc) | inr d ↦ t.1 d ])
-      go Greater h t = (λ q. contains_later (g x) (map g ks) (g k) (t.0 q), λ c. elim (contains_cases (g x) (map g ks) (g k) c) [ inl e ↦ (let r = h.1 (sym e) in absurd cc) | inr d ↦ t.1 d ])
+      go Less h t = (λ q. Contains-append_right (g x ∷ []) (map g ks) (g k) (t.0 q), λ c. elim (contains_cases (g x) (map g ks) (g k) c) [ inl e ↦ (let r = h.1 (sym e) in absurd cc) | inr d ↦ t.1 d ])
+      go Greater h t = (λ q. Contains-append_right (g x ∷ []) (map g ks) (g k) (t.0 q), λ c. elim (contains_cases (g x) (map g ks) (g k) c) [ inl e ↦ (let r = h.1 (sym e) in absurd cc) | inr d ↦ t.1 d ])
 
   -- once a key was put in, its own and those before it are there
   pub key_inserted : (ks : List K) (k : K) (y : Y) → Contains (map g (insert_key cmp ks k)) y ↔ (Contains (map g ks) y ⊎ (g k ≡ y))
@@ -93,20 +90,20 @@ module _ {K Y : Type 0} (cmp : K → K → Ordering) (g : K → Y) (exact : Exac
           → Contains (map g (match_ordering o (k ∷ x ∷ ks) (x ∷ ks) (x ∷ insert_key cmp ks k))) y ↔ (Contains (g x ∷ map g ks) y ⊎ (g k ≡ y))
       go Less h t = (
         λ c. elim (contains_cases (g k) (g x ∷ map g ks) y c) [ inl e ↦ inr e | inr d ↦ inl d ],
-        λ d. elim d [ inl c ↦ contains_later (g k) (g x ∷ map g ks) y c | inr e ↦ contains_here (g k) (g x ∷ map g ks) y e ],
+        λ d. elim d [ inl c ↦ Contains-append_right (g k ∷ []) (g x ∷ map g ks) y c | inr e ↦ contains_here (g k) (g x ∷ map g ks) y e ],
       )
       go Equal h t = (λ c. inl c, λ d. elim d [ inl c ↦ c | inr e ↦ contains_here (g x) (map g ks) y (sym (h.0 refl) ∙ e) ])
       go Greater h t = (
         λ c. elim (contains_cases (g x) (map g (insert_key cmp ks k)) y c) [
           | inl e ↦ inl (contains_here (g x) (map g ks) y e)
-          | inr d ↦ elim (t.0 d) [ inl c ↦ inl (contains_later (g x) (map g ks) y c) | inr e ↦ inr e ]
+          | inr d ↦ elim (t.0 d) [ inl c ↦ inl (Contains-append_right (g x ∷ []) (map g ks) y c) | inr e ↦ inr e ]
         ],
         λ d. elim d [
           | inl c ↦ elim (contains_cases (g x) (map g ks) y c) [
             | inl e ↦ contains_here (g x) (map g (insert_key cmp ks k)) y e
-            | inr b ↦ contains_later (g x) (map g (insert_key cmp ks k)) y (t.1 (inl b))
+            | inr b ↦ Contains-append_right (g x ∷ []) (map g (insert_key cmp ks k)) y (t.1 (inl b))
           ]
-          | inr e ↦ contains_later (g x) (map g (insert_key cmp ks k)) y (t.1 (inr e))
+          | inr e ↦ Contains-append_right (g x ∷ []) (map g (insert_key cmp ks k)) y (t.1 (inr e))
         ],
       )
 

@@ -3,7 +3,7 @@ use Rattle.std.proofs.Common.{◌≡◌, ℕ, ◌+◌, ◌<◌, ◌≤◌, ℤ, 
 use Rattle.std.specs.List.{All}
 use Rattle.std.specs.Option.{option_to_list, is_some}
 use Rattle.std.specs.declared.ops.Range.{Range}
-use Rattle.std.proofs.lemmas.List.{map-append, get_or_default, take_all}
+use Rattle.std.proofs.lemmas.List.{map-append, get_or_default, take_all, nil_from_length}
 use Rattle.std.proofs.lemmas.List.Elements.{All-weaker}
 use Rattle.std.proofs.lemmas.Simd.{map-map}
 use Rattle.i_shape_core.specs.Point.{Point}
@@ -124,10 +124,6 @@ held-none buffer held = subst (HoldsShapes buffer) (sym held.shapes) held
 pub clean-none : {T : Type 0} (Answer : List Point → Option (List Point) → Type 0) (value : T → ℤ) (buffer : FlatShapesBuffer T) → HoldsShapes buffer [] → ListClean Answer [] (named_shapes value buffer)
 clean-none Answer value buffer held = ([], tt, ap (map (contours_of value)) held.shapes)
 
-none_of : {X : Type 0} (xs : List X) → length xs ≡ 0 → xs ≡ []
-none_of [] e = refl
-none_of (x ∷ xs) e = absurd (omega (arith, e))
-
 -- an error is no answer
 pub err_not_ok : {A E : Type 0} (y : E) (a : A) → Err y ≡ Ok a → ⊥
 err_not_ok y a e = cc
@@ -139,7 +135,7 @@ module _ {T : Type 0} {Answer : List Point → Option (List Point) → Type 0} (
       → new.shape_ranges.items ≡ old.shape_ranges.items ++ record { start = n; end = n } ∷ [] → AppendsShapeAnswer Answer value (slices source named) old new
   appends-empty n none count points_are contours_are shapes_are = record {
     answer = Some [];
-    cleaned = rw (none_of named none) refl;
+    cleaned = rw (nil_from_length named none) refl;
     grown = record { points_are = points_are ∙ sym (append-nil old.points.items); ranges_are = contours_are ∙ sym (append-nil old.contour_ranges.items) };
     shape_ranges = shapes_are ∙ ap (λ k. old.shape_ranges.items ++ record { start = k; end = k } ∷ []) count
         ∙ ap (λ k. old.shape_ranges.items ++ record { start = length old.contour_ranges.items; end = k } ∷ []) (onto_zero (length old.contour_ranges.items));
