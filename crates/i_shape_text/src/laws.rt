@@ -49,20 +49,23 @@ pub fn fault_concatenated()
         → IsFirstFault command text fault ⊎ IsFaultOfSecond command text more fault }
 {}
 
-/// Commands are told equal by `==` exactly where they are one, and a clone is the command itself.
+/// Commands are told equal by `==` exactly where they are one; a clone is the command itself, and always comes.
 pub fn commands_equal(_a: &Command, _b: &Command)
     ensures compared { IsTrue (⟦<Command as PartialEq>⟧.eq _a.now _b.now) ↔ (_a.now ≡ _b.now) }
     ensures cloned { ⟦<Command as Clone>⟧.is_clone _a.now _b.now → _b.now ≡ _a.now }
+    ensures unrefused { ⟦<Command as Clone>⟧.is_infallible _a.now }
 {}
 
 /// So are faults, with their lines.
 pub fn faults_equal(_a: &ToolFault, _b: &ToolFault)
     ensures compared { IsTrue (⟦<ToolFault as PartialEq>⟧.eq _a.now _b.now) ↔ (_a.now ≡ _b.now) }
     ensures cloned { ⟦<ToolFault as Clone>⟧.is_clone _a.now _b.now → _b.now ≡ _a.now }
+    ensures unrefused { ⟦<ToolFault as Clone>⟧.is_infallible _a.now }
 {}
 
 /// So are complaints, with their faults.
 pub fn complaints_equal(_a: &Complaint, _b: &Complaint)
     ensures compared { IsTrue (⟦<Complaint as PartialEq>⟧.eq _a.now _b.now) ↔ (_a.now ≡ _b.now) }
     ensures cloned { ⟦<Complaint as Clone>⟧.is_clone _a.now _b.now → _b.now ≡ _a.now }
+    ensures unrefused { ⟦<Complaint as Clone>⟧.is_infallible _a.now }
 {}
