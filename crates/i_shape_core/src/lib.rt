@@ -10,6 +10,7 @@ pub mod cleaner;
 mod comparer;
 pub mod contour;
 pub mod despike;
+pub mod equality;
 pub mod error;
 pub mod fill_rule;
 mod four_turns;
