@@ -20,18 +20,6 @@ pub fn winding_about<P: ContourPoint>(contour: &[P], point: IntPoint<P::Coordina
         (point_of P.Coordinate.value point) }
     ensures half { IsWithinHalf (length contour.now) result }
 {
-    winding_by_edges(contour, point)
-}
-
-/// The same, edge after edge.
-#[inline(always)]
-fn winding_by_edges<P: ContourPoint>(contour: &[P], point: IntPoint<P::Coordinate>) -> isize
-    requires points_safe { IsSafeContour P.Coordinate.width
-        (contour_of P.Coordinate.value (P.points contour.now)) }
-    requires point_safe { IsSafe P.Coordinate.width (point_of P.Coordinate.value point) }
-    ensures { result ≡ winding (contour_of P.Coordinate.value (P.points contour.now))
-        (point_of P.Coordinate.value point) }
-{
     let Some(last) = contour.last() else {
         return 0;
     };

@@ -1,15 +1,114 @@
-use Rattle.std.proofs.Common.{sym, subst₂, ◌∙◌, FitsSigned, w64}
+use Rattle.std.proofs.Common.{◌≡◌, ◌+ℤ◌, ◌-◌, ◌^◌, ◌<◌, FitsSigned, length, get_or, w64, to_z, of_z, sym, subst₂, ◌∙◌, arith, rules}
 use Rattle.std.proofs.lemmas.Int.{to_z-of_z}
 use Rattle.i_shape_core.specs.IntPoint.{point_of, contour_of}
-use Rattle.i_shape_core.specs.Winding.{IsWithinHalf}
-use Rattle.i_shape_core.proofs.plane.Contours.{length-contour}
-use Rattle.i_shape_core.proofs.plane.PointLists.{points-length}
-use Rattle.i_shape_core.proofs.measure.WindingWalk.{winding_half}
+use Rattle.i_shape_core.specs.Winding.{level, IsWithinHalf}
+use Rattle.i_shape_core.proofs.arithmetic.WholeNumbers.{zero_add}
+use Rattle.i_shape_core.proofs.plane.Contours.{length-contour, read-safe}
+use Rattle.i_shape_core.proofs.plane.PointLists.{points-length, points-at}
+use Rattle.i_shape_core.proofs.measure.WindingWalk.{winding_half, near_first, near_step, no_points, walk_edge, walk_over, total_fits, total_added}
 use Rattle.i_shape_core.proofs.winding.winding_about.Goals as goal
+
+pub returns-in_default-clause-answer : goal.returns-in_default-clause-answer
+returns-in_default-clause-answer g c =
+    let value = g.P.Coordinate.IntNumber.value in
+    let point = g.P.ContourPoint.point in
+    let points = g.P.ContourPoint.points in
+    let whole = c.args.contour.now in
+    let count = points-length point points g.P.ContourPoint.each whole in
+    no_points value (point_of value c.args.point) (points whole) (omega (arith, count, c.in_default.ensures.item.3))
+
+pub loop-given-init : goal.loop-given-init
+loop-given-init g c =
+    let value = g.P.Coordinate.IntNumber.value in
+    let width = g.P.Coordinate.IntNumber.width in
+    let point = g.P.ContourPoint.point in
+    let points = g.P.ContourPoint.points in
+    let whole = c.args.contour.now in
+    let count = points-length point points g.P.ContourPoint.each whole in
+    let last : c.to_point-before.result ≡ get_or (points whole) (length (points whole) - 1) c.to_point-before.result =
+    rw (count, c.to_point-before.ensures) (points-at point points g.P.ContourPoint.each whole _ c.in-Some.last.now (omega (arith, c.in-Some.ensures.item.3.0)) c.in-Some.ensures.item.1) in
+    record {
+      before_safe = read-safe width value (points whole) (length (points whole) - 1) c.to_point-before.result c.requires.points_safe (omega (arith, count, c.in-Some.ensures.item.3.0)) last;
+      near = near_first _;
+      told = zero_add _;
+    }
+
+pub edge_winding-total-requires-clause-end_safe : goal.edge_winding-total-requires-clause-end_safe
+edge_winding-total-requires-clause-end_safe g c =
+    let value = g.P.Coordinate.IntNumber.value in
+    let width = g.P.Coordinate.IntNumber.width in
+    let point = g.P.ContourPoint.point in
+    let points = g.P.ContourPoint.points in
+    let whole = c.args.contour.now in
+    let count = points-length point points g.P.ContourPoint.each whole in
+    let within : c.loop-given.given-index < length (points whole) = omega (arith, c.loop-given-test.true, count) in
+    let end : c.to_point-end.result ≡ get_or (points whole) c.loop-given.given-index c.to_point-end.result =
+    rw c.to_point-end.ensures (points-at point points g.P.ContourPoint.each whole _ c.given-item.result c.loop-given-test.true c.given-item.is) in
+    read-safe width value (points whole) _ c.to_point-end.result c.requires.points_safe within end
+
+pub overflow_add-total : goal.overflow_add-total
+overflow_add-total g c =
+    let value = g.P.Coordinate.IntNumber.value in
+    let point = g.P.ContourPoint.point in
+    let points = g.P.ContourPoint.points in
+    let whole = c.args.contour.now in
+    let count = points-length point points g.P.ContourPoint.each whole in
+    let last : c.to_point-before.result ≡ get_or (points whole) (length (points whole) - 1) c.to_point-before.result =
+    rw (count, c.to_point-before.ensures) (points-at point points g.P.ContourPoint.each whole _ c.in-Some.last.now (omega (arith, c.in-Some.ensures.item.3.0)) c.in-Some.ensures.item.1) in
+    let within : c.loop-given.given-index < length (points whole) = omega (arith, c.loop-given-test.true, count) in
+    let end : c.to_point-end.result ≡ get_or (points whole) c.loop-given.given-index c.to_point-end.result =
+    rw c.to_point-end.ensures (points-at point points g.P.ContourPoint.each whole _ c.given-item.result c.loop-given-test.true c.given-item.is) in
+    let room : length (points whole) < 2 ^ 64 = rw count (search rules) in
+    let turn : FitsSigned w64 c.edge_winding-total.result = record { sfits = c.edge_winding-total.type_inv } in
+    let fits = total_fits value (point_of value c.args.point) (points whole) c.loop-given.given-index c.loop-given.before c.to_point-before.result c.to_point-end.result (to_z w64 c.loop-given.total-bits) c.edge_winding-total.result
+    last within room end c.edge_winding-total.ensures c.loop-given.invariant.near in
+    rw (to_z-of_z w64 c.edge_winding-total.result turn) fits
+
+pub loop-given-preserved : goal.loop-given-preserved
+loop-given-preserved g c =
+    let value = g.P.Coordinate.IntNumber.value in
+    let width = g.P.Coordinate.IntNumber.width in
+    let point = g.P.ContourPoint.point in
+    let points = g.P.ContourPoint.points in
+    let whole = c.args.contour.now in
+    let count = points-length point points g.P.ContourPoint.each whole in
+    let last : c.to_point-before.result ≡ get_or (points whole) (length (points whole) - 1) c.to_point-before.result =
+    rw (count, c.to_point-before.ensures) (points-at point points g.P.ContourPoint.each whole _ c.in-Some.last.now (omega (arith, c.in-Some.ensures.item.3.0)) c.in-Some.ensures.item.1) in
+    let within : c.loop-given.given-index < length (points whole) = omega (arith, c.loop-given-test.true, count) in
+    let end : c.to_point-end.result ≡ get_or (points whole) c.loop-given.given-index c.to_point-end.result =
+    rw c.to_point-end.ensures (points-at point points g.P.ContourPoint.each whole _ c.given-item.result c.loop-given-test.true c.given-item.is) in
+    let room : length (points whole) < 2 ^ 64 = rw count (search rules) in
+    let turn : FitsSigned w64 c.edge_winding-total.result = record { sfits = c.edge_winding-total.type_inv } in
+    let fits = total_fits value (point_of value c.args.point) (points whole) c.loop-given.given-index c.loop-given.before c.to_point-before.result c.to_point-end.result (to_z w64 c.loop-given.total-bits) c.edge_winding-total.result
+    last within room end c.edge_winding-total.ensures c.loop-given.invariant.near in
+    let sum : to_z w64 (of_z w64 (to_z w64 c.loop-given.total-bits +ℤ to_z w64 (of_z w64 c.edge_winding-total.result))) ≡ to_z w64 c.loop-given.total-bits +ℤ c.edge_winding-total.result =
+    total_added w64 (to_z w64 c.loop-given.total-bits) c.edge_winding-total.result fits turn in
+    let p = point_of value c.args.point in
+    record {
+      before_safe = read-safe width value (points whole) _ c.to_point-end.result c.requires.points_safe within end;
+      near = rw (sum, c.edge_winding-total.ensures) (near_step p (point_of value c.loop-given.before) (point_of value c.to_point-end.result) c.loop-given.given-index (level p (point_of value c.to_point-before.result)) (to_z w64 c.loop-given.total-bits) c.loop-given.invariant.near);
+      told = rw sum (walk_edge value p (points whole) c.loop-given.given-index c.loop-given.before c.to_point-end.result (to_z w64 c.loop-given.total-bits) c.edge_winding-total.result _ within end c.edge_winding-total.ensures c.loop-given.invariant.told);
+    }
+
+pub returns-clause-answer : goal.returns-clause-answer
+returns-clause-answer g c =
+    let value = g.P.Coordinate.IntNumber.value in
+    let point = g.P.ContourPoint.point in
+    let points = g.P.ContourPoint.points in
+    let whole = c.args.contour.now in
+    let count = points-length point points g.P.ContourPoint.each whole in
+    let last : c.to_point-before.result ≡ get_or (points whole) (length (points whole) - 1) c.to_point-before.result =
+    rw (count, c.to_point-before.ensures) (points-at point points g.P.ContourPoint.each whole _ c.in-Some.last.now (omega (arith, c.in-Some.ensures.item.3.0)) c.in-Some.ensures.item.1) in
+    walk_over value (point_of value c.args.point) (points whole) c.loop-given.given-index c.loop-given.before c.to_point-before.result _ (omega (arith, count, c.loop-given-test.false)) (omega (arith, count, c.in-Some.ensures.item.3.0)) last c.loop-given.invariant.told
+
+pub returns-in_default-clause-half : goal.returns-in_default-clause-half
+returns-in_default-clause-half g c =
+    let contour = contour_of g.P.Coordinate.IntNumber.value (g.P.ContourPoint.points c.args.contour.now) in
+    let count = length-contour g.P.Coordinate.IntNumber.value (g.P.ContourPoint.points c.args.contour.now) ∙ points-length g.P.ContourPoint.point g.P.ContourPoint.points g.P.ContourPoint.each c.args.contour.now in
+    subst₂ IsWithinHalf count (sym (returns-in_default-clause-answer g c)) (winding_half contour (point_of g.P.Coordinate.IntNumber.value c.args.point))
 
 pub returns-clause-half : goal.returns-clause-half
 returns-clause-half g c =
     let contour = contour_of g.P.Coordinate.IntNumber.value (g.P.ContourPoint.points c.args.contour.now) in
     let count = length-contour g.P.Coordinate.IntNumber.value (g.P.ContourPoint.points c.args.contour.now) ∙ points-length g.P.ContourPoint.point g.P.ContourPoint.points g.P.ContourPoint.each c.args.contour.now in
-    let turn : FitsSigned w64 c.winding_by_edges.result = record { sfits = c.winding_by_edges.type_inv } in
-    subst₂ IsWithinHalf count (sym (to_z-of_z w64 c.winding_by_edges.result turn ∙ c.winding_by_edges.ensures)) (winding_half contour (point_of g.P.Coordinate.IntNumber.value c.args.point))
+    subst₂ IsWithinHalf count (sym (returns-clause-answer g c)) (winding_half contour (point_of g.P.Coordinate.IntNumber.value c.args.point))

@@ -4,7 +4,7 @@ use Rattle.i_shape_core.specs.Edges.{sum_of}
 use Rattle.i_shape_core.specs.Winding.{level, winding_of_edge}
 use Rattle.i_shape_core.specs.Blocks.{path_over}
 use Rattle.i_shape_core.proofs.measure.WindingWalk.{IsNear}
-use Rattle.i_shape_core.proofs.winding.winding_by_edges.Given as goal
+use Rattle.i_shape_core.proofs.winding.winding_about.Given as goal
 
 abbrev pub invariant-loop-given : goal.invariant-loop-given
 invariant-loop-given g l =
