@@ -1,7 +1,7 @@
 //! Tests and measures, which take no memory.
 
 use crate::flat_buffers::{contours, shapes, spot_contours, spot_shapes};
-use crate::given::{BOTH, SQUARE, TRIANGLE, safe};
+use crate::given::{BOTH, SQUARE, TRIANGLE, one_shape, safe, shape};
 use crate::spots;
 use crate::told::{begun, call, ended, on};
 use i_shape::FillRule;
@@ -37,8 +37,8 @@ fn tests_of_a_contour(rt: HostRuntime) {
 fn tests_of_shapes(rt: HostRuntime) {
     let alloc = rt.alloc();
     let (Ok(given), Ok(list)) = (
-        crate::given::shape(&rt, alloc, &[&SQUARE, &TRIANGLE]),
-        crate::given::one_shape(&rt, alloc, &[&SQUARE, &TRIANGLE]),
+        shape(&rt, alloc, &[&SQUARE, &TRIANGLE]),
+        one_shape(&rt, alloc, &[&SQUARE, &TRIANGLE]),
     ) else {
         return;
     };

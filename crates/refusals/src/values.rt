@@ -1,7 +1,7 @@
 //! Calls of numbers, points, probes, new values and walks over paths, which take no memory.
 
 use crate::flat_buffers::{contours, shapes, spot_contours, spot_shapes};
-use crate::given::{BOTH, FLAT, MARK, SQUARE, TRIANGLE, safe};
+use crate::given::{BOTH, FLAT, MARK, SQUARE, TRIANGLE, one_shape, safe};
 use crate::spots::{self, PAIR, Spot, TRIPLE};
 use crate::told::{begun, call, ended};
 use i_shape::IntNumber;
@@ -80,7 +80,7 @@ fn paths_of_lists(rt: HostRuntime) {
     call!(rt, "IntShapeResource::iter_paths of a contour" => Ok(points.iter_paths().count()));
     let borrowed = [SQUARE.as_slice(), FLAT.as_slice()];
     call!(rt, "IntShapeResource::iter_paths of borrowed paths" => Ok((&borrowed).iter_paths().count()));
-    if let Ok(given) = crate::given::one_shape(&rt, alloc, &[&SQUARE, &TRIANGLE]) {
+    if let Ok(given) = one_shape(&rt, alloc, &[&SQUARE, &TRIANGLE]) {
         call!(rt, "IntShapeResource::iter_paths of a shape" => Ok((&given[0]).iter_paths().count()));
         call!(rt, "IntShapeResource::iter_paths of shapes" => Ok((&given).iter_paths().count()));
         call!(rt, "IntSafeRange::is_in_safe_range" => Ok((&given).is_in_safe_range()));
