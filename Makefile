@@ -59,6 +59,7 @@ wheel: $(if $(I_SHAPE_C_DIR),,c)
 
 # The extension of PostgreSQL, in bindings/postgres/out, for the server of pg_config or another PG_CONFIG=.., over the C library; it takes CPU=x86-64 too.
 postgres: c
+	@rm -rf bindings/postgres/out
 	@mkdir -p bindings/postgres/out
 	@$(MAKE) -s -C bindings/postgres/out -f ../Makefile I_SHAPE_C_DIR=$(abspath $(C_OUT))
 
@@ -106,8 +107,9 @@ uninstall-c:
 	rm -f "$(TO_INCLUDE)/i_shape.h" "$(TO_INCLUDE)/i_shape.hpp" "$(TO_LIB)/libi_shape.a" "$(TO_LIB)"/libi_shape.so* "$(TO_LIB)/pkgconfig/i_shape.pc"
 	rm -rf "$(TO_LIB)/cmake/i_shape"
 
-# Installs the extension into that server.
-install-postgres: postgres
+# Installs the extension, as `make postgres` has built it, into that server.
+install-postgres: c
+	@mkdir -p bindings/postgres/out
 	@$(MAKE) -s -C bindings/postgres/out -f ../Makefile I_SHAPE_C_DIR=$(abspath $(C_OUT)) install
 
 # Removes what is built and the kept work of the proofs.

@@ -1,8 +1,8 @@
 #!/usr/bin/env bash
-# Builds the extension of PostgreSQL and tests it in a server of its own: a copy of the installed one, whose data, socket and extensions lie in the folder of this
-# run, and which runs as nobody where root runs this. By pg_regress what the calls answer and refuse, keys, tables and plans; beside that a restore, keys beside
-# Python's, refused allocations, a processor without SSE4.2, and the commands of docs/POSTGIS.md. Before that the reader is fuzzed under the address sanitizer. It
-# takes the library of `make c`. Where that isn't built, or where PostgreSQL 15, its headers or PostGIS aren't there, it is skipped.
+# Builds the extension of PostgreSQL and tests it in a server of its own: a copy of the installed one, whose data, socket and extensions lie in the folder of
+# this run, and which runs as nobody where root runs this. By pg_regress what the calls answer and refuse, keys, tables and plans; beside that a restore, keys
+# beside Python's, refused allocations, a processor without SSE4.2, and the commands of docs/POSTGIS.md. Before that the reader is fuzzed under the address
+# sanitizer. It takes the library of `make c`. Where that isn't built, or where PostgreSQL 15, its headers or PostGIS aren't there, it is skipped.
 set -u
 cd "$(dirname "$0")/.." || exit 1
 . .ci/count.sh || exit 1
@@ -102,9 +102,10 @@ test_python_keys() {
     fi
     I_SHAPE_C_DIR=$library PYTHONPATH=bindings/python/src /usr/bin/python3 "$here/tests/keys.py" 20000 > "$work/keys"
     ask -c 'CREATE TABLE python_keys (wkb bytea, oriented bytea, unoriented bytea)' -c "\\copy python_keys FROM '$work/keys'"
-    answers "keys beside Python's" '20000|0' ask -c "SELECT count(*), count(*) FILTER (WHERE i_shape_wkb_key(wkb, 0.25, true) IS DISTINCT FROM nullif(oriented, '')
-        OR i_shape_wkb_key(wkb, 0.25) IS DISTINCT FROM nullif(unoriented, '') OR i_shape_key(ST_GeomFromEWKB(wkb), 0.25) IS DISTINCT FROM nullif(unoriented, ''))
-        FROM python_keys"
+    answers "keys beside Python's" '20000|20000|20000|20000' ask -c "SELECT count(*),
+        count(*) FILTER (WHERE i_shape_wkb_key(wkb, 0.25, true) IS NOT DISTINCT FROM nullif(oriented, '')),
+        count(*) FILTER (WHERE i_shape_wkb_key(wkb, 0.25) IS NOT DISTINCT FROM nullif(unoriented, '')),
+        count(*) FILTER (WHERE i_shape_key(ST_GeomFromEWKB(wkb), 0.25) IS NOT DISTINCT FROM nullif(unoriented, '')) FROM python_keys"
 }
 
 # Each growth of memory in each call, refused; and answers above what a server takes, which this module has lowered to 1000 bytes.

@@ -49,16 +49,8 @@ static bool is_curved(uint32 type) {
     return type >= 8 && type <= 13;
 }
 
-static void refuse_range(const Fault *fault, Grid grid) {
-    bool is_finite = isfinite(fault->value);
-    ereport(ERROR, errcode(ERRCODE_NUMERIC_VALUE_OUT_OF_RANGE),
-            errmsg("i_shape: polygon %zu, ring %zu, point %zu: %c is %s, %s", fault->polygon, fault->ring, fault->point, fault->axis,
-                   double_to_shortest_decimal(fault->value), is_finite ? "2^49 steps or more from 0" : "which isn't finite"),
-            is_finite ? errhint("Take a step above %s.", double_to_shortest_decimal(grid.step)) : 0);
-}
-
 /* Of what isn't fine, where wanted names the type that is. */
-static void refuse(const Fault *fault, const char *wanted, Grid grid) {
+static void refuse(const Fault *fault, const char *wanted) {
     switch (fault->kind) {
     case FINE: return;
     case OTHER_TYPE:
@@ -73,7 +65,10 @@ static void refuse(const Fault *fault, const char *wanted, Grid grid) {
     case MIXED_SRIDS:
         ereport(ERROR, errcode(ERRCODE_INVALID_PARAMETER_VALUE), errmsg("i_shape: a part of a MultiPolygon has another SRID"));
         return;
-    case OUT_OF_RANGE: refuse_range(fault, grid);
+    case OUT_OF_RANGE:
+        ereport(ERROR, errcode(ERRCODE_NUMERIC_VALUE_OUT_OF_RANGE),
+                errmsg("i_shape: polygon %zu, ring %zu, point %zu: %c is %s, %s", fault->polygon, fault->ring, fault->point, fault->axis,
+                       double_to_shortest_decimal(fault->value), fault->what));
     }
 }
 
@@ -102,11 +97,11 @@ static void free_block(Geometry *geometry) {
 static Geometry geometry_of(const bytea *wkb, Grid grid) {
     Geometry geometry;
     Counts counts;
-    Fault fault = count_wkb(VARDATA_ANY(wkb), VARSIZE_ANY_EXHDR(wkb), &counts);
-    refuse(&fault, "Polygon or a MultiPolygon", grid);
+    Fault fault = count_wkb(VARDATA_ANY(wkb), VARSIZE_ANY_EXHDR(wkb), let_interrupt, &counts);
+    refuse(&fault, "Polygon or a MultiPolygon");
     take_block(&geometry, counts);
     fault = read_wkb(VARDATA_ANY(wkb), VARSIZE_ANY_EXHDR(wkb), grid, let_interrupt, &geometry);
-    refuse(&fault, "Polygon or a MultiPolygon", grid);
+    refuse(&fault, "Polygon or a MultiPolygon");
     return geometry;
 }
 
@@ -223,7 +218,7 @@ CALL(pg_i_shape_area_two) {
 static bool place_of(const bytea *wkb, Grid grid, i_shape_point_i64 *place, int32 *srid) {
     double xy[2];
     Fault fault = read_point_wkb(VARDATA_ANY(wkb), VARSIZE_ANY_EXHDR(wkb), xy, srid);
-    refuse(&fault, "Point", grid);
+    refuse(&fault, "Point");
     if (isnan(xy[0]) && isnan(xy[1])) return false;
     if (!to_grid(xy, grid, place))
         ereport(ERROR, errcode(ERRCODE_NUMERIC_VALUE_OUT_OF_RANGE),

@@ -11,9 +11,9 @@ typedef void Pause(void);
 enum { PAUSE_POINTS = 1 << 16 };
 
 /* Whole numbers among floats, by the rule of docs/DEFINITIONS.md, "Keys". steps_to_one is 0 where no whole number of steps
- * makes 1. */
+ * makes 1. Numbers of steps lie strictly between -limit and limit: 2^49, or less where more steps lead beyond the floats. */
 typedef struct {
-    double step, steps_to_one;
+    double step, steps_to_one, limit;
 } Grid;
 
 /* The points of a ring, without the first one at the end again. */
@@ -51,7 +51,7 @@ typedef enum {
     HAS_Z_OR_M,
     NOT_WKB,       /* what says why */
     MIXED_SRIDS,   /* of a polygon beside that of its MultiPolygon */
-    OUT_OF_RANGE   /* the coordinate value, x or y, of a point, at its place from 1 on */
+    OUT_OF_RANGE   /* the coordinate value, x or y, of a point, at its place from 1 on; what says why */
 } FaultKind;
 
 typedef struct {
@@ -67,7 +67,7 @@ enum { WKB_POINT = 1, WKB_POLYGON = 3, WKB_MULTIPOLYGON = 6 };
 
 /* Whether step is finite and above 0. */
 bool make_grid(double step, Grid *grid);
-/* Whether both coordinates are finite and fewer than 2^49 steps from 0; then where the point lies on the grid. */
+/* Whether both coordinates lie within the limit of the grid; then where the point lies on it. */
 bool to_grid(const double xy[2], Grid grid, i_shape_point_i64 *point);
 
 /* The bytes that hold as many points, rings and polygons, and arrays within such a block, aligned as a pointer is. */
@@ -75,7 +75,7 @@ size_t block_size(Counts counts);
 void use_block(Geometry *geometry, void *block);
 
 /* How much a WKB holds at most, for which the geometry that it is then read to has arrays. */
-Fault count_wkb(const void *wkb, size_t size, Counts *counts);
+Fault count_wkb(const void *wkb, size_t size, Pause *pause, Counts *counts);
 Fault read_wkb(const void *wkb, size_t size, Grid grid, Pause *pause, Geometry *to);
 /* A Point. Both coordinates are NaN where it is empty. */
 Fault read_point_wkb(const void *wkb, size_t size, double xy[2], int32_t *srid);

@@ -17,6 +17,7 @@ bool make_grid(double step, Grid *grid) {
     double whole = rint(1 / step);
     grid->step = step;
     grid->steps_to_one = isfinite(whole) && whole != 0 && 1 / whole == step ? whole : 0;
+    grid->limit = fmin(LIMIT, DBL_MAX / step);
     return true;
 }
 
@@ -30,7 +31,7 @@ static double brought_back(int64_t k, Grid grid) {
 
 bool to_grid(const double xy[2], Grid grid, i_shape_point_i64 *point) {
     double x = steps_of(xy[0], grid), y = steps_of(xy[1], grid);
-    if (!(fabs(x) < LIMIT && fabs(y) < LIMIT)) return false;
+    if (!(fabs(x) < grid.limit && fabs(y) < grid.limit)) return false;
     point->x = (int64_t)x;
     point->y = (int64_t)y;
     return true;
@@ -121,13 +122,16 @@ static void point_at(const Reader *from, size_t number, double xy[2]) {
 
 static bool out_of_range(Reader *from, const double xy[2], size_t number) {
     const Polygon *polygon = from->to->polygons + from->to->counts.polygons;
-    bool is_x = !(fabs(steps_of(xy[0], from->grid)) < LIMIT);
+    bool is_x = !(fabs(steps_of(xy[0], from->grid)) < from->grid.limit);
+    double value = is_x ? xy[0] : xy[1];
+    bool is_far = fabs(steps_of(value, from->grid)) >= LIMIT;
     from->fault = (Fault){.kind = OUT_OF_RANGE,
                           .polygon = from->counts.polygons + 1,
                           .ring = polygon->count + 1,
                           .point = number + 1,
                           .axis = is_x ? 'x' : 'y',
-                          .value = is_x ? xy[0] : xy[1]};
+                          .value = value,
+                          .what = !isfinite(value) ? "which isn't finite" : is_far ? "2^49 steps or more from 0" : "which rounds to no float"};
     return false;
 }
 
@@ -147,7 +151,7 @@ static bool add_ring(Reader *from, size_t count) {
     bool is_on_grid = open < count;
     for (size_t k = 0; k < open; k++) {
         double xy[2];
-        if (k % PAUSE_POINTS == 0) from->pause();
+        if (k % PAUSE_POINTS == PAUSE_POINTS - 1) from->pause();
         point_at(from, k, xy);
         if (!to_grid(xy, from->grid, points + k)) return out_of_range(from, xy, k);
         is_on_grid = is_on_grid && brought_back(points[k].x, from->grid) == xy[0] && brought_back(points[k].y, from->grid) == xy[1];
@@ -161,6 +165,7 @@ static bool add_ring(Reader *from, size_t count) {
 
 static bool walk_ring(Reader *from) {
     uint32_t count;
+    from->pause();
     if (!next_number(from, &count) || !has(from, (uint64_t)count * POINT_SIZE)) return false;
     if (from->to && !add_ring(from, count)) return false;
     from->counts.rings++;
@@ -173,6 +178,7 @@ static bool walk_ring(Reader *from) {
 static bool walk_polygon(Reader *from) {
     Geometry *to = from->to;
     uint32_t count;
+    from->pause();
     if (!next_number(from, &count)) return false;
     if (to) to->polygons[to->counts.polygons] = (Polygon){to->rings + to->counts.rings, 0};
     for (uint32_t k = 0; k < count; k++)
@@ -213,8 +219,9 @@ static Fault walk(Reader *from) {
     return from->fault;
 }
 
-Fault count_wkb(const void *wkb, size_t size, Counts *counts) {
+Fault count_wkb(const void *wkb, size_t size, Pause *pause, Counts *counts) {
     Reader from = reader_of(wkb, size);
+    from.pause = pause;
     Fault fault = walk(&from);
     *counts = from.counts;
     return fault;

@@ -1,5 +1,5 @@
-/* WKB of random polygons, as it is and mutated, through the reader, the cleaners, the order of forms and the writers, each block as long as what it holds, for the
- * address sanitizer. What is answered is compared with the calls of the C library on polygons, and with itself when it is read again. Then each growth of the C
+/* WKB of random polygons, as it is and mutated, through the reader, the cleaners, the order of forms and the writers, each block as long as what it holds, for
+ * the address sanitizer. What is answered is compared with the calls of the C library on polygons, and with itself when it is read again. Then each growth of the C
  * library is refused in turn. usage: fuzz COUNT */
 #include "polygons.h"
 
@@ -159,7 +159,7 @@ static Block key_of(const Geometry *form) {
 /* Takes no block where it isn't fine. */
 static FaultKind read_block(Block wkb, Grid grid, Geometry *to) {
     Counts counts;
-    Fault fault = count_wkb(wkb.at, wkb.size, &counts);
+    Fault fault = count_wkb(wkb.at, wkb.size, no_pause, &counts);
     if (fault.kind != FINE) return fault.kind;
     take_block(to, counts);
     fault = read_wkb(wkb.at, wkb.size, grid, no_pause, to);
