@@ -22,7 +22,7 @@ import samples
 from i_shape import __main__ as command
 from i_shape import _command
 from i_shape import io
-from i_shape._command import progress, text_files
+from i_shape._command import plot, progress, text_files
 
 HAS_MATPLOTLIB = importlib.util.find_spec("matplotlib") is not None
 WHY_NOT = "a plot is not tested: there is no matplotlib"
@@ -366,6 +366,28 @@ class Plots(CommandCase):
             self.assertEqual(self.geometries()[0], samples.polygon(SQUARE))
         self.assertIn("before: 10 points", self.texts("plot.svg"))
         self.assertIn("after: 4 points", self.texts("plot.svg"))
+
+    @unittest.skipUnless(HAS_MATPLOTLIB, WHY_NOT)
+    def test_of_many_features_those_first_that_lose_points(self):
+        square, spiked = samples.polygon(SQUARE), samples.polygon(SPIKED)
+        self.write(samples.geojson(*[square] * 9, *[spiked] * 3))
+        for most, words in ((28, "4 of 12 features, those first that lose"
+                             " points"), (9, "1 of 12"), (1, "1 of 12"),
+                            (57, None)):
+            shown = plot.Picture()
+            with mock.patch.object(plot, "_MOST", most), \
+                    mock.patch.object(plot, "Picture", lambda: shown):
+                self.run_command("simplify", self.given, self.out, "--step",
+                                 "0.1", "--plot", self.folder / "plot.svg")
+            texts = self.texts("plot.svg")
+            self.assertIn("before: 57 points", texts)
+            self.assertIn("after: 48 points", texts)
+            found = [text for text in texts if " of 12 features" in text]
+            self.assertEqual(len(found), words is not None)
+            if words:
+                self.assertIn(words, found[0])
+            self.assertEqual([one.size for one in shown._changed.shown][:1],
+                             [7])
 
     def texts(self, name):
         """The words of a picture, which stand in its comments."""

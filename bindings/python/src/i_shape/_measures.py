@@ -205,8 +205,8 @@ def _as_whole(areas: Array) -> Array:
     """Areas of 128 bits as whole numbers of Python, and others as they are."""
     if areas.dtype.names is None:
         return areas
-    high: Array = areas["high"].astype(object)
-    return high * 2**64 + areas["low"]
+    whole: Array = areas["high"].astype(object) * 2**64 + areas["low"]
+    return whole
 
 
 def _require_halves(points: Array) -> None:
@@ -318,7 +318,7 @@ def area_two_polygons(points: npt.NDArray[Int], ring_offsets: npt.ArrayLike,
     sums = np.zeros(len(areas) + 1, areas.dtype)
     # What wraps on the way doesn't change a difference.
     np.cumsum(areas, dtype=areas.dtype, out=sums[1:])
-    its = sums[given.parts[1:]] - sums[given.parts[:-1]]
+    its: Array = sums[given.parts[1:]] - sums[given.parts[:-1]]
     if its.dtype == object:
         its = (its + 2**127) % 2**128 - 2**127
     if not halves:

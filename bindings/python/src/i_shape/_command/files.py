@@ -70,9 +70,11 @@ def _store(path: Path) -> None:
 
 def _copy(beside: Path, path: Path) -> None:
     """Write a file to a device, a pipe, or standard output."""
-    out: ContextManager[Any] = (
-        nullcontext(_open(sys.stdout, "standard output"))
-        if path == STANDARD else open(path, "wb"))
+    out: ContextManager[BinaryIO]
+    if path == STANDARD:
+        out = nullcontext(_open(sys.stdout, "standard output"))
+    else:
+        out = open(path, "wb")
     with open(beside, "rb") as file, out as device:
         shutil.copyfileobj(file, device)
         device.flush()

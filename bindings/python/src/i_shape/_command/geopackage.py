@@ -24,7 +24,8 @@ _POLYGONS = {"GEOMETRY", "GEOMETRYCOLLECTION", "SURFACE", "CURVEPOLYGON",
              "POLYGON", "MULTISURFACE", "MULTIPOLYGON"}
 _ENVELOPES = (0, 32, 48, 48, 64)  # bytes
 _PATIENCE = 5.0  # seconds to wait for a file that another program writes
-_EMPTY, _EXTENDED = 0x10, 0x20
+_BOXES, _EMPTY, _EXTENDED = 0x0e, 0x10, 0x20
+_NUMBERS = (struct.Struct(">d").unpack_from, struct.Struct("<d").unpack_from)
 _FULL_HEAD, _EMPTY_HEAD = b"GP\0\3", b"GP\0\x11"  # with a box; without one
 
 
@@ -52,7 +53,9 @@ class Row(NamedTuple):
     def name(self) -> str:
         return f"layer {self.layer.name!r}, fid {self.fid}"
 
-    place = name
+    @property
+    def place(self) -> str:
+        return self.name
 
     @property
     def size(self) -> int:
@@ -86,12 +89,8 @@ def _read(builder: Builder, row: Row) -> None:
     _wkb.read(builder, row.wkb)
 
 
-def _box(blob: Any) -> Optional[Sequence[float]]:
-    """The least and greatest x, and those of y, if there are any."""
-    if not isinstance(blob, bytes) or len(blob) < 8:
-        return None
-    if blob[3] >> 1 & 7:
-        return struct.unpack_from(_order(blob) + "4d", blob, 8)
+def _box(blob: bytes) -> Optional[Sequence[float]]:
+    """The least and greatest x, and those of y, of the points of a blob."""
     points = from_wkb([blob[8:]]).polygons.points
     if not len(points):
         return None
@@ -101,10 +100,16 @@ def _box(blob: Any) -> Optional[Sequence[float]]:
 
 
 def _side(place: int) -> Callable[[Any], Optional[float]]:
+    """What a blob says of a side of its box; nothing where there is none."""
+    start = 8 + 8 * place
+
     def value(blob: Any) -> Optional[float]:
         try:
+            if blob[3] & _BOXES:
+                number: float = _NUMBERS[blob[3] & 1](blob, start)[0]
+                return number
             box = _box(blob)
-        except (FeatureError, struct.error):
+        except (FeatureError, struct.error, TypeError, IndexError):
             return None
         return None if box is None else box[place]
     return value

@@ -7,7 +7,6 @@ from __future__ import annotations
 
 import json
 import re
-from json.decoder import scanstring
 from typing import (Any, Callable, Dict, Iterator, NamedTuple, NoReturn,
                     TextIO, Tuple, TypeVar)
 
@@ -39,8 +38,9 @@ def _whole_number(text: str) -> Any:
     return int(text) if len(text) < _LONGEST else NumberText(text)
 
 
-_scan = json.JSONDecoder(parse_int=_whole_number,
-                         parse_constant=_refuse).scan_once
+_decoder: Any = json.JSONDecoder(parse_int=_whole_number,
+                                 parse_constant=_refuse)
+_scan = _decoder.scan_once
 
 
 def scan(text: str, at: int) -> tuple[Any, int]:
@@ -120,7 +120,7 @@ def _strange_name(text: str, at: int) -> tuple[str, int, int]:
     if text[start:start + 1] != '"':
         raise json.JSONDecodeError(
             "Expecting property name enclosed in double quotes", text, start)
-    name, at = scanstring(text, start + 1)
+    name, at = scan(text, start)
     colon = _COLON(text, at)
     if not colon:
         raise json.JSONDecodeError("Expecting ':' delimiter", text, at)

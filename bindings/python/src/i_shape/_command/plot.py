@@ -40,7 +40,7 @@ def _rings(features: Features, place: int) -> list[Array]:
 
 
 class _Sample:
-    """The first features, up to a number of points."""
+    """The first features, up to a number of points, or one of more."""
 
     def __init__(self) -> None:
         self.shown: list[_Shown] = []
@@ -75,10 +75,10 @@ class Picture:
         self._same.add(given, left, np.flatnonzero(are_same))
 
     def _shown(self) -> Iterator[_Shown]:
-        room = _MOST
+        total = 0
         for one in self._changed.shown + self._same.shown:
-            room -= one.size
-            if room < 0 <= room + one.size < _MOST:
+            total += one.size
+            if total > _MOST and total > one.size:
                 return
             yield one
 
