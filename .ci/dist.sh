@@ -99,8 +99,30 @@ is_proved() {
     count $? "linux-$1: what the kit said of the proof"
 }
 
+# Each library that x86-64 has besides, and the words of the loader that it is taken.
+test_faster() {
+    local its=lib/glibc-hwcaps/x86-64-v2/libi_shape.so.${version%%.*} loaded=(env LD_LIBRARY_PATH=lib LD_DEBUG=files)
+    is_of_manylinux "$its" && grep -q '^logic=proved .* cpu=x86-64-v2 ' PROOF.x86-64-v2
+    count $? 'linux-x86_64: the library for x86-64-v2, and its proof'
+    "${CC:-cc}" -std=c11 -Iinclude sample/sample.c lib/libi_shape.so -o "$work/program"
+    if grep -q sse4_2 /proc/cpuinfo && ldd --version | grep -qE ' 2\.(3[3-9]|[4-9][0-9])$'; then
+        [ "$("${loaded[@]}" "$work/program" 2> "$work/log")" = "$corners" ] && grep -q "calling init: $its$" "$work/log"
+        count $? 'linux-x86_64: the loader takes it'
+    else
+        skip 'linux-x86_64: the loader takes it' 'the processor is before x86-64-v2, or glibc before 2.33'
+    fi
+    if qemu-x86_64 --version > /dev/null 2>&1; then
+        [ "$(qemu-x86_64 -cpu core2duo -E LD_LIBRARY_PATH=lib "$work/program")" = "$corners" ]
+        count $? 'linux-x86_64: the loader of an older processor takes the other'
+    else
+        skip 'linux-x86_64: the loader of an older processor takes the other' 'there is no qemu-x86_64'
+    fi
+    rm "$work/program"
+}
+
 test_linux() {
-    local machine=$1
+    local machine=$1 faster=''
+    [ "$machine" != x86_64 ] || faster=$(printf '%s\n' PROOF.x86-64-v2 lib/glibc-hwcaps/x86-64-v2/libi_shape.so.{"${version%%.*}","$version"})
     unpack "i_shape-$version-linux-$machine.tar.gz" || return
     holds "linux-$machine" << FILES
 CMakeLists.txt
@@ -119,7 +141,8 @@ lib/libi_shape.so.$version
 lib/pkgconfig/i_shape.pc
 sample/consumer/CMakeLists.txt
 sample/sample.c
-sample/sample.cpp
+sample/sample.cpp${faster:+
+$faster}
 FILES
     is_proved "$machine"
     is_of_manylinux lib/libi_shape.so
@@ -146,6 +169,7 @@ test_page() {
 test_x86_64() {
     local program
     test_linux x86_64
+    test_faster
     test_page
     if qemu-x86_64 --version > /dev/null 2>&1; then
         runner=(qemu-x86_64 -cpu core2duo)

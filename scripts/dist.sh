@@ -55,7 +55,17 @@ pack_linux() {
     cp "$top/LICENSE" "$work/$name"
     sed "s|@VERSION@|$version|; s|@MACHINE@|$machine|" "$top/bindings/c/archive.md" > "$work/$name/README.md"
     print_proof "$library/build.log" > "$work/$name/PROOF"
+    [ "$machine" != x86_64 ] || add_faster "$work/$name"
     pack "$name" "$name.tar.gz"
+}
+
+# The default beside the library for each x86-64, in the folder $1/lib: glibc's loader takes that on a processor that has x86-64-v2.
+add_faster() {
+    local default=$top/bindings/c/out to=$1/lib/glibc-hwcaps/x86-64-v2
+    bash "$top/bindings/c/build.sh"
+    mkdir -p "$to"
+    cp -P "$default"/libi_shape.so.* "$to"
+    print_proof "$default/build.log" > "$1/PROOF.x86-64-v2"
 }
 
 pack_program() {
