@@ -40,6 +40,14 @@ enum {
 /* What i_shape_winding_iW answers where a point isn't safe: below every winding number, which may be below 0 itself. */
 #define I_SHAPE_NO_WINDING PTRDIFF_MIN
 
+/* The fill rules: which points contours fill, by how often they wind about them together. */
+enum {
+    I_SHAPE_EVEN_ODD = 0, /* an odd number of times */
+    I_SHAPE_NONZERO = 1,  /* a number of times other than 0 */
+    I_SHAPE_POSITIVE = 2, /* more than 0 times */
+    I_SHAPE_NEGATIVE = 3  /* fewer than 0 times */
+};
+
 typedef struct { int16_t x, y; } i_shape_point_i16;
 typedef struct { int32_t x, y; } i_shape_point_i32;
 typedef struct { int64_t x, y; } i_shape_point_i64;
@@ -128,7 +136,8 @@ int32_t i_shape_contains_i32(const i_shape_point_i32 *points, size_t count, int3
 /* Each point is safe. It never answers I_SHAPE_UNSAFE. */
 int32_t i_shape_is_safe_i32(const i_shape_point_i32 *points, size_t count);
 
-/* Winding numbers. These take no memory. */
+/* Winding numbers. That about one point takes no memory. Those about many take some where 32 or more points are asked
+ * about and count is 64 or more; where that is refused, they are the same, and take longer. */
 
 /* How often the contour winds about (x, y), to the left: how many edges pass its height upwards and strictly to the
  * right of it, less those that do so downwards; or I_SHAPE_NO_WINDING, if that point or one of the contour isn't
@@ -139,6 +148,16 @@ ptrdiff_t i_shape_winding_i32(const i_shape_point_i32 *points, size_t count, int
  * I_SHAPE_UNSAFE: a point of a contour or of about isn't safe. After a code, and behind about_count numbers, out is as
  * it was. */
 int32_t i_shape_windings_i32(const i_shape_point_i32 *points, size_t count, const size_t *offsets, size_t offset_count, const i_shape_point_i32 *about, size_t about_count, ptrdiff_t *out, size_t room);
+
+/* Which points a fill rule fills, and which lie on an edge. These take memory as above, and 8 bytes for each point asked
+ * about; where that is refused, too, they answer the same. I_SHAPE_UNFIT: there is no such rule, too. */
+
+/* Whether the rule fills each of the points, by how often all contours wind about it together: 1 or 0, a byte each, into
+ * out. What it answers, and when, is as of i_shape_windings_i32. */
+int32_t i_shape_contains_points_i32(const i_shape_point_i32 *points, size_t count, const size_t *offsets, size_t offset_count, const i_shape_point_i32 *about, size_t about_count, int32_t rule, uint8_t *out, size_t room);
+/* Where each of the points lies, a byte each, into out: 0 on an edge of a contour, its ends included, and elsewhere 1
+ * where the rule fills the point, and -1 where it doesn't. What it answers, and when, is as of i_shape_windings_i32. */
+int32_t i_shape_locate_i32(const i_shape_point_i32 *points, size_t count, const size_t *offsets, size_t offset_count, const i_shape_point_i32 *about, size_t about_count, int32_t rule, int8_t *out, size_t room);
 
 /* Twice the area, above 0 where the contour turns left; false, and *area as it was, where there is no point. No safe
  * range is asked: a sum that doesn't fit wraps. It takes no memory. At 16 bits the area has 32, at 64 bits it is the
@@ -181,6 +200,8 @@ int32_t i_shape_contains_i16(const i_shape_point_i16 *points, size_t count, int1
 int32_t i_shape_is_safe_i16(const i_shape_point_i16 *points, size_t count);
 ptrdiff_t i_shape_winding_i16(const i_shape_point_i16 *points, size_t count, int16_t x, int16_t y);
 int32_t i_shape_windings_i16(const i_shape_point_i16 *points, size_t count, const size_t *offsets, size_t offset_count, const i_shape_point_i16 *about, size_t about_count, ptrdiff_t *out, size_t room);
+int32_t i_shape_contains_points_i16(const i_shape_point_i16 *points, size_t count, const size_t *offsets, size_t offset_count, const i_shape_point_i16 *about, size_t about_count, int32_t rule, uint8_t *out, size_t room);
+int32_t i_shape_locate_i16(const i_shape_point_i16 *points, size_t count, const size_t *offsets, size_t offset_count, const i_shape_point_i16 *about, size_t about_count, int32_t rule, int8_t *out, size_t room);
 bool i_shape_area_two_i16(const i_shape_point_i16 *points, size_t count, int32_t *area);
 int32_t i_shape_is_simple_contours_i16(const i_shape_point_i16 *points, size_t count, const size_t *offsets, size_t offset_count, uint8_t *out, size_t room);
 int32_t i_shape_has_no_spikes_contours_i16(const i_shape_point_i16 *points, size_t count, const size_t *offsets, size_t offset_count, uint8_t *out, size_t room);
@@ -208,6 +229,8 @@ int32_t i_shape_contains_i64(const i_shape_point_i64 *points, size_t count, int6
 int32_t i_shape_is_safe_i64(const i_shape_point_i64 *points, size_t count);
 ptrdiff_t i_shape_winding_i64(const i_shape_point_i64 *points, size_t count, int64_t x, int64_t y);
 int32_t i_shape_windings_i64(const i_shape_point_i64 *points, size_t count, const size_t *offsets, size_t offset_count, const i_shape_point_i64 *about, size_t about_count, ptrdiff_t *out, size_t room);
+int32_t i_shape_contains_points_i64(const i_shape_point_i64 *points, size_t count, const size_t *offsets, size_t offset_count, const i_shape_point_i64 *about, size_t about_count, int32_t rule, uint8_t *out, size_t room);
+int32_t i_shape_locate_i64(const i_shape_point_i64 *points, size_t count, const size_t *offsets, size_t offset_count, const i_shape_point_i64 *about, size_t about_count, int32_t rule, int8_t *out, size_t room);
 bool i_shape_area_two_i64(const i_shape_point_i64 *points, size_t count, i_shape_halves *area);
 int32_t i_shape_is_simple_contours_i64(const i_shape_point_i64 *points, size_t count, const size_t *offsets, size_t offset_count, uint8_t *out, size_t room);
 int32_t i_shape_has_no_spikes_contours_i64(const i_shape_point_i64 *points, size_t count, const size_t *offsets, size_t offset_count, uint8_t *out, size_t room);

@@ -11,8 +11,8 @@ header=include/i_shape.h
 
 # Code at 32 bits, at $1 bits, whose products have $2 bits. The codes that the tests answer stay.
 at_width() {
-    sed -E -e 's/-> i32$/-> CODE/; s/&mut (\[?)i64/\&mut \1WIDE/; s/\bw64\b/WIDTH/g' \
-        -e "s/\bw32\b/w$1/g; s/(i|I)32/\1$1/g; s/\b32 bits/$1 bits/" -e "s/CODE/i32/; s/WIDE/i$2/; s/WIDTH/w$2/g" |
+    sed -E -e 's/(-> |rule: )i32\b/\1CODE/g; s/&mut (\[?)i64/\&mut \1WIDE/; s/\bw64\b/WIDTH/g' \
+        -e "s/\bw32\b/w$1/g; s/(i|I)32/\1$1/g; s/\b32 bits/$1 bits/" -e "s/CODE/i32/g; s/WIDE/i$2/; s/WIDTH/w$2/g" |
         if [ "$2" = 128 ]; then in_halves; else cat; fi
 }
 
@@ -48,7 +48,7 @@ make_widths() {
 # The declarations of the header at 32 bits, at $1 bits, whose areas are of the type $2. The codes that the tests answer stay.
 declarations_at() {
     grep -E '^[a-z].* i_shape_[a-z_]+_i32\(.*;$' "$header" |
-        sed -E -e 's/^int32_t/CODE/; s/int64_t \*area/AREA *area/' -e "s/_i32\b/_i$1/g; s/\bint32_t/int$1_t/g" -e "s/CODE/int32_t/; s/AREA/$2/"
+        sed -E -e 's/^int32_t/CODE/; s/int32_t rule/CODE rule/; s/int64_t \*area/AREA *area/' -e "s/_i32\b/_i$1/g; s/\bint32_t/int$1_t/g" -e "s/CODE/int32_t/g; s/AREA/$2/"
 }
 
 # Prints the header, its sections at 16 and at 64 bits made from that at 32 bits. A section ends at a blank line.

@@ -17,7 +17,7 @@ from_start xs n = let all : n - 0 ≡ n = omega arith in rw all refl
 
 -- a list of which the part from a place on was written anew
 module _ {X : Type 0} (old new part : List X) (at : ℕ) (within : at ≤ length old) (is : new ≡ take at old ++ (part ++ drop (length old - at) (drop at old))) where
-  anew : new ≡ take at old ++ part
+  pub anew : new ≡ take at old ++ part
   anew =
       let none : drop (length old - at) (drop at old) ≡ [] = drop_all (length old - at) (drop at old) (omega (arith, length-drop at old)) in
       is ∙ ap (λ l. take at old ++ (part ++ l)) none ∙ ap (λ l. take at old ++ l) (append-nil part)

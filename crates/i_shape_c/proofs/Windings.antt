@@ -1,5 +1,7 @@
 -- Sums of winding numbers over contours that offsets part.
-use Rattle.std.proofs.Common.{◌≡◌, ℕ, zero, suc, ◌+◌, ◌^◌, ◌<◌, FitsSigned, w64, ℤ, ◌+ℤ◌, ap, ◌∙◌, arith}
+use Rattle.std.proofs.Common.{◌≡◌, ℕ, zero, suc, ◌+◌, ◌-◌, ◌^◌, ◌<◌, ◌≤◌, ◌++◌, List, length, map, take, drop, slice_range, FitsSigned, w64, ℤ, ◌+ℤ◌, ap, ap₂, sym, subst, ◌∙◌, arith}
+use Rattle.std.proofs.lemmas.List.{append_assoc, drop-drop, length-map, length-take-le, map-append}
+use Rattle.std.proofs.Math.Seq.{take-add, take-append_seam, drop-append_seam}
 use Rattle.std.specs.List.{range_with_len}
 use Rattle.std.proofs.lemmas.Int.{ints}
 use Rattle.i_shape_core.proofs.arithmetic.Products.{reach-fits}
@@ -43,3 +45,21 @@ half_apart n sum few half e =
     let most = half.most in
     let least = half.least in
     omega (arith, ints)
+
+-- ---- batches
+-- what is written of the points from place a to place b, behind what is written of those before
+pub batch_more : {P W : Type 0} (f : P → W) (about : List P) (a b : ℕ) (old out part new : List W) → a ≤ b → b ≤ length about
+    → out ≡ map f (take a about) ++ drop a old → part ≡ map f (slice_range about a b) ++ drop (length (slice_range about a b)) (drop a out) → length (slice_range about a b) + a ≡ b
+    → new ≡ take a out ++ part → new ≡ map f (take b about) ++ drop b old
+batch_more f about a b old out part new order within told is many joined =
+    let count : length (map f (take a about)) ≡ a = length-map (take a about) f ∙ length-take-le a about (omega (arith, order, within)) in
+    let front : take a out ≡ map f (take a about) = ap (take a) told ∙ subst (λ n. take n (map f (take a about) ++ drop a old) ≡ map f (take a about)) count (take-append_seam (map f (take a about)) (drop a old)) in
+    let behind : drop a out ≡ drop a old = ap (drop a) told ∙ subst (λ n. drop n (map f (take a about) ++ drop a old) ≡ drop a old) count (drop-append_seam (map f (take a about)) (drop a old)) in
+    let middle = slice_range about a b in
+    let sum : a + (b - a) ≡ b = omega (arith, order) in
+    let sum_again : a + length middle ≡ b = omega (arith, many) in
+    let all : take a about ++ middle ≡ take b about = sym (take-add a (b - a) about) ∙ ap (λ n. take n about) sum in
+    let rest : drop (length middle) (drop a out) ≡ drop b old = ap (drop (length middle)) behind ∙ drop-drop (length middle) a old ∙ ap (λ n. drop n old) sum_again in
+    joined ∙ ap₂ (λ xs ys. xs ++ ys) front (is ∙ ap (λ ys. map f middle ++ ys) rest)
+    ∙ sym (append_assoc (map f (take a about)) (map f middle) (drop b old))
+    ∙ ap (λ xs. xs ++ drop b old) (sym (map-append f (take a about) middle) ∙ ap (map f) all)

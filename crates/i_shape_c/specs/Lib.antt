@@ -7,3 +7,4 @@ pub mod Tests
 pub mod Areas
 pub mod Windings
 pub mod Measures
+pub mod Locations

@@ -9,6 +9,7 @@ mod canonical;
 mod codes;
 mod contour;
 mod lists;
+mod location;
 mod measures;
 mod point;
 mod polygons;

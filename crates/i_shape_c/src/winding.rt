@@ -1,6 +1,9 @@
-//! Winding numbers of contours about points, at any width. They take no memory.
+//! Winding numbers of contours about points, at any width. Those of many points take memory where that saves time, and do without it
+//! where it is refused.
 
-ghost use Rattle.std.specs.Prelude.{◌≡◌, ◌↔◌, length, map};
+ghost use Rattle.std.specs.Prelude.{◌≡◌, ◌≤◌, ◌↔◌, ◌++◌, length, map, drop, OnOk, OnErr};
+ghost use Rattle.std.specs.List.{All};
+ghost use Rattle.i_shape_core.specs.Heights.{asked_points, IsRising, IsAdded, AllFit};
 ghost use Rattle.i_shape.specs.IntPoint.{point_of, IsSafe};
 ghost use Rattle.i_shape.specs.Winding.{winding};
 ghost use Rattle.i_shape_c.specs.Cleaned.{AreSafe, unsafe_code, unfit_code};
@@ -13,8 +16,19 @@ use crate::codes::{NO_WINDING, UNFIT_TEST, UNSAFE_TEST};
 use crate::point::CPoint;
 use i_shape::IntNumber;
 use i_shape::int::IntPoint;
+use i_shape_core::heights::{Asked, add_contour, by_height, write_totals};
 use i_shape_core::safe_range::are_safe;
 use i_shape_core::winding::winding_about;
+use std::alloc::{AllocError, Global};
+
+/// The fewest points that are sorted by their heights: fewer are looked at one by one sooner.
+const FEWEST_SORTED: usize = 32;
+
+/// The fewest points of contours for which the points asked about are sorted.
+const FEWEST_EDGES: usize = 64;
+
+/// How many points are sorted at once at least, where so many are asked about.
+const LEAST_BATCH: usize = 65_536;
 
 /// How often the contour winds about the point, or the code of a point that isn't safe.
 pub fn winding<P: CPoint>(points: &[P], given: P) -> isize
@@ -34,7 +48,13 @@ pub fn winding<P: CPoint>(points: &[P], given: P) -> isize
 }
 
 /// Writes how often the contours wind about each of the points together. Answers 0, or a code below 0.
-pub fn windings<P: CPoint>(points: &[P], offsets: &[usize], about: &[P], out: &mut [isize]) -> i32
+pub fn windings<P: CPoint>(
+    alloc: Global,
+    points: &[P],
+    offsets: &[usize],
+    about: &[P],
+    out: &mut [isize],
+) -> i32
     ensures answer { WindingsAnswer (point_by P.Coordinate.value P.point)
         points.now offsets.now about.now out.old out.new result }
     ensures unfit { result ≡ unfit_code
@@ -54,14 +74,141 @@ pub fn windings<P: CPoint>(points: &[P], offsets: &[usize], about: &[P], out: &m
     if !are_safe(about) {
         return UNSAFE_TEST;
     }
-    for place in 0..about.len() {
-        out[place] = wind_all(points, offsets, about[place].to_point());
-    }
+    wind_in_batches(alloc, points, offsets, about, out);
     0
 }
 
+/// Writes how often the contours wind about each of the points together, in batches of as many points as the contours have, or more where
+/// these are few.
+pub fn wind_in_batches<P: CPoint>(
+    alloc: Global,
+    points: &[P],
+    offsets: &[usize],
+    about: &[P],
+    out: &mut [isize],
+)
+    requires parted { PartsPoints (length points.now) offsets.now }
+    requires points_safe { AreSafeContours P.Coordinate.width
+        (point_by P.Coordinate.value P.point) points.now offsets.now }
+    requires about_safe { AreSafe P.Coordinate.width (point_by P.Coordinate.value P.point) about.now }
+    requires room { length about.now ≤ length out.old }
+    ensures { out.new ≡ map (λ q. contours_winding (point_by P.Coordinate.value P.point)
+        points.now offsets.now (point_by P.Coordinate.value P.point q)) about.now
+        ++ drop (length about.now) out.old }
+{
+    let batch = points.len().max(LEAST_BATCH);
+    let mut start = 0;
+    while start < about.len() {
+        let count = batch.min(about.len() - start);
+        wind_batch(
+            alloc,
+            points,
+            offsets,
+            part(about, start, start + count),
+            &mut out[start..],
+        );
+        start += count;
+    }
+}
+
+/// Writes how often the contours wind about each of the points together: by the heights of the points, where they are worth sorting.
+fn wind_batch<P: CPoint>(
+    alloc: Global,
+    points: &[P],
+    offsets: &[usize],
+    about: &[P],
+    out: &mut [isize],
+)
+    requires parted { PartsPoints (length points.now) offsets.now }
+    requires points_safe { AreSafeContours P.Coordinate.width
+        (point_by P.Coordinate.value P.point) points.now offsets.now }
+    requires about_safe { AreSafe P.Coordinate.width (point_by P.Coordinate.value P.point) about.now }
+    requires room { length about.now ≤ length out.old }
+    ensures { out.new ≡ map (λ q. contours_winding (point_by P.Coordinate.value P.point)
+        points.now offsets.now (point_by P.Coordinate.value P.point q)) about.now
+        ++ drop (length about.now) out.old }
+{
+    if about.len() >= FEWEST_SORTED && points.len() >= FEWEST_EDGES {
+        if wind_by_height(alloc, points, offsets, about, out).is_ok() {
+            return;
+        }
+    }
+    wind_one_by_one(points, offsets, about, out);
+}
+
+/// Writes how often the contours wind about each of the points together, by the points in the order of their heights.
+fn wind_by_height<P: CPoint>(
+    alloc: Global,
+    points: &[P],
+    offsets: &[usize],
+    about: &[P],
+    out: &mut [isize],
+) -> Result<(), AllocError>
+    requires parted { PartsPoints (length points.now) offsets.now }
+    requires points_safe { AreSafeContours P.Coordinate.width
+        (point_by P.Coordinate.value P.point) points.now offsets.now }
+    requires about_safe { AreSafe P.Coordinate.width (point_by P.Coordinate.value P.point) about.now }
+    requires room { length about.now ≤ length out.old }
+    ensures answer { OnOk result (out.new ≡ map (λ q. contours_winding (point_by P.Coordinate.value P.point)
+        points.now offsets.now (point_by P.Coordinate.value P.point q)) about.now
+        ++ drop (length about.now) out.old) }
+    ensures refused { OnErr result (out.new ≡ out.old) }
+{
+    let asked = by_height(alloc, about)?;
+    let mut totals = vec![in alloc; 0isize; asked.len()]?;
+    add_contours(&asked, &mut totals, points, offsets);
+    write_totals(&asked, &totals, out);
+    Ok(())
+}
+
+/// Adds how often the contours wind about each of the points to its total.
+fn add_contours<P: CPoint>(
+    asked: &[Asked<P::Coordinate>],
+    totals: &mut [isize],
+    points: &[P],
+    offsets: &[usize],
+)
+    requires parted { PartsPoints (length points.now) offsets.now }
+    requires points_safe { AreSafeContours P.Coordinate.width
+        (point_by P.Coordinate.value P.point) points.now offsets.now }
+    requires asked_safe { All (IsSafe P.Coordinate.width)
+        (asked_points P.Coordinate.value asked.now) }
+    requires rising { IsRising (asked_points P.Coordinate.value asked.now) }
+    requires room { length totals.old ≡ length asked.now }
+    requires fit { AllFit totals.old }
+    ensures room { length totals.new ≡ length totals.old }
+    ensures fit { AllFit totals.new }
+    ensures added { IsAdded (asked_points P.Coordinate.value asked.now)
+        (contours_winding (point_by P.Coordinate.value P.point) points.now offsets.now)
+        totals.old totals.new }
+{
+    for place in 1..offsets.len() {
+        add_contour(
+            asked,
+            totals,
+            part(points, offsets[place - 1], offsets[place]),
+        );
+    }
+}
+
+/// Writes how often the contours wind about each of the points together, edge after edge for each point.
+fn wind_one_by_one<P: CPoint>(points: &[P], offsets: &[usize], about: &[P], out: &mut [isize])
+    requires parted { PartsPoints (length points.now) offsets.now }
+    requires points_safe { AreSafeContours P.Coordinate.width
+        (point_by P.Coordinate.value P.point) points.now offsets.now }
+    requires about_safe { AreSafe P.Coordinate.width (point_by P.Coordinate.value P.point) about.now }
+    requires room { length about.now ≤ length out.old }
+    ensures { out.new ≡ map (λ q. contours_winding (point_by P.Coordinate.value P.point)
+        points.now offsets.now (point_by P.Coordinate.value P.point q)) about.now
+        ++ drop (length about.now) out.old }
+{
+    for place in 0..about.len() {
+        out[place] = wind_all(points, offsets, about[place].to_point());
+    }
+}
+
 /// How often the contours wind about a point together.
-fn wind_all<P: CPoint>(points: &[P], offsets: &[usize], point: IntPoint<P::Coordinate>) -> isize
+pub fn wind_all<P: CPoint>(points: &[P], offsets: &[usize], point: IntPoint<P::Coordinate>) -> isize
     requires parted { PartsPoints (length points.now) offsets.now }
     requires points_safe { AreSafeContours P.Coordinate.width
         (point_by P.Coordinate.value P.point) points.now offsets.now }

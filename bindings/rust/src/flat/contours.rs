@@ -204,7 +204,7 @@ impl<'a, I: IntNumber> Contours<'a, I> {
     }
 
     /// Writes how often the contours together wind about each of the points to the front of `out`.
-    /// It takes no memory.
+    /// It takes memory where that saves time, and does without where it is refused.
     ///
     /// [`Error::Unfit`] where `out` is shorter than `about`, [`Error::UnsafePoint`] where a point
     /// of a contour or one of `about` isn't safe.

@@ -15,11 +15,13 @@ ghost use Rattle.i_shape_c.specs.Areas.{IsDoubleArea};
 ghost use Rattle.i_shape_c.specs.Tests.{IsTold, TestsContour, TestsPoint};
 ghost use Rattle.i_shape_c.specs.Polygons.{AreNone, CleansPolygons};
 ghost use Rattle.i_shape_c.specs.Windings.{WindsAbout, WindsAboutEach};
+ghost use Rattle.i_shape_c.specs.Locations.{IsFilledByte, IsLocated, TellsEach};
 
 use crate::area::area_two;
 use crate::batch::clean_contours;
 use crate::canonical::form_shapes;
 use crate::contour::clean_contour;
+use crate::location::{Filled, Located, tell_points};
 use crate::point::PointI32;
 use crate::polygons::clean_shapes;
 use crate::tests::{Bulging, Simple, Spikeless, contains, is_safe, test_contour};
@@ -291,6 +293,38 @@ pub extern "C" fn i_shape_contains_i32(points: &[PointI32], x: i32, y: i32) -> i
     contains(points, PointI32 { x, y })
 }
 
+/// Whether the fill rule fills each of the points, by how often the contours wind about it together: 1 or 0, a byte each. Answers 0, or a code below 0.
+#[unsafe(no_mangle)]
+pub extern "C" fn i_shape_contains_points_i32(
+    alloc: Global,
+    points: &[PointI32],
+    offsets: &[usize],
+    about: &[PointI32],
+    rule: i32,
+    out: &mut [u8],
+) -> i32
+    ensures { TellsEach (IsFilledByte point_i32) w32 point_i32
+        points.now offsets.now about.now rule out.old out.new result }
+{
+    tell_points::<PointI32, Filled>(alloc, points, offsets, about, rule, out)
+}
+
+/// Where each of the points lies: 0 on an edge, and elsewhere 1 where the fill rule fills it, and -1 where it doesn't. Answers 0, or a code below 0.
+#[unsafe(no_mangle)]
+pub extern "C" fn i_shape_locate_i32(
+    alloc: Global,
+    points: &[PointI32],
+    offsets: &[usize],
+    about: &[PointI32],
+    rule: i32,
+    out: &mut [i8],
+) -> i32
+    ensures { TellsEach (IsLocated point_i32) w32 point_i32
+        points.now offsets.now about.now rule out.old out.new result }
+{
+    tell_points::<PointI32, Located>(alloc, points, offsets, about, rule, out)
+}
+
 /// How often the contour winds about the point (x, y), to the left. Answers that number, or a code below the range of these numbers.
 #[unsafe(no_mangle)]
 pub extern "C" fn i_shape_winding_i32(points: &[PointI32], x: i32, y: i32) -> isize
@@ -302,6 +336,7 @@ pub extern "C" fn i_shape_winding_i32(points: &[PointI32], x: i32, y: i32) -> is
 /// How often the contours wind about each of the points together. Answers 0, or a code below 0.
 #[unsafe(no_mangle)]
 pub extern "C" fn i_shape_windings_i32(
+    alloc: Global,
     points: &[PointI32],
     offsets: &[usize],
     about: &[PointI32],
@@ -310,7 +345,7 @@ pub extern "C" fn i_shape_windings_i32(
     ensures { WindsAboutEach w32 point_i32
         points.now offsets.now about.now out.old out.new result }
 {
-    windings(points, offsets, about, out)
+    windings(alloc, points, offsets, about, out)
 }
 
 /// Whether each point is safe. Answers 1 or 0.

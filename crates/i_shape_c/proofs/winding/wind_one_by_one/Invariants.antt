@@ -1,7 +1,7 @@
 use Rattle.std.proofs.Common.{◌≡◌, map, take, drop}
 use Rattle.i_shape.specs.IntPoint.{point_of}
 use Rattle.i_shape_c.specs.Windings.{contours_winding}
-use Rattle.i_shape_c.proofs.winding.windings.Given as goal
+use Rattle.i_shape_c.proofs.winding.wind_one_by_one.Given as goal
 
 abbrev pub invariant-loop-place : goal.invariant-loop-place
 invariant-loop-place g l =

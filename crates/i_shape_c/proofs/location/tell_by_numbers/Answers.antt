@@ -1,0 +1,21 @@
+use Rattle.std.proofs.Common.{◌≡◌, ◌∙◌, ◌+◌, ◌<◌, length, map, get_or, ap, refl, sym, subst, FitsSigned, w64, arith, rules}
+use Rattle.std.proofs.lemmas.List.{get_or-map}
+use Rattle.i_shape.specs.IntPoint.{point_of}
+use Rattle.i_shape_c.specs.Windings.{contours_winding}
+use Rattle.i_shape_c.proofs.Parts.{back_more}
+use Rattle.i_shape_c.proofs.Told.{item_more}
+use Rattle.i_shape_c.proofs.location.tell_by_numbers.Goals as goal
+
+pub loop-place-preserved : goal.loop-place-preserved
+loop-place-preserved g c =
+    let value = g.P.Coordinate.IntNumber.value in
+    let at = λ (p : g.row.P.Denot). point_of value (g.P.ContourPoint.point p) in
+    let place = c.loop-place.place in
+    let within = c.loop-place-test.true in
+    let room : place < length c.loop-place.out = omega (arith, c.loop-place.auto.out, c.requires.room, within) in
+    let Gives = g.T.Telling.gives c.args.rule c.args.points.now c.args.offsets.now in
+    let here = subst (λ p. Gives (point_of value p) c.tell.result) c.to_point.ensures c.tell.ensures in
+    record {
+      each = item_more (λ q. Gives (at q)) c.args.about.now c.loop-place.out place c.index-about-place.result c.tell.result within c.index-about-place.is room c.loop-place.invariant.each here;
+      rest = back_more c.loop-place.out c.args.out.now place (place + 1) c.tell.result refl c.loop-place.invariant.rest;
+    }
