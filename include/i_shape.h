@@ -90,9 +90,8 @@ ptrdiff_t i_shape_canonical_unoriented_i32(const i_shape_point_i32 *points, size
  * offsets[k + 1], so that m contours have offset_count = m + 1. The answer lies in the same way in out_points and
  * out_offsets, from 0 on, a contour that collapses empty at its place. These answer how many points are written.
  * I_SHAPE_UNFIT: offset_count is 0, an offset is below the one before it or above count, room is below count, or
- * offset_room below offset_count. Behind these points and offsets nothing is written, nor after I_SHAPE_UNSAFE and
- * I_SHAPE_UNFIT; after I_SHAPE_NO_MEMORY the first count points and offset_count offsets may be. Where each contour is
- * clean or has fewer than three points, no memory is taken. */
+ * offset_room below offset_count. Behind these points and offsets nothing is written, nor after a code anywhere. Where
+ * each contour is clean or has fewer than three points, no memory is taken. */
 
 /* For each contour an answer of i_shape_simplify_i32; that it is the same one is tested. */
 ptrdiff_t i_shape_simplify_contours_i32(const i_shape_point_i32 *points, size_t count, const size_t *offsets, size_t offset_count, i_shape_point_i32 *out_points, size_t room, size_t *out_offsets, size_t offset_room);

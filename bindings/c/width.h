@@ -337,8 +337,7 @@ static void AT(test_refusals)(void) {
         fill(out, sizeof out);
         fill(out_offsets, sizeof out_offsets);
         WITH_EACH_GROWTH_REFUSED(AT(batches)[k](given, 10, offsets, 3, out, 10, out_offsets, 3),
-                                 is_filled(out + 10, sizeof *out) && is_filled(out_offsets + 3, sizeof *out_offsets), growths == 1, W,
-                                 cleaner_names[k]);
+                                 is_filled(out, sizeof out) && is_filled(out_offsets, sizeof out_offsets), growths == 1, W, cleaner_names[k]);
         WITH_EACH_GROWTH_REFUSED(AT(batches)[k](square, 4, twice, 3, out, 4, out_offsets, 3), 1, growths == 0, W, cleaner_names[k]);
         /* Below three points, and of no contour, no memory is taken. */
         for (size_t count = 0; count < 3; count++)

@@ -11,7 +11,7 @@ use Rattle.i_shape_c.specs.Appended.{filled, left_of, IsPut, ends_from, AppendsR
 use Rattle.i_shape_c.specs.Batch.{offset, nth_contour, AreRising, PartsPoints}
 use Rattle.i_shape_c.specs.Polygons.{parts, offsets_of}
 use Rattle.i_shape_c.specs.declared.polygons.Counts.{Counts}
-use Rattle.i_shape_c.proofs.Batches.{rises_to}
+use Rattle.i_shape_core.proofs.lists.Rings.{rises_to}
 use Rattle.i_shape_c.proofs.Parts.{nothing_between}
 
 -- nothing is put where nothing changes

@@ -1,11 +1,13 @@
 -- Points of C, and what cleaning leaves of them.
-use Rattle.std.proofs.Common.{◌≡◌, ℤ, List, [], ◌∷◌, map, refl, ap, ◌∙◌}
+use Rattle.std.proofs.Common.{◌≡◌, ℕ, ℤ, List, [], ◌∷◌, Option, map, take, refl, ap, ◌∙◌}
 use Rattle.std.specs.Int.{Width}
 use Rattle.std.specs.List.{All}
 use Rattle.std.proofs.lemmas.Simd.{map-map}
 use Rattle.std.proofs.lemmas.List.Elements.{All-map}
 use Rattle.i_shape.specs.IntPoint.{point_of, contour_of, IsSafe}
 use Rattle.i_shape.specs.IntPoints.{IntPoint}
+use Rattle.i_shape.specs.Point.{Point}
+use Rattle.i_shape.specs.Written.{IsWritten}
 use Rattle.i_shape_c.specs.Cleaned.{AreSafe}
 
 module _ {P I : Type 0} (width : Width) (value : I → ℤ) (to : P → IntPoint I) where
@@ -21,3 +23,13 @@ module _ {P I : Type 0} (width : Width) (value : I → ℤ) (to : P → IntPoint
 pub same_points : {P I : Type 0} (value : I → ℤ) (to : P → IntPoint I) (of : IntPoint I → P) → ((p : IntPoint I) → to (of p) ≡ p) → (kept : List (IntPoint I)) → map (λ p. point_of value (to p)) (map of kept) ≡ contour_of value kept
 same_points value to of same [] = refl
 same_points value to of same (p ∷ kept) = rw (same p, same_points value to of same kept) refl
+
+-- what is written is the same however the points of a list are read
+pub written_as : {P : Type 0} (Answer Kept : List Point → Option (List Point) → Type 0) (Picks : List P → List P → Type 0) (width : Width) (read other : List P → List Point) (given old new : List P) (n : ℕ) → ((list : List P) → read list ≡ other list)
+    → IsWritten Answer Kept Picks width read given old new n → IsWritten Answer Kept Picks width other given old new n
+written_as Answer Kept Picks width read other given old new n same written = record {
+  fewer = written.fewer;
+  picked = written.picked;
+  cleaned = rw (← same given, ← same (take n new)) written.cleaned;
+  rest = written.rest;
+}

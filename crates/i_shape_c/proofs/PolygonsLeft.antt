@@ -15,7 +15,8 @@ use Rattle.i_shape_c.specs.Batch.{offset, nth_contour, PartsPoints, AreSafeConto
 use Rattle.i_shape_c.specs.Cleaned.{AreSafe}
 use Rattle.i_shape_c.specs.Polygons.{parts, polygons, offsets_of, AreShapesLeft}
 use Rattle.i_shape_c.proofs.Appended.{offset_part, nth_part, length_part, parted_part, put_front, length-offsets}
-use Rattle.i_shape_c.proofs.Batches.{rises_to, safe_part}
+use Rattle.i_shape_core.proofs.lists.Rings.{rises_to}
+use Rattle.i_shape_c.proofs.Batches.{safe_part}
 use Rattle.i_shape_c.proofs.PolygonLists.{polygon_at, concatenated-map, offsets-map}
 
 -- what is made of the items that are kept

@@ -1,15 +1,15 @@
 //! The cleaning of many contours, which lie end to end in one array and are parted by offsets.
 
-ghost use Rattle.std.specs.Prelude.{◌≡◌, ◌↔◌, ◌+◌, ◌^◌, ◌<◌, ◌≤◌, length, slice_range, IsTrue, IfOk, OnErr};
-ghost use Rattle.i_shape_c.specs.Batch.{AreRising, IsLongest, PartsPoints, CanClean, AreSafeContours, NoneTakesMemory, IsCleanedBatch, IsWithin, CleansContours};
-ghost use Rattle.i_shape_c.specs.Cleaned.{AreSafe, TakesNoMemory};
+ghost use Rattle.std.specs.Prelude.{◌≡◌, ◌↔◌, ◌^◌, ◌<◌, length, IsTrue, IfOk, OnErr};
+ghost use Rattle.i_shape_c.specs.Batch.{PartsPoints, CanClean, AreSafeContours, NoneTakesMemory, IsCleanedBatch, IsUntouched, CleansContours};
 ghost use Rattle.i_shape_c.specs.Points.{point_by};
 
 use crate::codes::{NO_MEMORY, UNFIT, UNSAFE};
-use crate::contour::clean_into;
 use crate::point::CPoint;
 use i_shape::ShapeError;
 use i_shape::int::cleaner::ContourCleaner;
+pub use i_shape_core::rings::part;
+use i_shape_core::rings::try_clean_rings;
 use i_shape_core::safe_range::are_safe;
 use std::alloc::Global;
 
@@ -61,7 +61,7 @@ pub fn are_parted(points: usize, offsets: &[usize]) -> bool
     offsets[offsets.len() - 1] <= points
 }
 
-/// Cleans one contour after another. One cleaner serves them all.
+/// The same, where the offsets part safe points and there is room for as many of both. Where memory is refused nothing is written.
 pub fn clean_all<P: CPoint, C: ContourCleaner>(
     alloc: Global,
     points: &[P],
@@ -74,66 +74,13 @@ pub fn clean_all<P: CPoint, C: ContourCleaner>(
     requires points_safe { AreSafeContours P.Coordinate.width
         (point_by P.Coordinate.value P.point) points.now offsets.now }
     ensures ok { IfOk result
-        (λ n. IsCleanedBatch C.answers C.keeps P.Coordinate.width
+        (IsCleanedBatch C.answers C.keeps P.Coordinate.width
         (point_by P.Coordinate.value P.point) points.now
-        offsets.now out_points.old out_points.new out_offsets.old out_offsets.new n) }
+        offsets.now out_points.old out_points.new out_offsets.old out_offsets.new) }
     ensures err { OnErr result
-        (IsWithin (length points.now) (length offsets.now)
-        out_points.old out_points.new out_offsets.old out_offsets.new) }
+        (IsUntouched out_points.old out_points.new out_offsets.old out_offsets.new) }
     ensures memory { OnErr result
         (NoneTakesMemory C.clean (point_by P.Coordinate.value P.point) points.now offsets.now → ⊥) }
 {
-    let mut cleaner = C::new(alloc);
-    let longest = longest(offsets);
-    let mut written: usize = 0;
-    out_offsets[0] = 0;
-    for place in 1..offsets.len() {
-        let ring = part(points, offsets[place - 1], offsets[place]);
-        make_room(&mut cleaner, ring, longest)?;
-        written = clean_into(&mut cleaner, ring, out_points, written)?;
-        out_offsets[place] = written;
-    }
-    Ok(written)
-}
-
-/// Takes memory for the places of contours of up to `longest` points, where this one needs any.
-fn make_room<P: CPoint, C: ContourCleaner>(
-    cleaner: &mut C,
-    ring: &[P],
-    longest: usize,
-) -> Result<(), ShapeError>
-    requires { AreSafe P.Coordinate.width (point_by P.Coordinate.value P.point) ring.now }
-    ensures { OnErr result
-        (TakesNoMemory C.clean (point_by P.Coordinate.value P.point) ring.now → ⊥) }
-{
-    if ring.len() < 3 {
-        return Ok(());
-    }
-    if C::is_clean(ring) {
-        return Ok(());
-    }
-    cleaner.reserve(longest)
-}
-
-/// How many points the longest contour has, 0 where there is no contour.
-fn longest(offsets: &[usize]) -> usize
-    requires some { 0 < length offsets.now }
-    requires order { AreRising offsets.now (length offsets.now) }
-    ensures { IsLongest offsets.now (length offsets.now) result }
-{
-    let mut most: usize = 0;
-    for place in 1..offsets.len() {
-        most = most.max(offsets[place] - offsets[place - 1]);
-    }
-    most
-}
-
-/// The items from one place to another.
-pub fn part<T: Copy>(items: &[T], from: usize, to: usize) -> &[T]
-    requires order { from ≤ to }
-    requires within { to ≤ length items.now }
-    ensures part { result.now ≡ slice_range items.now from to }
-    ensures len { length result.now + from ≡ to }
-{
-    &items[from..to]
+    try_clean_rings(&mut C::new(alloc), points, offsets, out_points, out_offsets)
 }

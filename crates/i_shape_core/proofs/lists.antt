@@ -4,3 +4,4 @@ pub mod Mapped
 pub mod Sublists
 pub mod FirstPlaces
 pub mod Survivors
+pub mod Rings

@@ -21,3 +21,4 @@ pub mod Walks
 pub mod Blocks
 pub mod Heights
 pub mod FourTurns
+pub mod Rings

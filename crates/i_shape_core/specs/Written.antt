@@ -1,5 +1,5 @@
 -- What a cleaner writes into a list of a caller's.
-use Rattle.std.specs.Prelude.{ℕ, ℤ, ◌<◌, ◌≤◌, ◌≡◌, List, [], ◌∷◌, length, take, drop, Option, Some, None, Result, Ok, IfSome, IfOk, OnErr, IsOkUnless}
+use Rattle.std.specs.Prelude.{ℕ, ℤ, ◌<◌, ◌≤◌, ◌≡◌, List, [], ◌∷◌, length, take, drop, Option, Some, None, Result, Ok, IfSome, IfOk, OnOk, OnErr, IsOk, IsOkUnless}
 use Rattle.std.specs.Global.{Vec}
 use Rattle.std.specs.Int.{Width}
 use Rattle.i_shape_core.specs.Point.{Point}
@@ -41,13 +41,18 @@ pub record IsWritten {P : Type 0} (Answer Kept : List Point → Option (List Poi
   pub cleaned : IsCleaned Answer Kept width (read given) (slot (read (take n new)))
   pub rest : drop n new ≡ drop n old
 
--- what a call that writes a cleaned contour to the front of a list of a caller's answers, and what it leaves
-pub record CleansInto {P : Type 0} (Clean : List Point → Type 0) (Answer Kept : List Point → Option (List Point) → Type 0) (Picks : List P → List P → Type 0) (width : Width) (read : List P → List Point) (given old new : List P) (result : Result ℕ ShapeError) : Type 0 where
+-- what a call answers and leaves that writes a cleaned contour to the front of a list of a caller's, and takes memory where the contour isn't
+-- clean and there is no room for it: `had` and `has` say for how many points there is room before and after
+pub record CleansInto {P : Type 0} (Clean : List Point → Type 0) (Answer Kept : List Point → Option (List Point) → Type 0) (Picks : List P → List P → Type 0) (width : Width) (read : List P → List Point) (had has : ℕ → Type 0) (given old new : List P) (result : Result ℕ ShapeError) : Type 0 where
   pub written : IfOk result (IsWritten Answer Kept Picks width read given old new)
   pub len : length new ≡ length old
-  -- only memory is refused, and not at a clean contour; then nothing is written
+  -- only memory is refused, and not at a clean contour, nor where there is room; then nothing is written
   pub memory : IsOkUnless result OutOfMemory
   pub unclean : OnErr result (Clean (read given) → ⊥)
+  pub reserved : had (length given) → IsOk result
   pub err : OnErr result (new ≡ old)
   -- fewer than three points collapse
   pub short : length given < 3 → result ≡ Ok 0
+  -- room is kept, and once a contour that isn't clean is cleaned, there is room for it
+  pub keeps_room : (n : ℕ) → had n → has n
+  pub takes_room : OnOk result ((Clean (read given) → ⊥) → has (length given))

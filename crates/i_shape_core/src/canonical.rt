@@ -1,6 +1,6 @@
 //! The canonical form of a contour: the least rotation of what is left of it without zero turns.
 
-ghost use Rattle.std.specs.Prelude.{◌≡◌, ◌⊎◌, ℕ, ◌+◌, ◌-◌, ◌*◌, ◌<◌, ◌≤◌, min, max, length, OnOk, IsOk};
+ghost use Rattle.std.specs.Prelude.{◌≡◌, ◌⊎◌, ℕ, ◌+◌, ◌-◌, ◌*◌, ◌<◌, ◌≤◌, min, max, length};
 ghost use Rattle.std.specs.Ordering.{MatchOrdering};
 ghost use Rattle.i_shape_core.specs.IntPoint.{contour_of, IsSafeContour};
 ghost use Rattle.i_shape_core.specs.Contour.{IsSimple, point_at, RotatedSublist, Rotation};
@@ -52,12 +52,8 @@ impl ContourSimplifier {
         requires room { length contour.now ≤ length out.old }
         ensures answer { CleansInto IsSimple CanonicalAnswer KeptAnswer RotatedSublist
             P.Coordinate.width (λ list. contour_of P.Coordinate.value (P.points list))
+            (HasRoomToSimplify self.old) (HasRoomToSimplify self.new)
             contour.now out.old out.new result }
-        ensures reserved { HasRoomToSimplify self.old (length contour.now) → IsOk result }
-        ensures keeps_room { KeepsRoomToSimplify self.old self.new }
-        ensures takes_room { let c = contour_of P.Coordinate.value (P.points contour.now) in
-            OnOk result (3 ≤ length contour.now → (IsSimple c → ⊥)
-            → HasRoomToSimplify self.new (length contour.now)) }
     {
         let count = self.simplify_into(contour, out)?;
         if count > 0 {

@@ -1,6 +1,7 @@
 //! The cleaners of one contour: one trait, and its five kinds.
 
-ghost use Rattle.std.specs.Prelude.{◌≡◌, ◌↔◌, ◌<◌, ◌≤◌, List, length, Option, IsTrue, IsOkUnless};
+ghost use Rattle.std.specs.Prelude.{◌≡◌, ◌↔◌, ◌<◌, ◌≤◌, ℕ, List, length, Option, IsTrue, IsOk, IfOk, IsOkUnless};
+ghost use Rattle.std.proofs.Common.{rules, arith};
 ghost use Rattle.i_shape_core.specs.Point.{Point};
 ghost use Rattle.i_shape_core.specs.IntPoint.{contour_of, IsSafeContour};
 ghost use Rattle.i_shape_core.specs.Contour.{IsSimple, RotatedSublist, SublistEitherWay, Sublist};
@@ -8,21 +9,25 @@ ghost use Rattle.i_shape_core.specs.Convex.{NoSpikes};
 ghost use Rattle.i_shape_core.specs.Cleaners.{IsDespikedAlready, SimpleAnswer, SpikelessAnswer, DespikeAnswer, KeptAnswer};
 ghost use Rattle.i_shape_core.specs.Canonical.{CanonicalAnswer, UnorientedAnswer, KeptEitherWay};
 ghost use Rattle.i_shape_core.specs.Refusals.{OkUnlessMemory};
-ghost use Rattle.i_shape_core.specs.Written.{CleansTo, CleansInto};
+ghost use Rattle.i_shape_core.specs.Room.{HasRoomToSimplify, HasRoomToDespike};
+ghost use Rattle.i_shape_core.specs.Written.{CleansTo, CleansInto, IsWritten};
 
+use crate::canonical::rotate_to_least;
 use crate::despike::{ContourDeSpiker, has_no_spikes, is_despiked};
 use crate::error::ShapeError;
 use crate::number::IntNumber;
 use crate::point::{ContourPoint, IntContour, IntPoint};
 use crate::simple::is_simple;
 use crate::simplifier::ContourSimplifier;
+use crate::unoriented::rotate_to_lesser;
 use crate::write::write_whole;
 use std::alloc::Global;
 
-/// Cleans contours of safe points. One value cleans any number of them, and keeps its memory from one to the next. Each
-/// answer is one of those that `answers` allows; that which of them it is doesn't depend on earlier use is tested.
+/// Cleans contours of safe points. One value cleans any number of them, and keeps its memory from one to the next. Memory comes first:
+/// where there is room for the longest contour that isn't clean, `clean_into` can't fail. Each answer is one of those that `answers`
+/// allows; that which of them it is doesn't depend on earlier use is tested.
 pub trait ContourCleaner: Drop {
-    /// The contours of which no point is removed: for these `clean_into` takes no memory. A canonical form still rotates them,
+    /// The contours of which no point is removed: for these `clean_into` needs no room. A canonical form still rotates them,
     /// and an unoriented one may turn them round.
     ghost clean: { List Point → Type 0 };
 
@@ -35,12 +40,19 @@ pub trait ContourCleaner: Drop {
     /// Which points of the contour the answer has, and in which order, whatever their type.
     ghost picks: { (P : Type 0) → List P → List P → Type 0 };
 
+    /// The cleaner needs no more memory for a contour of so many points.
+    ghost has_room: { Self → ℕ → Type 0 };
+
     /// A cleaner that takes its memory from `alloc`, and none before a contour needs it.
     fn new(alloc: Global) -> Self;
 
-    /// Takes memory for the places of contours of up to so many points. The only error is `OutOfMemory`.
+    /// Takes memory for the places of contours of up to so many points, and none for fewer than three. The only error is `OutOfMemory`.
     fn reserve(&mut self, points: usize) -> Result<(), ShapeError>
-        ensures { IsOkUnless result ShapeError.OutOfMemory };
+        ensures room { IfOk result (λ _. has_room self.new points) }
+        ensures reserved { has_room self.old points → IsOk result }
+        ensures short { points < 3 → IsOk result }
+        ensures keeps_room { (n : ℕ) → has_room self.old n → has_room self.new n }
+        ensures memory { IsOkUnless result ShapeError.OutOfMemory };
 
     /// Whether the contour is clean. It takes no memory.
     fn is_clean<P: ContourPoint>(contour: &[P]) -> bool
@@ -72,10 +84,57 @@ pub trait ContourCleaner: Drop {
         self.cleaned(contour)
     }
 
+    /// Writes what becomes of a clean contour to the front of `out`, and answers how many points these are. It takes no memory.
+    fn write_clean<P: ContourPoint>(contour: &[P], out: &mut [P]) -> usize
+        requires points_safe { IsSafeContour P.Coordinate.width
+            (contour_of P.Coordinate.value (P.points contour.now)) }
+        requires room { length contour.now ≤ length out.old }
+        requires clean { clean (contour_of P.Coordinate.value (P.points contour.now)) }
+        ensures written { IsWritten answers keeps (picks P) P.Coordinate.width
+            (λ list. contour_of P.Coordinate.value (P.points list))
+            contour.now out.old out.new result }
+        ensures len { length out.new ≡ length out.old }
+        ensures count { result ≡ length contour.now }
+        ensures enough { 3 ≤ length contour.now };
+
+    /// Writes what is left of a contour that isn't clean to the front of `out`, and answers how many points these are. It takes no memory.
+    fn write_left<P: ContourPoint>(&mut self, contour: &[P], out: &mut [P]) -> usize
+        requires points_safe { IsSafeContour P.Coordinate.width
+            (contour_of P.Coordinate.value (P.points contour.now)) }
+        requires room { length contour.now ≤ length out.old }
+        requires unclean { clean (contour_of P.Coordinate.value (P.points contour.now)) → ⊥ }
+        requires reserved { has_room self.old (length contour.now) }
+        ensures written { IsWritten answers keeps (picks P) P.Coordinate.width
+            (λ list. contour_of P.Coordinate.value (P.points list))
+            contour.now out.old out.new result }
+        ensures len { length out.new ≡ length out.old }
+        ensures short { length contour.now < 3 → result ≡ 0 }
+        ensures keeps_room { (n : ℕ) → has_room self.old n → has_room self.new n };
+
     /// The cleaned contour, written to the front of `out`: answers how many points are left, 0 where the contour collapses. What
-    /// stands behind them stays as it was, and so does all of `out` where there is an error. Memory is taken only
-    /// for the places of a contour that isn't clean, and is kept. The only error is `OutOfMemory`.
-    fn clean_into<P: ContourPoint>(
+    /// stands behind them stays as it was. It takes no memory, and can't fail: there is room for the contour, or it is clean.
+    fn clean_into<P: ContourPoint>(&mut self, contour: &[P], out: &mut [P]) -> usize
+        requires points_safe { IsSafeContour P.Coordinate.width
+            (contour_of P.Coordinate.value (P.points contour.now)) }
+        requires room { length contour.now ≤ length out.old }
+        requires reserved { (clean (contour_of P.Coordinate.value (P.points contour.now)) → ⊥)
+            → has_room self.old (length contour.now) }
+        ensures written { IsWritten answers keeps (picks P) P.Coordinate.width
+            (λ list. contour_of P.Coordinate.value (P.points list))
+            contour.now out.old out.new result }
+        ensures len { length out.new ≡ length out.old }
+        ensures keeps_room { (n : ℕ) → has_room self.old n → has_room self.new n }
+    {
+        if Self::is_clean(contour) {
+            Self::write_clean(contour, out)
+        } else {
+            self.write_left(contour, out)
+        }
+    }
+
+    /// The same, where memory is taken first for a contour that isn't clean, and is kept. The only error is `OutOfMemory`; then `out`
+    /// is as it was.
+    fn try_clean_into<P: ContourPoint>(
         &mut self,
         contour: &[P],
         out: &mut [P],
@@ -84,7 +143,18 @@ pub trait ContourCleaner: Drop {
             (contour_of P.Coordinate.value (P.points contour.now)) }
         requires room { length contour.now ≤ length out.old }
         ensures { CleansInto clean answers keeps (picks P) P.Coordinate.width
-            (λ list. contour_of P.Coordinate.value (P.points list)) contour.now out.old out.new result };
+            (λ list. contour_of P.Coordinate.value (P.points list))
+            (has_room self.old) (has_room self.new) contour.now out.old out.new result }
+    {
+        if Self::is_clean(contour) {
+            return Ok(Self::write_clean(contour, out));
+        }
+        self.reserve(contour.len())?;
+        Ok(self.write_left(contour, out))
+    }
+
+    /// Room for a contour is room for each that is no longer.
+    ghost fewer: { (cleaner : Self) (m n : ℕ) → m ≤ n → has_room cleaner n → has_room cleaner m };
 }
 
 /// Removes zero turns.
@@ -96,6 +166,8 @@ impl ContourCleaner for ContourSimplifier {
     ghost keeps = { KeptAnswer };
 
     ghost picks = { λ P. Sublist };
+
+    ghost has_room = { HasRoomToSimplify };
 
     fn new(alloc: Global) -> ContourSimplifier {
         ContourSimplifier::new(alloc)
@@ -126,13 +198,15 @@ impl ContourCleaner for ContourSimplifier {
         self.simplify_contour(contour)
     }
 
-    fn clean_into<P: ContourPoint>(
-        &mut self,
-        contour: &[P],
-        out: &mut [P],
-    ) -> Result<usize, ShapeError> {
-        self.simplify_into(contour, out)
+    fn write_clean<P: ContourPoint>(contour: &[P], out: &mut [P]) -> usize {
+        write_whole(contour, out)
     }
+
+    fn write_left<P: ContourPoint>(&mut self, contour: &[P], out: &mut [P]) -> usize {
+        self.walk_into(contour, out)
+    }
+
+    ghost fewer = { Prim.search (rules, arith) };
 }
 
 /// Removes the points at which the way turns back or stands still.
@@ -144,6 +218,8 @@ impl ContourCleaner for ContourDeSpiker {
     ghost keeps = { KeptAnswer };
 
     ghost picks = { λ P. Sublist };
+
+    ghost has_room = { HasRoomToDespike };
 
     fn new(alloc: Global) -> ContourDeSpiker {
         ContourDeSpiker::new(alloc)
@@ -174,13 +250,15 @@ impl ContourCleaner for ContourDeSpiker {
         self.despike_contour(contour)
     }
 
-    fn clean_into<P: ContourPoint>(
-        &mut self,
-        contour: &[P],
-        out: &mut [P],
-    ) -> Result<usize, ShapeError> {
-        self.despike_into(contour, out)
+    fn write_clean<P: ContourPoint>(contour: &[P], out: &mut [P]) -> usize {
+        write_whole(contour, out)
     }
+
+    fn write_left<P: ContourPoint>(&mut self, contour: &[P], out: &mut [P]) -> usize {
+        self.walk_into(contour, out)
+    }
+
+    ghost fewer = { Prim.search (rules, arith) };
 }
 
 /// Removes spikes, and leaves a contour that has none as it is, with its repeated points.
@@ -197,6 +275,8 @@ impl ContourCleaner for SpikeRemover {
     ghost keeps = { KeptAnswer };
 
     ghost picks = { λ P. Sublist };
+
+    ghost has_room = { λ cleaner. HasRoomToDespike cleaner.de_spiker };
 
     fn new(alloc: Global) -> SpikeRemover {
         SpikeRemover {
@@ -229,16 +309,15 @@ impl ContourCleaner for SpikeRemover {
         self.de_spiker.despike_contour(contour)
     }
 
-    fn clean_into<P: ContourPoint>(
-        &mut self,
-        contour: &[P],
-        out: &mut [P],
-    ) -> Result<usize, ShapeError> {
-        if has_no_spikes(contour) {
-            return Ok(write_whole(contour, out));
-        }
-        self.de_spiker.despike_into(contour, out)
+    fn write_clean<P: ContourPoint>(contour: &[P], out: &mut [P]) -> usize {
+        write_whole(contour, out)
     }
+
+    fn write_left<P: ContourPoint>(&mut self, contour: &[P], out: &mut [P]) -> usize {
+        self.de_spiker.walk_into(contour, out)
+    }
+
+    ghost fewer = { Prim.search (rules, arith) };
 }
 
 /// Gives the canonical form.
@@ -255,6 +334,8 @@ impl ContourCleaner for Canonicalizer {
     ghost keeps = { KeptAnswer };
 
     ghost picks = { λ P. RotatedSublist };
+
+    ghost has_room = { λ cleaner. HasRoomToSimplify cleaner.simplifier };
 
     fn new(alloc: Global) -> Canonicalizer {
         Canonicalizer {
@@ -277,19 +358,27 @@ impl ContourCleaner for Canonicalizer {
         self.simplifier.canonical(contour)
     }
 
-    fn clean_into<P: ContourPoint>(
-        &mut self,
-        contour: &[P],
-        out: &mut [P],
-    ) -> Result<usize, ShapeError> {
-        self.simplifier.canonical_into(contour, out)
+    fn write_clean<P: ContourPoint>(contour: &[P], out: &mut [P]) -> usize {
+        let count = write_whole(contour, out);
+        rotate_to_least(&mut out[..count]);
+        count
     }
+
+    fn write_left<P: ContourPoint>(&mut self, contour: &[P], out: &mut [P]) -> usize {
+        let count = self.simplifier.walk_into(contour, out);
+        if count > 0 {
+            rotate_to_least(&mut out[..count]);
+        }
+        count
+    }
+
+    ghost fewer = { Prim.search (rules, arith) };
 }
 
 /// Gives the canonical form whichever way round the contour is wound.
 #[derive(Drop)]
 pub struct UnorientedCanonicalizer {
-    simplifier: ContourSimplifier,
+    canonicalizer: Canonicalizer,
 }
 
 impl ContourCleaner for UnorientedCanonicalizer {
@@ -301,14 +390,16 @@ impl ContourCleaner for UnorientedCanonicalizer {
 
     ghost picks = { λ P. SublistEitherWay };
 
+    ghost has_room = { λ cleaner. HasRoomToSimplify cleaner.canonicalizer.simplifier };
+
     fn new(alloc: Global) -> UnorientedCanonicalizer {
         UnorientedCanonicalizer {
-            simplifier: ContourSimplifier::new(alloc),
+            canonicalizer: Canonicalizer::new(alloc),
         }
     }
 
     fn reserve(&mut self, points: usize) -> Result<(), ShapeError> {
-        self.simplifier.reserve(points)
+        self.canonicalizer.reserve(points)
     }
 
     fn is_clean<P: ContourPoint>(contour: &[P]) -> bool {
@@ -319,14 +410,22 @@ impl ContourCleaner for UnorientedCanonicalizer {
         &mut self,
         contour: &[IntPoint<I>],
     ) -> Result<Option<IntContour<I>>, ShapeError> {
-        self.simplifier.canonical_unoriented(contour)
+        self.canonicalizer.simplifier.canonical_unoriented(contour)
     }
 
-    fn clean_into<P: ContourPoint>(
-        &mut self,
-        contour: &[P],
-        out: &mut [P],
-    ) -> Result<usize, ShapeError> {
-        self.simplifier.canonical_unoriented_into(contour, out)
+    fn write_clean<P: ContourPoint>(contour: &[P], out: &mut [P]) -> usize {
+        let count = Canonicalizer::write_clean(contour, out);
+        rotate_to_lesser(&mut out[..count]);
+        count
     }
+
+    fn write_left<P: ContourPoint>(&mut self, contour: &[P], out: &mut [P]) -> usize {
+        let count = self.canonicalizer.write_left(contour, out);
+        if count > 0 {
+            rotate_to_lesser(&mut out[..count]);
+        }
+        count
+    }
+
+    ghost fewer = { Prim.search (rules, arith) };
 }

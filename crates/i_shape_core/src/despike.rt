@@ -164,13 +164,16 @@ impl ContourDeSpiker {
         probe.keep_left(alloc, Some(self.places.as_slice()))
     }
 
-    /// Takes memory for the places of contours of up to so many points. The only error is `OutOfMemory`.
+    /// Takes memory for the places of contours of up to so many points, and none for fewer than four. The only error is `OutOfMemory`.
     pub fn reserve(&mut self, points: usize) -> Result<(), ShapeError>
         ensures room { IfOk result (λ _. HasRoomToDespike self.new points) }
         ensures reserved { HasRoomToDespike self.old points → IsOk result }
         ensures keeps_room { KeepsRoomToDespike self.old self.new }
         ensures memory { IsOkUnless result ShapeError.OutOfMemory }
     {
+        if points < 4 {
+            return Ok(());
+        }
         self.places.clear();
         self.places.reserve(points)?;
         Ok(())
@@ -190,40 +193,34 @@ impl ContourDeSpiker {
         requires room { length contour.now ≤ length out.old }
         ensures answer { CleansInto IsDespikedAlready SpikelessAnswer KeptAnswer Sublist
             P.Coordinate.width (λ list. contour_of P.Coordinate.value (P.points list))
+            (HasRoomToDespike self.old) (HasRoomToDespike self.new)
             contour.now out.old out.new result }
-        ensures three { length contour.now ≤ 3 → IsOk result }
-        ensures reserved { HasRoomToDespike self.old (length contour.now) → IsOk result }
-        ensures keeps_room { KeepsRoomToDespike self.old self.new }
-        ensures takes_room { let c = contour_of P.Coordinate.value (P.points contour.now) in
-            OnOk result (3 < length contour.now → (IsDespikedAlready c → ⊥)
-            → HasRoomToDespike self.new (length contour.now)) }
     {
-        if contour.len() < 3 {
-            return Ok(0);
-        }
         if is_despiked(contour) {
             return Ok(write_whole(contour, out));
-        }
-        if contour.len() == 3 {
-            return Ok(0);
         }
         self.reserve(contour.len())?;
         Ok(self.walk_into(contour, out))
     }
 
-    /// The same of a contour of at least three points, for whose places there is room, without a test before the walk.
-    fn walk_into<P: ContourPoint>(&mut self, contour: &[P], out: &mut [P]) -> usize
+    /// The same of a contour that isn't clean, for whose places there is room: it takes no memory, and can't fail.
+    pub(crate) fn walk_into<P: ContourPoint>(&mut self, contour: &[P], out: &mut [P]) -> usize
         requires points_safe { IsSafeContour P.Coordinate.width
             (contour_of P.Coordinate.value (P.points contour.now)) }
         requires room { length contour.now ≤ length out.old }
-        requires enough { 3 ≤ length contour.now }
+        requires unclean { IsDespikedAlready (contour_of P.Coordinate.value (P.points contour.now))
+            → ⊥ }
         requires reserved { HasRoomToDespike self.old (length contour.now) }
         ensures written { IsWritten SpikelessAnswer KeptAnswer Sublist P.Coordinate.width
             (λ list. contour_of P.Coordinate.value (P.points list))
             contour.now out.old out.new result }
         ensures len { length out.new ≡ length out.old }
+        ensures short { length contour.now < 3 → result ≡ 0 }
         ensures keeps_room { KeepsRoomToDespike self.old self.new }
     {
+        if contour.len() < 4 {
+            return 0;
+        }
         let ring = self.ring_at(contour.len(), 0);
         let (_probe, uncollapsed) = self.walk(Probe::new(contour), ring);
         if !uncollapsed {
@@ -236,7 +233,7 @@ impl ContourDeSpiker {
     /// the memory of `places`, which `walk` gives back.
     fn ring_at(&mut self, count: usize, place: usize) -> Ring
         requires within { place < count }
-        requires room { HasRoomToDespike self.old count }
+        requires room { count ≤ vec_capacity self.old.places }
         ensures { result ≡ ring_of_all count place (vec_capacity self.old.places) }
     {
         let alloc = self.allocator();

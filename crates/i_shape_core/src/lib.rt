@@ -20,6 +20,7 @@ pub mod number;
 pub mod point;
 pub mod probe;
 mod ring;
+pub mod rings;
 pub mod safe_range;
 mod same;
 pub mod simple;

@@ -87,13 +87,16 @@ impl ContourSimplifier {
         probe.keep_left(alloc, left)
     }
 
-    /// Takes memory for the places of contours of up to so many points. The only error is `OutOfMemory`.
+    /// Takes memory for the places of contours of up to so many points, and none for fewer than three. The only error is `OutOfMemory`.
     pub fn reserve(&mut self, points: usize) -> Result<(), ShapeError>
         ensures room { IfOk result (λ _. HasRoomToSimplify self.new points) }
         ensures reserved { HasRoomToSimplify self.old points → IsOk result }
         ensures keeps_room { KeepsRoomToSimplify self.old self.new }
         ensures memory { IsOkUnless result ShapeError.OutOfMemory }
     {
+        if points < 3 {
+            return Ok(());
+        }
         self.stack.clear();
         self.stack.reserve(points)?;
         Ok(())
@@ -113,16 +116,9 @@ impl ContourSimplifier {
         requires room { length contour.now ≤ length out.old }
         ensures answer { CleansInto IsSimple SimpleAnswer KeptAnswer Sublist
             P.Coordinate.width (λ list. contour_of P.Coordinate.value (P.points list))
+            (HasRoomToSimplify self.old) (HasRoomToSimplify self.new)
             contour.now out.old out.new result }
-        ensures reserved { HasRoomToSimplify self.old (length contour.now) → IsOk result }
-        ensures keeps_room { KeepsRoomToSimplify self.old self.new }
-        ensures takes_room { let c = contour_of P.Coordinate.value (P.points contour.now) in
-            OnOk result (3 ≤ length contour.now → (IsSimple c → ⊥)
-            → HasRoomToSimplify self.new (length contour.now)) }
     {
-        if contour.len() < 3 {
-            return Ok(0);
-        }
         if is_simple(contour) {
             return Ok(write_whole(contour, out));
         }
@@ -130,8 +126,8 @@ impl ContourSimplifier {
         Ok(self.walk_into(contour, out))
     }
 
-    /// The same without a test of the contour before the walk, where there is room for its places.
-    fn walk_into<P: ContourPoint>(&mut self, contour: &[P], out: &mut [P]) -> usize
+    /// The same without a test of the contour before the walk, where there is room for its places: it takes no memory, and can't fail.
+    pub(crate) fn walk_into<P: ContourPoint>(&mut self, contour: &[P], out: &mut [P]) -> usize
         requires points_safe { IsSafeContour P.Coordinate.width
             (contour_of P.Coordinate.value (P.points contour.now)) }
         requires room { length contour.now ≤ length out.old }
@@ -140,8 +136,12 @@ impl ContourSimplifier {
             (λ list. contour_of P.Coordinate.value (P.points list))
             contour.now out.old out.new result }
         ensures len { length out.new ≡ length out.old }
+        ensures short { length contour.now < 3 → result ≡ 0 }
         ensures keeps_room { KeepsRoomToSimplify self.old self.new }
     {
+        if contour.len() < 3 {
+            return 0;
+        }
         let probe = stack_places(Probe::new(contour), &mut self.stack, (0, 0, 0));
         let (_probe, left) = close(probe, self.stack.as_slice());
         let Some(places) = left else {

@@ -1,6 +1,6 @@
 //! The form of a contour whichever way round it is wound: the lesser of its canonical form and that of the contour read backwards.
 
-ghost use Rattle.std.specs.Prelude.{◌≡◌, ◌⊎◌, ◌<◌, ◌≤◌, false, length, reverse, IsTrue, OnOk, IsOk};
+ghost use Rattle.std.specs.Prelude.{◌≡◌, ◌⊎◌, ◌<◌, ◌≤◌, false, length, reverse, IsTrue};
 ghost use Rattle.i_shape_core.specs.IntPoint.{contour_of, IsSafeContour};
 ghost use Rattle.i_shape_core.specs.Contour.{IsSimple, SublistEitherWay, Rotation};
 ghost use Rattle.i_shape_core.specs.Canonical.{IsAtMost, IsLesserWay, UnorientedAnswer, KeptEitherWay, started_at};
@@ -50,12 +50,8 @@ impl ContourSimplifier {
         requires room { length contour.now ≤ length out.old }
         ensures answer { CleansInto IsSimple UnorientedAnswer KeptEitherWay SublistEitherWay
             P.Coordinate.width (λ list. contour_of P.Coordinate.value (P.points list))
+            (HasRoomToSimplify self.old) (HasRoomToSimplify self.new)
             contour.now out.old out.new result }
-        ensures reserved { HasRoomToSimplify self.old (length contour.now) → IsOk result }
-        ensures keeps_room { KeepsRoomToSimplify self.old self.new }
-        ensures takes_room { let c = contour_of P.Coordinate.value (P.points contour.now) in
-            OnOk result (3 ≤ length contour.now → (IsSimple c → ⊥)
-            → HasRoomToSimplify self.new (length contour.now)) }
     {
         let count = self.canonical_into(contour, out)?;
         if count > 0 {
@@ -66,7 +62,7 @@ impl ContourSimplifier {
 }
 
 /// Brings a contour in place to the least rotation of the contour read backwards, where that comes first; otherwise it stays.
-fn rotate_to_lesser<P: ContourPoint>(contour: &mut [P])
+pub(crate) fn rotate_to_lesser<P: ContourPoint>(contour: &mut [P])
     requires { 0 < length contour.old }
     ensures lesser { IsLesserWay (contour_of P.Coordinate.value (P.points contour.old))
         (contour_of P.Coordinate.value (P.points contour.new)) }

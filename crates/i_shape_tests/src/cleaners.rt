@@ -103,7 +103,7 @@ fn written<P: ContourPoint, C: ContourCleaner>(
     requires room { length contour.now ≤ length out.old }
     ensures fewer { IfOk result (λ n. n ≤ length out.new) }
 {
-    cleaner.clean_into(contour, out)
+    cleaner.try_clean_into(contour, out)
 }
 
 /// The cleaner, whatever it has cleaned before, tells whether the contour is clean, and leaves these points, as a copy and in a slice.
@@ -145,7 +145,7 @@ fn writes<P: ContourPoint, C: ContourCleaner>(
         rt,
         are_at(&out.as_slice()[..count], left),
         name,
-        "clean_into",
+        "try_clean_into",
     );
     Ok(())
 }

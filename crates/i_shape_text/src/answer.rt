@@ -111,7 +111,7 @@ fn clean<C: ContourCleaner>(
 {
     left.clear();
     left.extend_from_slice(contour)?;
-    let count = cleaner.clean_into(contour, left.as_mut_slice())?;
+    let count = cleaner.try_clean_into(contour, left.as_mut_slice())?;
     left.truncate(count);
     Ok(())
 }

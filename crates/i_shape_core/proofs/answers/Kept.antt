@@ -108,15 +108,15 @@ spikeless_stays c s = record { clean = λ _. refl; cleaned = λ spiked. absurd (
 pub despiked_stays : (c : List Point) → 3 ≤ length c → ((k : ℕ) → IsRemovable IsBack c k → ⊥) → IsDespikedAlready c
 despiked_stays c long none = spikeless_answer c (Some c) (length c) (none_found c (length c) long none refl)
 
--- of three points each end has collapsed, unless despiking leaves them as they are
-pub three_collapse : (c : List Point) → length c ≡ 3 → (IsDespikedAlready c → ⊥) → EachEndCollapses c
-three_collapse c three spiked e f = go (cases_lt (length e) 3)
+-- of fewer than four points each end has collapsed, unless despiking leaves them as they are
+pub few_collapse : (c : List Point) → length c < 4 → (IsDespikedAlready c → ⊥) → EachEndCollapses c
+few_collapse c few spiked e f = go (cases_lt (length e) 3)
   where
     unmoved : (d : List Point) → Reach IsZeroTurn c d → 3 ≤ length d → c ≡ d
     unmoved d stay long = refl
-    unmoved d (step s r) long = absurd (omega (arith, three, long, step_length s, reach_shrinks r))
+    unmoved d (step s r) long = absurd (omega (arith, few, long, step_length s, reach_shrinks r))
 
     go : (length e < 3) ⊎ (3 ≤ length e) → length e < 3
-    go (inl few) = few
-    go (inr long) = absurd (spiked (despiked_stays c (omega (arith, three)) (λ k r. f.none_left k
+    go (inl low) = low
+    go (inr long) = absurd (spiked (despiked_stays c (omega (arith, long, reach_shrinks f.reached)) (λ k r. f.none_left k
         (subst (λ (d : List Point). IsRemovable IsZeroTurn d k) (unmoved e f.reached long) (record { enough = r.enough; within = r.within; passes = r.passes.0 })))))

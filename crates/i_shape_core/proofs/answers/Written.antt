@@ -1,15 +1,16 @@
 -- What a cleaner writes into a list of a caller's.
-use Rattle.std.proofs.Common.{◌≡◌, ℕ, ◌<◌, List, [], ◌∷◌, length, take, drop, Option, Some, None, refl, arith, ◌≤◌, ◌++◌, subst, ◌∙◌, ◌⊎◌, inl, inr, ap, reverse, Ok, Err, option_map}
+use Rattle.std.proofs.Common.{◌≡◌, ℕ, ◌<◌, false, true, List, [], ◌∷◌, length, take, drop, Option, Some, None, refl, arith, ◌≤◌, ◌++◌, subst, ◌∙◌, ◌⊎◌, inl, inr, ap, reverse, Ok, Err, option_map}
 use Rattle.std.specs.Int.{Width}
 use Rattle.std.specs.List.{All}
-use Rattle.std.specs.Result.{IfOk, IsOkUnless}
+use Rattle.std.specs.Result.{IfOk, IsOk, IsOkUnless}
 use Rattle.std.specs.declared.result.Result.{Result}
+use Rattle.std.proofs.lemmas.Bool.{cases_lt}
 use Rattle.std.proofs.lemmas.List.{length-take-le}
 use Rattle.std.proofs.Math.Seq.{take-append_seam, drop-append_seam}
 use Rattle.i_shape_core.specs.Point.{Point}
 use Rattle.i_shape_core.specs.IntPoint.{IsSafe}
 use Rattle.i_shape_core.specs.Contour.{Test, Rotation, Sublist, RotatedSublist, SublistEitherWay}
-use Rattle.i_shape_core.specs.Cleaners.{SimpleAnswer, SpikelessAnswer, DespikeAnswer, IsDespikedAlready, IsFlat, KeptAnswer}
+use Rattle.i_shape_core.specs.Cleaners.{SimpleAnswer, SpikelessAnswer, DespikeAnswer, IsFlat, KeptAnswer}
 use Rattle.i_shape_core.specs.Convex.{NoSpikes}
 use Rattle.i_shape_core.specs.Canonical.{IsCanonical, CanonicalAnswer, UnorientedAnswer, KeptEitherWay, IsLeast, IsLesserWay}
 use Rattle.i_shape_core.specs.Walks.{WalkAnswer}
@@ -170,33 +171,34 @@ whole_written width read Answer Kept given old new n many is rest some answer ke
       rest = rest;
     }
 
-module _ {X : Type 0} {Clean : List Point → Type 0} {Answer Kept : List Point → Option (List Point) → Type 0} {Picks : List X → List X → Type 0} {width : Width} {read : List X → List Point} {given old new : List X} where
+module _ {X : Type 0} {Clean : List Point → Type 0} {Answer Kept : List Point → Option (List Point) → Type 0} {Picks : List X → List X → Type 0} {width : Width} {read : List X → List Point} {had has : ℕ → Type 0} {given old new : List X} (keeps : (m : ℕ) → had m → has m) where
   -- what a call answers that writes n points
-  pub into : (n : ℕ) → IsWritten Answer Kept Picks width read given old new n → length new ≡ length old → (length given < 3 → n ≡ 0) → CleansInto Clean Answer Kept Picks width read given old new (Ok n)
-  into n written len few = record { written = written; len = len; memory = tt; unclean = tt; err = tt; short = λ h. ap (λ m. Ok m) (few h) }
+  pub into : (n : ℕ) → IsWritten Answer Kept Picks width read given old new n → length new ≡ length old → (length given < 3 → n ≡ 0) → ((Clean (read given) → ⊥) → has (length given))
+      → CleansInto Clean Answer Kept Picks width read had has given old new (Ok n)
+  into n written len few takes = record { written = written; len = len; memory = tt; unclean = tt; reserved = λ _. refl; err = tt; short = λ h. ap (λ m. Ok m) (few h); keeps_room = keeps; takes_room = takes }
 
   -- what it answers where memory is refused
-  pub into_refused : (e : ShapeError) → e ≡ OutOfMemory → (Clean (read given) → ⊥) → 3 ≤ length given → new ≡ old → CleansInto Clean Answer Kept Picks width read given old new (Err e)
-  into_refused e memory unclean long err = record { written = tt; len = ap length err; memory = memory; unclean = unclean; err = err; short = λ h. absurd (omega (arith, h, long)) }
+  pub into_refused : (e : ShapeError) → e ≡ OutOfMemory → (Clean (read given) → ⊥) → 3 ≤ length given → (had (length given) → IsOk {T = ℕ} {E = ShapeError} (Err e)) → new ≡ old → CleansInto Clean Answer Kept Picks width read had has given old new (Err e)
+  into_refused e memory unclean long reserved err =
+      record { written = tt; len = ap length err; memory = memory; unclean = unclean; reserved = reserved; err = err; short = λ h. absurd (omega (arith, h, long)); keeps_room = keeps; takes_room = tt }
+
+-- a contour at which memory is refused, and isn't below three points, has three
+pub not_few : (n : ℕ) → (n < 3 → false ≡ true) → 3 ≤ n
+not_few n long = elim (cases_lt n 3) [
+  | inl few ↦ (let no = long few in absurd (cc))
+  | inr enough ↦ enough
+]
 
 -- what the removal of spikes writes of a contour with spikes is what `ContourDeSpiker` does
-pub spikes_removed : {X : Type 0} {width : Width} {read : List X → List Point} {given old new : List X} (result : Result ℕ ShapeError) → (NoSpikes (read given) → ⊥)
-    → CleansInto IsDespikedAlready SpikelessAnswer KeptAnswer Sublist width read given old new result → CleansInto NoSpikes DespikeAnswer KeptAnswer Sublist width read given old new result
-spikes_removed (Ok n) spiked r = record {
-  written = record {
-    fewer = r.written.fewer;
-    picked = r.written.picked;
-    cleaned = record {
-      answer = record { clean = λ s. absurd (spiked s); cleaned = λ _. r.written.cleaned.answer };
-      kept = r.written.cleaned.kept;
-      safe = r.written.cleaned.safe;
-    };
-    rest = r.written.rest;
+pub spikes_removed : {X : Type 0} {width : Width} {read : List X → List Point} {given old new : List X} (n : ℕ) → (NoSpikes (read given) → ⊥)
+    → IsWritten SpikelessAnswer KeptAnswer Sublist width read given old new n → IsWritten DespikeAnswer KeptAnswer Sublist width read given old new n
+spikes_removed n spiked r = record {
+  fewer = r.fewer;
+  picked = r.picked;
+  cleaned = record {
+    answer = record { clean = λ s. absurd (spiked s); cleaned = λ _. r.cleaned.answer };
+    kept = r.cleaned.kept;
+    safe = r.cleaned.safe;
   };
-  len = r.len;
-  memory = tt;
-  unclean = tt;
-  err = tt;
-  short = r.short;
+  rest = r.rest;
 }
-spikes_removed (Err e) spiked r = record { written = tt; len = r.len; memory = r.memory; unclean = spiked; err = r.err; short = r.short }

@@ -1,5 +1,5 @@
 use Rattle.std.proofs.Common.{rules, arith, refl, length, ◌-◌}
-use Rattle.i_shape_c.proofs.Batches.{rises_to}
+use Rattle.i_shape_core.proofs.lists.Rings.{rises_to}
 use Rattle.i_shape_c.proofs.batch.clean_contours.Goals as goal
 
 pub part-requires-clause-order : goal.part-requires-clause-order

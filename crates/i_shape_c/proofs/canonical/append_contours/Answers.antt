@@ -2,7 +2,7 @@ use Rattle.std.proofs.Common.{◌≡◌, ◌+◌, ◌-◌, ◌++◌, ◌∙◌, 
 use Rattle.i_shape.proofs.buffers.CleanedShapes.{grows_none}
 use Rattle.i_shape.proofs.buffers.ShapeRanges.{slice_range-map}
 use Rattle.i_shape_c.specs.Batch.{offset, nth_contour}
-use Rattle.i_shape_c.proofs.Batches.{rises_to}
+use Rattle.i_shape_core.proofs.lists.Rings.{rises_to}
 use Rattle.i_shape_c.proofs.PolygonLists.{contour_more}
 use Rattle.i_shape_c.proofs.canonical.append_contours.Goals as goal
 

@@ -5,7 +5,7 @@ use Rattle.i_shape.proofs.buffers.Shapes.{HoldsShapes-from_lists}
 use Rattle.i_shape.specs.AppendedAnswers.{Grows}
 use Rattle.i_shape_c.specs.Batch.{offset, nth_contour}
 use Rattle.i_shape_c.specs.Polygons.{parts}
-use Rattle.i_shape_c.proofs.Batches.{rises_to}
+use Rattle.i_shape_core.proofs.lists.Rings.{rises_to}
 use Rattle.i_shape_c.proofs.PolygonLists.{HasEndToEnd, polygon_more, polygon_at}
 use Rattle.i_shape_c.proofs.canonical.polygons_of.Goals as goal
 

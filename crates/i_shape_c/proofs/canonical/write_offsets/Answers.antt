@@ -1,7 +1,7 @@
 use Rattle.std.proofs.Common.{◌≡◌, ◌+◌, ◌∙◌, ◌∷◌, ◌++◌, length, map, take, drop, refl, sym, ap, subst, arith}
 use Rattle.std.proofs.lemmas.List.{take_all, take-append-drop}
 use Rattle.std.proofs.lemmas.Grind.{common_steps}
-use Rattle.i_shape_c.proofs.Parts.{back_more}
+use Rattle.i_shape_core.proofs.lists.Rings.{back_more}
 use Rattle.i_shape_c.proofs.PolygonLists.{first_set}
 use Rattle.i_shape_c.proofs.canonical.write_offsets.Goals as goal
 

@@ -1,28 +1,40 @@
-use Rattle.std.proofs.Common.{◌<◌, ◌^◌, rules, refl, subst, arith}
+use Rattle.std.proofs.Common.{◌≡◌, ◌⊎◌, ◌<◌, ◌^◌, inl, inr, List, length, map, rules, refl, arith}
 use Rattle.std.specs.Int.{w64}
 use Rattle.std.proofs.lemmas.Int.{to_z_pos}
-use Rattle.i_shape_c.proofs.Parts.{from_start}
+use Rattle.i_shape.specs.IntPoint.{contour_of, point_of}
+use Rattle.i_shape_c.proofs.Boundary.{copied_points, safe_contour, written_as}
 use Rattle.i_shape_c.proofs.contour.clean_contour.Goals as goal
+
+pub try_clean_into-requires-clause-points_safe : goal.try_clean_into-requires-clause-points_safe
+try_clean_into-requires-clause-points_safe g c =
+    safe_contour g.P.Coordinate.IntNumber.width g.P.Coordinate.IntNumber.value g.P.ContourPoint.point c.args.points.now (g.P.ContourPoint.points c.args.points.now) (g.P.ContourPoint.each c.args.points.now) (c.if-not-are_safe.ensures.0 refl)
 
 pub returns-in-Ok : goal.returns-in-Ok
 returns-in-Ok g c =
-    let small : c.in-Ok.end < 2 ^ 63 = omega (arith, c.in-Ok.ensures.end.1, c.if-out-points.false, c.requires) in
-    rw (to_z_pos w64 c.in-Ok.end small) (record {
-      answer = record {
-        fewer = omega (arith, c.in-Ok.ensures.end.1);
-        picked = subst (g.C.ContourCleaner.picks g.row.P.Denot c.args.points.now) (from_start c.clean_into.new.out c.in-Ok.end) c.in-Ok.ensures.picked;
-        cleaned = rw (from_start c.clean_into.new.out c.in-Ok.end) at c.in-Ok.ensures.cleaned;
-        rest = c.in-Ok.ensures.after;
-      };
+    let value = g.P.Coordinate.IntNumber.value in
+    let as_c : (list : List g.row.P.Denot) → contour_of value (g.P.ContourPoint.points list) ≡ map (λ p. point_of value (g.P.ContourPoint.point p)) list =
+    λ list. copied_points g.P.Coordinate.IntNumber.width value g.P.ContourPoint.point list (g.P.ContourPoint.points list) (g.P.ContourPoint.each list) in
+    let written = c.in-Ok.ensures.written in
+    let small : c.in-Ok.count < 2 ^ 63 = omega (arith, written.fewer, c.if-out-points.false, c.requires) in
+    rw (to_z_pos w64 c.in-Ok.count small) (record {
+      answer = written_as g.C.ContourCleaner.answers g.C.ContourCleaner.keeps (g.C.ContourCleaner.picks g.row.P.Denot) g.P.Coordinate.IntNumber.width _ _ c.args.points.now c.args.out.now c.try_clean_into.new.out c.in-Ok.count as_c written;
       unfit = (λ is. absurd (cc), λ short. absurd (omega (arith, short, c.if-out-points.false)));
       unsafe_points = (λ is. absurd (cc), λ both. absurd (both.1 (c.if-not-are_safe.ensures.0 refl)));
       memory = λ is. absurd (cc);
     })
 
 pub returns : goal.returns
-returns g c = record {
-  answer = search rules;
-  unfit = search rules;
-  unsafe_points = (λ is. search rules, λ both. absurd (both.1 (c.if-not-are_safe.ensures.0 refl)));
-  memory = search rules;
-}
+returns g c =
+    let value = g.P.Coordinate.IntNumber.value in
+    let points = g.P.ContourPoint.points c.args.points.now in
+    let same = copied_points g.P.Coordinate.IntNumber.width value g.P.ContourPoint.point c.args.points.now points (g.P.ContourPoint.each c.args.points.now) in
+    let refused : (length c.args.points.now < 3) ⊎ g.C.ContourCleaner.clean (map (λ p. point_of value (g.P.ContourPoint.point p)) c.args.points.now) → ⊥ = λ none. elim none [
+      | inl few ↦ let told = c.in-Err.ensures.short few in absurd (cc)
+      | inr clean ↦ c.in-Err.ensures.unclean (rw same clean)
+    ] in
+    record {
+      answer = search rules;
+      unfit = search rules;
+      unsafe_points = (λ is. search rules, λ both. absurd (both.1 (c.if-not-are_safe.ensures.0 refl)));
+      memory = λ is. refused;
+    }

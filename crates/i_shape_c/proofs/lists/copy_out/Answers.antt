@@ -1,7 +1,7 @@
 use Rattle.std.proofs.Common.{◌≡◌, ◌∙◌, ◌++◌, length, map, drop, sym, ap, ap₂, subst, arith}
 use Rattle.std.proofs.lemmas.List.{take_all, take-append-drop}
 use Rattle.std.proofs.lemmas.Grind.{common_steps}
-use Rattle.i_shape_c.proofs.Parts.{back_more}
+use Rattle.i_shape_core.proofs.lists.Rings.{back_more}
 use Rattle.i_shape_c.proofs.lists.copy_out.Goals as goal
 
 pub loop-place-preserved : goal.loop-place-preserved

@@ -6,7 +6,7 @@ use Rattle.i_shape_core.specs.declared.fill_rule.FillRule.{FillRule}
 use Rattle.i_shape_c.specs.Batch.{AreSafeContours}
 use Rattle.i_shape_c.specs.Cleaned.{AreSafe}
 use Rattle.i_shape_c.specs.Locations.{rule_of, CanTell, AreTold}
-use Rattle.i_shape_c.proofs.Batches.{rises_to}
+use Rattle.i_shape_core.proofs.lists.Rings.{rises_to}
 use Rattle.i_shape_c.proofs.Told.{codes_apart, not_none}
 use Rattle.i_shape_c.proofs.location.tell_points.Goals as goal
 

@@ -2,8 +2,8 @@ use Rattle.std.proofs.Common.{◌≡◌, arith, refl, length, ◌+◌, ◌-◌, 
 use Rattle.std.specs.List.{All, AllZip, range_with_len}
 use Rattle.i_shape.specs.IntPoint.{point_of}
 use Rattle.i_shape_c.specs.Batch.{offset, nth_contour}
-use Rattle.i_shape_c.proofs.Batches.{rises_to, all_part}
-use Rattle.i_shape_c.proofs.Parts.{back_more}
+use Rattle.i_shape_core.proofs.lists.Rings.{rises_to, back_more}
+use Rattle.i_shape_c.proofs.Batches.{all_part}
 use Rattle.i_shape_c.proofs.Told.{told_more}
 use Rattle.i_shape_c.proofs.measures.measure_contours.Goals as goal
 

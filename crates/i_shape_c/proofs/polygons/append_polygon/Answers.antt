@@ -3,7 +3,7 @@ use Rattle.std.specs.List.{filter_map}
 use Rattle.i_shape_c.specs.Appended.{filled}
 use Rattle.i_shape_c.specs.Batch.{offset}
 use Rattle.i_shape_c.specs.Polygons.{parts}
-use Rattle.i_shape_c.proofs.Batches.{rises_to}
+use Rattle.i_shape_core.proofs.lists.Rings.{rises_to}
 use Rattle.i_shape_c.proofs.Appended.{left_out, left_in, polygons_none, polygon_put}
 use Rattle.i_shape_c.proofs.polygons.append_polygon.Goals as goal
 use Rattle.i_shape_c.proofs.polygons.append_polygon.Goals.{else-rings-gt1-via-then-rings-gt1+else-rings, else-rings-gt1-via-else-rings-gt1}

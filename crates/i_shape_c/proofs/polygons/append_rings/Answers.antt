@@ -3,7 +3,7 @@ use Rattle.std.specs.List.{filter_map, range_with_len}
 use Rattle.std.specs.Option.{option_to_list}
 use Rattle.i_shape_c.specs.Appended.{filled, AppendsRings}
 use Rattle.i_shape_c.specs.Batch.{offset, nth_contour}
-use Rattle.i_shape_c.proofs.Batches.{rises_to}
+use Rattle.i_shape_core.proofs.lists.Rings.{rises_to}
 use Rattle.i_shape_c.proofs.Appended.{rings_none, rings_more, filled_more}
 use Rattle.i_shape_c.proofs.polygons.append_rings.Goals as goal
 

@@ -2,7 +2,8 @@ use Rattle.std.proofs.Common.{◌≡◌, ◌⊎◌, ◌+◌, ◌-◌, ◌≤◌,
 use Rattle.i_shape.specs.Point.{Point}
 use Rattle.i_shape.specs.IntPoint.{contour_of, point_of}
 use Rattle.i_shape_c.specs.Batch.{offset, nth_contour}
-use Rattle.i_shape_c.proofs.Batches.{rises_to, safe_part}
+use Rattle.i_shape_core.proofs.lists.Rings.{rises_to}
+use Rattle.i_shape_c.proofs.Batches.{safe_part}
 use Rattle.i_shape_c.proofs.Boundary.{copied_points, safe_contour}
 use Rattle.i_shape_c.proofs.polygons.are_clean.Goals as goal
 

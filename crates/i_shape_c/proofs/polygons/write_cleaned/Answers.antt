@@ -2,7 +2,8 @@ use Rattle.std.proofs.Common.{◌-◌, IsTrue, length, arith}
 use Rattle.i_shape.specs.Point.{Point}
 use Rattle.i_shape.specs.IntPoint.{point_of}
 use Rattle.i_shape_c.specs.Batch.{PartsPoints}
-use Rattle.i_shape_c.proofs.Batches.{rises_to, on_err}
+use Rattle.i_shape_core.proofs.lists.Rings.{rises_to}
+use Rattle.i_shape_c.proofs.Batches.{on_err}
 use Rattle.i_shape_c.proofs.PolygonsLeft.{rings_parted, rings_safe, rings_clean, rings_stay, left_written}
 use Rattle.i_shape_c.proofs.polygons.write_cleaned.Goals as goal
 

@@ -5,7 +5,7 @@ use Rattle.std.proofs.lemmas.List.{length-set}
 use Rattle.i_shape_c.specs.Appended.{left_of, polygons_left, rings_at, AppendsPolygons}
 use Rattle.i_shape_c.specs.Batch.{offset}
 use Rattle.i_shape_c.specs.Polygons.{parts}
-use Rattle.i_shape_c.proofs.Batches.{rises_to}
+use Rattle.i_shape_core.proofs.lists.Rings.{rises_to}
 use Rattle.i_shape_c.proofs.Appended.{polygons_none, polygons_more, left_more, rises_in, parted_in, ends_in, all_written_out}
 use Rattle.i_shape_c.proofs.polygons.write_polygons.Goals as goal
 

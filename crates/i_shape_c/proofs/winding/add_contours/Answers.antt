@@ -9,7 +9,8 @@ use Rattle.i_shape_core.specs.Contour.{point_at}
 use Rattle.std.specs.Int.{int_wrap}
 use Rattle.i_shape_core.proofs.measure.Heights.{added_as, added_more, none_added_yet}
 use Rattle.i_shape_c.specs.Batch.{offset, nth_contour}
-use Rattle.i_shape_c.proofs.Batches.{rises_to, safe_part}
+use Rattle.i_shape_c.proofs.Batches.{safe_part}
+use Rattle.i_shape_core.proofs.lists.Rings.{rises_to}
 use Rattle.i_shape_c.proofs.Boundary.{copied_points, safe_contour}
 use Rattle.i_shape_c.proofs.Windings.{one_more}
 use Rattle.i_shape_c.proofs.winding.add_contours.Goals as goal

@@ -5,7 +5,8 @@ use Rattle.i_shape.specs.IntPoint.{point_of}
 use Rattle.i_shape.specs.Edges.{sum_of}
 use Rattle.i_shape.specs.Winding.{winding, IsWithinHalf}
 use Rattle.i_shape_c.specs.Batch.{offset, nth_contour}
-use Rattle.i_shape_c.proofs.Batches.{rises_to, safe_part}
+use Rattle.i_shape_core.proofs.lists.Rings.{rises_to}
+use Rattle.i_shape_c.proofs.Batches.{safe_part}
 use Rattle.i_shape_c.proofs.Boundary.{copied_points, safe_contour}
 use Rattle.i_shape_c.proofs.Windings.{one_more, half_more, half_fits}
 use Rattle.i_shape_c.proofs.winding.wind_all.Goals as goal

@@ -5,8 +5,8 @@ use Rattle.i_shape.specs.IntPoint.{point_of}
 use Rattle.i_shape_c.specs.Batch.{AreSafeContours}
 use Rattle.i_shape_c.specs.Cleaned.{AreSafe}
 use Rattle.i_shape_c.specs.Windings.{contours_winding, CanWind}
-use Rattle.i_shape_c.proofs.Batches.{rises_to}
-use Rattle.i_shape_c.proofs.Parts.{back_more}
+use Rattle.i_shape_core.proofs.lists.Rings.{rises_to}
+use Rattle.i_shape_core.proofs.lists.Rings.{back_more}
 use Rattle.i_shape_c.proofs.winding.wind_one_by_one.Goals as goal
 
 pub loop-place-preserved : goal.loop-place-preserved

@@ -1,6 +1,5 @@
 use Rattle.std.proofs.Common.{◌≡◌, ◌∙◌, ◌-◌, ◌+◌, ◌<◌, ◌≤◌, length, List, ℕ, inl, inr, refl, arith}
-use Rattle.i_shape_core.specs.Point.{Point, IsBack}
-use Rattle.i_shape_core.specs.Contour.{IsRemovable}
+use Rattle.i_shape_core.specs.Point.{Point}
 use Rattle.i_shape_core.specs.IntPoint.{contour_of}
 use Rattle.i_shape_core.proofs.plane.Contours.{refuted_by_test, length-contour}
 use Rattle.i_shape_core.proofs.removal.Places.{Follows}

@@ -70,7 +70,7 @@ pub fn append_cleaned<T: IntNumber, C: ContourCleaner>(
 {
     let start = points.len();
     points.extend_from_slice(contour)?;
-    let count = cleaner.clean_into(contour, &mut points.as_mut_slice()[start..])?;
+    let count = cleaner.try_clean_into(contour, &mut points.as_mut_slice()[start..])?;
     let end = start + count;
     points.truncate(end);
     if count == 0 {

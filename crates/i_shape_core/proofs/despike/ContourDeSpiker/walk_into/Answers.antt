@@ -11,15 +11,25 @@ use Rattle.i_shape_core.proofs.removal.Ends.{reach_shrinks}
 use Rattle.i_shape_core.proofs.walks.Found.{spikeless_answer, kept_spikeless}
 use Rattle.i_shape_core.proofs.walks.RingStates.{first_state}
 use Rattle.i_shape_core.proofs.walks.RisingPlaces.{rising_below, picked_at}
-use Rattle.i_shape_core.proofs.answers.Written.{nothing_written, points_written}
+use Rattle.i_shape_core.proofs.answers.Kept.{few_collapse, collapsed_flat}
+use Rattle.i_shape_core.proofs.answers.Written.{collapse_written, nothing_written, points_written}
 use Rattle.i_shape_core.proofs.despike.ContourDeSpiker.walk_into.Goals as goal
+
+pub returns-then-contour-lt4-clause-written : goal.returns-then-contour-lt4-clause-written
+returns-then-contour-lt4-clause-written g c =
+    let value = g.P.Coordinate.IntNumber.value in
+    let read = λ (list : List g.row.P.Denot). contour_of value (g.P.ContourPoint.points list) in
+    let counts = λ (list : List g.row.P.Denot). length-contour value (g.P.ContourPoint.points list) ∙ points-length g.P.ContourPoint.point g.P.ContourPoint.points g.P.ContourPoint.each list in
+    let whole = read c.args.contour.now in
+    let collapsed = few_collapse whole (omega (arith, counts c.args.contour.now, c.if-contour-lt4.true)) c.requires.unclean in
+    collapse_written g.P.Coordinate.IntNumber.width read counts c.args.contour.now c.args.out.now SpikelessAnswer collapsed (collapsed_flat whole collapsed)
 
 pub walk-probe-requires-clause-state : goal.walk-probe-requires-clause-state
 walk-probe-requires-clause-state g c =
     let points = g.P.ContourPoint.points c.args.contour.now in
     let whole = contour_of g.P.Coordinate.IntNumber.value points in
     let long : length whole ≡ length c.args.contour.now = length-contour g.P.Coordinate.IntNumber.value points ∙ points-length g.P.ContourPoint.point g.P.ContourPoint.points g.P.ContourPoint.each c.args.contour.now in
-    rw (c.new.ensures.contour, c.new.ensures.visits) (first_state whole c.ring_at-ring.result _ (omega (arith, long, c.requires.enough)) (rw (← long) at c.ring_at-ring.ensures))
+    rw (c.new.ensures.contour, c.new.ensures.visits) (first_state whole c.ring_at-ring.result _ (omega (arith, long, c.if-contour-lt4.false)) (rw (← long) at c.ring_at-ring.ensures))
 
 pub returns-then-not-uncollapsed-clause-written : goal.returns-then-not-uncollapsed-clause-written
 returns-then-not-uncollapsed-clause-written g c =

@@ -5,23 +5,27 @@ use Rattle.i_shape_core.proofs.plane.PointLists.{points-length}
 use Rattle.i_shape_core.proofs.answers.Written.{unoriented_written, nothing_unoriented, into}
 use Rattle.i_shape_core.proofs.simplifier.ContourSimplifier.canonical_unoriented_into.Goals as goal
 
-pub returns-then-count-gt0-clause-answer : goal.returns-then-count-gt0-clause-answer
-returns-then-count-gt0-clause-answer g c =
+pub returns-then-count-gt0 : goal.returns-then-count-gt0
+returns-then-count-gt0 g c =
     let value = g.P.Coordinate.IntNumber.value in
     let read = λ (list : List g.row.P.Denot). contour_of value (g.P.ContourPoint.points list) in
     let counts = λ (list : List g.row.P.Denot). length-contour value (g.P.ContourPoint.points list) ∙ points-length g.P.ContourPoint.point g.P.ContourPoint.points g.P.ContourPoint.each list in
     let form = c.in_ok-count.ensures.answer in
-    into c.in_ok-count.count
-    (unoriented_written g.P.Coordinate.IntNumber.width read counts c.args.contour.now c.args.out.now c.canonical_into.new.out c.rotate_to_lesser.new.contour c.in_ok-count.count c.if-count-gt0.true
-    (omega (arith, form.written.fewer, c.requires.room, form.len)) c.requires.points_safe form.written c.rotate_to_lesser.ensures.len c.rotate_to_lesser.ensures.lesser c.rotate_to_lesser.ensures.picked)
-    (omega arith) (λ few. let none = form.short few in cc)
+    record {
+      answer = into form.keeps_room c.in_ok-count.count
+          (unoriented_written g.P.Coordinate.IntNumber.width read counts c.args.contour.now c.args.out.now c.canonical_into.new.out c.rotate_to_lesser.new.contour c.in_ok-count.count c.if-count-gt0.true
+          (omega (arith, form.written.fewer, c.requires.room, form.len)) c.requires.points_safe form.written c.rotate_to_lesser.ensures.len c.rotate_to_lesser.ensures.lesser c.rotate_to_lesser.ensures.picked)
+          (omega arith) (λ few. let none = form.short few in cc) form.takes_room;
+    }
 
-pub returns-else-count-gt0-clause-answer : goal.returns-else-count-gt0-clause-answer
-returns-else-count-gt0-clause-answer g c =
+pub returns-else-count-gt0 : goal.returns-else-count-gt0
+returns-else-count-gt0 g c =
     let value = g.P.Coordinate.IntNumber.value in
     let read = λ (list : List g.row.P.Denot). contour_of value (g.P.ContourPoint.points list) in
     let counts = λ (list : List g.row.P.Denot). length-contour value (g.P.ContourPoint.points list) ∙ points-length g.P.ContourPoint.point g.P.ContourPoint.points g.P.ContourPoint.each list in
     let form = c.in_ok-count.ensures.answer in
-    into c.in_ok-count.count
-    (nothing_unoriented g.P.Coordinate.IntNumber.width read counts c.args.contour.now c.args.out.now c.canonical_into.new.out c.in_ok-count.count (omega (arith, c.if-count-gt0.false)) form.written)
-    form.len (λ few. let none = form.short few in cc)
+    record {
+      answer = into form.keeps_room c.in_ok-count.count
+          (nothing_unoriented g.P.Coordinate.IntNumber.width read counts c.args.contour.now c.args.out.now c.canonical_into.new.out c.in_ok-count.count (omega (arith, c.if-count-gt0.false)) form.written)
+          form.len (λ few. let none = form.short few in cc) form.takes_room;
+    }

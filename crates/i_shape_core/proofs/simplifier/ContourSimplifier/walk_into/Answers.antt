@@ -8,11 +8,20 @@ use Rattle.i_shape_core.specs.Walks.{Finds}
 use Rattle.i_shape_core.proofs.plane.Contours.{length-contour, kept-contour}
 use Rattle.i_shape_core.proofs.plane.PointLists.{points-length, points-at-places}
 use Rattle.i_shape_core.proofs.removal.Ends.{reach_shrinks}
-use Rattle.i_shape_core.proofs.walks.Found.{simple_answer, kept_answer}
+use Rattle.i_shape_core.proofs.walks.Found.{simple_answer, kept_answer, short_answer}
 use Rattle.i_shape_core.proofs.walks.Stack.{stacked-start}
 use Rattle.i_shape_core.proofs.walks.RisingPlaces.{rising_below, picked_at}
 use Rattle.i_shape_core.proofs.answers.Written.{nothing_written, points_written}
 use Rattle.i_shape_core.proofs.simplifier.ContourSimplifier.walk_into.Goals as goal
+
+pub returns-then-contour-lt3-clause-written : goal.returns-then-contour-lt3-clause-written
+returns-then-contour-lt3-clause-written g c =
+    let value = g.P.Coordinate.IntNumber.value in
+    let read = λ (list : List g.row.P.Denot). contour_of value (g.P.ContourPoint.points list) in
+    let counts = λ (list : List g.row.P.Denot). length-contour value (g.P.ContourPoint.points list) ∙ points-length g.P.ContourPoint.point g.P.ContourPoint.points g.P.ContourPoint.each list in
+    let whole = read c.args.contour.now in
+    nothing_written g.P.Coordinate.IntNumber.width read counts c.args.contour.now c.args.out.now IsZeroTurn SimpleAnswer (simple_answer whole) (kept_answer whole) 0
+    (short_answer IsZeroTurn whole (omega (arith, counts c.args.contour.now, c.if-contour-lt3.true)))
 
 pub stack_places-probe-requires-clause-start : goal.stack_places-probe-requires-clause-start
 stack_places-probe-requires-clause-start g c = record {
@@ -24,7 +33,7 @@ stack_places-probe-requires-clause-start g c = record {
 
 pub stack_places-probe-requires-clause-room : goal.stack_places-probe-requires-clause-room
 stack_places-probe-requires-clause-room g c =
-    omega (arith, c.requires.reserved, ap length c.new.ensures.contour, points-length g.P.ContourPoint.point g.P.ContourPoint.points g.P.ContourPoint.each c.args.contour.now)
+    omega (arith, c.requires.reserved, c.if-contour-lt3.false, ap length c.new.ensures.contour, points-length g.P.ContourPoint.point g.P.ContourPoint.points g.P.ContourPoint.each c.args.contour.now)
 
 pub returns-in_default-clause-written : goal.returns-in_default-clause-written
 returns-in_default-clause-written g c =

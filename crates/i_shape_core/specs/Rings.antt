@@ -1,0 +1,56 @@
+-- Rings in one array of points, parted by offsets.
+use Rattle.std.specs.Prelude.{◌≡◌, ℕ, ◌+◌, ◌-◌, ◌<◌, ◌≤◌, ◌⊎◌, List, length, drop, get_or, slice_range, Option}
+use Rattle.std.specs.Int.{Width}
+use Rattle.i_shape_core.specs.Point.{Point}
+use Rattle.i_shape_core.specs.IntPoint.{IsSafeContour}
+use Rattle.i_shape_core.specs.Written.{slot, IsCleaned}
+
+-- the offset at a place
+abbrev pub offset : List ℕ → ℕ → ℕ
+offset offsets k = get_or offsets k 0
+
+-- the points of ring k
+abbrev pub nth_ring : {P : Type 0} → List P → List ℕ → ℕ → List P
+nth_ring points offsets k = slice_range points (offset offsets k) (offset offsets (k + 1))
+
+-- none of the first n offsets is less than the one before it
+abbrev pub AreRising : List ℕ → ℕ → Type 0
+AreRising offsets n = (k : ℕ) → k + 1 < n → offset offsets k ≤ offset offsets (k + 1)
+
+-- the offsets part a list of so many points
+pub record PartsPoints (points : ℕ) (offsets : List ℕ) : Type 0 where
+  pub some : 0 < length offsets
+  pub order : AreRising offsets (length offsets)
+  pub last : offset offsets (length offsets - 1) ≤ points
+
+-- the points of each ring are safe, where `read` gives the points that a list stands for
+abbrev pub AreSafeRings : {P : Type 0} → Width → (List P → List Point) → List P → List ℕ → Type 0
+AreSafeRings width read points offsets = (k : ℕ) → k + 1 < length offsets → IsSafeContour width (read (nth_ring points offsets k))
+
+-- each ring between the first n offsets is clean
+abbrev pub AreCleanRings : {P : Type 0} → (List Point → Type 0) → (List P → List Point) → List P → List ℕ → ℕ → Type 0
+AreCleanRings Clean read points offsets n = (k : ℕ) → k + 1 < n → Clean (read (nth_ring points offsets k))
+
+-- each ring between the first n offsets is clean, or there is room for its points
+abbrev pub HaveRoom : {P : Type 0} → (List Point → Type 0) → (List P → List Point) → (ℕ → Type 0) → List P → List ℕ → ℕ → Type 0
+HaveRoom Clean read room points offsets n = (k : ℕ) → k + 1 < n → (Clean (read (nth_ring points offsets k)) → ⊥) → room (length (nth_ring points offsets k))
+
+-- each ring between the first n offsets is clean, or has fewer than three points
+abbrev pub AreShortOrClean : {P : Type 0} → (List Point → Type 0) → (List P → List Point) → List P → List ℕ → ℕ → Type 0
+AreShortOrClean Clean read points offsets n = (k : ℕ) → k + 1 < n → (length (nth_ring points offsets k) < 3) ⊎ Clean (read (nth_ring points offsets k))
+
+-- what a cleaner leaves of a ring of a caller's: an empty list where it collapses
+pub record Leaves {P : Type 0} (Answer Kept : List Point → Option (List Point) → Type 0) (Picks : List P → List P → Type 0) (width : Width) (read : List P → List Point) (given left : List P) : Type 0 where
+  pub picked : Picks given left
+  pub cleaned : IsCleaned Answer Kept width (read given) (slot (read left))
+
+-- each ring that the new offsets part is what is left of the given one at the same place; there are n points in all, and what stands behind
+-- them and behind the offsets is as it was
+pub record AreCleanedRings {P : Type 0} (Left : List P → List P → Type 0) (points : List P) (offsets : List ℕ) (old_points new_points : List P) (old_offsets new_offsets : List ℕ) (n : ℕ) : Type 0 where
+  pub first : offset new_offsets 0 ≡ 0
+  pub order : AreRising new_offsets (length offsets)
+  pub last : offset new_offsets (length offsets - 1) ≡ n
+  pub fewer : n ≤ length points
+  pub cleaned : (k : ℕ) → k + 1 < length offsets → Left (nth_ring points offsets k) (nth_ring new_points new_offsets k)
+  pub rest : drop n new_points ≡ drop n old_points
+  pub offsets_rest : drop (length offsets) new_offsets ≡ drop (length offsets) old_offsets

@@ -1,0 +1,177 @@
+//! Rings that lie end to end in one array of points, and are parted by offsets.
+
+ghost use Rattle.std.specs.Prelude.{◌≡◌, ◌+◌, ◌-◌, ◌<◌, ◌≤◌, ℕ, length, take, drop, slice_range, IsTrue, IfOk, OnErr, IsOkUnless};
+ghost use Rattle.i_shape_core.specs.IntPoint.{contour_of, IsSafeContour};
+ghost use Rattle.i_shape_core.specs.Written.{IsWritten};
+ghost use Rattle.i_shape_core.specs.Rings.{PartsPoints, AreSafeRings, AreCleanRings, HaveRoom, AreShortOrClean, Leaves, AreCleanedRings};
+
+use crate::cleaner::ContourCleaner;
+use crate::error::ShapeError;
+use crate::point::ContourPoint;
+
+/// Cleans each ring that the offsets part: writes what is left of them one behind the other to the front of `out`, and to `out_offsets`
+/// where each starts and ends. Answers how many points are left in all. A ring that collapses leaves none. Memory comes first, for rings
+/// that aren't clean alone. The only error is `OutOfMemory`; then nothing is written.
+pub fn try_clean_rings<P: ContourPoint, C: ContourCleaner>(
+    cleaner: &mut C,
+    points: &[P],
+    offsets: &[usize],
+    out: &mut [P],
+    out_offsets: &mut [usize],
+) -> Result<usize, ShapeError>
+    requires parted { PartsPoints (length points.now) offsets.now }
+    requires points_safe { AreSafeRings P.Coordinate.width
+        (λ list. contour_of P.Coordinate.value (P.points list)) points.now offsets.now }
+    requires room { length points.now ≤ length out.old }
+    requires offsets_room { length offsets.now ≤ length out_offsets.old }
+    ensures cleaned { IfOk result (AreCleanedRings
+        (Leaves C.answers C.keeps (C.picks P) P.Coordinate.width
+        (λ list. contour_of P.Coordinate.value (P.points list))) points.now offsets.now
+        out.old out.new out_offsets.old out_offsets.new) }
+    ensures points_err { OnErr result (out.new ≡ out.old) }
+    ensures offsets_err { OnErr result (out_offsets.new ≡ out_offsets.old) }
+    ensures unclean { OnErr result (AreShortOrClean C.clean
+        (λ list. contour_of P.Coordinate.value (P.points list)) points.now offsets.now
+        (length offsets.now) → ⊥) }
+    ensures memory { IsOkUnless result ShapeError.OutOfMemory }
+    ensures keeps_room { (n : ℕ) → C.has_room cleaner.old n → C.has_room cleaner.new n }
+{
+    let all_clean = make_room(cleaner, points, offsets)?;
+    Ok(clean_rings(cleaner, points, offsets, all_clean, out, out_offsets))
+}
+
+/// Takes memory for the longest ring that isn't clean, and so for each, and answers whether all are clean. The only error is
+/// `OutOfMemory`, where a ring of at least three points isn't clean.
+pub fn make_room<P: ContourPoint, C: ContourCleaner>(
+    cleaner: &mut C,
+    points: &[P],
+    offsets: &[usize],
+) -> Result<bool, ShapeError>
+    requires parted { PartsPoints (length points.now) offsets.now }
+    requires points_safe { AreSafeRings P.Coordinate.width
+        (λ list. contour_of P.Coordinate.value (P.points list)) points.now offsets.now }
+    ensures clean { IfOk result (λ all_clean. IsTrue all_clean → AreCleanRings C.clean
+        (λ list. contour_of P.Coordinate.value (P.points list)) points.now offsets.now
+        (length offsets.now)) }
+    ensures room { IfOk result (λ _. HaveRoom C.clean
+        (λ list. contour_of P.Coordinate.value (P.points list)) (C.has_room cleaner.new)
+        points.now offsets.now (length offsets.now)) }
+    ensures unclean { OnErr result (AreShortOrClean C.clean
+        (λ list. contour_of P.Coordinate.value (P.points list)) points.now offsets.now
+        (length offsets.now) → ⊥) }
+    ensures memory { IsOkUnless result ShapeError.OutOfMemory }
+    ensures keeps_room { (n : ℕ) → C.has_room cleaner.old n → C.has_room cleaner.new n }
+{
+    let mut longest: usize = 0;
+    let mut all_clean = true;
+    for place in 1..offsets.len() {
+        let ring = part(points, offsets[place - 1], offsets[place]);
+        if !C::is_clean(ring) {
+            longest = longest.max(ring.len());
+            all_clean = false;
+        }
+    }
+    cleaner.reserve(longest)?;
+    Ok(all_clean)
+}
+
+/// Cleans each ring, as `try_clean_rings` does, where there is room for each that isn't clean: it takes no memory, and can't fail. None is
+/// tested where it is known that all are clean.
+pub fn clean_rings<P: ContourPoint, C: ContourCleaner>(
+    cleaner: &mut C,
+    points: &[P],
+    offsets: &[usize],
+    all_clean: bool,
+    out: &mut [P],
+    out_offsets: &mut [usize],
+) -> usize
+    requires parted { PartsPoints (length points.now) offsets.now }
+    requires points_safe { AreSafeRings P.Coordinate.width
+        (λ list. contour_of P.Coordinate.value (P.points list)) points.now offsets.now }
+    requires room { length points.now ≤ length out.old }
+    requires offsets_room { length offsets.now ≤ length out_offsets.old }
+    requires clean { IsTrue all_clean → AreCleanRings C.clean
+        (λ list. contour_of P.Coordinate.value (P.points list)) points.now offsets.now
+        (length offsets.now) }
+    requires reserved { HaveRoom C.clean
+        (λ list. contour_of P.Coordinate.value (P.points list)) (C.has_room cleaner.old)
+        points.now offsets.now (length offsets.now) }
+    ensures cleaned { AreCleanedRings (Leaves C.answers C.keeps (C.picks P) P.Coordinate.width
+        (λ list. contour_of P.Coordinate.value (P.points list))) points.now offsets.now
+        out.old out.new out_offsets.old out_offsets.new result }
+    ensures keeps_room { (n : ℕ) → C.has_room cleaner.old n → C.has_room cleaner.new n }
+{
+    let mut written: usize = 0;
+    out_offsets[0] = 0;
+    for place in 1..offsets.len() {
+        let ring = part(points, offsets[place - 1], offsets[place]);
+        written = clean_at(cleaner, ring, all_clean, out, written);
+        out_offsets[place] = written;
+    }
+    written
+}
+
+/// Writes what is left of a ring from place `at` on, and answers where it ends.
+pub fn clean_at<P: ContourPoint, C: ContourCleaner>(
+    cleaner: &mut C,
+    ring: &[P],
+    is_clean: bool,
+    out: &mut [P],
+    at: usize,
+) -> usize
+    requires points_safe { IsSafeContour P.Coordinate.width
+        (contour_of P.Coordinate.value (P.points ring.now)) }
+    requires room { at + length ring.now ≤ length out.old }
+    requires clean { IsTrue is_clean
+        → C.clean (contour_of P.Coordinate.value (P.points ring.now)) }
+    requires reserved { (C.clean (contour_of P.Coordinate.value (P.points ring.now)) → ⊥)
+        → C.has_room cleaner.old (length ring.now) }
+    ensures above { at ≤ result }
+    ensures under { result ≤ at + length ring.now }
+    ensures left { Leaves C.answers C.keeps (C.picks P) P.Coordinate.width
+        (λ list. contour_of P.Coordinate.value (P.points list)) ring.now (slice_range out.new at result) }
+    ensures before { take at out.new ≡ take at out.old }
+    ensures after { drop result out.new ≡ drop result out.old }
+    ensures len { length out.new ≡ length out.old }
+    ensures keeps_room { (n : ℕ) → C.has_room cleaner.old n → C.has_room cleaner.new n }
+{
+    let count = clean_ring(cleaner, ring, is_clean, &mut out[at..]);
+    at + count
+}
+
+/// Cleans a ring, as `ContourCleaner::clean_into` does, without a test where it is known to be clean.
+fn clean_ring<P: ContourPoint, C: ContourCleaner>(
+    cleaner: &mut C,
+    ring: &[P],
+    is_clean: bool,
+    out: &mut [P],
+) -> usize
+    requires points_safe { IsSafeContour P.Coordinate.width
+        (contour_of P.Coordinate.value (P.points ring.now)) }
+    requires room { length ring.now ≤ length out.old }
+    requires clean { IsTrue is_clean
+        → C.clean (contour_of P.Coordinate.value (P.points ring.now)) }
+    requires reserved { (C.clean (contour_of P.Coordinate.value (P.points ring.now)) → ⊥)
+        → C.has_room cleaner.old (length ring.now) }
+    ensures written { IsWritten C.answers C.keeps (C.picks P) P.Coordinate.width
+        (λ list. contour_of P.Coordinate.value (P.points list))
+        ring.now out.old out.new result }
+    ensures len { length out.new ≡ length out.old }
+    ensures keeps_room { (n : ℕ) → C.has_room cleaner.old n → C.has_room cleaner.new n }
+{
+    if is_clean {
+        C::write_clean(ring, out)
+    } else {
+        cleaner.clean_into(ring, out)
+    }
+}
+
+/// The items from one place to another.
+pub fn part<T: Copy>(items: &[T], from: usize, to: usize) -> &[T]
+    requires order { from ≤ to }
+    requires within { to ≤ length items.now }
+    ensures part { result.now ≡ slice_range items.now from to }
+    ensures len { length result.now + from ≡ to }
+{
+    &items[from..to]
+}
