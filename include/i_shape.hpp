@@ -157,6 +157,8 @@ struct Calls {
         static constexpr auto is_safe = i_shape_is_safe_i##W; \
         static constexpr auto winding = i_shape_winding_i##W; \
         static constexpr auto windings = i_shape_windings_i##W; \
+        static constexpr auto contains_points = i_shape_contains_points_i##W; \
+        static constexpr auto locate = i_shape_locate_i##W; \
         static constexpr auto area_two = i_shape_area_two_i##W; \
         static constexpr auto is_simple_contours = i_shape_is_simple_contours_i##W; \
         static constexpr auto has_no_spikes_contours = i_shape_has_no_spikes_contours_i##W; \
@@ -354,6 +356,16 @@ std::vector<Item> measure_contours(Call call, const Points &points, const Given 
     return items;
 }
 
+/* What is told of each of the points about by a rule. */
+template <class Item, class Call, class Points, class Offsets, class About>
+std::vector<Item> tell_points(Call call, const Points &points, const Offsets &offsets, const About &about, std::int32_t rule) {
+    static_assert(std::is_same_v<PointOf<Points>, PointOf<About>>, "i_shape: the points of both are of one type");
+    std::vector<Item> items(std::size(about));
+    count_of(call(read(points), std::size(points), read_offsets(offsets), std::size(offsets), read(about), std::size(about), rule,
+                  address<Item>(items.data()), items.size()));
+    return items;
+}
+
 } // namespace detail
 
 /* The type of the points of a vector, an array or a Span. */
@@ -504,6 +516,26 @@ std::vector<std::ptrdiff_t> windings(const Points &points, const Offsets &offset
     if (answer == I_SHAPE_UNSAFE) detail::check_asked(about);
     detail::count_of(answer, points, detail::Offsets(all));
     return numbers;
+}
+
+/* Which points contours fill, by how often they wind about them together. */
+enum class FillRule : std::int32_t {
+    even_odd = I_SHAPE_EVEN_ODD,
+    nonzero = I_SHAPE_NONZERO,
+    positive = I_SHAPE_POSITIVE,
+    negative = I_SHAPE_NEGATIVE,
+};
+
+/* Whether the rule fills each of the points about, by how often many contours together wind about it: 1 or 0. */
+template <class Points, class Offsets, class About>
+std::vector<std::uint8_t> contains_points(const Points &points, const Offsets &offsets, const About &about, FillRule rule) {
+    return detail::tell_points<std::uint8_t>(detail::CallsOf<Points>::contains_points, points, offsets, about, static_cast<std::int32_t>(rule));
+}
+
+/* Where each of the points about lies: 0 on an edge, and elsewhere 1 where the rule fills it, and -1 where it doesn't. */
+template <class Points, class Offsets, class About>
+std::vector<std::int8_t> locate(const Points &points, const Offsets &offsets, const About &about, FillRule rule) {
+    return detail::tell_points<std::int8_t>(detail::CallsOf<Points>::locate, points, offsets, about, static_cast<std::int32_t>(rule));
 }
 
 /* Twice the area of a contour, above 0 where it turns left; nothing where it has no point. A sum that doesn't fit wraps. */

@@ -373,6 +373,9 @@ private:
         check(i_shape::windings(given, offsets, Contour()).empty(), "windings", "about no point");
         check(i_shape::windings(i_shape::nested(i_shape::Contours<Point>{given, {0, 4, 8}}), about) == std::vector<std::ptrdiff_t>{0, 1, 0},
               "windings", "two vectors together");
+        using i_shape::FillRule;
+        check(i_shape::contains_points(given, offsets, about, FillRule::positive) == std::vector<std::uint8_t>{0, 1, 0}, "contains_points", "two contours");
+        check(i_shape::locate(given, offsets, about, FillRule::even_odd) == std::vector<std::int8_t>{-1, 0, 0}, "locate", "two contours");
     }
 
     static bool is_area(std::int32_t area, std::int64_t wanted) { return area == wanted; }
@@ -400,6 +403,7 @@ private:
         throws(Code::unsafe, "contains", "a point that isn't safe", [&] { i_shape::contains(square(), point(least_unsafe, 1)); });
         throws(Code::unsafe, "winding", "a point that isn't safe", [&] { i_shape::winding(square(), point(least_unsafe, 1)); });
         throws(Code::unsafe, "windings", "a vertex that isn't safe", [&] { i_shape::windings(unsafe, whole, square()); });
+        throws(Code::unfit, "locate", "no offset", [&] { i_shape::locate(square(), none, square(), i_shape::FillRule::nonzero); });
         throws(Code::unfit, "windings", "no offset", [&] { i_shape::windings(square(), none, square()); });
         throws(Code::unsafe, "is_simple_contours", "a point that isn't safe", [&] { i_shape::is_simple_contours(unsafe, whole); });
         throws(Code::unsafe, "has_no_spikes_contours", "a point that isn't safe", [&] { i_shape::has_no_spikes_contours(unsafe, whole); });

@@ -307,6 +307,79 @@ static void AT(test_windings)(void) {
     check(CALL(winding)(given + 8, 4, 2, 2) == I_SHAPE_NO_WINDING, W, "winding", "a vertex that isn't safe");
 }
 
+/* 64 points of a square, and 32 points along a line through it: with memory for the sorted points, and with each growth refused. */
+static void AT(test_many_points)(void) {
+    enum { SIDE = 16, ASKED = 32 };
+    POINT ring[4 * SIDE], about[ASKED];
+    for (int k = 0; k < SIDE; k++) {
+        const POINT sides[4] = {{(COORDINATE)k, 0}, {SIDE, (COORDINATE)k}, {(COORDINATE)(SIDE - k), SIDE}, {0, (COORDINATE)(SIDE - k)}};
+        for (int side = 0; side < 4; side++) ring[side * SIDE + k] = sides[side];
+    }
+    for (int k = 0; k < ASKED; k++) {
+        const POINT at = {(COORDINATE)(k - 8), 5};
+        about[k] = at;
+    }
+    const size_t offsets[2] = {0, 4 * SIDE};
+    ptrdiff_t numbers[ASKED];
+    uint8_t filled[ASKED];
+    int8_t located[ASKED];
+    for (int growth = 0; growth <= 4; growth++) {
+#ifdef REFUSES
+        refused = (size_t)growth;
+        growths = 0;
+#endif
+        check(CALL(windings)(ring, 4 * SIDE, offsets, 2, about, ASKED, numbers, ASKED) == 0, W, "windings", "memory that is refused");
+#ifdef REFUSES
+        check(growth != 0 || growths == 2, W, "windings", "how often memory is taken");
+        growths = 0;
+#endif
+        check(CALL(contains_points)(ring, 4 * SIDE, offsets, 2, about, ASKED, I_SHAPE_EVEN_ODD, filled, ASKED) == 0, W, "contains_points",
+              "memory that is refused");
+#ifdef REFUSES
+        check(growth != 0 || growths == 3, W, "contains_points", "how often memory is taken");
+        growths = 0;
+#endif
+        check(CALL(locate)(ring, 4 * SIDE, offsets, 2, about, ASKED, I_SHAPE_EVEN_ODD, located, ASKED) == 0, W, "locate", "memory that is refused");
+#ifdef REFUSES
+        check(growth != 0 || growths == 3, W, "locate", "how often memory is taken");
+        check(blocks == 0, W, "locate", "a block is lost");
+        refused = 0;
+#endif
+        for (int k = 0; k < ASKED; k++) {
+            const int x = about[k].x, inside = 0 < x && x < SIDE, on = x == 0 || x == SIDE;
+            check(numbers[k] == (x == 0 || inside), W, "windings", "a point of many");
+            check(filled[k] == (x == 0 || inside), W, "contains_points", "a point of many");
+            check(located[k] == (on ? 0 : inside ? 1 : -1), W, "locate", "a point of many");
+        }
+    }
+}
+
+/* Two squares that turn left, and one in both that turns right, by each rule. */
+static void AT(test_locations)(void) {
+    POINT given[12] = {{0, 0}, {4, 0}, {4, 4}, {0, 4}, {0, 0}, {9, 0}, {9, 4}, {0, 4}, {20, 0}, {20, 4}, {24, 4}, {24, 0}};
+    POINT about[6] = {{2, 2}, {6, 2}, {22, 2}, {12, 2}, {4, 1}, {24, 4}};
+    const size_t offsets[4] = {0, 4, 8, 12};
+    const uint8_t filled[4][4] = {{0, 1, 1, 0}, {1, 1, 1, 0}, {1, 1, 0, 0}, {0, 0, 1, 0}};
+    uint8_t bytes[5];
+    int8_t places[7];
+    for (int rule = I_SHAPE_EVEN_ODD; rule <= I_SHAPE_NEGATIVE; rule++) {
+        fill(bytes, sizeof bytes);
+        fill(places, sizeof places);
+        check(CALL(contains_points)(given, 12, offsets, 4, about, 4, rule, bytes, 5) == 0 && memcmp(bytes, filled[rule], 4) == 0 && is_filled(bytes + 4, 1),
+              W, "contains_points", "three squares by each rule");
+        check(CALL(locate)(given, 12, offsets, 4, about, 6, rule, places, 7) == 0 && is_filled(places + 6, 1), W, "locate", "three squares by each rule");
+        for (int k = 0; k < 6; k++) check(places[k] == (k >= 4 ? 0 : filled[rule][k] ? 1 : -1), W, "locate", "a point by each rule");
+    }
+    fill(bytes, sizeof bytes);
+    fill(places, sizeof places);
+    check(CALL(contains_points)(given, 12, offsets, 4, about, 4, 4, bytes, 5) == I_SHAPE_UNFIT, W, "contains_points", "no such rule");
+    check(CALL(locate)(given, 12, offsets, 4, about, 6, -1, places, 7) == I_SHAPE_UNFIT, W, "locate", "no such rule");
+    check(CALL(locate)(given, 12, offsets, 4, about, 6, I_SHAPE_NONZERO, places, 5) == I_SHAPE_UNFIT, W, "locate", "room for five of six");
+    about[1].x = LEAST_UNSAFE;
+    check(CALL(contains_points)(given, 12, offsets, 4, about, 4, I_SHAPE_NONZERO, bytes, 5) == I_SHAPE_UNSAFE, W, "contains_points", "a point that isn't safe");
+    check(is_filled(bytes, sizeof bytes) && is_filled(places, sizeof places), W, "locate", "codes leave the array as it was");
+}
+
 static void AT(test_area)(void) {
     const POINT square[4] = {{0, 0}, {4, 0}, {4, 4}, {0, 4}}, turned[4] = {{0, 0}, {0, 4}, {4, 4}, {4, 0}};
     AREA area;
@@ -436,6 +509,8 @@ static void AT(test_width)(void) {
     AT(test_codes_of_tests)();
     AT(test_codes_of_areas)();
     AT(test_windings)();
+    AT(test_many_points)();
+    AT(test_locations)();
     AT(test_area)();
     AT(test_refusals)();
 }
