@@ -22,6 +22,13 @@ def grid(dtype):
     return near + [(limit, limit), (-limit, limit), (limit, -limit)]
 
 
+def between(a, p, b):
+    """Whether p lies on the segment from a to b, or is an end of it."""
+    cross = (p[0] - a[0]) * (b[1] - p[1]) - (p[1] - a[1]) * (b[0] - p[0])
+    return cross == 0 and all(min(a[k], b[k]) <= p[k] <= max(a[k], b[k])
+                              for k in range(2))
+
+
 def rings_of_each_dtype():
     for dtype in plain.DTYPES:
         numbers = random.Random(np.dtype(dtype).itemsize)
@@ -90,6 +97,20 @@ class Windings(unittest.TestCase):
             inside = [i_shape.contains(points, point) for point in about]
             self.assertEqual(i_shape.contains_points(points, about).tolist(),
                              inside, ring)
+
+    def test_where_points_lie(self):
+        for dtype, ring, points in rings_of_each_dtype():
+            about = plain.array(grid(dtype), dtype)
+            on = [any(between(a, tuple(map(int, p)), b)
+                      for a, b in zip(ring, ring[1:] + ring[:1]))
+                  for p in about]
+            for rule in RULES:
+                filled = i_shape.contains_points(points, about, rule=rule)
+                wanted = [0 if o else 1 if f else -1
+                          for o, f in zip(on, filled)]
+                located = i_shape.locate(points, about, rule=rule, threads=2)
+                self.assertEqual(located.dtype, np.int8)
+                self.assertEqual(located.tolist(), wanted, ring)
 
     def test_nothing_to_ask_or_to_wind(self):
         square = np.array([(0, 0), (4, 0), (4, 4), (0, 4)], np.int16)

@@ -19,7 +19,8 @@ from ._measures import (area_two_polygons, area_two_rings,
 from ._polygons import (Polygons, canonical_polygons, despike_polygons,
                         same_polygons, simplify_polygons)
 from ._rings import Rings, canonical_rings, despike_rings, simplify_rings
-from ._windings import contains_points, winding_number, winding_numbers
+from ._windings import (contains_points, locate, winding_number,
+                        winding_numbers)
 
 __all__ = [
     "OffsetsError", "Polygons", "Rings", "UnsafePointError",
@@ -27,7 +28,7 @@ __all__ = [
     "canonical_keys", "canonical_polygons", "canonical_rings", "contains",
     "contains_points", "despike", "despike_polygons", "despike_rings",
     "has_no_spikes", "has_no_spikes_rings", "is_convex", "is_convex_rings",
-    "is_safe", "is_safe_rings", "is_simple", "is_simple_rings",
+    "is_safe", "is_safe_rings", "is_simple", "is_simple_rings", "locate",
     "same_polygons", "same_rings", "simplify", "simplify_polygons",
     "simplify_rings", "winding_number", "winding_numbers",
 ]

@@ -63,6 +63,8 @@ class Calls(NamedTuple):
     contains: Any
     winding: Any
     windings: Any
+    contains_points: Any
+    locate: Any
     area_two: Any
     areas: Any
     area: Any
@@ -99,6 +101,11 @@ def _calls(bits: int, number: Any, area: Any) -> Calls:
                       number, number),
         windings=_call(f"i_shape_windings_i{bits}", ctypes.c_int32,
                        *array * 4),
+        contains_points=_call(f"i_shape_contains_points_i{bits}",
+                              ctypes.c_int32, *array * 3, ctypes.c_int32,
+                              *array),
+        locate=_call(f"i_shape_locate_i{bits}", ctypes.c_int32, *array * 3,
+                     ctypes.c_int32, *array),
         area_two=_call(f"i_shape_area_two_i{bits}", ctypes.c_bool, *array,
                        ctypes.POINTER(area)),
         areas=_call(f"i_shape_area_two_contours_i{bits}", ctypes.c_int32,

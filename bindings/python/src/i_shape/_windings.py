@@ -1,4 +1,4 @@
-"""Winding numbers, and which points a fill rule fills."""
+"""Winding numbers, and where points lie by a fill rule."""
 
 from __future__ import annotations
 
@@ -18,12 +18,8 @@ Contours = Union[npt.NDArray[Int], Rings,
                  Tuple[npt.NDArray[Int], npt.ArrayLike]]
 FillRule = Literal["evenodd", "nonzero", "positive", "negative"]
 
-_RULES: dict[str, Any] = {
-    "evenodd": lambda turns: turns % 2 == 1,
-    "nonzero": lambda turns: turns != 0,
-    "positive": lambda turns: turns > 0,
-    "negative": lambda turns: turns < 0,
-}
+# In the order of their codes in C.
+_RULES = ("evenodd", "nonzero", "positive", "negative")
 
 
 def winding_number(points: npt.NDArray[Int], point: Sequence[int]) -> int:
@@ -94,6 +90,44 @@ def _are_many(contours: Any) -> bool:
     return np.ndim(points) == 2 or np.size(points) == 0
 
 
+def _tell(name: str, contours: Any, about: Any, rule: Sequence[int],
+          dtype: Any, threads: int) -> Any:
+    """Return what the call of C tells of each of the points."""
+    if _are_many(contours):
+        points, offsets = as_points(contours[0]), as_offsets(contours[1])
+    else:
+        points = as_points(contours)
+        offsets = np.array([0, len(points)], np.int64)
+    about = as_points(about)
+    if about.dtype != points.dtype:
+        raise TypeError(f"about has dtype {about.dtype}, the contours"
+                        f" {points.dtype}: one dtype is needed")
+    parts = as_parts(threads, len(about))
+    out = np.empty(len(about), dtype)
+    call = getattr(CALLS[points.itemsize], name)
+
+    def tell(part: int) -> int:
+        start = len(about) * part // parts
+        end = len(about) * (part + 1) // parts
+        its, told = about[start:end], out[start:end]
+        code: int = call(address(points), len(points), address(offsets),
+                         len(offsets), address(its), len(its), *rule,
+                         address(told), len(told))
+        return code
+
+    for code in run_parts(tell, parts):
+        _raise(code, points, offsets, about)
+    return out
+
+
+def _code_of(rule: str) -> int:
+    """Return the code of the rule in C."""
+    if rule not in _RULES:
+        raise ValueError(f"rule is {rule!r}: one of {', '.join(_RULES)} is"
+                         " needed")
+    return _RULES.index(rule)
+
+
 def winding_numbers(contours: Contours[Int], about: npt.NDArray[Int], *,
                     threads: int = 1) -> npt.NDArray[np.intp]:
     """Return how often contours wind about each of many points, together.
@@ -143,31 +177,7 @@ def winding_numbers(contours: Contours[Int], about: npt.NDArray[Int], *,
     >>> winding_numbers(both, np.array([(1, 1), (4, 4), (9, 9)])).tolist()
     [1, 0, 0]
     """
-    if _are_many(contours):
-        points, offsets = as_points(contours[0]), as_offsets(contours[1])
-    else:
-        points = as_points(contours)
-        offsets = np.array([0, len(points)], np.int64)
-    about = as_points(about)
-    if about.dtype != points.dtype:
-        raise TypeError(f"about has dtype {about.dtype}, the contours"
-                        f" {points.dtype}: one dtype is needed")
-    parts = as_parts(threads, len(about))
-    out = np.empty(len(about), np.intp)
-    call = CALLS[points.itemsize].windings
-
-    def wind(part: int) -> int:
-        start = len(about) * part // parts
-        end = len(about) * (part + 1) // parts
-        its, numbers = about[start:end], out[start:end]
-        code: int = call(address(points), len(points), address(offsets),
-                         len(offsets), address(its), len(its),
-                         address(numbers), len(numbers))
-        return code
-
-    for code in run_parts(wind, parts):
-        _raise(code, points, offsets, about)
-    return out
+    return _tell("windings", contours, about, (), np.intp, threads)
 
 
 def contains_points(contours: Contours[Int], about: npt.NDArray[Int], *,
@@ -186,7 +196,8 @@ def contains_points(contours: Contours[Int], about: npt.NDArray[Int], *,
     Returns
     -------
     array of shape (m,) and dtype bool
-        Of points on an edge some are filled and others aren't.
+        Of points on an edge some are filled and others aren't:
+        :func:`locate` tells these apart.
 
     Raises
     ------
@@ -206,9 +217,41 @@ def contains_points(contours: Contours[Int], about: npt.NDArray[Int], *,
     >>> contains_points(star, points, rule="nonzero").tolist()
     [True, True, False]
     """
-    if rule not in _RULES:
-        raise ValueError(f"rule is {rule!r}: one of {', '.join(_RULES)} is"
-                         " needed")
-    filled: npt.NDArray[np.bool_] = _RULES[rule](
-        winding_numbers(contours, about, threads=threads))
+    filled: npt.NDArray[np.bool_] = _tell(
+        "contains_points", contours, about, (_code_of(rule),), np.bool_,
+        threads)
     return filled
+
+
+def locate(contours: Contours[Int], about: npt.NDArray[Int], *,
+           rule: FillRule = "evenodd",
+           threads: int = 1) -> npt.NDArray[np.int8]:
+    """Return where each of many points lies, by a fill rule.
+
+    Parameters
+    ----------
+    contours, about, rule, threads
+        As for :func:`contains_points`.
+
+    Returns
+    -------
+    array of shape (m,) and dtype int8
+        0 for a point on an edge of a contour, the ends included; for the
+        others 1 where the rule fills the point, and -1 where it doesn't.
+
+    Raises
+    ------
+    UnsafePointError, OffsetsError, TypeError, ValueError, MemoryError
+        As :func:`contains_points` does.
+
+    Examples
+    --------
+    >>> import numpy as np
+    >>> from i_shape import locate
+    >>> square = np.array([(0, 0), (8, 0), (8, 8), (0, 8)])
+    >>> locate(square, np.array([(4, 4), (8, 3), (0, 0), (9, 9)])).tolist()
+    [1, 0, 0, -1]
+    """
+    located: npt.NDArray[np.int8] = _tell(
+        "locate", contours, about, (_code_of(rule),), np.int8, threads)
+    return located
