@@ -88,3 +88,6 @@ SELECT bool_and(ST_AsEWKB(i_shape_simplify(once, step)) = ST_AsEWKB(once)), bool
 FROM (SELECT step, i_shape_simplify(ST_Buffer(ST_Point(x, y), 0.3, 20), step) AS once
       FROM generate_series(-170, 170, 34) AS x, generate_series(-80, 80, 16) AS y,
            unnest('{1e-1,1e-3,1e-5,1e-7,1e-9,0.3,0.007,1e-12,0.25,7.77e-6}'::float8[]) AS step) AS cleaned;
+
+\echo the rings turned for winding numbers: inside, in the hole, outside
+SELECT i_shape_winding(ST_ForcePolygonCCW('POLYGON((0 0,0 9,9 9,9 0,0 0),(1 1,1 8,8 8,8 1,1 1))'::geometry), ST_Point(x, 5.5), 0.5) FROM unnest('{0.5,5.5,9.5}'::float8[]) AS x;

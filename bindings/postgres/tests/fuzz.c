@@ -1,6 +1,6 @@
-/* WKB of random polygons, as it is and mutated, through the reader, the cleaners, the order of forms and the writers, each block as long as what it holds, for
- * the address sanitizer. What is answered is compared with the calls of the C library on polygons, and with itself when it is read again. Then each growth of the C
- * library is refused in turn. usage: fuzz COUNT */
+/* COUNT mutated WKBs of random polygons, and a quarter as many as they are, through the reader, the cleaners, the order of forms and the writers, each block as
+ * long as what it holds, for the address sanitizer. What is answered is compared with the calls of the C library on polygons, and with itself when it is read
+ * again. Then each growth of the C library is refused in turn. usage: fuzz COUNT */
 #include "polygons.h"
 
 #include <stdio.h>
@@ -285,8 +285,8 @@ int main(int count, char **words) {
     long rounds = count > 1 ? atol(words[1]) : 100000, kinds[OUT_OF_RANGE + 1] = {0};
     for (long round = 0; round < rounds; round++) {
         make_wkb();
-        if (below(4))
-            for (uint64_t k = below(4) + 1; k-- && length;) mutate();
+        if (round % 4 == 0) must(check_bytes() == FINE, "a WKB isn't read");
+        for (uint64_t k = below(4) + 1; k-- && length;) mutate();
         kinds[check_bytes()]++;
         must(blocks == 0, "a block is left");
     }
