@@ -2,6 +2,7 @@
 
 import contextlib
 import io as text_io
+import itertools
 import json
 import os
 import random
@@ -21,6 +22,8 @@ SQUARE = [(float(x), float(y)) for x, y in SQUARE]
 
 POINT = {"type": "Point", "coordinates": [1, 2]}
 HIGH = {"type": "Polygon", "coordinates": [[[0, 0, 1], [1, 0, 1], [1, 1, 1]]]}
+MIXED = {"type": "MultiPolygon", "coordinates": [
+    [[[0, 0], [2, 0], [2, 2]]], *[[ring] for ring in HIGH["coordinates"]]]}
 MANY = {"type": "GeometryCollection", "geometries": [POINT]}
 FEATURE = '{"type": "Feature", "properties": null, "geometry": %s}\n'
 
@@ -130,6 +133,32 @@ class Lines(CommandCase):
                 self.assertIn("Unterminated string starting at: line", told)
                 self.write(text)
 
+    def test_names_of_geojson_in_other_places(self):
+        given, left = (json.dumps(samples.polygon(ring))
+                       for ring in (SPIKED, SQUARE))
+        strange = json.dumps({"a": given, "\u0001": [0.10, -0]})
+        for text in (
+                '{"type": "Feature", "properties": {"coordinates": [1, 2.50]},'
+                ' "geometry": %s}',
+                '{"properties": {"geometry": {"coordinates": [1]}},'
+                ' "geometry": %s, "type": "Feature"}',
+                '{"geometry": %s, "type": "Feature", "coordinates": []}',
+                '{"type": "Feature", "properties": {"geometry": ' + given
+                + '}, "\\u0067eometry": %s}',
+                '{"type": "Feature", "geometry": null, "geometry": %s}',
+                '{"type": "Feature", "geometry": %s, "a": ' + strange + '}'):
+            for form in ("{%s}", '{"coordinates": 7, %s}', '{"crs": [], %s}',
+                         '{%s, "crs": {"coordinates": 1}}'):
+                for name in ("coordinates", r"c\u006fordinates"):
+                    its, right = (
+                        text % (form % one[1:-1].replace("coordinates", name))
+                        for one in (given, left))
+                    with self.subTest(text=its):
+                        self.clean(self.write(its, "given.jsonl"))
+                        self.assertEqual(
+                            json.loads((self.folder / "out.geojsonl").
+                                       read_text()), json.loads(right))
+
     def test_an_error_of_a_great_file_has_its_place(self):
         text = json.dumps(samples.geojson(*[samples.polygon(SPIKED)] * 99),
                           indent=0)
@@ -142,11 +171,11 @@ class Lines(CommandCase):
 
     def test_the_texts_of_decimals(self):
         numbers = random.Random(4)
-        for places in range(16):
+        for places, largest in itertools.product(range(16), (-5, 0, 6)):
             features = samples.arrays(samples.random_features(
-                numbers, 50, number=lambda numbers, fewest: [
-                    tuple(round(numbers.uniform(-1, 1) * 10 ** numbers.
-                                randrange(6), places) for _ in "xy")
+                numbers, 20, number=lambda numbers, fewest: [
+                    tuple(round(numbers.uniform(-1, 1) * 10 ** largest,
+                                places) for _ in "xy")
                     for _ in range(fewest + numbers.randrange(4))]))
             right = [json.dumps(one["geometry"]["coordinates"])
                      for one in io.to_geojson(features)["features"]]
@@ -161,7 +190,7 @@ class Lines(CommandCase):
 class Others(CommandCase):
 
     def test_others_are_named_kept_or_dropped(self):
-        others = [POINT, HIGH, MANY, None]
+        others = [POINT, HIGH, MIXED, MANY, None]
         for name in ("given.geojson", "given.geojsonl"):
             out = self.folder / f"out_{name}"
             document = samples.geojson(samples.polygon(SPIKED), *others,

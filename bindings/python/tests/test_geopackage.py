@@ -22,9 +22,10 @@ if not HAS_GDAL:
     print(WHY_NOT)
 
 SCHEMA = """
-CREATE TABLE IF NOT EXISTS gpkg_contents (table_name TEXT PRIMARY KEY, last_change TEXT);
-CREATE TABLE IF NOT EXISTS gpkg_geometry_columns (table_name TEXT, column_name TEXT,
-    geometry_type_name TEXT, srs_id INTEGER);
+CREATE TABLE IF NOT EXISTS gpkg_contents (
+    table_name TEXT PRIMARY KEY, last_change TEXT);
+CREATE TABLE IF NOT EXISTS gpkg_geometry_columns (table_name TEXT,
+    column_name TEXT, geometry_type_name TEXT, srs_id INTEGER);
 CREATE TABLE {0} (fid INTEGER PRIMARY KEY, name TEXT, geom BLOB);
 INSERT INTO gpkg_contents VALUES ('{0}', 'then');
 INSERT INTO gpkg_geometry_columns VALUES ('{0}', 'geom', '{1}', 4326);
@@ -199,6 +200,7 @@ class Refused(GeoPackageCase):
                 (b"PG" + SQUARE_BLOB[2:], "isn't a geometry of GeoPackage"),
                 (SQUARE_BLOB[8:], "isn't a geometry of GeoPackage"),
                 ("text", "isn't a geometry of GeoPackage"),
+                (2 ** 60, "isn't a geometry of GeoPackage"),
                 (b"GP\0\x0b" + SQUARE_BLOB[4:], "isn't a geometry"),
                 (b"GP\0\x21" + SQUARE_BLOB[4:], "of an extension"),
                 (SQUARE_BLOB[:50], "5 points need 80 bytes"),
@@ -236,6 +238,15 @@ class Refused(GeoPackageCase):
         self.change("UPDATE gpkg_geometry_columns SET table_name = 'gone'"
                     " WHERE table_name = 'seen'")
         self.assert_refused(told="layer 'gone' is no table")
+        self.change("UPDATE gpkg_geometry_columns SET srs_id = NULL"
+                    " WHERE table_name = 'gone'")
+        self.assert_refused(told="layer 'gone' has column 'geom' and SRS None")
+        self.change("DELETE FROM gpkg_geometry_columns"
+                    " WHERE table_name = 'gone'")
+        self.change("CREATE TABLE keyless (geom)")
+        self.change("INSERT INTO gpkg_geometry_columns VALUES"
+                    " ('keyless', 'geom', 'POLYGON', 4326)")
+        self.assert_refused(told="layer 'keyless' has no integer primary key")
 
     def test_a_trigger_of_strange_functions(self):
         self.fill(SPIKED_BLOB)
@@ -261,6 +272,11 @@ class Refused(GeoPackageCase):
         other.execute("UPDATE parcels SET name = 'new'")
         self.run_clean()
         self.assertEqual(self.rows(self.out)[0][:2], (3, "new"))
+        other.close()
+        before = sorted(self.folder.iterdir())
+        self.assertNotIn(self.folder / "given.gpkg-wal", before)
+        self.run_clean()
+        self.assertEqual(sorted(self.folder.iterdir()), before)
 
     def test_a_file_that_may_only_be_read(self):
         self.fill(SPIKED_BLOB)

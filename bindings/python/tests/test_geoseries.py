@@ -49,7 +49,7 @@ class GeoSeries(unittest.TestCase):
                 self.assertIsNone(left.iloc[1])
                 self.assertEqual([self.rings(one)
                                   for one in left.iloc[2].geoms], [right])
-                self.assertTrue(left.iloc[3].is_empty and left.iloc[4].is_empty)
+                self.assertTrue(all(one.is_empty for one in left.iloc[3:]))
         self.assertEqual(self.rings(given.iloc[0]), SPIKED)
 
     def test_others_are_kept_or_named(self):

@@ -14,7 +14,8 @@ from .json_text import (Member, Members, Pieces, end_at, is_next, member_at,
 
 _FEATURES = re.compile(r'[ \t\n\r]*"features"[ \t\n\r]*:[ \t\n\r]*\[')
 _ESCAPED = re.compile(r"\\u00[4-7]").search
-_COORDINATES = re.compile(r'"coordinates"[ \t\n\r]*:[ \t\n\r]*'
+_NAME = '"coordinates"'
+_COORDINATES = re.compile(_NAME + r'[ \t\n\r]*:[ \t\n\r]*'
                           r"(\[[-+.0-9eE\[\], \t\n\r]*)").match
 FEATURE = '{"type": "Feature", "properties": null, "geometry": ', "}"
 
@@ -55,28 +56,22 @@ class _Plain(NamedTuple):
     behind: str
 
 
-def _only(text: str, word: str, start: int, end: int) -> int:
-    """Where a word stands, if it stands there once, or else -1."""
-    at = text.find(word, start, end)
-    return at if text.find(word, at + 1, end) < 0 else -1
-
-
 def _plain(text: str, start: int, end: int, feature: Any) -> Optional[_Plain]:
     """The feature that a text stands for, if it is as most are.
 
-    The names of its geometry and of the coordinates stand there once each,
-    and no letter of a name is escaped, so that these are the names.
+    The word of its coordinates stands there but once, and no letter is
+    escaped that a name could have, so that it is their name.
     """
     geometry = feature.get("geometry") if isinstance(feature, dict) else None
     if (not isinstance(geometry, dict) or feature.get("type") != "Feature"
             or "coordinates" not in geometry
-            or _only(text, '"geometry"', start, end) < 0
             or text.find('"bbox"', start, end) >= 0
             or _ESCAPED(text, start, end)):
         return None
-    at = _only(text, '"coordinates"', start, end)
-    found = _COORDINATES(text, at) if at >= 0 else None
-    if not found or text[found.end()] != "}":
+    at = text.find(_NAME, start, end)
+    found = _COORDINATES(text, at)
+    if (text.find(_NAME, at + 1, end) >= 0 or not found
+            or text[found.end()] != "}"):
         return None
     coordinates = found[1].rstrip()
     begin = found.start(1)

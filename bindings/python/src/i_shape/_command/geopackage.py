@@ -59,7 +59,7 @@ class Row(NamedTuple):
 
     @property
     def size(self) -> int:
-        return 1 if self.blob is None else len(bytes(self.blob))
+        return len(self.blob) if isinstance(self.blob, bytes) else 1
 
     @property
     def wkb(self) -> bytes:
@@ -195,12 +195,15 @@ class GeoPackage:
         if strange:
             raise ValueError(
                 f"there is no layer {min(strange)!r}: those there are"
-                f" {', '.join(repr(row[0]) for row in rows)}")
+                f" {', '.join(short(row[0]) for row in rows)}")
         return [self._layer(name, column, srs)
                 for name, column, srs, kind in rows
                 if name in names or not names and kind in _POLYGONS]
 
-    def _layer(self, name: str, column: str, srs: int) -> Layer:
+    def _layer(self, name: Any, column: Any, srs: Any) -> Layer:
+        if [type(one) for one in (name, column, srs)] != [str, str, int]:
+            raise ValueError(f"layer {short(name)} has column"
+                             f" {short(column)} and SRS {short(srs)}")
         kind = self._source.execute(
             "SELECT type FROM sqlite_master WHERE name = ? COLLATE NOCASE"
             " AND type IN ('table', 'view')", (name,)).fetchone()
@@ -268,8 +271,10 @@ def copied(given: Path, beside: Path, out: Path, others: str,
     _require_closed(out)
     with open(given, "rb"):
         pass  # an error names what isn't there
+    # It is only read. A connection that may not write would leave the files of
+    # a write-ahead log behind.
     with closing(sqlite3.connect(
-            f"{given.absolute().as_uri()}?mode=ro", uri=True,
+            f"{given.absolute().as_uri()}?mode=rw", uri=True,
             timeout=_PATIENCE, isolation_level=None)) as source, closing(
             sqlite3.connect(beside, isolation_level=None)) as store:
         with _naming(given):
