@@ -36,6 +36,8 @@ const shapes = await load().catch((error) => {
     throw error;
 });
 let polygons = structuredClone(EXAMPLE);
+// What is there at first, until something is done with it: a first point begins anew.
+let untouched = polygons;
 let answers;
 let frame;
 let cursor = [0, 0];
@@ -119,6 +121,7 @@ function lastPolygon() {
 }
 
 function addPoint(point) {
+    if (polygons === untouched) polygons = [];
     const polygon = lastPolygon();
     if (polygon.length === 0) polygon.push([]);
     polygon.at(-1).push(point);
@@ -127,6 +130,7 @@ function addPoint(point) {
 
 /** Takes the last point away, and a ring that has none left, but for the first. */
 function undo() {
+    untouched = undefined;
     const polygon = lastPolygon();
     if (polygon.at(-1)?.length === 0 && polygon.length > 1) polygon.pop();
     polygon.at(-1)?.pop();
@@ -134,6 +138,7 @@ function undo() {
 }
 
 function addRing() {
+    untouched = undefined;
     if (lastPolygon().at(-1)?.length !== 0) lastPolygon().push([]);
     show();
 }

@@ -175,8 +175,10 @@ describe("the page", () => {
             });
             after(() => browser?.close());
 
-            check("an example at first, and nothing once it is cleared", async () => {
+            check("an example at first, in whose place one is drawn, and nothing once it is cleared", async () => {
                 await page.texts({ version: `i_shape 0.1.0, in WebAssembly with ${bits} bits of memory.`, given: "18 points in 2 rings", problem: "" });
+                await page.put([1, 1], [2, 2]);
+                await page.texts({ given: "2 points in 1 ring" });
                 await page.fresh();
                 await page.texts({ given: "0 points in 0 rings", left: "0 points in 0 rings", removed: "0", area: "0", start: "-", problem: "" });
             });
