@@ -357,12 +357,16 @@ std::vector<Item> measure_contours(Call call, const Points &points, const Given 
 }
 
 /* What is told of each of the points about by a rule. */
-template <class Item, class Call, class Points, class Offsets, class About>
-std::vector<Item> tell_points(Call call, const Points &points, const Offsets &offsets, const About &about, std::int32_t rule) {
+template <class Item, class Call, class Points, class Given, class About>
+std::vector<Item> tell_points(Call call, const Points &points, const Given &given, const About &about, std::int32_t rule) {
     static_assert(std::is_same_v<PointOf<Points>, PointOf<About>>, "i_shape: the points of both are of one type");
+    const auto all = as_offsets(given);
+    const Offsets offsets = all;
     std::vector<Item> items(std::size(about));
-    count_of(call(read(points), std::size(points), read_offsets(offsets), std::size(offsets), read(about), std::size(about), rule,
-                  address<Item>(items.data()), items.size()));
+    const std::ptrdiff_t answer = call(read(points), std::size(points), read_offsets(offsets), offsets.size(), read(about), std::size(about), rule,
+                                       address<Item>(items.data()), items.size());
+    if (answer == I_SHAPE_UNSAFE) check_asked(about);
+    count_of(answer, points, offsets);
     return items;
 }
 
