@@ -15,13 +15,13 @@ ghost use Rattle.i_shape_core.specs.Written.{CleansInOrder, CleansInto, IsWritte
 ghost use Rattle.i_shape_core.specs.Room.{HasRoomToDespike, KeepsRoomToDespike};
 
 use crate::error::ShapeError;
-use crate::four_turns::count_turning;
 use crate::number::{IntNumber, WideIntNumber};
 use crate::point::{ContourPoint, IntContour, IntPoint};
 use crate::probe::Probe;
 use crate::ring::Ring;
 use crate::same::{are_same, last_other};
-use crate::turn::{Turn, turn_at};
+use crate::scan::{BackTurn, has_none};
+use crate::turn::Turn;
 use crate::write::{write_at, write_whole};
 use std::alloc::Global;
 use std::mem;
@@ -365,35 +365,7 @@ pub fn is_despiked<P: ContourPoint>(points: &[P]) -> bool
     ensures { IsTrue result
         ↔ IsDespikedAlready (contour_of P.Coordinate.value (P.points points.now)) }
 {
-    if points.len() < 3 {
-        return false;
-    }
-    let last = points.len() - 1;
-    if is_back(points, last, 0, 1) {
-        return false;
-    }
-    if is_back(points, last - 1, last, 0) {
-        return false;
-    }
-    for place in count_turning(points)..last - 1 {
-        if is_back(points, place, place + 1, place + 2) {
-            return false;
-        }
-    }
-    true
-}
-
-/// Whether the way turns back or stands still at `place`, with these neighbours.
-fn is_back<P: ContourPoint>(points: &[P], previous: usize, place: usize, next: usize) -> bool
-    requires safe { IsSafeContour P.Coordinate.width
-        (contour_of P.Coordinate.value (P.points points.now)) }
-    requires previous_within { previous < length points.now }
-    requires place_within { place < length points.now }
-    requires next_within { next < length points.now }
-    ensures { let c = contour_of P.Coordinate.value (P.points points.now) in IsTrue result
-        ↔ IsBack (point_at c previous) (point_at c place) (point_at c next) }
-{
-    turn_at(points, previous, place, next) == Turn::Back
+    has_none::<P, BackTurn>(points)
 }
 
 /// Whether at least three points are left without repeated ones, and the way over them nowhere goes back.

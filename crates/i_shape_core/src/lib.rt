@@ -23,6 +23,7 @@ mod ring;
 pub mod rings;
 pub mod safe_range;
 mod same;
+mod scan;
 pub mod simple;
 pub mod simplifier;
 pub mod triangle;

@@ -2,19 +2,18 @@
 
 ghost use Rattle.std.specs.Prelude.{◌≡◌, ◌↔◌, ◌<◌, List, length, IsTrue};
 ghost use Rattle.i_shape_core.specs.IntPoint.{contour_of, IsSafeContour};
-ghost use Rattle.i_shape_core.specs.Point.{Point, IsZeroTurn};
-ghost use Rattle.i_shape_core.specs.Contour.{IsSimple, point_at};
+ghost use Rattle.i_shape_core.specs.Point.{Point};
+ghost use Rattle.i_shape_core.specs.Contour.{IsSimple};
 ghost use Rattle.i_shape_core.specs.Cleaners.{SimpleAnswer, KeptAnswer};
 ghost use Rattle.i_shape_core.specs.Canonical.{CanonicalAnswer, UnorientedAnswer, KeptEitherWay};
 ghost use Rattle.i_shape_core.specs.Refusals.{OkUnlessMemory};
 ghost use Rattle.i_shape_core.specs.Written.{CleansTo, CleansInOrder};
 
 use crate::error::ShapeError;
-use crate::four_turns::count_turning;
 use crate::number::IntNumber;
 use crate::point::{ContourPoint, IntContour, IntPoint};
+use crate::scan::{ZeroTurn, has_none};
 use crate::simplifier::ContourSimplifier;
-use crate::turn::{Turn, turn_at};
 use std::alloc::Global;
 
 /// The test of a contour of safe points for zero turns, and its copy without them.
@@ -88,33 +87,5 @@ pub fn is_simple<P: ContourPoint>(contour: &[P]) -> bool
         (contour_of P.Coordinate.value (P.points contour.now)) }
     ensures { IsTrue result ↔ IsSimple (contour_of P.Coordinate.value (P.points contour.now)) }
 {
-    if contour.len() < 3 {
-        return false;
-    }
-    let last = contour.len() - 1;
-    if is_zero_turn(contour, last, 0, 1) {
-        return false;
-    }
-    if is_zero_turn(contour, last - 1, last, 0) {
-        return false;
-    }
-    for place in count_turning(contour)..last - 1 {
-        if is_zero_turn(contour, place, place + 1, place + 2) {
-            return false;
-        }
-    }
-    true
-}
-
-/// Whether the contour has a zero turn at `place`, between these neighbours.
-fn is_zero_turn<P: ContourPoint>(points: &[P], previous: usize, place: usize, next: usize) -> bool
-    requires safe { IsSafeContour P.Coordinate.width
-        (contour_of P.Coordinate.value (P.points points.now)) }
-    requires previous_within { previous < length points.now }
-    requires place_within { place < length points.now }
-    requires next_within { next < length points.now }
-    ensures { let c = contour_of P.Coordinate.value (P.points points.now) in IsTrue result
-        ↔ IsZeroTurn (point_at c previous) (point_at c place) (point_at c next) }
-{
-    turn_at(points, previous, place, next) != Turn::Turning
+    has_none::<P, ZeroTurn>(contour)
 }

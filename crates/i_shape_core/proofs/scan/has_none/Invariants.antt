@@ -1,11 +1,10 @@
 use Rattle.std.proofs.Common.{ℕ, ◌+◌, ◌<◌}
 use Rattle.i_shape_core.specs.Contour.{point_at}
 use Rattle.i_shape_core.specs.IntPoint.{contour_of}
-use Rattle.i_shape_core.specs.Point.{IsBack}
-use Rattle.i_shape_core.proofs.despike.is_despiked.Given as goal
+use Rattle.i_shape_core.proofs.scan.has_none.Given as goal
 
--- no turn so far goes back
+-- none so far is removed
 abbrev pub invariant-loop-place : goal.invariant-loop-place
 invariant-loop-place g l =
     let c = contour_of g.P.Coordinate.IntNumber.value (g.P.ContourPoint.points l.points) in
-    (k : ℕ) → k < l.place → ¬ (IsBack (point_at c k) (point_at c (k + 1)) (point_at c (k + 2)))
+    (k : ℕ) → k < l.place → ¬ (g.T.TurnTest.test (point_at c k) (point_at c (k + 1)) (point_at c (k + 2)))

@@ -1,0 +1,80 @@
+//! Whether a contour has a turn that a cleaner removes.
+
+ghost use Rattle.std.specs.Prelude.{◌↔◌, ℕ, ◌<◌, ◌≤◌, length, IsTrue};
+ghost use Rattle.i_shape_core.specs.Contour.{IsRemovable, Test, point_at};
+ghost use Rattle.i_shape_core.specs.IntPoint.{contour_of, IsSafeContour};
+ghost use Rattle.i_shape_core.specs.Point.{Point, IsBack, IsZeroTurn};
+
+use crate::four_turns::count_turning;
+use crate::point::ContourPoint;
+use crate::turn::{Turn, turn_at};
+
+/// Which turns a cleaner removes.
+pub(crate) trait TurnTest {
+    /// The points that it removes, each with its neighbours.
+    ghost test: { Test };
+
+    /// Whether it removes the point at `place`, between these neighbours.
+    fn is_at<P: ContourPoint>(points: &[P], previous: usize, place: usize, next: usize) -> bool
+        requires safe { IsSafeContour P.Coordinate.width
+            (contour_of P.Coordinate.value (P.points points.now)) }
+        requires previous_within { previous < length points.now }
+        requires place_within { place < length points.now }
+        requires next_within { next < length points.now }
+        ensures { let c = contour_of P.Coordinate.value (P.points points.now) in IsTrue result
+            ↔ test (point_at c previous) (point_at c place) (point_at c next) };
+
+    /// They are zero turns.
+    ghost weaker: { (a b c : Point) → test a b c → IsZeroTurn a b c };
+}
+
+/// Zero turns.
+pub(crate) struct ZeroTurn {}
+
+impl TurnTest for ZeroTurn {
+    ghost test = { IsZeroTurn };
+
+    fn is_at<P: ContourPoint>(points: &[P], previous: usize, place: usize, next: usize) -> bool {
+        turn_at(points, previous, place, next) != Turn::Turning
+    }
+
+    ghost weaker = { λ a b c zero. zero };
+}
+
+/// Turns at which the way turns back or stands still.
+pub(crate) struct BackTurn {}
+
+impl TurnTest for BackTurn {
+    ghost test = { IsBack };
+
+    fn is_at<P: ContourPoint>(points: &[P], previous: usize, place: usize, next: usize) -> bool {
+        turn_at(points, previous, place, next) == Turn::Back
+    }
+
+    ghost weaker = { λ a b c back. back.0 };
+}
+
+/// Whether there are at least three points, and none of them is removed. One pass; it takes no memory.
+pub(crate) fn has_none<P: ContourPoint, T: TurnTest>(points: &[P]) -> bool
+    requires { IsSafeContour P.Coordinate.width
+        (contour_of P.Coordinate.value (P.points points.now)) }
+    ensures { let c = contour_of P.Coordinate.value (P.points points.now) in IsTrue result
+        ↔ (3 ≤ length c) × ((k : ℕ) → IsRemovable T.test c k → ⊥) }
+{
+    if points.len() < 3 {
+        return false;
+    }
+    let last = points.len() - 1;
+    if T::is_at(points, last, 0, 1) {
+        return false;
+    }
+    if T::is_at(points, last - 1, last, 0) {
+        return false;
+    }
+    for place in count_turning(points)..last - 1 {
+        if T::is_at(points, place, place + 1, place + 2) {
+            return false;
+        }
+    }
+    true
+}
