@@ -1,6 +1,6 @@
-use Rattle.std.proofs.Common.{◌≡◌, ◌∙◌, ◌+◌, ◌-◌, ◌<◌, length, map, slice_range, ap, subst, sym, refl, IsTrue, arith, inl, inr}
+use Rattle.std.proofs.Common.{◌≡◌, ◌∙◌, ◌+◌, ◌-◌, length, map, slice_range, ap, subst, sym, refl, IsTrue, arith, inl, inr}
 use Rattle.std.proofs.lemmas.Bool.{cases_eq}
-use Rattle.i_shape.specs.IntPoint.{point_of, contour_of}
+use Rattle.i_shape.specs.IntPoint.{point_of}
 use Rattle.i_shape.specs.Boundary.{IsOnEdge}
 use Rattle.i_shape_c.specs.Batch.{offset, nth_contour}
 use Rattle.i_shape_c.proofs.Batches.{safe_part}

@@ -1,7 +1,5 @@
-use Rattle.std.proofs.Common.{◌≡◌, ◌∙◌, ◌+◌, ◌<◌, length, map, get_or, ap, refl, sym, subst, FitsSigned, w64, arith, rules}
-use Rattle.std.proofs.lemmas.List.{get_or-map}
+use Rattle.std.proofs.Common.{◌+◌, ◌<◌, length, refl, subst, arith}
 use Rattle.i_shape.specs.IntPoint.{point_of}
-use Rattle.i_shape_c.specs.Windings.{contours_winding}
 use Rattle.i_shape_core.proofs.lists.Rings.{back_more}
 use Rattle.i_shape_c.proofs.Told.{item_more}
 use Rattle.i_shape_c.proofs.location.tell_by_numbers.Goals as goal

@@ -1,12 +1,10 @@
-use Rattle.std.proofs.Common.{◌≡◌, ◌∙◌, List, ℤ, pos, get_or, w64, ℕ, ◌+◌, ◌+ℤ◌, ◌-◌, suc, length, map, slice_range, ap, sym, refl, arith}
+use Rattle.std.proofs.Common.{◌≡◌, ◌∙◌, ℕ, ◌+◌, ◌+ℤ◌, ◌-◌, suc, length, map, slice_range, ap, sym, refl, arith}
 use Rattle.std.specs.List.{range_with_len}
 use Rattle.i_shape.specs.Point.{Point}
 use Rattle.i_shape.specs.IntPoint.{point_of, contour_of}
 use Rattle.i_shape.specs.Edges.{sum_of}
 use Rattle.i_shape.specs.Winding.{winding}
-use Rattle.i_shape_core.specs.Heights.{asked_points, IsAdded}
-use Rattle.i_shape_core.specs.Contour.{point_at}
-use Rattle.std.specs.Int.{int_wrap}
+use Rattle.i_shape_core.specs.Heights.{asked_points}
 use Rattle.i_shape_core.proofs.measure.Heights.{added_as, added_more, none_added_yet}
 use Rattle.i_shape_c.specs.Batch.{offset, nth_contour}
 use Rattle.i_shape_c.proofs.Batches.{safe_part}

@@ -1,11 +1,8 @@
-use Rattle.std.proofs.Common.{◌≡◌, ◌∙◌, ◌+◌, ◌-◌, ◌<◌, ◌++◌, ◌∷◌, [], length, map, take, drop, ap, ap₂, refl, sym, subst, IsTrue, false, FitsSigned, w64, arith, rules, take_all}
+use Rattle.std.proofs.Common.{◌≡◌, ◌∙◌, ◌+◌, ◌<◌, ◌++◌, ◌∷◌, [], length, map, take, drop, ap, ap₂, refl, sym, FitsSigned, w64, arith, take_all}
 use Rattle.std.proofs.lemmas.Int.{to_z-of_z}
 use Rattle.std.proofs.lemmas.List.{take_more, take_more_set, take-append-drop, map-append}
 use Rattle.i_shape.specs.IntPoint.{point_of}
-use Rattle.i_shape_c.specs.Batch.{AreSafeContours}
-use Rattle.i_shape_c.specs.Cleaned.{AreSafe}
-use Rattle.i_shape_c.specs.Windings.{contours_winding, CanWind}
-use Rattle.i_shape_core.proofs.lists.Rings.{rises_to}
+use Rattle.i_shape_c.specs.Windings.{contours_winding}
 use Rattle.i_shape_core.proofs.lists.Rings.{back_more}
 use Rattle.i_shape_c.proofs.winding.wind_one_by_one.Goals as goal
 

@@ -1,11 +1,9 @@
-use Rattle.std.proofs.Common.{◌≡◌, ◌∙◌, ◌+◌, ◌-◌, ◌<◌, ◌++◌, ◌∷◌, [], length, map, take, drop, ap, ap₂, refl, sym, subst, IsTrue, false, FitsSigned, w64, arith, rules, take_all}
-use Rattle.std.proofs.lemmas.Int.{to_z-of_z}
-use Rattle.std.proofs.lemmas.List.{take_more, take_more_set, take-append-drop, map-append}
+use Rattle.std.proofs.Common.{◌-◌, length, refl, sym, subst, IsTrue, false, arith, rules}
 use Rattle.i_shape.specs.IntPoint.{point_of}
 use Rattle.i_shape_c.specs.Batch.{AreSafeContours}
 use Rattle.i_shape_c.specs.Cleaned.{AreSafe}
-use Rattle.i_shape_c.specs.Windings.{contours_winding, CanWind}
-use Rattle.i_shape_core.proofs.lists.Rings.{rises_to, back_more}
+use Rattle.i_shape_c.specs.Windings.{CanWind}
+use Rattle.i_shape_core.proofs.lists.Rings.{rises_to}
 use Rattle.i_shape_c.proofs.winding.windings.Goals as goal
 
 pub part-requires-clause-order : goal.part-requires-clause-order
