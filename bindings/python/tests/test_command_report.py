@@ -164,26 +164,22 @@ class Plots(CommandCase):
         self.assertIn("after: 4 points", self.texts("plot.svg"))
 
     @unittest.skipUnless(HAS_MATPLOTLIB, WHY_NOT)
-    def test_of_many_features_those_first_that_lose_points(self):
+    def test_of_many_features_those_that_lose_most(self):
         square, spiked = samples.polygon(SQUARE), samples.polygon(SPIKED)
-        self.write(samples.geojson(*[square] * 9, *[spiked] * 3))
-        for most, words in ((28, "4 of 12 features, those first that lose"
-                             " points"), (9, "1 of 12"), (1, "1 of 12"),
-                            (57, None)):
-            shown = plot.Picture()
-            with mock.patch.object(plot, "_MOST", most), \
-                    mock.patch.object(plot, "Picture", lambda: shown):
+        self.write(samples.geojson(
+            *[square] * 9, *[spiked] * 10, samples.polygon(SPIKED, FLAT)))
+        for most, words in ((10, ["the 9 of 20 features that lose most",
+                                  "feature 19: 6 fewer", "feature 9: 3 fewer",
+                                  "feature 16: 3 fewer"]),
+                            (200, ["before: 116 points"])):
+            with mock.patch.object(plot, "_MOST", most):
                 self.run_command("simplify", self.given, self.out, "--step",
                                  "0.1", "--plot", self.folder / "plot.svg")
             texts = self.texts("plot.svg")
-            self.assertIn("before: 57 points", texts)
-            self.assertIn("after: 48 points", texts)
-            found = [text for text in texts if " of 12 features" in text]
-            self.assertEqual(len(found), words is not None)
-            if words:
-                self.assertIn(words, found[0])
-            self.assertEqual([one.size for one in shown._changed.shown][:1],
-                             [7])
+            for text in words:
+                self.assertIn(text, " ".join(texts))
+            self.assertEqual(sum("fewer" in text for text in texts),
+                             9 if most == 10 else 0)
 
     def texts(self, name):
         """The words of a picture, which stand in its comments."""

@@ -146,7 +146,7 @@ def _clean(pair: files.Pair, options: argparse.Namespace,
         if options.report:
             told.add(block, whole, left, gone)
         if options.plot:
-            picture.add(block.features, answer)
+            picture.add(block, answer)
     return told.lines()
 
 

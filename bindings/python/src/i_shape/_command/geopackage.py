@@ -170,7 +170,8 @@ def _naming(path: Path, what: str = "") -> Iterator[None]:
     try:
         yield
     except sqlite3.Error as error:
-        raise OSError(f"{path}: {what}{error}") from error
+        words = " ".join(str(error).split())  # it may quote lines of SQL
+        raise OSError(f"{path}: {what}{words}") from error
 
 
 class GeoPackage:
