@@ -154,7 +154,7 @@ mkdir "$STAND_IN/one" && sleep 0.1 && rmdir "$STAND_IN/one"
         self.assertEqual(self.tool(answer="tried\n")[:2], (0, "tried\n"))
 
 
-SAMPLE = pages.read(f"{TOP}/crates/uses/src/corners.rt")
+SAMPLE = pages.read(f"{TOP}/crates/callers/src/corners.rt")
 SAMPLE = SAMPLE[SAMPLE.index("use "):]
 CLAUSE = "    ensures memory { IsOkUnless result ShapeError.OutOfMemory }\n"
 RIGHT = f"""# One: two

@@ -3,13 +3,13 @@
 use crate::claims::{equal, holds};
 use crate::resource::WholePoint;
 use crate::texts;
+use callers::chain::clean_list;
+use callers::consumer::{all_points, count_paths, count_shape_paths, same_safe_range};
+use callers::copies::{copied_as_one_shape, copied_paths};
+use callers::corners::corners;
+use callers::pipeline::cleaned_contours;
 use i_shape::int::IntPoint;
 use std::test::Fail;
-use uses::chain::clean_list;
-use uses::consumer::{all_points, count_paths, count_shape_paths, same_safe_range};
-use uses::copies::{copied_as_one_shape, copied_paths};
-use uses::corners::corners;
-use uses::pipeline::cleaned_contours;
 
 #[test]
 fn consumers_answer_from_the_law(rt: HostRuntime) -> Result<(), Fail> {

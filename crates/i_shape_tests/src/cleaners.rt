@@ -6,6 +6,7 @@ ghost use Rattle.i_shape.specs.IntPoint.{contour_of, IsSafe};
 ghost use mathlib.Core.Path.{refl};
 
 use crate::claims::{equal, holds};
+use callers::into::are_safe;
 use i_shape::int::cleaner::{
     Canonicalizer, ContourCleaner, ContourDeSpiker, ContourSimplifier, SpikeRemover,
     UnorientedCanonicalizer,
@@ -15,7 +16,6 @@ use i_shape::{IntNumber, ShapeError};
 use std::alloc::{AllocError, Global};
 use std::process::Abort;
 use std::test::Fail;
-use uses::into::are_safe;
 
 /// A point with a number of its own.
 #[derive(Clone, Copy, PartialEq, Eq, Debug)]

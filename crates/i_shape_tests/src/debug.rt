@@ -1,6 +1,7 @@
 //! The derived `Debug` text of each public type.
 
 use crate::claims::equal;
+use callers::store::Insertion;
 use i_shape::flat::buffer::{FlatContoursBuffer, FlatShapesBuffer};
 use i_shape::flat::float::{FloatFlatContoursBuffer, FloatFlatShapesBuffer};
 use i_shape::int::IntPoint;
@@ -11,7 +12,6 @@ use std::alloc::Global;
 use std::fmt::Debug;
 use std::process::Abort;
 use std::test::Fail;
-use uses::store::Insertion;
 
 /// The value is written as this text.
 fn is_written<T: Debug>(

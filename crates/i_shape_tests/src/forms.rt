@@ -2,11 +2,11 @@
 
 use crate::claims::{equal, holds};
 use crate::texts;
+use callers::polygons::PolygonStore;
+use callers::store::{CanonicalStore, Insertion};
 use i_shape::int::canonical::{CanonicalShape, CanonicalShapes};
 use i_shape::int::simple::SimpleContour;
 use std::test::Fail;
-use uses::polygons::PolygonStore;
-use uses::store::{CanonicalStore, Insertion};
 
 /// A shape, its form, and its form either way round. The holes of the first are out of order, and its outer contour has a point on an edge.
 const FORMS: [[&str; 3]; 3] = [

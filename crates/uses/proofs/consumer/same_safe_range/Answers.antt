@@ -1,5 +1,0 @@
-use Rattle.std.proofs.Common.{rules}
-use Rattle.uses.proofs.consumer.same_safe_range.Goals as goal
-
-pub returns-clause-same : goal.returns-clause-same
-returns-clause-same g c = search rules
