@@ -1,11 +1,16 @@
 /* Tests of the C library: worked contours by each call and width, each code, each growth of memory refused in turn, and four threads.
  * It is C11 and C++17. The allocator is this program's own, in place of the archive's. */
+#define _DEFAULT_SOURCE /* for MAP_ANONYMOUS */
 #include "i_shape.h"
 
 #include <pthread.h>
 #include <stdio.h>
 #include <stdlib.h>
 #include <string.h>
+#ifdef __unix__
+#include <sys/mman.h>
+#include <unistd.h>
+#endif
 
 static int passed, failed;
 

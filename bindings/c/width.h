@@ -346,7 +346,7 @@ static void AT(test_many_points)(void) {
         refused = 0;
 #endif
         for (int k = 0; k < ASKED; k++) {
-            const int x = about[k].x, inside = 0 < x && x < SIDE, on = x == 0 || x == SIDE;
+            const int x = (int)about[k].x, inside = 0 < x && x < SIDE, on = x == 0 || x == SIDE;
             check(numbers[k] == (x == 0 || inside), W, "windings", "a point of many");
             check(filled[k] == (x == 0 || inside), W, "contains_points", "a point of many");
             check(located[k] == (on ? 0 : inside ? 1 : -1), W, "locate", "a point of many");
@@ -418,8 +418,7 @@ static void AT(test_refusals)(void) {
         WITH_EACH_GROWTH_REFUSED(AT(batches)[k](given, 10, few, 4, out, 10, out_offsets, 4), 1, growths == 0, W, cleaner_names[k]);
         WITH_EACH_GROWTH_REFUSED(AT(batches)[k](given, 10, none, 1, out, 10, out_offsets, 1), 1, growths == 0, W, cleaner_names[k]);
     }
-    /* Polygons with a spike in each contour: what is left of the contours, its offsets, and the places of the longest. A contour that no
-       polygon has takes nothing. */
+    /* Polygons with a spike in each contour: the places of the longest alone. A contour that no polygon has takes nothing. */
     const POINT spiked[10] = {{0, 0}, {8, 0}, {4, 0}, {4, 4}, {0, 0}, {8, 0}, {4, 0}, {4, 4}, {0, 4}, {0, 2}};
     for (int k = 0; k < CLEANERS; k++) {
         POINT out[10];
@@ -433,13 +432,13 @@ static void AT(test_refusals)(void) {
         fill(out_contours, sizeof out_contours); \
         fill(out_shapes, sizeof out_shapes); \
         WITH_EACH_GROWTH_REFUSED(CALLED, IS_UNTOUCHED, growths == (GROWTHS), W, cleaner_names[k])
-        WITH_EACH_REFUSED(CLEAN(spiked, offsets, 2, one, 2), 3);
-        WITH_EACH_REFUSED(CLEAN(spiked, offsets, 3, both, 2), 3);
-        WITH_EACH_REFUSED(CLEAN(spiked, offsets, 3, apart, 3), 3);
+        WITH_EACH_REFUSED(CLEAN(spiked, offsets, 2, one, 2), 1);
+        WITH_EACH_REFUSED(CLEAN(spiked, offsets, 3, both, 2), 1);
+        WITH_EACH_REFUSED(CLEAN(spiked, offsets, 3, apart, 3), 1);
         WITH_EACH_REFUSED(CLEAN(spiked, offsets, 3, nothing, 2), 0);
         const POINT mixed[10] = {{0, 0}, {8, 0}, {4, 0}, {4, 4}, {0, 4}, {0, 2}, {0, 0}, {4, 0}, {4, 4}, {0, 4}};
         WITH_EACH_REFUSED(CLEAN(mixed, behind, 3, last, 2), 0);
-        WITH_EACH_REFUSED(CLEAN(mixed, behind, 3, both, 2), 3);
+        WITH_EACH_REFUSED(CLEAN(mixed, behind, 3, both, 2), 1);
 #undef WITH_EACH_REFUSED
 #undef IS_UNTOUCHED
 #undef CLEAN
@@ -454,8 +453,8 @@ static void AT(test_refusals)(void) {
 }
 
 #ifdef REFUSES
-/* How many bytes the calls ask for: one place for each point of the longest contour, and of polygons where a point is removed two lists
-   too, of the points and of the offsets of the contours. A canonical form of polygons has some for each contour. */
+/* How many bytes the calls ask for: one place for each point of the longest contour of which a point is removed. A canonical form of
+   polygons has lists of all points and some for each contour. */
 static void AT(test_sizes)(void) {
     enum { SQUARES = 64, CORNERS = 5, COUNT = SQUARES * CORNERS };
     const size_t places = CORNERS * sizeof(size_t), range = 2 * sizeof(size_t), all[2] = {0, SQUARES};
@@ -477,7 +476,7 @@ static void AT(test_sizes)(void) {
         check(AT(polygons)[k](given, COUNT, offsets, SQUARES + 1, all, 2, out, COUNT, out_offsets, SQUARES + 1, out_shapes, 2) == 1, W,
               cleaner_names[k], "64 squares of one polygon");
         /* Of simplify, the first, and of despike, which cleans nothing, since no square has a spike. */
-        const size_t most = is_form(k) ? 4 * lists : k == 0 ? sizeof given + sizeof offsets + places : 0;
+        const size_t most = is_form(k) ? 4 * lists : k == 0 ? places : 0;
         check(is_form(k) ? asked <= most : asked == most, W, cleaner_names[k], "how much it asks for of polygons");
     }
     /* The square wound 300,000 times, in one contour: each time a point goes. */
@@ -494,6 +493,38 @@ static void AT(test_sizes)(void) {
 }
 #endif
 
+#ifdef __unix__
+/* An array of 2^20 points has a polygon of five points in the middle, one of them repeated, and no other point of it is asked for. First
+   memory that the call takes is counted, and then what lies before and behind the page with these points can't be read. */
+static void AT(test_named)(void) {
+    enum { COUNT = 1 << 20, CORNERS = 5 };
+    static POINT out[COUNT];
+    const POINT square[CORNERS] = {{0, 0}, {4, 0}, {4, 0}, {4, 4}, {0, 4}};
+    const size_t size = COUNT * sizeof(POINT), page = (size_t)sysconf(_SC_PAGESIZE), from = size / 2 / page * page, last = (from + page) / sizeof(POINT);
+    const size_t contours[2] = {last - CORNERS, last}, shapes[2] = {0, 1};
+    char *const memory = (char *)mmap(NULL, size, PROT_READ | PROT_WRITE, MAP_PRIVATE | MAP_ANONYMOUS, -1, 0);
+    if (memory == (char *)MAP_FAILED) abort();
+    POINT *const given = (POINT *)(void *)memory;
+    memcpy(given + contours[0], square, sizeof square);
+    size_t out_contours[2], out_shapes[2];
+#ifdef REFUSES
+    for (int k = 0; k < CLEANERS; k++) {
+        growths = asked = 0;
+        check(AT(polygons)[k](given, COUNT, contours, 2, shapes, 2, out, COUNT, out_contours, 2, out_shapes, 2) == 1, W, cleaner_names[k], "five of 2^20 points");
+        check(growths <= (is_form(k) ? 12 : k == 0), W, cleaner_names[k], "how often it takes memory for five of 2^20 points");
+        check(is_form(k) || asked <= (k == 0 ? CORNERS * sizeof(size_t) : 0), W, cleaner_names[k], "how much it asks for of five of 2^20 points");
+    }
+#endif
+    if (mprotect(memory, from, PROT_NONE) != 0 || mprotect(memory + from + page, size - from - page, PROT_NONE) != 0) abort();
+    for (int k = 0; k < CLEANERS; k++)
+        check(AT(polygons)[k](given, COUNT, contours, 2, shapes, 2, out, COUNT, out_contours, 2, out_shapes, 2) == 1 && out_contours[1] == 4 + (k == 1), W,
+              cleaner_names[k], "nothing outside the offsets is read");
+    munmap(memory, size);
+}
+#else
+static void AT(test_named)(void) {}
+#endif
+
 static void AT(test_width)(void) {
 #ifdef REFUSES
     AT(test_sizes)();
@@ -504,6 +535,7 @@ static void AT(test_width)(void) {
     AT(test_many_codes)();
     AT(test_shapes)();
     AT(test_shapes_codes)();
+    AT(test_named)();
     AT(test_tests)();
     AT(test_all_rows)();
     AT(test_codes_of_tests)();

@@ -1,18 +1,13 @@
--- Polygons of cleaned contours that are written one behind the other.
-use Rattle.std.proofs.Common.{◌≡◌, ℕ, suc, ◌+◌, ◌-◌, ◌≤◌, ◌<◌, ◌++◌, List, [], ◌∷◌, map, length, take, drop, set, slice_range, get_or, append-nil, append_assoc, length-append, length-drop, refl, sym, ap, ap₂, subst, subst₂, ◌∙◌, arith, Option, Some, None}
-use Rattle.std.specs.List.{filter_map, range_with_len}
-use Rattle.std.specs.Option.{option_to_list}
+-- What is left of polygons that is written one behind the other.
+use Rattle.std.proofs.Common.{◌≡◌, ℕ, suc, ◌+◌, ◌-◌, ◌≤◌, ◌<◌, ◌++◌, List, [], ◌∷◌, length, take, drop, set, slice_range, append-nil, append_assoc, length-append, length-drop, refl, sym, ap, ap₂, subst, subst₂, ◌∙◌, arith}
 use Rattle.std.proofs.lemmas.List.{take-append-drop, drop-drop, take-set, drop-set, take_at, drop_at, length-take-le, length-set, get_or-take, get_or-drop}
-use Rattle.std.proofs.lemmas.List.Elements.{filter_map-append}
-use Rattle.std.proofs.lemmas.List.FromFn.{map-range_with_len_more, length-map-range_with_len, get_or-map-range_with_len}
 use Rattle.i_shape.specs.Paths.{concatenated}
 use Rattle.i_shape.proofs.lists.EndToEnd.{concatenated-append}
-use Rattle.i_shape_c.specs.Appended.{filled, left_of, IsPut, ends_from, AppendsRings, AppendsPolygons, WritesPolygons}
+use Rattle.i_shape_c.specs.Appended.{IsPut, ends_from, AppendsRings, AppendsPolygons, WritesPolygons}
 use Rattle.i_shape_c.specs.Batch.{offset, nth_contour, AreRising, PartsPoints}
-use Rattle.i_shape_c.specs.Polygons.{parts, offsets_of}
+use Rattle.i_shape_c.specs.Polygons.{offsets_of}
 use Rattle.i_shape_c.specs.declared.polygons.Counts.{Counts}
 use Rattle.i_shape_core.proofs.lists.Rings.{rises_to}
-use Rattle.i_shape_c.proofs.Parts.{nothing_between}
 
 -- nothing is put where nothing changes
 pub put_none : {X : Type 0} (at : ℕ) (old : List X) → IsPut at [] old old
@@ -38,12 +33,15 @@ put_more a b x y old mid new first second at within =
     let behind : drop (b + length y) mid ≡ rest = sym (drop-drop (length y) b mid) ∙ ap (drop (length y)) left ∙ drop-drop (length y) (a + length x) old ∙ ap (λ n. drop n old) sum in
     second ∙ ap₂ (λ f r. f ++ (y ++ r)) before behind ∙ append_assoc (take a old) x (y ++ rest) ∙ ap (λ w. take a old ++ w) (sym (append_assoc x y rest))
 
--- what a part is put into keeps its length
-pub put_len : {X : Type 0} (at : ℕ) (part old new : List X) → IsPut at part old new → at + length part ≤ length old → length new ≡ length old
-put_len at part old new put room =
-    let rest = drop (at + length part) old in
-    let front = length-take-le at old (omega (arith, room)) in
-    omega (arith, ap length put, length-append (take at old) (part ++ rest), length-append part rest, front, length-drop (at + length part) old, room)
+-- what a list has between two places is put there, where it is the same as another before and behind them
+pub put_between : {X : Type 0} (at end : ℕ) (old new : List X) → at ≤ end → end ≤ length new → take at new ≡ take at old → drop end new ≡ drop end old → (at + length (slice_range new at end) ≡ end) × IsPut at (slice_range new at end) old new
+put_between at end old new order within before after =
+    let part = slice_range new at end in
+    let sum : at + (end - at) ≡ end = omega (arith, order) in
+    let back = length-drop at new in
+    let long : at + length part ≡ end = omega (arith, order, length-take-le (end - at) (drop at new) (omega (arith, order, within, back))) in
+    let rest : drop (end - at) (drop at new) ≡ drop (at + length part) old = drop-drop (end - at) at new ∙ ap (λ n. drop n new) sum ∙ after ∙ ap (λ n. drop n old) (sym long) in
+    (long, sym (take-append-drop at new) ∙ ap₂ (λ a b. a ++ b) before (sym (take-append-drop (end - at) (drop at new)) ∙ ap (λ l. part ++ l) rest))
 
 -- what is put at the start stands there
 pub put_front : {X : Type 0} (part old new : List X) → IsPut 0 part old new → (take (length part) new ≡ part) × (drop (length part) new ≡ drop (length part) old) × (new ≡ part ++ drop (length part) old)
@@ -152,81 +150,6 @@ polygons_more xs ys op mp np oc mc nc os ms ns before mid after a b points_room 
   shapes_len = b.shapes_len ∙ a.shapes_len;
   shapes_count = omega (arith, a.shapes_count, b.shapes_count, length-append xs ys);
 }
-
--- of one contour the filled ones are it where it has points
-one_filled : {P : Type 0} (ring : List P) → filter_map filled (ring ∷ []) ≡ option_to_list (filled ring)
-one_filled [] = refl
-one_filled (p ∷ ring) = refl
-
--- of one polygon what is left is what is left of it
-one_left : {P : Type 0} (rings : List (List P)) → filter_map left_of (rings ∷ []) ≡ option_to_list (left_of rings)
-one_left [] = refl
-one_left ([] ∷ rings) = refl
-one_left ((p ∷ ring) ∷ rings) = refl
-
-kept_more : {X Y : Type 0} (h : X → Option Y) (one : (x : X) → filter_map h (x ∷ []) ≡ option_to_list (h x)) (f : ℕ → X) (k : ℕ)
-    → filter_map h (map f (range_with_len 0 (k + 1))) ≡ filter_map h (map f (range_with_len 0 k)) ++ option_to_list (h (f k))
-kept_more h one f k =
-    ap (filter_map h) (map-range_with_len_more f 0 k k (let e : 0 + k ≡ k = omega arith in e)) ∙ filter_map-append h (map f (range_with_len 0 k)) (f k ∷ []) ∙ ap (λ w. filter_map h (map f (range_with_len 0 k)) ++ w) (one (f k))
-
--- one number more of contours
-pub filled_more : {P : Type 0} (f : ℕ → List P) (k : ℕ) → filter_map filled (map f (range_with_len 0 (k + 1))) ≡ filter_map filled (map f (range_with_len 0 k)) ++ option_to_list (filled (f k))
-filled_more f k = kept_more filled one_filled f k
-
--- one number more of polygons
-pub left_more : {P : Type 0} (f : ℕ → List (List P)) (k : ℕ) → filter_map left_of (map f (range_with_len 0 (k + 1))) ≡ filter_map left_of (map f (range_with_len 0 k)) ++ option_to_list (left_of (f k))
-left_more f k = kept_more left_of one_left f k
-
--- a contour without points isn't written
-pub filled_none : {P : Type 0} (ring : List P) → length ring ≡ 0 → option_to_list (filled ring) ≡ []
-filled_none [] none = refl
-filled_none (p ∷ ring) none = absurd (omega (arith, none))
-
--- and one with points is
-pub filled_some : {P : Type 0} (ring : List P) → 0 < length ring → option_to_list (filled ring) ≡ ring ∷ []
-filled_some [] some = absurd (omega (arith, some))
-filled_some (p ∷ ring) some = refl
-
-collapsed : {P : Type 0} (rings : List (List P)) → 0 < length rings → get_or rings 0 [] ≡ [] → left_of rings ≡ None
-collapsed [] some empty = absurd (omega (arith, some))
-collapsed ([] ∷ rings) some empty = refl
-collapsed ((p ∷ ring) ∷ rings) some empty = absurd (omega (arith, ap length empty))
-
-uncollapsed : {P : Type 0} (rings : List (List P)) → (0 < length rings → 0 < length (get_or rings 0 [])) → left_of rings ≡ Some (filter_map filled rings)
-uncollapsed [] full = refl
-uncollapsed ([] ∷ rings) full = absurd (omega (arith, full (omega arith)))
-uncollapsed ((p ∷ ring) ∷ rings) full = refl
-
-module _ {P : Type 0} (points : List P) (offsets : List ℕ) where
-  first_part : 1 < length offsets → get_or (parts points offsets) 0 [] ≡ nth_contour points offsets 0
-  first_part more =
-      let some : 0 < length offsets - 1 = omega (arith, more) in
-      get_or-map-range_with_len (nth_contour points offsets) 0 (length offsets - 1) 0 0 [] some refl
-
-  count_parts : length (parts points offsets) ≡ length offsets - 1
-  count_parts = length-map-range_with_len (nth_contour points offsets) 0 (length offsets - 1)
-
-  -- nothing is left where the first two offsets are one
-  pub left_out : 1 < length offsets → offset offsets 0 ≡ offset offsets 1 → left_of (parts points offsets) ≡ None
-  left_out more same =
-      let count = count_parts in
-      collapsed (parts points offsets) (omega (arith, more, count)) (first_part more ∙ ap (slice_range points (offset offsets 0)) (sym same) ∙ nothing_between points (offset offsets 0))
-
-  -- and otherwise the contours that have points
-  pub left_in : PartsPoints (length points) offsets → (1 < length offsets → offset offsets 0 ≡ offset offsets 1 → ⊥) → left_of (parts points offsets) ≡ Some (filter_map filled (parts points offsets))
-  left_in parted differ = uncollapsed (parts points offsets) full
-    where
-      full : 0 < length (parts points offsets) → 0 < length (get_or (parts points offsets) 0 [])
-      full some =
-          let count = count_parts in
-          let more : 1 < length offsets = omega (arith, some, count) in
-          let rise : offset offsets 0 ≤ offset offsets 1 = parted.order 0 (omega (arith, more)) in
-          let up = rises_to offsets (length offsets) 1 (length offsets - 1) parted.order (omega (arith, more)) (omega (arith, more)) in
-          let apart = differ more in
-          let less : offset offsets 0 < offset offsets 1 = omega (arith, rise, apart) in
-          let back = length-drop (offset offsets 0) points in
-          let long : length (nth_contour points offsets 0) ≡ offset offsets 1 - offset offsets 0 = length-take-le (offset offsets 1 - offset offsets 0) (drop (offset offsets 0) points) (omega (arith, back, up, parted.last)) in
-          rw (first_part more) (omega (arith, long, less))
 
 module _ (offsets : List ℕ) (a b : ℕ) where
   -- the offsets of a part of the contours

@@ -62,7 +62,8 @@ module _ {P I : Type 0} (width : Width) (value : I → ℤ) (to : P → IntPoint
   abbrev at : P → Point
   at p = point_of value (to p)
 
-  same : (list : List P) → contour_of value (copy list) ≡ map at list
+  -- their points are those of the list
+  pub same : (list : List P) → contour_of value (copy list) ≡ map at list
   same list = copied_points width value to list (copy list) (is list)
 
   -- where all the points are safe, those of each contour are

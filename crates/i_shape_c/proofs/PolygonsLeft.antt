@@ -1,112 +1,146 @@
 -- What is left of polygons, where each contour is cleaned.
-use Rattle.std.proofs.Common.{◌≡◌, ℕ, zero, suc, ◌+◌, ◌-◌, ◌≤◌, ◌<◌, ◌⊎◌, List, [], ◌∷◌, map, length, slice_range, refl, sym, ap, subst, subst₂, ◌∙◌, arith, Option, Some, None, option_map, inl, inr}
-use Rattle.std.specs.List.{All, AllZip, filter_map, cons_option, range_with_len}
+use Rattle.std.proofs.Common.{◌≡◌, Bool, ℕ, zero, suc, ◌+◌, ◌-◌, ◌≤◌, ◌<◌, ◌⊎◌, ◌++◌, List, [], ◌∷◌, map, length, slice_range, refl, sym, ap, ap₂, subst, subst₂, ◌∙◌, arith, Option, Some, None, inl, inr}
+use Rattle.std.specs.List.{All, range_with_len}
+use Rattle.std.specs.Option.{option_map, option_to_list}
 use Rattle.std.specs.Int.{Width}
 use Rattle.std.proofs.lemmas.Bool.{cases_lt}
-use Rattle.std.proofs.lemmas.List.{length-map}
+use Rattle.std.proofs.lemmas.List.{length-map, map-append}
 use Rattle.std.proofs.lemmas.List.FromFn.{length-map-range_with_len, get_or-map-range_with_len}
+use Rattle.std.proofs.lemmas.Simd.{map-map}
 use Rattle.i_shape.specs.Point.{Point}
 use Rattle.i_shape.specs.Paths.{concatenated}
-use Rattle.i_shape.specs.ShapeAnswers.{HasPoints, Survivors, ShapeClean, ListClean, EachShape}
+use Rattle.i_shape.specs.ShapeAnswers.{ShapeClean, ListClean, EachShape}
 use Rattle.i_shape.specs.Written.{slot}
 use Rattle.i_shape.proofs.buffers.ShapeRanges.{slice_range-map}
-use Rattle.i_shape_c.specs.Appended.{AreClean, CleansRings, filled, left_of, rings_at, polygons_left, WritesPolygons}
-use Rattle.i_shape_c.specs.Batch.{offset, nth_contour, PartsPoints, AreSafeContours, IsCleanedBatch}
+use Rattle.i_shape_core.proofs.lists.Rings.{rises_to}
+use Rattle.i_shape_core.proofs.lists.Survivors.{survivors-none, survivors-push}
+use Rattle.i_shape_c.specs.Appended.{IsReady, AppendsRings, AppendsPolygons, AppendsRingLeft, AppendsShapeLeft, WritesLeft, rings_at, polygons_of}
+use Rattle.i_shape_c.specs.Batch.{offset, nth_contour, PartsPoints, AreSafeContours}
 use Rattle.i_shape_c.specs.Cleaned.{AreSafe}
 use Rattle.i_shape_c.specs.Polygons.{parts, polygons, offsets_of, AreShapesLeft}
-use Rattle.i_shape_c.proofs.Appended.{offset_part, nth_part, length_part, parted_part, put_front, length-offsets}
-use Rattle.i_shape_core.proofs.lists.Rings.{rises_to}
+use Rattle.i_shape_c.specs.declared.polygons.Counts.{Counts}
+use Rattle.i_shape_c.proofs.Appended.{offset_part, nth_part, length_part, parted_part, put_none, put_front, rings_more, polygons_more, length-offsets}
 use Rattle.i_shape_c.proofs.Batches.{safe_part}
 use Rattle.i_shape_c.proofs.PolygonLists.{polygon_at, concatenated-map, offsets-map}
 
--- what is made of the items that are kept
-kept-map : {X Y Z : Type 0} (f : Y → Z) (g : X → Option Y) (xs : List X) → map f (filter_map g xs) ≡ filter_map (λ a. a) (map (λ x. option_map f (g x)) xs)
-kept-map f g [] = refl
-kept-map {X} {Y} {Z} f g (x ∷ xs) = step (g x) (kept-map f g xs)
-  where
-    step : (a : Option Y) → map f (filter_map g xs) ≡ filter_map (λ a. a) (map (λ x. option_map f (g x)) xs) → map f (cons_option a (filter_map g xs)) ≡ cons_option (option_map f a) (filter_map (λ a. a) (map (λ x. option_map f (g x)) xs))
-    step None rest = rest
-    step (Some y) rest = ap (λ w. f y ∷ w) rest
+-- a list without items
+no_items : {X : Type 0} (xs : List X) → length xs ≡ 0 → xs ≡ []
+no_items [] none = refl
+no_items (x ∷ xs) none = absurd (omega (arith, none))
 
--- what relates two functions at each number relates the lists made by them
-zip_ranges : {X Y : Type 0} (R : X → Y → Type 0) (f : ℕ → X) (g : ℕ → Y) (s t n : ℕ) → ((j : ℕ) → j < n → R (f (s + j)) (g (t + j))) → AllZip R (map f (range_with_len s n)) (map g (range_with_len t n))
-zip_ranges R f g s t zero each = tt
-zip_ranges R f g s t (suc n) each = (first, zip_ranges R f g (s + 1) (t + 1) n next)
+-- what is made of items and of one more that there may be
+map_more : {X Y : Type 0} (f : X → Y) (xs : List X) (x : Option X) → map f (xs ++ option_to_list x) ≡ map f xs ++ option_to_list (option_map f x)
+map_more f xs None = map-append f xs []
+map_more f xs (Some x) = map-append f xs (x ∷ [])
+
+-- two functions that agree make the same of two ranges
+same_ranges : {X : Type 0} (f g : ℕ → X) (s t n : ℕ) → ((j : ℕ) → j < n → f (s + j) ≡ g (t + j)) → map f (range_with_len s n) ≡ map g (range_with_len t n)
+same_ranges f g s t zero each = refl
+same_ranges {X} f g s t (suc n) each = ap₂ ◌∷◌ first (same_ranges f g (s + 1) (t + 1) n next)
   where
-    first : R (f s) (g t)
+    first : f s ≡ g t
     first =
         let here : s + 0 ≡ s = omega arith in
         let there : t + 0 ≡ t = omega arith in
-        subst₂ (λ a b. R (f a) (g b)) here there (each 0 (omega arith))
+        subst₂ (λ a b. f a ≡ g b) here there (each 0 (omega arith))
 
-    next : (j : ℕ) → j < n → R (f (s + 1 + j)) (g (t + 1 + j))
+    next : (j : ℕ) → j < n → f (s + 1 + j) ≡ g (t + 1 + j)
     next j less =
         let here : s + (j + 1) ≡ s + 1 + j = omega arith in
         let there : t + (j + 1) ≡ t + 1 + j = omega arith in
-        subst₂ (λ a b. R (f a) (g b)) here there (each (j + 1) (omega (arith, less)))
+        subst₂ (λ a b. f a ≡ g b) here there (each (j + 1) (omega (arith, less)))
 
 module _ {P : Type 0} (Answer : List Point → Option (List Point) → Type 0) (at : P → Point) where
-  -- a contour is cleaned, and what is left of it is empty where it collapses
-  abbrev Cleaned : List Point → List P → Type 0
-  Cleaned c ring = Answer c (slot (map at ring))
+  -- the first contours of a polygon are written, of which the outer one is left
+  pub record ShapeBegun (given : List (List P)) (old_points new_points : List P) (old_contours new_contours : List ℕ) (before after : Counts) : Type 0 where
+    pub kept : List (List P)
+    pub shape : ShapeClean Answer (map (map at) given) (Some (map (map at) kept))
+    pub appended : AppendsRings kept old_points new_points old_contours new_contours before after
 
-  rings_left : (given : List (List Point)) (rings : List (List P)) → AllZip Cleaned given rings → Survivors Answer given (map (map at) (filter_map filled rings))
-  rings_left given rings cleaned = (map (λ ring. option_map (map at) (filled ring)) rings, go given rings cleaned, kept-map (map at) filled rings)
-    where
-      go : (given : List (List Point)) (rings : List (List P)) → AllZip Cleaned given rings → AllZip Answer given (map (λ ring. option_map (map at) (filled ring)) rings)
-      go [] [] h = tt
-      go [] (ring ∷ rings) h = absurd h
-      go (c ∷ given) [] h = absurd h
-      go (c ∷ given) ([] ∷ rings) h = (h.0, go given rings h.1)
-      go (c ∷ given) ((p ∷ ring) ∷ rings) h = (h.0, go given rings h.1)
+  -- what is left of the first polygons is written
+  pub record ShapesBegun (given : List (List (List P))) (old_points new_points : List P) (old_contours new_contours old_shapes new_shapes : List ℕ) (before after : Counts) : Type 0 where
+    pub kept : List (List (List P))
+    pub shapes : ListClean Answer (map (map (map at)) given) (map (map (map at)) kept)
+    pub appended : AppendsPolygons kept old_points new_points old_contours new_contours old_shapes new_shapes before after
 
-  shape_left : (given : List (List Point)) (rings : List (List P)) → AllZip Cleaned given rings → ShapeClean Answer given (option_map (map (map at)) (left_of rings))
-  shape_left [] [] h = refl
-  shape_left [] (ring ∷ rings) h = absurd h
-  shape_left (c ∷ given) [] h = absurd h
-  shape_left (c ∷ given) ([] ∷ rings) h = h.0
-  shape_left (c ∷ given) ((p ∷ ring) ∷ rings) h = (h.0, rings_left given rings h.1)
+  -- one contour more
+  shape_more : (given kept : List (List P)) (ring : List P) (left : Option (List P)) → ShapeClean Answer (map (map at) given) (Some (map (map at) kept)) → Answer (map at ring) (option_map (map at) left) → 0 < length (kept ++ option_to_list left)
+      → ShapeClean Answer (map (map at) (given ++ (ring ∷ []))) (Some (map (map at) (kept ++ option_to_list left)))
+  shape_more [] [] ring None shape answer some = absurd (omega (arith, some))
+  shape_more [] [] ring (Some left) shape answer some = (answer, survivors-none Answer)
+  shape_more [] (c ∷ kept) ring left shape answer some = absurd (cc)
+  shape_more (outer ∷ holes) [] ring left shape answer some = absurd shape
+  shape_more (outer ∷ holes) (c ∷ kept) ring left shape answer some = (
+    shape.0,
+    rw (map-append (map at) holes (ring ∷ []), map_more (map at) kept left) (survivors-push Answer (map (map at) holes) (map at ring) (map (map at) kept) (option_map (map at) left) shape.1 answer),
+  )
 
-  list_left : (given : List (List (List Point))) (list : List (List (List P))) → AllZip (AllZip Cleaned) given list → ListClean Answer given (map (map (map at)) (filter_map left_of list))
-  list_left given list cleaned = (map (λ rings. option_map (map (map at)) (left_of rings)) list, go given list cleaned, kept-map (map (map at)) left_of list)
-    where
-      go : (given : List (List (List Point))) (list : List (List (List P))) → AllZip (AllZip Cleaned) given list → AllZip (ShapeClean Answer) given (map (λ rings. option_map (map (map at)) (left_of rings)) list)
-      go [] [] h = tt
-      go [] (rings ∷ list) h = absurd h
-      go (shape ∷ given) [] h = absurd h
-      go (shape ∷ given) (rings ∷ list) h = (shape_left shape rings h.0, go given list h.1)
+  -- nothing is left of a polygon of which no contour is left up to one
+  shape_none : (given kept : List (List P)) (ring : List P) (left : Option (List P)) (rest : List (List P)) → ShapeClean Answer (map (map at) given) (Some (map (map at) kept)) → Answer (map at ring) (option_map (map at) left)
+      → length (kept ++ option_to_list left) ≡ 0 → ShapeClean Answer (map (map at) ((given ++ (ring ∷ [])) ++ rest)) None
+  shape_none [] [] ring None rest shape answer none = answer
+  shape_none [] [] ring (Some left) rest shape answer none = absurd (omega (arith, none))
+  shape_none [] (c ∷ kept) ring left rest shape answer none = absurd (cc)
+  shape_none (outer ∷ holes) [] ring left rest shape answer none = absurd shape
+  shape_none (outer ∷ holes) (c ∷ kept) ring left rest shape answer none = absurd (omega (arith, none))
+
+  list_more : (given kept : List (List (List P))) (shape : List (List P)) (left : Option (List (List P))) → ListClean Answer (map (map (map at)) given) (map (map (map at)) kept) → ShapeClean Answer (map (map at) shape) (option_map (map (map at)) left)
+      → ListClean Answer (map (map (map at)) (given ++ (shape ∷ []))) (map (map (map at)) (kept ++ option_to_list left))
+  list_more given kept shape left list answer =
+      rw (map-append (map (map at)) given (shape ∷ []), map_more (map (map at)) kept left) (survivors-push (ShapeClean Answer) (map (map (map at)) given) (map (map at) shape) (map (map (map at)) kept) (option_map (map (map at)) left) list answer)
+
+  module _ (op mp np : List P) (oc mc nc : List ℕ) (before mid after : Counts) where
+    -- a contour behind the first ones of its polygon
+    pub begun_more : (given : List (List P)) (ring : List P) → ShapeBegun given op mp oc mc before mid → AppendsRingLeft Answer at ring mp np mc nc mid after → before.points ≤ length op → before.contours + 1 ≤ length oc
+        → (after.contours ≡ before.contours → ⊥) → ShapeBegun (given ++ (ring ∷ [])) op np oc nc before after
+    begun_more given ring begun more points_room contours_room some =
+        let appended = rings_more begun.kept (option_to_list more.left) op mp np oc mc nc before mid after begun.appended more.appended points_room contours_room in
+        let full : 0 < length (begun.kept ++ option_to_list more.left) = omega (arith, appended.contours_count, some) in
+        record { kept = begun.kept ++ option_to_list more.left; shape = shape_more given begun.kept ring more.left begun.shape more.answer full; appended = appended }
+
+    -- a polygon of which the outer contour collapses is left out
+    pub begun_none : (given : List (List P)) (ring : List P) (rest : List (List P)) (shapes : List ℕ) → ShapeBegun given op mp oc mc before mid → AppendsRingLeft Answer at ring mp np mc nc mid after → before.points ≤ length op → before.contours + 1 ≤ length oc
+        → after.contours ≡ before.contours → AppendsShapeLeft Answer at ((given ++ (ring ∷ [])) ++ rest) op np oc nc shapes shapes before before
+    begun_none given ring rest shapes begun more points_room contours_room none =
+        let all = rings_more begun.kept (option_to_list more.left) op mp np oc mc nc before mid after begun.appended more.appended points_room contours_room in
+        let empty : length (begun.kept ++ option_to_list more.left) ≡ 0 = omega (arith, all.contours_count, none) in
+        let nothing = rw (no_items (begun.kept ++ option_to_list more.left) empty) at all in
+        record {
+          left = None;
+          answer = shape_none given begun.kept ring more.left rest begun.shape more.answer empty;
+          appended = record {
+            rings = record { points = nothing.points; contours = nothing.contours; points_len = nothing.points_len; contours_len = nothing.contours_len; points_count = omega arith; contours_count = omega arith };
+            shapes = put_none (before.shapes + 1) shapes;
+            shapes_len = refl;
+            shapes_count = omega arith;
+          };
+        }
+
+    -- a polygon behind polygons
+    pub shapes_more : (given : List (List (List P))) (shape : List (List P)) (os ms ns : List ℕ) → ShapesBegun given op mp oc mc os ms before mid → AppendsShapeLeft Answer at shape mp np mc nc ms ns mid after
+        → before.points ≤ length op → before.contours + 1 ≤ length oc → before.shapes + 1 ≤ length os → ShapesBegun (given ++ (shape ∷ [])) op np oc nc os ns before after
+    shapes_more given shape os ms ns begun more points_room contours_room shapes_room = record {
+      kept = begun.kept ++ option_to_list more.left;
+      shapes = list_more given begun.kept shape more.left begun.shapes more.answer;
+      appended = polygons_more begun.kept (option_to_list more.left) op mp np oc mc nc os ms ns before mid after begun.appended more.appended points_room contours_room shapes_room;
+    }
+
+-- a contour that can be cleaned without more memory still can where no room is given up
+pub ready_still : {P : Type 0} (Clean : List Point → Type 0) (width : Width) (read : List P → List Point) (is_clean : Bool) (had has : ℕ → Type 0) (ring : List P) → ((n : ℕ) → had n → has n)
+    → IsReady Clean width read is_clean had ring → IsReady Clean width read is_clean has ring
+ready_still Clean width read is_clean had has ring keeps ready = record { safe = ready.safe; clean = ready.clean; reserved = λ unclean. keeps (length ring) (ready.reserved unclean) }
+
+-- what holds of each contour holds of each of a part of them
+pub each_part : {P : Type 0} (Q : List P → Type 0) (points : List P) (offsets : List ℕ) (a b : ℕ) → a ≤ b → b ≤ length offsets → ((k : ℕ) → k + 1 < length offsets → Q (nth_contour points offsets k))
+    → (k : ℕ) → k + 1 < length (slice_range offsets a b) → Q (nth_contour points (slice_range offsets a b) k)
+each_part Q points offsets a b order within each k less =
+    let count = length_part offsets a b order within in
+    rw (nth_part offsets a b points k (omega (arith, less, count))) (each (a + k) (omega (arith, less, count, within)))
 
 -- a contour with points stands for itself
-slot_of : (c : List Point) → 0 < length c → slot c ≡ Some c
+pub slot_of : (c : List Point) → 0 < length c → slot c ≡ Some c
 slot_of [] some = absurd (omega (arith, some))
 slot_of (p ∷ c) some = refl
-
--- what is cleaned into lists as long as the given ones
-pub batch_left : {P : Type 0} (Answer Kept : List Point → Option (List Point) → Type 0) (width : Width) (at : P → Point) (points : List P) (rings : List ℕ) (old left : List P) (old_rings left_rings : List ℕ) (n : ℕ)
-    → 0 < length rings → length left ≡ length points → length left_rings ≡ length rings → IsCleanedBatch Answer Kept width at points rings old left old_rings left_rings n → CleansRings Answer at points rings left left_rings
-batch_left Answer Kept width at points rings old left old_rings left_rings n some long many batch = record {
-  parted = record {
-    some = omega (arith, some, many);
-    order = λ k less. batch.order k (omega (arith, less, many));
-    last = rw many (omega (arith, batch.last, batch.fewer, long));
-  };
-  many = many;
-  fewer = omega (arith, long);
-  cleaned = λ k less. (batch.cleaned k less).answer;
-}
-
--- clean contours are left as they are
-pub rings_stay : {P : Type 0} (Answer : List Point → Option (List Point) → Type 0) (Clean : List Point → Type 0) → ((c : List Point) → Clean c → Answer c (Some c)) → ((c : List Point) → Clean c → HasPoints c)
-    → (at : P → Point) (points : List P) (rings : List ℕ) → PartsPoints (length points) rings → AreClean Clean at points rings (length rings) → CleansRings Answer at points rings points rings
-rings_stay Answer Clean stays has_points at points rings parted clean = record {
-  parted = parted;
-  many = refl;
-  fewer = omega arith;
-  cleaned = λ k less.
-      let here = clean k less in
-      let ring = map at (nth_contour points rings k) in
-      subst (Answer ring) (sym (slot_of ring (has_points ring here))) (stays ring here);
-}
 
 -- the contours of polygons, of which those from the first polygon's on are `rings`
 module _ {P : Type 0} (at : P → Point) (points : List P) (contours shapes : List ℕ) (contours_parted : PartsPoints (length points) contours) (shapes_parted : PartsPoints (length contours - 1) shapes) where
@@ -152,28 +186,26 @@ module _ {P : Type 0} (at : P → Point) (points : List P) (contours shapes : Li
       let last_is : offset rings (length rings - 1) ≡ offset contours high = offset_part contours low (high + 1) (length rings - 1) (omega (arith, last)) ∙ ap (offset contours) last in
       subst₂ (λ a b. AreSafe width at (slice_range points a b)) (sym first_is) (sym last_is) (safe_part width at points contours low high contours_parted.order up (omega (arith, shapes_parted.last, contours_parted.some)) safe)
 
-  -- where each of them is cleaned, so are the polygons
-  left_clean : (Answer : List Point → Option (List Point) → Type 0) (left : List P) (left_rings : List ℕ) → length left_rings ≡ length rings
-      → ((i : ℕ) → i + 1 < length rings → Answer (map at (nth_contour points rings i)) (slot (map at (nth_contour left left_rings i))))
-      → ListClean Answer (polygons (map at points) contours shapes) (map (map (map at)) (filter_map left_of (polygons_left left left_rings shapes (length shapes - 1))))
-  left_clean Answer left left_rings many each =
-      list_left Answer at (polygons (map at points) contours shapes) (polygons_left left left_rings shapes (length shapes - 1))
-      (zip_ranges (AllZip (Cleaned Answer at)) (nth_contour (parts (map at points) contours) shapes) (λ k. parts left (rings_at left_rings shapes k)) 0 0 (length shapes - 1) (λ k less. shape k (0 + k) (omega arith) (omega (arith, less))))
+  -- the polygons are parted by them
+  polygons_are : polygons (map at points) contours shapes ≡ map (map (map at)) (polygons_of points rings shapes (length shapes - 1))
+  polygons_are = same_ranges (nth_contour (parts (map at points) contours) shapes) (λ k. map (map at) (parts points (rings_at rings shapes k))) 0 0 (length shapes - 1) (λ k less. shape k (0 + k) (omega arith) (omega (arith, less)))
+      ∙ sym (map-map (map (map at)) (λ k. parts points (rings_at rings shapes k)) (range_with_len 0 (length shapes - 1)))
     where
-      shape : (k j : ℕ) → j ≡ k → k + 1 < length shapes → AllZip (Cleaned Answer at) (nth_contour (parts (map at points) contours) shapes j) (parts left (rings_at left_rings shapes j))
+      shape : (k j : ℕ) → j ≡ k → k + 1 < length shapes → nth_contour (parts (map at points) contours) shapes j ≡ map (map at) (parts points (rings_at rings shapes j))
       shape k j is less =
           let up = rises k less in
           let from = offset shapes k - low in
           let to = offset shapes (k + 1) - low + 1 in
           let total = count_rings in
-          let count : length (rings_at left_rings shapes k) ≡ to - from = length_part left_rings from to (omega (arith, up.1)) (omega (arith, many, total, up.0, up.1, up.2)) in
+          let count : length (rings_at rings shapes k) ≡ to - from = length_part rings from to (omega (arith, up.1)) (omega (arith, total, up.0, up.1, up.2)) in
           let n : ℕ = offset shapes (k + 1) - offset shapes k in
-          let as_many : length (rings_at left_rings shapes k) - 1 ≡ n = omega (arith, count, up.0, up.1) in
+          let as_many : length (rings_at rings shapes k) - 1 ≡ n = omega (arith, count, up.0, up.1) in
           rw (is, polygon_at (map at points) contours shapes k up.1 (omega (arith, up.2, shapes_parted.last)), as_many)
-          (zip_ranges (Cleaned Answer at) (nth_contour (map at points) contours) (nth_contour left (rings_at left_rings shapes k)) (offset shapes k) 0 n (λ j below. ring k up j below))
+          (same_ranges (nth_contour (map at points) contours) (λ i. map at (nth_contour points (rings_at rings shapes k) i)) (offset shapes k) 0 n (λ j below. ring k up j below)
+          ∙ sym (map-map (map at) (nth_contour points (rings_at rings shapes k)) (range_with_len 0 n)))
         where
           ring : (k : ℕ) → (low ≤ offset shapes k) × (offset shapes k ≤ offset shapes (k + 1)) × (offset shapes (k + 1) ≤ high) → (j : ℕ) → j < offset shapes (k + 1) - offset shapes k
-              → Cleaned Answer at (nth_contour (map at points) contours (offset shapes k + j)) (nth_contour left (rings_at left_rings shapes k) (0 + j))
+              → nth_contour (map at points) contours (offset shapes k + j) ≡ map at (nth_contour points (rings_at rings shapes k) (0 + j))
           ring k up j below =
               let from = offset shapes k - low in
               let to = offset shapes (k + 1) - low + 1 in
@@ -181,7 +213,7 @@ module _ {P : Type 0} (at : P → Point) (points : List P) (contours shapes : Li
               let here : 0 + j ≡ j = omega arith in
               let there : low + (from + j) ≡ offset shapes k + j = omega (arith, up.0) in
               let given : nth_contour (map at points) contours (offset shapes k + j) ≡ map at (nth_contour points rings (from + j)) = ap (nth_contour (map at points) contours) (sym there) ∙ ring_is (from + j) (omega (arith, there, below, up.2)) in
-              rw (here, given, nth_part left_rings from to left j (omega (arith, below, up.0, up.1))) (each (from + j) (omega (arith, below, up.0, up.1, up.2, total)))
+              given ∙ rw (here, nth_part rings from to points j (omega (arith, below, up.0, up.1))) refl
 
   -- the polygon that a contour belongs to
   shape_of : (n x : ℕ) → n < length shapes → low ≤ x → x < offset shapes n → (k : ℕ) × (k < n) × (offset shapes k ≤ x) × (x < offset shapes (k + 1))
@@ -193,7 +225,7 @@ module _ {P : Type 0} (at : P → Point) (points : List P) (contours shapes : Li
       go (inr more) before = let next : suc n ≡ n + 1 = omega arith in (n, omega arith, more, subst (λ m. x < offset shapes m) next below)
 
   -- where the polygons are clean, so is each of them
-  pub rings_clean : (Clean : List Point → Type 0) → EachShape Clean (polygons (map at points) contours shapes) → AreClean Clean at points rings (length rings)
+  pub rings_clean : (Clean : List Point → Type 0) → EachShape Clean (polygons (map at points) contours shapes) → (i : ℕ) → i + 1 < length rings → Clean (map at (nth_contour points rings i))
   rings_clean Clean clean i less =
       let total = count_rings in
       let below : low + i < high = omega (arith, less, total) in
@@ -213,32 +245,32 @@ module _ {P : Type 0} (at : P → Point) (points : List P) (contours shapes : Li
       rw (ring_read, ring_is i below) at (shape_clean j [] (omega (arith, fits, many)))
 
   -- the arrays hold what is left of the polygons
-  pub left_written : (Answer : List Point → Option (List Point) → Type 0) (given_rings : List ℕ) (left : List P) (left_rings : List ℕ) (old_points new_points : List P) (old_contours new_contours old_shapes new_shapes : List ℕ) (n : ℕ)
-      → given_rings ≡ rings → CleansRings Answer at points given_rings left left_rings
-      → WritesPolygons (filter_map left_of (polygons_left left left_rings shapes (length shapes - 1))) (length left) (length left_rings) (length shapes) old_points new_points old_contours new_contours old_shapes new_shapes n
+  pub left_written : (Answer : List Point → Option (List Point) → Type 0) (given_rings : List ℕ) (old_points new_points : List P) (old_contours new_contours old_shapes new_shapes : List ℕ) (n : ℕ)
+      → given_rings ≡ rings
+      → WritesLeft Answer at (polygons_of points given_rings shapes (length shapes - 1)) (length points) (length given_rings) (length shapes) old_points new_points old_contours new_contours old_shapes new_shapes n
       → AreShapesLeft (ListClean Answer) at points contours shapes old_points new_points old_contours new_contours old_shapes new_shapes n
-  left_written Answer given_rings left left_rings old_points new_points old_contours new_contours old_shapes new_shapes n same cleaned wrote =
-      let list = filter_map left_of (polygons_left left left_rings shapes (length shapes - 1)) in
+  left_written Answer given_rings old_points new_points old_contours new_contours old_shapes new_shapes n same wrote_given =
+      let wrote = subst (λ w. WritesLeft Answer at (polygons_of points w shapes (length shapes - 1)) (length points) (length w) (length shapes) old_points new_points old_contours new_contours old_shapes new_shapes n) same wrote_given in
+      let list = wrote.left in
       let total = count_rings in
-      let is : CleansRings Answer at points rings left left_rings = subst (λ w. CleansRings Answer at points w left left_rings) same cleaned in
       let made = map (map (map at)) list in
       let made_rings : concatenated made ≡ map (map at) (concatenated list) = concatenated-map (map at) list in
       let made_points : concatenated (concatenated made) ≡ map at (concatenated (concatenated list)) = ap concatenated made_rings ∙ concatenated-map at (concatenated list) in
       let count_points : length (concatenated (concatenated made)) ≡ length (concatenated (concatenated list)) = ap length made_points ∙ length-map (concatenated (concatenated list)) at in
       let count_contours : length (concatenated made) ≡ length (concatenated list) = ap length made_rings ∙ length-map (concatenated list) (map at) in
       let count_shapes : length made ≡ length list = length-map list (map (map at)) in
-      let points_put = put_front (concatenated (concatenated list)) old_points new_points wrote.points_are in
-      let contours_put = put_front (offsets_of 0 (concatenated list)) old_contours new_contours wrote.contours_are in
-      let shapes_put = put_front (offsets_of 0 list) old_shapes new_shapes wrote.shapes_are in
+      let points_put = put_front (concatenated (concatenated list)) old_points new_points wrote.written.points_are in
+      let contours_put = put_front (offsets_of 0 (concatenated list)) old_contours new_contours wrote.written.contours_are in
+      let shapes_put = put_front (offsets_of 0 list) old_shapes new_shapes wrote.written.shapes_are in
       let contour_offsets : offsets_of 0 (concatenated made) ≡ offsets_of 0 (concatenated list) = ap (offsets_of 0) made_rings ∙ offsets-map at 0 (concatenated list) in
       let shape_offsets : offsets_of 0 made ≡ offsets_of 0 list = offsets-map (map at) 0 list in
       record {
         list = made;
-        left = left_clean Answer left left_rings is.many is.cleaned;
-        count = count_shapes ∙ wrote.count;
-        fewer_points = omega (arith, count_points, wrote.fewer_points, is.fewer);
-        fewer_contours = omega (arith, count_contours, wrote.fewer_contours, is.many, total, shapes_parted.last, contours_parted.some);
-        fewer_shapes = omega (arith, wrote.count, wrote.fewer_shapes);
+        left = rw polygons_are wrote.answer;
+        count = count_shapes ∙ wrote.written.count;
+        fewer_points = omega (arith, count_points, wrote.written.fewer_points);
+        fewer_contours = omega (arith, count_contours, wrote.written.fewer_contours, total, shapes_parted.last, contours_parted.some);
+        fewer_shapes = omega (arith, wrote.written.count, wrote.written.fewer_shapes);
         written = rw (count_points, points_put.0) (sym made_points);
         rest = rw count_points points_put.1;
         contours_are = rw (contour_offsets, count_contours, ← length-offsets 0 (concatenated list)) contours_put.2;

@@ -1,44 +1,35 @@
--- How polygons of cleaned contours are written one behind the other. Private functions alone speak of it.
-use Rattle.std.specs.Prelude.{◌≡◌, ℕ, ℤ, ◌+◌, ◌-◌, ◌<◌, ◌≤◌, ◌++◌, ◌⊎◌, List, [], ◌∷◌, map, length, take, drop, slice_range, Option, Some, None, MatchOption}
+-- How what is left of polygons is written one behind the other. Private functions alone speak of it.
+use Rattle.std.specs.Prelude.{◌≡◌, Bool, ℕ, ℤ, ◌+◌, ◌-◌, ◌<◌, ◌≤◌, ◌++◌, ◌⊎◌, List, [], ◌∷◌, map, length, take, drop, slice_range, IsTrue, Option, MatchOption}
 use Rattle.std.specs.Int.{Width}
-use Rattle.std.specs.List.{filter_map, range_with_len}
+use Rattle.std.specs.List.{range_with_len}
+use Rattle.std.specs.Option.{option_map, option_to_list}
 use Rattle.i_shape.specs.Point.{Point}
+use Rattle.i_shape.specs.IntPoint.{IsSafeContour}
 use Rattle.i_shape.specs.Paths.{concatenated}
-use Rattle.i_shape.specs.Written.{slot}
-use Rattle.i_shape_c.specs.Batch.{offset, nth_contour, PartsPoints, AreSafeContours}
+use Rattle.i_shape.specs.ShapeAnswers.{ShapeClean, ListClean}
+use Rattle.i_shape_c.specs.Batch.{offset, nth_contour, AreSafeContours}
 use Rattle.i_shape_c.specs.Cleaned.{unfit_code, unsafe_code}
 use Rattle.i_shape_c.specs.Polygons.{parts, offsets_of, CanCleanShapes}
 use Rattle.i_shape_c.specs.declared.polygons.Counts.{Counts}
 
--- each contour between the first n offsets is clean
-abbrev pub AreClean : {P : Type 0} → (List Point → Type 0) → (P → Point) → List P → List ℕ → ℕ → Type 0
-AreClean Clean point points offsets n = (k : ℕ) → k + 1 < n → Clean (map point (nth_contour points offsets k))
+-- a contour can be cleaned without more memory: it is safe, where it is said to be clean it is, and where it isn't there is room for its points;
+-- `read` gives the points that a list stands for
+pub record IsReady {P : Type 0} (Clean : List Point → Type 0) (width : Width) (read : List P → List Point) (is_clean : Bool) (room : ℕ → Type 0) (ring : List P) : Type 0 where
+  pub safe : IsSafeContour width (read ring)
+  pub clean : IsTrue is_clean → Clean (read ring)
+  pub reserved : (Clean (read ring) → ⊥) → room (length ring)
 
--- the list has what is left of each contour, in its place, and as many offsets, and no more points
-pub record CleansRings {P : Type 0} (Answer : List Point → Option (List Point) → Type 0) (point : P → Point) (points : List P) (offsets : List ℕ) (left : List P) (left_offsets : List ℕ) : Type 0 where
-  pub parted : PartsPoints (length left) left_offsets
-  pub many : length left_offsets ≡ length offsets
-  pub fewer : length left ≤ length points
-  pub cleaned : (k : ℕ) → k + 1 < length offsets → Answer (map point (nth_contour points offsets k)) (slot (map point (nth_contour left left_offsets k)))
-
--- the contour where it has points, and none where it is empty
-abbrev pub filled : {P : Type 0} → List P → Option (List P)
-filled [] = None
-filled (p ∷ ps) = Some (p ∷ ps)
-
--- what is left of a polygon of cleaned contours: nothing where the outer one is empty, and otherwise the contours that have points
-abbrev pub left_of : {P : Type 0} → List (List P) → Option (List (List P))
-left_of [] = Some []
-left_of ([] ∷ holes) = None
-left_of ((p ∷ outer) ∷ holes) = Some ((p ∷ outer) ∷ filter_map filled holes)
+-- so can each contour that the offsets part
+abbrev pub AreReady : {P : Type 0} → (List Point → Type 0) → Width → (List P → List Point) → Bool → (ℕ → Type 0) → List P → List ℕ → Type 0
+AreReady Clean width read all_clean room points rings = (k : ℕ) → k + 1 < length rings → IsReady Clean width read all_clean room (nth_contour points rings k)
 
 -- the offsets of the contours of polygon k, where the list begins with those of the first polygon
 abbrev pub rings_at : List ℕ → List ℕ → ℕ → List ℕ
 rings_at rings shapes k = slice_range rings (offset shapes k - offset shapes 0) (offset shapes (k + 1) - offset shapes 0 + 1)
 
 -- the contours of each of the first n polygons
-abbrev pub polygons_left : {P : Type 0} → List P → List ℕ → List ℕ → ℕ → List (List (List P))
-polygons_left points rings shapes n = map (λ k. parts points (rings_at rings shapes k)) (range_with_len 0 n)
+abbrev pub polygons_of : {P : Type 0} → List P → List ℕ → List ℕ → ℕ → List (List (List P))
+polygons_of points rings shapes n = map (λ k. parts points (rings_at rings shapes k)) (range_with_len 0 n)
 
 -- a part stands in the new list from a place on, and the rest is as it was
 abbrev pub IsPut : {P : Type 0} → ℕ → List P → List P → List P → Type 0
@@ -65,6 +56,18 @@ pub record AppendsPolygons {P : Type 0} (list : List (List (List P))) (old_point
   pub shapes_len : length new_shapes ≡ length old_shapes
   pub shapes_count : after.shapes ≡ before.shapes + length list
 
+-- what is left of a contour is written behind those that are counted before, and nothing where it collapses
+pub record AppendsRingLeft {P : Type 0} (Answer : List Point → Option (List Point) → Type 0) (point : P → Point) (ring : List P) (old_points new_points : List P) (old_contours new_contours : List ℕ) (before after : Counts) : Type 0 where
+  pub left : Option (List P)
+  pub answer : Answer (map point ring) (option_map (map point) left)
+  pub appended : AppendsRings (option_to_list left) old_points new_points old_contours new_contours before after
+
+-- so is what is left of a polygon
+pub record AppendsShapeLeft {P : Type 0} (Answer : List Point → Option (List Point) → Type 0) (point : P → Point) (shape : List (List P)) (old_points new_points : List P) (old_contours new_contours old_shapes new_shapes : List ℕ) (before after : Counts) : Type 0 where
+  pub left : Option (List (List P))
+  pub answer : ShapeClean Answer (map (map point) shape) (option_map (map (map point)) left)
+  pub appended : AppendsPolygons (option_to_list left) old_points new_points old_contours new_contours old_shapes new_shapes before after
+
 -- why polygons can't be cleaned, in the order of the tests, and none where they can
 abbrev pub RefusesPolygons : {P : Type 0} → Width → (P → Point) → List P → List ℕ → List ℕ → ℕ → ℕ → ℕ → Option ℤ → Type 0
 RefusesPolygons width point points contours shapes out_points out_contours out_shapes r =
@@ -81,3 +84,9 @@ pub record WritesPolygons {P : Type 0} (list : List (List (List P))) (points rin
   pub fewer_points : length (concatenated (concatenated list)) ≤ points
   pub fewer_contours : length (concatenated list) < rings
   pub fewer_shapes : length list < shapes
+
+-- they hold what is left of the given polygons
+pub record WritesLeft {P : Type 0} (Answer : List Point → Option (List Point) → Type 0) (point : P → Point) (given : List (List (List P))) (points rings shapes : ℕ) (old_points new_points : List P) (old_contours new_contours old_shapes new_shapes : List ℕ) (n : ℕ) : Type 0 where
+  pub left : List (List (List P))
+  pub answer : ListClean Answer (map (map (map point)) given) (map (map (map point)) left)
+  pub written : WritesPolygons left points rings shapes old_points new_points old_contours new_contours old_shapes new_shapes n

@@ -1,25 +1,25 @@
 //! The cleaning of polygons, which lie in three arrays: points, offsets that part these into contours, and offsets that part the contours
 //! into polygons.
 
-ghost use Rattle.std.specs.Prelude.{◌≡◌, ◌↔◌, ◌+◌, ◌-◌, ◌^◌, ◌<◌, ◌≤◌, length, map, IfOk, OnErr, IsTrue};
-ghost use Rattle.std.specs.List.{filter_map};
-ghost use Rattle.std.specs.Option.{option_to_list};
+ghost use Rattle.std.specs.Prelude.{◌≡◌, ◌↔◌, ◌+◌, ◌-◌, ◌^◌, ◌<◌, ◌≤◌, ℕ, length, map, IfOk, OnErr, IsTrue};
+ghost use Rattle.i_shape.specs.IntPoint.{contour_of};
 ghost use Rattle.i_shape.specs.ShapeAnswers.{ListClean, EachShape};
-ghost use Rattle.i_shape_c.specs.Appended.{AreClean, CleansRings, RefusesPolygons, AppendsRings, AppendsPolygons, WritesPolygons, filled, left_of, polygons_left};
+ghost use Rattle.i_shape_c.specs.Appended.{IsReady, AreReady, RefusesPolygons, AppendsRingLeft, AppendsShapeLeft, WritesLeft, polygons_of};
 ghost use Rattle.i_shape_c.specs.Batch.{offset, AreRising, PartsPoints, AreSafeContours};
 ghost use Rattle.i_shape_c.specs.Polygons.{parts, polygons, CanCleanShapes, AreShapesLeft, CleansPolygons};
 ghost use Rattle.i_shape_c.specs.Points.{point_by};
 
-use crate::batch::{are_parted, can_clean, clean_all, part};
+use crate::batch::{are_parted, can_clean, part};
 use crate::codes::{NO_MEMORY, UNFIT, UNSAFE};
 use crate::point::CPoint;
 use i_shape::ShapeError;
-use i_shape::int::cleaner::{ContourCleaner, InPlaceCleaner};
+use i_shape::int::cleaner::ContourCleaner;
+use i_shape_core::rings::{clean_at, make_room};
 use i_shape_core::safe_range::are_safe;
 use std::alloc::Global;
 
 /// Writes what is left of the polygons to the front of the three arrays, and answers how many they are, or a code below 0.
-pub fn clean_shapes<P: CPoint, C: InPlaceCleaner>(
+pub fn clean_shapes<P: CPoint, C: ContourCleaner>(
     alloc: Global,
     points: &[P],
     contours: &[usize],
@@ -103,9 +103,9 @@ fn can_clean_shapes(
         && shapes.len() <= out_shapes
 }
 
-/// Writes what is left of the polygons to the front of the three arrays, and answers how many they are. Clean contours are read where they
-/// lie. Where one isn't clean, all are cleaned into lists first, so that nothing is written where an allocation fails.
-fn write_cleaned<P: CPoint, C: InPlaceCleaner>(
+/// Writes what is left of the polygons to the front of the three arrays, and answers how many they are. Memory comes first, for contours that
+/// aren't clean alone, so that nothing is written where it is refused.
+fn write_cleaned<P: CPoint, C: ContourCleaner>(
     alloc: Global,
     points: &[P],
     contours: &[usize],
@@ -129,59 +129,18 @@ fn write_cleaned<P: CPoint, C: InPlaceCleaner>(
 {
     let end = shapes[shapes.len() - 1] + 1;
     let rings = part(contours, shapes[0], end);
-    if are_clean::<P, C>(points, rings) {
-        return Ok(write_polygons(points, rings, shapes, out_points, out_contours, out_shapes));
-    }
-    let (left, left_rings) = clean_rings::<P, C>(alloc, points, rings)?;
+    let mut cleaner = C::new(alloc);
+    let all_clean = make_room(&mut cleaner, points, rings)?;
     Ok(write_polygons(
-        left.as_slice(),
-        left_rings.as_slice(),
+        &mut cleaner,
+        points,
+        rings,
         shapes,
+        all_clean,
         out_points,
         out_contours,
         out_shapes,
     ))
-}
-
-/// What is left of each contour that the offsets part, end to end, and the offsets of these.
-fn clean_rings<P: CPoint, C: ContourCleaner>(
-    alloc: Global,
-    points: &[P],
-    offsets: &[usize],
-) -> Result<(Vec<P>, Vec<usize>), ShapeError>
-    requires parted { PartsPoints (length points.now) offsets.now }
-    requires points_safe { AreSafeContours P.Coordinate.width
-        (point_by P.Coordinate.value P.point) points.now offsets.now }
-    ensures { IfOk result
-        (λ left. CleansRings C.answers (point_by P.Coordinate.value P.point)
-        points.now offsets.now left.0.items left.1.items) }
-{
-    let mut left = Vec::from_slice(alloc, points)?;
-    let mut left_offsets = Vec::from_slice(alloc, offsets)?;
-    clean_all::<P, C>(
-        alloc,
-        points,
-        offsets,
-        left.as_mut_slice(),
-        left_offsets.as_mut_slice(),
-    )?;
-    Ok((left, left_offsets))
-}
-
-/// Whether each contour that the offsets part is clean. It takes no memory.
-fn are_clean<P: CPoint, C: ContourCleaner>(points: &[P], offsets: &[usize]) -> bool
-    requires parted { PartsPoints (length points.now) offsets.now }
-    requires points_safe { AreSafeContours P.Coordinate.width
-        (point_by P.Coordinate.value P.point) points.now offsets.now }
-    ensures { IsTrue result ↔ AreClean C.clean (point_by P.Coordinate.value P.point)
-        points.now offsets.now (length offsets.now) }
-{
-    for place in 1..offsets.len() {
-        if !C::is_clean(part(points, offsets[place - 1], offsets[place])) {
-            return false;
-        }
-    }
-    true
 }
 
 /// How many points, contours and polygons are written.
@@ -192,17 +151,22 @@ pub struct Counts {
     pub shapes: usize,
 }
 
-/// Writes what is left of polygons of cleaned contours, which are empty where they collapsed, to the front of the three arrays, and answers
-/// how many they are. `rings` begins with the offsets of the first polygon.
-fn write_polygons<P: CPoint>(
+/// Cleans the contours of polygons, writes what is left of these to the front of the three arrays, and answers how many they are. `rings`
+/// begins with the offsets of the first polygon.
+fn write_polygons<P: CPoint, C: ContourCleaner>(
+    cleaner: &mut C,
     points: &[P],
     rings: &[usize],
     shapes: &[usize],
+    all_clean: bool,
     out_points: &mut [P],
     out_contours: &mut [usize],
     out_shapes: &mut [usize],
 ) -> usize
     requires parted { PartsPoints (length points.now) rings.now }
+    requires ready { AreReady C.clean P.Coordinate.width
+        (λ list. contour_of P.Coordinate.value (P.points list)) all_clean
+        (C.has_room cleaner.old) points.now rings.now }
     requires shapes_some { 0 < length shapes.now }
     requires shapes_order { AreRising shapes.now (length shapes.now) }
     requires shapes_last { offset shapes.now (length shapes.now - 1)
@@ -210,8 +174,8 @@ fn write_polygons<P: CPoint>(
     requires points_room { length points.now ≤ length out_points.old }
     requires contours_room { length rings.now ≤ length out_contours.old }
     requires shapes_room { length shapes.now ≤ length out_shapes.old }
-    ensures { WritesPolygons (filter_map left_of
-        (polygons_left points.now rings.now shapes.now (length shapes.now - 1)))
+    ensures { WritesLeft C.answers (point_by P.Coordinate.value P.point)
+        (polygons_of points.now rings.now shapes.now (length shapes.now - 1))
         (length points.now) (length rings.now) (length shapes.now) out_points.old out_points.new
         out_contours.old out_contours.new out_shapes.old out_shapes.new result }
 {
@@ -226,8 +190,10 @@ fn write_polygons<P: CPoint>(
         let end = shapes[place] - shapes[0] + 1;
         let polygon = part(rings, shapes[place - 1] - shapes[0], end);
         counts = append_polygon(
+            cleaner,
             points,
             polygon,
+            all_clean,
             out_points,
             out_contours,
             out_shapes,
@@ -237,33 +203,43 @@ fn write_polygons<P: CPoint>(
     counts.shapes
 }
 
-/// Writes what is left of a polygon behind those that are written: nothing where its outer contour is empty, and otherwise the contours
-/// that have points.
-fn append_polygon<P: CPoint>(
+/// Writes what is left of a polygon behind those that are written: nothing where its outer contour collapses, and otherwise the contours
+/// that don't.
+fn append_polygon<P: CPoint, C: ContourCleaner>(
+    cleaner: &mut C,
     points: &[P],
     rings: &[usize],
+    all_clean: bool,
     out_points: &mut [P],
     out_contours: &mut [usize],
     out_shapes: &mut [usize],
     counts: Counts,
 ) -> Counts
     requires parted { PartsPoints (length points.now) rings.now }
+    requires ready { AreReady C.clean P.Coordinate.width
+        (λ list. contour_of P.Coordinate.value (P.points list)) all_clean
+        (C.has_room cleaner.old) points.now rings.now }
     requires points_room { counts.points + offset rings.now (length rings.now - 1)
         ≤ length out_points.old + offset rings.now 0 }
     requires contours_room { counts.contours + length rings.now ≤ length out_contours.old }
     requires shapes_room { counts.shapes + 1 < length out_shapes.old }
-    ensures appended { AppendsPolygons (option_to_list (left_of (parts points.now rings.now)))
-        out_points.old out_points.new out_contours.old out_contours.new
-        out_shapes.old out_shapes.new counts result }
+    ensures left { AppendsShapeLeft C.answers (point_by P.Coordinate.value P.point)
+        (parts points.now rings.now) out_points.old out_points.new
+        out_contours.old out_contours.new out_shapes.old out_shapes.new counts result }
     ensures fewer_points { result.points + offset rings.now 0
         ≤ counts.points + offset rings.now (length rings.now - 1) }
     ensures fewer_contours { result.contours < counts.contours + length rings.now }
     ensures fewer_shapes { result.shapes ≤ counts.shapes + 1 }
+    ensures keeps_room { (n : ℕ) → C.has_room cleaner.old n → C.has_room cleaner.new n }
 {
-    if rings.len() > 1 && rings[0] == rings[1] {
-        return counts;
+    let mut written = counts;
+    for place in 1..rings.len() {
+        let ring = part(points, rings[place - 1], rings[place]);
+        written = append_ring(cleaner, ring, all_clean, out_points, out_contours, written);
+        if written.contours == counts.contours {
+            return counts;
+        }
     }
-    let written = append_rings(points, rings, out_points, out_contours, counts);
     out_shapes[written.shapes + 1] = written.contours;
     Counts {
         points: written.points,
@@ -272,53 +248,31 @@ fn append_polygon<P: CPoint>(
     }
 }
 
-/// Writes the contours that have points behind those that are written.
-fn append_rings<P: CPoint>(
-    points: &[P],
-    rings: &[usize],
-    out_points: &mut [P],
-    out_contours: &mut [usize],
-    counts: Counts,
-) -> Counts
-    requires parted { PartsPoints (length points.now) rings.now }
-    requires points_room { counts.points + offset rings.now (length rings.now - 1)
-        ≤ length out_points.old + offset rings.now 0 }
-    requires contours_room { counts.contours + length rings.now ≤ length out_contours.old }
-    ensures appended { AppendsRings (filter_map filled (parts points.now rings.now))
-        out_points.old out_points.new out_contours.old out_contours.new counts result }
-    ensures fewer_points { result.points + offset rings.now 0
-        ≤ counts.points + offset rings.now (length rings.now - 1) }
-    ensures fewer_contours { result.contours < counts.contours + length rings.now }
-    ensures shapes { result.shapes ≡ counts.shapes }
-{
-    let mut written = counts;
-    for place in 1..rings.len() {
-        let ring = part(points, rings[place - 1], rings[place]);
-        written = append_ring(ring, out_points, out_contours, written);
-    }
-    written
-}
-
-/// Writes a contour behind those that are written, unless it is empty.
-fn append_ring<P: CPoint>(
+/// Writes what is left of a contour behind those that are written, unless it collapses.
+fn append_ring<P: CPoint, C: ContourCleaner>(
+    cleaner: &mut C,
     ring: &[P],
+    is_clean: bool,
     out_points: &mut [P],
     out_contours: &mut [usize],
     counts: Counts,
 ) -> Counts
+    requires ready { IsReady C.clean P.Coordinate.width
+        (λ list. contour_of P.Coordinate.value (P.points list)) is_clean
+        (C.has_room cleaner.old) ring.now }
     requires points_room { counts.points + length ring.now ≤ length out_points.old }
     requires contours_room { counts.contours + 1 < length out_contours.old }
-    ensures appended { AppendsRings (option_to_list (filled ring.now))
+    ensures left { AppendsRingLeft C.answers (point_by P.Coordinate.value P.point) ring.now
         out_points.old out_points.new out_contours.old out_contours.new counts result }
     ensures fewer_points { result.points ≤ counts.points + length ring.now }
     ensures fewer_contours { result.contours ≤ counts.contours + 1 }
     ensures shapes { result.shapes ≡ counts.shapes }
+    ensures keeps_room { (n : ℕ) → C.has_room cleaner.old n → C.has_room cleaner.new n }
 {
-    if ring.is_empty() {
+    let end = clean_at(cleaner, ring, is_clean, out_points, counts.points);
+    if end == counts.points {
         return counts;
     }
-    let end = counts.points + ring.len();
-    out_points[counts.points..end].copy_from_slice(ring);
     out_contours[counts.contours + 1] = end;
     Counts {
         points: end,

@@ -1,10 +1,11 @@
-use Rattle.std.proofs.Common.{◌-◌, IsTrue, length, arith}
+use Rattle.std.proofs.Common.{◌-◌, ◌+◌, ◌<◌, ℕ, inr, length, map, arith}
 use Rattle.i_shape.specs.Point.{Point}
-use Rattle.i_shape.specs.IntPoint.{point_of}
-use Rattle.i_shape_c.specs.Batch.{PartsPoints}
+use Rattle.i_shape.specs.IntPoint.{point_of, contour_of}
+use Rattle.i_shape_core.specs.Rings.{AreSafeRings}
+use Rattle.i_shape_c.specs.Batch.{nth_contour}
 use Rattle.i_shape_core.proofs.lists.Rings.{rises_to}
-use Rattle.i_shape_c.proofs.Batches.{on_err}
-use Rattle.i_shape_c.proofs.PolygonsLeft.{rings_parted, rings_safe, rings_clean, rings_stay, left_written}
+use Rattle.i_shape_c.proofs.Batches.{safe_rings, same, on_err}
+use Rattle.i_shape_c.proofs.PolygonsLeft.{rings, rings_parted, rings_safe, rings_clean, left_written}
 use Rattle.i_shape_c.proofs.polygons.write_cleaned.Goals as goal
 
 pub part-rings-requires-clause-order : goal.part-rings-requires-clause-order
@@ -16,8 +17,8 @@ part-rings-requires-clause-order g c =
 pub part-rings-requires-clause-within : goal.part-rings-requires-clause-within
 part-rings-requires-clause-within g c = omega (arith, c.requires.can.shapes_parted.last, c.requires.can.contours_fit.parted.some)
 
-pub are_clean-requires-clause-parted : goal.are_clean-requires-clause-parted
-are_clean-requires-clause-parted g c =
+pub make_room-requires-clause-parted : goal.make_room-requires-clause-parted
+make_room-requires-clause-parted g c =
     let at : g.row.P.Denot → Point = λ p. point_of g.P.Coordinate.IntNumber.value (g.P.ContourPoint.point p) in
     rw (c.part-rings.ensures.part)
     (rings_parted at c.args.points.now c.args.contours.now c.args.shapes.now c.requires.can.contours_fit.parted c.requires.can.shapes_parted)
@@ -28,47 +29,31 @@ write_polygons-requires-clause-parted g c =
     rw (c.part-rings.ensures.part)
     (rings_parted at c.args.points.now c.args.contours.now c.args.shapes.now c.requires.can.contours_fit.parted c.requires.can.shapes_parted)
 
-pub clean_rings-requires-clause-parted : goal.clean_rings-requires-clause-parted
-clean_rings-requires-clause-parted g c =
-    let at : g.row.P.Denot → Point = λ p. point_of g.P.Coordinate.IntNumber.value (g.P.ContourPoint.point p) in
-    rw (c.part-rings.ensures.part)
-    (rings_parted at c.args.points.now c.args.contours.now c.args.shapes.now c.requires.can.contours_fit.parted c.requires.can.shapes_parted)
-
-pub are_clean-requires-clause-points_safe : goal.are_clean-requires-clause-points_safe
-are_clean-requires-clause-points_safe g c =
-    let at : g.row.P.Denot → Point = λ p. point_of g.P.Coordinate.IntNumber.value (g.P.ContourPoint.point p) in
-    rw (c.part-rings.ensures.part)
-    (rings_safe at c.args.points.now c.args.contours.now c.args.shapes.now c.requires.can.contours_fit.parted c.requires.can.shapes_parted g.P.Coordinate.IntNumber.width c.requires.points_safe)
-
-pub clean_rings-requires-clause-points_safe : goal.clean_rings-requires-clause-points_safe
-clean_rings-requires-clause-points_safe g c =
-    let at : g.row.P.Denot → Point = λ p. point_of g.P.Coordinate.IntNumber.value (g.P.ContourPoint.point p) in
-    rw (c.part-rings.ensures.part)
-    (rings_safe at c.args.points.now c.args.contours.now c.args.shapes.now c.requires.can.contours_fit.parted c.requires.can.shapes_parted g.P.Coordinate.IntNumber.width c.requires.points_safe)
-
-pub returns-then-are_clean-clause-ok : goal.returns-then-are_clean-clause-ok
-returns-then-are_clean-clause-ok g c =
+pub make_room-requires-clause-points_safe : goal.make_room-requires-clause-points_safe
+make_room-requires-clause-points_safe g c =
     let at : g.row.P.Denot → Point = λ p. point_of g.P.Coordinate.IntNumber.value (g.P.ContourPoint.point p) in
     let points = c.args.points.now in
-    let rings = c.part-rings.result.now in
-    let parted : PartsPoints (length points) rings = rw (c.part-rings.ensures.part) (rings_parted at points c.args.contours.now c.args.shapes.now c.requires.can.contours_fit.parted c.requires.can.shapes_parted) in
-    let stay = rings_stay g.C.ContourCleaner.answers g.C.ContourCleaner.clean g.met.C.InPlaceCleaner.stays g.met.C.InPlaceCleaner.clean_points at points rings parted (c.are_clean.ensures.0 c.if-are_clean.true) in
-    left_written at points c.args.contours.now c.args.shapes.now c.requires.can.contours_fit.parted c.requires.can.shapes_parted g.C.ContourCleaner.answers rings points rings
-    c.args.out_points.now c.write_polygons.new.out_points c.args.out_contours.now c.write_polygons.new.out_contours c.args.out_shapes.now c.write_polygons.new.out_shapes c.write_polygons.result
-    c.part-rings.ensures.part stay c.write_polygons.ensures
+    rw (c.part-rings.ensures.part)
+    (safe_rings g.P.Coordinate.IntNumber.width g.P.Coordinate.IntNumber.value g.P.ContourPoint.point g.P.ContourPoint.points g.P.ContourPoint.each points (rings at c.args.points.now c.args.contours.now c.args.shapes.now c.requires.can.contours_fit.parted c.requires.can.shapes_parted) (rings_parted at c.args.points.now c.args.contours.now c.args.shapes.now c.requires.can.contours_fit.parted c.requires.can.shapes_parted).order (rings_safe at c.args.points.now c.args.contours.now c.args.shapes.now c.requires.can.contours_fit.parted c.requires.can.shapes_parted g.P.Coordinate.IntNumber.width c.requires.points_safe))
 
-pub returns-in_err-left-clause-memory : goal.returns-in_err-left-clause-memory
-returns-in_err-left-clause-memory g c =
+pub write_polygons-requires-clause-ready : goal.write_polygons-requires-clause-ready
+write_polygons-requires-clause-ready g c = λ k less.
     let at : g.row.P.Denot → Point = λ p. point_of g.P.Coordinate.IntNumber.value (g.P.ContourPoint.point p) in
+    let safe : AreSafeRings g.P.Coordinate.IntNumber.width (λ list. contour_of g.P.Coordinate.IntNumber.value (g.P.ContourPoint.points list)) c.args.points.now c.part-rings.result.now = rw (c.part-rings.ensures.part)
+    (safe_rings g.P.Coordinate.IntNumber.width g.P.Coordinate.IntNumber.value g.P.ContourPoint.point g.P.ContourPoint.points g.P.ContourPoint.each c.args.points.now (rings at c.args.points.now c.args.contours.now c.args.shapes.now c.requires.can.contours_fit.parted c.requires.can.shapes_parted) (rings_parted at c.args.points.now c.args.contours.now c.args.shapes.now c.requires.can.contours_fit.parted c.requires.can.shapes_parted).order (rings_safe at c.args.points.now c.args.contours.now c.args.shapes.now c.requires.can.contours_fit.parted c.requires.can.shapes_parted g.P.Coordinate.IntNumber.width c.requires.points_safe)) in
+    record { safe = safe k less; clean = λ all. c.in_ok-all_clean.ensures.clean all k less; reserved = c.in_ok-all_clean.ensures.room k less }
+
+pub returns-in_err-all_clean-clause-memory : goal.returns-in_err-all_clean-clause-memory
+returns-in_err-all_clean-clause-memory g c =
+    let at : g.row.P.Denot → Point = λ p. point_of g.P.Coordinate.IntNumber.value (g.P.ContourPoint.point p) in
+    let rings_now = c.part-rings.result.now in
     on_err c.from_residual.result (λ each.
-    let clean = rings_clean at c.args.points.now c.args.contours.now c.args.shapes.now c.requires.can.contours_fit.parted c.requires.can.shapes_parted g.C.ContourCleaner.clean each in
-    let told : IsTrue c.are_clean.result = c.are_clean.ensures.1 (rw (c.part-rings.ensures.part) clean) in
-    absurd (cc))
+    let clean : (k : ℕ) → k + 1 < length rings_now → g.C.ContourCleaner.clean (map at (nth_contour c.args.points.now rings_now k)) = rw (c.part-rings.ensures.part) (rings_clean at c.args.points.now c.args.contours.now c.args.shapes.now c.requires.can.contours_fit.parted c.requires.can.shapes_parted g.C.ContourCleaner.clean each) in
+    c.in_err-all_clean.ensures.unclean (λ k less. inr (rw (same g.P.Coordinate.IntNumber.width g.P.Coordinate.IntNumber.value g.P.ContourPoint.point g.P.ContourPoint.points g.P.ContourPoint.each (nth_contour c.args.points.now rings_now k)) (clean k less))))
 
 pub returns-clause-ok : goal.returns-clause-ok
 returns-clause-ok g c =
     let at : g.row.P.Denot → Point = λ p. point_of g.P.Coordinate.IntNumber.value (g.P.ContourPoint.point p) in
-    let wrote = rw (c.as_slice.ensures.value, c.as_slice-2.ensures.value) at c.write_polygons-2.ensures in
-    left_written at c.args.points.now c.args.contours.now c.args.shapes.now c.requires.can.contours_fit.parted c.requires.can.shapes_parted g.C.ContourCleaner.answers c.part-rings.result.now _ _
-    c.args.out_points.now c.write_polygons-2.new.out_points c.args.out_contours.now c.write_polygons-2.new.out_contours c.args.out_shapes.now c.write_polygons-2.new.out_shapes c.write_polygons-2.result
-    c.part-rings.ensures.part c.in_ok-left.ensures wrote
+    left_written at c.args.points.now c.args.contours.now c.args.shapes.now c.requires.can.contours_fit.parted c.requires.can.shapes_parted g.C.ContourCleaner.answers c.part-rings.result.now
+    c.args.out_points.now c.write_polygons.new.out_points c.args.out_contours.now c.write_polygons.new.out_contours c.args.out_shapes.now c.write_polygons.new.out_shapes c.write_polygons.result
+    c.part-rings.ensures.part c.write_polygons.ensures

@@ -1,18 +1,29 @@
-use Rattle.std.proofs.Common.{◌≡◌, ◌+◌, ◌-◌, ◌≤◌, ◌++◌, ◌∙◌, ℕ, List, length, slice_range, set, sym, ap, subst, arith}
-use Rattle.std.specs.List.{filter_map}
-use Rattle.std.specs.Option.{option_to_list}
+use Rattle.std.proofs.Common.{◌≡◌, ◌+◌, ◌-◌, ◌++◌, ◌∙◌, ◌∷◌, [], ℕ, List, length, slice_range, set, sym, ap, subst, arith}
 use Rattle.std.proofs.lemmas.List.{length-set}
-use Rattle.i_shape_c.specs.Appended.{left_of, polygons_left, rings_at, AppendsPolygons}
-use Rattle.i_shape_c.specs.Batch.{offset}
-use Rattle.i_shape_c.specs.Polygons.{parts}
+use Rattle.std.proofs.lemmas.List.FromFn.{map-range_with_len_more}
+use Rattle.i_shape.specs.IntPoint.{point_of, contour_of}
+use Rattle.i_shape.specs.Point.{Point}
+use Rattle.i_shape.specs.ShapeAnswers.{ShapeClean}
 use Rattle.i_shape_core.proofs.lists.Rings.{rises_to}
-use Rattle.i_shape_c.proofs.Appended.{polygons_none, polygons_more, left_more, rises_in, parted_in, ends_in, all_written_out}
+use Rattle.i_shape_core.proofs.lists.Survivors.{survivors-none}
+use Rattle.i_shape_c.specs.Appended.{IsReady, AppendsShapeLeft, polygons_of, rings_at}
+use Rattle.i_shape_c.specs.Batch.{offset, nth_contour}
+use Rattle.i_shape_c.specs.Polygons.{parts}
+use Rattle.i_shape_c.specs.declared.polygons.Counts.{Counts}
+use Rattle.i_shape_c.proofs.Appended.{polygons_none, rises_in, parted_in, ends_in, all_written_out}
+use Rattle.i_shape_c.proofs.PolygonsLeft.{ShapesBegun, shapes_more, ready_still, each_part}
 use Rattle.i_shape_c.proofs.polygons.write_polygons.Goals as goal
 
 pub loop-place-init : goal.loop-place-init
 loop-place-init g c =
     let none : offset c.args.shapes.now 0 - offset c.args.shapes.now 0 ≡ 0 = omega arith in
-    record { appended = polygons_none c.args.out_points.now (set c.args.out_contours.now 0 0) (set c.args.out_shapes.now 0 0) _; fewer_points = rw none (omega arith); fewer_contours = omega arith; fewer_shapes = omega arith }
+    record {
+      begun = record { kept = []; shapes = survivors-none (ShapeClean g.C.ContourCleaner.answers); appended = polygons_none c.args.out_points.now (set c.args.out_contours.now 0 0) (set c.args.out_shapes.now 0 0) _ };
+      fewer_points = rw none (omega arith);
+      fewer_contours = omega arith;
+      fewer_shapes = omega arith;
+      keeps_room = λ n had. had;
+    }
 
 pub overflow_add-end : goal.overflow_add-end
 overflow_add-end g c =
@@ -34,6 +45,18 @@ append_polygon-counts-requires-clause-parted g c =
     rw (c.part-polygon.ensures.part)
     (parted_in c.args.rings.now c.args.shapes.now c.loop-place.place c.requires.shapes_order (omega arith) c.loop-place-test.true c.requires.shapes_last (length c.args.points.now) c.requires.parted)
 
+pub append_polygon-counts-requires-clause-ready : goal.append_polygon-counts-requires-clause-ready
+append_polygon-counts-requires-clause-ready g c =
+    let rings = c.args.rings.now in
+    let shapes = c.args.shapes.now in
+    let up = rises_in rings shapes c.loop-place.place c.requires.shapes_order (omega arith) c.loop-place-test.true c.requires.shapes_last in
+    let read : List g.row.P.Denot → List Point = λ list. contour_of g.P.Coordinate.IntNumber.value (g.P.ContourPoint.points list) in
+    rw (c.part-polygon.ensures.part)
+    (each_part (IsReady g.C.ContourCleaner.clean g.P.Coordinate.IntNumber.width read c.args.all_clean (g.C.ContourCleaner.has_room c.loop-place.cleaner)) c.args.points.now rings (offset shapes (c.loop-place.place - 1) - offset shapes 0) (offset shapes c.loop-place.place - offset shapes 0 + 1)
+    (omega (arith, up.0, up.1)) (omega (arith, up.0, up.1, up.2))
+    (λ k less. ready_still g.C.ContourCleaner.clean g.P.Coordinate.IntNumber.width read c.args.all_clean (g.C.ContourCleaner.has_room c.args.cleaner.now) (g.C.ContourCleaner.has_room c.loop-place.cleaner) (nth_contour c.args.points.now rings k)
+    c.loop-place.invariant.keeps_room (c.requires.ready k less)))
+
 pub append_polygon-counts-requires-clause-points_room : goal.append_polygon-counts-requires-clause-points_room
 append_polygon-counts-requires-clause-points_room g c =
     let rings = c.args.rings.now in
@@ -41,15 +64,17 @@ append_polygon-counts-requires-clause-points_room g c =
     let up = rises_in rings shapes c.loop-place.place c.requires.shapes_order (omega arith) c.loop-place-test.true c.requires.shapes_last in
     let ends = ends_in rings shapes c.loop-place.place c.requires.shapes_order (omega arith) c.loop-place-test.true c.requires.shapes_last in
     let last = rises_to rings (length rings) (offset shapes c.loop-place.place - offset shapes 0) (length rings - 1) c.requires.parted.order (omega (arith, up.0, up.1, up.2)) (omega (arith, c.requires.parted.some)) in
-    rw (c.part-polygon.ensures.part, ends.0, ends.1) (omega (arith, c.loop-place.invariant.fewer_points, last, c.requires.parted.last, c.requires.points_room, c.loop-place.invariant.appended.rings.points_len))
+    rw (c.part-polygon.ensures.part, ends.0, ends.1) (omega (arith, c.loop-place.invariant.fewer_points, last, c.requires.parted.last, c.requires.points_room, c.loop-place.invariant.begun.appended.rings.points_len))
 
 pub append_polygon-counts-requires-clause-contours_room : goal.append_polygon-counts-requires-clause-contours_room
 append_polygon-counts-requires-clause-contours_room g c =
     let up = rises_in c.args.rings.now c.args.shapes.now c.loop-place.place c.requires.shapes_order (omega arith) c.loop-place-test.true c.requires.shapes_last in
-    omega (arith, up.0, up.1, up.2, c.part-polygon.ensures.len, c.loop-place.invariant.fewer_contours, c.requires.contours_room, c.loop-place.invariant.appended.rings.contours_len, length-set c.args.out_contours.now 0 0)
+    omega (arith, up.0, up.1, up.2, c.part-polygon.ensures.len, c.loop-place.invariant.fewer_contours, c.requires.contours_room, c.loop-place.invariant.begun.appended.rings.contours_len, length-set c.args.out_contours.now 0 0)
 
 pub loop-place-preserved : goal.loop-place-preserved
 loop-place-preserved g c =
+    let at : g.row.P.Denot → Point = λ p. point_of g.P.Coordinate.IntNumber.value (g.P.ContourPoint.point p) in
+    let Answer = g.C.ContourCleaner.answers in
     let points = c.args.points.now in
     let rings = c.args.rings.now in
     let shapes = c.args.shapes.now in
@@ -57,30 +82,28 @@ loop-place-preserved g c =
     let k = place - 1 in
     let f : ℕ → List (List g.row.P.Denot) = λ k. parts points (rings_at rings shapes k) in
     let inv = c.loop-place.invariant in
-    let step = c.append_polygon-counts.ensures in
-    let above : 1 ≤ place = c.loop-place.auto.place in
-    let next : k + 1 ≡ place = omega (arith, above) in
+    let step = c.append_polygon-counts in
+    let next : k + 1 ≡ place = omega (arith, c.loop-place.auto.place) in
     let count : place + 1 - 1 ≡ place = omega arith in
     let up = rises_in rings shapes place c.requires.shapes_order (omega arith) c.loop-place-test.true c.requires.shapes_last in
     let ends = ends_in rings shapes place c.requires.shapes_order (omega arith) c.loop-place-test.true c.requires.shapes_last in
     let long = length-set c.args.out_contours.now 0 0 in
     let long_shapes = length-set c.args.out_shapes.now 0 0 in
-    let whole : filter_map left_of (polygons_left points rings shapes (place + 1 - 1)) ≡ filter_map left_of (polygons_left points rings shapes k) ++ option_to_list (left_of (f k)) =
-    ap (λ n. filter_map left_of (polygons_left points rings shapes n)) (count ∙ sym next) ∙ left_more f k in
+    let whole : polygons_of points rings shapes (place + 1 - 1) ≡ polygons_of points rings shapes k ++ (f k ∷ []) = ap (polygons_of points rings shapes) (count ∙ sym next) ∙ map-range_with_len_more f 0 k k (let e : 0 + k ≡ k = omega arith in e) in
     let is : parts points c.part-polygon.result.now ≡ f k = ap (parts points) (c.part-polygon.ensures.part ∙ ap (λ j. slice_range rings (offset shapes k - offset shapes 0) (offset shapes j - offset shapes 0 + 1)) (sym next)) in
-    let fewer = rw (c.part-polygon.ensures.part, ends.0, ends.1) at step.fewer_points in
+    let fewer = rw (c.part-polygon.ensures.part, ends.0, ends.1) at step.ensures.fewer_points in
+    let zero : Counts = record { points = 0; contours = 0; shapes = 0 } in
+    let left : AppendsShapeLeft Answer at (f k) c.loop-place.out_points step.new.out_points c.loop-place.out_contours step.new.out_contours c.loop-place.out_shapes step.new.out_shapes c.loop-place.counts step.result =
+    subst (λ w. AppendsShapeLeft Answer at w c.loop-place.out_points step.new.out_points c.loop-place.out_contours step.new.out_contours c.loop-place.out_shapes step.new.out_shapes c.loop-place.counts step.result) is step.ensures.left in
     record {
-      appended = subst (λ w. AppendsPolygons w c.args.out_points.now c.append_polygon-counts.new.out_points (set c.args.out_contours.now 0 0) c.append_polygon-counts.new.out_contours (set c.args.out_shapes.now 0 0) c.append_polygon-counts.new.out_shapes
-          (record { points = 0; contours = 0; shapes = 0 }) c.append_polygon-counts.result) (sym whole)
-          (polygons_more (filter_map left_of (polygons_left points rings shapes k)) (option_to_list (left_of (f k))) c.args.out_points.now c.loop-place.out_points c.append_polygon-counts.new.out_points
-          (set c.args.out_contours.now 0 0) c.loop-place.out_contours c.append_polygon-counts.new.out_contours (set c.args.out_shapes.now 0 0) c.loop-place.out_shapes c.append_polygon-counts.new.out_shapes
-          (record { points = 0; contours = 0; shapes = 0 }) c.loop-place.counts c.append_polygon-counts.result inv.appended
-          (subst (λ w. AppendsPolygons (option_to_list (left_of w)) c.loop-place.out_points c.append_polygon-counts.new.out_points c.loop-place.out_contours c.append_polygon-counts.new.out_contours c.loop-place.out_shapes
-          c.append_polygon-counts.new.out_shapes c.loop-place.counts c.append_polygon-counts.result) is step.appended)
+      begun = subst (λ w. ShapesBegun Answer at w c.args.out_points.now step.new.out_points (set c.args.out_contours.now 0 0) step.new.out_contours (set c.args.out_shapes.now 0 0) step.new.out_shapes zero step.result) (sym whole)
+          (shapes_more Answer at c.args.out_points.now c.loop-place.out_points step.new.out_points (set c.args.out_contours.now 0 0) c.loop-place.out_contours step.new.out_contours zero c.loop-place.counts step.result
+          (polygons_of points rings shapes k) (f k) (set c.args.out_shapes.now 0 0) c.loop-place.out_shapes step.new.out_shapes inv.begun left
           (omega arith) (omega (arith, long, c.requires.contours_room, c.requires.parted.some)) (omega (arith, long_shapes, c.requires.shapes_room, c.requires.shapes_some)));
       fewer_points = rw count (omega (arith, fewer, inv.fewer_points));
-      fewer_contours = rw count (omega (arith, step.fewer_contours, inv.fewer_contours, c.part-polygon.ensures.len, up.0, up.1));
-      fewer_shapes = omega (arith, step.fewer_shapes, inv.fewer_shapes);
+      fewer_contours = rw count (omega (arith, step.ensures.fewer_contours, inv.fewer_contours, c.part-polygon.ensures.len, up.0, up.1));
+      fewer_shapes = omega (arith, step.ensures.fewer_shapes, inv.fewer_shapes);
+      keeps_room = λ n had. step.ensures.keeps_room n (inv.keeps_room n had);
     }
 
 pub returns : goal.returns
@@ -94,6 +117,11 @@ returns g c =
     let back = rises_to rings (length rings) (offset shapes (length shapes - 1) - offset shapes 0) (length rings - 1) c.requires.parted.order (omega (arith, front, c.requires.shapes_last)) (omega (arith, c.requires.parted.some)) in
     let fewer_points = rw last at inv.fewer_points in
     let fewer_contours = rw last at inv.fewer_contours in
-    all_written_out _ (length c.args.points.now) (length rings) (length shapes) c.args.out_points.now c.loop-place.out_points c.args.out_contours.now c.loop-place.out_contours c.args.out_shapes.now c.loop-place.out_shapes c.loop-place.counts
-    (rw last at inv.appended) (omega (arith, c.requires.contours_room, c.requires.parted.some)) (omega (arith, c.requires.shapes_room, c.requires.shapes_some))
-    (omega (arith, fewer_points, back, c.requires.parted.last)) (omega (arith, fewer_contours, c.requires.shapes_last)) (omega (arith, inv.fewer_shapes, same))
+    let begun = rw last at inv.begun in
+    record {
+      left = begun.kept;
+      answer = begun.shapes;
+      written = all_written_out begun.kept (length c.args.points.now) (length rings) (length shapes) c.args.out_points.now c.loop-place.out_points c.args.out_contours.now c.loop-place.out_contours c.args.out_shapes.now c.loop-place.out_shapes c.loop-place.counts
+          begun.appended (omega (arith, c.requires.contours_room, c.requires.parted.some)) (omega (arith, c.requires.shapes_room, c.requires.shapes_some))
+          (omega (arith, fewer_points, back, c.requires.parted.last)) (omega (arith, fewer_contours, c.requires.shapes_last)) (omega (arith, inv.fewer_shapes, same));
+    }
