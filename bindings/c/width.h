@@ -508,11 +508,12 @@ static void AT(test_named)(void) {
     memcpy(given + contours[0], square, sizeof square);
     size_t out_contours[2], out_shapes[2];
 #ifdef REFUSES
+    const size_t places = CORNERS * sizeof(size_t), lists = CORNERS * sizeof(POINT) + places;
     for (int k = 0; k < CLEANERS; k++) {
         growths = asked = 0;
         check(AT(polygons)[k](given, COUNT, contours, 2, shapes, 2, out, COUNT, out_contours, 2, out_shapes, 2) == 1, W, cleaner_names[k], "five of 2^20 points");
-        check(growths <= (is_form(k) ? 12 : k == 0), W, cleaner_names[k], "how often it takes memory for five of 2^20 points");
-        check(is_form(k) || asked <= (k == 0 ? CORNERS * sizeof(size_t) : 0), W, cleaner_names[k], "how much it asks for of five of 2^20 points");
+        check(growths == (is_form(k) ? 10 : k == 0), W, cleaner_names[k], "how often it takes memory for five of 2^20 points");
+        check(asked <= (is_form(k) ? 4 * lists : k == 0 ? places : 0), W, cleaner_names[k], "how much it asks for of five of 2^20 points");
     }
 #endif
     if (mprotect(memory, from, PROT_NONE) != 0 || mprotect(memory + from + page, size - from - page, PROT_NONE) != 0) abort();

@@ -140,7 +140,7 @@ fn formed<P: CPoint, S: ShapesForm<P::Coordinate>>(
     Ok(buffer)
 }
 
-/// The polygons, end to end.
+/// The polygons, end to end. It takes memory for their points and contours alone.
 fn polygons_of<P: CPoint>(
     alloc: Global,
     points: &[P],
@@ -152,10 +152,12 @@ fn polygons_of<P: CPoint>(
     ensures { IfOk result
         (λ buffer. HoldsShapes buffer (polygons (map P.point points.now) contours.now shapes.now)) }
 {
+    let first = shapes[0];
+    let last = shapes[shapes.len() - 1];
     let mut buffer = FlatShapesBuffer::with_capacity(
         alloc,
-        points.len(),
-        contours.len() - 1,
+        contours[last] - contours[first],
+        last - first,
         shapes.len() - 1,
     )?;
     for place in 1..shapes.len() {

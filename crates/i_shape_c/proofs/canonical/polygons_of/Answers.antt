@@ -1,4 +1,4 @@
-use Rattle.std.proofs.Common.{◌≡◌, ◌+◌, ◌-◌, ◌≤◌, ◌∙◌, length, map, sym, subst, arith}
+use Rattle.std.proofs.Common.{◌≡◌, ◌+◌, ◌-◌, ◌≤◌, ◌<◌, ◌∙◌, length, map, sym, subst, arith, rules}
 use Rattle.std.specs.List.{range_with_len}
 use Rattle.std.proofs.lemmas.List.FromFn.{map-range_with_len_more}
 use Rattle.i_shape.proofs.buffers.Shapes.{HoldsShapes-from_lists}
@@ -8,6 +8,32 @@ use Rattle.i_shape_c.specs.Polygons.{parts}
 use Rattle.i_shape_core.proofs.lists.Rings.{rises_to}
 use Rattle.i_shape_c.proofs.PolygonLists.{HasEndToEnd, polygon_more, polygon_at}
 use Rattle.i_shape_c.proofs.canonical.polygons_of.Goals as goal
+
+pub bounds-contours-first : goal.bounds-contours-first
+bounds-contours-first g c =
+    let part = c.requires.shapes_part in
+    let up = rises_to c.args.shapes.now (length c.args.shapes.now) 0 (length c.args.shapes.now - 1) part.order (omega arith) (omega (arith, part.some)) in
+    omega (arith, up, part.last, c.requires.contours_part.some)
+
+pub offset_bounds-contours-first : goal.offset_bounds-contours-first
+offset_bounds-contours-first g c =
+    let part = c.requires.shapes_part in
+    let up = rises_to c.args.shapes.now (length c.args.shapes.now) 0 (length c.args.shapes.now - 1) part.order (omega arith) (omega (arith, part.some)) in
+    let below : offset c.args.shapes.now 0 < length c.args.contours.now = omega (arith, up, part.last, c.requires.contours_part.some) in
+    search (rules, below)
+
+pub overflow_sub-contours : goal.overflow_sub-contours
+overflow_sub-contours g c =
+    let part = c.requires.shapes_part in
+    let up = rises_to c.args.shapes.now (length c.args.shapes.now) 0 (length c.args.shapes.now - 1) part.order (omega arith) (omega (arith, part.some)) in
+    let rise = rises_to c.args.contours.now (length c.args.contours.now) (offset c.args.shapes.now 0) (offset c.args.shapes.now (length c.args.shapes.now - 1)) c.requires.contours_part.order up (omega (arith, part.last, c.requires.contours_part.some)) in
+    omega (arith, rise)
+
+pub overflow_sub-last-2 : goal.overflow_sub-last-2
+overflow_sub-last-2 g c =
+    let part = c.requires.shapes_part in
+    let up = rises_to c.args.shapes.now (length c.args.shapes.now) 0 (length c.args.shapes.now - 1) part.order (omega arith) (omega (arith, part.some)) in
+    omega (arith, up)
 
 pub loop-place-init : goal.loop-place-init
 loop-place-init g c =
