@@ -1,5 +1,6 @@
 #ifndef STDINT_H
 #define STDINT_H
+typedef __INT8_TYPE__ int8_t;
 typedef __UINT8_TYPE__ uint8_t;
 typedef __INT16_TYPE__ int16_t;
 typedef __INT32_TYPE__ int32_t;
