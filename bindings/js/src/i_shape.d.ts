@@ -32,6 +32,12 @@ export interface GivenPolygons {
     polygonOffsets: Offsets;
 }
 
+/** A fill rule: the points about which rings wind together an odd number of times, not 0 times, more than 0, or fewer than 0 times, to the left. */
+export type FillRule = "evenodd" | "nonzero" | "positive" | "negative";
+
+/** The fill rules. */
+export const FILL_RULES: readonly ["evenodd", "nonzero", "positive", "negative"];
+
 /** What the calls throw; `code` is that of the C library. */
 export class IShapeError extends Error {
     readonly code: -1 | -2 | -3;
@@ -83,7 +89,7 @@ export function toGeoJson(polygons: Polygons<Points>, options?: { step?: number 
 /**
  * The calls. A contour is read as a cycle: the last point isn't the first one again. No call changes what it is given,
  * and each array of an answer is a new one. A call throws a `TypeError` where an array or a number is of another type or
- * a number isn't whole, a `RangeError` where points have an x without a y, an `OutOfMemoryError` where an allocation in the
+ * a number isn't whole, a `RangeError` where points have an x without a y or there is no such fill rule, an `OutOfMemoryError` where an allocation in the
  * module's memory fails, an `OffsetsError` where offsets don't part the points or the rings, and an `UnsafePointError` where
  * a point that it reads isn't safe; `isSafe`, `isSafeRings`, `areaTwo`, `areaTwoRings` and `areaTwoPolygons` take any points.
  */
@@ -134,6 +140,15 @@ export interface IShape {
 
     /** How often all rings together wind about each of the points `about`, of the type of `points`. */
     windingNumbers<P extends Points>(points: P, offsets: Offsets, about: Plain<P>): Int32Array;
+
+    /** Whether the fill rule, by default "evenodd", fills each of the points `about`. Of points on an edge some are filled and others aren't. */
+    containsPoints<P extends Points>(points: P, offsets: Offsets, about: Plain<P>, rule?: FillRule): boolean[];
+
+    /**
+     * Where each of the points `about` lies: 0 on an edge of a ring, its ends included, and elsewhere 1 where the fill rule, by default "evenodd", fills
+     * the point, and -1 where it doesn't.
+     */
+    locate<P extends Points>(points: P, offsets: Offsets, about: Plain<P>, rule?: FillRule): Int8Array;
 
     /**
      * Twice the area, above 0 where the contour turns left; undefined where there is no point. Any coordinates are

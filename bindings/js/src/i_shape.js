@@ -15,6 +15,9 @@ const UNSAFE = -1;
 const UNFIT = -2;
 const NO_WINDING = -(2n ** 63n);
 
+// Each at the place of its code.
+export const FILL_RULES = Object.freeze(["evenodd", "nonzero", "positive", "negative"]);
+
 // An empty module with a memory of 64 bits.
 const MEMORY64 = Uint8Array.of(0, 0x61, 0x73, 0x6d, 1, 0, 0, 0, 5, 3, 1, 4, 0);
 
@@ -72,6 +75,18 @@ function answered(answer, points, kind, offsets) {
     if (number === UNSAFE) throw unsafePoint(points, kind, offsets);
     if (number === UNFIT) throw new OffsetsError();
     throw new OutOfMemoryError();
+}
+
+/** The code of a fill rule. */
+function codeOf(rule) {
+    const code = FILL_RULES.indexOf(rule);
+    if (code < 0) throw new RangeError(`the fill rule is ${String(rule)}, and none of ${FILL_RULES.join(", ")}`);
+    return code;
+}
+
+/** What the bytes at an address tell, 1 or 0 each, as many as there are. */
+function readBooleans(loan, address, count) {
+    return Array.from(loan.read(Uint8Array, address, count), (byte) => byte === 1);
 }
 
 /** The areas at an address, as many as there are. */
@@ -160,21 +175,16 @@ class IShape {
     }
 
     windingNumbers(points, offsets, about) {
-        const kind = kindOf(points);
-        if (kindOf(about) !== kind) throw new TypeError("the points asked about are of another type");
-        const from = asOffsets(offsets);
-        return borrow(this.#exports, (loan) => {
-            const count = lengthOf(about) / 2;
-            const out = loan.take(8 * count);
-            const answer = this.#call("windings", kind)(
-                loan.copy(points, kind), countOf(points), loan.copyWide(from), BigInt(from.length),
-                loan.copy(about, kind), BigInt(count), out, BigInt(count));
-            const unsafe = Number(answer) === UNSAFE ? firstUnsafe(about, kind, 0, count) : undefined;
-            if (unsafe !== undefined) checkAsked(about[2 * unsafe], about[2 * unsafe + 1], kind);
-            answered(answer, points, kind, from);
-            // A contour of n points winds at most n / 2 times, and the memory has no room for 2^32 points.
-            return loan.readNarrow(Int32Array, out, count);
-        });
+        // A contour of n points winds at most n / 2 times, and the memory has no room for 2^32 points.
+        return this.#askMany("windings", points, offsets, about, [], 8, (loan, out, count) => loan.readNarrow(Int32Array, out, count));
+    }
+
+    containsPoints(points, offsets, about, rule = "evenodd") {
+        return this.#askMany("contains_points", points, offsets, about, [codeOf(rule)], 1, readBooleans);
+    }
+
+    locate(points, offsets, about, rule = "evenodd") {
+        return this.#askMany("locate", points, offsets, about, [codeOf(rule)], 1, (loan, out, count) => loan.read(Int8Array, out, count));
     }
 
     areaTwo(contour) {
@@ -292,9 +302,26 @@ class IShape {
         return borrow(this.#exports, (loan) => use(this.#call(name, kind)(loan.copy(contour, kind), countOf(contour), x, y), kind));
     }
 
+    /** Hands what a call writes of the points asked about, in items of so many bytes, to `read`; `rule` is its further argument, or empty. */
+    #askMany(name, points, offsets, about, rule, bytes, read) {
+        const kind = kindOf(points);
+        if (kindOf(about) !== kind) throw new TypeError("the points asked about are of another type");
+        const from = asOffsets(offsets);
+        return borrow(this.#exports, (loan) => {
+            const count = lengthOf(about) / 2;
+            const out = loan.take(bytes * count);
+            const answer = this.#call(name, kind)(
+                loan.copy(points, kind), countOf(points), loan.copyWide(from), BigInt(from.length),
+                loan.copy(about, kind), BigInt(count), ...rule, out, BigInt(count));
+            const unsafe = Number(answer) === UNSAFE ? firstUnsafe(about, kind, 0, count) : undefined;
+            if (unsafe !== undefined) checkAsked(about[2 * unsafe], about[2 * unsafe + 1], kind);
+            answered(answer, points, kind, from);
+            return read(loan, out, count);
+        });
+    }
+
     #testRings(name, points, offsets) {
-        const read = (loan, out, count) => Array.from(loan.read(Uint8Array, out, count), (byte) => byte === 1);
-        return this.#measureRings(name, points, offsets, 1, read);
+        return this.#measureRings(name, points, offsets, 1, readBooleans);
     }
 
     /** Hands what a call writes of the rings, in items of so many bytes at the most, to `read`. */

@@ -8,6 +8,7 @@ const RINGS = ["simplifyRings", "despikeRings", "canonicalRings", "canonicalUnor
 const RING_TESTS = ["isSimpleRings", "hasNoSpikesRings", "isConvexRings"];
 const RINGS_OF_ANY_POINTS = ["isSafeRings", "areaTwoRings"];
 const POLYGONS = ["simplifyPolygons", "despikePolygons", "canonicalPolygons", "canonicalUnorientedPolygons"];
+const ABOUT_MANY = ["windingNumbers", "containsPoints", "locate"];
 const SQUARE = [0, 0, 4, 0, 4, 4, 0, 4];
 
 // What parts no 4 points.
@@ -26,7 +27,7 @@ describeWidths((shapes, { points, number, limit, bits, Points }) => {
     const calls = [
         ...[...RINGS, ...RING_TESTS].map((name) => ({ name, call: (from, offsets) => shapes[name](from, offsets) })),
         ...POLYGONS.map((name) => ({ name, call: (from, offsets) => shapes[name](from, offsets, [0]) })),
-        { name: "windingNumbers", call: (from, offsets) => shapes.windingNumbers(from, offsets, points([])) },
+        ...ABOUT_MANY.map((name) => ({ name, call: (from, offsets) => shapes[name](from, offsets, points([])) })),
     ];
 
     for (const { name, call } of calls) {
@@ -85,10 +86,17 @@ describeWidths((shapes, { points, number, limit, bits, Points }) => {
             assert.throws(() => shapes[name](square, 1.5, 1), TypeError);
         });
     }
-    test("windingNumbers: points asked about that aren't safe, or of another type", () => {
-        assert.throws(() => shapes.windingNumbers(square, [0, 4], Points.of(limit, number(0))), { name: "UnsafePointError", code: -1, point: undefined });
-        assert.throws(() => shapes.windingNumbers(square, [0, 4], bits === 16 ? Int32Array.of(0, 0) : Int16Array.of(0, 0)), TypeError);
-    });
+    for (const name of ABOUT_MANY) {
+        test(`${name}: points asked about that aren't safe, or of another type`, () => {
+            assert.throws(() => shapes[name](square, [0, 4], Points.of(limit, number(0))), { name: "UnsafePointError", code: -1, point: undefined });
+            assert.throws(() => shapes[name](square, [0, 4], bits === 16 ? Int32Array.of(0, 0) : Int16Array.of(0, 0)), TypeError);
+        });
+    }
+    for (const name of ["containsPoints", "locate"]) {
+        test(`${name}: no such rule`, () => {
+            for (const rule of ["even-odd", null, 0, 4]) assert.throws(() => shapes[name](square, [0, 4], square, rule), RangeError);
+        });
+    }
 
     test("each call: an x without a y", () => {
         const odd = points([0, 0, 4]);

@@ -20,7 +20,7 @@ function callsOf(shapes, { points, number }) {
         calls[name] = () => shapes[name](contour);
     }
     for (const name of ["contains", "windingNumber"]) calls[name] = () => shapes[name](contour, number(1), number(1));
-    calls.windingNumbers = () => shapes.windingNumbers(rings, OFFSETS, contour);
+    for (const name of ["windingNumbers", "containsPoints", "locate"]) calls[name] = () => shapes[name](rings, OFFSETS, rings);
     for (const name of ["simplifyRings", "despikeRings", "canonicalRings", "canonicalUnorientedRings"]) calls[name] = () => shapes[name](rings, OFFSETS);
     for (const name of ["isSimpleRings", "hasNoSpikesRings", "isConvexRings", "isSafeRings", "areaTwoRings"]) calls[name] = () => shapes[name](rings, OFFSETS);
     for (const name of ["simplifyPolygons", "despikePolygons", "canonicalPolygons", "canonicalUnorientedPolygons"]) {

@@ -15,7 +15,7 @@ test("the package by its name", async () => {
 
 test("what the module exports is what its types declare", () => {
     const types = readFileSync(new URL("../src/i_shape.d.ts", import.meta.url), "utf8");
-    const declared = [...types.matchAll(/^export (?:class|function) (\w+)/gm)].map(([, name]) => name);
+    const declared = [...types.matchAll(/^export (?:class|function|const) (\w+)/gm)].map(([, name]) => name);
     assert.deepEqual(Object.keys(module).sort(), declared.sort());
 });
 

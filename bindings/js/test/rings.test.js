@@ -1,5 +1,6 @@
 import assert from "node:assert/strict";
 import { test } from "node:test";
+import { FILL_RULES } from "../src/i_shape.js";
 import { describeWidths } from "./support/modules.js";
 
 // Three rings, end to end: one with a straight vertex, one that collapses, and one with a spike.
@@ -46,6 +47,31 @@ const TOLD = [
 const WOUND = { points: [0, 0, 4, 0, 4, 4, 0, 4, 0, 0, 4, 0, 4, 4, 0, 4, /**/ 1, 1, 1, 3, 3, 3, 3, 1], offsets: [0, 8, 12] };
 const ABOUT = [2, 2, 0, 2, 4, 2];
 
+// A square that is wound twice, one in it that turns right, and such a one beside it; points about which they wind 1, 2, -1 and 0 times, and three on edges.
+const FILLED = {
+    points: [0, 0, 8, 0, 8, 8, 0, 8, 0, 0, 8, 0, 8, 8, 0, 8, /**/ 2, 2, 2, 6, 6, 6, 6, 2, /**/ 20, 0, 20, 4, 24, 4, 24, 0],
+    offsets: [0, 8, 12, 16],
+    about: [4, 4, 1, 1, 22, 2, 30, 2, /**/ 0, 4, 8, 8, 4, 6],
+    by: {
+        evenodd: [true, false, true, false],
+        nonzero: [true, true, true, false],
+        positive: [true, true, false, false],
+        negative: [false, false, true, false],
+    },
+};
+
+/** A square from (0, 0) to (side, side) with a point at each whole step. */
+function stepped(side) {
+    const steps = Array.from({ length: side }, (_, k) => k);
+    return [...steps.map((k) => [k, 0]), ...steps.map((k) => [side, k]), ...steps.map((k) => [side - k, side]), ...steps.map((k) => [0, side - k])].flat();
+}
+
+/** The points of a grid that reaches a step beyond that square. */
+function gridAbout(side, step) {
+    const steps = Array.from({ length: side / step + 3 }, (_, k) => (k - 1) * step);
+    return steps.flatMap((y) => steps.map((x) => [x, y]));
+}
+
 describeWidths((shapes, { points }) => {
     for (const { call, points: left, offsets } of LEFT) {
         const wanted = { points: points(left), offsets: Uint32Array.from(offsets) };
@@ -88,6 +114,24 @@ describeWidths((shapes, { points }) => {
             assert.deepEqual(shapes.windingNumbers(points(WOUND.points), offsets, points(ABOUT)), Int32Array.from(winding)));
     }
     test("windingNumbers: no point", () => assert.deepEqual(shapes.windingNumbers(points(WOUND.points), WOUND.offsets, points([])), new Int32Array(0)));
+    for (const rule of FILL_RULES) {
+        const filled = FILLED.by[rule];
+        test(`containsPoints and locate: three rings, ${rule}`, () => {
+            const given = [points(FILLED.points), FILLED.offsets];
+            assert.deepEqual(shapes.containsPoints(...given, points(FILLED.about.slice(0, 8)), rule), filled);
+            assert.deepEqual(shapes.locate(...given, points(FILLED.about), rule), Int8Array.of(...filled.map((one) => (one ? 1 : -1)), 0, 0, 0));
+        });
+    }
+    test("containsPoints and locate: a ring of 4,000 points and a grid, by the rule that is taken where none is given", () => {
+        const [side, step] = [1000, 50];
+        const grid = gridAbout(side, step);
+        const given = [points(stepped(side)), [0, 4 * side], points(grid.flat())];
+        // An edge is passed from its lower end on, and strictly to the right.
+        assert.deepEqual(shapes.containsPoints(...given), grid.map(([x, y]) => x >= 0 && x < side && y >= 0 && y < side));
+        // The least of the distances to the four sides, below 0 outside.
+        const depth = ([x, y]) => Math.min(x, side - x, y, side - y);
+        assert.deepEqual(shapes.locate(...given), Int8Array.from(grid, (point) => Math.sign(depth(point))));
+    });
     test(`windingNumbers: 1,000 rings about 1,000 points`, () =>
         assert.deepEqual(
             shapes.windingNumbers(points(repeated(ONE, 1000)), evenOffsets(1000, 5), points(repeated([1, 1], 1000))),

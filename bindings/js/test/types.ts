@@ -1,6 +1,7 @@
 /** What i_shape.d.ts lets through, and what it refuses; compiled by tsc, and not run. */
 import {
-    IShapeError, OffsetsError, UnsafePointError, fromGeoJson, load, supportsMemory64, toGeoJson, type IShape, type Polygons, type Rings,
+    FILL_RULES, IShapeError, OffsetsError, UnsafePointError, fromGeoJson, load, supportsMemory64, toGeoJson,
+    type FillRule, type IShape, type Polygons, type Rings,
 } from "../src/i_shape.js";
 
 class Own extends Int32Array {
@@ -52,7 +53,12 @@ async function rings(shapes: IShape): Promise<void> {
     const left: Rings<Int32Array> = shapes.canonicalUnorientedRings(simplified.points, simplified.offsets);
     const polygons: Polygons<Int32Array> = shapes.canonicalPolygons(left.points, left.offsets, BigInt64Array.of(0n, 1n));
     const windings: Int32Array = shapes.windingNumbers(new Own(2), Uint32Array.of(0, 1), polygons.points);
-    console.log(told, areas, windings);
+    const rules: readonly FillRule[] = FILL_RULES;
+    const filled: boolean[][] = rules.map((rule) => shapes.containsPoints(points, [0, 1], points, rule));
+    const located: Int8Array = shapes.locate(polygons.points, polygons.ringOffsets, points);
+    console.log(told, areas, windings, filled, located);
+    // @ts-expect-error: no such rule
+    shapes.locate(points, [0, 1], points, "even-odd");
     // @ts-expect-error: points of two widths
     shapes.windingNumbers(points, [0, 1], Int16Array.of(0, 0));
 }
