@@ -320,7 +320,7 @@ FILES
 test_rust() {
     unpack "i_shape-$version-rust.tar.gz" || return
     holds rust < <(printf '%s\n' LICENSE README.md Cargo.{lock,toml} build.rs examples/{batch,clean,corners,own_points}.rs \
-        src/{base,calls,error,fill_rule,flat,int,lib,macros,memory,source}.rs src/flat/{buffer,contours,measures,offsets,shapes}.rs \
+        src/{base,calls,error,fill_rule,flat,int,lib,location,macros,memory,source}.rs src/flat/{buffer,contours,measures,offsets,shapes}.rs \
         src/int/{area,canonical,cleaned,count,despike,number,path,point,safe_range,shape,simple,winding}.rs src/source/int/resource.rs \
         tests/calls/{contours,errors,flat,main,original_examples,own_points,shapes,shared}.rs tests/refused_memory.rs \
         lib/linux-{x86_64,aarch64}/{PROOF,libi_shape.a})

@@ -1,8 +1,8 @@
 //! The calls of the C library at each width, and over them functions that pass the pointers and
 //! counts of slices. Each of these answers what `include/i_shape.h` says, with its codes as errors.
 
-use crate::Error;
 use crate::int::{IntNumber, IntPoint};
+use crate::{Error, FillRule, Location};
 use std::fmt;
 use std::mem::MaybeUninit;
 
@@ -54,6 +54,19 @@ pub(crate) type Windings<I> = unsafe extern "C" fn(
     usize,
 ) -> i32;
 
+/// A call that writes an item of each point that it is asked about, by the code of a fill rule.
+pub(crate) type AskMany<I, T> = unsafe extern "C" fn(
+    *const IntPoint<I>,
+    usize,
+    *const usize,
+    usize,
+    *const IntPoint<I>,
+    usize,
+    i32,
+    *mut T,
+    usize,
+) -> i32;
+
 /// A call that writes an item of each contour.
 pub(crate) type MeasureMany<I, T> =
     unsafe extern "C" fn(*const IntPoint<I>, usize, *const usize, usize, *mut T, usize) -> i32;
@@ -82,6 +95,8 @@ pub trait Calls: Copy + Ord + fmt::Debug + 'static {
     const CONTAINS: Contains<Self>;
     const WINDING: Winding<Self>;
     const WINDINGS: Windings<Self>;
+    const CONTAINS_POINTS: AskMany<Self, bool>;
+    const LOCATE: AskMany<Self, Location>;
     const AREA_TWO: AreaTwo<Self, Self::Area>;
     const IS_SIMPLE_CONTOURS: MeasureMany<Self, u8>;
     const HAS_NO_SPIKES_CONTOURS: MeasureMany<Self, u8>;
@@ -175,6 +190,27 @@ macro_rules! tests {
     };
 }
 
+macro_rules! questions_by_rule {
+    ($number:ty, $width:literal, $($function:ident $name:literal $item:ty),*) => {
+        unsafe extern "C" {
+            $(
+                #[link_name = concat!("i_shape_", $name, $width)]
+                fn $function(
+                    points: *const IntPoint<$number>,
+                    count: usize,
+                    offsets: *const usize,
+                    offset_count: usize,
+                    about: *const IntPoint<$number>,
+                    about_count: usize,
+                    rule: i32,
+                    out: *mut $item,
+                    room: usize,
+                ) -> i32;
+            )*
+        }
+    };
+}
+
 macro_rules! measures_of_many {
     ($number:ty, $width:literal, $($function:ident $name:literal $item:ty),*) => {
         unsafe extern "C" {
@@ -213,6 +249,10 @@ macro_rules! calls {
             tests!(
                 $number, $width, is_simple "is_simple_i", has_no_spikes "has_no_spikes_i",
                 is_convex "is_convex_i", is_safe "is_safe_i"
+            );
+            questions_by_rule!(
+                $number, $width, contains_points "contains_points_i" bool,
+                locate "locate_i" Location
             );
             measures_of_many!(
                 $number, $width, is_simple_contours "is_simple_contours_i" u8,
@@ -278,6 +318,8 @@ macro_rules! calls {
                 const CONTAINS: Contains<Self> = contains;
                 const WINDING: Winding<Self> = winding;
                 const WINDINGS: Windings<Self> = windings;
+                const CONTAINS_POINTS: AskMany<Self, bool> = contains_points;
+                const LOCATE: AskMany<Self, Location> = locate;
                 const AREA_TWO: AreaTwo<Self, Self::Area> = area_two;
                 const IS_SIMPLE_CONTOURS: MeasureMany<Self, u8> = is_simple_contours;
                 const HAS_NO_SPIKES_CONTOURS: MeasureMany<Self, u8> = has_no_spikes_contours;
@@ -443,6 +485,33 @@ pub(crate) fn windings<I: Calls>(
             offsets.len(),
             about.as_ptr(),
             about.len(),
+            out.as_mut_ptr().cast(),
+            out.len(),
+        )
+    };
+    number(answer as isize).map(|_| ())
+}
+
+/// Writes an item of each point to the front of `out`. The library writes a `bool` as a byte of 1 or
+/// 0, and a [`Location`] as its number.
+pub(crate) fn ask_many<I: Calls, T>(
+    call: AskMany<I, T>,
+    points: &[IntPoint<I>],
+    offsets: &[usize],
+    about: &[IntPoint<I>],
+    rule: FillRule,
+    out: &mut [MaybeUninit<T>],
+) -> Result<(), Error> {
+    // SAFETY: as in `clean_one`.
+    let answer = unsafe {
+        call(
+            points.as_ptr(),
+            points.len(),
+            offsets.as_ptr(),
+            offsets.len(),
+            about.as_ptr(),
+            about.len(),
+            rule as i32,
             out.as_mut_ptr().cast(),
             out.len(),
         )

@@ -3,6 +3,7 @@
 /// Which points the contours of a shape fill, by how often they wind about a point together, to the
 /// left.
 #[derive(Clone, Copy, Debug, PartialEq, Eq, Hash)]
+#[repr(i32)] // the codes of the C library, from 0 on
 pub enum FillRule {
     /// Those about which they wind an odd number of times.
     EvenOdd,

@@ -147,8 +147,9 @@ fn contours<I: Number>() {
     assert_eq!(growths(|| clean.try_winding_numbers(&about)), 1);
     assert_eq!(
         growths(|| clean.try_contains_points(&about, FillRule::EvenOdd)),
-        2
+        1
     );
+    assert_eq!(growths(|| clean.try_locate(&about, FillRule::EvenOdd)), 1);
     // the answer and what the cleaner needs
     assert!(growths(|| straight.try_simplified()) > 1);
     assert!(growths(|| straight.try_canonical()) > 1);
@@ -167,6 +168,8 @@ fn contours<I: Number>() {
     assert_eq!(growths(|| spiked.try_is_convex()), 0);
     assert_eq!(growths(|| spiked.try_contains_point(about[0])), 0);
     assert_eq!(growths(|| spiked.try_winding_number(about[0])), 0);
+    // nor does one that could do with some
+    assert_eq!(growths(|| spiked.try_is_on_boundary(about[0])), 0);
 }
 
 fn shapes_and_lists<I: Number>() {

@@ -1,11 +1,11 @@
 //! Contours end to end in one list of points.
 
 use super::offsets::{append, are_fit, ranges, try_append_part, try_rebased, try_sum};
-use crate::calls::{CleanMany, clean_many, holds, overwritten, windings};
+use crate::calls::{AskMany, CleanMany, ask_many, clean_many, holds, overwritten, windings};
 use crate::error::answered;
 use crate::int::{IntNumber, IntPoint};
-use crate::memory::{made_of_each, try_reserve, with_room};
-use crate::{Error, FillRule};
+use crate::memory::{try_reserve, with_room};
+use crate::{Error, FillRule, Location};
 
 /// Contours that lie end to end in borrowed points: contour k is `points[offsets[k]..offsets[k +
 /// 1]]`.
@@ -178,8 +178,8 @@ impl<'a, I: IntNumber> Contours<'a, I> {
     /// contours of a shape.
     ///
     /// [`Error::UnsafePoint`] where a point of a contour or one of `about` isn't safe,
-    /// [`Error::NoMemory`] where there is none for the answer. It goes over the contours again for
-    /// each point.
+    /// [`Error::NoMemory`] where there is none for the answer. It takes more memory where that saves
+    /// time, and does without where it is refused.
     pub fn try_winding_numbers(self, about: &[IntPoint<I>]) -> Result<Vec<isize>, Error> {
         let mut numbers = with_room(about.len())?;
         windings(
@@ -234,9 +234,7 @@ impl<'a, I: IntNumber> Contours<'a, I> {
         about: &[IntPoint<I>],
         rule: FillRule,
     ) -> Result<Vec<bool>, Error> {
-        made_of_each(self.try_winding_numbers(about)?.into_iter(), |winding| {
-            Ok(rule.fills(winding))
-        })
+        self.try_asked(I::CONTAINS_POINTS, about, rule)
     }
 
     /// Which of the points a fill rule fills.
@@ -247,6 +245,58 @@ impl<'a, I: IntNumber> Contours<'a, I> {
     #[track_caller]
     pub fn contains_points(self, about: &[IntPoint<I>], rule: FillRule) -> Vec<bool> {
         answered(self.try_contains_points(about, rule))
+    }
+
+    /// Where each of the points lies, by a fill rule: also whether on an edge, for which it looks at
+    /// each edge until it finds one that the point lies on. It refuses as
+    /// [`try_winding_numbers`](Contours::try_winding_numbers) does.
+    pub fn try_locate(self, about: &[IntPoint<I>], rule: FillRule) -> Result<Vec<Location>, Error> {
+        self.try_asked(I::LOCATE, about, rule)
+    }
+
+    /// Where each of the points lies, by a fill rule.
+    ///
+    /// # Panics
+    ///
+    /// Where [`try_locate`](Contours::try_locate) refuses, with the error's text.
+    #[track_caller]
+    pub fn locate(self, about: &[IntPoint<I>], rule: FillRule) -> Vec<Location> {
+        answered(self.try_locate(about, rule))
+    }
+
+    /// Whether a point lies on an edge.
+    pub(crate) fn try_is_on_boundary(self, point: IntPoint<I>) -> Result<bool, Error> {
+        let mut place = [Location::Outside];
+        ask_many(
+            I::LOCATE,
+            self.points,
+            self.offsets,
+            &[point],
+            FillRule::EvenOdd,
+            overwritten(&mut place),
+        )?;
+        Ok(place == [Location::OnBoundary])
+    }
+
+    /// What a call writes of each of the points.
+    fn try_asked<T>(
+        self,
+        call: AskMany<I, T>,
+        about: &[IntPoint<I>],
+        rule: FillRule,
+    ) -> Result<Vec<T>, Error> {
+        let mut items = with_room(about.len())?;
+        ask_many(
+            call,
+            self.points,
+            self.offsets,
+            about,
+            rule,
+            items.spare_capacity_mut(),
+        )?;
+        // SAFETY: the call has written an item of each point.
+        unsafe { items.set_len(about.len()) };
+        Ok(items)
     }
 
     /// What a call leaves of the contours. It is given the points from the first offset on.

@@ -5,7 +5,7 @@ use super::{IntNumber, IntPoint, WideIntNumber};
 use crate::calls::{contains, holds, winding};
 use crate::error::answered;
 use crate::flat::Contours;
-use crate::{Error, FillRule};
+use crate::{Error, FillRule, Location};
 
 pub use super::shape::IntContour as IntPath;
 
@@ -14,13 +14,11 @@ pub type IntPaths<I> = Vec<IntPath<I>>;
 
 /// Tests of a contour as a whole, and how often it winds about points.
 ///
-/// Those about many points take memory for their answers, [`contains_points`] for the winding
-/// numbers too; the others take none.
-///
-/// [`contains_points`]: ContourExtension::contains_points
+/// Those about many points take memory for their answers. The others also answer where there is
+/// none.
 ///
 /// ```
-/// use i_shape::{FillRule, int::IntPoint, int::path::ContourExtension, int_path};
+/// use i_shape::{FillRule, Location, int::IntPoint, int::path::ContourExtension, int_path};
 ///
 /// // it winds twice about its middle
 /// let star = int_path![[0_i32, 9], [-6, -8], [9, 3], [-9, 3], [6, -8]];
@@ -28,6 +26,7 @@ pub type IntPaths<I> = Vec<IntPath<I>>;
 /// assert_eq!(star.winding_numbers(&about), [2, 1, 0]);
 /// assert_eq!(star.contains_points(&about, FillRule::NonZero), [true, true, false]);
 /// assert_eq!(star.contains_points(&about, FillRule::EvenOdd), [false, true, false]);
+/// assert_eq!(star.locate(&star, FillRule::NonZero), [Location::OnBoundary; 5]);
 /// ```
 pub trait ContourExtension<I: IntNumber> {
     /// Whether, without the points that equal the one before them on the cycle, at most two are
@@ -109,7 +108,7 @@ pub trait ContourExtension<I: IntNumber> {
 
     /// How often the contour winds about each of the points. [`Error::UnsafePoint`] where one of
     /// them or of the contour isn't safe, [`Error::NoMemory`] where there is none for the answer.
-    /// It goes over the contour again for each point.
+    /// It takes more memory where that saves time, and does without where it is refused.
     fn try_winding_numbers(&self, points: &[IntPoint<I>]) -> Result<Vec<isize>, Error>;
 
     /// How often the contour winds about each of the points.
@@ -141,6 +140,36 @@ pub trait ContourExtension<I: IntNumber> {
     fn contains_points(&self, points: &[IntPoint<I>], rule: FillRule) -> Vec<bool> {
         answered(self.try_contains_points(points, rule))
     }
+
+    /// Whether `point` lies on an edge, its ends included. [`Error::UnsafePoint`] where that point
+    /// or one of the contour isn't safe.
+    fn try_is_on_boundary(&self, point: IntPoint<I>) -> Result<bool, Error>;
+
+    /// Whether `point` lies on an edge, its ends included.
+    ///
+    /// # Panics
+    ///
+    /// Where [`try_is_on_boundary`](ContourExtension::try_is_on_boundary) refuses, with the error's
+    /// text.
+    #[track_caller]
+    fn is_on_boundary(&self, point: IntPoint<I>) -> bool {
+        answered(self.try_is_on_boundary(point))
+    }
+
+    /// Where each of the points lies, by a fill rule: also whether on an edge, for which it looks at
+    /// each edge until it finds one that the point lies on. It refuses as
+    /// [`try_winding_numbers`](ContourExtension::try_winding_numbers) does.
+    fn try_locate(&self, points: &[IntPoint<I>], rule: FillRule) -> Result<Vec<Location>, Error>;
+
+    /// Where each of the points lies, by a fill rule.
+    ///
+    /// # Panics
+    ///
+    /// Where [`try_locate`](ContourExtension::try_locate) refuses, with the error's text.
+    #[track_caller]
+    fn locate(&self, points: &[IntPoint<I>], rule: FillRule) -> Vec<Location> {
+        answered(self.try_locate(points, rule))
+    }
 }
 
 impl<I: IntNumber> ContourExtension<I> for [IntPoint<I>] {
@@ -170,5 +199,13 @@ impl<I: IntNumber> ContourExtension<I> for [IntPoint<I>] {
         rule: FillRule,
     ) -> Result<Vec<bool>, Error> {
         Contours::try_new(self, &[0, self.len()])?.try_contains_points(points, rule)
+    }
+
+    fn try_is_on_boundary(&self, point: IntPoint<I>) -> Result<bool, Error> {
+        Contours::try_new(self, &[0, self.len()])?.try_is_on_boundary(point)
+    }
+
+    fn try_locate(&self, points: &[IntPoint<I>], rule: FillRule) -> Result<Vec<Location>, Error> {
+        Contours::try_new(self, &[0, self.len()])?.try_locate(points, rule)
     }
 }

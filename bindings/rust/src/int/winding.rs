@@ -1,15 +1,15 @@
-//! How often the contours of a shape wind about points together, and which points a fill rule fills
-//! by that.
+//! How often the contours of a shape wind about points together, which points a fill rule fills by
+//! that, and which lie on an edge.
 
 use super::shape::IntContour;
 use super::{IntNumber, IntPoint};
 use crate::error::answered;
 use crate::flat::OwnedContours;
 use crate::int::path::ContourExtension;
-use crate::{Error, FillRule};
+use crate::{Error, FillRule, Location};
 
-/// How often the contours of a shape wind about points together, and which points a fill rule fills
-/// by that.
+/// How often the contours of a shape wind about points together, which points a fill rule fills by
+/// that, and which lie on an edge.
 ///
 /// Each call refuses with [`Error::UnsafePoint`] where a point of the shape or one that is asked
 /// about isn't safe. Those about many points copy the contours, and refuse with
@@ -75,6 +75,34 @@ pub trait ShapeExtension<I: IntNumber> {
     fn contains_points(&self, points: &[IntPoint<I>], rule: FillRule) -> Vec<bool> {
         answered(self.try_contains_points(points, rule))
     }
+
+    /// Whether `point` lies on an edge of a contour, its ends included.
+    fn try_is_on_boundary(&self, point: IntPoint<I>) -> Result<bool, Error>;
+
+    /// Whether `point` lies on an edge of a contour, its ends included.
+    ///
+    /// # Panics
+    ///
+    /// Where [`try_is_on_boundary`](ShapeExtension::try_is_on_boundary) refuses, with the error's
+    /// text.
+    #[track_caller]
+    fn is_on_boundary(&self, point: IntPoint<I>) -> bool {
+        answered(self.try_is_on_boundary(point))
+    }
+
+    /// Where each of the points lies, by a fill rule: also whether on an edge, for which it looks at
+    /// each edge until it finds one that the point lies on.
+    fn try_locate(&self, points: &[IntPoint<I>], rule: FillRule) -> Result<Vec<Location>, Error>;
+
+    /// Where each of the points lies, by a fill rule.
+    ///
+    /// # Panics
+    ///
+    /// Where [`try_locate`](ShapeExtension::try_locate) refuses, with the error's text.
+    #[track_caller]
+    fn locate(&self, points: &[IntPoint<I>], rule: FillRule) -> Vec<Location> {
+        answered(self.try_locate(points, rule))
+    }
 }
 
 impl<I: IntNumber> ShapeExtension<I> for [IntContour<I>] {
@@ -101,5 +129,21 @@ impl<I: IntNumber> ShapeExtension<I> for [IntContour<I>] {
         OwnedContours::try_from_contours(self)?
             .as_contours()
             .try_contains_points(points, rule)
+    }
+
+    fn try_is_on_boundary(&self, point: IntPoint<I>) -> Result<bool, Error> {
+        if !point.is_in_safe_range() {
+            return Err(Error::UnsafePoint);
+        }
+        // each contour is asked, whatever those before it answer, whether its points are safe
+        self.iter().try_fold(false, |is_on, contour| {
+            Ok(contour.try_is_on_boundary(point)? || is_on)
+        })
+    }
+
+    fn try_locate(&self, points: &[IntPoint<I>], rule: FillRule) -> Result<Vec<Location>, Error> {
+        OwnedContours::try_from_contours(self)?
+            .as_contours()
+            .try_locate(points, rule)
     }
 }

@@ -4,13 +4,13 @@ use crate::shared::{
     FLAT, HOLE, Number, SPIKED, SQUARE, STAR, STRAIGHT, TURNED, Written, at_each_width, contour,
     point, walk_round,
 };
-use i_shape::FillRule;
 use i_shape::int::area::Area;
 use i_shape::int::despike::{DeSpike, DeSpikeContour};
 use i_shape::int::path::ContourExtension;
 use i_shape::int::safe_range::IntSafeRange;
 use i_shape::int::simple::{ContourSimplifier, SimpleContour, Simplify};
 use i_shape::int::{IntNumber, IntPoint};
+use i_shape::{FillRule, Location};
 
 at_each_width!(
     cleaned,
@@ -20,6 +20,7 @@ at_each_width!(
     tested,
     measured,
     wound_about,
+    on_the_boundary,
     long_contour
 );
 
@@ -242,6 +243,12 @@ fn wound_about<I: Number>() {
             Ok(forwards.to_vec())
         );
         assert_eq!(backwards.contains_points(&about, rule), reversed);
+        let located = forwards.map(|is_filled| match is_filled {
+            true => Location::Inside,
+            false => Location::Outside,
+        });
+        assert_eq!(star.locate(&about, rule), located);
+        assert_eq!(star.try_locate(&about, rule), Ok(located.to_vec()));
         for (point, is_filled) in about.into_iter().zip(forwards) {
             assert_eq!(star.contains_by(point, rule), is_filled);
             assert_eq!(star.try_contains_by(point, rule), Ok(is_filled));
@@ -249,6 +256,24 @@ fn wound_about<I: Number>() {
     }
     assert_eq!(star.winding_numbers(&[]), []);
     assert_eq!(contour::<I>(&[]).winding_numbers(&about), [0; 4]);
+}
+
+fn on_the_boundary<I: Number>() {
+    let spiked = contour::<I>(&SPIKED);
+    // vertices, points within edges, of the spike and of the edge that closes, and points beside them
+    let on = [[0, 0], [4, 4], [2, 0], [4, 1], [4, 6], [4, 8], [0, 2]].map(point::<I>);
+    let beside = [[2, 2], [4, 9], [5, 0], [-1, 4], [0, 5]].map(point::<I>);
+    for point in on {
+        assert!(spiked.is_on_boundary(point), "{point:?}");
+    }
+    for point in beside {
+        assert_eq!(spiked.try_is_on_boundary(point), Ok(false), "{point:?}");
+    }
+    assert_eq!(
+        spiked.locate(&on, FillRule::NonZero),
+        [Location::OnBoundary; 7]
+    );
+    assert!(!contour::<I>(&[]).is_on_boundary(on[0]));
 }
 
 fn long_contour<I: Number + TryFrom<i32>>() {
@@ -264,6 +289,16 @@ fn long_contour<I: Number + TryFrom<i32>>() {
     assert_eq!(format!("{}", walk.area()), format!("{}", side * side));
     assert!(walk.contains_point(point([1, 1])) && !walk.contains_point(point([-1, 1])));
     assert_eq!(walk.winding_numbers(&[point([1, 1]); 100]), [1; 100]);
+    let about = [[1, 1], [0, 1], [-1, 1], [0, 0], [2, -1]].map(point);
+    let (inside, on, outside) = (Location::Inside, Location::OnBoundary, Location::Outside);
+    assert_eq!(
+        walk.contains_points(&about.repeat(20), FillRule::Positive),
+        [true, true, false, true, false].repeat(20)
+    );
+    assert_eq!(
+        walk.locate(&about.repeat(20), FillRule::Positive),
+        [inside, on, outside, on, outside].repeat(20)
+    );
 }
 
 #[test]

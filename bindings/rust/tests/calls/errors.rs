@@ -94,6 +94,15 @@ fn contours_with_an_unsafe_point<I: Number>() {
         &[inside],
         FillRule::NonZero
     );
+    refuses!(
+        error,
+        given,
+        try_locate,
+        locate,
+        &[inside],
+        FillRule::NonZero
+    );
+    refuses!(error, given, try_is_on_boundary, is_on_boundary, inside);
     let mut simplifier = ContourSimplifier::default();
     refuses!(
         error,
@@ -143,6 +152,17 @@ fn shapes_with_an_unsafe_point<I: Number>() {
         &[inside],
         FillRule::EvenOdd
     );
+    refuses!(
+        error,
+        shape,
+        try_locate,
+        locate,
+        &[inside],
+        FillRule::EvenOdd
+    );
+    // on an edge of the contour before the one with that point
+    let edge = point([4, 1]);
+    refuses!(error, shape, try_is_on_boundary, is_on_boundary, edge);
     let mut left = shape.clone();
     refuses!(error, left, try_simplify_contour, simplify_contour);
     refuses!(error, left, try_remove_spikes, remove_spikes);
@@ -234,6 +254,14 @@ fn batches_with_an_unsafe_point<I: Number>() {
         &about,
         FillRule::EvenOdd
     );
+    refuses!(
+        error,
+        contours,
+        try_locate,
+        locate,
+        &about,
+        FillRule::EvenOdd
+    );
 
     let shapes = Shapes::new(&points, &[0, 5], &[0, 1]);
     refuses!(error, shapes, try_simplified, simplified);
@@ -313,6 +341,15 @@ fn points_asked_about<I: Number>() {
             try_winding_numbers,
             winding_numbers,
             &[outside]
+        );
+        refuses!(error, shape, try_is_on_boundary, is_on_boundary, outside);
+        refuses!(
+            error,
+            shape,
+            try_locate,
+            locate,
+            &[outside],
+            FillRule::NonZero
         );
     }
 }

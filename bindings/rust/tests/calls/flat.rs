@@ -12,7 +12,7 @@ use i_shape::int::despike::DeSpikeContour;
 use i_shape::int::shape::IntContour;
 use i_shape::int::simple::SimpleContour;
 use i_shape::source::int::resource::IntShapeResource;
-use i_shape::{Error, FillRule};
+use i_shape::{Error, FillRule, Location};
 
 at_each_width!(
     contours_as_one_by_one,
@@ -235,6 +235,13 @@ fn rings_wound_about<I: Number>() {
         rings.try_contains_points(&about, FillRule::EvenOdd),
         Ok(odd.to_vec())
     );
+    let (inside, on, outside) = (Location::Inside, Location::OnBoundary, Location::Outside);
+    // the last one lies on the square, and outside the other two
+    let about = [about[0], about[1], point([1, 2]), point([4, 4])];
+    let located = [inside, outside, on, on];
+    assert_eq!(rings.locate(&about, FillRule::EvenOdd), located);
+    let located = vec![inside, inside, on, outside];
+    assert_eq!(inner.try_locate(&about, FillRule::NonZero), Ok(located));
 }
 
 fn polygons_cleaned<I: Number>() {

@@ -4,7 +4,6 @@ use crate::shared::{
     FLAT, HOLE, Number, SPIKED, SQUARE, STAR, STRAIGHT, TURNED, Written, at_each_width, point,
     shape, shapes,
 };
-use i_shape::FillRule;
 use i_shape::int::area::Area;
 use i_shape::int::canonical::{CanonicalShape, CanonicalShapes};
 use i_shape::int::count::PointsCount;
@@ -13,6 +12,7 @@ use i_shape::int::safe_range::IntSafeRange;
 use i_shape::int::shape::IntShapes;
 use i_shape::int::simple::{SimpleShape, SimpleShapes, Simplify};
 use i_shape::int::winding::ShapeExtension;
+use i_shape::{FillRule, Location};
 
 at_each_width!(
     cleaned,
@@ -153,6 +153,19 @@ fn wound_about<I: Number>() {
         given.try_contains_points(&about, FillRule::EvenOdd),
         Ok(odd.to_vec())
     );
+    let (inside, on, outside) = (Location::Inside, Location::OnBoundary, Location::Outside);
+    let located = [inside, outside, inside, outside];
+    assert_eq!(given.locate(&about, FillRule::EvenOdd), located);
+    assert_eq!(
+        given.try_locate(&about, FillRule::EvenOdd),
+        Ok(located.to_vec())
+    );
+    // of the square, and of the star
+    for edge in [[4, 2], [-6, -8]].map(point::<I>) {
+        assert!(given.is_on_boundary(edge));
+        assert_eq!(given.locate(&[edge], FillRule::NonZero), [on]);
+    }
+    assert_eq!(given.try_is_on_boundary(about[0]), Ok(false));
     for ((point, number), is_odd) in about.into_iter().zip(numbers).zip(odd) {
         assert_eq!(given.winding_number(point), number);
         assert_eq!(given.try_winding_number(point), Ok(number));
