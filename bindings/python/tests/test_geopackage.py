@@ -57,9 +57,9 @@ def blob(wkb, srs=4326, order="<", flags=0):
 
 
 SPIKED_BLOB, SQUARE_BLOB, FLAT_BLOB, HIGH_BLOB = map(blob, io.to_wkb(polygons(
-    [SPIKED], [SQUARE], [FLAT], [[(0, 0), (1, 0), (1, 9), (1, 1)]])))
-BIG_ENDIAN = blob(struct.pack(">BIII8d", 0, 3, 1, 4, 0.5, 0, 0.9, 0, 0.9, 0.4,
-                              0.5, 0), order=">")
+    [SPIKED], [SQUARE], [FLAT], [[(0, 0), (2, 0), (2, 9), (2, 1)]])))
+BIG_ENDIAN = blob(struct.pack(">4dBIII8d", 0.5, 0.9, 0, 0.4, 0, 3, 1, 4, 0.5,
+                              0, 0.9, 0, 0.9, 0.4, 0.5, 0), order=">", flags=2)
 POINT = blob(struct.pack("<BI2d", 1, 1, 1, 2))
 
 
@@ -123,7 +123,7 @@ class Cleaned(GeoPackageCase):
         self.assertEqual(self.geometries(), {
             3: square, 5: square, 7: None, 9: "POLYGON EMPTY",
             11: "POLYGON ((0.5 0, 0.9 0, 0.9 0.4, 0.5 0))",
-            13: "POLYGON ((0 0, 1 0, 1 1, 0 0))"})
+            13: "POLYGON ((0 0, 2 0, 2 1, 0 0))"})
         rows = {fid: (name, one) for fid, name, one in self.rows(self.out)}
         self.assertEqual(rows[5], ("no 1", SQUARE_BLOB))
         self.assertEqual(rows[11], ("no 4", BIG_ENDIAN))
@@ -133,7 +133,10 @@ class Cleaned(GeoPackageCase):
         tree = self.change("SELECT * FROM rtree_parcels ORDER BY id",
                            path=self.out)
         self.assertEqual([row[0] for row in tree], [3, 5, 11, 13])
-        self.assertEqual(tree[-1], (13, 0, 1, 0, 1))
+        self.assertEqual(tree[-1], (13, 0, 2, 0, 1))
+        for row in tree[1:3]:
+            self.assertEqual([round(side, 3) for side in row[1:]],
+                             [0.5, 0.9, 0, 0.4])
         self.assertNotEqual(self.change(
             "SELECT last_change FROM gpkg_contents", path=self.out),
             [("then",)])
@@ -165,6 +168,26 @@ class Cleaned(GeoPackageCase):
         self.assertEqual(self.rows(self.out, "mixed"),
                          self.rows(self.given, "mixed"))
 
+    def test_strange_names_and_a_layer_that_stays(self):
+        self.fill(SPIKED_BLOB)
+        self.fill(SQUARE_BLOB, layer="clean")
+        self.change("""ALTER TABLE parcels RENAME TO "PAR ""'cels" """)
+        for old, new in ("fid", "the \"'id"), ("geom", "a \"'b"):
+            self.change("""ALTER TABLE "PAR ""'cels" RENAME """
+                        f"{old} TO {geopackage._quoted(new)}")
+        name = "par \"'cels"
+        self.change("UPDATE gpkg_contents SET table_name = ?"
+                    " WHERE table_name = 'parcels'", name)
+        self.change("UPDATE gpkg_geometry_columns SET table_name = ?,"
+                    " column_name = ?, geometry_type_name = 'Polygon'"
+                    " WHERE table_name = 'parcels'", name, "A \"'b")
+        self.run_clean()
+        self.assertEqual(self.geometries(layer="""'par "''cels'"""), {
+            3: io.to_wkt(polygons([SQUARE]))[0]})
+        self.assertEqual(self.change(
+            "SELECT table_name, last_change = 'then' FROM gpkg_contents",
+            path=self.out), [(name, 0), ("clean", 1)])
+
     def test_equal_features_of_a_layer(self):
         turned = blob(io.to_wkb(polygons([SQUARE[:0:-1] + SQUARE[:1]]))[0])
         self.fill(SPIKED_BLOB, FLAT_BLOB, turned, None, FLAT_BLOB, SQUARE_BLOB)
@@ -183,11 +206,11 @@ gone: layer 'parcels', fid 13, equal to layer 'parcels', fid 3
 
 class Refused(GeoPackageCase):
 
-    def assert_refused(self, *words, told, out=None):
+    def assert_refused(self, *words, told, out=None, call="simplify"):
         """It fails and says this, and each file stays as it was."""
         self.out.write_text("as it was")
         before = {path: path.read_bytes() for path in self.folder.iterdir()}
-        _, error = self.run_clean(*words, status=1, out=out)
+        _, error = self.run_clean(*words, call=call, status=1, out=out)
         self.assertIn(told, error)
         self.assertEqual(error.count("\n"), 1, error)
         self.assertEqual({path: path.read_bytes()
@@ -254,6 +277,15 @@ class Refused(GeoPackageCase):
                     " SELECT strange(NEW.geom); END")
         self.assert_refused(told=f"i_shape: {self.out}: layer 'parcels': no"
                             " such function: strange")
+
+    def test_a_trigger_that_keeps_rows_as_they_are(self):
+        self.fill(SPIKED_BLOB, SPIKED_BLOB)
+        for call, change in ("simplify", "UPDATE"), ("dedup", "DELETE"):
+            self.change(f"CREATE TRIGGER other BEFORE {change} ON parcels"
+                        " WHEN OLD.fid = 5 BEGIN SELECT RAISE(IGNORE); END")
+            self.assert_refused(call=call, told="layer 'parcels': a trigger"
+                                " keeps rows as they are")
+            self.change("DROP TRIGGER other")
 
     def test_a_file_that_another_program_writes(self):
         self.fill(SPIKED_BLOB)

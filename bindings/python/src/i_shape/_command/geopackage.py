@@ -245,15 +245,21 @@ class GeoPackage:
         layer = (block.records + deleted)[0].layer
         table, fid = _quoted(layer.name), _quoted(layer.fid)
         with _naming(self._out, f"layer {layer.name!r}: "):
-            self._store.executemany(
-                f"UPDATE {table} SET {_quoted(layer.column)} = ?"
-                f" WHERE {fid} = ?", changed)
-            self._store.executemany(f"DELETE FROM {table} WHERE {fid} = ?",
-                                    [(row.fid,) for row in deleted])
+            self._change(f"UPDATE {table} SET {_quoted(layer.column)} = ?"
+                         f" WHERE {fid} = ?", changed)
+            self._change(f"DELETE FROM {table} WHERE {fid} = ?",
+                         [(row.fid,) for row in deleted])
             self._store.execute(
                 "UPDATE gpkg_contents SET last_change ="
                 " strftime('%Y-%m-%dT%H:%M:%fZ', 'now')"
                 " WHERE table_name = ?", (layer.name,))
+
+    def _change(self, words: str, values: Sequence[Any]) -> None:
+        """Run a statement for each of the values, which changes a row."""
+        count = self._store.executemany(words, values).rowcount
+        if count != len(values):
+            raise sqlite3.Error("a trigger keeps rows as they are, or they"
+                                " have no key")
 
 
 def _require_closed(out: Path) -> None:
