@@ -15,7 +15,7 @@ import numpy as np
 
 import samples
 from i_shape import io
-from i_shape._command import decimals, json_text
+from i_shape._command import blocks, decimals, json_text
 from test_command import FLAT, SPIKED, SQUARE, CommandCase
 
 SQUARE = [(float(x), float(y)) for x, y in SQUARE]
@@ -72,13 +72,16 @@ class Lines(CommandCase):
                              " 0.5 0))\n")
 
     def test_standard_input_and_output(self):
-        given = feature(samples.polygon(SPIKED)) * 2
+        given, right = (
+            feature(samples.polygon(ring)).replace("\\u00fc", "\u00fc") * 2
+            for ring in (SPIKED, SQUARE))
         run = subprocess.run(
-            [sys.executable, "-m", "i_shape", "simplify", "-", "-", "--step",
-             "0.1", "--report"], input=given, capture_output=True, text=True,
-            check=True)
-        self.assertEqual(run.stdout, feature(samples.polygon(SQUARE)) * 2)
-        self.assertIn("points: 14 before, 8 after", run.stderr)
+            [sys.executable, "-X", "utf8=0", "-m", "i_shape", "simplify", "-",
+             "-", "--step", "0.1", "--report"], check=True,
+            input=("\ufeff" + given).encode(), capture_output=True,
+            env={**os.environ, "LC_ALL": "C", "PYTHONCOERCECLOCALE": "0"})
+        self.assertEqual(run.stdout.decode(), right)
+        self.assertIn(b"points: 14 before, 8 after", run.stderr)
         for text in (given + "{", ""):
             with mock.patch.object(sys, "stdin", text_io.TextIOWrapper(
                     text_io.BytesIO(text.encode()))):
@@ -276,9 +279,11 @@ class Equal(CommandCase):
             multi([far], [SPIKED, other]), samples.polygon(SQUARE[::-1]),
             samples.polygon(FLAT[::-1]), multi([turned], [far])))
         words = ("dedup", self.given, self.out, "--step", "0.1", "--report")
-        for options, gone in (((), {4: 0, 6: 0, 8: 5}),
-                              (("--oriented",), {4: 0, 8: 5})):
-            told, _ = self.run_command(*words, *options)
+        for (options, gone), largest in itertools.product(
+                (((), {4: 0, 6: 0, 8: 5}), (("--oriented",), {4: 0, 8: 5})),
+                (1, 1 << 22)):
+            with mock.patch.object(blocks, "_LARGEST", largest):
+                told, _ = self.run_command(*words, *options)
             self.assertEqual(told, "".join(
                 [f"features with polygons: 8 before, {8 - len(gone)} after\n",
                  *(f"gone: feature {one}, equal to feature {first}\n"

@@ -51,6 +51,8 @@ class Refused(CommandCase):
                  "Expecting value: line 2 column 1 (char 44)"),
                 ('{"features": [], "type": "Feature"}', "not 'Feature'"),
                 ('{"features": [], "features": []}', "twice"),
+                ('{"features": null, "features": []}', "twice"),
+                ('{"features": [], "features": null}', "twice"),
                 ('{"type": "FeatureCollection"}', "features are None"),
                 (square + "\n]", "Extra data: line 2 column 1"),
                 ("[]", "feature 0: an object of GeoJSON is needed"),

@@ -13,7 +13,7 @@ from unittest import mock
 
 import samples
 from i_shape import io
-from i_shape._command import geopackage
+from i_shape._command import blocks, geopackage
 from test_command import FLAT, SPIKED, SQUARE, CommandCase
 
 HAS_GDAL = shutil.which("ogr2ogr") is not None
@@ -150,6 +150,13 @@ class Cleaned(GeoPackageCase):
             self.run_clean(call=call, out=self.given)
             self.assertEqual(self.dump(), before)
 
+    def test_envelopes_of_each_kind(self):
+        self.fill(*(blob(bytes(size) + SPIKED_BLOB[8:], flags=2 * kind)
+                    for kind, size in enumerate((0, 32, 48, 48, 64))))
+        self.run_clean()
+        self.assertEqual(set(self.geometries().values()),
+                         {io.to_wkt(polygons([SQUARE]))[0]})
+
     def test_layers_are_those_of_polygons_or_those_named(self):
         self.fill(SPIKED_BLOB)
         self.fill(SPIKED_BLOB, POINT, layer="mixed", kind="GEOMETRY")
@@ -192,8 +199,10 @@ class Cleaned(GeoPackageCase):
         turned = blob(io.to_wkb(polygons([SQUARE[:0:-1] + SQUARE[:1]]))[0])
         self.fill(SPIKED_BLOB, FLAT_BLOB, turned, None, FLAT_BLOB, SQUARE_BLOB)
         self.fill(SQUARE_BLOB, layer="other")
-        told, _ = self.run_clean("--report", call="dedup")
-        self.assertEqual(told, """\
+        for largest in (1, 1 << 22):
+            with mock.patch.object(blocks, "_LARGEST", largest):
+                told, _ = self.run_clean("--report", call="dedup")
+            self.assertEqual(told, """\
 features with polygons: 6 before, 4 after
 gone: layer 'parcels', fid 7, equal to layer 'parcels', fid 3
 gone: layer 'parcels', fid 13, equal to layer 'parcels', fid 3
@@ -302,8 +311,19 @@ class Refused(GeoPackageCase):
         self.out.unlink()
         other.execute("PRAGMA journal_mode = wal")
         other.execute("UPDATE parcels SET name = 'new'")
-        self.run_clean()
+        add_functions = geopackage._add_functions
+        add_functions(other)
+
+        def write_between(store):
+            """Between the copy and the reading."""
+            add_functions(store)
+            other.execute("UPDATE parcels SET geom = ?", (HIGH_BLOB,))
+
+        with mock.patch.object(geopackage, "_add_functions", write_between):
+            self.run_clean()
         self.assertEqual(self.rows(self.out)[0][:2], (3, "new"))
+        self.assertEqual(self.geometries(), {
+            3: io.to_wkt(polygons([SQUARE]))[0]})
         other.close()
         before = sorted(self.folder.iterdir())
         self.assertNotIn(self.folder / "given.gpkg-wal", before)

@@ -116,10 +116,10 @@ class Document:
         members, behind = Members(), Members()
         its = members
         for name, member in pieces.items("}", _opened_at):
+            if name == "features" and (self.head or name in members):
+                raise FeatureError("features stand in the document twice")
             if member is not None:
                 its[name] = member
-            elif self.head:
-                raise FeatureError("features stand in the document twice")
             else:
                 self.head = members.opening("features") + "[\n"
                 yield from self._features()
