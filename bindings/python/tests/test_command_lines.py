@@ -14,7 +14,7 @@ from unittest import mock
 import numpy as np
 
 import samples
-from i_shape import io
+from i_shape import canonical_polygons, io
 from i_shape._command import blocks, decimals, json_text
 from test_command import FLAT, SPIKED, SQUARE, CommandCase
 
@@ -306,24 +306,22 @@ class Equal(CommandCase):
             return [(numbers.randrange(3), numbers.randrange(3))
                     for _ in range(fewest + numbers.randrange(3))]
 
-        features = samples.arrays(samples.random_features(
-            numbers, 600, 3, number=ring), np.int64)
+        given = samples.random_features(numbers, 300, 3, number=ring)
+        turned = [(is_multi, [[its[::numbers.choice((1, -1))] for its in part]
+                              for part in parts]) for is_multi, parts in given]
+        features = samples.arrays(given + turned, np.int64)
         for oriented in (True, False):
-            keys = io.feature_keys(features, oriented=oriented)
-            forms = {}
-            for key, (_, polygons) in zip(keys, samples.lists(
-                    io.canonical_features(features))):
-                form = str([rings for rings in polygons if rings])
-                self.assertEqual(key == b"", form == "[]")
-                if oriented:
-                    self.assertEqual(forms.setdefault(form, key), key)
-            if oriented:
-                self.assertEqual(len(set(keys)), len(forms))
-        back = features._replace(polygons=features.polygons._replace(
-            points=features.polygons.points[:, ::-1]))
-        turned = back.with_points(back.polygons.points[:, ::-1])
-        self.assertEqual(list(io.feature_keys(turned, oriented=False)),
-                         list(keys))
+            keys = io.feature_keys(features, oriented=oriented).tolist()
+            forms = []
+            for _, parts in samples.lists(features):
+                its = samples.arrays([(True, list(filter(None, parts)))],
+                                     np.int64)
+                forms.append([part.tolist() for part in canonical_polygons(
+                    *its.polygons, oriented=oriented)])
+            self.assertEqual(list(map(keys.index, keys)),
+                             list(map(forms.index, forms)))
+            self.assertEqual([key == b"" for key in keys],
+                             [not form[0] for form in forms])
 
 
 if __name__ == "__main__":

@@ -2,7 +2,7 @@
 
 from __future__ import annotations
 
-from typing import Any, Callable, NamedTuple
+from typing import Callable, NamedTuple
 
 import numpy as np
 import numpy.typing as npt
@@ -227,10 +227,8 @@ def feature_keys(features: Features, *, oriented: bool = True,
     >>> one == other
     True
     """
-    def cleaner(*rings: Any, threads: int) -> Rings:
-        return canonical_rings(*rings, oriented=oriented, threads=threads)
-
-    forms = in_order(clean(features, cleaner, threads).features, oriented)
+    left = clean(features, canonical_rings, threads).features
+    forms = in_order(left, oriented)
     keys = canonical_keys(*forms.polygons, oriented=oriented, threads=threads)
     keys[np.diff(forms.polygons.polygon_offsets) == 0] = b""
     ends = forms.feature_offsets.tolist()
