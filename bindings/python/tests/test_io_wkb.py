@@ -42,8 +42,9 @@ class Wkb(FormatCase):
         features = samples.arrays(given)
         self.assertEqual(io.to_wkb(features),
                          [plain(*feature) for feature in given])
-        self.assertEqual(io.to_wkb(features, srid=4326),
-                         [plain(*feature, srid=4326) for feature in given])
+        for srid in (0, 4326):
+            self.assertEqual(io.to_wkb(features, srid=srid),
+                             [plain(*feature, srid=srid) for feature in given])
         for words in ("<", None), (">", None), ("<", 4326), (">", 2 ** 32 - 1):
             blobs = [plain(*feature, *words) for feature in given]
             for container in (blobs, np.array(blobs, object), iter(blobs),
