@@ -8,7 +8,7 @@ CREATE EXTENSION IF NOT EXISTS i_shape CASCADE;
 \echo the functions: those not IMMUTABLE, STRICT and PARALLEL SAFE, and all
 SELECT proname FROM pg_proc
 WHERE proname LIKE 'i\_shape\_%' AND NOT (provolatile = 'i' AND proisstrict AND proparallel = 's');
-SELECT proname, prolang <> 13, pronargs, pronargdefaults, prorettype::regtype FROM pg_proc
+SELECT proname, prolang <> 13, pronargs, pronargdefaults, prorettype::regtype, procost FROM pg_proc
 WHERE proname LIKE 'i\_shape\_%' ORDER BY proname COLLATE "C";
 
 \echo the cleaners: what answers something else
@@ -79,9 +79,11 @@ SELECT i_shape_wkb_simplify(wkb, 1) = ST_AsEWKB(i_shape_simplify(geom, 1)), i_sh
 FROM (VALUES ('SRID=4326;POLYGON((0 0,9 0,9 9,0 9,0 0),(1 1,1 2,2 2,1 1))'::geometry), ('MULTIPOLYGON(((0 0,2 0,4 0,4 4,0 0)),((8 8,9 8,9 9,8 8)))')) AS of(geom),
     LATERAL (VALUES (ST_AsEWKB(geom, 'NDR')), (ST_AsEWKB(geom, 'XDR'))) AS row(wkb);
 SELECT i_shape_wkb_key(ST_AsBinary(geom, 'XDR'), 1) = i_shape_key(geom, 1) FROM (VALUES ('POLYGON((0 0,4 0,4 4,0 0))'::geometry)) AS of(geom);
+SELECT bool_and(i_shape_wkb_simplify(wkb, 1) = wkb) FROM (VALUES ('\x01030000200000000000000000'::bytea), ('\x0103000020ffffffff00000000')) AS of(wkb);
 \echo an open ring is read as closed, and is not clean
-SELECT i_shape_wkb_simplify(wkb, 1) = ST_AsBinary('POLYGON((0 0,4 0,4 4,0 0))'::geometry), i_shape_wkb_is_clean(wkb, 1)
-FROM (SELECT '\x01030000000100000003000000'::bytea || substr(ST_AsBinary('LINESTRING(0 0,4 0,4 4)'::geometry), 10)) AS row(wkb);
+SELECT i_shape_wkb_simplify(wkb, 1) = ST_AsBinary(ST_MakePolygon(ST_AddPoint(line, ST_StartPoint(line)))), i_shape_wkb_is_clean(wkb, 1)
+FROM (VALUES ('LINESTRING(0 0,4 0,4 4,0 4)'::geometry), ('LINESTRING(0 0,0 4,4 4,4 0)')) AS of(line),
+    LATERAL (VALUES ('\x010300000001000000'::bytea || substr(ST_AsBinary(line), 6))) AS row(wkb);
 
 \echo cleaned again it stays, and it is clean, at ten steps
 SELECT bool_and(ST_AsEWKB(i_shape_simplify(once, step)) = ST_AsEWKB(once)), bool_and(i_shape_is_clean(once, step)), count(DISTINCT step)

@@ -1,6 +1,6 @@
 /* COUNT mutated WKBs of random polygons, and a quarter as many as they are, through the reader, the cleaners, the order of forms and the writers, each block as
  * long as what it holds, for the address sanitizer. What is answered is compared with the calls of the C library on polygons, and with itself when it is read
- * again. Then each growth of the C library is refused in turn. usage: fuzz COUNT */
+ * again. Then each growth of the C library is refused in turn, and pauses are counted. usage: fuzz COUNT */
 #include "polygons.h"
 
 #include <stdio.h>
@@ -281,6 +281,52 @@ static size_t check_refusals(Cleaner *cleaner) {
     return all;
 }
 
+static size_t pauses;
+
+static void count_pause(void) {
+    pauses++;
+}
+
+static void must_have_paused(size_t least) {
+    must(pauses >= least, "it doesn't pause");
+    pauses = 0;
+}
+
+/* Within a ring as long as four pauses, and after it. */
+static void check_pauses(void) {
+    Counts counts = {4 * PAUSE_POINTS, 1, 1};
+    Geometry given = {0}, again, form;
+    Grid grid;
+    make_grid(1, &grid);
+    take_block(&given, counts);
+    for (size_t k = 0; k < counts.points; k++) given.points[k] = (i_shape_point_i64){(int64_t)k, (int64_t)(k % 2)};
+    given.rings[0] = (Ring){given.points, counts.points};
+    given.polygons[0] = (Polygon){given.rings, 1};
+    Block wkb = {block_of(wkb_size(&given)), wkb_size(&given)};
+    write_wkb(&given, grid, count_pause, wkb.at);
+    must_have_paused(4);
+    take_block(&again, counts);
+    must(read_wkb(wkb.at, wkb.size, grid, count_pause, &again).kind == FINE, "what is written isn't read");
+    must_have_paused(4);
+    take_block(&form, counts);
+    must(clean_polygons(i_shape_canonical_i64, &again, count_pause, &form), "no memory");
+    must_have_paused(1);
+    void *key = block_of(key_size(&form));
+    write_key(&form, count_pause, key);
+    must_have_paused(4);
+    is_clean(&form, count_pause);
+    must_have_paused(1);
+    area_two(&form, count_pause);
+    must_have_paused(1);
+    winding(&form, (i_shape_point_i64){0, 0}, count_pause);
+    must_have_paused(1);
+    free(given.points);
+    free(again.points);
+    free(form.points);
+    free(wkb.at);
+    free(key);
+}
+
 int main(int count, char **words) {
     long rounds = count > 1 ? atol(words[1]) : 100000, kinds[OUT_OF_RANGE + 1] = {0};
     for (long round = 0; round < rounds; round++) {
@@ -296,6 +342,7 @@ int main(int count, char **words) {
         for (int times = 0; times < 20; times++) all += check_refusals(cleaners[k]);
         must(all > 20, "it takes no memory");
     }
+    check_pauses();
     printf("%ld of %ld answered; refused: type %ld, dimensions %ld, bytes %ld, SRIDs %ld, range %ld\n", kinds[FINE], rounds, kinds[OTHER_TYPE],
            kinds[HAS_Z_OR_M], kinds[NOT_WKB], kinds[MIXED_SRIDS], kinds[OUT_OF_RANGE]);
     return 0;
