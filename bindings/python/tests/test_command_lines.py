@@ -108,7 +108,7 @@ class Lines(CommandCase):
                 (right + right.strip() + "x", "line 2: Extra data: column"),
                 (right + "[1]", "line 2: feature 1: a Feature is needed"),
                 ("[" * 10 ** 5, "line 1: it is nested too deeply"),
-                (right + "\n" + FEATURE % json.dumps(POINT),
+                ("\n" + right + FEATURE % json.dumps(POINT),
                  "line 3: feature 1: a Polygon or a MultiPolygon is needed,"
                  " not 'Point'"),
                 (FEATURE % '{"type": "Polygon", "coordinates": [[[0, NaN]]]}',

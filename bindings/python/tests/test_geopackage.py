@@ -186,7 +186,7 @@ class Cleaned(GeoPackageCase):
         self.change("UPDATE gpkg_contents SET table_name = ?"
                     " WHERE table_name = 'parcels'", name)
         self.change("UPDATE gpkg_geometry_columns SET table_name = ?,"
-                    " column_name = ?, geometry_type_name = 'Polygon'"
+                    " column_name = ?, geometry_type_name = 'CurvePolygon'"
                     " WHERE table_name = 'parcels'", name, "A \"'b")
         self.run_clean()
         self.assertEqual(self.geometries(layer="""'par "''cels'"""), {
@@ -198,7 +198,7 @@ class Cleaned(GeoPackageCase):
     def test_equal_features_of_a_layer(self):
         turned = blob(io.to_wkb(polygons([SQUARE[:0:-1] + SQUARE[:1]]))[0])
         self.fill(SPIKED_BLOB, FLAT_BLOB, turned, None, FLAT_BLOB, SQUARE_BLOB)
-        self.fill(SQUARE_BLOB, layer="other")
+        self.fill(SQUARE_BLOB, layer="other", kind="SURFACE")
         for largest in (1, 1 << 22):
             with mock.patch.object(blocks, "_LARGEST", largest):
                 told, _ = self.run_clean("--report", call="dedup")
@@ -211,6 +211,8 @@ gone: layer 'parcels', fid 13, equal to layer 'parcels', fid 3
             row for row in self.rows(self.given) if row[0] not in (7, 13)])
         self.run_clean("--oriented", call="dedup")
         self.assertIn(7, self.geometries())
+        self.run_clean("--others", "drop", call="dedup")
+        self.assertEqual([*self.geometries()], [3, 5, 11])
 
 
 class Refused(GeoPackageCase):
