@@ -81,8 +81,10 @@ fn paths_of_lists(rt: HostRuntime) {
     let borrowed = [SQUARE.as_slice(), FLAT.as_slice()];
     call!(rt, "IntShapeResource::iter_paths of borrowed paths" => Ok((&borrowed).iter_paths().count()));
     if let Ok(given) = one_shape(&rt, alloc, &[&SQUARE, &TRIANGLE]) {
-        call!(rt, "IntShapeResource::iter_paths of a shape" => Ok((&given[0]).iter_paths().count()));
-        call!(rt, "IntShapeResource::iter_paths of shapes" => Ok((&given).iter_paths().count()));
+        if let Some(shape) = given.first() {
+            call!(rt, "IntShapeResource::iter_paths of a shape" => Ok(shape.iter_paths().count()));
+        }
+        call!(rt, "IntShapeResource::iter_paths of shapes" => Ok((&given).iter_paths().next()));
         call!(rt, "IntSafeRange::is_in_safe_range" => Ok((&given).is_in_safe_range()));
     }
     call!(rt, "ShapeResource::iter_paths of a contour" => Ok(PAIR.as_slice().iter_paths().count()));
