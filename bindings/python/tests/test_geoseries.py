@@ -74,6 +74,14 @@ class GeoSeries(unittest.TestCase):
         with self.assertRaisesRegex(ValueError, "others is 'drop'"):
             io.simplify_geoseries(self.series(), 0.1, others="drop")
 
+    def test_what_is_no_geoseries_is_refused(self):
+        series = self.series()
+        for given, name in ((geopandas.GeoDataFrame(geometry=series),
+                             "GeoDataFrame"), (series.array, "GeometryArray"),
+                            (series.to_wkb(), "Series"), ([], "list")):
+            with self.assertRaisesRegex(TypeError, f"not a {name}$"):
+                io.despike_geoseries(given, 0.1)
+
 
 if __name__ == "__main__":
     unittest.main()

@@ -33,6 +33,9 @@ def _cleaned(series: Any, step: Union[float, Grid],
              cleaner: Callable[..., Features], others: str,
              threads: int) -> Any:
     import geopandas
+    if not isinstance(series, geopandas.GeoSeries):
+        raise TypeError("a GeoSeries is needed, as frame.geometry, not a"
+                        f" {type(series).__name__}")
     grid = step if isinstance(step, Grid) else Grid(step)
     answer = series.array.copy()
     places = _places(answer, others)
@@ -81,6 +84,8 @@ def simplify_geoseries(series: Any, step: Union[float, Grid], *,
         A geometry is another one and ``others`` is "raise", or a coordinate
         isn't finite or is too far from the origin. ``feature`` is its place
         in the series, from 0 on, whatever the index is.
+    TypeError
+        ``series`` is no GeoSeries; neither is a frame.
     ValueError, TypeError, MemoryError
         As :class:`Grid` and :func:`i_shape.simplify_rings` do.
 
