@@ -114,6 +114,25 @@ const PLACES: &str = "\
 0 8 -5 -7 8 2 -8 2 5 -7|0 0|outside|2
 0 8 -5 -7 8 2 -8 2 5 -7|0 6|inside|1";
 
+/// Whether the contour contains the point, and how often it winds about it.
+fn is_told(
+    rt: &impl Abort,
+    alloc: Global,
+    list: &str,
+    [x, y]: [i32; 2],
+    is_inside: bool,
+    times: isize,
+) -> Result<(), Fail> {
+    let given = texts::contour(rt, alloc, list)?;
+    let point = IntPoint::new(x, y);
+    assert!(rt; point.is_in_safe_range());
+    let answer = given.as_slice().contains_point(point);
+    equal(rt, answer, is_inside, list, "contains");
+    let answer = given.as_slice().winding_number(point);
+    equal(rt, answer, times, list, "winds");
+    Ok(())
+}
+
 #[test]
 fn contains_the_points_with_an_odd_number_of_edges_to_the_right(
     rt: HostRuntime,
@@ -123,25 +142,9 @@ fn contains_the_points_with_an_odd_number_of_edges_to_the_right(
         let [list, point, is_inside, times] = columns.as_slice() else {
             return Err(Fail::new("a row has four columns"));
         };
-        let given = texts::contour(&rt, rt.alloc(), *list)?;
-        let points = given.as_slice();
+        let times = times.parse::<isize>()?;
         for point in texts::points(rt.alloc(), *point)? {
-            let point = IntPoint::new(point[0], point[1]);
-            assert!(rt; point.is_in_safe_range());
-            equal(
-                &rt,
-                points.contains_point(point),
-                *is_inside == "inside",
-                row,
-                "contains",
-            );
-            equal(
-                &rt,
-                points.winding_number(point),
-                times.parse::<isize>()?,
-                row,
-                "winds",
-            );
+            is_told(&rt, rt.alloc(), *list, point, *is_inside == "inside", times)?;
         }
     }
     Ok(())

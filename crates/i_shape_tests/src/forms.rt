@@ -6,6 +6,8 @@ use callers::polygons::PolygonStore;
 use callers::store::{CanonicalStore, Insertion};
 use i_shape::int::canonical::{CanonicalShape, CanonicalShapes};
 use i_shape::int::simple::SimpleContour;
+use std::alloc::Global;
+use std::process::Abort;
 use std::test::Fail;
 
 /// A shape, its form, and its form either way round. The holes of the first are out of order, and its outer contour has a point on an edge.
@@ -102,6 +104,23 @@ const INSERTED: [(&str, Insertion); 4] = [
     ("0 0 4 0 4 4 0 4 0 0;", Insertion::New),
 ];
 
+/// The polygon becomes that in the store, and is there afterwards unless it collapses.
+fn polygon_is_inserted(
+    rt: &impl Abort,
+    alloc: Global,
+    polygons: &mut PolygonStore<i32>,
+    name: &str,
+    inserted: Insertion,
+) -> Result<(), Fail> {
+    let shape = texts::shape(rt, alloc, name)?;
+    let answer = polygons.insert(shape.as_slice())?;
+    equal(rt, answer, inserted, name, "what became of the polygon");
+    let is_there = polygons.contains(shape.as_slice())?;
+    let wanted = inserted != Insertion::Collapsed;
+    equal(rt, is_there, wanted, name, "whether the polygon is there");
+    Ok(())
+}
+
 #[test]
 fn joined_contours_are_one_in_a_store(rt: HostRuntime) -> Result<(), Fail> {
     let alloc = rt.alloc();
@@ -119,16 +138,7 @@ fn joined_contours_are_one_in_a_store(rt: HostRuntime) -> Result<(), Fail> {
             name,
             "whether it is there",
         );
-        let shape = texts::shape(&rt, alloc, name)?;
-        let answer = polygons.insert(shape.as_slice())?;
-        equal(&rt, answer, inserted, name, "what became of the polygon");
-        equal(
-            &rt,
-            polygons.contains(shape.as_slice())?,
-            wanted,
-            name,
-            "whether the polygon is there",
-        );
+        polygon_is_inserted(&rt, alloc, &mut polygons, name, inserted)?;
     }
     Ok(())
 }

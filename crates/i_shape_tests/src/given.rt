@@ -63,7 +63,11 @@ pub fn squares<I: IntNumber>(
     low: I,
     high: I,
 ) -> Result<[Vec<[I; 2]>; 2], AllocError> {
-    let once = Vec::from_array(alloc, [[low, low], [high, low], [high, high], [low, high]])?;
+    let mut once = Vec::new(alloc);
+    once.push([low, low])?;
+    once.push([high, low])?;
+    once.push([high, high])?;
+    once.push([low, high])?;
     let mut twice = Vec::from_slice(alloc, once.as_slice())?;
     twice.extend_from_slice(once.as_slice())?;
     Ok([once, twice])

@@ -1,8 +1,7 @@
-//! Shapes and lists without zero turns, and without spikes: as copies, in place, inside a buffer and through one.
+//! Shapes and lists without zero turns, and without spikes: as copies, in place, and through a buffer.
 
 use crate::claims::{equal, holds};
 use crate::texts;
-use i_shape::flat::buffer::FlatShapesBuffer;
 use i_shape::int::despike::{DeSpike, DeSpikeShape, DeSpikeShapes};
 use i_shape::int::shape::{IntShape, IntShapes};
 use i_shape::int::simple::{SimpleShape, SimpleShapes, Simplify};
@@ -54,44 +53,6 @@ fn list_is_despiked(rt: &impl Abort, alloc: Global, [given, left]: [&str; 2]) ->
     Ok(())
 }
 
-/// The list is cleaned so in a buffer, where a second call changes nothing.
-#[tactic(auto, using(i_shape::proofs::CallerLemmas::named_held))]
-fn buffer_is_cleaned(
-    rt: &impl Abort,
-    alloc: Global,
-    [given, simple, blunt]: [&str; 3],
-) -> Result<(), Fail> {
-    let list = texts::shapes(rt, alloc, given)?;
-    let mut buffer = FlatShapesBuffer::new(alloc);
-    buffer.set_with_shapes(list.as_slice())?;
-    let changed = buffer.remove_spikes()?;
-    let left = texts::shapes(rt, alloc, blunt)?;
-    equal(rt, changed, list != left, given, "spikes told in a buffer");
-    holds(
-        rt,
-        buffer.to_shapes()? == left,
-        given,
-        "despiked in a buffer",
-    );
-    buffer.set_with_shapes(list.as_slice())?;
-    let changed = buffer.simplify_shapes()?;
-    let left = texts::shapes(rt, alloc, simple)?;
-    equal(rt, changed, list != left, given, "what is told in a buffer");
-    holds(
-        rt,
-        buffer.to_shapes()? == left,
-        given,
-        "simplified in a buffer",
-    );
-    holds(
-        rt,
-        !buffer.simplify_shapes()?,
-        given,
-        "told in a buffer again",
-    );
-    Ok(())
-}
-
 /// Whether the answer is the shape of the list, or none where the list has none.
 fn is_of(answer: Option<IntShape<i32>>, list: IntShapes<i32>) -> bool {
     match answer {
@@ -133,15 +94,15 @@ fn shape_is_cleaned(
     );
     let left = texts::shape(rt, alloc, blunt.trim_end_matches('/'))?;
     holds(rt, shape == left, given, "a shape despiked in place");
-    let is_simple = other.as_slice().is_simple();
+    let left = texts::shape(rt, alloc, simple.trim_end_matches('/'))?;
+    let is_clean = other == left;
     equal(
         rt,
         other.simplify_contour()?,
-        !is_simple,
+        !is_clean,
         given,
         "what is told of a shape",
     );
-    let left = texts::shape(rt, alloc, simple.trim_end_matches('/'))?;
     holds(rt, other == left, given, "a shape simplified in place");
     Ok(())
 }
@@ -154,7 +115,6 @@ fn is_cleaned(
 ) -> Result<(), Fail> {
     list_is_simplified(rt, alloc, [given, simple])?;
     list_is_despiked(rt, alloc, [given, blunt])?;
-    buffer_is_cleaned(rt, alloc, [given, simple, blunt])?;
     match given.strip_suffix('/') {
         Some(shape) if !shape.contains('/') => shape_is_cleaned(rt, alloc, shape, [simple, blunt]),
         _ => Ok(()),
