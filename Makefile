@@ -16,7 +16,7 @@ PROGRAM := crates/i_shape_tool_main/out/$(if $(TARGET)$(CPU),$(TARGET)$(CPU)/i_s
 
 .PHONY: test gate help check fmt program c wasm page wheel postgres dist pictures install install-program install-c install-postgres uninstall uninstall-program uninstall-c clean
 
-# The tests of behaviour, without a proof, in two to three minutes. What isn't built is skipped.
+# The tests of behaviour, without a proof, in about a minute. What isn't built is skipped.
 test:
 	@python3 .ci/parts.py test
 

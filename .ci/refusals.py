@@ -21,7 +21,7 @@ MOST = 200
 
 def is_built():
     """Whether the tests' program is there, and newer than the crates."""
-    words = ["find", "crates", "crates.txt", "(", "-name", "out", "-o", "-name", "growths.txt", ")", "-prune", "-o", "-type", "f", "-newer", PROGRAM, "-print", "-quit"]
+    words = ["find", "crates", "crates.txt", "(", "-name", "out", "-o", "-name", "wrong", "-o", "-name", "must-fail", "-o", "-name", "growths.txt", ")", "-prune", "-o", "-type", "f", "-newer", PROGRAM, "-print", "-quit"]
     return os.access(PROGRAM, os.X_OK) and not subprocess.run(words, cwd=TOP, stdout=subprocess.PIPE, check=True).stdout
 
 

@@ -52,7 +52,7 @@ build_default() {
     has_room 4000
     touch "$started"
     : > "$log"
-    echo "$name: proving and building the program with its two libraries: some ten minutes" >&2
+    echo "$name: proving and building the program with its two libraries: some nine minutes" >&2
     for library in i_shape_core i_shape_text; do
         prove "$library" lib --jobs $jobs
     done
