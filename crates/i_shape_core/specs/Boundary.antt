@@ -3,7 +3,7 @@ use Rattle.std.specs.Prelude.{◌≡◌, ◌<◌, ◌≤ℤ◌, ℕ, pos, List, 
 use Rattle.i_shape_core.specs.Point.{Point, cross, dot}
 use Rattle.i_shape_core.specs.Contour.{point_at, place_after}
 
--- p lies on the segment from a to b, or is an end of it
+-- p lies on the segment from a to b, ends included
 pub record IsBetween (a p b : Point) : Type 0 where
   pub straight : cross a p b ≡ pos 0
   pub ahead : pos 0 ≤ℤ dot a p b

@@ -1,4 +1,4 @@
--- One form for all contours that lead to one another: the least rotation of the end.
+-- One form for all contours that are joined: the least rotation of the end.
 use Rattle.std.specs.Prelude.{◌≡◌, ◌≤◌, ◌⊎◌, ◌↔◌, ◌<ℤ◌, ℕ, ℤ, List, [], ◌∷◌, ◌++◌, take, drop, length, Option, Some, None, neg_ℤ, reverse}
 use Rattle.i_shape_core.specs.Point.{Point, IsZeroTurn}
 use Rattle.i_shape_core.specs.Contour.{Test, Step, End, Rotation}
@@ -7,11 +7,11 @@ use Rattle.i_shape_core.specs.Edges.{shoelace, Inside}
 use Rattle.i_shape_core.specs.Winding.{winding}
 use Rattle.i_shape_core.specs.Moves.{moved, scaling}
 
--- p comes before q: by x, and then by y
+-- p comes before q: by x, then by y
 abbrev pub IsBefore : Point → Point → Type 0
 IsBefore p q = (p.x <ℤ q.x) ⊎ ((p.x ≡ q.x) × (p.y <ℤ q.y))
 
--- c is d or comes before it, point by point
+-- c equals d or comes before it, point by point
 abbrev pub IsAtMost : List Point → List Point → Type 0
 IsAtMost [] d = Unit {0}
 IsAtMost (p ∷ c) [] = ⊥
@@ -32,28 +32,28 @@ pub record IsCanonical (c l : List Point) : Type 0 where
   pub ends : IsOneEnd c end
   pub least : IsLeast end l
 
--- what `canonical` answers: the least rotation of the one end, or nothing where each end collapses
+-- the result of `canonical`: the least rotation of the one end, or none if each end collapses
 abbrev pub CanonicalAnswer : List Point → Option (List Point) → Type 0
 CanonicalAnswer c None = EachEndCollapses c
 CanonicalAnswer c (Some l) = IsCanonical c l
 
--- one contour is a rotation of the other, or the other without a removable point
+-- d is a rotation of c, or c with one removable point removed or inserted
 pub data IsLink (P : Test) (c d : List Point) : Type 0 where
   by_rotation : Rotation c d → IsLink P c d
   by_removal : Step P c d → IsLink P c d
   by_insertion : Step P d c → IsLink P c d
 
--- a chain of contours of at least three points leads from c to d
+-- a chain of contours of at least three points joins c and d
 pub data Joined (P : Test) : List Point → List Point → Type 0 where
   alone : {c : List Point} → 3 ≤ length c → Joined P c c
   link : {c d e : List Point} → 3 ≤ length c → IsLink P c d → Joined P d e → Joined P c e
 
--- where an end of c and an end of d have not collapsed, their least rotations are one list exactly where c and d are joined
+-- if an end of c and an end of d have not collapsed, their least rotations are equal exactly where c and d are joined
 abbrev pub CanonicalJoined : List Point → List Point → Type 0
 CanonicalJoined c d = (e f l m : List Point) → End IsZeroTurn c e → 3 ≤ length e → End IsZeroTurn d f → 3 ≤ length f
     → IsLeast e l → IsLeast f m → (l ≡ m) ↔ Joined IsZeroTurn c d
 
--- l is the canonical form of c, or that of c read backwards: the one that comes first
+-- l is the lesser of the canonical forms of c and of c reversed
 pub record IsUnoriented (c l : List Point) : Type 0 where
   pub forwards : List Point
   pub backwards : List Point
@@ -62,34 +62,35 @@ pub record IsUnoriented (c l : List Point) : Type 0 where
   pub one : (l ≡ forwards) ⊎ (l ≡ backwards)
   pub first : IsAtMost l forwards × IsAtMost l backwards
 
--- l is c, or the least rotation of c read backwards: the one that comes first
+-- l is the lesser of c and the least rotation of c reversed
 pub record IsLesserWay (c l : List Point) : Type 0 where
   pub backwards : List Point
   pub is_backwards : IsLeast (reverse c) backwards
   pub one : (l ≡ c) ⊎ (l ≡ backwards)
   pub first : IsAtMost l c × IsAtMost l backwards
 
--- what `canonical_unoriented` answers: the lesser of the two forms, or nothing where each end collapses
+-- the result of `canonical_unoriented`: the lesser of the two forms, or none if each end collapses
 abbrev pub UnorientedAnswer : List Point → Option (List Point) → Type 0
 UnorientedAnswer c None = EachEndCollapses c
 UnorientedAnswer c (Some l) = IsUnoriented c l
 
--- e has the opposite double area of c and the same points inside, and winds as often the other way about each point, also where both are scaled by any n
+-- e has the opposite double area of c, the same points inside, and the opposite winding number about each point, also if both are scaled
+-- by any n
 pub record IsKeptBackwards (c e : List Point) : Type 0 where
   pub area : shoelace e ≡ neg_ℤ (shoelace c)
   pub inside : (p : Point) → Inside e p ↔ Inside c p
   pub between : (n : ℤ) (p : Point) → winding (moved (scaling n) e) p ≡ neg_ℤ (winding (moved (scaling n) c) p)
   pub winding : (p : Point) → winding e p ≡ neg_ℤ (winding c p)
 
--- e keeps what c has, or keeps it backwards
+-- e keeps what c has, or keeps it with the opposite sign
 abbrev pub IsKeptEitherWay : List Point → List Point → Type 0
 IsKeptEitherWay c e = IsKept c e ⊎ IsKeptBackwards c e
 
--- what the unoriented form keeps of c, and no area and no winding where each end collapses
+-- what the unoriented form keeps of c: if each end collapses, c has no area and no winding number other than 0
 abbrev pub KeptEitherWay : List Point → Option (List Point) → Type 0
 KeptEitherWay c None = IsFlat c
 KeptEitherWay c (Some e) = IsKeptEitherWay c e
 
--- c is joined to d, or to d read backwards
+-- c is joined to d, or to d reversed
 abbrev pub JoinedEitherWay : List Point → List Point → Type 0
 JoinedEitherWay c d = Joined IsZeroTurn c d ⊎ Joined IsZeroTurn c (reverse d)

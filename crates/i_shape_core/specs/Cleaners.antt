@@ -1,4 +1,4 @@
--- What a cleaner answers.
+-- The result of a cleaner.
 use Rattle.std.specs.Prelude.{◌≡◌, ℕ, ℤ, ◌-◌, ◌*◌, ◌≤◌, ◌↔◌, pos, List, length, Option, Some, None}
 use Rattle.i_shape_core.specs.Point.{Point, IsZeroTurn, IsBack}
 use Rattle.i_shape_core.specs.Convex.{NoSpikes}
@@ -7,7 +7,7 @@ use Rattle.i_shape_core.specs.Edges.{shoelace, Inside}
 use Rattle.i_shape_core.specs.Winding.{winding}
 use Rattle.i_shape_core.specs.Moves.{moved, scaling}
 
--- e is the one end of c up to rotation, and has at least three points; as an end it lists points of c in the order of c
+-- e is the one end of c up to rotation, and has at least three points; as an end it lists points of c in their order in c
 pub record IsOneEnd (c e : List Point) : Type 0 where
   pub ended : End IsZeroTurn c e
   pub enough : 3 ≤ length e
@@ -17,42 +17,43 @@ pub record IsOneEnd (c e : List Point) : Type 0 where
 abbrev pub EachEndCollapses : List Point → Type 0
 EachEndCollapses c = (e : List Point) → End IsZeroTurn c e → IsCollapsed e
 
--- what `simplified` answers: the one end, or nothing where each end collapses
+-- the result of `simplified`: the one end, or none if each end collapses
 abbrev pub SimpleAnswer : List Point → Option (List Point) → Type 0
 SimpleAnswer c None = EachEndCollapses c
 SimpleAnswer c (Some e) = IsOneEnd c e
 
--- c and e bound the same: they have the same double area, the same points inside, and wind equally often about each point
+-- c and e have the same double area, the same points inside, and the same winding number about each point
 pub record IsKept (c e : List Point) : Type 0 where
   pub area : shoelace e ≡ shoelace c
   pub inside : (p : Point) → Inside e p ↔ Inside c p
-  -- so do both scaled by any n: for n above 0 they wind equally often about the point of rational coordinates p.x / n and p.y / n
+  -- also scaled by any n: for n above 0 these are the winding numbers about the point with the rational coordinates p.x / n and p.y / n
   pub between : (n : ℤ) (p : Point) → winding (moved (scaling n) e) p ≡ winding (moved (scaling n) c) p
   pub winding : (p : Point) → winding e p ≡ winding c p
 
--- c has no area and no point inside, and winds about no point, nor does c scaled by any n
+-- c has no area, no point inside, and winding number 0 about each point, also scaled by any n
 pub record IsFlat (c : List Point) : Type 0 where
   pub area : shoelace c ≡ pos 0
   pub inside : (p : Point) → Inside c p → ⊥
   pub between : (n : ℤ) (p : Point) → winding (moved (scaling n) c) p ≡ pos 0
   pub winding : (p : Point) → winding c p ≡ pos 0
 
--- what each answer of a cleaner keeps
+-- what each result of a cleaner keeps
 abbrev pub KeptAnswer : List Point → Option (List Point) → Type 0
 KeptAnswer c None = IsFlat c
 KeptAnswer c (Some e) = IsKept c e
 
--- how many vertices a cleaner visits at a contour of n points: three for each at the most, and each of them at least once, but for two where it collapses
+-- a cleaner visits from `fewest` to 3n vertices of a contour of n points
 pub record IsVisited (n fewest visits : ℕ) : Type 0 where
   pub least : fewest ≤ visits
   pub most : visits ≤ 3 * n
 
--- how many vertices a cleaner visits, by whether it answers a contour or that it collapses
+-- how many vertices a cleaner visits of a contour of n points: from n to 3n, or from n - 2 to 3n if it collapses
 abbrev pub VisitsAnswer : List Point → Option (List Point) → ℕ → Type 0
 VisitsAnswer c None visits = IsVisited (length c) (length c - 2) visits
 VisitsAnswer c (Some e) visits = IsVisited (length c) (length c) visits
 
--- d is left of c where points at which the way turns back or stands still are removed until none is; it has no spikes; no end of c has collapsed, and the ends of d are those of c
+-- d is what is left of c once points at which the path turns back or stands still are removed until there is none; d has no spikes, no
+-- end of c has collapsed, and the ends of d are those of c
 pub record IsDespiked (c d : List Point) : Type 0 where
   pub ended : End IsBack c d
   pub enough : 3 ≤ length d
@@ -64,12 +65,12 @@ pub record IsDespiked (c d : List Point) : Type 0 where
 abbrev pub IsDespikedAlready : List Point → Type 0
 IsDespikedAlready c = IsDespiked c c
 
--- what `despiked_contour` answers: a contour without spikes and repeated points, or nothing where each end collapses
+-- the result of `despiked_contour`: a contour without spikes and repeated points, or none if each end collapses
 abbrev pub SpikelessAnswer : List Point → Option (List Point) → Type 0
 SpikelessAnswer c None = EachEndCollapses c
 SpikelessAnswer c (Some d) = IsDespiked c d
 
--- what the removal of spikes answers where a contour that has none is left as it is
+-- the result of removing spikes, if a contour without spikes is left as it is
 pub record DespikeAnswer (c : List Point) (r : Option (List Point)) : Type 0 where
   pub clean : NoSpikes c → r ≡ Some c
   pub cleaned : (NoSpikes c → ⊥) → SpikelessAnswer c r

@@ -1,9 +1,9 @@
--- A contour is a list of points read as a cycle. What can be left of it when points that pass a test are removed one by one.
+-- A contour is a list of points read as a cycle. What can be left of it if points that pass a test are removed one by one.
 use Rattle.std.specs.Prelude.{◌≡◌, ℕ, ◌+◌, ◌-◌, ◌%◌, ◌<◌, ◌≤◌, List, ◌++◌, length, get_or, reverse, ◌⊎◌, [], ◌∷◌}
 use Rattle.std.specs.List.{remove}
 use Rattle.i_shape_core.specs.Point.{Point, origin, IsZeroTurn}
 
--- the point at place k; the origin where there is none
+-- the point at place k, or the origin if there is none
 abbrev pub point_at : List Point → ℕ → Point
 point_at c k = get_or c k origin
 
@@ -19,7 +19,7 @@ place_after n k = (k + 1) % n
 abbrev pub Test : Type 1
 Test = Point → Point → Point → Type 0
 
--- the contour has at least three points, and its k-th passes the test between its neighbours
+-- the contour has at least three points, and the one at place k passes the test between its neighbours
 pub record IsRemovable (P : Test) (c : List Point) (k : ℕ) : Type 0 where
   pub enough : 3 ≤ length c
   pub within : k < length c
@@ -52,7 +52,7 @@ pub record Rotation {A : Type 0} (c d : List A) : Type 0 where
   pub before : c ≡ front ++ back
   pub after : d ≡ back ++ front
 
--- both have collapsed, or neither has and they are the same cycle
+-- both have collapsed, or neither has and they are rotations of each other
 pub data SameEnd (e f : List Point) : Type 0 where
   collapsed : IsCollapsed e → IsCollapsed f → SameEnd e f
   rotated : 3 ≤ length e → 3 ≤ length f → Rotation e f → SameEnd e f
@@ -62,7 +62,8 @@ pub record IsSimple (c : List Point) : Type 0 where
   pub enough : 3 ≤ length c
   pub none : (k : ℕ) → IsRemovable IsZeroTurn c k → ⊥
 
--- d is a sublist of c: the empty list has itself alone, and a list that starts with a has those of its rest, without a or with a in front
+-- d is a sublist of c: only the empty list is one of the empty list; those of a list that starts with a are those of its rest, with or
+-- without a in front
 abbrev pub Sublist : {A : Type 0} → List A → List A → Type 0
 Sublist {A} [] d = d ≡ []
 Sublist {A} (a ∷ c) d = Sublist c d ⊎ ((e : List A) × (d ≡ a ∷ e) × Sublist c e)
@@ -71,6 +72,6 @@ Sublist {A} (a ∷ c) d = Sublist c d ⊎ ((e : List A) × (d ≡ a ∷ e) × Su
 abbrev pub RotatedSublist : {A : Type 0} → List A → List A → Type 0
 RotatedSublist {A} c d = (s : List A) × Sublist c s × Rotation s d
 
--- the same, or of a sublist read backwards
+-- d is a rotation of a sublist of c, or of one reversed
 abbrev pub SublistEitherWay : {A : Type 0} → List A → List A → Type 0
 SublistEitherWay {A} c d = (s : List A) × Sublist c s × (Rotation s d ⊎ Rotation (reverse s) d)

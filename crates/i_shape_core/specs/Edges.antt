@@ -1,4 +1,4 @@
--- The edges of a contour, and what is told of a contour by its edges: twice its area, and which points lie inside.
+-- The edges of a contour, and what they determine: twice its area, and which points lie inside.
 use Rattle.std.specs.Prelude.{◌≡◌, ◌%◌, ℤ, pos, ◌+ℤ◌, ◌-ℤ◌, ◌*ℤ◌, List, [], ◌∷◌, Bool, int_lt, cond, false}
 use Rattle.std.specs.List.{count_by}
 use Rattle.i_shape_core.specs.Point.{Point, cross}
@@ -18,16 +18,16 @@ abbrev pub edges : List Point → List Edge
 edges [] = []
 edges (a ∷ bs) = edges_between a bs a
 
--- the sum of a whole number for each item
+-- the sum of an integer for each item
 abbrev pub sum_of : {X : Type 0} → (X → ℤ) → List X → ℤ
 sum_of f [] = pos 0
 sum_of f (x ∷ xs) = f x +ℤ sum_of f xs
 
--- the part of an edge in twice the area
+-- what an edge adds to twice the area
 unfoldable pub area_of_edge : Edge → ℤ
 area_of_edge e = e.start.x *ℤ e.end.y -ℤ e.start.y *ℤ e.end.x
 
--- twice the area, above 0 where the contour turns to the left
+-- twice the area, counterclockwise positive
 unfoldable pub shoelace : List Point → ℤ
 shoelace c = sum_of area_of_edge (edges c)
 
@@ -35,7 +35,7 @@ shoelace c = sum_of area_of_edge (edges c)
 abbrev pub is_above : Point → Point → Bool
 is_above p a = int_lt p.y a.y
 
--- where one end of the edge lies above p and the other does not: the edge passes the height of p strictly to the right of p
+-- whether exactly one end of the edge lies above p, and the edge passes the height of p strictly to the right of p
 unfoldable pub is_right : Point → Edge → Bool
 is_right p e = cond (is_above p e.start)
     (cond (is_above p e.end) false (int_lt (cross e.end p e.start) (pos 0)))

@@ -1,4 +1,4 @@
--- Affine maps of the plane by whole numbers.
+-- Affine maps of the plane with integer coefficients.
 use Rattle.std.specs.Prelude.{ℤ, pos, ◌+ℤ◌, ◌-ℤ◌, ◌*ℤ◌, List, map}
 use Rattle.i_shape_core.specs.Point.{Point}
 
@@ -11,15 +11,15 @@ pub record Move : Type 0 where
   pub x : ℤ
   pub y : ℤ
 
--- how many times an area grows; 0 where the plane is moved into a line, and below 0 where it is mirrored
+-- the factor by which an area grows: 0 if the plane is mapped into a line, negative if it is mirrored
 abbrev pub determinant : Move → ℤ
 determinant m = m.xx *ℤ m.yy -ℤ m.xy *ℤ m.yx
 
--- the point that a move takes p to
+-- the point to which a move maps p
 abbrev pub moved_point : Move → Point → Point
 moved_point m p = record { x = m.xx *ℤ p.x +ℤ m.xy *ℤ p.y +ℤ m.x; y = m.yx *ℤ p.x +ℤ m.yy *ℤ p.y +ℤ m.y }
 
--- the contour that a move takes c to, point by point
+-- the contour to which a move maps c, point by point
 abbrev pub moved : Move → List Point → List Point
 moved m c = map (moved_point m) c
 

@@ -1,4 +1,4 @@
--- A point of the plane with whole-number coordinates, and the products of a path at a point.
+-- A point of the plane with integer coordinates, and the products of a path at a point.
 use Rattle.std.specs.Prelude.{◌≡◌, ℤ, pos, ◌+ℤ◌, ◌-ℤ◌, ◌*ℤ◌, ◌≤ℤ◌}
 
 -- a point, or the vector from one point to another
@@ -18,7 +18,7 @@ vector a b = record { x = b.x -ℤ a.x; y = b.y -ℤ a.y }
 abbrev pub cross_of : Point → Point → ℤ
 cross_of v w = v.x *ℤ w.y -ℤ v.y *ℤ w.x
 
--- the sum of the products of the same coordinates of two vectors
+-- the dot product of two vectors
 abbrev pub dot_of : Point → Point → ℤ
 dot_of v w = v.x *ℤ w.x +ℤ v.y *ℤ w.y
 

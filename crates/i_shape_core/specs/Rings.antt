@@ -1,9 +1,11 @@
--- Rings in one array of points, parted by offsets.
-use Rattle.std.specs.Prelude.{◌≡◌, ℕ, ◌+◌, ◌-◌, ◌<◌, ◌≤◌, ◌⊎◌, List, length, drop, get_or, slice_range, Option}
+-- Rings in one array of points, divided by offsets.
+use Rattle.std.specs.Prelude.{◌≡◌, ℕ, ◌+◌, ◌-◌, ◌<◌, ◌≤◌, ◌⊎◌, List, length, drop, get_or, slice_range, Option, MatchOption, Result, OnErr, OnOk, IsOk, IsOkUnless}
 use Rattle.std.specs.Int.{Width}
 use Rattle.i_shape_core.specs.Point.{Point}
 use Rattle.i_shape_core.specs.IntPoint.{IsSafeContour}
 use Rattle.i_shape_core.specs.Written.{slot, IsCleaned}
+use Rattle.i_shape_core.specs.declared.error.ShapeError.{ShapeError}
+use Rattle.i_shape_core.specs.declared.error.ShapeError.TheVariants.{OutOfMemory}
 
 -- the offset at a place
 abbrev pub offset : List ℕ → ℕ → ℕ
@@ -17,19 +19,31 @@ nth_ring points offsets k = slice_range points (offset offsets k) (offset offset
 abbrev pub AreRising : List ℕ → ℕ → Type 0
 AreRising offsets n = (k : ℕ) → k + 1 < n → offset offsets k ≤ offset offsets (k + 1)
 
--- the offsets part a list of so many points
+-- the offsets divide a list of that many points
 pub record PartsPoints (points : ℕ) (offsets : List ℕ) : Type 0 where
   pub some : 0 < length offsets
   pub order : AreRising offsets (length offsets)
   pub last : offset offsets (length offsets - 1) ≤ points
 
--- the points of each ring are safe, where `read` gives the points that a list stands for
+-- the points of each ring are safe; `read` gives the points that a list represents
 abbrev pub AreSafeRings : {P : Type 0} → Width → (List P → List Point) → List P → List ℕ → Type 0
 AreSafeRings width read points offsets = (k : ℕ) → k + 1 < length offsets → IsSafeContour width (read (nth_ring points offsets k))
 
 -- each ring between the first n offsets is clean
 abbrev pub AreCleanRings : {P : Type 0} → (List Point → Type 0) → (List P → List Point) → List P → List ℕ → ℕ → Type 0
 AreCleanRings Clean read points offsets n = (k : ℕ) → k + 1 < n → Clean (read (nth_ring points offsets k))
+
+-- the longest of the rings between the first n offsets that aren't clean has `longest` points
+pub record IsLongestUnclean {P : Type 0} (Clean : List Point → Type 0) (read : List P → List Point) (points : List P) (offsets : List ℕ) (n longest : ℕ) : Type 0 where
+  pub ring : ℕ
+  pub within : ring + 1 < n
+  pub unclean : Clean (read (nth_ring points offsets ring)) → ⊥
+  pub len : length (nth_ring points offsets ring) ≡ longest
+  pub most : (k : ℕ) → k + 1 < n → (Clean (read (nth_ring points offsets k)) → ⊥) → length (nth_ring points offsets k) ≤ longest
+
+-- the number of points of that ring, or none if all are clean
+abbrev pub LongestUnclean : {P : Type 0} → (List Point → Type 0) → (List P → List Point) → List P → List ℕ → ℕ → Option ℕ → Type 0
+LongestUnclean Clean read points offsets n r = MatchOption r (AreCleanRings Clean read points offsets n) (IsLongestUnclean Clean read points offsets n)
 
 -- each ring between the first n offsets is clean, or there is room for its points
 abbrev pub HaveRoom : {P : Type 0} → (List Point → Type 0) → (List P → List Point) → (ℕ → Type 0) → List P → List ℕ → ℕ → Type 0
@@ -39,13 +53,24 @@ HaveRoom Clean read room points offsets n = (k : ℕ) → k + 1 < n → (Clean (
 abbrev pub AreShortOrClean : {P : Type 0} → (List Point → Type 0) → (List P → List Point) → List P → List ℕ → ℕ → Type 0
 AreShortOrClean Clean read points offsets n = (k : ℕ) → k + 1 < n → (length (nth_ring points offsets k) < 3) ⊎ Clean (read (nth_ring points offsets k))
 
--- what a cleaner leaves of a ring of a caller's: an empty list where it collapses
+-- a call makes room for the longest ring that isn't clean: `had` and `has` hold of the numbers of points for which there is room before
+-- and after
+pub record TakesRoom {P T : Type 0} (Clean : List Point → Type 0) (read : List P → List Point) (had has : ℕ → Type 0) (points : List P) (offsets : List ℕ) (result : Result T ShapeError) : Type 0 where
+  -- `OutOfMemory` is the only error, and can't occur if each ring is clean or short, or if there is room
+  pub memory : IsOkUnless result OutOfMemory
+  pub unclean : OnErr result (AreShortOrClean Clean read points offsets (length offsets) → ⊥)
+  pub reserved : HaveRoom Clean read had points offsets (length offsets) → IsOk result
+  -- no room is lost, and afterwards there is room for each ring
+  pub keeps_room : (n : ℕ) → had n → has n
+  pub takes_room : OnOk result (HaveRoom Clean read has points offsets (length offsets))
+
+-- what a cleaner leaves of a caller's ring: an empty list if it collapses
 pub record Leaves {P : Type 0} (Answer Kept : List Point → Option (List Point) → Type 0) (Picks : List P → List P → Type 0) (width : Width) (read : List P → List Point) (given left : List P) : Type 0 where
   pub picked : Picks given left
   pub cleaned : IsCleaned Answer Kept width (read given) (slot (read left))
 
--- each ring that the new offsets part is what is left of the given one at the same place; there are n points in all, and what stands behind
--- them and behind the offsets is as it was
+-- each ring into which the new offsets divide the points is what is left of the ring that was at its place; there are n points in total,
+-- and what lies behind them and behind the offsets is as it was
 pub record AreCleanedRings {P : Type 0} (Left : List P → List P → Type 0) (points : List P) (offsets : List ℕ) (old_points new_points : List P) (old_offsets new_offsets : List ℕ) (n : ℕ) : Type 0 where
   pub first : offset new_offsets 0 ≡ 0
   pub order : AreRising new_offsets (length offsets)

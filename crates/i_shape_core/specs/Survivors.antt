@@ -1,10 +1,10 @@
--- What cleaning leaves of the members of a list, where `Answer` relates each member to its cleaned one, and to none where it collapses.
+-- What cleaning leaves of the members of a list, if `Answer` relates each member to its cleaned one, or to none if it collapses.
 use Rattle.std.specs.Prelude.{◌≡◌, List, Option}
 use Rattle.std.specs.List.{AllZip, filter_map}
 use Rattle.i_shape_core.specs.Point.{Point}
 use Rattle.i_shape_core.specs.Cleaners.{SimpleAnswer}
 
--- the answers at the members, in order, without those that collapse
+-- the results for the members, in order, without those that collapse
 abbrev pub Survivors : {X Y : Type 0} → (X → Option Y → Type 0) → List X → List Y → Type 0
 Survivors {X} {Y} Answer xs kept = (answers : List (Option Y)) × AllZip Answer xs answers × (kept ≡ filter_map (λ answer. answer) answers)
 

@@ -1,4 +1,4 @@
--- How often a contour winds about a point.
+-- The winding number of a contour about a point.
 use Rattle.std.specs.Prelude.{◌≡◌, ◌%◌, ℕ, ℤ, pos, neg_ℤ, ◌+ℤ◌, ◌-ℤ◌, ◌≤ℤ◌, List, cond, unsigned_abs}
 use Rattle.i_shape_core.specs.Point.{Point}
 use Rattle.i_shape_core.specs.Edges.{Edge, edges, sum_of, is_above, is_right}
@@ -7,23 +7,23 @@ use Rattle.i_shape_core.specs.Edges.{Edge, edges, sum_of, is_above, is_right}
 abbrev pub level : Point → Point → ℤ
 level p a = cond (is_above p a) (pos 1) (pos 0)
 
--- what an edge adds: 1 where it passes the height of p upwards and strictly to the right of p, -1 where it does so downwards, and otherwise 0
+-- what an edge adds: 1 if it passes the height of p upward and strictly to the right of p, -1 if it does so downward, and otherwise 0
 unfoldable pub winding_of_edge : Point → Edge → ℤ
 winding_of_edge p e = cond (is_right p e) (level p e.end -ℤ level p e.start) (pos 0)
 
--- how often the contour winds about p, to the left
+-- the winding number of the contour about p, counterclockwise positive
 unfoldable pub winding : List Point → Point → ℤ
 winding c p = sum_of (winding_of_edge p) (edges c)
 
--- z is at most half of n away from 0
+-- the absolute value of z is at most half of n
 pub record IsWithinHalf (n : ℕ) (z : ℤ) : Type 0 where
   pub most : (z +ℤ z) ≤ℤ pos n
   pub least : neg_ℤ (pos n) ≤ℤ (z +ℤ z)
 
--- how often the contours of a shape wind about p together, which the fill rules of an overlay ask of it
+-- the sum of the winding numbers of a shape's contours about p, by which fill rules go
 abbrev pub shape_winding : List (List Point) → Point → ℤ
 shape_winding contours p = sum_of (λ c. winding c p) contours
 
--- z is odd: a point is inside where the contour winds about it an odd number of times
+-- z is odd: a point is inside where the winding number about it is
 abbrev pub IsOdd : ℤ → Type 0
 IsOdd z = unsigned_abs z % 2 ≡ 1

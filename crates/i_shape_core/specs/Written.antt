@@ -1,4 +1,4 @@
--- What a cleaner writes into a list of a caller's.
+-- What a cleaner writes into a caller's list.
 use Rattle.std.specs.Prelude.{ℕ, ℤ, ◌<◌, ◌≤◌, ◌≡◌, List, [], ◌∷◌, length, take, drop, Option, Some, None, Result, Ok, IfSome, IfOk, OnOk, OnErr, IsOk, IsOkUnless}
 use Rattle.std.specs.Global.{Vec}
 use Rattle.std.specs.Int.{Width}
@@ -10,49 +10,49 @@ use Rattle.i_shape_core.specs.declared.point.IntPoint.{IntPoint}
 use Rattle.i_shape_core.specs.declared.error.ShapeError.{ShapeError}
 use Rattle.i_shape_core.specs.declared.error.ShapeError.TheVariants.{OutOfMemory}
 
--- a list of points stands for an answer, and one without points for none
+-- a list of points as an optional one: none if it is empty
 abbrev pub slot : List Point → Option (List Point)
 slot [] = None
 slot (p ∷ ps) = Some (p ∷ ps)
 
--- r is what a cleaner makes of the contour c, where `Answer` is what that cleaner answers, and `Kept` what its answers keep
+-- r is a cleaner's result for the contour c: `Answer` relates contours to its results, and `Kept` states what these keep
 pub record IsCleaned (Answer Kept : List Point → Option (List Point) → Type 0) (width : Width) (c : List Point) (r : Option (List Point)) : Type 0 where
   pub answer : Answer c r
   pub kept : Kept c r
   pub safe : IfSome r (IsSafeContour width)
 
--- the same of a cleaner that leaves points in their order
+-- the same for a cleaner that keeps the order of the points
 pub record IsCleanedInOrder (Answer : List Point → Option (List Point) → Type 0) (width : Width) (c : List Point) (r : Option (List Point)) : Type 0 where
   pub cleaned : IsCleaned Answer KeptAnswer width c r
   pub in_order : IfSome r (Sublist c)
 
--- the same of an answer in points of the program, where `value` is what coordinates stand for
+-- the same for a result in points of the program; `value` gives the integer that a coordinate represents
 abbrev pub CleansTo : {I : Type 0} → (List Point → Option (List Point) → Type 0) → (List Point → Option (List Point) → Type 0) → Width → (I → ℤ) → List Point → Option (Vec (IntPoint I)) → Type 0
 CleansTo Answer Kept width value c r = IsCleaned Answer Kept width c (answered (contour_of value) r)
 
 abbrev pub CleansInOrder : {I : Type 0} → (List Point → Option (List Point) → Type 0) → Width → (I → ℤ) → List Point → Option (Vec (IntPoint I)) → Type 0
 CleansInOrder Answer width value c r = IsCleanedInOrder Answer width c (answered (contour_of value) r)
 
--- the first n points of `new` are what the cleaner makes of the given ones, where `read` gives the points that a list stands for, and are the
--- caller's own, as `Picks` says which, and in which order; the rest is as in `old`
+-- the first n points of `new` are the cleaner's result for the given ones, if `read` gives the points that a list represents; `Picks`
+-- states which of the caller's points they are, and in which order; the rest is as in `old`
 pub record IsWritten {P : Type 0} (Answer Kept : List Point → Option (List Point) → Type 0) (Picks : List P → List P → Type 0) (width : Width) (read : List P → List Point) (given old new : List P) (n : ℕ) : Type 0 where
   pub fewer : n ≤ length given
   pub picked : Picks given (take n new)
   pub cleaned : IsCleaned Answer Kept width (read given) (slot (read (take n new)))
   pub rest : drop n new ≡ drop n old
 
--- what a call answers and leaves that writes a cleaned contour to the front of a list of a caller's, and takes memory where the contour isn't
--- clean and there is no room for it: `had` and `has` say for how many points there is room before and after
+-- the result and effect of a call that writes a cleaned contour to the front of a caller's list, and makes room if the contour isn't
+-- clean: `had` and `has` hold of the numbers of points for which there is room before and after
 pub record CleansInto {P : Type 0} (Clean : List Point → Type 0) (Answer Kept : List Point → Option (List Point) → Type 0) (Picks : List P → List P → Type 0) (width : Width) (read : List P → List Point) (had has : ℕ → Type 0) (given old new : List P) (result : Result ℕ ShapeError) : Type 0 where
   pub written : IfOk result (IsWritten Answer Kept Picks width read given old new)
   pub len : length new ≡ length old
-  -- only memory is refused, and not at a clean contour, nor where there is room; then nothing is written
+  -- `OutOfMemory` is the only error, and can't occur if the contour is clean or there is room; after it nothing is written
   pub memory : IsOkUnless result OutOfMemory
   pub unclean : OnErr result (Clean (read given) → ⊥)
   pub reserved : had (length given) → IsOk result
   pub err : OnErr result (new ≡ old)
   -- fewer than three points collapse
   pub short : length given < 3 → result ≡ Ok 0
-  -- room is kept, and once a contour that isn't clean is cleaned, there is room for it
+  -- no room is lost, and after a contour that isn't clean there is room for it
   pub keeps_room : (n : ℕ) → had n → has n
   pub takes_room : OnOk result ((Clean (read given) → ⊥) → has (length given))

@@ -1,4 +1,4 @@
-//! Twice the area of a slice, and twice the area and the area of the points that an iterator has left.
+//! The double area of a slice, and the area and double area of the points that an iterator has left.
 
 ghost use Rattle.std.specs.Prelude.{◌≡◌, ◌+◌, ◌*◌, ◌<◌, ◌≤◌, ◌+ℤ◌, pos, None, List, length, int_div};
 ghost use Rattle.std.specs.Int.{int_wrap};
@@ -11,8 +11,8 @@ use crate::point::{ContourPoint, IntPoint};
 
 /// The double area of the points that an iterator has left.
 pub trait UnsafeArea<I: IntNumber>: Iterator<Item = IntPoint<I>> + Sized {
-    /// The double area of the contour of the points left, above zero where it is wound counter-clockwise. No safe range is
-    /// asked: a sum that doesn't fit wraps. At least one point is left, and the iterator ends. One pass; it takes no memory.
+    /// Returns the double area of the contour of the points left, positive if it is counterclockwise. The points needn't be safe: a sum
+    /// that doesn't fit wraps. At least one point is left, and the iterator ends. Makes one pass and allocates nothing.
     fn unsafe_area(self) -> I::Wide
         requires can { Self.can_next self }
         requires ends { IsFinite (Self.remaining self) }
@@ -38,7 +38,7 @@ impl<I: IntNumber, T: Iterator<Item = IntPoint<I>>> UnsafeArea<I> for T {
 
 /// The area of the points that an iterator has left.
 pub trait IteratorArea<I: IntNumber>: Iterator<Item = IntPoint<I>> + Sized {
-    /// The double area, as `UnsafeArea::unsafe_area` gives it.
+    /// Returns the double area, as `UnsafeArea::unsafe_area` does.
     fn area_two(self) -> I::Wide
         requires can { Self.can_next self }
         requires ends { IsFinite (Self.remaining self) }
@@ -46,7 +46,7 @@ pub trait IteratorArea<I: IntNumber>: Iterator<Item = IntPoint<I>> + Sized {
         ensures { (points : List (IntPoint I)) × Drains Self.next_gives self points
             × (I.Wide.value result ≡ int_wrap I.Wide.width (shoelace (contour_of I.value points))) };
 
-    /// Half of `area_two`, rounded towards zero.
+    /// Returns half of `area_two`, rounded toward zero.
     fn area(self) -> I::Wide
         requires can { Self.can_next self }
         requires ends { IsFinite (Self.remaining self) }
@@ -66,8 +66,8 @@ impl<I: IntNumber, T: Iterator<Item = IntPoint<I>>> IteratorArea<I> for T {
     }
 }
 
-/// The double area of the contour of the points, above zero where it is wound counter-clockwise, and zero where there are none. No
-/// safe range is asked: a sum that doesn't fit wraps. One pass; it takes no memory.
+/// Returns the double area of the contour of the points, positive if it is counterclockwise, and zero without points. The points needn't
+/// be safe: a sum that doesn't fit wraps. Makes one pass and allocates nothing.
 pub fn area_of<P: ContourPoint>(points: &[P]) -> <P::Coordinate as IntNumber>::Wide
     ensures { P.Coordinate.Wide.value result
         ≡ int_wrap P.Coordinate.Wide.width

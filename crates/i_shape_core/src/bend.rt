@@ -1,4 +1,4 @@
-//! How a way bends at a point, for the test of convexity.
+//! How a path bends at a point, for the test of convexity.
 
 ghost use Rattle.std.specs.Prelude.{◌≡◌};
 ghost use Rattle.i_shape_core.specs.IntPoint.{point_of};
@@ -8,21 +8,21 @@ ghost use Rattle.i_shape_core.specs.Walks.{IsBend, bend_of_both};
 use crate::number::{IntNumber, WideIntNumber};
 use crate::point::IntPoint;
 
-/// How a way bends at a point, or at all points that it has passed.
+/// How a path bends at a point, or at all points it has passed.
 #[derive(Clone, Copy, PartialEq, Eq, Debug)]
 pub enum Bend {
     /// It goes straight on.
     Straight,
-    /// It bends to the left.
+    /// It bends left.
     Left,
-    /// It bends to the right.
+    /// It bends right.
     Right,
-    /// It goes back the way it came.
+    /// It turns back on itself.
     Reversal,
 }
 
 impl Bend {
-    /// The bend of a way that bends so and then so. There is none where the two differ, unless one of them is straight.
+    /// Returns the bend of a path with this bend and then the next, or `None` if the two differ and neither is straight.
     pub fn followed_by(self, next: Bend) -> Option<Bend>
         ensures { result ≡ bend_of_both self next }
     {
@@ -37,7 +37,7 @@ impl Bend {
     }
 }
 
-/// How a way bends from the edge `edge` to the edge `next`, where the `x` of `next` is not the least number.
+/// Returns how a path bends from the edge `edge` to the edge `next`. The `x` of `next` isn't `I::MIN`.
 pub fn bend_of<I: IntNumber>(edge: IntPoint<I>, next: IntPoint<I>) -> Bend
     requires { ¬ (next.x ≡ I.MIN) }
     ensures { (a b c : Point) → point_of I.value edge ≡ vector a b

@@ -7,7 +7,7 @@ ghost use Rattle.i_shape_core.specs.Boundary.{IsBetween, IsOnEdge};
 use crate::number::{IntNumber, WideIntNumber};
 use crate::point::{ContourPoint, IntPoint};
 
-/// Whether `point` lies on an edge of the contour, or is an end of one. A contour without points has no edge.
+/// Returns whether `point` lies on an edge of the contour, ends included. A contour without points has no edge.
 pub fn is_on_boundary<P: ContourPoint>(contour: &[P], point: IntPoint<P::Coordinate>) -> bool
     requires points_safe { IsSafeContour P.Coordinate.width
         (contour_of P.Coordinate.value (P.points contour.now)) }
@@ -29,7 +29,7 @@ pub fn is_on_boundary<P: ContourPoint>(contour: &[P], point: IntPoint<P::Coordin
     false
 }
 
-/// Whether `point` lies on the segment from `start` to `end`, or is an end of it.
+/// Returns whether `point` lies on the segment from `start` to `end`, ends included.
 #[tactic(auto, unfolding(crate::specs::Point::cross, crate::specs::Point::dot))]
 fn is_between<I: IntNumber>(start: IntPoint<I>, point: IntPoint<I>, end: IntPoint<I>) -> bool
     requires start_safe { IsSafe I.width (point_of I.value start) }

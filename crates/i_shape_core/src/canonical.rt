@@ -1,4 +1,4 @@
-//! The canonical form of a contour: the least rotation of what is left of it without zero turns.
+//! The canonical form of a contour: the least rotation of the contour without zero turns.
 
 ghost use Rattle.std.specs.Prelude.{◌≡◌, ◌⊎◌, ℕ, ◌+◌, ◌-◌, ◌*◌, ◌<◌, ◌≤◌, min, max, length};
 ghost use Rattle.std.specs.Ordering.{MatchOrdering};
@@ -19,8 +19,8 @@ use crate::simplifier::ContourSimplifier;
 use std::cmp::Ordering;
 
 impl ContourSimplifier {
-    /// The canonical form of a contour, as `SimpleContour::canonical` gives it. The answer doesn't depend on earlier use,
-    /// nor on an earlier failure. The only error is `OutOfMemory`.
+    /// Returns the canonical form of a contour, as `SimpleContour::canonical` does. Earlier calls don't affect the result, even if they
+    /// failed. The only error is `OutOfMemory`, which can't occur below three points.
     pub fn canonical<I: IntNumber>(
         &mut self,
         contour: &[IntPoint<I>],
@@ -38,10 +38,11 @@ impl ContourSimplifier {
         Ok(Some(kept))
     }
 
-    /// The same, for points of any type, written to the front of `out`: answers how many points are left, 0 where the contour
-    /// collapses. What stands behind them stays as it was, and so does all of `out` where there is an error. Memory is taken
-    /// only for the places of a contour that isn't clean, and is kept. The only error is `OutOfMemory`, where there is no room yet
-    /// for as many places as the contour has points.
+    /// Writes the canonical form to the front of `out`, for points of any type. Returns the number of points written, 0 if the contour
+    /// collapses.
+    /// `out` is at least as long as the contour. The rest of it stays as it was, and after an error all of it.
+    /// A contour without zero turns needs no memory. For another the call makes room for as many places as there are points, and keeps
+    /// it. The only error is `OutOfMemory`, which can't occur if there is room.
     pub fn canonical_into<P: ContourPoint>(
         &mut self,
         contour: &[P],
@@ -75,7 +76,7 @@ pub(crate) fn rotate_to_least<P: ContourPoint>(contour: &mut [P])
     contour.rotate_left(start);
 }
 
-/// Where the least rotation of a contour starts.
+/// Returns where the least rotation of a contour starts.
 pub(crate) fn least_start<P: ContourPoint>(contour: &[P]) -> usize
     requires { 0 < length contour.now }
     ensures within { result < length contour.now }
@@ -86,11 +87,11 @@ pub(crate) fn least_start<P: ContourPoint>(contour: &[P]) -> usize
     search_starts(&mut comparer)
 }
 
-/// A place where the least rotation of a contour starts, and how many pairs of points were compared: at least one for each point
-/// but one, and fewer than three for each. Lists are compared point by point, points by x and then by y.
+/// Returns a place where the least rotation of a nonempty contour starts, and how many pairs of points were compared: for n points from n
+/// - 1 to 3n - 4, for one point none. Rotations are compared point by point, and points by x, then by y.
 ///
-/// Two starts are compared point by point, and the one that loses takes along each start up to the point where it lost, as
-/// Shiloach's algorithm does for circular strings. It takes linear time and no memory.
+/// Two starts are compared point by point. The one that loses also rules out each start up to the point where it lost, as in Shiloach's
+/// algorithm for circular strings. The search takes linear time and allocates nothing.
 pub fn least_start_counted<I: IntNumber>(contour: &[IntPoint<I>]) -> (usize, u128)
     requires { 0 < length contour.now }
     ensures within { result.0 < length contour.now }
@@ -103,7 +104,7 @@ pub fn least_start_counted<I: IntNumber>(contour: &[IntPoint<I>]) -> (usize, u12
     (start, comparer.comparisons())
 }
 
-/// Where the least rotation starts. Of the contour nothing has been compared before.
+/// Returns where the least rotation starts. No points were compared before.
 fn search_starts<P: ContourPoint>(comparer: &mut Comparer<'_, P>) -> usize
     requires some { 0 < length comparer.old.contour }
     requires fresh { comparer.old.comparisons ≡ 0 }
@@ -139,7 +140,8 @@ fn search_starts<P: ContourPoint>(comparer: &mut Comparer<'_, P>) -> usize
     kept
 }
 
-/// The first place from `from` on whose point doesn't come after that at `kept`, and how the two are ordered; or the end.
+/// Returns the first place from `from` on whose point doesn't come after the one at `kept`, or the end of the contour if there is none,
+/// and how the two points are ordered.
 fn next_rival<P: ContourPoint>(
     comparer: &mut Comparer<'_, P>,
     kept: usize,
@@ -166,7 +168,7 @@ fn next_rival<P: ContourPoint>(
     (comparer.len(), Ordering::Less)
 }
 
-/// How many pairs of points were compared to order the rotations that start at `kept` and at `rival`, and the order.
+/// Compares the rotations that start at `kept` and at `rival`. Returns how many pairs of points were compared for that, and the order.
 /// The first pair was compared before; `first` is its order.
 fn compare_starts<P: ContourPoint>(
     comparer: &mut Comparer<'_, P>,
@@ -203,7 +205,7 @@ fn compare_starts<P: ContourPoint>(
     (count, Ordering::Equal)
 }
 
-/// How many pairs of points from two places on agree, of the first `most` and before the contour ends, and how the next one
+/// Returns how many pairs of points from two places on agree, among the first `most` and before the contour ends, and how the next pair
 /// is ordered.
 fn compare_runs<P: ContourPoint>(
     comparer: &mut Comparer<'_, P>,
@@ -236,7 +238,7 @@ fn compare_runs<P: ContourPoint>(
     (room, Ordering::Equal)
 }
 
-/// The place `steps` after `start` on a cycle of `count` places.
+/// Returns the place `steps` after `start` on a cycle of `count` places.
 pub(crate) fn place_at_step(count: usize, start: usize, steps: usize) -> usize
     requires start_within { start < count }
     requires steps_within { steps < count }

@@ -1,4 +1,4 @@
-//! The cleaners of one contour: one trait, and its five kinds.
+//! The cleaners of one contour: a trait and its five implementations.
 
 ghost use Rattle.std.specs.Prelude.{◌≡◌, ◌↔◌, ◌<◌, ◌≤◌, ℕ, List, length, Option, IsTrue, IsOk, IfOk, IsOkUnless};
 ghost use Rattle.std.proofs.Common.{rules, arith};
@@ -23,30 +23,31 @@ use crate::unoriented::rotate_to_lesser;
 use crate::write::write_whole;
 use std::alloc::Global;
 
-/// Cleans contours of safe points. One value cleans any number of them, and keeps its memory from one to the next. Memory comes first:
-/// where there is room for the longest contour that isn't clean, `clean_into` can't fail. Each answer is one of those that `answers`
-/// allows; that which of them it is doesn't depend on earlier use is tested.
+/// Cleans contours of safe points. One value cleans any number of them, and keeps its memory from one to the next. Where there is room
+/// for the longest contour that isn't clean, `clean_into` can't fail.
+/// Each result is one that `answers` allows. Only tests show that earlier calls don't affect which one it is.
 pub trait ContourCleaner: Drop {
-    /// The contours of which no point is removed: for these `clean_into` needs no room. A canonical form still rotates them,
-    /// and an unoriented one may turn them round.
+    /// The contours of which no point is removed: for these `clean_into` needs no room. A canonical form still rotates them, and an
+    /// unoriented one may reverse them.
     ghost clean: { List Point → Type 0 };
 
-    /// What a contour becomes: none where it collapses.
+    /// The results that are allowed for a contour: `None` if it collapses.
     ghost answers: { List Point → Option (List Point) → Type 0 };
 
-    /// What the answer keeps of the contour.
+    /// What the result keeps of the contour.
     ghost keeps: { List Point → Option (List Point) → Type 0 };
 
-    /// Which points of the contour the answer has, and in which order, whatever their type.
+    /// Which points of the contour the result has, and in which order, for points of any type.
     ghost picks: { (P : Type 0) → List P → List P → Type 0 };
 
-    /// The cleaner needs no more memory for a contour of so many points.
+    /// The cleaner needs no more memory for a contour of that many points.
     ghost has_room: { Self → ℕ → Type 0 };
 
-    /// A cleaner that takes its memory from `alloc`, and none before a contour needs it.
+    /// Returns a cleaner that allocates from `alloc`, but not before a contour needs memory.
     fn new(alloc: Global) -> Self;
 
-    /// Takes memory for the places of contours of up to so many points, and none for fewer than three. The only error is `OutOfMemory`.
+    /// Makes room for contours of up to `points` points, and allocates nothing below three. It never reduces the room.
+    /// The only error is `OutOfMemory`, which can't occur below three points or if there is room.
     fn reserve(&mut self, points: usize) -> Result<(), ShapeError>
         ensures room { IfOk result (λ _. has_room self.new points) }
         ensures reserved { has_room self.old points → IsOk result }
@@ -54,13 +55,13 @@ pub trait ContourCleaner: Drop {
         ensures keeps_room { (n : ℕ) → has_room self.old n → has_room self.new n }
         ensures memory { IsOkUnless result ShapeError.OutOfMemory };
 
-    /// Whether the contour is clean. It takes no memory.
+    /// Returns whether the contour is clean. Allocates nothing.
     fn is_clean<P: ContourPoint>(contour: &[P]) -> bool
         requires { IsSafeContour P.Coordinate.width
             (contour_of P.Coordinate.value (P.points contour.now)) }
         ensures { IsTrue result ↔ clean (contour_of P.Coordinate.value (P.points contour.now)) };
 
-    /// The cleaned contour. The only error is `OutOfMemory`.
+    /// Returns the cleaned contour, or `None` if it collapses. The only error is `OutOfMemory`, which can't occur below three points.
     fn cleaned<I: IntNumber>(
         &mut self,
         contour: &[IntPoint<I>],
@@ -70,8 +71,8 @@ pub trait ContourCleaner: Drop {
             OkUnlessMemory result (CleansTo answers keeps I.width I.value c) }
         ensures short { length contour.now < 3 → result ≡ Ok None };
 
-    /// The same, of a contour that isn't clean, without a test of its own before it.
-    fn cleaned_untested<I: IntNumber>(
+    /// Does the same as `cleaned` for a contour that isn't clean, without testing it first.
+    fn cleaned_unchecked<I: IntNumber>(
         &mut self,
         contour: &[IntPoint<I>],
     ) -> Result<Option<IntContour<I>>, ShapeError>
@@ -84,7 +85,8 @@ pub trait ContourCleaner: Drop {
         self.cleaned(contour)
     }
 
-    /// Writes what becomes of a clean contour to the front of `out`, and answers how many points these are. It takes no memory.
+    /// Writes the result for a clean contour to the front of `out`, and returns its number of points, which is that of the contour.
+    /// Allocates nothing.
     fn write_clean<P: ContourPoint>(contour: &[P], out: &mut [P]) -> usize
         requires points_safe { IsSafeContour P.Coordinate.width
             (contour_of P.Coordinate.value (P.points contour.now)) }
@@ -97,7 +99,8 @@ pub trait ContourCleaner: Drop {
         ensures count { result ≡ length contour.now }
         ensures enough { 3 ≤ length contour.now };
 
-    /// Writes what is left of a contour that isn't clean to the front of `out`, and answers how many points these are. It takes no memory.
+    /// Writes what is left of a contour that isn't clean to the front of `out`, and returns its number of points, 0 if the contour
+    /// collapses. There is room for the contour, so this allocates nothing.
     fn write_left<P: ContourPoint>(&mut self, contour: &[P], out: &mut [P]) -> usize
         requires points_safe { IsSafeContour P.Coordinate.width
             (contour_of P.Coordinate.value (P.points contour.now)) }
@@ -111,8 +114,9 @@ pub trait ContourCleaner: Drop {
         ensures short { length contour.now < 3 → result ≡ 0 }
         ensures keeps_room { (n : ℕ) → has_room self.old n → has_room self.new n };
 
-    /// The cleaned contour, written to the front of `out`: answers how many points are left, 0 where the contour collapses. What
-    /// stands behind them stays as it was. It takes no memory, and can't fail: there is room for the contour, or it is clean.
+    /// Writes the cleaned contour to the front of `out`. Returns the number of points written, 0 if the contour collapses.
+    /// `out` is at least as long as the contour. The rest of it stays as it was. The contour is clean or there is room for it, so this
+    /// allocates nothing and can't fail.
     fn clean_into<P: ContourPoint>(&mut self, contour: &[P], out: &mut [P]) -> usize
         requires points_safe { IsSafeContour P.Coordinate.width
             (contour_of P.Coordinate.value (P.points contour.now)) }
@@ -132,8 +136,8 @@ pub trait ContourCleaner: Drop {
         }
     }
 
-    /// The same, where memory is taken first for a contour that isn't clean, and is kept. The only error is `OutOfMemory`; then `out`
-    /// is as it was.
+    /// Does the same as `clean_into`, but first makes room for a contour that isn't clean, and keeps it. The only error is `OutOfMemory`,
+    /// which can't occur if there is room, and leaves `out` as it was.
     fn try_clean_into<P: ContourPoint>(
         &mut self,
         contour: &[P],
@@ -153,7 +157,7 @@ pub trait ContourCleaner: Drop {
         Ok(self.write_left(contour, out))
     }
 
-    /// Room for a contour is room for each that is no longer.
+    /// Room for a contour is also room for a shorter one.
     ghost fewer: { (cleaner : Self) (m n : ℕ) → m ≤ n → has_room cleaner n → has_room cleaner m };
 }
 
@@ -188,10 +192,10 @@ impl ContourCleaner for ContourSimplifier {
         if is_simple(contour) {
             return Ok(Some(Vec::from_slice(self.allocator(), contour)?));
         }
-        self.cleaned_untested(contour)
+        self.cleaned_unchecked(contour)
     }
 
-    fn cleaned_untested<I: IntNumber>(
+    fn cleaned_unchecked<I: IntNumber>(
         &mut self,
         contour: &[IntPoint<I>],
     ) -> Result<Option<IntContour<I>>, ShapeError> {
@@ -209,7 +213,7 @@ impl ContourCleaner for ContourSimplifier {
     ghost fewer = { Prim.search (rules, arith) };
 }
 
-/// Removes the points at which the way turns back or stands still.
+/// Removes spikes and repeated points.
 impl ContourCleaner for ContourDeSpiker {
     ghost clean = { IsDespikedAlready };
 
@@ -240,10 +244,10 @@ impl ContourCleaner for ContourDeSpiker {
         if is_despiked(contour) {
             return Ok(Some(Vec::from_slice(self.allocator(), contour)?));
         }
-        self.cleaned_untested(contour)
+        self.cleaned_unchecked(contour)
     }
 
-    fn cleaned_untested<I: IntNumber>(
+    fn cleaned_unchecked<I: IntNumber>(
         &mut self,
         contour: &[IntPoint<I>],
     ) -> Result<Option<IntContour<I>>, ShapeError> {
@@ -261,7 +265,7 @@ impl ContourCleaner for ContourDeSpiker {
     ghost fewer = { Prim.search (rules, arith) };
 }
 
-/// Removes spikes, and leaves a contour that has none as it is, with its repeated points.
+/// Removes spikes and repeated points, but leaves a contour without spikes as it is, with its repeated points.
 #[derive(Drop)]
 pub struct SpikeRemover {
     de_spiker: ContourDeSpiker,
@@ -299,10 +303,10 @@ impl ContourCleaner for SpikeRemover {
         if has_no_spikes(contour) {
             return Ok(Some(Vec::from_slice(self.de_spiker.allocator(), contour)?));
         }
-        self.cleaned_untested(contour)
+        self.cleaned_unchecked(contour)
     }
 
-    fn cleaned_untested<I: IntNumber>(
+    fn cleaned_unchecked<I: IntNumber>(
         &mut self,
         contour: &[IntPoint<I>],
     ) -> Result<Option<IntContour<I>>, ShapeError> {
@@ -320,7 +324,7 @@ impl ContourCleaner for SpikeRemover {
     ghost fewer = { Prim.search (rules, arith) };
 }
 
-/// Gives the canonical form.
+/// Brings contours into canonical form.
 #[derive(Drop)]
 pub struct Canonicalizer {
     simplifier: ContourSimplifier,
@@ -375,7 +379,7 @@ impl ContourCleaner for Canonicalizer {
     ghost fewer = { Prim.search (rules, arith) };
 }
 
-/// Gives the canonical form whichever way round the contour is wound.
+/// Brings contours into canonical form without regard to direction.
 #[derive(Drop)]
 pub struct UnorientedCanonicalizer {
     canonicalizer: Canonicalizer,

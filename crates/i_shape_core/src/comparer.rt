@@ -1,4 +1,4 @@
-//! The view of a contour that the search for its least rotation is given, which counts its comparisons.
+//! A view of a contour for the search for its least rotation, which counts its comparisons.
 
 ghost use Rattle.std.specs.Prelude.{◌≡◌, ◌+◌, ◌<◌, length, get_or};
 ghost use Rattle.std.specs.Ordering.{MatchOrdering};
@@ -11,7 +11,7 @@ use crate::point::{ContourPoint, IntPoint};
 use std::cmp::Ordering;
 use std::marker::Model;
 
-/// The only view of a contour that the search for its least rotation is given. It counts the pairs of points compared.
+/// The only view of a contour that the search for its least rotation gets. It counts the pairs of points compared.
 #[derive(Drop)]
 pub(crate) struct Comparer<'a, P: ContourPoint> {
     points: &'a [P],
@@ -25,7 +25,7 @@ impl<'a, P: ContourPoint> Model for Comparer<'a, P> {
 }
 
 impl<'a, P: ContourPoint> Comparer<'a, P> {
-    /// A comparer of a contour, with nothing compared.
+    /// Returns a comparer of a contour, with nothing compared.
     pub(crate) fn new(contour: &'a [P]) -> Comparer<'a, P>
         ensures contour { result.contour ≡ P.points contour.now }
         ensures comparisons { result.comparisons ≡ 0 }
@@ -36,14 +36,14 @@ impl<'a, P: ContourPoint> Comparer<'a, P> {
         }
     }
 
-    /// The number of points.
+    /// Returns the number of points.
     pub(crate) fn len(&self) -> usize
         ensures { result ≡ length self.now.contour }
     {
         self.points.len()
     }
 
-    /// How the points at two places are ordered: by x, then by y. Counts one comparison.
+    /// Returns how the points at two places are ordered: by x, then by y. Counts one comparison.
     pub(crate) fn compare(&mut self, first: usize, second: usize) -> Ordering
         requires first_within { first < length self.old.contour }
         requires second_within { second < length self.old.contour }
@@ -57,7 +57,7 @@ impl<'a, P: ContourPoint> Comparer<'a, P> {
         compare_points(self.point(first), self.point(second))
     }
 
-    /// The point at a place.
+    /// Returns the point at a place.
     fn point(&self, place: usize) -> IntPoint<P::Coordinate>
         requires { place < length self.now.contour }
         ensures { result ≡ get_or self.now.contour place result }
@@ -66,7 +66,7 @@ impl<'a, P: ContourPoint> Comparer<'a, P> {
         points[place].to_point()
     }
 
-    /// The number of comparisons so far.
+    /// Returns the number of comparisons so far.
     pub(crate) fn comparisons(&self) -> u128
         ensures { result ≡ self.now.comparisons }
     {
@@ -74,7 +74,7 @@ impl<'a, P: ContourPoint> Comparer<'a, P> {
     }
 }
 
-/// How two points are ordered: by x, then by y.
+/// Returns how two points are ordered: by x, then by y.
 fn compare_points<I: IntNumber>(a: IntPoint<I>, b: IntPoint<I>) -> Ordering
     ensures { let p = point_of I.value a in let q = point_of
         I.value b in MatchOrdering result (IsBefore p q) (p ≡ q) (IsBefore q p) }

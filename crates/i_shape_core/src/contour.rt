@@ -1,4 +1,4 @@
-//! Tests of a contour as a whole: its winding, its convexity, and which points it contains.
+//! Tests of a contour as a whole: its orientation, its convexity, and which points it contains.
 
 ghost use Rattle.std.specs.Prelude.{◌≡◌, ◌<◌, ◌↔◌, ◌≤◌, ◌≤ℤ◌, ◌++◌, pos, false, List, length, map, drop, IsTrue};
 ghost use Rattle.std.specs.Int.{int_wrap};
@@ -20,51 +20,52 @@ use crate::point::{ContourPoint, IntPoint};
 use crate::same::{are_same, last_other};
 use crate::winding::{passes_right, winding_about, windings_about};
 
-/// Tests of a contour as a whole. Each takes no memory, and time linear in its points, `winding_numbers_into` for each point asked
-/// about.
+/// Tests of a contour as a whole. Each allocates nothing, and takes time linear in the points; `winding_numbers_into` takes it for each
+/// point asked about.
 pub trait ContourExtension<I: IntNumber> {
-    /// The contour over whole numbers.
+    /// The contour in unbounded integers.
     ghost contour: { Self → List Point };
 
-    /// Whether, without the points that equal the one before them on the cycle, at most two are left, or the way over them
-    /// nowhere goes back the way it came and does not bend to the left at one place and to the right at another.
+    /// Returns whether the contour is convex: it has at most two points, or it never turns back on itself and doesn't turn left at one
+    /// point and right at another. Consecutive duplicates count once, also across the closing edge.
     fn is_convex(&self) -> bool
         requires { IsSafeContour I.width (contour self.now) }
         ensures { IsTrue result ↔ Convex (contour self.now) };
 
-    /// Whether the double area, wrapped as `UnsafeArea::unsafe_area` wraps it, is at most zero. The contour has a point.
+    /// Returns whether the double area, wrapped as by `UnsafeArea::unsafe_area`, is at most zero. The contour has a point.
     fn is_clockwise_ordered(&self) -> bool
         requires { 0 < length (contour self.now) }
         ensures { IsTrue result ↔ (int_wrap I.Wide.width (shoelace (contour self.now)) ≤ℤ pos 0) };
 
-    /// Whether an odd number of edges pass the height of `point` strictly to the right of it. A contour without points contains none.
+    /// Returns whether `point` is inside by the even-odd rule: an odd number of edges pass its height strictly to the right of it. A
+    /// contour without points contains none.
     fn contains_point(&self, point: IntPoint<I>) -> bool
         requires points_safe { IsSafeContour I.width (contour self.now) }
         requires point_safe { IsSafe I.width (point_of I.value point) }
         ensures { IsTrue result ↔ Inside (contour self.now) (point_of I.value point) };
 
-    /// Whether `point` lies on an edge, the ends of which lie on it too. A contour without points has no edge.
+    /// Returns whether `point` lies on an edge, ends included. A contour without points has no edge.
     fn is_on_boundary(&self, point: IntPoint<I>) -> bool
         requires points_safe { IsSafeContour I.width (contour self.now) }
         requires point_safe { IsSafe I.width (point_of I.value point) }
         ensures { IsTrue result ↔ IsOnEdge (contour self.now) (point_of I.value point) };
 
-    /// How often the contour winds about `point`, to the left: how many edges pass the height of `point` upwards and strictly to
-    /// the right of it, less those that do so downwards. A contour without points winds about none.
+    /// Returns the winding number about `point`, counterclockwise positive: how many edges pass its height upward and strictly to the
+    /// right of it, less those that do so downward. For a contour without points it is 0.
     fn winding_number(&self, point: IntPoint<I>) -> isize
         requires points_safe { IsSafeContour I.width (contour self.now) }
         requires point_safe { IsSafe I.width (point_of I.value point) }
         ensures { result ≡ winding (contour self.now) (point_of I.value point) };
 
-    /// Whether a fill rule fills `point`, by how often the contour winds about it. By `EvenOdd` it is `contains_point`.
+    /// Returns whether a fill rule fills `point`, by the winding number about it. For `EvenOdd` this is `contains_point`.
     fn contains_by(&self, point: IntPoint<I>, rule: FillRule) -> bool
         requires points_safe { IsSafeContour I.width (contour self.now) }
         requires point_safe { IsSafe I.width (point_of I.value point) }
         ensures { IsTrue result
             ↔ IsFilled rule (winding (contour self.now) (point_of I.value point)) };
 
-    /// Writes the winding number about each of the points, which may be of any type, to the front of `out`, which is at least as
-    /// long. What stands behind stays as it was.
+    /// Writes the winding number about each of the points, which may be of any type, to the front of `out`. `out` is at least as long as
+    /// `points`. The rest of it stays as it was.
     fn winding_numbers_into<P: ContourPoint<Coordinate = I>>(&self, points: &[P], out: &mut [isize])
         requires contour_safe { IsSafeContour I.width (contour self.now) }
         requires points_safe { IsSafeContour I.width (contour_of I.value (P.points points.now)) }
@@ -131,8 +132,8 @@ impl<I: IntNumber> ContourExtension<I> for &[IntPoint<I>] {
     }
 }
 
-/// Whether, without the points that equal the one before them on the cycle, at most two are left, or the way over them nowhere goes back
-/// the way it came and does not bend to the left at one place and to the right at another.
+/// Returns whether the contour is convex: it has at most two points, or it never turns back on itself and doesn't turn left at one point
+/// and right at another. Consecutive duplicates count once, also across the closing edge.
 pub fn is_convex<P: ContourPoint>(points: &[P]) -> bool
     requires { IsSafeContour P.Coordinate.width
         (contour_of P.Coordinate.value (P.points points.now)) }
@@ -166,7 +167,8 @@ pub fn is_convex<P: ContourPoint>(points: &[P]) -> bool
     bend != Bend::Reversal || points.len() - repeats <= 2
 }
 
-/// Whether an odd number of edges pass the height of `point` strictly to the right of it. A contour without points contains none.
+/// Returns whether `point` is inside by the even-odd rule: an odd number of edges pass its height strictly to the right of it. A contour
+/// without points contains none.
 pub fn contains_point<P: ContourPoint>(contour: &[P], point: IntPoint<P::Coordinate>) -> bool
     requires points_safe { IsSafeContour P.Coordinate.width
         (contour_of P.Coordinate.value (P.points contour.now)) }
@@ -181,8 +183,8 @@ pub fn contains_point<P: ContourPoint>(contour: &[P], point: IntPoint<P::Coordin
     is_inside_after(false, point, start, contour)
 }
 
-/// Whether `point` is inside after the edges from `first` over the points, where `was_inside` tells it of the edges before: each edge that
-/// passes its height strictly to the right of it turns the answer over.
+/// Returns whether `point` is inside after the edges from `first` over the points, if `was_inside` is the result for the edges before.
+/// Each edge that passes its height strictly to the right of it flips the result.
 #[inline(always)]
 fn is_inside_after<P: ContourPoint>(
     was_inside: bool,

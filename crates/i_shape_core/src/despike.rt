@@ -12,7 +12,7 @@ ghost use Rattle.i_shape_core.specs.Cleaners.{IsDespikedAlready, SpikelessAnswer
 ghost use Rattle.i_shape_core.specs.Walks.{RisingPlaces, WalkAnswer, Finds, Falls, FirstAnswer, IsRingState, PassesAtPlace, from_contour_first, ring_of_all};
 ghost use Rattle.i_shape_core.specs.Refusals.{OkUnlessMemory};
 ghost use Rattle.i_shape_core.specs.Written.{CleansInOrder, CleansInto, IsWritten};
-ghost use Rattle.i_shape_core.specs.Room.{HasRoomToDespike, KeepsRoomToDespike};
+ghost use Rattle.i_shape_core.specs.Room.{HoldsNoMemoryToDespike, HasRoomToDespike, KeepsRoomToDespike};
 
 use crate::error::ShapeError;
 use crate::number::{IntNumber, WideIntNumber};
@@ -26,36 +26,39 @@ use crate::write::{write_at, write_whole};
 use std::alloc::Global;
 use std::mem;
 
-/// The test of a contour of safe points for spikes, and its copy without them.
+/// Tests a contour of safe points for spikes, and copies it without them.
 pub trait DeSpikeContour<I: IntNumber> {
-    /// The contour over whole numbers.
+    /// The contour in unbounded integers.
     ghost contour: { Self → List Point };
 
-    /// Whether at least three points are left without those that equal the one before them on the cycle,
-    /// and the way over them nowhere goes back the way it came. It takes no memory.
+    /// Returns whether the contour has no spike and at least three points. At the tip of a spike it turns back on itself. Consecutive
+    /// duplicates count once, also across the closing edge. Allocates nothing.
     fn has_no_spikes(&self) -> bool
         requires { IsSafeContour I.width (contour self.now) }
         ensures { IsTrue result ↔ NoSpikes (contour self.now) };
 
-    /// The contour without the points at which the way turns back or stands still, in the order of the input.
-    /// `None` exactly where removing zero turns in any order leaves fewer than three points; otherwise such removals
-    /// lead from the answer to the same contour, up to rotation, as from the input. Double area, containment and winding numbers
-    /// are kept, and the points are safe again.
-    /// The only error is `OutOfMemory`; below three points no memory is taken.
+    /// Returns the contour without spikes and repeated points, in the order of the input: vertices at which the path turns back or stands
+    /// still are removed until none is left.
+    /// Returns `None` exactly where removing zero turns in any order leaves fewer than three points. Otherwise removing zero turns from
+    /// the result leads to the same contour, up to rotation, as removing them from the input. Double area, containment and winding
+    /// numbers stay the same, and the points are safe again.
+    /// The only error is `OutOfMemory`. Below three points the call allocates nothing and can't fail.
     fn despiked_contour(&self, alloc: Global) -> Result<Option<IntContour<I>>, ShapeError>
         requires { IsSafeContour I.width (contour self.now) }
         ensures answer { OkUnlessMemory result
             (CleansInOrder SpikelessAnswer I.width I.value (contour self.now)) }
         ensures short { length (contour self.now) < 3 → result ≡ Ok None };
 
-    /// The same, with the number of vertices visited: at most three for each vertex of the contour, at least one for each,
-    /// but for two where the contour collapses, and none where it has fewer than three.
+    /// Does the same as `despiked_contour`, and also returns the number of vertices visited. For n points this is from n to 3n, or from n
+    /// - 2 to 3n if the contour collapses. It is n if no point is removed, and 0 below three points.
     fn despiked_counted(&self, alloc: Global) -> Result<(Option<IntContour<I>>, u128), ShapeError>
         requires { IsSafeContour I.width (contour self.now) }
         ensures answer { OkUnlessMemory result
             (λ r. CleansInOrder SpikelessAnswer I.width I.value (contour self.now) r.0) }
         ensures visits { IfOk result
             (λ r. VisitsAnswer (contour self.now) (answered (contour_of I.value) r.0) r.1) }
+        ensures clean_visits { IfOk result
+            (λ r. IsDespikedAlready (contour self.now) → r.1 ≡ length (contour self.now)) }
         ensures short { length (contour self.now) < 3 → result ≡ Ok (None, 0) };
 }
 
@@ -91,29 +94,29 @@ impl<I: IntNumber> DeSpikeContour<I> for IntContour<I> {
     }
 }
 
-/// Removes the points at which the way turns back or stands still. It keeps its memory from one contour to the next.
+/// Removes spikes and repeated points from contours, and keeps its memory from one contour to the next.
 #[derive(Drop)]
 pub struct ContourDeSpiker {
     places: Vec<usize>,
 }
 
 impl ContourDeSpiker {
-    /// A remover of spikes that takes its memory from `alloc`.
+    /// Returns a despiker that allocates from `alloc`, and holds no memory yet.
     pub fn new(alloc: Global) -> ContourDeSpiker
-        ensures { vec_capacity result.places ≡ 0 }
+        ensures { HoldsNoMemoryToDespike result }
     {
         ContourDeSpiker {
             places: Vec::new(alloc),
         }
     }
 
-    /// Where it takes its memory from.
+    /// Returns its allocator.
     pub(crate) fn allocator(&self) -> Global {
         *self.places.allocator()
     }
 
-    /// The contour without spikes, as `DeSpikeContour::despiked_contour` gives it, whatever was cleaned before, or failed.
-    /// The only error is `OutOfMemory`.
+    /// Returns the contour without spikes and repeated points, as `DeSpikeContour::despiked_contour` does. Earlier calls don't affect the
+    /// result, even if they failed. The only error is `OutOfMemory`, which can't occur below three points.
     pub fn despike_contour<I: IntNumber>(
         &mut self,
         contour: &[IntPoint<I>],
@@ -128,8 +131,8 @@ impl ContourDeSpiker {
         Ok(kept)
     }
 
-    /// The same, with the number of vertices visited: at most three for each vertex of the contour, at least one for each,
-    /// but for two where the contour collapses, and none where it has fewer than three.
+    /// Does the same as `despike_contour`, and also returns the number of vertices visited. For n points this is from n to 3n, or from n
+    /// - 2 to 3n if the contour collapses. It is n if no point is removed, and 0 below three points.
     pub fn despike_counted<I: IntNumber>(
         &mut self,
         contour: &[IntPoint<I>],
@@ -140,6 +143,8 @@ impl ContourDeSpiker {
         ensures visits { IfOk result
             (λ r. VisitsAnswer (contour_of I.value contour.now)
             (answered (contour_of I.value) r.0) r.1) }
+        ensures clean_visits { let c = contour_of I.value contour.now in
+            IfOk result (λ r. IsDespikedAlready c → r.1 ≡ length c) }
         ensures short { length contour.now < 3 → result ≡ Ok (None, 0) }
         ensures keeps_room { KeepsRoomToDespike self.old self.new }
     {
@@ -164,7 +169,8 @@ impl ContourDeSpiker {
         probe.keep_left(alloc, Some(self.places.as_slice()))
     }
 
-    /// Takes memory for the places of contours of up to so many points, and none for fewer than four. The only error is `OutOfMemory`.
+    /// Makes room for contours of up to `points` points, and allocates nothing below four. It never reduces the room.
+    /// The only error is `OutOfMemory`, which can't occur if there is room.
     pub fn reserve(&mut self, points: usize) -> Result<(), ShapeError>
         ensures room { IfOk result (λ _. HasRoomToDespike self.new points) }
         ensures reserved { HasRoomToDespike self.old points → IsOk result }
@@ -179,10 +185,11 @@ impl ContourDeSpiker {
         Ok(())
     }
 
-    /// What `despike_contour` gives, for points of any type, written to the front of `out`: answers how many points are left, 0 where
-    /// the contour collapses. What stands behind them stays as it was, and so does all of `out` where there is an error. Memory is taken
-    /// only for the places of a contour of more than three points that has a spike or a repeated point, and is kept. The only error is
-    /// `OutOfMemory`, where there is no room yet for as many places as the contour has points.
+    /// Writes what `despike_contour` returns to the front of `out`, for points of any type. Returns the number of points written, 0 if
+    /// the contour collapses.
+    /// `out` is at least as long as the contour. The rest of it stays as it was, and after an error all of it.
+    /// A contour of fewer than four points needs no memory, nor does one without spikes and repeated points. For another the call makes
+    /// room for as many places as there are points, and keeps it. The only error is `OutOfMemory`, which can't occur if there is room.
     pub fn despike_into<P: ContourPoint>(
         &mut self,
         contour: &[P],
@@ -203,7 +210,7 @@ impl ContourDeSpiker {
         Ok(self.walk_into(contour, out))
     }
 
-    /// The same of a contour that isn't clean, for whose places there is room: it takes no memory, and can't fail.
+    /// Does the same for a contour that isn't clean. There is room for its places, so this allocates nothing and can't fail.
     pub(crate) fn walk_into<P: ContourPoint>(&mut self, contour: &[P], out: &mut [P]) -> usize
         requires points_safe { IsSafeContour P.Coordinate.width
             (contour_of P.Coordinate.value (P.points contour.now)) }
@@ -229,8 +236,8 @@ impl ContourDeSpiker {
         write_at(contour, self.places.as_slice(), out)
     }
 
-    /// The ring of all places below `count`, for which there is room, with the walk at `place` and the places before it tested. It takes
-    /// the memory of `places`, which `walk` gives back.
+    /// Returns the ring of all places below `count`, with the walk at `place` and the places before it tested. There is room for them.
+    /// The ring takes the memory of `places`, which `walk` gives back.
     fn ring_at(&mut self, count: usize, place: usize) -> Ring
         requires within { place < count }
         requires room { count ≤ vec_capacity self.old.places }
@@ -244,7 +251,7 @@ impl ContourDeSpiker {
         )
     }
 
-    /// Walks round a ring. Whether three places are left at the least: then they are its `places`.
+    /// Walks around a ring. Returns whether at least three places are left; then `places` holds them.
     fn walk<'a, P: ContourPoint>(
         &mut self,
         probe: Probe<'a, P::Coordinate, P>,
@@ -269,7 +276,7 @@ impl ContourDeSpiker {
     }
 }
 
-/// The first place at which the contour turns back or stands still. It takes no memory.
+/// Returns the first place at which the contour turns back or stands still. Allocates nothing.
 fn first_back<'a, P: ContourPoint>(
     mut probe: Probe<'a, P::Coordinate, P>,
 ) -> (Probe<'a, P::Coordinate, P>, Option<usize>)
@@ -294,7 +301,7 @@ fn first_back<'a, P: ContourPoint>(
     (probe, None)
 }
 
-/// Whether the contour turns back or stands still at `place`, with these neighbours. Counts one visit.
+/// Returns whether the contour turns back or stands still at `place`, between these neighbours. Counts one visit.
 fn is_back_between<P: ContourPoint>(
     probe: &mut Probe<'_, P::Coordinate, P>,
     previous: usize,
@@ -313,7 +320,7 @@ fn is_back_between<P: ContourPoint>(
     probe.turn(previous, place, next) == Turn::Back
 }
 
-/// Whether the contour turns back or stands still at the ring's place. Counts one visit.
+/// Returns whether the contour turns back or stands still at the ring's place. Counts one visit.
 fn is_back_at<P: ContourPoint>(probe: &mut Probe<'_, P::Coordinate, P>, ring: &Ring) -> bool
     requires enough { 1 < length ring.now.places }
     requires below { All (λ k. k < length probe.old.contour) ring.now.places }
@@ -326,7 +333,7 @@ fn is_back_at<P: ContourPoint>(probe: &mut Probe<'_, P::Coordinate, P>, ring: &R
     is_back_between(probe, ring.before(), ring.place(), ring.after())
 }
 
-/// Walks round the ring until each place of it is tested, and takes out those that turn back. Whether three are left.
+/// Walks around the ring until each of its places is tested, and removes those that turn back. Returns whether three are left.
 fn walk_round<'a, P: ContourPoint>(
     mut probe: Probe<'a, P::Coordinate, P>,
     ring: &mut Ring,
@@ -357,7 +364,7 @@ fn walk_round<'a, P: ContourPoint>(
     (probe, true)
 }
 
-/// Whether there are at least three points, and the way over them nowhere goes back or stands still: the removal of spikes leaves such a
+/// Returns whether there are at least three points, and the path over them never turns back or stands still. Despiking leaves such a
 /// contour as it is.
 pub fn is_despiked<P: ContourPoint>(points: &[P]) -> bool
     requires { IsSafeContour P.Coordinate.width
@@ -368,7 +375,8 @@ pub fn is_despiked<P: ContourPoint>(points: &[P]) -> bool
     has_none::<P, BackTurn>(points)
 }
 
-/// Whether at least three points are left without repeated ones, and the way over them nowhere goes back.
+/// Returns whether the contour has no spike, and has at least three points. Consecutive duplicates count once, also across the closing
+/// edge.
 pub fn has_no_spikes<P: ContourPoint>(points: &[P]) -> bool
     requires { IsSafeContour P.Coordinate.width
         (contour_of P.Coordinate.value (P.points points.now)) }
@@ -384,8 +392,8 @@ pub fn has_no_spikes<P: ContourPoint>(points: &[P]) -> bool
     walk_onward(here - behind, here, points).is_some()
 }
 
-/// Walks over a block of points from `start`, to which the edge `first` leads, and passes over repeated points: its last edge and its
-/// last point, or `None` where the way goes back.
+/// Returns the last edge and the last point of the path from `start` over a block of points, or `None` if it turns back. The edge `first`
+/// leads to `start`. Repeated points are skipped.
 #[inline(always)]
 fn walk_onward<P: ContourPoint>(
     first: IntPoint<P::Coordinate>,

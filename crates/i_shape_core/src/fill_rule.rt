@@ -2,23 +2,23 @@
 
 ghost use Rattle.std.specs.Prelude.{◌↔◌, IsTrue};
 
-/// Which points the contours of a shape fill, by how often they wind about a point together, to the left.
+/// Which points a shape fills, by the sum of its contours' winding numbers about them, counterclockwise positive.
 #[derive(Clone, Copy, Debug, PartialEq, Eq)]
 pub enum FillRule {
-    /// Those about which they wind an odd number of times.
+    /// Those with an odd winding number.
     EvenOdd,
-    /// Those about which they wind a number of times other than zero.
+    /// Those with a winding number other than zero.
     NonZero,
-    /// Those about which they wind more than zero times.
+    /// Those with a positive winding number.
     Positive,
-    /// Those about which they wind fewer than zero times.
+    /// Those with a negative winding number.
     Negative,
 }
 
 impl FillRule {
     ghost use Rattle.i_shape_core.specs.Filling.{IsFilled};
 
-    /// Whether it fills a point about which the contours wind so often.
+    /// Returns whether the rule fills a point with this winding number.
     pub fn fills(self, winding: i128) -> bool
         ensures { IsTrue result ↔ IsFilled self winding }
     {

@@ -1,4 +1,4 @@
-//! The way over the points of a contour, four turns at a time.
+//! A test of the turns of a contour for zero turns, four at a time.
 
 ghost use Rattle.std.specs.Prelude.{◌↔◌, ◌+◌, ◌<◌, ◌≤◌, length, IsTrue};
 ghost use Rattle.i_shape_core.specs.FourTurns.{HasZeroTurnFrom, IsTurning};
@@ -8,8 +8,8 @@ use crate::number::IntNumber;
 use crate::point::ContourPoint;
 use crate::zero_turns::ZeroTurns;
 
-/// How many turns from the first on are no zero turns, as far as blocks of four tell: all, or those before a block that has one. The
-/// closing turns aren't looked at. Below six points it is 0.
+/// Returns how many turns from the first on aren't zero turns, as far as blocks of four show: all, or those before a block that has one.
+/// The closing turns aren't tested. Below six points it is 0.
 #[inline(always)]
 pub(crate) fn count_turning<P: ContourPoint>(points: &[P]) -> usize
     requires { IsSafeContour P.Coordinate.width
@@ -37,7 +37,7 @@ pub(crate) fn count_turning<P: ContourPoint>(points: &[P]) -> usize
     turns
 }
 
-/// Whether one of the four turns of the six points from a place on is a zero turn.
+/// Returns whether one of the four turns of the six points from a place on is a zero turn.
 #[inline(always)]
 fn has_zero_turn_from<P: ContourPoint>(points: &[P], place: usize) -> bool
     requires safe { IsSafeContour P.Coordinate.width

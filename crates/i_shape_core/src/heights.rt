@@ -1,4 +1,4 @@
-//! Points in the order of their heights, and how often contours wind about each of them.
+//! Points sorted by height, and the winding numbers of contours about them.
 
 ghost use Rattle.std.specs.Prelude.{◌≡◌, ◌<◌, ◌≤◌, ◌≤ℤ◌, ◌+ℤ◌, ◌++◌, true, false, ℤ, List, length, map, drop, IfOk, OnOk, OnErr};
 ghost use Rattle.std.specs.Int.{int_wrap, w64};
@@ -8,22 +8,22 @@ ghost use Rattle.i_shape_core.specs.Point.{Point};
 ghost use Rattle.i_shape_core.specs.IntPoint.{point_of, contour_of, IsSafe, IsSafeContour};
 ghost use Rattle.i_shape_core.specs.Edges.{is_above};
 ghost use Rattle.i_shape_core.specs.Winding.{winding, winding_of_edge};
-ghost use Rattle.i_shape_core.specs.Heights.{asked_points, IsRising, IsPlaceOf, IsAdded, AllFit, asks, IsTotal};
+ghost use Rattle.i_shape_core.specs.Heights.{asked_points, IsRising, IsPlaceOf, IsAdded, IsPassed, AllFit, asks};
 
 use crate::number::IntNumber;
 use crate::point::{ContourPoint, IntPoint};
 use crate::triangle::Triangle;
 use std::alloc::{AllocError, Global};
 
-/// A point that is asked about, and its place in the list of a caller.
+/// A point to find the winding number about, and its place in the caller's list.
 #[derive(Clone, Copy)]
 pub struct Asked<I> {
     pub point: IntPoint<I>,
     pub place: usize,
 }
 
-/// Adds what the edge from `start` up to `end` adds about each of the points, of which `start` lies above the first `from`. Answers above
-/// how many `end` lies.
+/// Adds to the total of each point what the edge from `start` up to `end` adds to the winding number about it. `start` lies above the
+/// first `from` points. Returns how many of them, from the first on, `end` lies above.
 #[inline(always)]
 fn rise<I: IntNumber>(
     asked: &[Asked<I>],
@@ -40,12 +40,8 @@ fn rise<I: IntNumber>(
     requires fit { AllFit totals.old }
     requires here { IsPlaceOf (asked_points I.value asked.now) (point_of I.value start) from }
     requires up { I.value start.y ≤ℤ I.value end.y }
-    ensures here { IsPlaceOf (asked_points I.value asked.now) (point_of I.value end) result }
-    ensures room { length totals.new ≡ length totals.old }
-    ensures fit { AllFit totals.new }
-    ensures added { IsAdded (asked_points I.value asked.now)
-        (λ p. winding_of_edge p (record { start = point_of I.value start; end = point_of I.value end }))
-        totals.old totals.new }
+    ensures { IsPassed (asked_points I.value asked.now) (point_of I.value start)
+        (point_of I.value end) result totals.old totals.new }
 {
     let mut place = from;
     while place < asked.len() && end.y > asked[place].point.y {
@@ -56,7 +52,7 @@ fn rise<I: IntNumber>(
     place
 }
 
-/// The same of an edge down to `end`.
+/// Does the same for the edge from `start` down to `end`.
 #[inline(always)]
 fn fall<I: IntNumber>(
     asked: &[Asked<I>],
@@ -73,12 +69,8 @@ fn fall<I: IntNumber>(
     requires fit { AllFit totals.old }
     requires here { IsPlaceOf (asked_points I.value asked.now) (point_of I.value start) from }
     requires down { I.value end.y ≤ℤ I.value start.y }
-    ensures here { IsPlaceOf (asked_points I.value asked.now) (point_of I.value end) result }
-    ensures room { length totals.new ≡ length totals.old }
-    ensures fit { AllFit totals.new }
-    ensures added { IsAdded (asked_points I.value asked.now)
-        (λ p. winding_of_edge p (record { start = point_of I.value start; end = point_of I.value end }))
-        totals.old totals.new }
+    ensures { IsPassed (asked_points I.value asked.now) (point_of I.value start)
+        (point_of I.value end) result totals.old totals.new }
 {
     let mut place = from;
     while place > 0 && !(end.y > asked[place - 1].point.y) {
@@ -89,7 +81,7 @@ fn fall<I: IntNumber>(
     place
 }
 
-/// What an edge from `start` adds about `point` where it rises to `end` past the height of `point`.
+/// Returns what an edge that rises from `start` to `end` past the height of `point` adds to the winding number about it.
 #[inline(always)]
 fn turn_of_rise<I: IntNumber>(point: IntPoint<I>, start: IntPoint<I>, end: IntPoint<I>) -> isize
     requires point_safe { IsSafe I.width (point_of I.value point) }
@@ -107,7 +99,7 @@ fn turn_of_rise<I: IntNumber>(point: IntPoint<I>, start: IntPoint<I>, end: IntPo
     }
 }
 
-/// What an edge from `start` adds about `point` where it falls to `end` past the height of `point`.
+/// Returns what an edge that falls from `start` to `end` past the height of `point` adds to the winding number about it.
 #[inline(always)]
 fn turn_of_fall<I: IntNumber>(point: IntPoint<I>, start: IntPoint<I>, end: IntPoint<I>) -> isize
     requires point_safe { IsSafe I.width (point_of I.value point) }
@@ -125,7 +117,7 @@ fn turn_of_fall<I: IntNumber>(point: IntPoint<I>, start: IntPoint<I>, end: IntPo
     }
 }
 
-/// The sum, but for what 64 bits can't hold.
+/// Returns the sum of a total and what an edge adds to it, wrapped to 64 bits.
 #[inline(always)]
 fn plus(total: isize, turn: isize) -> isize
     ensures { result ≡ int_wrap w64 (total +ℤ turn) }
@@ -133,7 +125,7 @@ fn plus(total: isize, turn: isize) -> isize
     total.wrapping_add(turn)
 }
 
-/// Above how many of the points `start` lies.
+/// Returns how many of the points `start` lies above. These are the first ones.
 fn place_of<I: IntNumber>(asked: &[Asked<I>], start: IntPoint<I>) -> usize
     requires { IsRising (asked_points I.value asked.now) }
     ensures { IsPlaceOf (asked_points I.value asked.now) (point_of I.value start) result }
@@ -151,7 +143,7 @@ fn place_of<I: IntNumber>(asked: &[Asked<I>], start: IntPoint<I>) -> usize
     low
 }
 
-/// Adds how often the contour winds about each of the points to its total.
+/// Adds the winding number of the contour about each point to its total, wrapped to 64 bits. The points are sorted by height.
 pub fn add_contour<P: ContourPoint>(
     asked: &[Asked<P::Coordinate>],
     totals: &mut [isize],
@@ -185,7 +177,7 @@ pub fn add_contour<P: ContourPoint>(
     }
 }
 
-/// The points with their places, in the order of their heights.
+/// Returns the points with their places, sorted by height. The only error is `AllocError`.
 pub fn by_height<Q: ContourPoint>(
     alloc: Global,
     points: &[Q],
@@ -208,7 +200,7 @@ pub fn write_totals<I: IntNumber>(asked: &[Asked<I>], totals: &[isize], out: &mu
     requires fit { AllFit totals.now }
     requires within { All (λ q. q.place < length out.old) asked.now }
     ensures written { (points : List (IntPoint I)) (f : Point → ℤ) → IsPermutation (asks 0 points) asked.now
-        → IsTotal f (asked_points I.value asked.now) totals.now
+        → totals.now ≡ map f (asked_points I.value asked.now)
         → out.new ≡ map f (contour_of I.value points) ++ drop (length points) out.old }
 {
     for (at, it) in asked.iter().enumerate() {
@@ -216,8 +208,10 @@ pub fn write_totals<I: IntNumber>(asked: &[Asked<I>], totals: &[isize], out: &mu
     }
 }
 
-/// Writes how often the contour winds about each of the points to the front of `out`, as `windings_about` does, in time that goes with
-/// the points, the edges and how many of the points' heights each edge passes, and with the sort of the points.
+/// Writes the winding number about each of the points to the front of `out`, as `windings_about` does.
+/// `out` is at least as long as `points`. The rest of it stays as it was.
+/// It takes the time to sort the points, and time linear in the points, the edges, and how many of the points' heights each edge passes.
+/// It allocates a copy of the points and a total for each. The only error is `AllocError`, which leaves `out` as it was.
 pub fn windings_by_height<P: ContourPoint, Q: ContourPoint<Coordinate = P::Coordinate>>(
     alloc: Global,
     contour: &[P],

@@ -1,7 +1,7 @@
-//! The laws of cleaning, of the comparison of points, and of safe coordinates. Each function takes the contours or points that its
-//! law names, or none where it is of all numbers, does nothing, and has the law alone for its clauses: they speak of
-//! definitions, and of every other list and point that they mention. No safe range is asked. Laws of further orders, windings,
-//! fill rules, edges and moves are functions of the crate `i_shape_laws`.
+//! Laws of cleaning, of the comparison of points, and of safe coordinates. Each function takes the contours or points that its law names,
+//! or none if it is about all numbers, does nothing, and has only the law as its clauses. These are about definitions, and about every
+//! other list and point that they mention. The points needn't be safe. The crate `i_shape_laws` has further laws of orders, winding
+//! numbers, fill rules, edges and moves.
 
 ghost use Rattle.std.specs.Prelude.{◌≡◌, ◌↔◌, ◌-ℤ◌, ◌*ℤ◌, ℤ, IsTrue, Some, FitsSigned};
 ghost use Rattle.std.specs.Ordering.{MatchOrdering, partial_lt};
@@ -32,45 +32,45 @@ pub fn rotated<I: IntNumber>(_c: &[IntPoint<I>], _d: &[IntPoint<I>])
     ensures { RotatedEnds (contour_of I.value _c.now) (contour_of I.value _d.now) }
 {}
 
-/// The ends of a contour that is read backwards are its ends, read backwards, up to rotation.
+/// The ends of a contour reversed are its ends reversed, up to rotation.
 pub fn reversed<I: IntNumber>(_c: &[IntPoint<I>])
     ensures { ReversedEnds (contour_of I.value _c.now) }
 {}
 
-/// An end is its own only end, and a simple contour reaches itself alone.
+/// An end is its own only end, and a simple contour reaches only itself.
 pub fn twice<I: IntNumber>(_c: &[IntPoint<I>])
     ensures { Twice (contour_of I.value _c.now) }
 {}
 
-/// What is left where back vertices alone are removed has collapsed exactly where the ends of the contour have, and
-/// otherwise it has their ends, up to rotation.
+/// What is left if only back vertices (spikes and repeated points) are removed has collapsed exactly where the ends of the contour have.
+/// Otherwise it has their ends, up to rotation.
 pub fn agreed<I: IntNumber>(_c: &[IntPoint<I>])
     ensures { Agreed (contour_of I.value _c.now) }
 {}
 
-/// The removal of zero turns keeps the double area.
+/// Removing zero turns keeps the double area.
 pub fn area_kept<I: IntNumber>(_c: &[IntPoint<I>], _d: &[IntPoint<I>])
     ensures { AreaKept (contour_of I.value _c.now) (contour_of I.value _d.now) }
 {}
 
-/// The removal of zero turns keeps which points are inside.
+/// Removing zero turns keeps which points are inside.
 pub fn inside_kept<I: IntNumber>(_c: &[IntPoint<I>], _d: &[IntPoint<I>])
     ensures { InsideKept (contour_of I.value _c.now) (contour_of I.value _d.now) }
 {}
 
-/// A contour without spikes doesn't collapse, and is convex exactly where its ends are. Convexity stays under rotation,
-/// reversal and a point repeated beside itself.
+/// A contour without spikes doesn't collapse, and is convex exactly where its ends are. Convexity stays under rotation, reversal, and
+/// repetition of a point beside itself.
 pub fn convex_kept<I: IntNumber>(_c: &[IntPoint<I>])
     ensures { ConvexKept (contour_of I.value _c.now) }
 {}
 
-/// Two contours that don't collapse have equal least rotations of their ends exactly where a chain joins them, of rotations,
-/// removals and insertions of zero-turn vertices, in which each contour has at least three points.
+/// The ends of two contours that don't collapse have equal least rotations exactly where a chain joins the contours: of rotations, and of
+/// removals and insertions of zero turns, with at least three points in each contour.
 pub fn canonical_joined<I: IntNumber>(_c: &[IntPoint<I>], _d: &[IntPoint<I>])
     ensures { CanonicalJoined (contour_of I.value _c.now) (contour_of I.value _d.now) }
 {}
 
-/// Points are told equal by `==` exactly where they are the same point.
+/// `==` of two points is true exactly where they are the same point.
 pub fn points_equal<I: IntNumber>(_a: &IntPoint<I>, _b: &IntPoint<I>)
     ensures same_value { IsTrue (⟦<IntPoint<I> as PartialEq>⟧.eq _a.now _b.now)
         ↔ (_a.now ≡ _b.now) }
@@ -78,14 +78,14 @@ pub fn points_equal<I: IntNumber>(_a: &IntPoint<I>, _b: &IntPoint<I>)
         ↔ (point_of I.value _a.now ≡ point_of I.value _b.now) }
 {}
 
-/// Points are ordered by `cmp` by x, and then by y, as whole numbers.
+/// `cmp` orders points by x, then by y, as integers.
 pub fn points_ordered<I: IntNumber>(_a: &IntPoint<I>, _b: &IntPoint<I>)
     ensures { let a = point_of I.value _a.now in let b = point_of
         I.value _b.now in MatchOrdering (⟦<IntPoint<I> as Ord>⟧.cmp _a.now _b.now)
         (IsBefore a b) (a ≡ b) (IsBefore b a) }
 {}
 
-/// `partial_cmp` says of two points what `cmp` says, and `<` is told exactly where the first comes before the second.
+/// `partial_cmp` of two points agrees with `cmp`, and `<` is true exactly where the first comes before the second.
 pub fn points_compared<I: IntNumber>(_a: &IntPoint<I>, _b: &IntPoint<I>)
     ensures partial { ⟦<IntPoint<I> as PartialOrd>⟧.partial_cmp _a.now _b.now
         ≡ Some (⟦<IntPoint<I> as Ord>⟧.cmp _a.now _b.now) }
@@ -93,8 +93,8 @@ pub fn points_compared<I: IntNumber>(_a: &IntPoint<I>, _b: &IntPoint<I>)
         ↔ IsBefore (point_of I.value _a.now) (point_of I.value _b.now) }
 {}
 
-/// Why safe coordinates are called so: the difference of two of them fits the type, and the product of two such differences fits the
-/// wider type.
+/// Why coordinates are called safe: the difference of two of them fits the type, and the product of two such differences fits the wider
+/// type.
 pub fn safe_differences_fit<I: IntNumber>()
     ensures differences { (a b : ℤ) → IsSafeCoordinate I.width a
         → IsSafeCoordinate I.width b → FitsSigned I.width (a -ℤ b) }

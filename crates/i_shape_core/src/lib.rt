@@ -1,5 +1,8 @@
-//! Contours over whole numbers: numbers and points, turns, measures, the cleaners of one contour, its canonical form, and the
-//! laws that cleaning keeps.
+//! Contours with integer coordinates: numbers and points, turns, measures, the cleaners of one contour, its canonical form, and the laws
+//! of cleaning.
+//!
+//! A *zero turn* is a degenerate vertex: a collinear vertex, a repeated point, or the tip of a spike. A contour *collapses* if removing
+//! zero turns leaves fewer than three points. A point is *safe* if both coordinates lie strictly between -2^(BITS-2) and 2^(BITS-2).
 #![tactic(auto)]
 
 pub mod area;

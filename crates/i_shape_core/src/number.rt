@@ -15,7 +15,7 @@ pub trait WideIntNumber: Copy + Ord {
     /// The width of the type.
     ghost width: { Width };
 
-    /// The whole number that a value stands for.
+    /// The integer that a value represents.
     ghost value: { Self → ℤ };
 
     ghost ZERO: { Self };
@@ -35,11 +35,11 @@ pub trait WideIntNumber: Copy + Ord {
     fn wrapping_mul(self, other: Self) -> Self
         ensures { value result ≡ int_wrap width (value self *ℤ value other) };
 
-    /// -1, 0 or 1, as the value is below, equal to or above zero.
+    /// Returns -1, 0 or 1 for a value below, equal to or above zero.
     fn signum(self) -> Self
         ensures { value result ≡ int_signum (value self) };
 
-    /// The quotient, rounded towards zero.
+    /// Returns the quotient, rounded toward zero.
     fn divide(self, divisor: Self) -> Self
         requires nonzero { value divisor ≢ pos 0 }
         requires fits { FitsSigned width (int_div (value self) (value divisor)) }
@@ -49,14 +49,14 @@ pub trait WideIntNumber: Copy + Ord {
 
     ghost two_value: { value TWO ≡ pos 2 };
 
-    /// Values are ordered and compared as their whole numbers are.
+    /// Values are ordered and compared as their integers are.
     ghost order: { (a b : Self) → Self.cmp a b ≡ int_cmp (value a) (value b) };
 
     ghost partial_order: { (a b : Self) → Self.partial_cmp a b ≡ Some (int_cmp (value a) (value b)) };
 
     ghost equality: { (a b : Self) → IsTrue (Self.eq a b) ↔ (value a ≡ value b) };
 
-    /// One value stands for each whole number.
+    /// Different values represent different integers.
     ghost injective: { (a b : Self) → value a ≡ value b → a ≡ b };
 }
 
@@ -68,7 +68,7 @@ pub trait IntNumber: ZeroTurns + Copy + Ord {
     /// The width of the type.
     ghost width: { Width };
 
-    /// The whole number that a value stands for.
+    /// The integer that a value represents.
     ghost value: { Self → ℤ };
 
     ghost ZERO: { Self };
@@ -91,17 +91,17 @@ pub trait IntNumber: ZeroTurns + Copy + Ord {
 
     const BITS: u32;
 
-    /// The same value in the wider type.
+    /// Returns the same value in the wider type.
     fn to_wide(self) -> Self::Wide
         ensures same { Self.Wide.value result ≡ value self }
         ensures range { FitsSigned width (value self) };
 
-    /// The difference, which lies in the type.
+    /// Returns the difference, which fits the type.
     fn minus(self, other: Self) -> Self
         requires { FitsSigned width (value self -ℤ value other) }
         ensures { value result ≡ value self -ℤ value other };
 
-    /// The supertrait's width is that of the type, and its numbers are those that the values stand for.
+    /// The supertrait's width is that of the type, and its numbers are the integers that the values represent.
     ghost same_width: { Self.number_width ≡ width };
 
     ghost same_number: { Self.number ≡ value };
@@ -122,13 +122,13 @@ pub trait IntNumber: ZeroTurns + Copy + Ord {
 
     ghost max_value: { value MAX ≡ pos (2 ^ hbits width - 1) };
 
-    /// Values are ordered and compared as their whole numbers are.
+    /// Values are ordered and compared as their integers are.
     ghost order: { (a b : Self) → Self.cmp a b ≡ int_cmp (value a) (value b) };
 
     ghost partial_order: { (a b : Self) → Self.partial_cmp a b ≡ Some (int_cmp (value a) (value b)) };
 
     ghost equality: { (a b : Self) → IsTrue (Self.eq a b) ↔ (value a ≡ value b) };
 
-    /// One value stands for each whole number.
+    /// Different values represent different integers.
     ghost injective: { (a b : Self) → value a ≡ value b → a ≡ b };
 }

@@ -1,4 +1,4 @@
-//! Points and vectors over whole coordinates.
+//! Points and vectors with integer coordinates.
 
 ghost use Rattle.std.specs.Prelude.{◌≡◌, ◌-ℤ◌, ◌↔◌, List, map, pos, IsTrue, FitsSigned};
 ghost use Rattle.std.proofs.Common.{sym};
@@ -26,7 +26,7 @@ impl<I: IntNumber> IntPoint<I> {
         IntPoint { x, y }
     }
 
-    /// The cross product of two vectors. It always fits.
+    /// Returns the cross product of two vectors. It always fits.
     pub fn cross_product(self, other: IntPoint<I>) -> I::Wide
         ensures { I.Wide.value result ≡ cross_of (point_of I.value self) (point_of I.value other) }
     {
@@ -35,7 +35,7 @@ impl<I: IntNumber> IntPoint<I> {
         left.wrapping_sub(right)
     }
 
-    /// Whether the cross product of two vectors is zero: they point the same way or opposite ways, or one of them is zero.
+    /// Returns whether the cross product of two vectors is zero: they have the same direction or opposite ones, or one of them is zero.
     pub fn is_parallel_to(self, other: IntPoint<I>) -> bool
         ensures { IsTrue result
             ↔ (cross_of (point_of I.value self) (point_of I.value other) ≡ pos 0) }
@@ -43,7 +43,7 @@ impl<I: IntNumber> IntPoint<I> {
         I::are_products_equal(self.x, other.y, self.y, other.x)
     }
 
-    /// The dot product of two vectors. It fits unless all four coordinates are the least number.
+    /// Returns the dot product of two vectors. It fits unless all four coordinates are `I::MIN`.
     pub fn dot_product(self, other: IntPoint<I>) -> I::Wide
         requires { ¬ ((self.x ≡ I.MIN) × (self.y ≡ I.MIN) × (other.x ≡ I.MIN) × (other.y ≡ I.MIN)) }
         ensures { I.Wide.value result ≡ dot_of (point_of I.value self) (point_of I.value other) }
@@ -53,7 +53,7 @@ impl<I: IntNumber> IntPoint<I> {
         left.wrapping_add(right)
     }
 
-    /// Whether both coordinates lie strictly between -2^(BITS-2) and 2^(BITS-2).
+    /// Returns whether both coordinates lie strictly between -2^(BITS-2) and 2^(BITS-2).
     pub fn is_in_safe_range(&self) -> bool
         ensures { IsTrue result ↔ IsSafe I.width (point_of I.value self.now) }
     {
@@ -61,7 +61,7 @@ impl<I: IntNumber> IntPoint<I> {
     }
 }
 
-/// A type with an origin. `IntPoint` has its own by this trait, so that callers know what it is.
+/// A type with an origin. `IntPoint` has its own by this trait, whose contract gives its value.
 pub trait Origin {
     ghost ZERO: { Self };
 
@@ -78,7 +78,7 @@ impl<I: IntNumber> Origin for IntPoint<I> {
     };
 }
 
-/// A point that contours can be made of: the library's own, or a struct of a caller's with two coordinates.
+/// A point that contours can be made of: the library's own, or a caller's struct with two coordinates.
 pub trait ContourPoint: Copy {
     ghost use Rattle.i_shape_core.specs.declared.point.IntPoint.{IntPoint};
 
@@ -88,7 +88,7 @@ pub trait ContourPoint: Copy {
     /// The library's point with the same coordinates.
     ghost point: { Self → IntPoint Self.Coordinate };
 
-    /// The same, of each point of a list.
+    /// The same for each point of a list.
     ghost points: { List Self → List (IntPoint Self.Coordinate) };
 
     ghost each: { (list : List Self) → points list ≡ map point list };

@@ -1,4 +1,4 @@
-//! The view of a contour that a cleaner's walk is given, which counts its visits.
+//! A view of a contour for a cleaner's walk, which counts its visits.
 
 ghost use Rattle.std.specs.Prelude.{◌≡◌, ◌+◌, ◌<◌, ◌≤◌, Some, map, option_map, length, slice_get, IfOk, IsOkUnless};
 ghost use Rattle.std.specs.Option.{IfSome};
@@ -15,7 +15,7 @@ use crate::turn::{Turn, turn_at};
 use std::alloc::Global;
 use std::marker::Model;
 
-/// The only view of a contour that a cleaner's walk is given. It counts the vertices visited.
+/// The only view of a contour that a cleaner's walk gets. It counts the vertices visited.
 #[derive(Drop)]
 pub struct Probe<'a, I: IntNumber, P: ContourPoint<Coordinate = I> = IntPoint<I>> {
     points: &'a [P],
@@ -31,7 +31,7 @@ impl<'a, I: IntNumber, P: ContourPoint<Coordinate = I>> Model for Probe<'a, I, P
 }
 
 impl<'a, I: IntNumber, P: ContourPoint<Coordinate = I>> Probe<'a, I, P> {
-    /// A probe of a contour of safe points, with nothing visited.
+    /// Returns a probe of a contour of safe points, with nothing visited.
     pub fn new(contour: &'a [P]) -> Probe<'a, I, P>
         requires { IsSafeContour I.width (contour_of I.value (P.points contour.now)) }
         ensures contour { result.contour ≡ P.points contour.now }
@@ -43,14 +43,14 @@ impl<'a, I: IntNumber, P: ContourPoint<Coordinate = I>> Probe<'a, I, P> {
         }
     }
 
-    /// The number of points.
+    /// Returns the number of points.
     pub fn len(&self) -> usize
         ensures { result ≡ length self.now.contour }
     {
         self.points.len()
     }
 
-    /// How the contour turns at `place`, with these neighbours, whichever they are. Counts one visit.
+    /// Returns how the contour turns at `place` between these neighbours, which may be any places. Counts one visit.
     pub fn turn(&mut self, previous: usize, place: usize, next: usize) -> Turn
         requires previous_within { previous < length self.old.contour }
         requires place_within { place < length self.old.contour }
@@ -81,7 +81,7 @@ impl<'a, I: IntNumber, P: ContourPoint<Coordinate = I>> Probe<'a, I, P> {
         self.count
     }
 
-    /// All points, and the number of visits. The only error is `OutOfMemory`.
+    /// Returns all points, and the number of visits. The only error is `OutOfMemory`.
     pub fn keep_all(self, alloc: Global) -> Result<(Vec<P>, u128), ShapeError>
         ensures points { IfOk result (λ kept. P.points kept.0.items ≡ self.entry.contour) }
         ensures visits { IfOk result (λ kept. kept.1 ≡ self.entry.visits) }
@@ -91,7 +91,7 @@ impl<'a, I: IntNumber, P: ContourPoint<Coordinate = I>> Probe<'a, I, P> {
         Ok((kept, self.visits()))
     }
 
-    /// The points at these places, in the order given, and the number of visits. The only error is `OutOfMemory`.
+    /// Returns the points at these places, in the given order, and the number of visits. The only error is `OutOfMemory`.
     pub fn keep(self, alloc: Global, indices: &[usize]) -> Result<(Vec<P>, u128), ShapeError>
         requires { All (λ k. k < length self.contour) indices.now }
         ensures points { IfOk result (λ kept. map (λ p. Some p) (P.points kept.0.items)
@@ -106,7 +106,7 @@ impl<'a, I: IntNumber, P: ContourPoint<Coordinate = I>> Probe<'a, I, P> {
         Ok((kept, self.visits()))
     }
 
-    /// All points, as what is left of the contour, and the number of visits. The only error is `OutOfMemory`.
+    /// Returns all points, as what is left of the contour, and the number of visits. The only error is `OutOfMemory`.
     pub(crate) fn keep_whole(self, alloc: Global) -> Result<(Option<Vec<P>>, u128), ShapeError>
         ensures kept { IfOk result
             (λ kept. (answered (λ list. contour_of I.value (P.points list)) kept.0
@@ -117,8 +117,7 @@ impl<'a, I: IntNumber, P: ContourPoint<Coordinate = I>> Probe<'a, I, P> {
         Ok((Some(kept), visits))
     }
 
-    /// The points at the places that are left, `None` where there are none, and the number of visits. The only error is
-    /// `OutOfMemory`.
+    /// Returns the points at the places left, or `None` if `left` is, and the number of visits. The only error is `OutOfMemory`.
     pub(crate) fn keep_left(
         self,
         alloc: Global,

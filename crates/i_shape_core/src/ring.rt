@@ -5,15 +5,15 @@ ghost use Rattle.i_shape_core.specs.Walks.{PlacedRing, LeadKept, LeadRemoved, ar
 
 use std::marker::Model;
 
-/// The places that are left, as a cycle from the walk's place on. They lie in one list with a gap:
-/// those from `ahead` to `end`, and then those before `behind`.
+/// The places left, as a cycle from the walk's place on. They lie in one list with a gap: those from `ahead` to `end`, and then those
+/// before `behind`.
 #[derive(Drop)]
 pub struct Ring {
     places: Vec<usize>,
     behind: usize,
     ahead: usize,
     end: usize,
-    /// Where the contour's first of them stands, counted from the start of the list without the gap.
+    /// Where the first of them in the contour lies, counted from the start of the list without the gap.
     first: usize,
     untested: usize,
 }
@@ -27,7 +27,7 @@ impl Model for Ring {
 }
 
 impl Ring {
-    /// The ring of all places below `count`, in this memory, with the walk at `place` and the places before it tested.
+    /// Returns the ring of all places below `count`, in this memory, with the walk at `place` and the places before it tested.
     pub fn starting_at(memory: Vec<usize>, count: usize, place: usize) -> Ring
         requires within { place < count }
         requires room { count ≤ vec_capacity memory }
@@ -48,21 +48,21 @@ impl Ring {
         }
     }
 
-    /// How many places are left.
+    /// Returns how many places are left.
     pub fn len(&self) -> usize
         ensures { result ≡ length self.now.places }
     {
         self.behind + (self.end - self.ahead)
     }
 
-    /// How many places, from the walk's on, are still to be tested.
+    /// Returns how many places, from the walk's on, are still to be tested.
     pub fn untested(&self) -> usize
         ensures { result ≡ self.now.untested }
     {
         self.untested
     }
 
-    /// The place before the walk's.
+    /// Returns the place before the walk's.
     pub fn before(&self) -> usize
         ensures { result ≡ slice_index self.now.places (length self.now.places - 1) }
     {
@@ -73,14 +73,14 @@ impl Ring {
         }
     }
 
-    /// The walk's place.
+    /// Returns the walk's place.
     pub fn place(&self) -> usize
         ensures { result ≡ slice_index self.now.places 0 }
     {
         self.places[self.ahead]
     }
 
-    /// The place after the walk's, of a ring of at least two places.
+    /// Returns the place after the walk's. The ring has at least two places.
     pub fn after(&self) -> usize
         requires { 1 < length self.now.places }
         ensures { result ≡ slice_index self.now.places 1 }
@@ -92,7 +92,7 @@ impl Ring {
         }
     }
 
-    /// Keeps the walk's place as tested. The walk moves on.
+    /// Keeps the walk's place as tested, and moves on.
     pub fn keep(&mut self)
         requires { 0 < self.old.untested }
         ensures places { self.new.places ≡ drop 1 self.old.places
@@ -112,7 +112,7 @@ impl Ring {
         }
     }
 
-    /// Takes the walk's place out. The walk moves back, and its new place and the one after it are to be tested.
+    /// Removes the walk's place, and moves back. The new place and the one after it are to be tested.
     pub fn remove(&mut self)
         requires { 1 < length self.old.places }
         ensures places { self.new.places ≡ slice_index self.old.places (length self.old.places - 1)
@@ -134,7 +134,7 @@ impl Ring {
         }
     }
 
-    /// The places that are left, in the order of the contour.
+    /// Returns the places left, in the order of the contour.
     pub fn into_order(self) -> Vec<usize>
         ensures places { result.items ≡ from_contour_first self.places self.lead }
         ensures room { vec_capacity result ≡ self.room }
@@ -147,7 +147,8 @@ impl Ring {
     }
 }
 
-/// Where the contour's first stands once the walk's place is taken out, behind which `behind` places stood, and `left` are left.
+/// Returns where the contour's first place lies once the walk's place, with `behind` places before it in the list, is removed and `left`
+/// are left.
 fn first_without(first: usize, behind: usize, left: usize) -> usize
     requires some { 0 < left }
     requires first { first ≤ left }

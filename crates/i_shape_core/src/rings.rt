@@ -1,17 +1,19 @@
-//! Rings that lie end to end in one array of points, and are parted by offsets.
+//! Rings that lie end to end in one array of points, divided by offsets.
 
-ghost use Rattle.std.specs.Prelude.{◌≡◌, ◌+◌, ◌-◌, ◌<◌, ◌≤◌, ℕ, length, take, drop, slice_range, IsTrue, IfOk, OnErr, IsOkUnless};
+ghost use Rattle.std.specs.Prelude.{◌≡◌, ◌↔◌, ◌+◌, ◌-◌, ◌≤◌, ℕ, length, take, drop, slice_range, IsTrue, IfOk, OnErr};
 ghost use Rattle.i_shape_core.specs.IntPoint.{contour_of, IsSafeContour};
 ghost use Rattle.i_shape_core.specs.Written.{IsWritten};
-ghost use Rattle.i_shape_core.specs.Rings.{PartsPoints, AreSafeRings, AreCleanRings, HaveRoom, AreShortOrClean, Leaves, AreCleanedRings};
+ghost use Rattle.i_shape_core.specs.Rings.{PartsPoints, AreSafeRings, AreCleanRings, LongestUnclean, HaveRoom, TakesRoom, Leaves, AreCleanedRings};
 
 use crate::cleaner::ContourCleaner;
 use crate::error::ShapeError;
 use crate::point::ContourPoint;
 
-/// Cleans each ring that the offsets part: writes what is left of them one behind the other to the front of `out`, and to `out_offsets`
-/// where each starts and ends. Answers how many points are left in all. A ring that collapses leaves none. Memory comes first, for rings
-/// that aren't clean alone. The only error is `OutOfMemory`; then nothing is written.
+/// Cleans each of the rings into which the offsets divide `points`. Writes what is left of them end to end to the front of `out`, and its
+/// offsets, from 0 on, to the front of `out_offsets`. Returns the total number of points written. A ring that collapses leaves none.
+/// `out` is at least as long as `points`, and `out_offsets` as `offsets`. The rest of both stays as it was.
+/// Room for the longest ring that isn't clean is made first. The only error is `OutOfMemory`, after which nothing was written. It occurs
+/// only if there is no room yet for some ring of at least three points that isn't clean.
 pub fn try_clean_rings<P: ContourPoint, C: ContourCleaner>(
     cleaner: &mut C,
     points: &[P],
@@ -30,18 +32,15 @@ pub fn try_clean_rings<P: ContourPoint, C: ContourCleaner>(
         out.old out.new out_offsets.old out_offsets.new) }
     ensures points_err { OnErr result (out.new ≡ out.old) }
     ensures offsets_err { OnErr result (out_offsets.new ≡ out_offsets.old) }
-    ensures unclean { OnErr result (AreShortOrClean C.clean
-        (λ list. contour_of P.Coordinate.value (P.points list)) points.now offsets.now
-        (length offsets.now) → ⊥) }
-    ensures memory { IsOkUnless result ShapeError.OutOfMemory }
-    ensures keeps_room { (n : ℕ) → C.has_room cleaner.old n → C.has_room cleaner.new n }
+    ensures memory { TakesRoom C.clean (λ list. contour_of P.Coordinate.value (P.points list))
+        (C.has_room cleaner.old) (C.has_room cleaner.new) points.now offsets.now result }
 {
     let all_clean = make_room(cleaner, points, offsets)?;
     Ok(clean_rings(cleaner, points, offsets, all_clean, out, out_offsets))
 }
 
-/// Takes memory for the longest ring that isn't clean, and so for each, and answers whether all are clean. The only error is
-/// `OutOfMemory`, where a ring of at least three points isn't clean.
+/// Makes room for the longest ring that isn't clean, and so for each. Returns whether all are clean. The only error is `OutOfMemory`. It
+/// occurs only if there is no room yet for some ring of at least three points that isn't clean.
 pub fn make_room<P: ContourPoint, C: ContourCleaner>(
     cleaner: &mut C,
     points: &[P],
@@ -50,33 +49,40 @@ pub fn make_room<P: ContourPoint, C: ContourCleaner>(
     requires parted { PartsPoints (length points.now) offsets.now }
     requires points_safe { AreSafeRings P.Coordinate.width
         (λ list. contour_of P.Coordinate.value (P.points list)) points.now offsets.now }
-    ensures clean { IfOk result (λ all_clean. IsTrue all_clean → AreCleanRings C.clean
+    ensures clean { IfOk result (λ all_clean. IsTrue all_clean ↔ AreCleanRings C.clean
         (λ list. contour_of P.Coordinate.value (P.points list)) points.now offsets.now
         (length offsets.now)) }
-    ensures room { IfOk result (λ _. HaveRoom C.clean
-        (λ list. contour_of P.Coordinate.value (P.points list)) (C.has_room cleaner.new)
-        points.now offsets.now (length offsets.now)) }
-    ensures unclean { OnErr result (AreShortOrClean C.clean
-        (λ list. contour_of P.Coordinate.value (P.points list)) points.now offsets.now
-        (length offsets.now) → ⊥) }
-    ensures memory { IsOkUnless result ShapeError.OutOfMemory }
-    ensures keeps_room { (n : ℕ) → C.has_room cleaner.old n → C.has_room cleaner.new n }
+    ensures memory { TakesRoom C.clean (λ list. contour_of P.Coordinate.value (P.points list))
+        (C.has_room cleaner.old) (C.has_room cleaner.new) points.now offsets.now result }
 {
-    let mut longest: usize = 0;
-    let mut all_clean = true;
+    let longest = longest_unclean::<P, C>(points, offsets);
+    cleaner.reserve(longest.unwrap_or(0))?;
+    Ok(longest.is_none())
+}
+
+/// Returns the number of points of the longest ring that isn't clean, or `None` if all are clean.
+pub fn longest_unclean<P: ContourPoint, C: ContourCleaner>(
+    points: &[P],
+    offsets: &[usize],
+) -> Option<usize>
+    requires parted { PartsPoints (length points.now) offsets.now }
+    requires points_safe { AreSafeRings P.Coordinate.width
+        (λ list. contour_of P.Coordinate.value (P.points list)) points.now offsets.now }
+    ensures { LongestUnclean C.clean (λ list. contour_of P.Coordinate.value (P.points list))
+        points.now offsets.now (length offsets.now) result }
+{
+    let mut longest = None;
     for place in 1..offsets.len() {
         let ring = part(points, offsets[place - 1], offsets[place]);
         if !C::is_clean(ring) {
-            longest = longest.max(ring.len());
-            all_clean = false;
+            longest = Some(ring.len().max(longest.unwrap_or(0)));
         }
     }
-    cleaner.reserve(longest)?;
-    Ok(all_clean)
+    longest
 }
 
-/// Cleans each ring, as `try_clean_rings` does, where there is room for each that isn't clean: it takes no memory, and can't fail. None is
-/// tested where it is known that all are clean.
+/// Cleans each ring, as `try_clean_rings` does. There is room for each that isn't clean, so this allocates nothing and can't fail.
+/// No ring is tested if `all_clean` is true, as it may be only if all are clean.
 pub fn clean_rings<P: ContourPoint, C: ContourCleaner>(
     cleaner: &mut C,
     points: &[P],
@@ -111,7 +117,7 @@ pub fn clean_rings<P: ContourPoint, C: ContourCleaner>(
     written
 }
 
-/// Writes what is left of a ring from place `at` on, and answers where it ends.
+/// Writes what is left of a ring from place `at` on, and returns where it ends. The rest of `out` stays as it was.
 pub fn clean_at<P: ContourPoint, C: ContourCleaner>(
     cleaner: &mut C,
     ring: &[P],
@@ -139,7 +145,7 @@ pub fn clean_at<P: ContourPoint, C: ContourCleaner>(
     at + count
 }
 
-/// Cleans a ring, as `ContourCleaner::clean_into` does, without a test where it is known to be clean.
+/// Cleans a ring, as `ContourCleaner::clean_into` does, without testing it if it is known to be clean.
 fn clean_ring<P: ContourPoint, C: ContourCleaner>(
     cleaner: &mut C,
     ring: &[P],
@@ -166,7 +172,7 @@ fn clean_ring<P: ContourPoint, C: ContourCleaner>(
     }
 }
 
-/// The items from one place to another.
+/// Returns the items `from..to`.
 pub fn part<T: Copy>(items: &[T], from: usize, to: usize) -> &[T]
     requires order { from ≤ to }
     requires within { to ≤ length items.now }

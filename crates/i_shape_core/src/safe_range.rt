@@ -7,8 +7,8 @@ ghost use Rattle.i_shape_core.specs.IntPoint.{point_of, IsSafe};
 use crate::number::IntNumber;
 use crate::point::ContourPoint;
 
-/// Whether each point is safe: both its coordinates lie strictly between -2^(BITS-2) and 2^(BITS-2). One pass without a branch
-/// between points; it takes no memory.
+/// Returns whether each point is safe: both its coordinates lie strictly between -2^(BITS-2) and 2^(BITS-2). Makes one pass without a
+/// branch between points, and allocates nothing.
 pub fn are_safe<P: ContourPoint>(points: &[P]) -> bool
     ensures { IsTrue result
         ↔ All (λ p. IsSafe P.Coordinate.width (point_of P.Coordinate.value (P.point p)))

@@ -1,4 +1,4 @@
-//! Whether points are the same, for walks that pass over repeated points.
+//! Comparisons of points, for walks that skip repeated points.
 
 ghost use Rattle.std.specs.Prelude.{◌≡◌, reverse, not};
 ghost use Rattle.std.specs.List.{find};
@@ -8,14 +8,14 @@ ghost use Rattle.i_shape_core.specs.Convex.{is_same};
 use crate::number::IntNumber;
 use crate::point::{ContourPoint, IntPoint};
 
-/// Whether the points are equal.
+/// Returns whether the points are equal.
 pub fn are_same<I: IntNumber>(a: IntPoint<I>, b: IntPoint<I>) -> bool
     ensures { result ≡ is_same (point_of I.value a) (point_of I.value b) }
 {
     a == b
 }
 
-/// The last of the points that isn't `point`.
+/// Returns the last of the points that isn't `point`, if there is one.
 pub fn last_other<P: ContourPoint>(
     points: &[P],
     point: IntPoint<P::Coordinate>,
@@ -31,7 +31,7 @@ pub fn last_other<P: ContourPoint>(
     }
 }
 
-/// The same, as it was given.
+/// Returns the same point as it was given.
 fn last_given<P: ContourPoint>(points: &[P], point: IntPoint<P::Coordinate>) -> Option<P>
     ensures { result
         ≡ find

@@ -1,4 +1,4 @@
-//! Whether a contour has a turn that a cleaner removes.
+//! A test of a contour for turns that a cleaner removes.
 
 ghost use Rattle.std.specs.Prelude.{◌↔◌, ℕ, ◌<◌, ◌≤◌, length, IsTrue};
 ghost use Rattle.i_shape_core.specs.Contour.{IsRemovable, Test, point_at};
@@ -14,7 +14,7 @@ pub(crate) trait TurnTest {
     /// The points that it removes, each with its neighbours.
     ghost test: { Test };
 
-    /// Whether it removes the point at `place`, between these neighbours.
+    /// Returns whether it removes the point at `place`, between these neighbours.
     fn is_at<P: ContourPoint>(points: &[P], previous: usize, place: usize, next: usize) -> bool
         requires safe { IsSafeContour P.Coordinate.width
             (contour_of P.Coordinate.value (P.points points.now)) }
@@ -41,7 +41,7 @@ impl TurnTest for ZeroTurn {
     ghost weaker = { λ a b c zero. zero };
 }
 
-/// Turns at which the way turns back or stands still.
+/// Turns at which the path turns back or stands still.
 pub(crate) struct BackTurn {}
 
 impl TurnTest for BackTurn {
@@ -54,7 +54,7 @@ impl TurnTest for BackTurn {
     ghost weaker = { λ a b c back. back.0 };
 }
 
-/// Whether there are at least three points, and none of them is removed. One pass; it takes no memory.
+/// Returns whether there are at least three points, and none of them is removed. Makes one pass and allocates nothing.
 pub(crate) fn has_none<P: ContourPoint, T: TurnTest>(points: &[P]) -> bool
     requires { IsSafeContour P.Coordinate.width
         (contour_of P.Coordinate.value (P.points points.now)) }

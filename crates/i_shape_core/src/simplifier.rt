@@ -10,7 +10,7 @@ ghost use Rattle.i_shape_core.specs.Cleaners.{SimpleAnswer, KeptAnswer, VisitsAn
 ghost use Rattle.i_shape_core.specs.Walks.{Finds, RisingPlaces, IsStart, IsWalked, IsStacked, IsSettled, WalkAnswer};
 ghost use Rattle.i_shape_core.specs.Refusals.{OkUnlessMemory};
 ghost use Rattle.i_shape_core.specs.Written.{CleansInOrder, CleansInto, IsWritten};
-ghost use Rattle.i_shape_core.specs.Room.{HasRoomToSimplify, KeepsRoomToSimplify};
+ghost use Rattle.i_shape_core.specs.Room.{HoldsNoMemoryToSimplify, HasRoomToSimplify, KeepsRoomToSimplify};
 
 use crate::error::ShapeError;
 use crate::number::IntNumber;
@@ -21,29 +21,29 @@ use crate::turn::Turn;
 use crate::write::{write_at, write_whole};
 use std::alloc::Global;
 
-/// Removes zero turns. It keeps its memory from one contour to the next.
+/// Removes zero turns from contours, and keeps its memory from one contour to the next.
 #[derive(Drop)]
 pub struct ContourSimplifier {
     stack: Vec<usize>,
 }
 
 impl ContourSimplifier {
-    /// A simplifier that takes its memory from `alloc`.
+    /// Returns a simplifier that allocates from `alloc`, and holds no memory yet.
     pub fn new(alloc: Global) -> ContourSimplifier
-        ensures { vec_capacity result.stack ≡ 0 }
+        ensures { HoldsNoMemoryToSimplify result }
     {
         ContourSimplifier {
             stack: Vec::new(alloc),
         }
     }
 
-    /// Where it takes its memory from.
+    /// Returns its allocator.
     pub(crate) fn allocator(&self) -> Global {
         *self.stack.allocator()
     }
 
-    /// The contour without zero turns, as `SimpleContour::simplified` gives it, whatever was cleaned before, or failed.
-    /// The only error is `OutOfMemory`.
+    /// Returns the contour without zero turns, as `SimpleContour::simplified` does. Earlier calls don't affect the result, even if they
+    /// failed. The only error is `OutOfMemory`, which can't occur below three points.
     pub fn simplify_contour<I: IntNumber>(
         &mut self,
         contour: &[IntPoint<I>],
@@ -58,8 +58,8 @@ impl ContourSimplifier {
         Ok(kept)
     }
 
-    /// The same, with the number of vertices visited: at most three for each vertex of the contour, at least one for each,
-    /// but for two where the contour collapses, and none where it has fewer than three.
+    /// Does the same as `simplify_contour`, and also returns the number of vertices visited. For n points this is from n to 3n, or from n
+    /// - 2 to 3n if the contour collapses. It is n if there is no zero turn, and 0 below three points.
     pub fn simplify_counted<I: IntNumber>(
         &mut self,
         contour: &[IntPoint<I>],
@@ -70,6 +70,8 @@ impl ContourSimplifier {
         ensures visits { IfOk result
             (λ r. VisitsAnswer (contour_of I.value contour.now)
             (answered (contour_of I.value) r.0) r.1) }
+        ensures clean_visits { let c = contour_of I.value contour.now in
+            IfOk result (λ r. IsSimple c → r.1 ≡ length c) }
         ensures short { length contour.now < 3 → result ≡ Ok (None, 0) }
         ensures keeps_room { KeepsRoomToSimplify self.old self.new }
     {
@@ -87,7 +89,8 @@ impl ContourSimplifier {
         probe.keep_left(alloc, left)
     }
 
-    /// Takes memory for the places of contours of up to so many points, and none for fewer than three. The only error is `OutOfMemory`.
+    /// Makes room for contours of up to `points` points, and allocates nothing below three. It never reduces the room.
+    /// The only error is `OutOfMemory`, which can't occur if there is room.
     pub fn reserve(&mut self, points: usize) -> Result<(), ShapeError>
         ensures room { IfOk result (λ _. HasRoomToSimplify self.new points) }
         ensures reserved { HasRoomToSimplify self.old points → IsOk result }
@@ -102,10 +105,11 @@ impl ContourSimplifier {
         Ok(())
     }
 
-    /// What `simplify_contour` gives, for points of any type, written to the front of `out`: answers how many points are left, 0 where
-    /// the contour collapses. What stands behind them stays as it was, and so does all of `out` where there is an error. Memory is taken
-    /// only for the places of a contour that isn't clean, and is kept. The only error is `OutOfMemory`, where there is no room yet
-    /// for as many places as the contour has points.
+    /// Writes what `simplify_contour` returns to the front of `out`, for points of any type. Returns the number of points written, 0 if
+    /// the contour collapses.
+    /// `out` is at least as long as the contour. The rest of it stays as it was, and after an error all of it.
+    /// A contour without zero turns needs no memory. For another the call makes room for as many places as there are points, and keeps
+    /// it. The only error is `OutOfMemory`, which can't occur if there is room.
     pub fn simplify_into<P: ContourPoint>(
         &mut self,
         contour: &[P],
@@ -126,7 +130,7 @@ impl ContourSimplifier {
         Ok(self.walk_into(contour, out))
     }
 
-    /// The same without a test of the contour before the walk, where there is room for its places: it takes no memory, and can't fail.
+    /// Does the same without testing the contour first. There is room for its places, so this allocates nothing and can't fail.
     pub(crate) fn walk_into<P: ContourPoint>(&mut self, contour: &[P], out: &mut [P]) -> usize
         requires points_safe { IsSafeContour P.Coordinate.width
             (contour_of P.Coordinate.value (P.points contour.now)) }
@@ -151,8 +155,8 @@ impl ContourSimplifier {
     }
 }
 
-/// Where the contour has a zero turn: the first place and the end of a stack of places, and the place with which the walk goes on. No
-/// place between two others of the stack is a zero turn. It takes no memory.
+/// Returns where the walk starts: the first place and the end of a stack of places, and the place that comes next. No place between two
+/// others of the stack is a zero turn. Returns `None` if there is no zero turn. Allocates nothing.
 fn start_of_walk<'a, P: ContourPoint>(
     probe: Probe<'a, P::Coordinate, P>,
 ) -> (Probe<'a, P::Coordinate, P>, Option<(usize, usize, usize)>)
@@ -164,7 +168,8 @@ fn start_of_walk<'a, P: ContourPoint>(
         s.0 s.1 s.2 result.0.visits) }
     ensures clean { let c = contour_of P.Coordinate.value probe.entry.contour in
         result.1 ≡ None → Finds IsZeroTurn c c result.0.visits }
-    ensures counted { result.1 ≡ None → result.0.visits ≡ length probe.entry.contour }
+    ensures counted { let c = contour_of P.Coordinate.value probe.entry.contour in
+        IsSimple c → (result.1 ≡ None) × (result.0.visits ≡ length c) }
 {
     let (mut probe, place) = clean_prefix(probe);
     let count = probe.len();
@@ -181,7 +186,8 @@ fn start_of_walk<'a, P: ContourPoint>(
     (probe, None)
 }
 
-/// The first place that makes a zero turn of the one before it, or the number of points where there is none.
+/// Returns the first place that makes the one before it a zero turn, or the number of points if there is none. The closing turns aren't
+/// tested.
 fn clean_prefix<'a, P: ContourPoint>(
     mut probe: Probe<'a, P::Coordinate, P>,
 ) -> (Probe<'a, P::Coordinate, P>, usize)
@@ -206,7 +212,7 @@ fn clean_prefix<'a, P: ContourPoint>(
     (probe, count)
 }
 
-/// Whether the contour has a zero turn at `place`, between these neighbours. Counts one visit.
+/// Returns whether the contour has a zero turn at `place`, between these neighbours. Counts one visit.
 fn is_zero_at<P: ContourPoint>(
     probe: &mut Probe<'_, P::Coordinate, P>,
     previous: usize,
@@ -225,7 +231,7 @@ fn is_zero_at<P: ContourPoint>(
     probe.turn(previous, place, next) != Turn::Turning
 }
 
-/// Pops from the stack while its top is a zero turn between the one below it and `place`.
+/// Pops places while the top of the stack is a zero turn between the one below it and `place`.
 fn pop_zero_turns<'a, P: ContourPoint>(
     mut probe: Probe<'a, P::Coordinate, P>,
     stack: &mut Vec<usize>,
@@ -256,7 +262,7 @@ fn pop_zero_turns<'a, P: ContourPoint>(
     probe
 }
 
-/// Puts the places of the contour on the stack one by one, from a start of the walk on, and takes zero turns off it.
+/// Pushes the places of the contour one by one, from the start of the walk on, and pops the zero turns that each makes.
 fn stack_places<'a, P: ContourPoint>(
     mut probe: Probe<'a, P::Coordinate, P>,
     stack: &mut Vec<usize>,
@@ -279,7 +285,7 @@ fn stack_places<'a, P: ContourPoint>(
     probe
 }
 
-/// Puts the places from `first` on and before `end` on the stack, in place of what it holds.
+/// Replaces what the stack holds with the places `first..end`.
 fn fill(stack: &mut Vec<usize>, first: usize, end: usize)
     requires rising { first ≤ end }
     requires room { end - first ≤ vec_capacity stack.old }
@@ -292,8 +298,8 @@ fn fill(stack: &mut Vec<usize>, first: usize, end: usize)
     }
 }
 
-/// Takes zero turns from both ends of the stack, where it closes to a cycle. Gives the places that are left, `None` where these
-/// are fewer than three.
+/// Removes zero turns from both ends of the stack, where it closes to a cycle. Returns the places left, or `None` if they are fewer than
+/// three.
 fn close<'a, 's, P: ContourPoint>(
     mut probe: Probe<'a, P::Coordinate, P>,
     stack: &'s [usize],

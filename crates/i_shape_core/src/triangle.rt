@@ -11,7 +11,7 @@ use crate::point::IntPoint;
 pub struct Triangle;
 
 impl Triangle {
-    /// Whether the way from `a` over `b` to `c` turns clockwise.
+    /// Returns whether the path from `a` over `b` to `c` turns clockwise.
     #[tactic(auto, unfolding(crate::specs::Point::cross))]
     pub fn is_clockwise<I: IntNumber>(a: IntPoint<I>, b: IntPoint<I>, c: IntPoint<I>) -> bool
         requires a_safe { IsSafe I.width (point_of I.value a) }

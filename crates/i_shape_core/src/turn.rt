@@ -8,14 +8,14 @@ ghost use Rattle.i_shape_core.specs.Turn.{IsTurn};
 use crate::number::{IntNumber, WideIntNumber};
 use crate::point::{ContourPoint, IntPoint};
 
-/// How a way turns at a vertex.
+/// How a path turns at a vertex.
 #[derive(Clone, Copy, PartialEq, Eq, Debug)]
 pub enum Turn {
     /// It turns.
     Turning,
     /// It goes straight on.
     Straight,
-    /// It goes back or stands still.
+    /// It turns back or stands still.
     Back,
 }
 
@@ -38,7 +38,7 @@ pub fn turn_of<I: IntNumber>(a: IntPoint<I>, b: IntPoint<I>, c: IntPoint<I>) -> 
     }
 }
 
-/// How a contour turns at `place`, with these neighbours, whichever they are.
+/// Returns how a contour turns at `place` between these neighbours, which may be any places.
 pub(crate) fn turn_at<P: ContourPoint>(
     points: &[P],
     previous: usize,

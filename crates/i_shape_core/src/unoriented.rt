@@ -1,4 +1,4 @@
-//! The form of a contour whichever way round it is wound: the lesser of its canonical form and that of the contour read backwards.
+//! The canonical form of a contour without regard to direction: the lesser of its canonical form and that of the contour reversed.
 
 ghost use Rattle.std.specs.Prelude.{◌≡◌, ◌⊎◌, ◌<◌, ◌≤◌, false, length, reverse, IsTrue};
 ghost use Rattle.i_shape_core.specs.IntPoint.{contour_of, IsSafeContour};
@@ -17,8 +17,8 @@ use crate::simplifier::ContourSimplifier;
 use std::cmp::Ordering;
 
 impl ContourSimplifier {
-    /// The unoriented form of a contour, as `SimpleContour::canonical_unoriented` gives it. The answer doesn't depend on earlier use,
-    /// nor on an earlier failure. The only error is `OutOfMemory`.
+    /// Returns the unoriented form of a contour, as `SimpleContour::canonical_unoriented` does. Earlier calls don't affect the result,
+    /// even if they failed. The only error is `OutOfMemory`, which can't occur below three points.
     pub fn canonical_unoriented<I: IntNumber>(
         &mut self,
         contour: &[IntPoint<I>],
@@ -36,10 +36,11 @@ impl ContourSimplifier {
         Ok(Some(kept))
     }
 
-    /// The same, for points of any type, written to the front of `out`: answers how many points are left, 0 where the contour
-    /// collapses. What stands behind them stays as it was, and so does all of `out` where there is an error. Memory is taken
-    /// only for the places of a contour that isn't clean, and is kept. The only error is `OutOfMemory`, where there is no room yet
-    /// for as many places as the contour has points.
+    /// Writes the unoriented form to the front of `out`, for points of any type. Returns the number of points written, 0 if the contour
+    /// collapses.
+    /// `out` is at least as long as the contour. The rest of it stays as it was, and after an error all of it.
+    /// A contour without zero turns needs no memory. For another the call makes room for as many places as there are points, and keeps
+    /// it. The only error is `OutOfMemory`, which can't occur if there is room.
     pub fn canonical_unoriented_into<P: ContourPoint>(
         &mut self,
         contour: &[P],
@@ -61,7 +62,7 @@ impl ContourSimplifier {
     }
 }
 
-/// Brings a contour in place to the least rotation of the contour read backwards, where that comes first; otherwise it stays.
+/// Replaces a contour in place with the least rotation of the contour reversed, if that comes first; otherwise leaves it as it is.
 pub(crate) fn rotate_to_lesser<P: ContourPoint>(contour: &mut [P])
     requires { 0 < length contour.old }
     ensures lesser { IsLesserWay (contour_of P.Coordinate.value (P.points contour.old))
@@ -78,7 +79,7 @@ pub(crate) fn rotate_to_lesser<P: ContourPoint>(contour: &mut [P])
     }
 }
 
-/// Whether the rotation of a contour that starts at `start` comes before the contour read backwards, and isn't equal to it.
+/// Returns whether the rotation of a contour that starts at `start` comes strictly before the contour reversed.
 fn comes_before_reversed<P: ContourPoint>(contour: &[P], start: usize) -> bool
     requires { start < length contour.now }
     ensures before { let c = contour_of P.Coordinate.value (P.points contour.now) in IsTrue result

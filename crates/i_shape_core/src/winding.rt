@@ -1,4 +1,4 @@
-//! How often a contour winds about a point, over points of any type.
+//! Winding numbers of a contour, over points of any type.
 
 ghost use Rattle.std.specs.Prelude.{◌≡◌, ◌≤◌, ◌++◌, length, map, drop};
 ghost use Rattle.i_shape_core.specs.IntPoint.{point_of, contour_of, IsSafe, IsSafeContour};
@@ -9,9 +9,9 @@ use crate::number::IntNumber;
 use crate::point::{ContourPoint, IntPoint};
 use crate::triangle::Triangle;
 
-/// How often the contour winds about `point`, to the left: how many edges pass the height of `point` upwards and strictly to the
-/// right of it, less those that do so downwards. That is at most half the number of points away from 0. A contour without points
-/// winds about none.
+/// Returns the winding number of the contour about `point`, counterclockwise positive: how many edges pass its height upward and strictly
+/// to the right of it, less those that do so downward. Its absolute value is at most half the number of points. For a contour without
+/// points it is 0.
 pub fn winding_about<P: ContourPoint>(contour: &[P], point: IntPoint<P::Coordinate>) -> isize
     requires points_safe { IsSafeContour P.Coordinate.width
         (contour_of P.Coordinate.value (P.points contour.now)) }
@@ -33,8 +33,8 @@ pub fn winding_about<P: ContourPoint>(contour: &[P], point: IntPoint<P::Coordina
     total
 }
 
-/// Writes how often the contour winds about each of the points, as `winding_about` answers it, to the front of `out`, which is at
-/// least as long. What stands behind stays as it was. It makes one pass over the contour for each point.
+/// Writes the winding number about each of the points, as `winding_about` returns it, to the front of `out`. `out` is at least as long as
+/// `points`. The rest of it stays as it was. Each point takes one pass over the contour.
 pub fn windings_about<P: ContourPoint, Q: ContourPoint<Coordinate = P::Coordinate>>(
     contour: &[P],
     points: &[Q],
@@ -53,7 +53,7 @@ pub fn windings_about<P: ContourPoint, Q: ContourPoint<Coordinate = P::Coordinat
     }
 }
 
-/// What the edge from `start` to `end` adds to the winding number about `point`.
+/// Returns what the edge from `start` to `end` adds to the winding number about `point`.
 fn edge_winding<I: IntNumber>(point: IntPoint<I>, start: IntPoint<I>, end: IntPoint<I>) -> isize
     requires point_safe { IsSafe I.width (point_of I.value point) }
     requires start_safe { IsSafe I.width (point_of I.value start) }
@@ -70,7 +70,7 @@ fn edge_winding<I: IntNumber>(point: IntPoint<I>, start: IntPoint<I>, end: IntPo
     }
 }
 
-/// Whether the edge from `start` to `end` passes the height of `point` strictly to the right of it.
+/// Returns whether the edge from `start` to `end` passes the height of `point` strictly to the right of it.
 pub(crate) fn passes_right<I: IntNumber>(
     point: IntPoint<I>,
     start: IntPoint<I>,

@@ -1,9 +1,9 @@
-//! What a cleaner leaves of a contour, written to the front of a list of a caller's.
+//! Writes what a cleaner leaves of a contour to the front of a caller's list.
 
 ghost use Rattle.std.specs.Prelude.{◌≡◌, ◌<◌, ◌≤◌, Some, map, take, drop, length, slice_get};
 ghost use Rattle.std.specs.List.{All};
 
-/// Writes all items to the front of `out`, and answers how many they are.
+/// Writes all items to the front of `out`, and returns how many they are.
 pub(crate) fn write_whole<T: Copy>(items: &[T], out: &mut [T]) -> usize
     requires { length items.now ≤ length out.old }
     ensures count { result ≡ length items.now }
@@ -15,7 +15,7 @@ pub(crate) fn write_whole<T: Copy>(items: &[T], out: &mut [T]) -> usize
     items.len()
 }
 
-/// Writes the items at these places to the front of `out`, in the order given, and answers how many they are.
+/// Writes the items at these places to the front of `out`, in the given order, and returns how many they are.
 pub(crate) fn write_at<T: Copy>(items: &[T], places: &[usize], out: &mut [T]) -> usize
     requires below { All (λ k. k < length items.now) places.now }
     requires room { length places.now ≤ length out.old }

@@ -1,4 +1,4 @@
-//! Products and turns that are compared, in the way that is fastest for each width.
+//! Comparisons of products and of turns, each in the way that is fastest for a width.
 
 ghost use Rattle.std.specs.Prelude.{◌≡◌, ◌↔◌, ◌*ℤ◌, ℤ, [], ◌∷◌, IsTrue};
 ghost use Rattle.std.specs.Int.{Width, int_wrap};
@@ -16,14 +16,15 @@ pub trait ZeroTurns: Copy {
     /// The width of the type.
     ghost number_width: { Width };
 
-    /// The whole number that a value stands for.
+    /// The integer that a value represents.
     ghost number: { Self → ℤ };
 
-    /// Whether `a` times `b` is `c` times `d`, as whole numbers.
+    /// Returns whether `a` times `b` equals `c` times `d`, as integers.
     fn are_products_equal(a: Self, b: Self, c: Self, d: Self) -> bool
         ensures { IsTrue result ↔ (number a *ℤ number b ≡ number c *ℤ number d) };
 
-    /// Whether one of the four turns of the way over six points is a zero turn. It tests all four, without a branch between them.
+    /// Returns whether one of the four turns of the path over six points is a zero turn. It tests all four, without a branch between
+    /// them.
     fn has_zero_turn(
         a: IntPoint<Self>,
         b: IntPoint<Self>,
@@ -36,7 +37,7 @@ pub trait ZeroTurns: Copy {
         ensures { IsTrue result ↔ HasZeroTurnFrom (contour_of number (a ∷ b ∷ c ∷ d ∷ e ∷ f ∷ [])) 0 };
 }
 
-/// Whether `a` times `b` is `c` times `d`, as the type wraps them.
+/// Returns whether `a` times `b` equals `c` times `d`, as the type wraps them.
 fn are_wrapped_products_equal<W: WideIntNumber>(a: W, b: W, c: W, d: W) -> bool
     ensures { IsTrue result
         ↔ (int_wrap W.width (W.value a *ℤ W.value b) ≡ int_wrap W.width (W.value c *ℤ W.value d)) }

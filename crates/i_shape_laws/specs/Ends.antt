@@ -9,12 +9,12 @@ abbrev pub IsIn : Point → List Point → Type 0
 IsIn p [] = ⊥
 IsIn p (q ∷ c) = (p ≡ q) ⊎ IsIn p c
 
--- no point stands twice in c
+-- no point occurs twice in c
 abbrev pub Distinct : List Point → Type 0
 Distinct [] = Unit {0}
 Distinct (p ∷ c) = (IsIn p c → ⊥) × Distinct c
 
--- where no point stands twice, every order leaves one certain list
+-- if no point occurs twice, every order leaves the same list
 abbrev pub OneCertainEnd : List Point → Type 0
 OneCertainEnd c = Distinct c → (e f : List Point) → End IsZeroTurn c e → 3 ≤ length e → End IsZeroTurn c f → f ≡ e
 
@@ -22,6 +22,6 @@ OneCertainEnd c = Distinct c → (e f : List Point) → End IsZeroTurn c e → 3
 abbrev pub Shortest : List Point → List Point → Type 0
 Shortest c d = Joined IsZeroTurn c d → (e : List Point) → End IsZeroTurn c e → length e ≤ length d
 
--- where two contours have unoriented forms, these are one list exactly where the contours are joined either way
+-- if two contours have unoriented forms, these are equal exactly where the contours are joined, or one to the other reversed
 abbrev pub UnorientedJoined : List Point → List Point → Type 0
 UnorientedJoined c d = (l m : List Point) → UnorientedAnswer c (Some l) → UnorientedAnswer d (Some m) → (l ≡ m) ↔ JoinedEitherWay c d

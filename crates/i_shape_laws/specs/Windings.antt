@@ -9,20 +9,21 @@ use Rattle.i_shape_core.specs.Filling.{IsFilled}
 use Rattle.i_shape_core.specs.Moves.{moved, scaling}
 use Rattle.i_shape_core.specs.declared.fill_rule.FillRule.{FillRule}
 
--- removals keep how often the contour winds about each point; fewer than three points wind about none
+-- removals keep the winding number about each point; with fewer than three points it is 0
 pub record WindingKept (c d : List Point) : Type 0 where
   pub kept : Reach IsZeroTurn c d → (p : Point) → winding c p ≡ winding d p
   pub none : length c < 3 → (p : Point) → winding c p ≡ pos 0
 
--- a contour has the same winding numbers from whichever point it starts, and the opposite ones backwards
+-- a contour has the same winding numbers from whichever point it starts, and the opposite ones reversed
 pub record WindingRotated (c d : List Point) : Type 0 where
   pub rotated : Rotation c d → (p : Point) → winding c p ≡ winding d p
   pub backwards : (p : Point) → winding (reverse c) p ≡ neg_ℤ (winding c p)
 
--- removals keep how often the contour scaled by n winds about p: for n above 0 so often it winds about the point whose coordinates are p.x / n and p.y / n
+-- removals keep the winding number of the contour scaled by n about p: for n above 0 this is the one about the point with the coordinates
+-- p.x / n and p.y / n
 abbrev pub WindingBetween : List Point → List Point → Type 0
 WindingBetween c d = Reach IsZeroTurn c d → (n : ℤ) (p : Point) → winding (moved (scaling n) c) p ≡ winding (moved (scaling n) d) p
 
--- where each contour is left with what it keeps, or left out where it winds about no point, the same points are filled by each rule
+-- if each contour is left with what it keeps, or left out if its winding numbers are 0, each rule fills the same points
 abbrev pub FillingKept : List (List Point) → List (List Point) → Type 0
 FillingKept contours left = Survivors KeptAnswer contours left → (rule : FillRule) (p : Point) → IsFilled rule (shape_winding contours p) ↔ IsFilled rule (shape_winding left p)

@@ -9,7 +9,7 @@ use Rattle.std.specs.Iterator.Runs.{EachRunFrom, ItemsMapTo}
 abbrev pub paths_of_shape : {P : Type 0} → List (Vec P) → List (List P)
 paths_of_shape shape = map (λ path. path.items) shape
 
--- the paths of each shape, as lists alone
+-- the paths of each shape, as lists
 abbrev pub shape_lists : {P : Type 0} → List (Vec (Vec P)) → List (List (List P))
 shape_lists shapes = map (λ shape. paths_of_shape shape.items) shapes
 
@@ -26,7 +26,7 @@ paths_of_shapes shapes = concatenated (shape_lists shapes)
 abbrev pub paths_of_slices : {P : Type 0} → List (Bor (List P)) → List (List P)
 paths_of_slices slices = map (λ path. path.now) slices
 
--- the path that is still to come, where there is one
+-- the path that is left, if there is one
 abbrev pub path_left : {P : Type 0} → Option (Bor (List P)) → List (List P)
 path_left None = []
 path_left (Some path) = path.now ∷ []

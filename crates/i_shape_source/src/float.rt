@@ -1,4 +1,4 @@
-//! Resources of paths over points of any kind.
+//! Resources of paths over points of any type.
 pub mod member;
 pub mod nested;
 pub mod resource;

@@ -1,4 +1,4 @@
-//! Resources of whole-number paths.
+//! Resources of paths of integer points.
 pub mod member;
 pub mod nested;
 pub mod resource;

@@ -1,4 +1,4 @@
-//! The iterators over nested lists of points. Each is seen as the list of the paths that it has left.
+//! Iterators over nested lists of points. Contracts see each as the list of the paths that are left.
 ghost use Rattle.std.specs.Prelude.{◌≡◌, [], ◌∷◌, length, map};
 ghost use Rattle.std.specs.Iterator.{at_most};
 ghost use Rattle.std.specs.Map.Iter.{TakesFirst, deref};
@@ -10,7 +10,7 @@ use std::iter::Copied;
 use std::marker::Model;
 use std::slice::Iter;
 
-/// Lends one path, also an empty one.
+/// Lends one path, even an empty one.
 #[derive(Drop)]
 pub struct ContourResourceIterator<'a, P> {
     path: Option<&'a [P]>,
@@ -47,7 +47,7 @@ impl<'a, P> Iterator for ContourResourceIterator<'a, P> {
     }
 }
 
-/// Lends the paths of one shape, empty ones too.
+/// Lends the paths of one shape, including empty ones.
 #[derive(Drop)]
 pub struct ShapeResourceIterator<'a, P> {
     paths: &'a [Vec<P>],
@@ -86,7 +86,7 @@ impl<'a, P> Iterator for ShapeResourceIterator<'a, P> {
     }
 }
 
-/// Lends the paths of each shape, empty ones too. An empty shape adds none.
+/// Lends the paths of each shape, including empty ones. An empty shape adds none.
 #[derive(Drop)]
 pub struct ShapesResourceIterator<'a, P> {
     paths: &'a [Vec<P>],
@@ -132,7 +132,7 @@ impl<'a, P> Iterator for ShapesResourceIterator<'a, P> {
     }
 }
 
-/// Lends borrowed paths.
+/// Returns an iterator that lends borrowed paths.
 pub(crate) fn lend_slices<'a, P>(slices: &'a [&'a [P]]) -> Copied<Iter<'a, &'a [P]>>
     ensures left { iter_rest (copied_source result) ≡ slices.now }
     ensures lends { LendsExactly (copied_steps iter_steps) result (paths_of_slices slices.now) }

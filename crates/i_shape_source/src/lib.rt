@@ -1,4 +1,4 @@
-//! Borrowed paths of points: what lends paths one by one, and the nested lists that do.
+//! Borrowed paths of points: the resources that lend paths one by one, and the nested lists that are resources.
 #![tactic(auto)]
 
 pub mod float;

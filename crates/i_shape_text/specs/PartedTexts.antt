@@ -7,7 +7,7 @@ use Rattle.i_shape_text.specs.declared.fault.ToolFault.TheVariants.{NotAContour,
 use Rattle.i_shape_text.specs.Text.{newline, lines_of}
 use Rattle.i_shape_text.specs.Run.{IsGood, AnswersText, IsFirstFault}
 
--- the text is empty, or its last line is ended
+-- the text is empty, or its last line ends with a newline
 abbrev pub EndsItsLines : List ℕ → Type 0
 EndsItsLines text = (text ≡ []) ⊎ ((front : List ℕ) × (text ≡ front ++ newline ∷ []))
 
@@ -19,13 +19,13 @@ pub record PartedAnswer (command : Command) (text more output : List ℕ) : Type
   pub answers_first : AnswersText command text first
   pub answers_second : AnswersText command more second
 
--- a fault, told n lines further down
+-- the same fault n lines further down
 abbrev pub lines_later : ℕ → ToolFault → ToolFault
 lines_later n (NotAContour line) = NotAContour (n + line)
 lines_later n (OutOfRange line) = OutOfRange (n + line)
 lines_later n OutOfMemory = OutOfMemory
 
--- no line of the first text is faulty, and the fault is the first one of the second, counted on from the lines of the first
+-- no line of the first text is faulty, and the fault is the first one of the second, its line counted on from those of the first
 pub record IsFaultOfSecond (command : Command) (text more : List ℕ) (fault : ToolFault) : Type 0 where
   pub good : AllByRecursion (IsGood command) (lines_of text)
   pub later : ToolFault

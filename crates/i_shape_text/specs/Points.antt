@@ -6,11 +6,11 @@ use Rattle.i_shape_core.specs.IntPoint as shape
 use Rattle.i_shape_core.specs.Point.{Point}
 use Rattle.i_shape_core.specs.declared.point.IntPoint.{IntPoint}
 
--- the point that a program's point stands for
+-- the point that a program's point represents
 abbrev pub point_of : IntPoint ℤ → Point
 point_of p = shape.point_of (λ z. z) p
 
--- the contour that a list of the program's points stands for
+-- the contour that a list of the program's points represents
 abbrev pub contour_of : List (IntPoint ℤ) → List Point
 contour_of points = shape.contour_of (λ z. z) points
 

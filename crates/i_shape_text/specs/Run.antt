@@ -1,4 +1,4 @@
--- What the program answers for a text.
+-- The answer of the program to a text.
 use Rattle.std.specs.Prelude.{◌≡◌, ℕ, ◌+◌, List, [], ◌∷◌, ◌++◌, length, Option, Some, None, codes}
 use Rattle.std.specs.List.{concat, flat_map, AllByRecursion, AllZip}
 use Rattle.std.specs.Fmt.{signed_decimal}
@@ -16,7 +16,7 @@ use Rattle.i_shape_text.specs.Points.{IsSafe}
 use Rattle.i_shape_text.specs.Command.{IsCleaner}
 use Rattle.i_shape_text.specs.Text.{Reads, ReadsNone, shown, lines_of, newline}
 
--- the line reads c, which a cleaner wants safe
+-- the line reads c, which is safe if the command cleans
 abbrev pub Gives : Command → List ℕ → List Point → Type 0
 Gives command line c = Reads line c × (IsCleaner command → IsSafe c)
 
@@ -24,17 +24,18 @@ Gives command line c = Reads line c × (IsCleaner command → IsSafe c)
 abbrev pub IsGood : Command → List ℕ → Type 0
 IsGood command line = (c : List Point) × Gives command line c
 
--- the line reads a contour that isn't safe, and the command wants it safe
+-- the line reads a contour that isn't safe, and the command requires safe points
 abbrev pub ReadsUnsafe : Command → List ℕ → Type 0
 ReadsUnsafe command line = IsCleaner command × ((c : List Point) × Reads line c × (IsSafe c → ⊥))
 
--- the fault is what is wrong with the line of this number; memory can always be refused
+-- the line of this number has this fault; memory may always be refused
 abbrev pub IsFaultOfLine : Command → List ℕ → ℕ → ToolFault → Type 0
 IsFaultOfLine command line number (NotAContour n) = (n ≡ number) × ReadsNone line
 IsFaultOfLine command line number (OutOfRange n) = (n ≡ number) × ReadsUnsafe command line
 IsFaultOfLine command line number OutOfMemory = Unit {0}
 
--- the fault is that of some line, counted from 1, and no line before it is faulty; memory can be refused at any line, and a text without lines has no fault
+-- the fault is that of some line, counted from 1, and no line before it is faulty; memory may be refused at any line, and a text without
+-- lines has no fault
 abbrev pub IsFirstFault : Command → List ℕ → ToolFault → Type 0
 IsFirstFault command text fault =
     (before : List (List ℕ)) × (line : List ℕ) × (after : List (List ℕ))
@@ -60,7 +61,7 @@ ended answer = answer ++ newline ∷ []
 abbrev pub shown_line : List Point → List ℕ
 shown_line c = ended (shown c)
 
--- the answer is the line of the cleaned contour, where `Cleaned` is what the cleaner answers
+-- the answer is the line of the cleaned contour, if `Cleaned` relates a contour to the cleaner's results
 abbrev pub ShowsCleaned : (List Point → Option (List Point) → Type 0) → List Point → List ℕ → Type 0
 ShowsCleaned Cleaned c answer = (r : Option (List Point)) × Cleaned c r × (answer ≡ ended (shown_or_none r))
 
@@ -68,7 +69,7 @@ ShowsCleaned Cleaned c answer = (r : Option (List Point)) × Cleaned c r × (ans
 abbrev pub ShowsArea : List Point → List ℕ → Type 0
 ShowsArea c answer = answer ≡ ended (shown_area c)
 
--- the output is an answer to the contour of each line, in order, and nothing else, where `Answers` says which answers a contour may have
+-- the output is an answer to the contour of each line, in order, and nothing else, if `Answers` relates a contour to its answers
 abbrev pub AnswersLines : Command → (List Point → List ℕ → Type 0) → List ℕ → List ℕ → Type 0
 AnswersLines command Answers text output =
     (contours : List (List Point)) × (answers : List (List ℕ))
@@ -76,7 +77,7 @@ AnswersLines command Answers text output =
     × AllZip Answers contours answers
     × (output ≡ concat answers)
 
--- the output is each contour that cleaning leaves of those that the lines read, in order, each on a line of its own, and nothing else
+-- the output is each contour that is left of those that the lines read, in order, each on a line of its own, and nothing else
 abbrev pub ShowsCompact : List ℕ → List ℕ → Type 0
 ShowsCompact text output =
     (contours : List (List Point)) × (kept : List (List Point))
@@ -84,7 +85,7 @@ ShowsCompact text output =
     × cleaned.Compact contours kept
     × (output ≡ flat_map shown_line kept)
 
--- the output is what the command answers for the text: all but `compact` answer each line by one of their own
+-- the output is the command's answer to the text: all but `compact` answer each line by one of their own
 abbrev pub AnswersText : Command → List ℕ → List ℕ → Type 0
 AnswersText Simplify text output = AnswersLines Simplify (ShowsCleaned SimpleAnswer) text output
 AnswersText Despike text output = AnswersLines Despike (ShowsCleaned SpikelessAnswer) text output
@@ -92,11 +93,11 @@ AnswersText Area text output = AnswersLines Area ShowsArea text output
 AnswersText Canonical text output = AnswersLines Canonical (ShowsCleaned CanonicalAnswer) text output
 AnswersText Compact text output = ShowsCompact text output
 
--- the line of a contour that is left, and no line where it collapses; cited by private functions alone, as is the next one
+-- the line of a contour that is left, and no line if it collapses; only private functions cite this and the next one
 abbrev pub shown_if_left : Option (List Point) → List ℕ
 shown_if_left None = []
 shown_if_left (Some e) = shown_line e
 
--- the answer is the line of the contour without zero turns, and nothing where that collapses
+-- the answer is the line of the contour without zero turns, or nothing if that collapses
 abbrev pub ShowsLeft : List Point → List ℕ → Type 0
 ShowsLeft c answer = (r : Option (List Point)) × SimpleAnswer c r × (answer ≡ shown_if_left r)

@@ -1,4 +1,4 @@
--- What one run of the program does, between its words, its input and its two outputs.
+-- One run of the program: its arguments, its input and its two outputs.
 use Rattle.std.specs.Prelude.{◌≡◌, ℕ, List, [], ◌∷◌, Option, IfSome, string_bytes, ◌⊎◌, ◌++◌, codes, decimal}
 use Rattle.std.specs.Str.{IsUtf8}
 use Rattle.std.specs.declared.string.String.{String}
@@ -11,11 +11,11 @@ use Rattle.i_shape_text.specs.declared.program.Complaint.TheVariants.{Usage, Not
 use Rattle.i_shape_text.specs.Command.{word_of}
 use Rattle.i_shape_text.specs.Run.{AnswersText, IsFirstFault}
 
--- there is just one word, and it names the command
+-- there is exactly one word, and it names the command
 abbrev pub Asks : List (String Global) → Command → Type 0
 Asks words command = (word : String Global) × (words ≡ word ∷ []) × (string_bytes word ≡ word_of command)
 
--- the exit status that goes with a complaint
+-- the exit status for a complaint
 abbrev pub status_of : Complaint → ℕ
 status_of Usage = 2
 status_of NotUtf8 = 1
@@ -25,7 +25,7 @@ status_of (Fault faults.OutOfMemory) = 3
 status_of Input = 4
 status_of Output = 4
 
--- the text that tells a complaint
+-- the text of a complaint
 abbrev pub told : Complaint → List ℕ
 told Usage = codes "usage: i_shape_tool simplify|despike|area|canonical|compact"
 told NotUtf8 = codes "input is not UTF-8"
@@ -45,7 +45,8 @@ IsServed words input before after =
 abbrev pub HasAnswer : Command → List ℕ → Type 0
 HasAnswer command text = (answer : List ℕ) × AnswersText command text answer
 
--- the complaint is true of the words and of the input, where that is known; a fault is one of the text that was read, and the output fails where there is something to write
+-- the complaint is true of the words and of the input, if that is known; a fault is one of the text that was read, and the output fails
+-- only if there is an answer to write
 abbrev pub IsTrueComplaint : List (String Global) → Option (List ℕ) → Complaint → Type 0
 IsTrueComplaint words input Usage = (command : Command) → Asks words command → ⊥
 IsTrueComplaint words input NotUtf8 = (command : Command) × Asks words command × IfSome input (λ text. IsUtf8 text → ⊥)
@@ -54,7 +55,7 @@ IsTrueComplaint words input (Fault fault) =
 IsTrueComplaint words input Input = (command : Command) × Asks words command
 IsTrueComplaint words input Output = (command : Command) × Asks words command × IfSome input (HasAnswer command)
 
--- unless the output failed, it holds what it held, where that is known
+-- unless the output failed, it holds what it held, if that is known
 abbrev pub KeepsOutput : Complaint → Option (List ℕ) → Option (List ℕ) → Type 0
 KeepsOutput Usage before after = Keeps before after
 KeepsOutput NotUtf8 before after = Keeps before after
@@ -62,8 +63,8 @@ KeepsOutput (Fault fault) before after = Keeps before after
 KeepsOutput Input before after = Keeps before after
 KeepsOutput Output before after = Unit {0}
 
--- one run of the program: all well and the output answers the input,
--- or a true complaint with its status, and nothing written unless the output failed
+-- one run of the program: the status is 0 and the output answers the input, or the status is that of a true complaint, and nothing was
+-- written unless the output failed
 abbrev pub EndsWith : List (String Global) → Option (List ℕ) → Option (List ℕ) → Option (List ℕ) → ℕ → Type 0
 EndsWith words input before after status =
     ((status ≡ 0) × IsServed words input before after)

@@ -1,4 +1,4 @@
--- What a line of text reads, and how a contour is shown.
+-- Which contour a line of text reads, and how a contour is shown.
 use Rattle.std.specs.Prelude.{◌≡◌, ℕ, ℤ, List, [], ◌∷◌, ◌++◌, length, map, Option, Some, None, ◌==◌, if◌then◌else◌}
 use Rattle.std.specs.List.{join_with_byte, slice_split, flat_map}
 use Rattle.std.specs.Fmt.{signed_decimal}
@@ -28,8 +28,7 @@ SayPoints (x ∷ []) c = ⊥
 SayPoints (x ∷ y ∷ words) [] = ⊥
 SayPoints (x ∷ y ∷ words) (p ∷ c) = IsDecimal x p.x × IsDecimal y p.y × SayPoints words c
 
--- the line is decimals parted by single spaces, the coordinates of the points of c in turn;
--- with no decimal it is empty, and so is c
+-- the line is decimals separated by single spaces, the coordinates of the points of c in turn; with no decimal it is empty, and so is c
 abbrev pub Reads : List ℕ → List Point → Type 0
 Reads line c = (words : List (List ℕ)) × (line ≡ join_with_byte space words) × SayPoints words c
 
@@ -56,7 +55,7 @@ abbrev pub coordinates : List Point → List ℤ
 coordinates [] = []
 coordinates (p ∷ c) = p.x ∷ (p.y ∷ coordinates c)
 
--- the coordinates as decimals with no leading zero and no '+', parted by single spaces
+-- the coordinates as decimals with no leading zero and no '+', separated by single spaces
 abbrev pub shown : List Point → List ℕ
 shown c = join_with_byte space (map signed_decimal (coordinates c))
 
@@ -72,7 +71,7 @@ spaced p = space ∷ (signed_decimal p.x ++ (space ∷ signed_decimal p.y))
 abbrev pub spaced_points : List Point → List ℕ
 spaced_points c = flat_map spaced c
 
--- the parts between the ends of lines are the lines, but an empty last part is none
+-- the parts between the ends of lines are the lines, except that an empty last part is none
 abbrev pub lines_of_parts : List (List ℕ) → List (List ℕ)
 lines_of_parts [] = []
 lines_of_parts (part ∷ []) = if length part == 0 then [] else part ∷ []

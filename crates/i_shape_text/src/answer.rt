@@ -1,4 +1,4 @@
-//! What each command answers for a contour.
+//! The answer of each command for a contour.
 
 ghost use Rattle.std.specs.Prelude.{◌≡◌, ◌++◌, ℕ, List, OnOk, IsOkUnless, string_bytes};
 ghost use Rattle.i_shape_core.specs.Point.{Point};
@@ -19,7 +19,7 @@ pub(crate) trait ContourAnswer: Drop {
     /// The contours that it has an answer for.
     ghost takes: { List Point → Type 0 };
 
-    /// What it may answer for a contour.
+    /// The answers allowed for a contour.
     ghost answers: { List Point → List ℕ → Type 0 };
 
     /// Appends the answer.
@@ -45,7 +45,7 @@ impl ContourAnswer for Areas {
     }
 }
 
-/// What a cleaner leaves of a contour, or a word where it collapses.
+/// What a cleaner leaves of a contour, or a word if it collapses.
 #[derive(Drop)]
 pub(crate) struct Cleaned<C> {
     cleaner: C,
@@ -72,7 +72,7 @@ impl<C: ContourCleaner> ContourAnswer for Cleaned<C> {
     }
 }
 
-/// What is left of a contour without its zero turns, and nothing where it collapses.
+/// What is left of a contour without its zero turns, or nothing if it collapses.
 #[derive(Drop)]
 pub(crate) struct Compacted {
     simplifier: ContourSimplifier,
@@ -99,7 +99,7 @@ impl ContourAnswer for Compacted {
     }
 }
 
-/// Puts what a cleaner leaves of a contour in place of what `left` held: no point where the contour collapses.
+/// Replaces `left` with what a cleaner leaves of a contour: no points if the contour collapses.
 fn clean<C: ContourCleaner>(
     cleaner: &mut C,
     contour: &[IntPoint<i32>],

@@ -9,7 +9,7 @@ pub enum Command {
     Simplify,
     /// Remove the spikes and repeated points of each contour.
     Despike,
-    /// Tell twice the area of each contour.
+    /// Print twice the area of each contour.
     Area,
     /// Remove the zero turns of each contour, and rotate it to its least rotation.
     Canonical,
@@ -20,7 +20,7 @@ pub enum Command {
 impl Command {
     ghost use Rattle.i_shape_text.specs.Command.{word_of, IsCleaner};
 
-    /// The command that a word of the command line names.
+    /// Returns the command that a word of the command line names.
     pub fn from_word(word: &str) -> Option<Command>
         ensures named { IfSome result (λ command. word.now ≡ word_of command) }
         ensures unnamed { IfNone result ((command : Command) → word.now ≡ word_of command → ⊥) }
@@ -35,7 +35,7 @@ impl Command {
         }
     }
 
-    /// Whether it cleans, and so wants contours of safe points.
+    /// Returns whether the command cleans, and so requires safe points.
     pub(crate) fn is_cleaner(self) -> bool
         ensures { IsTrue result ↔ IsCleaner self }
     {

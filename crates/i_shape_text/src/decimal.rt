@@ -1,4 +1,4 @@
-//! Decimals, written two digits at a time, from the last ones on.
+//! Decimals, written two digits at a time, from the last ones backward.
 
 ghost use Rattle.std.specs.Prelude.{◌≡◌, ◌<◌, ◌≤◌, ◌+◌, ◌/◌, ◌%◌, ◌∷◌, ◌++◌, length, drop, IsAscii};
 ghost use Rattle.std.specs.Fmt.{decimal, signed_decimal};
@@ -11,10 +11,10 @@ static PAIRS: [u8; 200] = *b"0001020304050607080910111213141516171819\
     6061626364656667686970717273747576777879\
     8081828384858687888990919293949596979899";
 
-/// The bytes that two numbers of 32 bits take at most, a space before each.
+/// The most bytes that two 32-bit numbers take, with a space before each.
 pub(crate) const POINT_ROOM: usize = 24;
 
-/// Writes a space and the decimal of a number so that they end at `end`, and tells where they start.
+/// Writes a space and the decimal of a number so that they end at `end`. Returns where they start.
 pub(crate) fn write_number(number: i32, text: &mut [u8], end: usize) -> usize
     requires { (12 ≤ end) × (end ≤ length text.old) }
     ensures room { end ≤ result + 12 }
@@ -29,7 +29,7 @@ pub(crate) fn write_number(number: i32, text: &mut [u8], end: usize) -> usize
     start
 }
 
-/// Writes the digits of a number so that they end at `end`, and tells where they start.
+/// Writes the digits of a number so that they end at `end`. Returns where they start.
 fn write_digits(number: u32, text: &mut [u8], end: usize) -> usize
     requires { (length (decimal number) ≤ end) × (end ≤ length text.old) }
     ensures start { result + length (decimal number) ≡ end }

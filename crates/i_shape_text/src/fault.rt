@@ -6,12 +6,12 @@ ghost use Rattle.i_shape_text.specs.declared.fault.ToolFault.TheVariants.{OutOfM
 use i_shape_core::error::ShapeError;
 use std::alloc::{AllocError, AllocFailed};
 
-/// Why a text is not answered. Lines are counted from 1.
+/// Why there is no answer to a text. Lines are counted from 1.
 #[derive(Clone, Copy, Debug, PartialEq, Eq)]
 pub enum ToolFault {
-    /// The line isn't decimals of 32 bits parted by single spaces, or it holds an odd number of them.
+    /// The line isn't a list of 32-bit decimals separated by single spaces, or holds an odd number of them.
     NotAContour(usize),
-    /// The line's contour has a point that isn't safe, and the command wants it safe.
+    /// The line's contour has a point that isn't safe, and the command requires safe points.
     OutOfRange(usize),
     /// An allocation failed.
     OutOfMemory,
@@ -33,7 +33,7 @@ impl<T: Drop> From<AllocFailed<T>> for ToolFault {
     }
 }
 
-/// `TooManyPoints` can't come here: no text has so many points.
+/// `TooManyPoints` can't occur here: no text has that many points.
 impl From<ShapeError> for ToolFault {
     ghost from_gives = { λ _ fault. fault ≡ OutOfMemory };
 

@@ -1,4 +1,4 @@
-//! Laws of what is read, what is shown, what is answered for a text in parts, and of `==` and `clone`.
+//! Laws of reading and showing contours, of answers to a text in parts, and of `==` and `clone`.
 
 ghost use Rattle.std.specs.Prelude.{◌≡◌, ◌↔◌, ◌⊎◌, ◌++◌, ℕ, List, IsTrue};
 ghost use Rattle.std.specs.List.{AllByRecursion};
@@ -11,32 +11,32 @@ use crate::command::Command;
 use crate::fault::ToolFault;
 use crate::program::Complaint;
 
-/// A line reads one contour at most.
+/// A line reads as one contour at most.
 pub fn one_reading()
     ensures { (line : List ℕ) (c d : List Point) → Reads line c → Reads line d → c ≡ d }
 {}
 
-/// What is shown of a contour reads that contour.
+/// The text of a contour whose coordinates fit `i32` reads as that contour.
 pub fn shown_reads_back()
     ensures { (c : List Point) → AllByRecursion FitPoint c → Reads (shown c) c }
 {}
 
-/// What is answered for a text that ends its lines, and then what is answered for another, answers the texts as one.
+/// An answer to a text that ends its lines, followed by an answer to a second text, is an answer to the two as one text.
 pub fn answers_concatenated()
     ensures { (command : Command) (text more output added : List ℕ)
         → EndsItsLines text → AnswersText command text output
         → AnswersText command more added → AnswersText command (text ++ more) (output ++ added) }
 {}
 
-/// Whatever answers the two texts as one is an answer to the first and then one to the second.
+/// An answer to the two as one text is an answer to the first, followed by one to the second.
 pub fn answers_parted()
     ensures { (command : Command) (text more output : List ℕ)
         → EndsItsLines text → AnswersText command (text ++ more) output
         → PartedAnswer command text more output }
 {}
 
-/// The first fault of the two texts as one is that of the first text, or, where no line of it is faulty, that of the second, its
-/// line counted on from those of the first.
+/// The first fault of the two as one text is that of the first text. If no line of the first is faulty, it is that of the second, with
+/// its line counted on from those of the first.
 pub fn fault_concatenated()
     ensures first { (command : Command) (text more : List ℕ) (fault : ToolFault)
         → EndsItsLines text → IsFirstFault command text fault
@@ -49,21 +49,21 @@ pub fn fault_concatenated()
         → IsFirstFault command text fault ⊎ IsFaultOfSecond command text more fault }
 {}
 
-/// Commands are told equal by `==` exactly where they are one; a clone is the command itself, and always comes.
+/// `==` of two commands is true exactly where they are the same. A clone is the command itself, and cloning never fails.
 pub fn commands_equal(_a: &Command, _b: &Command)
     ensures compared { IsTrue (⟦<Command as PartialEq>⟧.eq _a.now _b.now) ↔ (_a.now ≡ _b.now) }
     ensures cloned { ⟦<Command as Clone>⟧.is_clone _a.now _b.now → _b.now ≡ _a.now }
     ensures unrefused { ⟦<Command as Clone>⟧.is_infallible _a.now }
 {}
 
-/// So are faults, with their lines.
+/// The same for faults, with their lines.
 pub fn faults_equal(_a: &ToolFault, _b: &ToolFault)
     ensures compared { IsTrue (⟦<ToolFault as PartialEq>⟧.eq _a.now _b.now) ↔ (_a.now ≡ _b.now) }
     ensures cloned { ⟦<ToolFault as Clone>⟧.is_clone _a.now _b.now → _b.now ≡ _a.now }
     ensures unrefused { ⟦<ToolFault as Clone>⟧.is_infallible _a.now }
 {}
 
-/// So are complaints, with their faults.
+/// The same for complaints, with their faults.
 pub fn complaints_equal(_a: &Complaint, _b: &Complaint)
     ensures compared { IsTrue (⟦<Complaint as PartialEq>⟧.eq _a.now _b.now) ↔ (_a.now ≡ _b.now) }
     ensures cloned { ⟦<Complaint as Clone>⟧.is_clone _a.now _b.now → _b.now ≡ _a.now }

@@ -1,4 +1,4 @@
-//! Lines of a text, and the contours that they read.
+//! Lines of a text, and the contours that they hold.
 
 ghost use Rattle.std.specs.Prelude.{◌≡◌, ◌<◌, ◌↔◌, List, ◌∷◌, length, IsTrue, MatchBool, IfOk, IfErr, OnOk, IfSome, IfNone, option_copied};
 ghost use Rattle.i_shape_core.specs.Point.{Point};
@@ -13,7 +13,7 @@ use i_shape_core::point::{IntContour, IntPoint};
 use i_shape_core::safe_range::are_safe;
 use std::alloc::AllocError;
 
-/// The first line of a text, and the text after it.
+/// Returns the first line of a text, and the text after it.
 pub fn first_line(text: &str) -> (&str, &str)
     requires { 0 < length text.now }
     ensures lines { lines_of text.now ≡ result.0.now ∷ lines_of result.1.now }
@@ -22,7 +22,7 @@ pub fn first_line(text: &str) -> (&str, &str)
     text.split_once('\n').unwrap_or((text, ""))
 }
 
-/// Puts the contour that a line reads in place of what `contour` held. A cleaner is given safe points alone.
+/// Reads the contour of a line into `contour`, in place of what it held. A command that cleans gets only safe points.
 pub fn read_line(
     command: Command,
     line: &str,
@@ -41,14 +41,14 @@ pub fn read_line(
     Ok(())
 }
 
-/// Whether each point is safe.
+/// Returns whether each point is safe.
 fn is_safe(contour: &IntContour<i32>) -> bool
     ensures { IsTrue result ↔ IsSafe (contour_of contour.now.items) }
 {
     are_safe(contour.as_slice())
 }
 
-/// Puts the contour that a line reads in place of what `contour` held, and tells whether it reads one.
+/// Reads the contour of a line into `contour`, in place of what it held. Returns whether the line holds one.
 fn read_contour(line: &str, contour: &mut IntContour<i32>) -> Result<bool, AllocError>
     ensures { IfOk result
         (λ reads. MatchBool reads (Reads line.now (contour_of contour.new.items))
@@ -69,7 +69,7 @@ fn read_contour(line: &str, contour: &mut IntContour<i32>) -> Result<bool, Alloc
     Ok(true)
 }
 
-/// The point that the first two words of a text say, and the text after them.
+/// Returns the point that the first two words of a text write, and the text after them.
 fn first_point(text: &[u8]) -> Option<(IntPoint<i32>, Option<&[u8]>)>
     ensures says { IfSome result (λ r.
         SayPoint (words_of text.now) (point_of r.0) (words_left (option_copied r.1))) }

@@ -7,10 +7,10 @@ ghost use Rattle.std.specs.Str.Parse.{IsNumeral, digits_value, without_leading_s
 ghost use Rattle.i_shape_text.specs.Text.{IsDecimal, words_of, words_left};
 ghost use Rattle.i_shape_text.specs.Numeral.{EndsWord, HasDigits, SaysNumber, with_sign};
 
-/// The size of the least number of 32 bits, which is the largest there is.
+/// The absolute value of the least 32-bit number, which is the largest there is.
 const LARGEST: u64 = 1 << 31;
 
-/// The number that the first word of a text says, and the text after the space behind it.
+/// Returns the number that the first word of a text writes, and the text after the space behind it.
 pub(crate) fn first_number(text: &[u8]) -> Option<(i32, Option<&[u8]>)>
     ensures says { IfSome result
         (λ r. SaysNumber (words_of text.now) r.0 (words_left (option_copied r.1))) }
@@ -30,7 +30,7 @@ pub(crate) fn first_number(text: &[u8]) -> Option<(i32, Option<&[u8]>)>
     Some((number, Some(rest)))
 }
 
-/// Whether a text begins with a minus, and the text without a sign in front.
+/// Returns whether a text begins with a minus, and the text without a leading sign.
 fn without_sign(text: &[u8]) -> (bool, &[u8])
     ensures minus { result.0 ≡ starts_with_minus text.now }
     ensures left { result.1.now ≡ without_leading_sign text.now }
@@ -43,8 +43,8 @@ fn without_sign(text: &[u8]) -> (bool, &[u8])
     (negative, &text[signs..])
 }
 
-/// The number that the digits in front of a text write, and the text after them. None where there is no digit, and where the
-/// number is larger than any of 32 bits.
+/// Returns the number that the leading digits of a text write, and the text after them, or `None` if there is no digit or the number is
+/// too large for 32 bits.
 fn first_digits(text: &[u8]) -> Option<(u64, &[u8])>
     ensures writes { IfSome result (λ r. HasDigits text.now r.0 r.1.now) }
     ensures fits { IfSome result (λ r. r.0 ≤ 2 ^ 31) }
@@ -70,7 +70,7 @@ fn first_digits(text: &[u8]) -> Option<(u64, &[u8])>
     Some((size, rest))
 }
 
-/// The number of this size, below zero where it is negative, if it has 32 bits.
+/// Returns the number with this absolute value, below zero if `negative` is true, or `None` if it doesn't fit 32 bits.
 fn signed(negative: bool, size: u64) -> Option<i32>
     requires { size ≤ 2 ^ 31 }
     ensures number { IfSome result (λ z. (z ≡ with_sign negative size) × FitsSigned w32 z) }

@@ -1,4 +1,4 @@
-//! One run of the program: its words, its input, its two outputs and its exit status.
+//! One run of the program: its arguments, its input, its two outputs and its exit status.
 
 ghost use Rattle.std.specs.Prelude.{◌≡◌, ◌++◌, ◌∷◌, [], Some, IfOk, IfErr, OnOk, IfSome, IfNone};
 ghost use Rattle.std.specs.Io.KnownBytes.{Appends, Keeps};
@@ -13,23 +13,23 @@ use std::alloc::Global;
 use std::io::{Read, Write};
 use std::{fmt, io};
 
-/// Why the program stops, as it tells on standard error.
+/// Why the program stops, as it reports on standard error.
 #[derive(Clone, Copy, Debug, PartialEq, Eq)]
 pub enum Complaint {
-    /// The words aren't just one that names a command.
+    /// The arguments aren't one word that names a command.
     Usage,
-    /// The input isn't text.
+    /// The input isn't UTF-8.
     NotUtf8,
     /// The command has no answer to the input.
     Fault(ToolFault),
-    /// The input could not be read, whatever the cause. The program tells it of its words too.
+    /// The input couldn't be read, whatever the cause. The program reports this of its arguments too.
     Input,
-    /// The answer could not be written, whatever the cause.
+    /// The answer couldn't be written, whatever the cause.
     Output,
 }
 
 impl Complaint {
-    /// The exit status that goes with it.
+    /// Returns the exit status for the complaint.
     pub fn status(self) -> u8
         ensures { result ≡ status_of self }
     {
@@ -42,7 +42,7 @@ impl Complaint {
         }
     }
 
-    /// Writes it as a line of its own.
+    /// Writes the complaint as a line of its own.
     pub fn tell<W: Write>(self, errors: &mut W) -> io::Result<()>
         ensures { OnOk result
             (Appends (W.contents errors.old) (W.contents errors.new) (told self ++ newline ∷ [])) }
@@ -81,7 +81,7 @@ impl From<ToolFault> for Complaint {
     }
 }
 
-/// The command that the words after the program's name ask for.
+/// Returns the command that the words after the program's name ask for.
 fn asked(words: &[String]) -> Option<Command>
     ensures asks { IfSome result (Asks words.now) }
     ensures asks_nothing { IfNone result ((command : Command) → Asks words.now command → ⊥) }
@@ -92,7 +92,7 @@ fn asked(words: &[String]) -> Option<Command>
     }
 }
 
-/// All input that is left. The only complaint is `Input`, also where an allocation fails.
+/// Returns all input that is left. The only complaint is `Input`, also if an allocation fails.
 fn read_all<R: Read>(alloc: Global, input: &mut R) -> Result<Vec<u8>, Complaint>
     ensures ok { IfOk result (λ bytes. IfSome (R.remaining input.old) (λ xs. bytes.items ≡ xs)) }
     ensures err { IfErr result (λ complaint. complaint ≡ Input) }
@@ -104,7 +104,7 @@ fn read_all<R: Read>(alloc: Global, input: &mut R) -> Result<Vec<u8>, Complaint>
     Ok(bytes)
 }
 
-/// Reads all input, and where it is `Ok`, has written the answer to it and nothing else.
+/// Reads all input, and writes the answer to it. After `Ok` it has written the answer and nothing else.
 fn answer<R: Read, W: Write>(
     alloc: Global,
     words: &[String],
@@ -128,7 +128,7 @@ fn answer<R: Read, W: Write>(
     write_whole(output, answer.as_bytes()).map_err(|_error| Complaint::Output)
 }
 
-/// Writes all bytes, and flushes, which no clause says.
+/// Writes all bytes, and flushes, which no clause states.
 fn write_whole<W: Write>(output: &mut W, bytes: &[u8]) -> io::Result<()>
     ensures { OnOk result (Appends (W.contents output.old) (W.contents output.new) bytes.now) }
 {
@@ -136,9 +136,9 @@ fn write_whole<W: Write>(output: &mut W, bytes: &[u8]) -> io::Result<()>
     output.flush()
 }
 
-/// Serves one run of the program: judges the words after its name, and where they name a command reads all input and writes the
-/// answer. Where they don't, it reads nothing. Then, or where an answer fails, it writes a line to `errors`. It answers the exit
-/// status. A line that `errors` doesn't take is lost, and changes no status.
+/// Runs the program once, and returns its exit status. If `words`, the arguments after the program's name, are one command, it reads all
+/// input and writes the answer to `output`. Otherwise it reads nothing. Where it has no answer, or can't write it, it writes a line to
+/// `errors`. If that fails, the line is lost, and the status stays.
 pub fn serve<R: Read, W: Write, E: Write>(
     alloc: Global,
     words: &[String],

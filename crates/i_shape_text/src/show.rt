@@ -11,10 +11,10 @@ use i_shape_core::area::area_of;
 use i_shape_core::point::IntPoint;
 use std::alloc::AllocError;
 
-/// How many points are written before they are appended at once: bytes that were only just written, one by one, are slow to copy.
+/// How many points are written before they are appended at once. Bytes that were just written one by one are slow to copy.
 const POINTS: usize = 16;
 
-/// Appends the coordinates of the points in turn, parted by single spaces. The space before the first one is skipped.
+/// Appends the coordinates of the points in order, separated by single spaces. The space before the first one is skipped.
 pub fn show_contour(output: &mut String, contour: &[IntPoint<i32>]) -> Result<(), AllocError>
     ensures { OnOk result (string_bytes output.new ≡ string_bytes output.old
         ++ shown (contour_of contour.now)) }
@@ -32,7 +32,7 @@ pub fn show_contour(output: &mut String, contour: &[IntPoint<i32>]) -> Result<()
     Ok(())
 }
 
-/// Writes the coordinates of the points, a space before each, so that they end where the text does, and tells where they start.
+/// Writes the coordinates of the points, a space before each, so that they end where the text does. Returns where they start.
 fn write_points(points: &[IntPoint<i32>], text: &mut [u8]) -> usize
     requires { length points.now * 24 ≤ length text.old }
     ensures within { 0 < length points.now → result < length text.new }
@@ -48,7 +48,7 @@ fn write_points(points: &[IntPoint<i32>], text: &mut [u8]) -> usize
     start
 }
 
-/// Writes the coordinates of a point, a space before each, so that they end at `end`, and tells where they start.
+/// Writes the coordinates of a point, a space before each, so that they end at `end`. Returns where they start.
 fn write_point(point: IntPoint<i32>, text: &mut [u8], end: usize) -> usize
     requires { (24 ≤ end) × (end ≤ length text.old) }
     ensures room { end ≤ result + 24 }
@@ -59,7 +59,7 @@ fn write_point(point: IntPoint<i32>, text: &mut [u8], end: usize) -> usize
     write_number(point.x, text, middle)
 }
 
-/// Appends a contour, on a line of its own.
+/// Appends a contour on a line of its own.
 pub fn show_line(output: &mut String, contour: &[IntPoint<i32>]) -> Result<(), AllocError>
     ensures { OnOk result (string_bytes output.new ≡ string_bytes output.old
         ++ shown_line (contour_of contour.now)) }
@@ -68,7 +68,7 @@ pub fn show_line(output: &mut String, contour: &[IntPoint<i32>]) -> Result<(), A
     output.push('\n')
 }
 
-/// Appends what a cleaner left of a contour, or a word where no point is left, on a line of its own.
+/// Appends what a cleaner left of a contour, or a word if no point is left, on a line of its own.
 pub fn show_cleaned(output: &mut String, left: &[IntPoint<i32>]) -> Result<(), AllocError>
     ensures { OnOk result (string_bytes output.new ≡ string_bytes output.old
         ++ ended (shown_or_none (slot (contour_of left.now)))) }
@@ -79,7 +79,7 @@ pub fn show_cleaned(output: &mut String, left: &[IntPoint<i32>]) -> Result<(), A
     show_line(output, left)
 }
 
-/// Appends what a cleaner left of a contour, on a line of its own, and nothing where no point is left.
+/// Appends what a cleaner left of a contour on a line of its own, or nothing if no point is left.
 pub fn show_left(output: &mut String, left: &[IntPoint<i32>]) -> Result<(), AllocError>
     ensures { OnOk result (string_bytes output.new ≡ string_bytes output.old
         ++ shown_if_left (slot (contour_of left.now))) }
@@ -90,7 +90,7 @@ pub fn show_left(output: &mut String, left: &[IntPoint<i32>]) -> Result<(), Allo
     show_line(output, left)
 }
 
-/// Appends twice the area of a contour, or a word where it has no points, on a line of its own.
+/// Appends twice the area of a contour, or a word if it has no points, on a line of its own.
 pub fn show_area(output: &mut String, contour: &[IntPoint<i32>]) -> Result<(), AllocError>
     ensures { OnOk result (string_bytes output.new ≡ string_bytes output.old
         ++ ended (shown_area (contour_of contour.now))) }

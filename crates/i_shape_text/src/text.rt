@@ -1,4 +1,4 @@
-//! What a command answers for a text.
+//! The answer of a command to a text.
 
 ghost use Rattle.std.specs.Prelude.{◌≡◌, IfOk, IfErr, List, string_bytes};
 ghost use Rattle.i_shape_core.specs.Point.{Point};
@@ -15,18 +15,17 @@ use i_shape_core::despike::ContourDeSpiker;
 use i_shape_core::simplifier::ContourSimplifier;
 use std::alloc::Global;
 
-/// The answer of a command to a text of contours: for each line, in order, what the command says of its contour on a line
-/// of its own, and nothing else. `Compact` leaves out the lines of contours that collapse, and says of the others what
-/// `Simplify` says.
+/// Returns the answer of a command to a text of contours: for each line, in order, the result for its contour on a line of its own, and
+/// nothing else. `Compact` leaves out the lines of contours that collapse, and writes of the others what `Simplify` writes.
 ///
-/// Lines end at `\n`, and the last one needs no end. A line holds the coordinates of its points, x and y in turn, as
-/// decimals of 32 bits parted by single spaces; an empty line is the contour without points. `Simplify` says the points of
-/// the contour without zero turns in the same form, or `none` where it collapses; `Despike` says those of the contour without
-/// spikes, and `Canonical` the least rotation of what `Simplify` says. `Area` says twice the area of the contour, wrapped to
-/// 64 bits, or `empty` where it has no points.
+/// Lines end at `\n`, and the last one needs no end. A line holds the coordinates of its points, x and y in turn, as 32-bit decimals
+/// separated by single spaces. An empty line is the contour without points. `Simplify` writes the points of the contour without zero
+/// turns in the same form, or `none` if it collapses. `Despike` does so for the contour without spikes and repeated points, and
+/// `Canonical` writes the least rotation of what `Simplify` writes. `Area` writes twice the area of the contour, wrapped to 64 bits, or
+/// `empty` if it has no points.
 ///
-/// `NotAContour` and `OutOfRange` tell the first line that is faulty for the command. `OutOfMemory` comes where an allocation
-/// failed and no faulty line was found before.
+/// `NotAContour` and `OutOfRange` give the first line that is faulty for the command. `OutOfMemory` occurs where an allocation fails and
+/// no faulty line was found before.
 pub fn run(alloc: Global, command: Command, text: &str) -> Result<String, ToolFault>
     ensures ok { IfOk result (λ output. AnswersText command text.now (string_bytes output)) }
     ensures err { IfErr result (IsFirstFault command text.now) }
@@ -51,7 +50,7 @@ pub fn run(alloc: Global, command: Command, text: &str) -> Result<String, ToolFa
     }
 }
 
-/// The answers to the contours of a text's lines, one by one.
+/// Returns the answers to the contours of a text's lines, one by one.
 fn answer_lines<A: ContourAnswer>(
     alloc: Global,
     command: Command,

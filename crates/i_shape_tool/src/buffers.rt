@@ -1,4 +1,4 @@
-//! Shapes that are cleaned after they went through a flat buffer.
+//! Cleaning of shapes through a flat buffer.
 
 ghost use Rattle.std.specs.Prelude.{◌≡◌, ◌<◌, ◌↔◌, ◌⊎◌, length, IfOk, IsErrOf};
 ghost use Rattle.i_shape.specs.Cleaners.{SimpleAnswer, DespikeAnswer};
@@ -13,9 +13,10 @@ use i_shape::int::simple::SimpleShapes;
 use i_shape::{IntNumber, ShapeError};
 use std::alloc::Global;
 
-/// The shapes without zero turns, as they are read back from a flat buffer that was filled with them. Shapes whose first
-/// contour collapses are left out, and later contours that collapse; an empty shape stays. `TooManyPoints` where the shapes have
-/// more than `usize::MAX` points together, or more contours than that; else `OutOfMemory`.
+/// Returns the shapes without zero turns. Fills a flat buffer with the shapes, reads them back, and cleans them. A
+/// shape whose first contour collapses is left out, and so are later contours that collapse. An empty shape stays.
+/// `TooManyPoints` if there are more than `usize::MAX` contours, or if they have more than `usize::MAX` points
+/// together; otherwise the only error is `OutOfMemory`.
 pub fn clean_through_buffer<I: IntNumber>(
     alloc: Global,
     shapes: &[IntShape<I>],
@@ -34,7 +35,7 @@ pub fn clean_through_buffer<I: IntNumber>(
     kept.as_slice().simplified(alloc)
 }
 
-/// The shapes without spikes, in the same way.
+/// Returns the shapes without spikes, otherwise like `clean_through_buffer`.
 pub fn despike_through_buffer<I: IntNumber>(
     alloc: Global,
     shapes: &[IntShape<I>],
@@ -54,7 +55,7 @@ pub fn despike_through_buffer<I: IntNumber>(
     Ok(kept)
 }
 
-/// The shapes, as they are read back from a flat buffer that was filled with them.
+/// Fills a flat buffer with the shapes and returns them as read back.
 fn read_back<I: IntNumber>(
     alloc: Global,
     shapes: &[IntShape<I>],

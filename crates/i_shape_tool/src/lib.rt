@@ -1,4 +1,4 @@
-//! Cleans the contours of a text, and shapes through a flat buffer.
+//! Cleaning of the contours of a text, and of shapes through a flat buffer.
 #![tactic(auto)]
 
 mod buffers;

@@ -1,8 +1,12 @@
 -- Rings in one array of points, parted by offsets, and parts of lists that are written place by place.
-use Rattle.std.proofs.Common.{◌≡◌, ℕ, ◌+◌, ◌-◌, ◌≤◌, ◌<◌, ◌++◌, suc, zero, List, [], length, take, drop, set, slice_range, refl, ap, sym, subst, ◌∙◌, arith, ◌⊎◌, inl, inr, eq-or-lt_of_le}
+use Rattle.std.proofs.Common.{◌≡◌, ℕ, ◌+◌, ◌-◌, ◌≤◌, ◌<◌, ◌++◌, suc, zero, List, [], length, take, drop, set, slice_range, refl, ap, sym, subst, ◌∙◌, arith, ◌⊎◌, inl, inr, ◌↔◌, Bool, true, false, not, Option, Some, None, is_some, max, eq-or-lt_of_le}
 use Rattle.std.proofs.lemmas.List.{take_rest, drop_all, length-drop, append-nil, length-take-le, drop-drop, drop-set-lt, take-take, drop-take, get_or-set_same, get_or-set_other}
 use Rattle.std.proofs.Math.Seq.{drop-append_seam}
-use Rattle.i_shape_core.specs.Rings.{offset, nth_ring, AreRising, AreCleanedRings}
+use Rattle.std.specs.Prelude.{IsTrue}
+use Rattle.std.specs.Option.{unwrap_or}
+use Rattle.std.proofs.lemmas.Bool.{cases_lt}
+use Rattle.i_shape_core.specs.Point.{Point}
+use Rattle.i_shape_core.specs.Rings.{offset, nth_ring, AreRising, AreCleanRings, LongestUnclean, HaveRoom, AreShortOrClean, AreCleanedRings}
 
 -- what lies behind a place stays as it was when that place is written
 pub back_more : {X : Type 0} (xs ys : List X) (n m : ℕ) (v : X) → m ≡ n + 1 → drop n xs ≡ drop n ys → drop m (set xs n v) ≡ drop m ys
@@ -66,6 +70,62 @@ each_more Q place some before here k less = elim (eq-or-lt_of_le (let low : k + 
   | inr early ↦ before k early
 ]
 
+-- the longest ring that isn't clean
+module _ {P : Type 0} (Clean : List Point → Type 0) (read : List P → List Point) (points : List P) (offsets : List ℕ) where
+  -- a clean ring more
+  pub clean_more : (place : ℕ) (r : Option ℕ) → 0 < place → Clean (read (nth_ring points offsets (place - 1))) → LongestUnclean Clean read points offsets place r → LongestUnclean Clean read points offsets (place + 1) r
+  clean_more place None some clean each = each_more (λ k. Clean (read (nth_ring points offsets k))) place some each clean
+  clean_more place (Some n) some clean before = record {
+    ring = before.ring;
+    within = omega (arith, before.within);
+    unclean = before.unclean;
+    len = before.len;
+    most = each_more (λ k. (Clean (read (nth_ring points offsets k)) → ⊥) → length (nth_ring points offsets k) ≤ n) place some before.most (λ unclean. absurd (unclean clean));
+  }
+
+  -- one more that isn't clean
+  pub unclean_more : (place : ℕ) (r : Option ℕ) → 0 < place → (Clean (read (nth_ring points offsets (place - 1))) → ⊥) → LongestUnclean Clean read points offsets place r
+      → LongestUnclean Clean read points offsets (place + 1) (Some (max (length (nth_ring points offsets (place - 1))) (unwrap_or r 0)))
+  unclean_more place None some unclean each = record {
+    ring = place - 1;
+    within = omega (arith, some);
+    unclean = unclean;
+    len = omega arith;
+    most = each_more (λ k. (Clean (read (nth_ring points offsets k)) → ⊥) → length (nth_ring points offsets k) ≤ max (length (nth_ring points offsets (place - 1))) 0) place some (λ k less other. absurd (other (each k less))) (λ _. omega arith);
+  }
+  unclean_more place (Some n) some unclean before =
+      let here = length (nth_ring points offsets (place - 1)) in
+      let most = each_more (λ k. (Clean (read (nth_ring points offsets k)) → ⊥) → length (nth_ring points offsets k) ≤ max here n) place some (λ k less other. omega (arith, before.most k less other)) (λ _. omega arith) in
+      elim (cases_lt here n) [
+        | inl less ↦ record { ring = before.ring; within = omega (arith, before.within); unclean = before.unclean; len = omega (arith, before.len, less); most = most }
+        | inr least ↦ record { ring = place - 1; within = omega (arith, some); unclean = unclean; len = omega (arith, least); most = most }
+      ]
+
+  -- all are clean where there is none
+  pub all_clean : (n : ℕ) (r : Option ℕ) (none : Bool) → is_some r ≡ not none → LongestUnclean Clean read points offsets n r → IsTrue none ↔ AreCleanRings Clean read points offsets n
+  all_clean n None true told each = (λ _. each, λ _. refl)
+  all_clean n None false told each = absurd (cc)
+  all_clean n (Some m) true told longest = absurd (cc)
+  all_clean n (Some m) false told longest = (λ no. absurd (cc), λ each. absurd (longest.unclean (each longest.ring longest.within)))
+
+  -- room for it is room for each
+  pub room_for_each : (room : ℕ → Type 0) → ((m n : ℕ) → m ≤ n → room n → room m) → (n : ℕ) (r : Option ℕ) → LongestUnclean Clean read points offsets n r → room (unwrap_or r 0) → HaveRoom Clean read room points offsets n
+  room_for_each room fewer n None each has = λ k less unclean. absurd (unclean (each k less))
+  room_for_each room fewer n (Some m) longest has = λ k less unclean. fewer _ m (longest.most k less unclean) has
+
+  -- room for each is room for it, where there is one
+  pub room_for_longest : (room : ℕ → Type 0) (n : ℕ) (r : Option ℕ) → LongestUnclean Clean read points offsets n r → HaveRoom Clean read room points offsets n → (unwrap_or r 0 < 3) ⊎ room (unwrap_or r 0)
+  room_for_longest room n None each has = inl (omega arith)
+  room_for_longest room n (Some m) longest has = inr (subst room longest.len (has longest.ring longest.within longest.unclean))
+
+  -- it is short where each other is clean
+  pub short_longest : (n : ℕ) (r : Option ℕ) → LongestUnclean Clean read points offsets n r → AreShortOrClean Clean read points offsets n → unwrap_or r 0 < 3
+  short_longest n None all each = omega arith
+  short_longest n (Some m) longest each = elim (each longest.ring longest.within) [
+    | inl few ↦ omega (arith, few, longest.len)
+    | inr clean ↦ absurd (longest.unclean clean)
+  ]
+
 module _ {P : Type 0} (Left : List P → List P → Type 0) where
   -- the rings before a place are done
   pub record Done (points : List P) (offsets : List ℕ) (out_points : List P) (out_offsets : List ℕ) (place written : ℕ) : Type 0 where
@@ -75,18 +135,6 @@ module _ {P : Type 0} (Left : List P → List P → Type 0) where
     pub last : offset out_offsets (place - 1) ≡ written
     pub fewer : written ≤ offset offsets (place - 1)
     pub cleaned : (k : ℕ) → k + 1 < place → Left (nth_ring points offsets k) (nth_ring out_points out_offsets k)
-
-  -- before the first ring is cleaned none is done
-  pub nothing_done : (points : List P) (offsets : List ℕ) (out_points : List P) (out_offsets : List ℕ)
-      → offset out_offsets 0 ≡ 0 → Done points offsets out_points out_offsets 1 0
-  nothing_done points offsets out_points out_offsets first = record {
-    some = omega arith;
-    first = first;
-    order = λ k less. absurd (omega (arith, less));
-    last = first;
-    fewer = omega arith;
-    cleaned = λ k less. absurd (omega (arith, less));
-  }
 
   module _ (points : List P) (offsets : List ℕ) (old new : List P) (parts : List ℕ) (place written end : ℕ)
       (done : Done points offsets old parts place written) (room : place < length parts) (above : written ≤ end) (under : end ≤ offset offsets place)

@@ -17,7 +17,7 @@ use Rattle.i_shape_core.specs.Contour.{point_at}
 use Rattle.i_shape_core.specs.Edges.{is_above}
 use Rattle.i_shape_core.specs.Winding.{winding, winding_of_edge}
 use Rattle.i_shape_core.specs.IntPoint.{point_of, contour_of, IsSafe}
-use Rattle.i_shape_core.specs.Heights.{asked_points, IsRising, IsPlaceOf, IsAdded, AllFit, asks, IsTotal}
+use Rattle.i_shape_core.specs.Heights.{asked_points, IsRising, IsPlaceOf, IsAdded, AllFit, asks}
 use Rattle.i_shape_core.specs.declared.heights.Asked.{Asked}
 use Rattle.i_shape_core.specs.declared.point.IntPoint.{IntPoint}
 use Rattle.i_shape_core.specs.Blocks.{winding_over}
@@ -86,6 +86,9 @@ IsSum ps f before after j = int_wrap w64 (get_or after j (pos 0)) ≡ int_wrap w
 
 wrapped : (z : ℤ) → int_wrap w64 (int_wrap w64 z) ≡ int_wrap w64 z
 wrapped z = int_wrap_fits w64 (int_wrap w64 z) (SFits-int_wrap w64 z)
+
+grouped : (a b c : ℤ) → a +ℤ b +ℤ c ≡ a +ℤ (b +ℤ c)
+grouped a b c = omega (arith, ints)
 
 none_more : (t z : ℤ) → z ≡ pos 0 → t ≡ t +ℤ z
 none_more t z e = omega (arith, ints)
@@ -213,9 +216,6 @@ module _ {I : Type 0} (value : I → ℤ) (ps : List Point) (before : List ℤ) 
       ∙ ap (int_wrap w64) (grouped (get_or now k (pos 0)) w rest)
       ∙ ap (λ (qs : List Point). int_wrap w64 (get_or now k (pos 0) +ℤ winding_over p (point_of value start) qs)) (sym (rest-read value cs i x within read))
       ∙ told k inside
-    where
-      grouped : (a b c : ℤ) → a +ℤ b +ℤ c ≡ a +ℤ (b +ℤ c)
-      grouped a b c = omega (arith, ints)
 
   pub told-all : (i : ℕ) (start : IntPoint I) (now : List ℤ) → length cs ≤ i → 0 < length cs → last ≡ get_or cs (length cs - 1) last → IsTold (point_of value start) (contour_of value (drop i cs)) now → IsAdded ps (winding (contour_of value cs)) before now
   told-all i start now past some e told = record {
@@ -228,13 +228,6 @@ module _ {I : Type 0} (value : I → ℤ) (ps : List Point) (before : List ℤ) 
 -- a contour without points adds nothing
 pub none-told : {I : Type 0} (value : I → ℤ) (ps : List Point) (totals : List ℤ) (cs : List (IntPoint I)) → length cs ≤ 0 → IsAdded ps (winding (contour_of value cs)) totals totals
 none-told value ps totals cs none = record { each = λ k inside. ap (int_wrap w64) (none_more (get_or totals k (pos 0)) _ (sym (no_points value (point_at ps k) cs none))) }
-
--- an edge was passed
-pub record IsPassed (ps : List Point) (b : Point) (f : Point → ℤ) (place : ℕ) (before after : List ℤ) : Type 0 where
-  pub here : IsPlaceOf ps b place
-  pub room : length after ≡ length before
-  pub fit : AllFit after
-  pub added : IsAdded ps f before after
 
 -- what a comparison of two heights tells
 pub goes_up : (a b : ℤ) (t : Bool) → t ≡ int_lt a b → t ≡ true → a ≤ℤ b
@@ -315,11 +308,11 @@ winding_fits c p room =
     let least = half.least in
     reach-fits w64 (winding c p) (record { from = omega (arith, ints); below = omega (arith, ints) })
 
-pub total_from_added : (ps : List Point) (f : Point → ℤ) (zeros totals : List ℤ) → ((k : ℕ) → get_or zeros k (pos 0) ≡ pos 0) → AllFit totals → ((p : Point) → FitsSigned w64 (f p)) → IsAdded ps f zeros totals → IsTotal f ps totals
-total_from_added ps f zeros totals none fit fits added = record {
-  each = λ k inside.
-      sym (int_wrap_fits w64 _ (fit k)) ∙ added.each k inside ∙ ap (int_wrap w64) (ap (λ (z : ℤ). z +ℤ f (point_at ps k)) (none k) ∙ nothing_less (f (point_at ps k))) ∙ int_wrap_fits w64 _ (fits (point_at ps k));
-}
+pub total_from_added : (ps : List Point) (f : Point → ℤ) (zeros totals : List ℤ) → length totals ≡ length ps → ((k : ℕ) → get_or zeros k (pos 0) ≡ pos 0) → AllFit totals → ((p : Point) → FitsSigned w64 (f p)) → IsAdded ps f zeros totals → totals ≡ map f ps
+total_from_added ps f zeros totals many none fit fits added = same_lists totals (map f ps) (many ∙ sym (length-map ps f)) (λ k z within.
+    let inside : k < length ps = omega (arith, within, many) in
+    get_or_default totals k z (pos 0) within ∙ sym (int_wrap_fits w64 _ (fit k)) ∙ added.each k inside ∙ ap (int_wrap w64) (ap (λ (z : ℤ). z +ℤ f (point_at ps k)) (none k) ∙ nothing_less (f (point_at ps k))) ∙ int_wrap_fits w64 _ (fits (point_at ps k))
+    ∙ sym (get_or-map f ps k origin z inside))
   where
     nothing_less : (z : ℤ) → pos 0 +ℤ z ≡ z
     nothing_less z = omega (arith, ints)
@@ -359,6 +352,10 @@ module _ {I : Type 0} (value : I → ℤ) (points : List (IntPoint I)) (f : Poin
       let within : q.place < length points = subst (λ (x : Asked I). x.place < length points) (sym read) of.within in
       get_or-set_other out q.place i r (pos 0) (λ e. omega (arith, e, within, past)) ∙ known i past
 
+  pick : (ps : List (IntPoint I)) → 0 < length ps → IntPoint I
+  pick [] h = absurd (omega arith)
+  pick (p ∷ ps) h = p
+
   -- where each place is one of n, there is room for the points
   pub room-for : (n : ℕ) → All (λ q. q.place < n) asked → length points ≤ n
   room-for n within = elim (cases_lt n (length points)) [
@@ -370,10 +367,6 @@ module _ {I : Type 0} (value : I → ℤ) (points : List (IntPoint I)) (f : Poin
         absurd (omega (arith, low))
     | inr h ↦ h
   ]
-    where
-      pick : (ps : List (IntPoint I)) → 0 < length ps → IntPoint I
-      pick [] h = absurd (omega arith)
-      pick (p ∷ ps) h = p
 
   pub write-all : (out before : List ℤ) (k : ℕ) → length asked ≤ k → length out ≡ length before → length points ≤ length before
       → ((j : ℕ) (d : Asked I) → j < k → get_or out (get_or asked j d).place (pos 0) ≡ f (point_at (asked_points value asked) j))
@@ -394,10 +387,6 @@ module _ {I : Type 0} (value : I → ℤ) (points : List (IntPoint I)) (f : Poin
           let here = found.1 in
           let is = get_or_default asked j x _ here ∙ found.2 in
           ap (λ (q : Asked I). get_or out q.place (pos 0)) (sym is) ∙ told j x (omega (arith, here, all)) ∙ ap f (asked-read value asked j x here ∙ ap (λ (q : Asked I). point_of value q.point) is)
-
-      pick : (ps : List (IntPoint I)) → 0 < length ps → IntPoint I
-      pick [] h = absurd (omega arith)
-      pick (p ∷ ps) h = p
 
       at : (i : ℕ) → length (map f (contour_of value points)) ≡ length points → get_or out i (pos 0) ≡ get_or (map f (contour_of value points) ++ drop (length points) before) i (pos 0)
       at i front = elim (cases_lt i (length points)) [
@@ -446,9 +435,6 @@ added_more ps f g before between after first then = record {
       then.each k inside ∙ int_wrap-add_same w64 (get_or between k (pos 0)) (get_or before k (pos 0) +ℤ f p) (g p) (first.each k inside)
       ∙ ap (int_wrap w64) (grouped (get_or before k (pos 0)) (f p) (g p));
 }
-  where
-    grouped : (a b c : ℤ) → a +ℤ b +ℤ c ≡ a +ℤ (b +ℤ c)
-    grouped a b c = omega (arith, ints)
 
 -- where nothing is added, the totals are as they were
 pub none_added_yet : (ps : List Point) (f : Point → ℤ) (totals : List ℤ) → ((p : Point) → f p ≡ pos 0) → IsAdded ps f totals totals

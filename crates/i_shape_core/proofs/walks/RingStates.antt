@@ -186,14 +186,6 @@ state_ends {P} c e places u l n s none shown =
     let same : from_contour_first (points_at c places) l ≡ e = cc in
     subst (λ (k : List Point). Finds P c k n) same (record { ended = w.0; enough = w.1; least = omega (arith, s.tested_each, none); most = omega (arith, s.at_most) })
 
--- the places that are left, in order, are places of the contour
-pub ends_below : {P : Test} {room : ℕ} (c : List Point) (places : List ℕ) (u l n : ℕ) → IsState room P c places u l n → All (IsBelow c) (from_contour_first places l)
-ends_below c places u l n s = All-append (IsBelow c) (drop l places) (take l places) (All-drop (IsBelow c) l places s.below) (All-take (IsBelow c) l places s.below)
-
--- and they rise
-pub ends_rising : {P : Test} {room : ℕ} (c : List Point) (places : List ℕ) (u l n : ℕ) → IsState room P c places u l n → RisingPlaces (length c) (from_contour_first places l)
-ends_rising c places u l n s = s.rising
-
 -- a ring of all places of c, in which the walk stands at place k, in memory for so many
 abbrev pub StartsAt : List Point → PlacedRing → ℕ → ℕ → Type 0
 StartsAt c r k room = r ≡ ring_of_all (length c) k room

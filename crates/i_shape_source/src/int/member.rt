@@ -1,4 +1,4 @@
-//! What a list may hold to be a resource of paths.
+//! The items of lists that are resources of paths.
 ghost use Rattle.std.specs.Prelude.{◌≡◌, ◌↔◌, List, [], ◌∷◌, ⊤};
 ghost use Rattle.std.specs.List.{All};
 ghost use Rattle.std.specs.Iterator.{IsFinite};
@@ -17,7 +17,7 @@ use i_shape_core::point::IntPoint;
 use std::iter::Copied;
 use std::slice::Iter;
 
-/// What slices, vectors and arrays hold that are resources: a point, a path, a borrowed path, or a shape.
+/// An item of a slice, vector or array that is a resource: a point, a path, a borrowed path, or a shape.
 pub trait IntResourceMember<'a, I: IntNumber + 'a>: Sized + 'a {
     /// The iterator over the borrowed paths of a list of members.
     type MemberIter: Iterator<Item = &'a [IntPoint<I>]>;
@@ -25,13 +25,13 @@ pub trait IntResourceMember<'a, I: IntNumber + 'a>: Sized + 'a {
     /// The paths of a list of members, in storage order.
     ghost member_paths: { List Self → List (List (IntPoint I)) };
 
-    /// That each point of each path is safe, in the words of the calls that ask for it.
+    /// Each point of each path is safe, in the words of the calls that require it.
     ghost safe: { List Self → Type 0 };
 
-    /// What is known of the iterator at first.
+    /// What is known of the new iterator.
     ghost begins: { List Self → Self.MemberIter → Type 0 } = { λ _ _. ⊤ };
 
-    /// Lends the paths of the members one by one, and then ends. Nothing is copied or allocated.
+    /// Returns an iterator that lends the paths of the members one by one, and then ends. Copies and allocates nothing.
     fn lend(members: &'a [Self]) -> Self::MemberIter
         ensures can { Self.MemberIter.can_next result }
         ensures begins { begins members.now result }

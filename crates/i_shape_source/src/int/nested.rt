@@ -1,4 +1,4 @@
-//! Slices, vectors and arrays as resources. What is told safe of one of them is told of each that lists the same.
+//! Slices, vectors and arrays as resources. If one of them is known to be safe, so is each with the same items.
 ghost use Rattle.i_shape_source.specs.ShapeLists.{HoldsOfEqual};
 
 use crate::int::member::IntResourceMember;

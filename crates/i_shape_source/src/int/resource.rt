@@ -1,4 +1,4 @@
-//! Resources of whole-number paths.
+//! Resources of paths of integer points.
 ghost use Rattle.std.specs.Prelude.{◌↔◌, List, ⊤};
 ghost use Rattle.std.specs.Iterator.{IsFinite};
 ghost use Rattle.i_shape_core.specs.declared.point.IntPoint.{IntPoint};
@@ -18,16 +18,16 @@ pub trait IntShapeResource<'a, I: IntNumber + 'a>: Sized {
     /// The paths, in storage order.
     ghost paths: { Self → List (List (IntPoint I)) };
 
-    /// That each point of each path is safe, in the words of the calls that ask for it.
+    /// Each point of each path is safe, in the words of the calls that require it.
     ghost safe: { Self → Type 0 };
 
-    /// What is known of the iterator at first, beside the law that `iter_paths` states.
+    /// What is known of the new iterator, besides the clauses of `iter_paths`.
     ghost begins: { Self → Self.ResourceIter → Type 0 } = { λ _ _. ⊤ };
 
     /// Whether the resource can be read.
     ghost can_read: { Self → Type 0 } = { λ _. ⊤ };
 
-    /// Lends the paths one by one, each a slice of the source, and then ends. Nothing is copied or allocated.
+    /// Returns an iterator that lends the paths one by one, each a slice of the source, and then ends. Copies and allocates nothing.
     fn iter_paths(self) -> Self::ResourceIter
         requires { can_read self }
         ensures can { Self.ResourceIter.can_next result }

@@ -1,9 +1,10 @@
-use Rattle.std.proofs.Common.{◌≡◌, ◌≤◌, ◌<◌, ℕ, List, length, ap, subst, refl, arith, ◌∙◌}
+use Rattle.std.proofs.Common.{◌≡◌, ◌≤◌, ◌<◌, ◌-◌, ℕ, List, length, inl, inr, ap, subst, refl, arith, ◌∙◌}
 use Rattle.std.specs.List.{range_with_len}
 use Rattle.i_shape_core.specs.IntPoint.{contour_of}
 use Rattle.i_shape_core.specs.Point.{Point, IsZeroTurn}
 use Rattle.i_shape_core.specs.Walks.{IsStacked}
 use Rattle.i_shape_core.proofs.plane.Contours.{length-contour}
+use Rattle.i_shape_core.proofs.lists.FirstPlaces.{removable_between}
 use Rattle.i_shape_core.proofs.walks.StackReads.{holds_by_test, fails_by_test}
 use Rattle.i_shape_core.proofs.walks.Prefixes.{prefix_walked, whole_without_first, whole_without_last, whole_ends}
 use Rattle.i_shape_core.proofs.simplifier.start_of_walk.Goals as goal
@@ -77,3 +78,42 @@ returns-clause-clean g c = λ none.
       least = omega (arith, prefix.visits, w, c.is_zero_at.ensures.visits, c.is_zero_at-2.ensures.visits, all);
       most = omega (arith, three, prefix.visits, w, c.is_zero_at.ensures.visits, c.is_zero_at-2.ensures.visits, all);
     }
+
+pub returns-then-place-count-clause-counted : goal.returns-then-place-count-clause-counted
+returns-then-place-count-clause-counted g c = λ simple.
+    let prefix = c.clean_prefix-probe.ensures in
+    let points : List Point = contour_of g.P.Coordinate.IntNumber.value c.args.probe.contour in
+    let place = c.clean_prefix-probe.result.1 in
+    let all = length-contour g.P.Coordinate.IntNumber.value c.args.probe.contour in
+    let within : place < length points = omega (arith, c.if-place-count.true, c.len-count.ensures, ap length prefix.contour, all) in
+    let least = prefix.least in
+    absurd (simple.none (place - 1) (removable_between points (place - 2) (place - 1) place simple.enough (omega (arith, within)) (omega (arith, within))
+    (inl (omega (arith, within, least), omega (arith, least))) (inl (omega (arith, within, least), omega (arith, least))) (prefix.zero_turn within)))
+
+pub returns-then-is_zero_at-clause-counted : goal.returns-then-is_zero_at-clause-counted
+returns-then-is_zero_at-clause-counted g c = λ simple.
+    let prefix = c.clean_prefix-probe.ensures in
+    let points : List Point = contour_of g.P.Coordinate.IntNumber.value c.args.probe.contour in
+    let all = length-contour g.P.Coordinate.IntNumber.value c.args.probe.contour in
+    let e : c.len-count.result ≡ length points = omega (arith, c.len-count.ensures, ap length prefix.contour, all) in
+    let three = simple.enough in
+    absurd (simple.none 0 (removable_between points (length points - 1) 0 1 three (omega (arith, three)) (omega (arith, three)) (inr (omega (arith, three), refl)) (inl (omega (arith, three), refl))
+    (holds_by_test c.is_zero_at.result (rw (prefix.contour, e) at c.is_zero_at.ensures.test) c.if-is_zero_at.true)))
+
+pub returns-then-is_zero_at-2-clause-counted : goal.returns-then-is_zero_at-2-clause-counted
+returns-then-is_zero_at-2-clause-counted g c = λ simple.
+    let prefix = c.clean_prefix-probe.ensures in
+    let points : List Point = contour_of g.P.Coordinate.IntNumber.value c.args.probe.contour in
+    let all = length-contour g.P.Coordinate.IntNumber.value c.args.probe.contour in
+    let e : c.len-count.result ≡ length points = omega (arith, c.len-count.ensures, ap length prefix.contour, all) in
+    let same : c.is_zero_at.new.probe.contour ≡ c.args.probe.contour = c.is_zero_at.ensures.contour ∙ prefix.contour in
+    let three = simple.enough in
+    absurd (simple.none (length points - 1) (removable_between points (length points - 1 - 1) (length points - 1) 0 three (omega (arith, three)) (omega (arith, three)) (inl (omega (arith, three), omega (arith, three))) (inr (omega (arith, three), refl))
+    (holds_by_test c.is_zero_at-2.result (rw (same, e) at c.is_zero_at-2.ensures.test) c.if-is_zero_at-2.true)))
+
+pub returns-clause-counted : goal.returns-clause-counted
+returns-clause-counted g c = λ simple.
+    let prefix = c.clean_prefix-probe.ensures in
+    let all = length-contour g.P.Coordinate.IntNumber.value c.args.probe.contour in
+    let three = simple.enough in
+    (refl, omega (arith, three, prefix.visits, prefix.most, c.len-count.ensures, ap length prefix.contour, c.if-place-count.false, c.is_zero_at.ensures.visits, c.is_zero_at-2.ensures.visits, all))

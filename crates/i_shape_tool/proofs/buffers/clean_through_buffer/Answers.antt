@@ -14,7 +14,7 @@ simplified-requires g c =
 pub returns-clause-clean : goal.returns-clause-clean
 returns-clause-clean g c =
     let same = same_shapes g.I.IntNumber.value c.as_slice.result.now c.args.shapes.now (ap shape_lists c.as_slice.ensures.value ∙ c.in_ok-kept.ensures.same) in
-    subst (λ shapes. IfOk c.simplified.result (λ r. ListClean SimpleAnswer shapes (shapes_of g.I.IntNumber.value r.items))) same (of_ok c.simplified.result (λ r cleaned. cleaned.answer) c.simplified.ensures)
+    subst (λ shapes. IfOk c.simplified.result (λ r. ListClean SimpleAnswer shapes (shapes_of g.I.IntNumber.value r.items))) same (of_ok c.simplified.result (λ r cleaned. cleaned.answer) c.simplified.ensures.answer)
 
 pub returns-in_err-kept-clause-too_many : goal.returns-in_err-kept-clause-too_many
 returns-in_err-kept-clause-too_many g c = search rules
@@ -22,4 +22,4 @@ returns-in_err-kept-clause-too_many g c = search rules
 pub returns-clause-kept : goal.returns-clause-kept
 returns-clause-kept g c =
     let same = same_shapes g.I.IntNumber.value c.as_slice.result.now c.args.shapes.now (ap shape_lists c.as_slice.ensures.value ∙ c.in_ok-kept.ensures.same) in
-    subst (λ shapes. IfOk c.simplified.result (λ r. ListKept SimpleAnswer shapes (shapes_of g.I.IntNumber.value r.items))) same (of_ok c.simplified.result (λ r cleaned. cleaned.kept) c.simplified.ensures)
+    subst (λ shapes. IfOk c.simplified.result (λ r. ListKept SimpleAnswer shapes (shapes_of g.I.IntNumber.value r.items))) same (of_ok c.simplified.result (λ r cleaned. cleaned.kept) c.simplified.ensures.answer)

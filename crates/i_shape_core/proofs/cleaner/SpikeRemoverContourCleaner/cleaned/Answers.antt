@@ -22,11 +22,11 @@ returns-in_err-from_slice-clause-answer g c = search rules
 pub returns-then-has_no_spikes-clause-answer : goal.returns-then-has_no_spikes-clause-answer
 returns-then-has_no_spikes-clause-answer g c = grind (arith, common_steps)
 
-pub cleaned_untested-requires-clause-points_safe : goal.cleaned_untested-requires-clause-points_safe
-cleaned_untested-requires-clause-points_safe g c = search rules
+pub cleaned_unchecked-requires-clause-points_safe : goal.cleaned_unchecked-requires-clause-points_safe
+cleaned_unchecked-requires-clause-points_safe g c = search rules
 
-pub cleaned_untested-requires-clause-unclean : goal.cleaned_untested-requires-clause-unclean
-cleaned_untested-requires-clause-unclean g c = search rules
+pub cleaned_unchecked-requires-clause-unclean : goal.cleaned_unchecked-requires-clause-unclean
+cleaned_unchecked-requires-clause-unclean g c = search rules
 
 pub returns-clause-answer : goal.returns-clause-answer
 returns-clause-answer g c = search rules

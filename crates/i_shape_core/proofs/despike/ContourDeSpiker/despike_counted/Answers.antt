@@ -122,3 +122,27 @@ returns-clause-visits g c = IfOk-weaker c.keep_left.result _ _ (λ r w. visits_a
 pub returns-clause-short : goal.returns-clause-short
 returns-clause-short g c = λ few.
     absurd (omega (arith, few, length-contour g.I.IntNumber.value c.args.contour.now, c.if-contour-lt3.false))
+
+pub returns-then-contour-lt3-clause-clean_visits : goal.returns-then-contour-lt3-clause-clean_visits
+returns-then-contour-lt3-clause-clean_visits g c = λ clean.
+    absurd (omega (arith, clean.enough, length-contour g.I.IntNumber.value c.args.contour.now, c.if-contour-lt3.true))
+
+pub returns-in_default-clause-clean_visits : goal.returns-in_default-clause-clean_visits
+returns-in_default-clause-clean_visits g c =
+    let none = rw (c.in_default.is, c.new.ensures.contour) at c.first_back-probe.ensures.answer in
+    IfOk-weaker c.keep_whole.result _ _ (λ r w clean. w.1 ∙ none.1) c.keep_whole.ensures.kept
+
+pub returns-then-contour-eq3-clause-clean_visits : goal.returns-then-contour-eq3-clause-clean_visits
+returns-then-contour-eq3-clause-clean_visits g c =
+    let found = rw (c.in-Some.is, c.new.ensures.contour) at c.first_back-probe.ensures.answer in
+    λ clean. absurd (clean.ended.none_left c.in-Some.place found.0.here)
+
+pub returns-then-not-uncollapsed-clause-clean_visits : goal.returns-then-not-uncollapsed-clause-clean_visits
+returns-then-not-uncollapsed-clause-clean_visits g c =
+    let found = rw (c.in-Some.is, c.new.ensures.contour) at c.first_back-probe.ensures.answer in
+    λ clean. absurd (clean.ended.none_left c.in-Some.place found.0.here)
+
+pub returns-clause-clean_visits : goal.returns-clause-clean_visits
+returns-clause-clean_visits g c =
+    let found = rw (c.in-Some.is, c.new.ensures.contour) at c.first_back-probe.ensures.answer in
+    IfOk-weaker c.keep_left.result _ _ (λ r w clean. absurd (clean.ended.none_left c.in-Some.place found.0.here)) c.keep_left.ensures.kept

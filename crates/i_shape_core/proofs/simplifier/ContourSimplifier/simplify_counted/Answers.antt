@@ -1,4 +1,4 @@
-use Rattle.std.proofs.Common.{◌≡◌, ◌∙◌, ℕ, ℤ, List, Option, None, Some, option_map, arith}
+use Rattle.std.proofs.Common.{◌≡◌, ◌∙◌, ℕ, ℤ, List, Option, None, Some, option_map, sym, arith}
 use Rattle.std.specs.Global.{Vec}
 use Rattle.std.specs.Int.{Width}
 use Rattle.std.specs.List.{All}
@@ -74,3 +74,17 @@ returns-clause-answer g c =
     let same : c.close-probe.result.0.contour ≡ c.args.contour.now = c.close-probe.ensures.contour ∙ first in
     let found : Found value c.args.contour.now c.keep_left.result = walk_kept IsZeroTurn points (shown value) (λ r. r.1) c.keep_left.result _ c.close-probe.result.0.visits (rw same at c.keep_left.ensures.kept) (rw first at c.close-probe.ensures.answer) in
     unless_memory c.keep_left.result _ (told g.I.IntNumber.width value c.args.contour.now c.keep_left.result c.requires found) c.keep_left.ensures.memory
+
+pub returns-then-contour-lt3-clause-clean_visits : goal.returns-then-contour-lt3-clause-clean_visits
+returns-then-contour-lt3-clause-clean_visits g c = λ simple.
+    absurd (omega (arith, simple.enough, length-contour g.I.IntNumber.value c.before.args.contour.now))
+
+pub returns-in_default-clause-clean_visits : goal.returns-in_default-clause-clean_visits
+returns-in_default-clause-clean_visits g c =
+    let counted = rw c.new.ensures.contour at c.start_of_walk-probe.ensures.counted in
+    IfOk-weaker c.keep_whole.result _ _ (λ r w simple. w.1 ∙ (counted simple).1) c.keep_whole.ensures.kept
+
+pub returns-clause-clean_visits : goal.returns-clause-clean_visits
+returns-clause-clean_visits g c =
+    let counted = rw c.new.ensures.contour at c.start_of_walk-probe.ensures.counted in
+    IfOk-weaker c.keep_left.result _ _ (λ r w simple. (let no : Some c.in-Some.start ≡ None = sym c.in-Some.is ∙ (counted simple).0 in absurd (cc))) c.keep_left.ensures.kept
