@@ -1,4 +1,4 @@
--- What a store of contours answers. A store is the list of its canonical forms.
+-- What the calls on a store of contours return. A store is the list of its canonical forms.
 use Rattle.std.specs.Prelude.{List, ◌≡◌, ◌⊎◌, ◌↔◌, [], ◌∷◌, ◌++◌}
 use Rattle.std.specs.List.{All, Contains}
 use Rattle.i_shape.specs.Point.{Point, IsZeroTurn}
@@ -19,14 +19,14 @@ IsFound store c = (form : List Point) × Contains store form × Joined IsZeroTur
 abbrev pub AlsoFinds : List (List Point) → List Point → List (List Point) → Type 0
 AlsoFinds old c new = (d : List Point) → IsFound new d ↔ (IsFound old d ⊎ Joined IsZeroTurn c d)
 
--- no contour of the old store was joined to c, and the canonical form of c stands at its end now
+-- no contour of the old store was joined to c, and the canonical form of c is the last one now
 pub record IsAdded (old : List (List Point)) (c : List Point) (new : List (List Point)) : Type 0 where
   pub missing : IsFound old c → ⊥
   pub form : List Point
   pub canonical : IsCanonical c form
   pub appended : new ≡ old ++ form ∷ []
 
--- what `insert` answers, and the store after it
+-- what `insert` returns, and the store after it
 abbrev pub InsertAnswer : List (List Point) → List Point → Insertion → List (List Point) → Type 0
 InsertAnswer old c New new = IsAdded old c new
 InsertAnswer old c Known new = IsFound old c × (new ≡ old)

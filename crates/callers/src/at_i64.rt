@@ -1,4 +1,4 @@
-//! A straight program at one width. A coordinate stands for itself there, and `w128` is the width of an area.
+//! A straight-line program at one width. A coordinate is its own value, and an area has the width `w128`.
 
 ghost use Rattle.std.specs.Prelude.{◌≡◌, ◌↔◌, IfOk, IfSome, None};
 ghost use Rattle.std.specs.Int.{int_wrap, w128};
@@ -13,7 +13,8 @@ use i_shape::int::safe_range::IntSafeRange;
 use i_shape::int::simple::SimpleContour;
 use std::alloc::Global;
 
-/// Twice the area of a contour, told by its copy without zero turns. `None` where the contour collapses.
+/// Returns twice the signed area of a contour, computed from its copy without zero turns, or `None` where the contour
+/// collapses.
 pub fn cleaned_area(alloc: Global, contour: &[IntPoint<i64>]) -> Result<Option<i128>, Refusal>
     ensures none { IfOk result (λ r. (r ≡ None)
         ↔ EachEndCollapses (contour_of (λ z. z) contour.now)) }

@@ -1,4 +1,4 @@
-//! Flat buffers that are tested, and then cleaned.
+//! Flat buffers that are tested and then cleaned.
 
 ghost use Rattle.std.specs.Prelude.{◌≡◌, [], ◌∷◌, OnOk, OnErr, IfOk, IsErrOf, Ok, false, ◌↔◌};
 ghost use Rattle.i_shape_core.specs.Contour.{IsSimple};
@@ -15,7 +15,7 @@ use i_shape::int::IntPoint;
 use i_shape::int::safe_range::IntSafeRange;
 use i_shape::int::shape::IntShape;
 
-/// Removes zero turns inside the buffer, whatever ranges it was given.
+/// Removes zero turns within the buffer, whatever its ranges.
 pub fn simplify<I: IntNumber>(buffer: &mut FlatContoursBuffer<I>) -> Result<bool, Refusal>
     ensures compact { OnOk result
         (Compact (contours_in I.value buffer.old) (contours_in I.value buffer.new)) }
@@ -37,7 +37,7 @@ pub fn simplify<I: IntNumber>(buffer: &mut FlatContoursBuffer<I>) -> Result<bool
     Ok(buffer.simplify_contours()?)
 }
 
-/// Puts the contour into the buffer, and removes zero turns there. Answers whether any had to be cleaned.
+/// Fills the buffer with the contour and removes zero turns there. Returns whether any contour had to be cleaned.
 pub fn set_contour<I: IntNumber>(
     buffer: &mut FlatContoursBuffer<I>,
     contour: &[IntPoint<I>],
@@ -57,7 +57,8 @@ pub fn set_contour<I: IntNumber>(
     Ok(buffer.simplify_contours()?)
 }
 
-/// Puts the contours of the shapes into the buffer, and removes zero turns there. Answers whether any had to be cleaned.
+/// Fills the buffer with the contours of the shapes and removes zero turns there. Returns whether any contour had to be
+/// cleaned.
 #[tactic(auto, using(i_shape::proofs::CallerLemmas::shapes_held))]
 pub fn set_shapes<I: IntNumber>(
     buffer: &mut FlatContoursBuffer<I>,

@@ -1,4 +1,5 @@
-//! Straight programs: each tests the points, cleans, and goes on with what is left. The double area stays what it was.
+//! Straight-line programs. Each tests the points, cleans, and continues with the result. The double area stays the
+//! same.
 
 ghost use Rattle.std.specs.Prelude.{◌≡◌, ◌<◌, ◌↔◌, length, IsTrue, IfOk, OnOk, OnErr, IsErrOf, Ok, false};
 ghost use Rattle.std.specs.List.{All};
@@ -24,7 +25,7 @@ use i_shape::int::simple::{SimpleContour, Simplify};
 use i_shape_core::contour::ContourExtension;
 use std::alloc::Global;
 
-/// Whether a point is inside a contour, told by its copy without zero turns.
+/// Returns whether a point is inside a contour, computed from its copy without zero turns.
 pub fn cleaned_contains<I: IntNumber>(
     alloc: Global,
     contour: &[IntPoint<I>],
@@ -45,7 +46,8 @@ pub fn cleaned_contains<I: IntNumber>(
     }
 }
 
-/// Removes zero turns from a contour in place, and then spikes, of which none is left by then. It answers what the first call did.
+/// Removes zero turns from a contour in place, and then spikes, of which none remains by then. Returns the result of
+/// the first call.
 #[tactic(auto, using(i_shape::proofs::CallerLemmas::contour_cleaned, i_shape::proofs::CallerLemmas::contour_never_refused))]
 pub fn clean_contour<I: IntNumber>(contour: &mut IntContour<I>) -> Result<bool, Refusal>
     ensures range { IsErrOf result Refusal.OutOfRange
@@ -71,7 +73,8 @@ pub fn clean_contour<I: IntNumber>(contour: &mut IntContour<I>) -> Result<bool, 
     Ok(simplified)
 }
 
-/// Removes zero turns from a shape in place, and then spikes. The shape is empty where its first contour collapses.
+/// Removes zero turns from a shape in place, and then spikes. The shape becomes empty where its first contour
+/// collapses.
 #[tactic(auto, using(i_shape::proofs::CallerLemmas::shape_cleaned, i_shape::proofs::CallerLemmas::shape_never_refused))]
 pub fn clean_shape<I: IntNumber>(shape: &mut IntShape<I>) -> Result<bool, Refusal>
     ensures range { IsErrOf result Refusal.OutOfRange
@@ -96,7 +99,8 @@ pub fn clean_shape<I: IntNumber>(shape: &mut IntShape<I>) -> Result<bool, Refusa
     Ok(simplified)
 }
 
-/// Removes zero turns from each shape in place, and then spikes. The double area is kept where as many shapes are left.
+/// Removes zero turns from each shape in place, and then spikes. The double area stays the same where no shape is
+/// removed.
 #[tactic(auto, using(i_shape::proofs::CallerLemmas::list_cleaned, i_shape::proofs::CallerLemmas::list_never_refused, i_shape::proofs::CallerLemmas::list_cleaned_area))]
 pub fn clean_list<I: IntNumber>(shapes: &mut IntShapes<I>) -> Result<bool, Refusal>
     ensures range { IsErrOf result Refusal.OutOfRange
@@ -122,7 +126,7 @@ pub fn clean_list<I: IntNumber>(shapes: &mut IntShapes<I>) -> Result<bool, Refus
     Ok(simplified)
 }
 
-/// The contours of a shape, cleaned inside a buffer and read back.
+/// Returns the contours of a shape, cleaned within a buffer and read back.
 #[tactic(auto, using(i_shape::proofs::CallerLemmas::contours_held))]
 pub fn cleaned_by_buffer<I: IntNumber>(
     buffer: &mut FlatContoursBuffer<I>,
@@ -143,7 +147,7 @@ pub fn cleaned_by_buffer<I: IntNumber>(
     Ok(buffer.to_contours()?)
 }
 
-/// Twice the area of a shape, told by its contours without zero turns, in a buffer.
+/// Returns twice the signed area of a shape, computed from its contours without zero turns in a buffer.
 #[tactic(auto, using(i_shape::proofs::CallerLemmas::contours_held))]
 pub fn area_by_buffer<I: IntNumber>(
     buffer: &mut FlatContoursBuffer<I>,

@@ -12,7 +12,7 @@ use i_shape::source::float::resource::{ShapePoint, ShapeResource};
 use i_shape::source::int::resource::IntShapeResource;
 use std::alloc::{AllocError, Global};
 
-/// The number of paths, by a chain.
+/// Returns the number of paths, by an iterator chain.
 pub fn count_paths<'a, I: IntNumber + 'a, R: IntShapeResource<'a, I> + Copy>(resource: R) -> usize
     requires can { R.can_read resource }
     requires few { length (R.paths resource) ≤ usize.MAX }
@@ -21,7 +21,7 @@ pub fn count_paths<'a, I: IntNumber + 'a, R: IntShapeResource<'a, I> + Copy>(res
     resource.iter_paths().count()
 }
 
-/// The number of paths, by a chain, of points of any kind.
+/// Returns the number of paths over points of any type, by an iterator chain.
 pub fn count_shape_paths<'a, P: ShapePoint + 'a, R: ShapeResource<'a, P> + Copy>(
     resource: R,
 ) -> usize
@@ -32,7 +32,7 @@ pub fn count_shape_paths<'a, P: ShapePoint + 'a, R: ShapeResource<'a, P> + Copy>
     resource.iter_paths().count()
 }
 
-/// All points, end to end, by a loop.
+/// Returns all points, end to end, by a loop.
 pub fn all_points<'a, I: IntNumber + 'a, R: IntShapeResource<'a, I> + Copy>(
     resource: R,
     alloc: Global,
@@ -47,7 +47,7 @@ pub fn all_points<'a, I: IntNumber + 'a, R: IntShapeResource<'a, I> + Copy>(
     Ok(points)
 }
 
-/// Two resources with the same paths, whatever their kinds, are safe together.
+/// Two resources with the same paths, whatever their types, are both safe or both not. Returns whether each is safe.
 pub fn same_safe_range<
     'a,
     I: IntNumber + 'a,

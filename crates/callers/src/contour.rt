@@ -1,4 +1,4 @@
-//! Contours that are tested, and then asked about or cleaned, where `chain` doesn't.
+//! Contours that are tested, and then queried or cleaned, where `chain` doesn't.
 
 use crate::refusal::Refusal;
 use i_shape::IntNumber;
@@ -10,22 +10,22 @@ use i_shape::int::simple::{ContourSimplifier, SimpleContour};
 use i_shape_core::contour::ContourExtension;
 use std::alloc::Global;
 
-/// Whether the points are safe, and the contour simple.
+/// Returns whether the points are safe and the contour is simple.
 pub fn is_simple<I: IntNumber>(contour: &[IntPoint<I>]) -> bool {
     contour.is_in_safe_range() && contour.is_simple()
 }
 
-/// Whether the points are safe, and the contour convex.
+/// Returns whether the points are safe and the contour is convex.
 pub fn is_convex<I: IntNumber>(contour: &[IntPoint<I>]) -> bool {
     contour.is_in_safe_range() && contour.is_convex()
 }
 
-/// Whether the points are safe, and the contour has no spikes.
+/// Returns whether the points are safe and the contour has no spikes.
 pub fn has_no_spikes<I: IntNumber>(contour: &IntContour<I>) -> bool {
     contour.is_in_safe_range() && contour.has_no_spikes()
 }
 
-/// The contours without zero turns, one after another over the same memory.
+/// Returns the contours without zero turns, cleaned one after another with the same memory.
 pub fn simplified_by<I: IntNumber>(
     simplifier: &mut ContourSimplifier,
     contour: &[IntPoint<I>],
@@ -36,7 +36,7 @@ pub fn simplified_by<I: IntNumber>(
     Ok(simplifier.simplify_contour(contour)?)
 }
 
-/// The canonical form of the contour.
+/// Returns the canonical form of the contour.
 pub fn canonical<I: IntNumber>(
     alloc: Global,
     contour: &[IntPoint<I>],
@@ -47,7 +47,7 @@ pub fn canonical<I: IntNumber>(
     Ok(contour.canonical(alloc)?)
 }
 
-/// The contour without spikes.
+/// Returns the contour without spikes.
 pub fn despiked<I: IntNumber>(
     alloc: Global,
     contour: &IntContour<I>,

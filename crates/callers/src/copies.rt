@@ -1,4 +1,4 @@
-//! The paths of a resource, copied through the flat buffers over points of any kind.
+//! The paths of a resource, copied through the flat buffers over points of any type.
 
 ghost use Rattle.std.specs.Prelude.{◌≡◌, ◌<◌, ◌↔◌, ◌⊎◌, length, IfOk, IsErrOf};
 ghost use Rattle.i_shape.specs.FloatBuffers.{in_one_shape};
@@ -10,8 +10,8 @@ use i_shape::flat::float::{FloatFlatContoursBuffer, FloatFlatShapesBuffer};
 use i_shape::source::float::resource::{ShapePoint, ShapeResource};
 use std::alloc::Global;
 
-/// A copy of each path, in order. `TooManyPoints` exactly where there are more than `usize::MAX` points or paths together;
-/// else the only error is `OutOfMemory`.
+/// Returns a copy of each path, in order. `TooManyPoints` exactly if there are more than `usize::MAX` paths or points
+/// together; otherwise the only error is `OutOfMemory`.
 pub fn copied_paths<'a, P: ShapePoint + 'a, R: ShapeResource<'a, P> + Copy>(
     alloc: Global,
     resource: R,
@@ -27,7 +27,7 @@ pub fn copied_paths<'a, P: ShapePoint + 'a, R: ShapeResource<'a, P> + Copy>(
     buffer.to_contours()
 }
 
-/// The shape of a copy of each path, in order, and no shape where there are no paths. The errors are the same.
+/// Returns one shape with a copy of each path, in order, or no shape where there are no paths. The errors are the same.
 pub fn copied_as_one_shape<'a, P: ShapePoint + 'a, R: ShapeResource<'a, P> + Copy>(
     alloc: Global,
     resource: R,

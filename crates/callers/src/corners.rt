@@ -5,7 +5,7 @@ use i_shape::int::IntPoint;
 use i_shape::int::simple::ContourSimplifier;
 use std::alloc::Global;
 
-/// How many corners a triangle has whose first edge holds a point of its own.
+/// Returns the number of corners of a triangle with an extra point on its first edge.
 pub fn corners(alloc: Global) -> Result<usize, ShapeError> {
     let contour = [
         IntPoint::<i32>::new(0, 0),

@@ -1,4 +1,4 @@
-//! A first call, as a repository of one's own has it.
+//! A first call, as a program of one's own would make it.
 
 ghost use Rattle.std.specs.Prelude.{◌≡◌, None, IfOk, IfSome};
 ghost use Rattle.std.specs.List.{All};
@@ -13,7 +13,7 @@ use i_shape::int::simple::SimpleContour;
 use i_shape::{IntNumber, ShapeError};
 use std::alloc::Global;
 
-/// A contour without zero turns. `None` where it collapses, or a point isn't safe.
+/// Returns a contour without zero turns, or `None` where it collapses or a point isn't safe.
 pub fn cleaned<I: IntNumber>(
     alloc: Global,
     contour: &[IntPoint<I>],

@@ -1,5 +1,5 @@
-//! Contours that are cleaned from one slice into another, over the library's points or the caller's own. The double area stays what it
-//! was.
+//! Contours that are cleaned from one slice into another, over points of the library or of the caller. The double area
+//! stays the same.
 
 ghost use Rattle.std.specs.Prelude.{◌≡◌, ◌↔◌, ◌⊎◌, ◌<◌, length, take, IsTrue, IfOk, IsErrOf};
 ghost use Rattle.std.specs.List.{All};
@@ -17,7 +17,7 @@ use i_shape::int::simple::ContourSimplifier;
 use i_shape::int::{ContourPoint, IntPoint};
 use i_shape_core::area::area_of;
 
-/// Twice the area of a contour, told by what is left of it without zero turns at the front of `out`.
+/// Returns twice the signed area of a contour, computed from its copy without zero turns at the front of `out`.
 pub fn area_into<I: IntNumber>(
     simplifier: &mut ContourSimplifier,
     contour: &[IntPoint<I>],
@@ -56,7 +56,7 @@ fn each_is_safe<P: ContourPoint>(points: &[P]) -> bool
     points.iter().all(|point| is_safe(point))
 }
 
-/// Whether each of these points is safe.
+/// Returns whether each point is safe.
 pub fn are_safe<P: ContourPoint>(points: &[P]) -> bool
     ensures { IsTrue result ↔ All (IsSafe P.Coordinate.width)
         (contour_of P.Coordinate.value (P.points points.now)) }
@@ -64,8 +64,8 @@ pub fn are_safe<P: ContourPoint>(points: &[P]) -> bool
     each_is_safe(points)
 }
 
-/// Removes zero turns from a contour into `between`, and then spikes into `out`, of which none is left by then. It answers how many
-/// points are left, 0 where the contour collapses.
+/// Removes zero turns from a contour into `between`, and then spikes into `out`, of which none remains by then. Returns
+/// how many points are left, 0 where the contour collapses.
 pub fn clean_into<P: ContourPoint>(
     simplifier: &mut ContourSimplifier,
     despiker: &mut ContourDeSpiker,

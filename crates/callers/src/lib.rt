@@ -1,7 +1,8 @@
-//! Callers of the library, each proved from the contracts of its public calls and from lemmas that the function or its proof names.
+//! Callers of the library. Each is proved from the contracts of its public calls and from lemmas that the function or
+//! its proof names.
 #![tactic(auto)]
 
-// Points from anywhere: the safe range is tested first, and then calls are made, one or one after another.
+// These take points from anywhere: they test the safe range first, and then make one or more calls.
 pub mod at_i64;
 pub mod buffer;
 pub mod chain;
@@ -13,7 +14,7 @@ pub mod names;
 pub mod refusal;
 pub mod shape;
 
-// Layers over the library, of which the points or the resource are a condition.
+// These are layers over the library, with a condition on the points or the resource.
 pub mod consumer;
 pub mod copies;
 pub mod corners;

@@ -1,4 +1,4 @@
-//! Lists of shapes that are tested, and then asked about or copied.
+//! Lists of shapes that are tested, and then queried or copied.
 
 ghost use Rattle.std.specs.Prelude.{◌↔◌, IsTrue, IfOk, IsErrOf};
 ghost use Rattle.i_shape_core.specs.Contour.{IsSimple};
@@ -15,7 +15,7 @@ use i_shape::int::shape::{IntShape, IntShapes};
 use i_shape::int::simple::SimpleShapes;
 use std::alloc::Global;
 
-/// Whether the points are safe, and each contour of each shape simple.
+/// Returns whether the points are safe and each contour of each shape is simple.
 pub fn is_simple<I: IntNumber>(shapes: &[IntShape<I>]) -> bool
     ensures { IsTrue result
         ↔ (IsSafeList I.width (shapes_of I.value shapes.now)
@@ -24,7 +24,7 @@ pub fn is_simple<I: IntNumber>(shapes: &[IntShape<I>]) -> bool
     shapes.is_in_safe_range() && shapes.is_simple()
 }
 
-/// Whether the points are safe, and no contour of any shape has spikes.
+/// Returns whether the points are safe and no contour of any shape has spikes.
 pub fn has_no_spikes<I: IntNumber>(shapes: &IntShapes<I>) -> bool
     ensures { IsTrue result
         ↔ (IsSafeList I.width (shapes_of I.value shapes.now.items)
@@ -33,7 +33,7 @@ pub fn has_no_spikes<I: IntNumber>(shapes: &IntShapes<I>) -> bool
     shapes.is_in_safe_range() && shapes.has_no_spikes()
 }
 
-/// The shapes without zero turns.
+/// Returns the shapes without zero turns.
 pub fn simplified<I: IntNumber>(
     alloc: Global,
     shapes: &[IntShape<I>],
@@ -50,7 +50,7 @@ pub fn simplified<I: IntNumber>(
     Ok(shapes.simplified(alloc)?)
 }
 
-/// The shapes without spikes.
+/// Returns the shapes without spikes.
 pub fn despiked<I: IntNumber>(alloc: Global, shapes: &IntShapes<I>) -> Result<IntShapes<I>, Refusal>
     ensures range { IsErrOf result Refusal.OutOfRange
         ↔ (IsSafeList I.width (shapes_of I.value shapes.now.items) → ⊥) }

@@ -1,5 +1,5 @@
-//! Every path by which the library is asked for, and the calls that the other modules of this crate don't make, each once and in the
-//! types that a caller would write.
+//! Every path to a name of the library, and the calls that the other modules of this crate don't make. Each occurs
+//! once, with the types that a caller would write.
 
 ghost use Rattle.std.specs.Prelude.{◌≡◌, ◌≤◌, vec_len};
 ghost use Rattle.std.specs.List.{sum_by};
@@ -31,21 +31,22 @@ use std::iter::Copied;
 use std::ops::Range;
 use std::slice::Iter;
 
-/// Twice a product of two numbers, wrapped, and its sign.
+/// Returns twice the product of two numbers, wrapped, and its sign.
 pub fn doubled<I: IntNumber>(a: I, b: I) -> (I::Wide, I::Wide) {
     let product = a.to_wide().wrapping_mul(b.to_wide());
     let twice = product.wrapping_add(product).wrapping_sub(I::Wide::ZERO);
     (twice, twice.signum())
 }
 
-/// The point at which both coordinates are zero.
+/// Returns the point with both coordinates zero.
 pub fn point_zero<I: IntNumber>() -> IntPoint<I>
     ensures { point_of I.value result ≡ origin }
 {
     IntPoint::<I>::ZERO
 }
 
-/// The products of two vectors from one safe point to two others, and whether the three turn clockwise. `None` where one isn't safe.
+/// Returns the cross and dot product of the vectors from `a` to `b` and to `c`, and whether the three points turn
+/// clockwise. `None` where one isn't safe.
 pub fn products<I: IntNumber>(
     a: IntPoint<I>,
     b: IntPoint<I>,
@@ -62,7 +63,8 @@ pub fn products<I: IntNumber>(
     ))
 }
 
-/// Measures of a contour, `None` where it has no point.
+/// Returns twice the signed area of a contour, its signed area, and whether it runs clockwise. `None` where it has no
+/// point.
 pub fn measures<I: IntNumber>(contour: &[IntPoint<I>]) -> Option<(I::Wide, I::Wide, bool)> {
     if contour.is_empty() {
         return None;
@@ -74,7 +76,8 @@ pub fn measures<I: IntNumber>(contour: &[IntPoint<I>]) -> Option<(I::Wide, I::Wi
     ))
 }
 
-/// What three points of a contour turn by, and the visits so far. `None` where it has fewer points, or one isn't safe.
+/// Returns the turn of a contour's first three points, and the visits so far. `None` where it has fewer points, or one
+/// isn't safe.
 pub fn first_turn<I: IntNumber>(contour: &[IntPoint<I>]) -> Option<(Turn, u128)> {
     if contour.len() < 3 || !contour.is_in_safe_range() {
         return None;
@@ -85,12 +88,12 @@ pub fn first_turn<I: IntNumber>(contour: &[IntPoint<I>]) -> Option<(Turn, u128)>
     Some((turn, probe.visits()))
 }
 
-/// The number of points that a walk is given.
+/// Returns the number of points of a probe.
 pub fn points_of_probe<'a, I: IntNumber>(probe: &Probe<'a, I>) -> usize {
     probe.len()
 }
 
-/// The first point of a contour, by a probe, and no visit.
+/// Returns the first point of a contour, kept by a probe without a visit.
 pub fn first_kept<I: IntNumber>(
     alloc: Global,
     contour: &[IntPoint<I>],
@@ -101,7 +104,7 @@ pub fn first_kept<I: IntNumber>(
     Probe::new(contour).keep(alloc, &[0])
 }
 
-/// How many vertices each cleaner visits. `None` where a point isn't safe.
+/// Returns how many vertices each cleaner visits, or `None` where a point isn't safe.
 pub fn visits<I: IntNumber>(
     alloc: Global,
     contour: &IntContour<I>,
@@ -115,18 +118,18 @@ pub fn visits<I: IntNumber>(
     Ok(Some((simplified, despiked)))
 }
 
-/// Lists of points of any kind as they are written out, in the names for them.
+/// Returns literal lists of points of any type, by the types that the library names.
 pub fn lists(alloc: Global) -> Result<(Path<[u8; 2]>, Paths<[u8; 2]>), ShapeError> {
     Ok((path![alloc; [0, 0], [4, 0]]?, paths![alloc; [[0, 0]], []]?))
 }
 
-/// A list of shapes of one contour.
+/// Returns a list of shapes with one contour.
 pub fn one_shape<P: Copy>(alloc: Global, contour: Contour<P>) -> Result<Shapes<P>, ShapeError> {
     let shape: Shape<P> = Vec::from_array(alloc, [contour])?;
     Ok(Vec::from_array(alloc, [shape])?)
 }
 
-/// The same of whole-number points.
+/// Returns literal lists of integer points, by the types that the library names.
 pub fn whole_number_lists(
     alloc: Global,
 ) -> Result<(IntPath<i16>, IntShape<i16>, IntShapes<i16>), ShapeError> {
@@ -137,14 +140,14 @@ pub fn whole_number_lists(
     ))
 }
 
-/// The number of points of paths, which fits `usize`.
+/// Returns the number of points of paths, which must fit `usize`.
 pub fn points_of_paths<I: IntNumber>(paths: &IntPaths<I>) -> usize
     requires { sum_by (λ path. vec_len path) paths.now.items ≤ usize.MAX }
 {
     paths.as_slice().points_count()
 }
 
-/// The first contour of a buffer, changed in place: its first point becomes `point`.
+/// Changes the first contour of a buffer in place: its first point becomes `point`. Returns whether it could.
 pub fn change_first<I: IntNumber>(buffer: &mut FlatContoursBuffer<I>, point: IntPoint<I>) -> bool {
     if buffer.is_empty() || !buffer.is_single_contour() || !buffer.can_read_first() {
         return false;
@@ -156,7 +159,7 @@ pub fn change_first<I: IntNumber>(buffer: &mut FlatContoursBuffer<I>, point: Int
     true
 }
 
-/// A buffer with room, filled again and again, and copied.
+/// Returns buffers with room, filled again and again, and copied.
 pub fn filled<I: IntNumber>(
     alloc: Global,
     contour: &[IntPoint<I>],
@@ -178,7 +181,7 @@ pub fn filled<I: IntNumber>(
     Ok((contours.clone()?, buffer.clone()?))
 }
 
-/// What is read back of buffers, `None` where one can't be read.
+/// Returns what is read back of two buffers, or `None` where one can't be read.
 pub fn read<I: IntNumber>(
     contours: &FlatContoursBuffer<I>,
     shapes: &FlatShapesBuffer<I>,
@@ -189,7 +192,7 @@ pub fn read<I: IntNumber>(
     Ok(Some((contours.to_contours()?, shapes.to_shapes()?)))
 }
 
-/// Buffers over points of any kind, filled by slices, iterators and a resource that can be read.
+/// Returns buffers over points of any type, filled from slices, iterators and a resource.
 pub fn gathered<P: ShapePoint + Drop>(
     alloc: Global,
     points: &[P],
@@ -210,7 +213,7 @@ pub fn gathered<P: ShapePoint + Drop>(
     Ok((contours.clone()?, shapes.clone()?))
 }
 
-/// The iterators over what is lent of whole-number points, by their names.
+/// Returns the first paths of resources over integer points, by the names of their iterators.
 pub fn lent<'a, I: IntNumber>(
     path: &'a [IntPoint<I>],
     shape: &'a [IntContour<I>],
@@ -224,7 +227,7 @@ pub fn lent<'a, I: IntNumber>(
     [path.next(), shape.next(), shapes.next(), slices.next()]
 }
 
-/// The iterator over the paths of a buffer, and how many they are. `None` where it can't be read.
+/// Returns how many paths a buffer has, by the name of its iterator, or `None` where the buffer can't be read.
 pub fn lent_by_buffer<I: IntNumber>(buffer: &FlatContoursBuffer<I>) -> Option<usize> {
     if !buffer.can_read_contours() {
         return None;
@@ -233,7 +236,7 @@ pub fn lent_by_buffer<I: IntNumber>(buffer: &FlatContoursBuffer<I>) -> Option<us
     Some(paths.len())
 }
 
-/// The iterators over what is lent of points of any kind, by their names.
+/// Returns the first paths of resources over points of any type, by the names of their iterators.
 pub fn lent_of_any_kind<'a, P: ShapePoint>(
     path: &'a [P],
     shape: &'a [Vec<P>],
@@ -247,7 +250,7 @@ pub fn lent_of_any_kind<'a, P: ShapePoint>(
     [path.next(), shape.next(), contours.next(), shapes.next()]
 }
 
-/// The double area of the points of an iterator with an item left, by either name.
+/// Returns the double area of the points of a nonempty iterator, by either name.
 pub fn of_three<I: IntNumber>(points: [IntPoint<I>; 3]) -> (I::Wide, I::Wide) {
     (
         points.iter().copied().unsafe_area(),

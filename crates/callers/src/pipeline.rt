@@ -10,8 +10,9 @@ use i_shape::int::shape::{IntContour, IntShape};
 use i_shape::{IntNumber, ShapeError};
 use std::alloc::Global;
 
-/// The contours without zero turns, in order; those that collapse are left out. `TooManyPoints` exactly where the contours
-/// have more than `usize::MAX` points together; else the only error is `OutOfMemory`. The contours are only read.
+/// Returns the contours without zero turns, in order, without those that collapse. `TooManyPoints` exactly if the
+/// contours have more than `usize::MAX` points together; otherwise the only error is `OutOfMemory`. The given contours
+/// stay unchanged.
 pub fn cleaned_contours<I: IntNumber>(
     alloc: Global,
     contours: &[IntContour<I>],

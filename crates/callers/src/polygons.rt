@@ -1,4 +1,4 @@
-//! A store of polygons, in which polygons that are the same are one.
+//! A store of polygons. Polygons that are the same are stored once.
 
 ghost use Rattle.std.specs.Prelude.{◌≡◌, ◌↔◌, [], IsTrue, IfOk, OnErr, IsOkUnless};
 ghost use Rattle.i_shape.specs.ShapeLists.{shape_of, IsSafeShape};
@@ -12,14 +12,14 @@ use std::alloc::Global;
 use std::collections::BTreeSet;
 use std::marker::Model;
 
-/// Polygons by their canonical forms, which std's ordered set holds.
+/// Polygons by their canonical forms, kept in std's ordered set.
 #[derive(Drop)]
 pub struct PolygonStore<I: IntNumber> {
     alloc: Global,
     forms: BTreeSet<IntShape<I>>,
 }
 
-/// A store is the list of its forms; each is the form of some shape, and so its own form.
+/// A store is the list of its forms. Each is the form of some shape, and so its own form.
 impl<I: IntNumber> Model for PolygonStore<I> {
     ghost use Rattle.std.specs.Prelude.{List};
     ghost use Rattle.i_shape.specs.Point.{Point};
@@ -34,7 +34,7 @@ impl<I: IntNumber> Model for PolygonStore<I> {
 }
 
 impl<I: IntNumber> PolygonStore<I> {
-    /// An empty store that takes its memory from `alloc`.
+    /// Returns an empty store that allocates from `alloc`.
     pub fn new(alloc: Global) -> Self
         ensures { result ≡ [] }
     {
@@ -44,8 +44,9 @@ impl<I: IntNumber> PolygonStore<I> {
         }
     }
 
-    /// Whether the store has the same polygon: whatever points its contours start at, whatever points on a line they carry, and in
-    /// whatever order its holes come. Never so where its outer contour collapses. The only error is `OutOfMemory`.
+    /// Returns whether the store has the same polygon: its contours may start at other points, have other zero turns,
+    /// and its holes may come in another order. Returns false where its outer contour collapses. The only error is
+    /// `OutOfMemory`.
     pub fn contains(&self, polygon: &[IntContour<I>]) -> Result<bool, ShapeError>
         requires { IsSafeShape I.width (shape_of I.value polygon.now) }
         ensures found { IfOk result (λ found. IsTrue found
@@ -58,8 +59,8 @@ impl<I: IntNumber> PolygonStore<I> {
         }
     }
 
-    /// Puts the polygon in, unless its outer contour collapses or the same polygon is there.
-    /// The only error is `OutOfMemory`; the store then stays as it was.
+    /// Inserts the polygon, unless its outer contour collapses or the store has the same polygon. The only error is
+    /// `OutOfMemory`, which leaves the store unchanged.
     pub fn insert(&mut self, polygon: &[IntContour<I>]) -> Result<Insertion, ShapeError>
         requires { IsSafeShape I.width (shape_of I.value polygon.now) }
         ensures ok { IfOk result

@@ -1,20 +1,20 @@
-//! Why there is no answer.
+//! Why a call has no result.
 
 ghost use Rattle.std.specs.Prelude.{◌≡◌};
 ghost use Rattle.callers.specs.declared.refusal.Refusal.TheVariants.{Call};
 
 use i_shape::ShapeError;
 
-/// Why a caller has no answer.
+/// Why a caller has no result.
 #[derive(Clone, Copy, PartialEq, Eq, Debug)]
 pub enum Refusal {
     /// A point isn't safe.
     OutOfRange,
-    /// A range of a buffer runs backwards, or out of its points.
+    /// A range of a buffer is reversed, or reaches beyond its points.
     Unreadable,
-    /// A slice has no room for what may be left.
+    /// A slice is too short for the result.
     NoRoom,
-    /// The call was refused.
+    /// The call failed.
     Call(ShapeError),
 }
 

@@ -1,4 +1,4 @@
-//! Shapes that are tested, and then asked about or copied.
+//! Shapes that are tested, and then queried or copied.
 
 use crate::refusal::Refusal;
 use i_shape::IntNumber;
@@ -8,17 +8,17 @@ use i_shape::int::shape::{IntContour, IntShape};
 use i_shape::int::simple::SimpleShape;
 use std::alloc::Global;
 
-/// Whether the points are safe, and each contour simple.
+/// Returns whether the points are safe and each contour is simple.
 pub fn is_simple<I: IntNumber>(shape: &[IntContour<I>]) -> bool {
     shape.is_in_safe_range() && shape.is_simple()
 }
 
-/// Whether the points are safe, and no contour has spikes.
+/// Returns whether the points are safe and no contour has spikes.
 pub fn has_no_spikes<I: IntNumber>(shape: &IntShape<I>) -> bool {
     shape.is_in_safe_range() && shape.has_no_spikes()
 }
 
-/// The shape without zero turns.
+/// Returns the shape without zero turns.
 pub fn simplified<I: IntNumber>(
     alloc: Global,
     shape: &[IntContour<I>],
@@ -29,7 +29,7 @@ pub fn simplified<I: IntNumber>(
     Ok(shape.simplified(alloc)?)
 }
 
-/// The shape without spikes.
+/// Returns the shape without spikes.
 pub fn despiked<I: IntNumber>(
     alloc: Global,
     shape: &IntShape<I>,

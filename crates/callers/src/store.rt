@@ -1,4 +1,5 @@
-//! A store of contours, in which contours that are joined are one.
+//! A store of contours. Joined contours are stored once. Two contours are joined where rotations, removals and
+//! insertions of zero turns lead from one to the other.
 
 ghost use Rattle.std.specs.Prelude.{◌≡◌, ◌≢◌, ◌↔◌, [], IsTrue, IfOk, OnErr, IsOkUnless};
 ghost use Rattle.std.specs.List.{All, Contains};
@@ -13,24 +14,24 @@ use i_shape::{IntNumber, ShapeError};
 use std::alloc::Global;
 use std::marker::Model;
 
-/// What became of a contour that was given to a store.
+/// What happened to a contour given to a store.
 #[derive(Clone, Copy, PartialEq, Eq, Debug)]
 pub enum Insertion {
-    /// Its canonical form was new, and is the last of the store now.
+    /// Its canonical form was new, and is now the last of the store.
     New,
-    /// A contour that is joined to it was there.
+    /// The store had a contour that is joined to it.
     Known,
     /// Fewer than three of its points are left, in whatever order zero turns are removed.
     Collapsed,
 }
 
-/// Contours by their canonical forms, in the order in which these came. A search reads the forms one after another.
+/// Contours by their canonical forms, in the order of insertion. A search reads the forms one after another.
 #[derive(Drop)]
 pub struct CanonicalStore<I: IntNumber> {
     forms: Vec<IntContour<I>>,
 }
 
-/// A store is the list of its forms; each is the canonical form of some contour.
+/// A store is the list of its forms. Each is the canonical form of some contour.
 impl<I: IntNumber> Model for CanonicalStore<I> {
     ghost use Rattle.std.specs.Prelude.{List};
     ghost use Rattle.i_shape.specs.Point.{Point};
@@ -45,7 +46,7 @@ impl<I: IntNumber> Model for CanonicalStore<I> {
 }
 
 impl<I: IntNumber> CanonicalStore<I> {
-    /// An empty store that takes its memory from `alloc`.
+    /// Returns an empty store that allocates from `alloc`.
     pub fn new(alloc: Global) -> Self
         ensures { result ≡ [] }
     {
@@ -54,8 +55,8 @@ impl<I: IntNumber> CanonicalStore<I> {
         }
     }
 
-    /// Whether a contour of the store is joined to this one: rotations, removals and insertions of zero turns lead from one
-    /// to the other. Never so where this one collapses. The only error is `OutOfMemory`.
+    /// Returns whether a contour of the store is joined to this one. Returns false where this one collapses. The only
+    /// error is `OutOfMemory`.
     pub fn contains(&self, contour: &[IntPoint<I>]) -> Result<bool, ShapeError>
         requires { All (IsSafe I.width) (contour_of I.value contour.now) }
         ensures found { IfOk result (λ found. IsTrue found
@@ -68,8 +69,8 @@ impl<I: IntNumber> CanonicalStore<I> {
         }
     }
 
-    /// Puts the contour's canonical form last, unless the contour collapses or one that is joined to it is there.
-    /// The only error is `OutOfMemory`; the store then stays as it was.
+    /// Appends the contour's canonical form, unless the contour collapses or the store has one that is joined to it.
+    /// The only error is `OutOfMemory`, which leaves the store unchanged.
     pub fn insert(&mut self, contour: &[IntPoint<I>]) -> Result<Insertion, ShapeError>
         requires { All (IsSafe I.width) (contour_of I.value contour.now) }
         ensures ok { IfOk result
@@ -90,14 +91,14 @@ impl<I: IntNumber> CanonicalStore<I> {
     }
 }
 
-/// Whether a form is one of the list.
+/// Returns whether a form is one of the list.
 fn has_form<I: IntNumber>(forms: &[IntContour<I>], form: &[IntPoint<I>]) -> bool
     ensures { IsTrue result ↔ Contains (shape_of I.value forms.now) (contour_of I.value form.now) }
 {
     forms.iter().any(|other| is_same(other, form))
 }
 
-/// Whether a contour has these points.
+/// Returns whether a contour has these points.
 fn is_same<I: IntNumber>(contour: &IntContour<I>, points: &[IntPoint<I>]) -> bool
     ensures { IsTrue result
         ↔ (contour_of I.value contour.now.items ≡ contour_of I.value points.now) }

@@ -1,4 +1,4 @@
 -- Cleaning in place.
 pub mod Contours
 pub mod Spikes
-pub mod Edits
+pub mod Left

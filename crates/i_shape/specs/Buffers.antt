@@ -11,7 +11,7 @@ use Rattle.i_shape_core.specs.Point.{Point}
 use Rattle.i_shape_core.specs.IntPoint.{contour_of}
 pub use Rattle.i_shape_core.specs.Survivors.{Compact}
 
--- the buffer has the contours end to end, and nothing else
+-- the buffer holds the contours end to end, and nothing else
 pub record HoldsContours {T : Type 0} (buffer : FlatContoursBuffer T) (contours : List (List (IntPoint T))) : Type 0 where
   pub points : buffer.points.items ≡ concatenated contours
   pub ranges : buffer.ranges.items ≡ end_to_end 0 contours
@@ -23,7 +23,7 @@ pub record SameLists {T : Type 0} (old new : FlatContoursBuffer T) : Type 0 wher
   pub points : new.points.items ≡ old.points.items
   pub ranges : new.ranges.items ≡ old.ranges.items
 
--- there is room for so many points and contours in all
+-- there is room for at least that many points and contours in all
 abbrev pub HasRoom : {T : Type 0} → FlatContoursBuffer T → ℕ → ℕ → Type 0
 HasRoom buffer points contours = (points ≤ vec_capacity buffer.points) × (contours ≤ vec_capacity buffer.ranges)
 
@@ -53,7 +53,7 @@ CanReadShapes buffer = All (IsReadableShape (length buffer.points.items) buffer.
 abbrev pub shapes_in : {T : Type 0} → FlatShapesBuffer T → List (List (List (IntPoint T)))
 shapes_in buffer = shapes buffer.points.items buffer.contour_ranges.items buffer.shape_ranges.items
 
--- the buffer has the contours of the shapes end to end, and nothing else
+-- the buffer holds the contours of the shapes end to end, and nothing else
 pub record HoldsShapes {T : Type 0} (buffer : FlatShapesBuffer T) (list : List (List (List (IntPoint T)))) : Type 0 where
   pub points : buffer.points.items ≡ concatenated (concatenated list)
   pub contour_ranges : buffer.contour_ranges.items ≡ end_to_end 0 (concatenated list)
@@ -69,7 +69,7 @@ pub record SameShapeLists {T : Type 0} (old new : FlatShapesBuffer T) : Type 0 w
   pub contour_ranges : new.contour_ranges.items ≡ old.contour_ranges.items
   pub shape_ranges : new.shape_ranges.items ≡ old.shape_ranges.items
 
--- there is room for so many points, contours and shapes in all
+-- there is room for at least that many points, contours and shapes in all
 abbrev pub HasShapesRoom : {T : Type 0} → FlatShapesBuffer T → ℕ → ℕ → ℕ → Type 0
 HasShapesRoom buffer points contours shapes =
     (points ≤ vec_capacity buffer.points) × (contours ≤ vec_capacity buffer.contour_ranges) × (shapes ≤ vec_capacity buffer.shape_ranges)
@@ -78,43 +78,44 @@ HasShapesRoom buffer points contours shapes =
 abbrev pub KeepsShapesRoom : {T : Type 0} → FlatShapesBuffer T → FlatShapesBuffer T → Type 0
 KeepsShapesRoom old new = HasShapesRoom new (vec_capacity old.points) (vec_capacity old.contour_ranges) (vec_capacity old.shape_ranges)
 
--- the new buffer is the old one with one shape more at the end
+-- the new buffer is the old one with one more shape at the end
 pub record AddsShape {T : Type 0} (old new : FlatShapesBuffer T) (shape : List (List (IntPoint T))) : Type 0 where
   pub points : new.points.items ≡ old.points.items ++ concatenated shape
   pub contour_ranges : new.contour_ranges.items ≡ old.contour_ranges.items ++ end_to_end (length old.points.items) shape
   pub shape_ranges : new.shape_ranges.items ≡ old.shape_ranges.items ++ behind (length old.contour_ranges.items) (length shape) ∷ []
-  -- where the shapes could be read, they can be read still, with this one at the end
+  -- where the shapes could be read, they still can, with this one at the end
   pub readable : CanReadShapes old → CanReadShapes new
   pub shapes : CanReadShapes old → shapes_in new ≡ shapes_in old ++ shape ∷ []
 
--- the contours that ranges name in points, over whole numbers, where `value` is what a coordinate stands for
+-- the contours that ranges name in points, in unbounded integers, where `value` gives the number that a coordinate
+-- represents
 abbrev pub read_contours : {T : Type 0} → (T → ℤ) → List (IntPoint T) → List (Range ℕ) → List (List Point)
 read_contours value points ranges = map (contour_of value) (slices points ranges)
 
--- the contours that the ranges of a buffer name, over whole numbers
+-- the contours that the ranges of a buffer name, in unbounded integers
 abbrev pub contours_in : {T : Type 0} → (T → ℤ) → FlatContoursBuffer T → List (List Point)
 contours_in value buffer = read_contours value buffer.points.items buffer.ranges.items
 
--- how many points a range names: none where it runs backwards
+-- how many points a range names: none where it is reversed
 abbrev pub range_len : Range ℕ → ℕ
 range_len range = range.end - range.start
 
--- contours over whole numbers, where `value` is what a coordinate stands for
+-- contours in unbounded integers, where `value` gives the number that a coordinate represents
 abbrev pub contours_of : {T : Type 0} → (T → ℤ) → List (List (IntPoint T)) → List (List Point)
 contours_of value contours = map (contour_of value) contours
 
--- the shapes that ranges of ranges name in points, over whole numbers
+-- the shapes that ranges of ranges name in points, in unbounded integers
 abbrev pub read_shapes : {T : Type 0} → (T → ℤ) → List (IntPoint T) → List (Range ℕ) → List (Range ℕ) → List (List (List Point))
 read_shapes value points contour_ranges shape_ranges = map (contours_of value) (shapes points contour_ranges shape_ranges)
 
--- the shapes that a buffer names, over whole numbers
+-- the shapes that a buffer names, in unbounded integers
 abbrev pub named_shapes : {T : Type 0} → (T → ℤ) → FlatShapesBuffer T → List (List (List Point))
 named_shapes value buffer = map (contours_of value) (shapes_in buffer)
 
--- how many points the shapes have together, each as often as it is named
+-- how many points the shapes have together, each counted as often as it is named
 abbrev pub named_points : List (Range ℕ) → List (Range ℕ) → ℕ
 named_points contour_ranges shape_ranges = sum_by (λ range. sum_by range_len (part_of contour_ranges range)) shape_ranges
 
--- how many contours the shapes have together, each as often as it is named
+-- how many contours the shapes have together, each counted as often as it is named
 abbrev pub named_contours : List (Range ℕ) → List (Range ℕ) → ℕ
 named_contours contour_ranges shape_ranges = sum_by (λ range. length (part_of contour_ranges range)) shape_ranges

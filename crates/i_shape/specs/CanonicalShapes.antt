@@ -1,4 +1,5 @@
--- One form for all polygons whose contours lead to one another, and for all lists of such polygons. `Form` relates a contour to its form, and to none where it collapses.
+-- One form for all polygons whose contours lead to one another, and for all lists of such polygons. `Form` relates a
+-- contour to its form, or to none where it collapses.
 use Rattle.std.specs.Prelude.{◌≡◌, ℤ, List, Option, Some, None, IsPermutation, ◌⊎◌, ◌↔◌, nat_abs, [], ◌∷◌, IfSome}
 use Rattle.std.specs.Global.{Vec}
 use Rattle.std.specs.Int.{Width}
@@ -20,7 +21,7 @@ pub record Matched {X : Type 0} (R : X → X → Type 0) (xs ys : List X) : Type
   pub same : IsPermutation xs order
   pub pairs : AllZip R order ys
 
--- a member that collapses is left out, and another stays as it is
+-- a member that collapses is left out; any other stays unchanged
 abbrev pub Stays : {X : Type 0} → (X → Type 0) → X → Option X → Type 0
 Stays Collapses x None = Collapses x
 Stays Collapses x (Some y) = (Collapses x → ⊥) × (y ≡ x)
@@ -33,11 +34,12 @@ pub record MatchedUncollapsed {X : Type 0} (Collapses : X → Type 0) (R : X →
   pub uncollapsed_right : Survivors (Stays Collapses) ys right
   pub matched : Matched R left right
 
--- the answers at the members that have one, in order by AtMost
+-- the results for the members that have one, sorted by AtMost
 abbrev pub SortedForms : {X Y : Type 0} → (X → Option Y → Type 0) → (Y → Y → Type 0) → List X → List Y → Type 0
 SortedForms {X} {Y} Answer AtMost xs sorted = (forms : List Y) × Survivors Answer xs forms × IsPermutation forms sorted × AllPairs AtMost sorted
 
--- the form of a shape: that of its outer contour, and then those of the holes that don't collapse, in order; none where the outer contour collapses; an empty shape stays
+-- the form of a shape: the form of its outer contour, and then the sorted forms of the holes that don't collapse; none
+-- where the outer contour collapses; an empty shape stays empty
 abbrev pub ShapeForm : (List Point → Option (List Point) → Type 0) → List (List Point) → Option (List (List Point)) → Type 0
 ShapeForm Form [] r = r ≡ Some []
 ShapeForm Form (outer ∷ holes) None = Form outer None
@@ -50,7 +52,7 @@ IsShapeAtMost [] t = Unit {0}
 IsShapeAtMost (c ∷ s) [] = ⊥
 IsShapeAtMost (c ∷ s) (d ∷ t) = (IsAtMost c d × (c ≡ d → ⊥)) ⊎ ((c ≡ d) × IsShapeAtMost s t)
 
--- the form of a list: those of the shapes that have one, in order
+-- the form of a list: the forms of the shapes that have one, sorted
 abbrev pub ListForm : (List Point → Option (List Point) → Type 0) → List (List (List Point)) → List (List (List Point)) → Type 0
 ListForm Form shapes sorted = SortedForms (ShapeForm Form) IsShapeAtMost shapes sorted
 
@@ -70,20 +72,21 @@ SameShape Same (c ∷ s) (d ∷ t) = Same c d × MatchedUncollapsed EachEndColla
 abbrev pub SameList : (List Point → List Point → Type 0) → List (List (List Point)) → List (List (List Point)) → Type 0
 SameList Same s t = MatchedUncollapsed OuterCollapses (SameShape Same) s t
 
--- the contours that are left have the same double areas together, each without its sign; each point is inside of as many of them, and they have the same winding numbers about it together, each without its sign, also where all contours are scaled by any n
+-- the contours that are left have the same sum of absolute double areas; each point is inside of as many of them, and
+-- the sum of their absolute winding numbers about it is the same, also where all contours are scaled by any n
 pub record AreKeptEitherWay (contours left : List (List Point)) : Type 0 where
   pub area : sum_by (λ c. nat_abs (shoelace c)) left ≡ sum_by (λ c. nat_abs (shoelace c)) contours
   pub inside : (p : Point) → inside_count left p ≡ inside_count contours p
   pub between : (n : ℤ) (p : Point) → sum_by (λ c. nat_abs (winding (moved (scaling n) c) p)) left ≡ sum_by (λ c. nat_abs (winding (moved (scaling n) c) p)) contours
   pub winding : (p : Point) → sum_by (λ c. nat_abs (winding c p)) left ≡ sum_by (λ c. nat_abs (winding c p)) contours
 
--- the forms of the shapes, each of which keeps this of the shape that it was, in some order
+-- the forms of the shapes, in some order, each of which keeps `Kept` of its shape
 pub record FormsKept (Form : List Point → Option (List Point) → Type 0) (Kept : List (List Point) → List (List Point) → Type 0) (shapes sorted : List (List (List Point))) : Type 0 where
   pub forms : List (List (List Point))
   pub each : Survivors (λ shape r. ShapeForm Form shape r × IfSome r (Kept shape)) shapes forms
   pub same : IsPermutation forms sorted
 
--- r is the form of a shape, of which it keeps this
+-- r is the form of a shape, and keeps `Kept` of it
 pub record IsFormOfShape (Form : List Point → Option (List Point) → Type 0) (Kept : List (List Point) → List (List Point) → Type 0) (width : Width) (shape : List (List Point)) (r : Option (List (List Point))) : Type 0 where
   pub answer : ShapeForm Form shape r
   pub kept : IfSome r (Kept shape)
@@ -95,18 +98,18 @@ pub record IsFormOfList (Form : List Point → Option (List Point) → Type 0) (
   pub kept : FormsKept Form Kept shapes sorted
   pub safe : IsSafeList width sorted
 
--- the same of answers in points of the program, where `value` is what coordinates stand for
+-- the same in points of the program, where `value` gives the number that a coordinate represents
 abbrev pub FormsShapeTo : {I : Type 0} → (List Point → Option (List Point) → Type 0) → (List (List Point) → List (List Point) → Type 0) → Width → (I → ℤ) → List (List Point) → Option (Vec (Vec (IntPoint I))) → Type 0
 FormsShapeTo Form Kept width value shape r = IsFormOfShape Form Kept width shape (answered (shape_of value) r)
 
 abbrev pub FormsListTo : {I : Type 0} → (List Point → Option (List Point) → Type 0) → (List (List Point) → List (List Point) → Type 0) → Width → (I → ℤ) → List (List (List Point)) → Vec (Vec (Vec (IntPoint I))) → Type 0
 FormsListTo Form Kept width value shapes r = IsFormOfList Form Kept width shapes (shapes_of value r.items)
 
--- where two shapes have forms, these are one exactly where the shapes are the same
+-- the forms of two shapes, where both have one, are equal exactly where the shapes are the same
 abbrev pub OneShapeForm : (List Point → Option (List Point) → Type 0) → (List Point → List Point → Type 0) → List (List Point) → List (List Point) → Type 0
 OneShapeForm Form Same s t = (l m : List (List Point)) → ShapeForm Form s (Some l) → ShapeForm Form t (Some m) → (l ≡ m) ↔ SameShape Same s t
 
--- the forms of two lists are one exactly where the lists are the same
+-- the forms of two lists are equal exactly where the lists are the same
 abbrev pub OneListForm : (List Point → Option (List Point) → Type 0) → (List Point → List Point → Type 0) → List (List (List Point)) → List (List (List Point)) → Type 0
 OneListForm Form Same s t = (l m : List (List (List Point))) → ListForm Form s l → ListForm Form t m → (l ≡ m) ↔ SameList Same s t
 
@@ -116,7 +119,7 @@ pub record HasShapeForm (Form : List Point → Option (List Point) → Type 0) (
   pub some : ((l : List (List Point)) × ShapeForm Form s (Some l)) ↔ (OuterCollapses s → ⊥)
   pub again : (l : List (List Point)) → ShapeForm Form s (Some l) → ShapeForm Form l (Some l)
 
--- a list has a form, and each is its own form
+-- a list has a form, and each form is its own form
 pub record HasListForm (Form : List Point → Option (List Point) → Type 0) (s : List (List (List Point))) : Type 0 where
   pub some : (l : List (List (List Point))) × ListForm Form s l
   pub again : (l : List (List (List Point))) → ListForm Form s l → ListForm Form l l

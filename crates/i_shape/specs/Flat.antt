@@ -1,13 +1,13 @@
--- What a list of points beside lists of ranges means.
+-- What a list of points and lists of ranges mean together.
 use Rattle.std.specs.Prelude.{ℕ, ◌+◌, ◌<◌, ◌≤◌, List, [], ◌∷◌, length, map, slice_range}
 use Rattle.std.specs.List.{All}
 use Rattle.std.specs.declared.ops.Range.{Range}
 
--- the range lies in a list of n members, and does not run backwards
+-- the range lies in a list of n members, and isn't reversed
 abbrev pub InOrder : ℕ → Range ℕ → Type 0
 InOrder n range = (range.start ≤ range.end) × (range.end ≤ n)
 
--- the part of a list that a range names: none of it where the range is empty or runs backwards
+-- the part of a list that a range names: none of it where the range is empty or reversed
 abbrev pub part_of : {P : Type 0} → List P → Range ℕ → List P
 part_of list range = slice_range list range.start range.end
 
@@ -15,11 +15,12 @@ part_of list range = slice_range list range.start range.end
 abbrev pub slices : {P : Type 0} → List P → List (Range ℕ) → List (List P)
 slices points ranges = map (part_of points) ranges
 
--- each shape range names some contour ranges, and these the contours of the shape: none where the shape range is empty or runs backwards
+-- each shape range names contour ranges, and these name the contours of the shape: none where the shape range is empty
+-- or reversed
 abbrev pub shapes : {P : Type 0} → List P → List (Range ℕ) → List (Range ℕ) → List (List (List P))
 shapes points contour_ranges shape_ranges = map (λ range. slices points (part_of contour_ranges range)) shape_ranges
 
--- a shape range that is not empty names contour ranges that are there, each of which lies in a list of n points
+-- a shape range that isn't empty or reversed names contour ranges that exist, each of which lies in a list of n points
 abbrev pub IsReadableShape : ℕ → List (Range ℕ) → Range ℕ → Type 0
 IsReadableShape n contour_ranges range =
     range.start < range.end → (range.end ≤ length contour_ranges) × All (InOrder n) (part_of contour_ranges range)

@@ -1,4 +1,4 @@
--- What a flat buffer over points of any kind holds.
+-- What a flat buffer over points of any type holds.
 use Rattle.std.specs.Prelude.{ℕ, List, length, Bool, ◌&&◌, nat_le, ◌≡◌, ◌≤◌, [], ◌∷◌, vec_capacity}
 use Rattle.std.specs.List.{filter, All}
 use Rattle.std.specs.declared.ops.Range.{Range}
@@ -7,11 +7,11 @@ use Rattle.i_shape.specs.declared.flat.float.contours.FloatFlatContoursBuffer.{F
 use Rattle.i_shape.specs.declared.flat.float.shapes.FloatFlatShapesBuffer.{FloatFlatShapesBuffer}
 use Rattle.i_shape_source.specs.Paths.{concatenated}
 
--- whether the range lies in a list of n members, and does not run backwards
+-- whether the range lies in a list of n members, and isn't reversed
 abbrev pub is_readable : ℕ → Range ℕ → Bool
 is_readable n range = nat_le range.start range.end && nat_le range.end n
 
--- the parts of the points that the ranges name, without the ranges that run backwards or out of the points
+-- the parts of the points that the ranges name, without the ranges that are reversed or reach beyond the points
 abbrev pub readable_slices : {P : Type 0} → List P → List (Range ℕ) → List (List P)
 readable_slices points ranges = slices points (filter (is_readable (length points)) ranges)
 
@@ -26,11 +26,11 @@ pub record HasShapeLists {P : Type 0} (buffer : FloatFlatShapesBuffer P) (held :
   pub contour_ranges : buffer.contour_ranges.items ≡ named
   pub shape_ranges : buffer.shape_ranges.items ≡ grouped
 
--- the buffer of contours has room for so many points and contours in all
+-- the buffer of contours has room for at least that many points and contours in all
 abbrev pub HasListsRoom : {P : Type 0} → FloatFlatContoursBuffer P → ℕ → ℕ → Type 0
 HasListsRoom buffer points contours = (points ≤ vec_capacity buffer.points) × (contours ≤ vec_capacity buffer.ranges)
 
--- the buffer of shapes has room for so many points, contours and shapes in all
+-- the buffer of shapes has room for at least that many points, contours and shapes in all
 abbrev pub HasGroupsRoom : {P : Type 0} → FloatFlatShapesBuffer P → ℕ → ℕ → ℕ → Type 0
 HasGroupsRoom buffer points contours shapes =
     (points ≤ vec_capacity buffer.points) × (contours ≤ vec_capacity buffer.contour_ranges) × (shapes ≤ vec_capacity buffer.shape_ranges)
@@ -47,12 +47,12 @@ pub record LieEndToEnd {P : Type 0} (held : List P) (named : List (Range ℕ)) (
   pub slices : slices held named ≡ paths
   pub lent : readable_slices held named ≡ paths
 
--- all the paths as one shape, and no shape where there are no paths
+-- all paths as one shape, or no shape where there are no paths
 abbrev pub in_one_shape : {P : Type 0} → List (List P) → List (List (List P))
 in_one_shape [] = []
 in_one_shape (path ∷ paths) = (path ∷ paths) ∷ []
 
--- one shape range names all the paths, or there are none
+-- one shape range names all paths, or there are no paths and no shape range
 pub record FormOneShape {P : Type 0} (buffer : FloatFlatShapesBuffer P) (paths : List (List P)) : Type 0 where
   pub shape_ranges : buffer.shape_ranges.items ≡ end_to_end 0 (in_one_shape paths)
   pub readable : All (IsReadableShape (length buffer.points.items) buffer.contour_ranges.items) buffer.shape_ranges.items

@@ -7,26 +7,27 @@ use Rattle.i_shape_core.specs.declared.error.ShapeError.{ShapeError}
 use Rattle.i_shape_core.specs.declared.error.ShapeError.TheVariants.{OutOfMemory}
 use Rattle.i_shape.specs.ShapeAnswers.{ShapeClean, ListClean, EachContour, EachShape, AreKept, ListKept}
 
--- new is the answer to old, or empty where there is none
+-- new is the result for old, or empty where there is none
 abbrev pub Leaves : {Y : Type 0} → (List Y → Option (List Y) → Type 0) → List Y → List Y → Type 0
 Leaves {Y} Answer old new = (answer : Option (List Y)) × Answer old answer × (new ≡ unwrap_or answer [])
 
--- a value was seen as `old`, and is seen as `new` after the call answered r. `Passes` is its test, and `Cleans` relates a value to what is left of it
+-- `old` and `new` are a value before and after a call that returned r. `Passes` is the test of a value, and `Cleans`
+-- relates a value to what is left of it
 pub record CleansInPlace {X : Type 0} (Passes : X → Type 0) (Cleans : X → X → Type 0) (old new : X) (r : Result Bool ShapeError) : Type 0 where
-  -- where it passes nothing changes, and nothing is refused
+  -- if the value passes, the call returns false, without an error, and changes nothing
   pub passes : Passes old → (r ≡ Ok false) × (new ≡ old)
-  -- it answers that nothing changed only where the value passes
+  -- it returns false only if the value passes
   pub clean : r ≡ Ok false → Passes old
-  -- whichever it answers, the cleaned value is left
+  -- without an error, the cleaned value is left
   pub left : OnOk r (Cleans old new)
-  -- after a refusal it is as it was, and only memory is refused
+  -- after an error the value is unchanged, and the only error is OutOfMemory
   pub refused : (e : ShapeError) → r ≡ Err e → (e ≡ OutOfMemory) × (new ≡ old)
 
--- a contour is cleaned in place; it bounds the same (IsKept), whatever the call answered
+-- a contour is cleaned in place; it bounds the same (IsKept), whatever the call returned
 pub record CleansContour (Passes : List Point → Type 0) (Answer : List Point → Option (List Point) → Type 0) (old new : List Point) (r : Result Bool ShapeError) : Type 0 where
   pub cleans : CleansInPlace Passes (Leaves Answer) old new r
   pub kept : IsKept old new
-  -- a contour of fewer than three points is left empty, and nothing is refused
+  -- a contour of fewer than three points becomes empty, without an error
   pub short : length old < 3 → (r ≡ Ok true) × (new ≡ [])
 
 -- spikes of a contour are removed in place
@@ -35,7 +36,7 @@ pub record DespikesContour (old new : List Point) (r : Result Bool ShapeError) :
   -- a second call finds the contour clean exactly where it isn't empty
   pub again : (b : Bool) → r ≡ Ok b → NoSpikes new ↔ (0 < length new)
 
--- a shape is cleaned in place; where a contour is left its contours together keep what AreKept says
+-- a shape is cleaned in place; where a contour is left, the contours together keep what AreKept says
 pub record CleansShape (Passes : List Point → Type 0) (Answer : List Point → Option (List Point) → Type 0) (old new : List (List Point)) (r : Result Bool ShapeError) : Type 0 where
   pub cleans : CleansInPlace (EachContour Passes) (Leaves (ShapeClean Answer)) old new r
   pub kept : 0 < length new → AreKept old new

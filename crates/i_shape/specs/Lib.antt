@@ -27,6 +27,6 @@ pub mod CleanedBuffers
 pub mod Lending
 pub mod IntPoints
 pub mod AppendedAnswers
-pub mod Changes
+pub mod LeftInPlace
 pub mod FloatBuffers
 pub mod CanonicalShapes

@@ -1,4 +1,5 @@
--- What cleaning leaves of a shape and of a list of shapes, where `Answer` relates a contour to its cleaned one, and to none where it collapses.
+-- What cleaning leaves of a shape and of a list of shapes. `Answer` relates a contour to its cleaned contour, or to
+-- none where it collapses.
 use Rattle.std.specs.Prelude.{◌≡◌, List, Option, ℕ, ◌<◌, ◌%◌, ℤ, [], ◌∷◌, length, map, get_or, Some, None, IfSome}
 use Rattle.std.specs.Global.{Vec}
 use Rattle.std.specs.Int.{Width}
@@ -14,15 +15,15 @@ pub use Rattle.i_shape_core.specs.Edges.{sum_of}
 pub use Rattle.i_shape_core.specs.Winding.{shape_winding}
 pub use Rattle.i_shape_core.specs.Survivors.{Survivors}
 
--- twice the area of a shape is that of its contours together
+-- twice the area of a shape is the sum over its contours
 abbrev pub shape_shoelace : List (List Point) → ℤ
 shape_shoelace contours = sum_of shoelace contours
 
--- twice the area of a list is that of its shapes together
+-- twice the area of a list is the sum over its shapes
 abbrev pub shapes_shoelace : List (List (List Point)) → ℤ
 shapes_shoelace shapes = sum_of shape_shoelace shapes
 
--- how many of the contours p is inside of: 1 for each of which an odd number of edges lie to the right of p
+-- how many of the contours p is inside of: those of which an odd number of edges lie to the right of p
 unfoldable pub inside_count : List (List Point) → Point → ℕ
 inside_count contours p = sum_by (λ c. count_by (is_right p) (edges c) % 2) contours
 
@@ -32,11 +33,12 @@ pub record IsOnBoundary (contours : List (List Point)) (p : Point) : Type 0 wher
   pub within : place < length contours
   pub on : IsOnEdge (get_or contours place []) p
 
--- the contour has a point
+-- the contour has at least one point
 abbrev pub HasPoints : List Point → Type 0
 HasPoints c = 0 < length c
 
--- a shape is left out where its outer contour collapses; otherwise the holes that collapse are left out; an empty shape stays empty
+-- a shape is left out where its outer contour collapses; otherwise its holes that collapse are left out; an empty shape
+-- stays empty
 abbrev pub ShapeClean : (List Point → Option (List Point) → Type 0) → List (List Point) → Option (List (List Point)) → Type 0
 ShapeClean Answer [] r = r ≡ Some []
 ShapeClean Answer (outer ∷ holes) None = Answer outer None
@@ -47,18 +49,19 @@ ShapeClean Answer (outer ∷ holes) (Some (contour ∷ kept)) = Answer outer (So
 abbrev pub ListClean : (List Point → Option (List Point) → Type 0) → List (List (List Point)) → List (List (List Point)) → Type 0
 ListClean Answer shapes kept = Survivors (ShapeClean Answer) shapes kept
 
--- the contours that are left have the same double area together, each point is inside of as many of them, and they wind as often about it together, and scaled by any n they do
+-- the contours that are left have the same total double area, each point is inside of as many of them, and their total
+-- winding number about it is the same, also where all contours are scaled by any n
 pub record AreKept (contours left : List (List Point)) : Type 0 where
   pub area : shape_shoelace left ≡ shape_shoelace contours
   pub inside : (p : Point) → inside_count left p ≡ inside_count contours p
   pub between : (n : ℤ) (p : Point) → shape_winding (map (moved (scaling n)) left) p ≡ shape_winding (map (moved (scaling n)) contours) p
   pub winding : (p : Point) → shape_winding left p ≡ shape_winding contours p
 
--- the cleaned shapes, each of which keeps this of the shape that it was
+-- the cleaned shapes, each of which keeps what AreKept says
 pub record ListKept (Answer : List Point → Option (List Point) → Type 0) (shapes kept : List (List (List Point))) : Type 0 where
   pub each : Survivors (λ shape r. ShapeClean Answer shape r × IfSome r (AreKept shape)) shapes kept
 
--- r is what cleaning leaves of a shape, where `Answer` is what the cleaner of its contours answers
+-- r is what cleaning leaves of a shape, where `Answer` relates a contour to its cleaned contour
 pub record IsCleanedShape (Answer : List Point → Option (List Point) → Type 0) (width : Width) (shape : List (List Point)) (r : Option (List (List Point))) : Type 0 where
   pub answer : ShapeClean Answer shape r
   pub kept : IfSome r (AreKept shape)
@@ -70,7 +73,7 @@ pub record IsCleanedList (Answer : List Point → Option (List Point) → Type 0
   pub kept : ListKept Answer shapes left
   pub safe : IsSafeList width left
 
--- the same of answers in points of the program, where `value` is what coordinates stand for
+-- the same in points of the program, where `value` gives the number that a coordinate represents
 abbrev pub CleansShapeTo : {I : Type 0} → (List Point → Option (List Point) → Type 0) → Width → (I → ℤ) → List (List Point) → Option (Vec (Vec (IntPoint I))) → Type 0
 CleansShapeTo Answer width value shape r = IsCleanedShape Answer width shape (answered (shape_of value) r)
 

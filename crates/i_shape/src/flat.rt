@@ -1,4 +1,4 @@
-//! Flat buffers: one list of points beside lists of ranges.
+//! Flat buffers: one list of points, and lists of ranges into it.
 
 pub mod buffer;
 pub mod float;

@@ -1,4 +1,4 @@
-//! Contours, shapes and shape lists of whole-number points.
+//! Contours, shapes and shape lists of integer points.
 
 pub mod area;
 pub mod canonical;
@@ -12,7 +12,7 @@ pub mod winding;
 
 pub use i_shape_core::point::{ContourPoint, IntPoint, Origin};
 
-/// The cleaners of one contour, and what shapes and lists take of their answers.
+/// The cleaners of single contours, and what shapes and lists require of their results.
 pub mod cleaner {
     pub use crate::int::cleaning::{CleanerLaws, InPlaceCleaner};
     pub use i_shape_core::cleaner::{
@@ -22,7 +22,7 @@ pub mod cleaner {
     pub use i_shape_core::simplifier::ContourSimplifier;
 }
 
-/// The safe-range test of a resource.
+/// The test that the points of a resource are safe.
 pub mod safe_range {
     pub use i_shape_source::int::safe_range::IntSafeRange;
 }

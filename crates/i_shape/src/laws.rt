@@ -1,5 +1,5 @@
-//! The laws of the comparison of flat buffers. Each function takes two buffers, does nothing, and has the law alone for its
-//! clause: `==` compares every list that the buffers have, and nothing else.
+//! The laws of comparing flat buffers: `==` compares every list of the buffers, and nothing else. Each function takes
+//! two buffers and does nothing. Its clause states the law.
 
 ghost use Rattle.std.specs.List.{AllZip};
 ghost use Rattle.std.specs.Prelude.{◌≡◌, ◌↔◌, IsTrue};
@@ -9,20 +9,20 @@ use crate::flat::buffer::{FlatContoursBuffer, FlatShapesBuffer};
 use crate::flat::float::{FloatFlatContoursBuffer, FloatFlatShapesBuffer};
 use i_shape_core::number::IntNumber;
 
-/// Buffers of contours are told equal exactly where they have the same points and the same ranges.
+/// Two buffers of contours are equal exactly where they have the same points and the same ranges.
 pub fn contours_buffers_equal<T: IntNumber>(_a: &FlatContoursBuffer<T>, _b: &FlatContoursBuffer<T>)
     ensures { IsTrue (⟦<FlatContoursBuffer<T> as PartialEq>⟧.eq _a.now _b.now)
         ↔ SameLists _a.now _b.now }
 {}
 
-/// Buffers of shapes are told equal exactly where they have the same points, the same contour ranges and the same shape ranges.
+/// Two buffers of shapes are equal exactly where they have the same points, contour ranges and shape ranges.
 pub fn shapes_buffers_equal<T: IntNumber>(_a: &FlatShapesBuffer<T>, _b: &FlatShapesBuffer<T>)
     ensures { IsTrue (⟦<FlatShapesBuffer<T> as PartialEq>⟧.eq _a.now _b.now)
         ↔ SameShapeLists _a.now _b.now }
 {}
 
-/// Buffers of contours over points of any kind are told equal exactly where their points are equal pair by pair, and their
-/// ranges are the same.
+/// Two buffers of contours over points of any type are equal exactly where their points are equal pair by pair, and
+/// their ranges are the same.
 pub fn float_contours_buffers_equal<P: Copy + PartialEq>(
     _a: &FloatFlatContoursBuffer<P>,
     _b: &FloatFlatContoursBuffer<P>,
@@ -32,7 +32,7 @@ pub fn float_contours_buffers_equal<P: Copy + PartialEq>(
         × (_a.now.ranges.items ≡ _b.now.ranges.items)) }
 {}
 
-/// Buffers of shapes over points of any kind are told equal exactly where their points are equal pair by pair, and their
+/// Two buffers of shapes over points of any type are equal exactly where their points are equal pair by pair, and their
 /// contour ranges and shape ranges are the same.
 pub fn float_shapes_buffers_equal<P: Copy + PartialEq>(
     _a: &FloatFlatShapesBuffer<P>,

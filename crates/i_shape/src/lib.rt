@@ -1,4 +1,4 @@
-//! Contours, shapes and shape lists over whole numbers, their flat buffers, and the paths that they lend.
+//! Contours, shapes and shape lists with integer coordinates, their flat buffers, and iterators over their paths.
 #![tactic(auto)]
 
 pub mod base;

@@ -1,10 +1,9 @@
-//! Tests and measures, which take no memory.
+//! Tests and measures, which take no memory, but for winding numbers by height.
 
 use crate::flat_buffers::{contours, shapes, spot_contours, spot_shapes};
 use crate::given::{BOTH, SQUARE, TRIANGLE, one_shape, safe, shape};
 use crate::spots;
 use crate::told::{begun, call, ended, on};
-use i_shape::FillRule;
 use i_shape::int::IntPoint;
 use i_shape::int::area::{Area, IteratorArea, UnsafeArea};
 use i_shape::int::count::PointsCount;
@@ -12,7 +11,8 @@ use i_shape::int::despike::{DeSpikeContour, DeSpikeShape, DeSpikeShapes};
 use i_shape::int::path::ContourExtension;
 use i_shape::int::shape::{IntContour, IntShape};
 use i_shape::int::simple::{SimpleContour, SimpleShape, SimpleShapes};
-use i_shape::int::winding::ShapeExtension;
+use i_shape::int::winding::{ShapeExtension, windings_by_height};
+use i_shape::{FillRule, ShapeError};
 use i_shape_core::canonical::least_start_counted;
 
 #[test]
@@ -31,6 +31,14 @@ fn tests_of_a_contour(rt: HostRuntime) {
     assert!(rt; points.len() <= numbers.len());
     call!(rt, "ContourExtension::winding_numbers_into" => Ok(points.winding_numbers_into(points, &mut numbers)));
     call!(rt, "FillRule::fills" => Ok(FillRule::Negative.fills(-1)));
+}
+
+#[test]
+fn windings_of_a_contour_by_height(rt: HostRuntime) {
+    let points = safe(&rt, SQUARE.as_slice());
+    let mut numbers = [7; 5];
+    assert!(rt; points.len() <= numbers.len());
+    call!(rt, "windings_by_height" => windings_by_height(rt.alloc(), points, points, &mut numbers).or(Err(ShapeError::OutOfMemory)));
 }
 
 #[test]

@@ -14,7 +14,8 @@ mapped-read f P xs i x lt read holds =
     let lt' : i < length (map f xs) = rw (length-map xs f) lt in
     subst (λ z. P (f z)) (sym read) (rw (get_or-map f xs i x (f x) lt) at (holds i (f x) lt'))
 
-mapped-taken : {X Y : Type 0} (f : X → Y) (xs : List X) (i : ℕ) (x : X) → i < length xs → x ≡ get_or xs i x → map f (take (i + 1) xs) ≡ map f (take i xs) ++ f x ∷ []
+-- the first members and the one that is read, seen by f
+pub mapped-taken : {X Y : Type 0} (f : X → Y) (xs : List X) (i : ℕ) (x : X) → i < length xs → x ≡ get_or xs i x → map f (take (i + 1) xs) ≡ map f (take i xs) ++ f x ∷ []
 mapped-taken f xs i x lt read = ap (map f) (take_one_more xs i x lt read) ∙ map-append f (take i xs) (x ∷ [])
 
 -- what holds of the first members and of the next holds of one more

@@ -5,7 +5,7 @@ pub type Path<P> = Vec<P>;
 
 pub type Paths<P> = Vec<Path<P>>;
 
-/// Points in order, read as a cycle.
+/// Points in order, read as a cycle: the last is joined to the first.
 pub type Contour<P> = Vec<P>;
 
 /// An outer contour and its holes.

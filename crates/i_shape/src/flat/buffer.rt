@@ -1,4 +1,4 @@
-//! Flat buffers of whole-number contours and shapes.
+//! Flat buffers of contours and shapes over integer points.
 
 mod cleaning;
 mod contours;

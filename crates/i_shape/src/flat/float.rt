@@ -1,4 +1,4 @@
-//! Flat buffers of contours and shapes over points of any kind.
+//! Flat buffers of contours and shapes over points of any type.
 
 mod contours;
 mod fill;

@@ -1,4 +1,4 @@
-//! Work on the lists that every flat buffer has: points, and ranges of them.
+//! Operations on the lists of every flat buffer: points, and ranges into them.
 
 ghost use Rattle.std.specs.Prelude.{◌≡◌, ◌+◌, ◌<◌, ◌≤◌, ◌++◌, ◌∷◌, ◌⊎◌, ◌↔◌, IsTrue, [], length, vec_len, vec_capacity, OnOk, IfOk, IsOkUnless, MatchOption, IsOk};
 ghost use Rattle.std.specs.List.{All};
@@ -9,7 +9,7 @@ use crate::ShapeError;
 use std::alloc::{AllocError, Global};
 use std::ops::Range;
 
-/// The number of points of some contours, and `None` where it exceeds `usize::MAX`.
+/// Returns the total number of points of some contours, or `None` where it exceeds `usize::MAX`.
 pub fn checked_points_count<P>(contours: &[Vec<P>]) -> Option<usize>
     ensures { MatchOption result (usize.MAX < length (concatenated (paths_of_shape contours.now)))
         (λ n. n ≡ length (concatenated (paths_of_shape contours.now))) }
@@ -21,7 +21,7 @@ pub fn checked_points_count<P>(contours: &[Vec<P>]) -> Option<usize>
     Some(total)
 }
 
-/// Room for `total` members in all. The members stay, whatever the answer.
+/// Reserves capacity for `total` members in all. The members stay unchanged, after an error too.
 pub fn reserve_total<T>(list: &mut Vec<T>, total: usize) -> Result<(), ShapeError>
     ensures items { list.new.items ≡ list.old.items }
     ensures len { vec_len list.new ≡ vec_len list.old }
@@ -35,7 +35,7 @@ pub fn reserve_total<T>(list: &mut Vec<T>, total: usize) -> Result<(), ShapeErro
     Ok(())
 }
 
-/// Appends a contour and its range, where there is room for them.
+/// Appends a contour and its range. Both lists must have room.
 pub fn append_contour<P: Copy>(points: &mut Vec<P>, ranges: &mut Vec<Range<usize>>, contour: &[P])
     requires points_room { vec_len points.old + length contour.now ≤ vec_capacity points.old }
     requires ranges_room { vec_len ranges.old < vec_capacity ranges.old }
@@ -52,7 +52,7 @@ pub fn append_contour<P: Copy>(points: &mut Vec<P>, ranges: &mut Vec<Range<usize
     ranges.push_reserved(start..points.len());
 }
 
-/// Appends contours end to end and their ranges, where there is room for them.
+/// Appends contours end to end, and their ranges. Both lists must have room.
 pub fn append_contours<P: Copy>(
     points: &mut Vec<P>,
     ranges: &mut Vec<Range<usize>>,
@@ -76,7 +76,7 @@ pub fn append_contours<P: Copy>(
     }
 }
 
-/// A copy of some ranges.
+/// Returns a copy of some ranges.
 pub fn copied_ranges(
     alloc: Global,
     ranges: &[Range<usize>],
@@ -86,14 +86,14 @@ pub fn copied_ranges(
     Vec::from_clones(alloc, ranges)
 }
 
-/// How many points and contours some shapes have.
+/// The numbers of points and contours of some shapes.
 #[derive(Clone, Copy)]
 pub struct Counts {
     pub points: usize,
     pub contours: usize,
 }
 
-/// The counts of some shapes, and `None` where one of them exceeds `usize::MAX`.
+/// Returns the counts of some shapes, or `None` where one of them exceeds `usize::MAX`.
 pub fn checked_counts<P>(shapes: &[Vec<Vec<P>>]) -> Option<Counts>
     ensures { MatchOption result ((usize.MAX < length (concatenated (paths_of_shapes shapes.now)))
         ⊎ (usize.MAX < length (paths_of_shapes shapes.now)))
@@ -109,7 +109,7 @@ pub fn checked_counts<P>(shapes: &[Vec<Vec<P>>]) -> Option<Counts>
     Some(Counts { points, contours })
 }
 
-/// Appends the contours of shapes end to end and their ranges, where there is room for them.
+/// Appends the contours of shapes end to end, and their ranges. Both lists must have room.
 pub fn append_all_contours<P: Copy>(
     points: &mut Vec<P>,
     ranges: &mut Vec<Range<usize>>,
@@ -131,7 +131,7 @@ pub fn append_all_contours<P: Copy>(
     }
 }
 
-/// Copies of the parts that some ranges name.
+/// Returns copies of the parts that some ranges name.
 pub fn copied_parts<P: Copy>(
     alloc: Global,
     points: &[P],
@@ -148,21 +148,21 @@ pub fn copied_parts<P: Copy>(
     Ok(parts)
 }
 
-/// Whether a range can be read in a list of `len` members.
+/// Returns whether a range is in order and ends within a list of `len` members.
 pub fn is_in_order(range: &Range<usize>, len: usize) -> bool
     ensures { IsTrue result ↔ InOrder len range.now }
 {
     range.start <= range.end && range.end <= len
 }
 
-/// Whether each range can be read in a list of `len` members.
+/// Returns whether each range is in order and ends within a list of `len` members.
 pub fn all_in_order(ranges: &[Range<usize>], len: usize) -> bool
     ensures { IsTrue result ↔ All (InOrder len) ranges.now }
 {
     ranges.iter().all(|range| is_in_order(range, len))
 }
 
-/// Appends a shape: its contours end to end, their ranges, and the range of these, where there is room for them.
+/// Appends a shape: its contours end to end, their ranges, and the range of these ranges. All lists must have room.
 pub fn append_shape<P: Copy>(
     points: &mut Vec<P>,
     contour_ranges: &mut Vec<Range<usize>>,
@@ -194,7 +194,7 @@ pub fn append_shape<P: Copy>(
     shape_ranges.push_reserved(start..contour_ranges.len());
 }
 
-/// Appends shapes, where there is room for them.
+/// Appends shapes. All lists must have room.
 pub fn append_shapes<P: Copy>(
     points: &mut Vec<P>,
     contour_ranges: &mut Vec<Range<usize>>,
@@ -222,7 +222,8 @@ pub fn append_shapes<P: Copy>(
     }
 }
 
-/// Whether the contour ranges that a shape range names are there, and each can be read in a list of `len` points.
+/// Returns whether the contour ranges that a shape range names exist, and each is in order and ends within a list of
+/// `len` points. An empty or reversed shape range names none.
 pub fn shape_in_order(range: &Range<usize>, contour_ranges: &[Range<usize>], len: usize) -> bool
     ensures { IsTrue result ↔ IsReadableShape len contour_ranges.now range.now }
 {
@@ -232,7 +233,7 @@ pub fn shape_in_order(range: &Range<usize>, contour_ranges: &[Range<usize>], len
     range.end <= contour_ranges.len() && all_in_order(&contour_ranges[range.start..range.end], len)
 }
 
-/// The shapes that some shape ranges name, copied.
+/// Returns copies of the shapes that some shape ranges name.
 pub fn copied_shapes<P: Copy>(
     alloc: Global,
     points: &[P],

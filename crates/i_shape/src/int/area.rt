@@ -14,21 +14,21 @@ use i_shape_core::area::area_of;
 pub use i_shape_core::area::{IteratorArea, UnsafeArea};
 use i_shape_core::number::{IntNumber, WideIntNumber};
 
-/// The area of a contour, of the contours of a shape together, or of the shapes of a list together. Each contour has a point;
-/// a shape or a list may be empty. Each is one pass and takes no memory.
+/// The signed area of a contour, or its sum over the contours of a shape or a list of shapes. Each contour must have at
+/// least one point; a shape or a list may be empty. Each call makes one pass and allocates nothing.
 pub trait Area<I: IntNumber> {
-    /// Twice the area over whole numbers, above zero where the contours are wound counter-clockwise.
+    /// Twice the signed area in unbounded integers, positive where the contours run counterclockwise.
     ghost double_area: { Self → ℤ };
 
-    /// Each contour has a point.
+    /// Each contour has at least one point.
     ghost has_points: { Self → Type 0 };
 
-    /// Twice the area. No safe range is asked: the sum wraps.
+    /// Returns twice the signed area, wrapped to the wide type. The points needn't be safe.
     fn area_two(&self) -> I::Wide
         requires { has_points self.now }
         ensures { I.Wide.value result ≡ int_wrap I.Wide.width (double_area self.now) };
 
-    /// Half of `area_two`, rounded towards zero: of the whole sum, and not the sum of halves.
+    /// Returns half of `area_two`, rounded toward zero. The total is halved, not each contour's area.
     fn area(&self) -> I::Wide
         requires { has_points self.now }
         ensures { I.Wide.value result

@@ -1,6 +1,6 @@
-//! The canonical forms of shapes and of lists of shapes, as their contours are wound and whichever way round they are.
+//! Canonical forms of shapes and shape lists, with or without regard to the direction of each contour.
 
-ghost use Rattle.std.specs.Prelude.{List};
+ghost use Rattle.std.specs.Prelude.{◌≡◌, List, [], IsOk};
 ghost use Rattle.i_shape_core.specs.Point.{Point};
 ghost use Rattle.i_shape_core.specs.Canonical.{CanonicalAnswer, UnorientedAnswer};
 ghost use Rattle.i_shape.specs.ShapeLists.{shape_of, shapes_of, IsSafeShape, IsSafeList};
@@ -20,49 +20,60 @@ use std::alloc::Global;
 
 /// The canonical forms of a shape of safe points.
 pub trait CanonicalShape<I: IntNumber> {
-    /// The contours over whole numbers.
+    /// The contours in unbounded integers.
     ghost shape: { Self → List (List Point) };
 
-    /// The canonical form: that of the first contour, and then those of the other contours, without those that collapse, in order of
-    /// their lists of points. `None` where the first contour collapses; an empty shape stays empty. Two shapes that have forms have the
-    /// same one exactly where they are the same polygon: where their first contours lead to each other by removals and insertions of
-    /// zero-turn vertices and rotations, and so do the others that don't collapse, one to one in some order.
-    /// Double area, containment and winding numbers are kept, and the points are safe again. The only error is `OutOfMemory`.
+    /// Returns the canonical form, or `None` where the first contour collapses. The form of the first contour comes
+    /// first. The forms of the other contours follow, without those that collapse, sorted as lists of points. An empty
+    /// shape stays empty.
+    /// Two shapes that have forms have equal forms exactly where they are the same polygon: rotations, removals and
+    /// insertions of zero turns lead from one first contour to the other, and so do they for the other contours that
+    /// don't collapse, paired one to one in some order.
+    /// The form keeps the double area, containment and winding numbers, and its points are safe. The only error is
+    /// `OutOfMemory`, which can't occur for an empty shape.
     fn canonical(&self, alloc: Global) -> Result<Option<IntShape<I>>, ShapeError>
         requires { IsSafeShape I.width (shape self.now) }
-        ensures { OkUnlessMemory result
-            (FormsShapeTo CanonicalAnswer AreKept I.width I.value (shape self.now)) };
+        ensures answer { OkUnlessMemory result
+            (FormsShapeTo CanonicalAnswer AreKept I.width I.value (shape self.now)) }
+        ensures none { shape self.now ≡ [] → IsOk result };
 
-    /// The same, of forms that don't tell which way round a contour is wound: two shapes that have forms have the same one exactly
-    /// where they are the same polygon but for the direction of each contour. The contours' double areas, each without its sign, have the same
-    /// sum, and so have their winding numbers about each point; each point is inside of as many contours; the points are safe again. The only
-    /// error is `OutOfMemory`.
+    /// Returns the canonical form without regard to the direction of each contour, or `None` where the first contour
+    /// collapses. Two shapes that have forms have equal forms exactly where they are the same polygon up to the
+    /// direction of each contour.
+    /// The form keeps the sum of the contours' absolute double areas. About each point it keeps the sum of their
+    /// absolute winding numbers, and how many contours the point is inside of. Its points are safe. The only error is
+    /// `OutOfMemory`, which can't occur for an empty shape.
     fn canonical_unoriented(&self, alloc: Global) -> Result<Option<IntShape<I>>, ShapeError>
         requires { IsSafeShape I.width (shape self.now) }
-        ensures { OkUnlessMemory result
-            (FormsShapeTo UnorientedAnswer AreKeptEitherWay I.width I.value (shape self.now)) };
+        ensures answer { OkUnlessMemory result
+            (FormsShapeTo UnorientedAnswer AreKeptEitherWay I.width I.value (shape self.now)) }
+        ensures none { shape self.now ≡ [] → IsOk result };
 }
 
 /// The canonical forms of a list of shapes of safe points.
 pub trait CanonicalShapes<I: IntNumber> {
-    /// The shapes over whole numbers.
+    /// The shapes in unbounded integers.
     ghost shapes: { Self → List (List (List Point)) };
 
-    /// The canonical form: those of the shapes, without the shapes whose first contour collapses, in order, contour by contour. Two
-    /// lists have the same one exactly where their other shapes are the same polygons, one to one in some order.
-    /// Each form keeps double area, containment and winding numbers of its shape, and the points are safe again. The only error is
-    /// `OutOfMemory`.
+    /// Returns the canonical form: the forms of the shapes, sorted contour by contour. A shape whose first contour
+    /// collapses is left out. Two lists have equal forms exactly where their other shapes can be paired one to one so
+    /// that partners are the same polygon.
+    /// Each form keeps the double area, containment and winding numbers of its shape, and its points are safe. The only
+    /// error is `OutOfMemory`, which can't occur for an empty list.
     fn canonical(&self, alloc: Global) -> Result<IntShapes<I>, ShapeError>
         requires { IsSafeList I.width (shapes self.now) }
-        ensures { OkUnlessMemory result
-            (FormsListTo CanonicalAnswer AreKept I.width I.value (shapes self.now)) };
+        ensures answer { OkUnlessMemory result
+            (FormsListTo CanonicalAnswer AreKept I.width I.value (shapes self.now)) }
+        ensures none { shapes self.now ≡ [] → IsOk result };
 
-    /// The same, of forms that don't tell which way round a contour is wound, and which keep of their shapes what
-    /// `CanonicalShape::canonical_unoriented` says.
+    /// Returns the canonical form without regard to the direction of each contour. Each form keeps of its shape what
+    /// `CanonicalShape::canonical_unoriented` keeps. The only error is `OutOfMemory`, which can't occur for an empty
+    /// list.
     fn canonical_unoriented(&self, alloc: Global) -> Result<IntShapes<I>, ShapeError>
         requires { IsSafeList I.width (shapes self.now) }
-        ensures { OkUnlessMemory result
-            (FormsListTo UnorientedAnswer AreKeptEitherWay I.width I.value (shapes self.now)) };
+        ensures answer { OkUnlessMemory result
+            (FormsListTo UnorientedAnswer AreKeptEitherWay I.width I.value (shapes self.now)) }
+        ensures none { shapes self.now ≡ [] → IsOk result };
 }
 
 impl<I: IntNumber> CanonicalShape<I> for &[IntContour<I>] {

@@ -1,6 +1,6 @@
-//! Shapes and shape lists, cleaned by any cleaner of contours.
+//! Cleaning of shapes and shape lists by any cleaner of contours.
 
-ghost use Rattle.std.specs.Prelude.{◌≡◌, ◌↔◌, ◌++◌, List, Option, Some, IsTrue, OnOk, IsOkUnless};
+ghost use Rattle.std.specs.Prelude.{◌≡◌, ◌↔◌, ◌++◌, List, [], Option, Some, IsTrue, IsOk, OnOk, IsOkUnless};
 ghost use Rattle.std.specs.Int.{Width};
 ghost use Rattle.std.specs.List.{All};
 ghost use Rattle.std.specs.Option.{option_to_list};
@@ -9,18 +9,13 @@ ghost use Rattle.i_shape_core.specs.IntPoint.{contour_of, IsSafe, IsSafeContour}
 ghost use Rattle.i_shape_core.specs.Cleaners.{KeptAnswer};
 ghost use Rattle.i_shape_core.proofs.walks.Found.{simple_stays};
 ghost use Rattle.i_shape_core.proofs.answers.Kept.{simple_kept, despike_kept, spikeless_stays};
-ghost use Rattle.i_shape_core.proofs.answers.Cleaners.{simple_safe, simple_points, simple_left_points, despike_safe, spikeless_points, despike_left_points, canonical_safe, unoriented_safe};
+ghost use Rattle.i_shape_core.proofs.answers.Cleaners.{simple_safe, simple_points, despike_safe, spikeless_points, canonical_safe, unoriented_safe};
 ghost use Rattle.i_shape.specs.ShapeAnswers.{HasPoints, Survivors, ShapeClean, EachContour, EachShape, CleansShapeTo, CleansListTo};
 ghost use Rattle.i_shape.specs.ShapeLists.{shape_of, shapes_of, IsSafeShape, IsSafeList};
-ghost use Rattle.i_shape.specs.InPlace.{CleansShape, CleansList};
 ghost use Rattle.i_shape_core.specs.Refusals.{OkUnlessMemory};
 
-mod changes;
+mod in_place;
 
-use crate::int::cleaning::changes::{
-    are_left, list_changes, put_in_list, put_in_shape, shape_changes, take_out_collapsed,
-    take_out_of_list,
-};
 use crate::int::shape::{IntContour, IntShape, IntShapes};
 pub use i_shape_core::cleaner::{
     Canonicalizer, ContourCleaner, SpikeRemover, UnorientedCanonicalizer,
@@ -29,27 +24,26 @@ use i_shape_core::error::ShapeError;
 use i_shape_core::number::IntNumber;
 use i_shape_core::point::IntPoint;
 use i_shape_core::simplifier::ContourSimplifier;
+pub use in_place::{clean_list_in_place, clean_shape_in_place};
 use std::alloc::Global;
 
-/// What shapes and lists take of the answers of a cleaner. `ContourDeSpiker` has none: shapes keep repeated points.
+/// What shapes and lists require of a cleaner's results. `ContourDeSpiker` doesn't implement it: shapes keep repeated
+/// points.
 pub trait CleanerLaws: ContourCleaner {
-    /// An answer has safe points where the contour has.
+    /// A result has safe points where the contour has.
     ghost stays_safe: { (width : Width) (c e : List Point) → Self.answers c (Some e) → All (IsSafe width) c → All (IsSafe width) e };
 }
 
-/// A cleaner that leaves clean contours as they are.
+/// A cleaner that leaves clean contours unchanged.
 pub trait InPlaceCleaner: CleanerLaws {
-    /// A clean contour is its own answer.
+    /// A clean contour is its own result.
     ghost stays: { (c : List Point) → Self.clean c → Self.answers c (Some c) };
 
-    /// An answer keeps the double area and the points inside.
+    /// A result keeps the double area, containment and winding numbers.
     ghost kept: { (c : List Point) (r : Option (List Point)) → Self.answers c r → KeptAnswer c r };
 
-    /// A clean contour has points.
+    /// A clean contour has at least one point.
     ghost clean_points: { (c : List Point) → Self.clean c → HasPoints c };
-
-    /// The answer to a contour that isn't clean has points.
-    ghost left_points: { (c e : List Point) → (Self.clean c → ⊥) → Self.answers c (Some e) → HasPoints e };
 }
 
 impl CleanerLaws for ContourSimplifier {
@@ -62,8 +56,6 @@ impl InPlaceCleaner for ContourSimplifier {
     ghost kept = { simple_kept };
 
     ghost clean_points = { simple_points };
-
-    ghost left_points = { simple_left_points };
 }
 
 impl CleanerLaws for SpikeRemover {
@@ -76,8 +68,6 @@ impl InPlaceCleaner for SpikeRemover {
     ghost kept = { despike_kept };
 
     ghost clean_points = { spikeless_points };
-
-    ghost left_points = { despike_left_points };
 }
 
 impl CleanerLaws for Canonicalizer {
@@ -88,7 +78,7 @@ impl CleanerLaws for UnorientedCanonicalizer {
     ghost stays_safe = { unoriented_safe };
 }
 
-/// Whether no contour of the shape needs cleaning.
+/// Returns whether no contour of the shape needs cleaning.
 pub fn is_clean_shape<I: IntNumber, C: ContourCleaner>(shape: &[IntContour<I>]) -> bool
     requires { IsSafeShape I.width (shape_of I.value shape.now) }
     ensures { IsTrue result ↔ EachContour C.clean (shape_of I.value shape.now) }
@@ -101,7 +91,7 @@ pub fn is_clean_shape<I: IntNumber, C: ContourCleaner>(shape: &[IntContour<I>]) 
     true
 }
 
-/// Whether no contour of any shape needs cleaning.
+/// Returns whether no contour of any shape needs cleaning.
 pub fn is_clean_list<I: IntNumber, C: ContourCleaner>(shapes: &[IntShape<I>]) -> bool
     requires { IsSafeList I.width (shapes_of I.value shapes.now) }
     ensures { IsTrue result ↔ EachShape C.clean (shapes_of I.value shapes.now) }
@@ -114,7 +104,7 @@ pub fn is_clean_list<I: IntNumber, C: ContourCleaner>(shapes: &[IntShape<I>]) ->
     true
 }
 
-/// Appends the cleaned contour, and nothing where it collapses.
+/// Appends the cleaned contour, or nothing where it collapses.
 pub fn append_contour<I: IntNumber, C: ContourCleaner>(
     cleaner: &mut C,
     kept: &mut IntShape<I>,
@@ -154,15 +144,16 @@ fn append_holes<I: IntNumber, C: ContourCleaner>(
     Ok(())
 }
 
-/// The cleaned shape, and none where its outer contour collapses.
+/// Returns the cleaned shape, or `None` where its outer contour collapses.
 pub fn clean_shape<I: IntNumber, C: InPlaceCleaner>(
     cleaner: &mut C,
     alloc: Global,
     shape: &[IntContour<I>],
 ) -> Result<Option<IntShape<I>>, ShapeError>
     requires { IsSafeShape I.width (shape_of I.value shape.now) }
-    ensures { OkUnlessMemory result
+    ensures answer { OkUnlessMemory result
         (CleansShapeTo C.answers I.width I.value (shape_of I.value shape.now)) }
+    ensures none { shape_of I.value shape.now ≡ [] → IsOk result }
 {
     let Some((outer, holes)) = shape.split_first() else {
         return Ok(Some(Vec::new(alloc)));
@@ -176,7 +167,7 @@ pub fn clean_shape<I: IntNumber, C: InPlaceCleaner>(
     Ok(Some(kept))
 }
 
-/// Appends the cleaned shape, and nothing where it is left out.
+/// Appends the cleaned shape, or nothing where its outer contour collapses.
 fn push_cleaned_shape<I: IntNumber, C: InPlaceCleaner>(
     cleaner: &mut C,
     kept: &mut IntShapes<I>,
@@ -199,65 +190,20 @@ fn push_cleaned_shape<I: IntNumber, C: InPlaceCleaner>(
     }
 }
 
-/// The cleaned shapes of a list, without those that are left out.
+/// Returns the cleaned shapes of a list, without those whose outer contour collapses.
 pub fn clean_list<I: IntNumber, C: InPlaceCleaner>(
     cleaner: &mut C,
     alloc: Global,
     shapes: &[IntShape<I>],
 ) -> Result<IntShapes<I>, ShapeError>
     requires { IsSafeList I.width (shapes_of I.value shapes.now) }
-    ensures { OkUnlessMemory result
+    ensures answer { OkUnlessMemory result
         (CleansListTo C.answers I.width I.value (shapes_of I.value shapes.now)) }
+    ensures none { shapes_of I.value shapes.now ≡ [] → IsOk result }
 {
     let mut kept = Vec::with_capacity(alloc, shapes.len())?;
     for shape in shapes {
         push_cleaned_shape(cleaner, &mut kept, shape.as_slice())?;
     }
     Ok(kept)
-}
-
-/// Puts the cleaned shape in the place of the shape, or empties it where its outer contour collapses. Answers whether a contour
-/// needed cleaning; otherwise, and after an error, the shape is as it was.
-pub fn clean_shape_in_place<I: IntNumber, C: InPlaceCleaner>(
-    shape: &mut IntShape<I>,
-) -> Result<bool, ShapeError>
-    requires { IsSafeShape I.width (shape_of I.value shape.old.items) }
-    ensures gives { CleansShape C.clean C.answers (shape_of I.value shape.old.items)
-        (shape_of I.value shape.new.items) result }
-    ensures safe { IsSafeShape I.width (shape_of I.value shape.new.items) }
-{
-    let alloc = *shape.allocator();
-    let changes = shape_changes::<I, C>(alloc, shape.as_slice())?;
-    if changes.is_empty() {
-        return Ok(false);
-    }
-    let all_left = are_left(changes.as_slice());
-    put_in_shape(shape, changes);
-    if !all_left {
-        take_out_collapsed(shape);
-    }
-    Ok(true)
-}
-
-/// Puts the cleaned list in the place of the list. Answers whether a contour needed cleaning; otherwise, and after an error,
-/// the list is as it was.
-pub fn clean_list_in_place<I: IntNumber, C: InPlaceCleaner>(
-    shapes: &mut IntShapes<I>,
-) -> Result<bool, ShapeError>
-    requires { IsSafeList I.width (shapes_of I.value shapes.old.items) }
-    ensures gives { CleansList C.clean C.answers (shapes_of I.value shapes.old.items)
-        (shapes_of I.value shapes.new.items) result }
-    ensures safe { IsSafeList I.width (shapes_of I.value shapes.new.items) }
-{
-    let alloc = *shapes.allocator();
-    let changes = list_changes::<I, C>(alloc, shapes.as_slice())?;
-    if changes.is_empty() {
-        return Ok(false);
-    }
-    let all_left = are_left(changes.as_slice());
-    put_in_list(shapes, changes);
-    if !all_left {
-        take_out_of_list(shapes);
-    }
-    Ok(true)
 }

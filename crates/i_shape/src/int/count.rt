@@ -11,12 +11,13 @@ use i_shape_core::number::IntNumber;
 
 pub type IntShapes<I> = Shapes<IntPoint<I>>;
 
-/// The number of points of several paths together. One pass over the paths; it takes no memory.
+/// The total number of points of a list of paths or shapes. The call makes one pass over the paths and allocates
+/// nothing.
 pub trait PointsCount {
     /// The sum of the paths' lengths.
     ghost count: { Self → ℕ };
 
-    /// The number of points, which fits `usize`.
+    /// Returns the total number of points, which must fit `usize`.
     fn points_count(&self) -> usize
         requires { count self.now ≤ usize.MAX }
         ensures { result ≡ count self.now };

@@ -1,4 +1,4 @@
-//! The removal of spikes.
+//! Removal of spikes. At the tip of a spike the contour turns back on itself.
 
 ghost use Rattle.std.specs.Prelude.{Bool, Result};
 ghost use Rattle.i_shape_core.specs.IntPoint.{contour_of, IsSafeContour};
@@ -13,25 +13,26 @@ use i_shape_core::error::ShapeError;
 use i_shape_core::number::IntNumber;
 pub use shape::{DeSpikeShape, DeSpikeShapes};
 
-/// The removal of spikes in place.
+/// Removal of spikes in place.
 pub trait DeSpike {
-    /// What is asked of the value: that its points are safe.
+    /// The precondition: the value's points are safe.
     ghost can_despike: { Self → Type 0 };
 
-    /// Relates the value before the call, the answer, and the value after it.
+    /// Relates the value before the call, the result, and the value after the call.
     ghost despike_gives: { Self → Result Bool ShapeError → Self → Type 0 };
 
-    /// Removes spikes. False where `has_no_spikes` holds of the value; then nothing changes, and no memory is taken.
-    /// What is new is built whole before anything old goes: after `OutOfMemory`, the only error, the value is as it was.
-    /// Whatever it answers, the points are safe still.
+    /// Removes spikes in place. Returns false exactly where `has_no_spikes` holds of the value; the call then changes
+    /// nothing and allocates nothing.
+    /// All memory is allocated before the value changes. The only error is `OutOfMemory`, which leaves the value
+    /// unchanged. The points are safe after every call.
     fn remove_spikes(&mut self) -> Result<bool, ShapeError>
         requires { can_despike self.old }
         ensures gives { despike_gives self.old result self.new }
         ensures safe { can_despike self.new };
 }
 
-/// A contour that collapses is left empty. Fewer than three points collapse, without memory.
-/// A second call answers false exactly where the contour isn't empty.
+/// A contour that collapses becomes empty. A contour of fewer than three points collapses without allocation. After a
+/// call without an error, a second call returns false exactly where the contour isn't empty.
 impl<I: IntNumber> DeSpike for IntContour<I> {
     ghost can_despike = { λ contour. IsSafeContour I.width (contour_of I.value contour.items) };
 

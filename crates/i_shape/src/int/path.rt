@@ -1,4 +1,4 @@
-//! Paths of whole-number points.
+//! Paths of integer points.
 
 use crate::base::data::{Path, Paths};
 pub use i_shape_core::contour::ContourExtension;

@@ -1,4 +1,4 @@
-//! Contours, shapes and shape lists of whole-number points.
+//! Contours, shapes and shape lists of integer points.
 
 use crate::base::data::{Shape, Shapes};
 pub use i_shape_core::point::IntContour;

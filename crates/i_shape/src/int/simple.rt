@@ -1,4 +1,5 @@
-//! The removal of zero turns.
+//! Removal of zero turns. A zero turn is a degenerate vertex: its two edges lie on one line, or one of them has no
+//! length.
 
 ghost use Rattle.std.specs.Prelude.{Bool, Result};
 ghost use Rattle.i_shape_core.specs.IntPoint.{contour_of, IsSafeContour};
@@ -16,24 +17,26 @@ pub use i_shape_core::simple::SimpleContour;
 pub use i_shape_core::simplifier::ContourSimplifier;
 pub use shape::{SimpleShape, SimpleShapes};
 
-/// The removal of zero turns in place.
+/// Removal of zero turns in place.
 pub trait Simplify {
-    /// What is asked of the value: that its points are safe.
+    /// The precondition: the value's points are safe.
     ghost can_simplify: { Self → Type 0 };
 
-    /// Relates the value before the call, the answer, and the value after it.
+    /// Relates the value before the call, the result, and the value after the call.
     ghost simplify_gives: { Self → Result Bool ShapeError → Self → Type 0 };
 
-    /// Removes zero turns. False where `is_simple` holds of the value; then nothing changes, and no memory is taken.
-    /// What is new is built whole before anything old goes: after `OutOfMemory`, the only error, the value is as it was.
-    /// Whatever it answers, the points are safe still.
+    /// Removes zero turns in place. Returns false exactly where `is_simple` holds of the value; the call then changes
+    /// nothing and allocates nothing.
+    /// All memory is allocated before the value changes. The only error is `OutOfMemory`, which leaves the value
+    /// unchanged. The points are safe after every call.
     fn simplify_contour(&mut self) -> Result<bool, ShapeError>
         requires { can_simplify self.old }
         ensures gives { simplify_gives self.old result self.new }
         ensures safe { can_simplify self.new };
 }
 
-/// A contour that collapses is left empty. Fewer than three points collapse, without memory.
+/// A contour that collapses, that is, keeps fewer than three points, becomes empty. A contour that has fewer than three
+/// points before the call collapses without allocation.
 impl<I: IntNumber> Simplify for IntContour<I> {
     ghost can_simplify = { λ contour. IsSafeContour I.width (contour_of I.value contour.items) };
 

@@ -1,4 +1,4 @@
-//! How often the contours of a shape wind about a point, which points they fill, and which lie on their edges.
+//! The winding number of a shape about a point, the points that a fill rule fills, and the points on an edge.
 
 ghost use Rattle.std.specs.Prelude.{◌≡◌, ◌↔◌, List, IsTrue};
 ghost use Rattle.i_shape.specs.IntPoint.{point_of, IsSafe};
@@ -15,25 +15,26 @@ pub use i_shape_core::heights::windings_by_height;
 use i_shape_core::number::IntNumber;
 pub use i_shape_core::winding::{winding_about, windings_about};
 
-/// Tests of a shape as a whole. Each takes linear time and no memory.
+/// Queries on a shape as a whole. Each takes linear time and allocates nothing.
 pub trait ShapeExtension<I: IntNumber> {
-    /// The contours of the shape over whole numbers.
+    /// The contours of the shape in unbounded integers.
     ghost shape: { Self → List (List Point) };
 
-    /// How often the contours wind about `point` together, to the left: the sum of their winding numbers, which can't overflow.
+    /// Returns the sum of the contours' winding numbers about `point`. Counterclockwise is positive. The sum can't
+    /// overflow.
     fn winding_number(&self, point: IntPoint<I>) -> i128
         requires points_safe { IsSafeShape I.width (shape self.now) }
         requires point_safe { IsSafe I.width (point_of I.value point) }
         ensures { result ≡ shape_winding (shape self.now) (point_of I.value point) };
 
-    /// Whether a fill rule fills `point`, by how often the contours wind about it together.
+    /// Returns whether `rule` fills `point`, given the shape's winding number about it.
     fn contains_by(&self, point: IntPoint<I>, rule: FillRule) -> bool
         requires points_safe { IsSafeShape I.width (shape self.now) }
         requires point_safe { IsSafe I.width (point_of I.value point) }
         ensures { IsTrue result
             ↔ IsFilled rule (shape_winding (shape self.now) (point_of I.value point)) };
 
-    /// Whether `point` lies on an edge of one of the contours, the ends of which lie on it too.
+    /// Returns whether `point` lies on an edge of one of the contours. An edge includes its ends.
     fn is_on_boundary(&self, point: IntPoint<I>) -> bool
         requires points_safe { IsSafeShape I.width (shape self.now) }
         requires point_safe { IsSafe I.width (point_of I.value point) }

@@ -1,8 +1,8 @@
-//! Borrowed paths of points of any kind.
+//! Borrowed paths of points of any type.
 
 pub mod buffer;
 
-/// Resources of paths over points of any kind.
+/// Resources of paths over points of any type.
 pub mod resource {
     pub use i_shape_source::float::resource::{ShapePoint, ShapeResource};
 }

@@ -1,8 +1,8 @@
-//! Borrowed paths of whole-number points.
+//! Borrowed paths of integer points.
 
 pub mod buffer;
 
-/// Resources of whole-number paths.
+/// Resources of integer paths.
 pub mod resource {
     pub use i_shape_source::int::resource::IntShapeResource;
 }

@@ -1,4 +1,4 @@
-//! The cleaning inside a flat buffer of contours.
+//! Cleaning within a flat buffer of contours.
 
 ghost use Rattle.std.specs.Prelude.{◌<◌, ◌↔◌, length, IfOk, IsErrOf};
 ghost use Rattle.std.specs.List.{All, sum_by};
@@ -25,11 +25,14 @@ use std::alloc::Global;
 use std::ops::Range;
 
 impl<T: IntNumber> FlatContoursBuffer<T> {
-    /// Removes zero turns from each contour, and contours that collapse. Answers whether any contour had to be cleaned.
-    /// Where none had, nothing changes, and no memory is taken. Otherwise the buffer has the cleaned contours end to end,
-    /// in order, and nothing else. `TooManyPoints` where a contour has to be cleaned and the ranges name more than `usize::MAX` points
-    /// together, tested before any memory is taken; else `OutOfMemory`. After an error the lists are as they were.
-    /// Whatever it answers, the contours can be read still, have safe points, and keep double area and containment together.
+    /// Removes zero turns from each contour, and the contours that collapse. Returns whether a contour had to be
+    /// cleaned. If none had to, the call changes nothing and allocates nothing. Otherwise the buffer holds the cleaned
+    /// contours end to end, in order, and nothing else.
+    /// Requires what `can_read_contours` tests, and safe points. `TooManyPoints` if a contour has to be cleaned and the
+    /// ranges name more than `usize::MAX` points together, checked before any allocation; otherwise the only error is
+    /// `OutOfMemory`. An error leaves the buffer unchanged.
+    /// After every call the contours can be read and have safe points. Together they keep their double area,
+    /// containment and winding numbers.
     pub fn simplify_contours(&mut self) -> Result<bool, ShapeError>
         requires readable { CanReadContours self.old }
         requires safe { All (All (IsSafe T.width)) (contours_in T.value self.old) }
@@ -42,8 +45,8 @@ impl<T: IntNumber> FlatContoursBuffer<T> {
         clean_contours::<T, ContourSimplifier>(self)
     }
 
-    /// Removes spikes from each contour that has some, and contours that collapse, in the same way. Answers whether any had to be
-    /// cleaned.
+    /// Removes spikes from each contour that has any, and the contours that collapse. Otherwise like
+    /// `simplify_contours`. Returns whether a contour had to be cleaned.
     pub fn remove_spikes(&mut self) -> Result<bool, ShapeError>
         requires readable { CanReadContours self.old }
         requires safe { All (All (IsSafe T.width)) (contours_in T.value self.old) }

@@ -1,4 +1,4 @@
-//! The flat buffer whose ranges name contours.
+//! The flat buffer of contours over integer points.
 
 ghost use Rattle.std.specs.Prelude.{◌≡◌, ◌+◌, ◌<◌, ◌≤◌, ◌++◌, ◌∷◌, ◌↔◌, ◌⊎◌, [], length, vec_len, vec_capacity, IfOk, OnOk, OnErr, IsOkUnless, IsErrOf, IsTrue, IsOk};
 ghost use Rattle.std.specs.Borrow.{sem};
@@ -18,19 +18,19 @@ use i_shape_core::number::IntNumber;
 use std::alloc::Global;
 use std::ops::Range;
 
-/// Contours in one list of points: each range names the points of a contour. Ranges may be anything;
+/// Contours in one list of points. Each range names the points of one contour. The ranges may be anything;
 /// `can_read_first` and `can_read_contours` test those that a reader needs.
 #[derive(PartialEq, Eq, Debug, Drop)]
 pub struct FlatContoursBuffer<T> {
     /// The points of all contours.
     pub points: Vec<IntPoint<T>>,
-    /// The places of each contour's points.
+    /// The index range of each contour's points.
     pub ranges: Vec<Range<usize>>,
 }
 
-/// Makers and tests.
+/// Constructors and tests.
 impl<T: IntNumber> FlatContoursBuffer<T> {
-    /// An empty buffer that takes its memory from `alloc`.
+    /// Returns an empty buffer that allocates from `alloc`.
     pub fn new(alloc: Global) -> Self
         ensures { HoldsContours result [] }
     {
@@ -40,7 +40,7 @@ impl<T: IntNumber> FlatContoursBuffer<T> {
         }
     }
 
-    /// An empty buffer with room for `capacity` points. The only error is `OutOfMemory`.
+    /// Returns an empty buffer with room for at least `capacity` points. The only error is `OutOfMemory`.
     pub fn with_capacity(alloc: Global, capacity: usize) -> Result<Self, ShapeError>
         ensures ok { IfOk result (λ buffer. HoldsContours buffer []) }
         ensures room { IfOk result (λ buffer. capacity ≤ vec_capacity buffer.points) }
@@ -52,7 +52,7 @@ impl<T: IntNumber> FlatContoursBuffer<T> {
         })
     }
 
-    /// A buffer with the same points and ranges. The only error is `OutOfMemory`.
+    /// Returns a buffer with the same points and ranges. The only error is `OutOfMemory`.
     pub fn clone(&self) -> Result<Self, ShapeError>
         ensures ok { IfOk result (λ copy. SameLists self.now copy) }
         ensures memory { IsOkUnless result ShapeError.OutOfMemory }
@@ -64,21 +64,22 @@ impl<T: IntNumber> FlatContoursBuffer<T> {
         })
     }
 
-    /// Whether there are no points. Ranges aren't looked at.
+    /// Returns whether there are no points. Ignores the ranges.
     pub fn is_empty(&self) -> bool
         ensures { IsTrue result ↔ (self.now.points.items ≡ []) }
     {
         self.points.is_empty()
     }
 
-    /// Whether there is exactly one range.
+    /// Returns whether there is exactly one range.
     pub fn is_single_contour(&self) -> bool
         ensures { IsTrue result ↔ (length self.now.ranges.items ≡ 1) }
     {
         self.ranges.len() == 1
     }
 
-    /// Whether `as_first_contour` may be called: there is no range, or the first is in order and within the points.
+    /// Returns whether `as_first_contour` may be called: there is no range, or the first is in order and ends within
+    /// the points.
     pub fn can_read_first(&self) -> bool
         ensures { IsTrue result ↔ CanReadFirst self.now.ranges.items
             (length self.now.points.items) }
@@ -89,7 +90,7 @@ impl<T: IntNumber> FlatContoursBuffer<T> {
         }
     }
 
-    /// Whether `to_contours` may be called: each range is in order and within the points.
+    /// Returns whether `to_contours` may be called: each range is in order and ends within the points.
     pub fn can_read_contours(&self) -> bool
         ensures { IsTrue result ↔ CanReadContours self.now }
     {
@@ -97,10 +98,10 @@ impl<T: IntNumber> FlatContoursBuffer<T> {
     }
 }
 
-/// Setters. Each makes room before it changes a list, so the lists stay as they were where it fails.
+/// Setters. Each makes room before it changes a list, so an error leaves the lists unchanged.
 impl<T: IntNumber> FlatContoursBuffer<T> {
-    /// Empties the buffer, with room for so many points and contours. The only error is `OutOfMemory`;
-    /// the lists then stay as they were.
+    /// Empties the buffer and makes room for `points` points and `contours` contours. The only error is `OutOfMemory`,
+    /// which leaves the lists unchanged.
     pub fn clear_and_reserve(&mut self, points: usize, contours: usize) -> Result<(), ShapeError>
         ensures ok { OnOk result (HoldsContours self.new []) }
         ensures err { OnErr result (SameLists self.old self.new) }
@@ -116,7 +117,7 @@ impl<T: IntNumber> FlatContoursBuffer<T> {
         Ok(())
     }
 
-    /// Puts this one contour in place of all others. The only error is `OutOfMemory`; the lists then stay as they were.
+    /// Replaces the contents by this one contour. The only error is `OutOfMemory`, which leaves the lists unchanged.
     pub fn set_with_contour(&mut self, contour: &[IntPoint<T>]) -> Result<(), ShapeError>
         ensures ok { OnOk result (HoldsContours self.new (contour.now ∷ [])) }
         ensures err { OnErr result (SameLists self.old self.new) }
@@ -129,8 +130,8 @@ impl<T: IntNumber> FlatContoursBuffer<T> {
         Ok(())
     }
 
-    /// Puts the contours of this shape in place of all others. `TooManyPoints` where they have more than `usize::MAX`
-    /// points together, tested first; else `OutOfMemory`. After an error the lists are as they were.
+    /// Replaces the contents by the contours of this shape. `TooManyPoints` if they have more than `usize::MAX` points
+    /// together, checked first; otherwise the only error is `OutOfMemory`. An error leaves the lists unchanged.
     pub fn set_with_shape(&mut self, shape: &[IntContour<T>]) -> Result<(), ShapeError>
         ensures ok { OnOk result (HoldsContours self.new (paths_of_shape shape.now)) }
         ensures err { OnErr result (SameLists self.old self.new) }
@@ -146,8 +147,9 @@ impl<T: IntNumber> FlatContoursBuffer<T> {
         Ok(())
     }
 
-    /// Puts all contours of these shapes in place of all others. `TooManyPoints` where they have more than `usize::MAX`
-    /// points together, or are more than `usize::MAX`, tested first; else `OutOfMemory`. After an error the lists are as they were.
+    /// Replaces the contents by all contours of these shapes. `TooManyPoints` if there are more than `usize::MAX`
+    /// contours, or if they have more than `usize::MAX` points together, checked first; otherwise the only error is
+    /// `OutOfMemory`. An error leaves the lists unchanged.
     pub fn set_with_shapes(&mut self, shapes: &[IntShape<T>]) -> Result<(), ShapeError>
         ensures ok { OnOk result (HoldsContours self.new (paths_of_shapes shapes.now)) }
         ensures err { OnErr result (SameLists self.old self.new) }
@@ -164,8 +166,8 @@ impl<T: IntNumber> FlatContoursBuffer<T> {
         Ok(())
     }
 
-    /// Appends the points of a contour, and their range. `TooManyPoints` where there would be more than `usize::MAX` points,
-    /// tested first; else `OutOfMemory`. After an error the lists are as they were.
+    /// Appends the points of a contour and their range. `TooManyPoints` if the buffer would have more than `usize::MAX`
+    /// points, checked first; otherwise the only error is `OutOfMemory`. An error leaves the lists unchanged.
     pub fn add_contour(&mut self, contour: &[IntPoint<T>]) -> Result<(), ShapeError>
         ensures points { OnOk result (self.new.points.items
             ≡ self.old.points.items ++ contour.now) }
@@ -191,7 +193,8 @@ impl<T: IntNumber> FlatContoursBuffer<T> {
 
 /// Readers.
 impl<T: IntNumber> FlatContoursBuffer<T> {
-    /// A copy of each contour, in the order of the ranges. The only error is `OutOfMemory`.
+    /// Returns a copy of each contour, in the order of the ranges. Requires what `can_read_contours` tests. The only
+    /// error is `OutOfMemory`.
     pub fn to_contours(&self) -> Result<IntShape<T>, ShapeError>
         requires { CanReadContours self.now }
         ensures ok { IfOk result (λ contours. paths_of_shape contours.items
@@ -205,7 +208,8 @@ impl<T: IntNumber> FlatContoursBuffer<T> {
         )
     }
 
-    /// The points that the first range names; all points where there is no range.
+    /// Returns the points that the first range names, or all points where there is no range. Requires what
+    /// `can_read_first` tests.
     pub fn as_first_contour(&self) -> &[IntPoint<T>]
         requires { CanReadFirst self.now.ranges.items (length self.now.points.items) }
         ensures { result.now ≡ first_contour self.now.points.items self.now.ranges.items }
@@ -214,7 +218,7 @@ impl<T: IntNumber> FlatContoursBuffer<T> {
         &self.points[range.start..range.end]
     }
 
-    /// The same points, to be written.
+    /// Returns the same points as `as_first_contour`, mutably. Requires what `can_read_first` tests.
     pub fn as_first_contour_mut(&mut self) -> &mut [IntPoint<T>]
         requires { CanReadFirst self.old.ranges.items (length self.old.points.items) }
         ensures* writes_back { sem 𝓛 (LendsFirst T.row self.entry result) }
@@ -224,7 +228,7 @@ impl<T: IntNumber> FlatContoursBuffer<T> {
         self.points.slice_mut(range)
     }
 
-    /// The places of the points that the first range names; of all points where there is no range.
+    /// Returns the first range, or the range of all points where there is none.
     fn first_range(&self) -> Range<usize>
         requires { CanReadFirst self.now.ranges.items (length self.now.points.items) }
         ensures in_order { InOrder (length self.now.points.items) result }

@@ -1,4 +1,4 @@
-//! The flat buffer whose shape ranges name contour ranges.
+//! The flat buffer of shapes over integer points.
 
 ghost use Rattle.std.specs.Prelude.{◌≡◌, ◌+◌, ◌<◌, ◌∷◌, ◌↔◌, ◌⊎◌, [], length, vec_len, IfOk, OnOk, OnErr, IsOkUnless, IsErrOf, IsTrue, IsOk};
 ghost use Rattle.std.specs.List.{All};
@@ -18,21 +18,22 @@ use i_shape_core::number::IntNumber;
 use std::alloc::Global;
 use std::ops::Range;
 
-/// Shapes in one list of points: each contour range names the points of a contour, and each shape range the contour ranges
-/// of a shape. Ranges may be anything; `can_read_contours` and `can_read_shapes` test those that a reader needs.
+/// Shapes in one list of points. Each contour range names the points of one contour, and each shape range the contour
+/// ranges of one shape. The ranges may be anything; `can_read_contours` and `can_read_shapes` test those that a reader
+/// needs.
 #[derive(PartialEq, Eq, Debug, Drop)]
 pub struct FlatShapesBuffer<T> {
     /// The points of all contours.
     pub points: Vec<IntPoint<T>>,
-    /// The places of each contour's points.
+    /// The index range of each contour's points.
     pub contour_ranges: Vec<Range<usize>>,
-    /// The places of each shape's contour ranges.
+    /// The index range of each shape's contour ranges.
     pub shape_ranges: Vec<Range<usize>>,
 }
 
-/// Makers and tests.
+/// Constructors and tests.
 impl<T: IntNumber> FlatShapesBuffer<T> {
-    /// An empty buffer that takes its memory from `alloc`.
+    /// Returns an empty buffer that allocates from `alloc`.
     pub fn new(alloc: Global) -> Self
         ensures { HoldsShapes result [] }
     {
@@ -43,7 +44,8 @@ impl<T: IntNumber> FlatShapesBuffer<T> {
         }
     }
 
-    /// An empty buffer with room for so many points, contours and shapes. The only error is `OutOfMemory`.
+    /// Returns an empty buffer with room for at least `points` points, `contours` contours and `shapes` shapes. The
+    /// only error is `OutOfMemory`.
     pub fn with_capacity(
         alloc: Global,
         points: usize,
@@ -61,7 +63,7 @@ impl<T: IntNumber> FlatShapesBuffer<T> {
         })
     }
 
-    /// A buffer with the same points and ranges. The only error is `OutOfMemory`.
+    /// Returns a buffer with the same points and ranges. The only error is `OutOfMemory`.
     pub fn clone(&self) -> Result<Self, ShapeError>
         ensures ok { IfOk result (λ copy. SameShapeLists self.now copy) }
         ensures memory { IsOkUnless result ShapeError.OutOfMemory }
@@ -74,14 +76,14 @@ impl<T: IntNumber> FlatShapesBuffer<T> {
         })
     }
 
-    /// Whether there are no points. Ranges aren't looked at.
+    /// Returns whether there are no points. Ignores the ranges.
     pub fn is_empty(&self) -> bool
         ensures { IsTrue result ↔ (self.now.points.items ≡ []) }
     {
         self.points.is_empty()
     }
 
-    /// Whether `to_contours` may be called: each contour range is in order and within the points.
+    /// Returns whether `to_contours` may be called: each contour range is in order and ends within the points.
     pub fn can_read_contours(&self) -> bool
         ensures { IsTrue result ↔ All (InOrder (length self.now.points.items))
             self.now.contour_ranges.items }
@@ -89,8 +91,8 @@ impl<T: IntNumber> FlatShapesBuffer<T> {
         all_in_order(self.contour_ranges.as_slice(), self.points.len())
     }
 
-    /// Whether `to_shapes` may be called: each shape range that isn't empty or reversed ends within the contour ranges,
-    /// and those that it names are in order and within the points.
+    /// Returns whether `to_shapes` may be called. Each shape range that isn't empty or reversed must end within the
+    /// contour ranges, and the contour ranges that it names must be in order and end within the points.
     pub fn can_read_shapes(&self) -> bool
         ensures { IsTrue result ↔ CanReadShapes self.now }
     {
@@ -100,10 +102,10 @@ impl<T: IntNumber> FlatShapesBuffer<T> {
     }
 }
 
-/// Setters. Each makes room before it changes a list, so the lists stay as they were where it fails.
+/// Setters. Each makes room before it changes a list, so an error leaves the lists unchanged.
 impl<T: IntNumber> FlatShapesBuffer<T> {
-    /// Empties the buffer, with room for so many points, contours and shapes. The only error is `OutOfMemory`;
-    /// the lists then stay as they were.
+    /// Empties the buffer and makes room for `points` points, `contours` contours and `shapes` shapes. The only error
+    /// is `OutOfMemory`, which leaves the lists unchanged.
     pub fn clear_and_reserve(
         &mut self,
         points: usize,
@@ -126,8 +128,8 @@ impl<T: IntNumber> FlatShapesBuffer<T> {
         Ok(())
     }
 
-    /// Puts the shape of this one contour in place of all others. The only error is `OutOfMemory`;
-    /// the lists then stay as they were.
+    /// Replaces the contents by a shape of this one contour. The only error is `OutOfMemory`, which leaves the lists
+    /// unchanged.
     pub fn set_with_contour(&mut self, contour: &[IntPoint<T>]) -> Result<(), ShapeError>
         ensures ok { OnOk result (HoldsShapes self.new ((contour.now ∷ []) ∷ [])) }
         ensures err { OnErr result (SameShapeLists self.old self.new) }
@@ -141,8 +143,8 @@ impl<T: IntNumber> FlatShapesBuffer<T> {
         Ok(())
     }
 
-    /// Puts this one shape in place of all others. `TooManyPoints` where its contours have more than `usize::MAX` points together,
-    /// tested first; else `OutOfMemory`. After an error the lists are as they were.
+    /// Replaces the contents by this one shape. `TooManyPoints` if its contours have more than `usize::MAX` points
+    /// together, checked first; otherwise the only error is `OutOfMemory`. An error leaves the lists unchanged.
     pub fn set_with_shape(&mut self, shape: &[IntContour<T>]) -> Result<(), ShapeError>
         ensures ok { OnOk result (HoldsShapes self.new (paths_of_shape shape.now ∷ [])) }
         ensures err { OnErr result (SameShapeLists self.old self.new) }
@@ -163,8 +165,9 @@ impl<T: IntNumber> FlatShapesBuffer<T> {
         Ok(())
     }
 
-    /// Puts these shapes in place of all others, empty ones too. `TooManyPoints` where their contours have more than `usize::MAX`
-    /// points together, or are more than `usize::MAX`, tested first; else `OutOfMemory`. After an error the lists are as they were.
+    /// Replaces the contents by these shapes, including empty ones. `TooManyPoints` if there are more than `usize::MAX`
+    /// contours, or if they have more than `usize::MAX` points together, checked first; otherwise the only error is
+    /// `OutOfMemory`. An error leaves the lists unchanged.
     pub fn set_with_shapes(&mut self, shapes: &[IntShape<T>]) -> Result<(), ShapeError>
         ensures ok { OnOk result (HoldsShapes self.new (shape_lists shapes.now)) }
         ensures err { OnErr result (SameShapeLists self.old self.new) }
@@ -187,8 +190,8 @@ impl<T: IntNumber> FlatShapesBuffer<T> {
         Ok(())
     }
 
-    /// Appends a shape, an empty one too. `TooManyPoints` where there would be more than `usize::MAX` points or contour ranges,
-    /// tested first; else `OutOfMemory`. After an error the lists are as they were.
+    /// Appends a shape, which may be empty. `TooManyPoints` if the buffer would have more than `usize::MAX` points or
+    /// contour ranges, checked first; otherwise the only error is `OutOfMemory`. An error leaves the lists unchanged.
     pub fn add_shape(&mut self, shape: &[IntContour<T>]) -> Result<(), ShapeError>
         ensures ok { OnOk result (AddsShape self.old self.new (paths_of_shape shape.now)) }
         ensures err { OnErr result (SameShapeLists self.old self.new) }
@@ -223,7 +226,8 @@ impl<T: IntNumber> FlatShapesBuffer<T> {
 
 /// Readers.
 impl<T: IntNumber> FlatShapesBuffer<T> {
-    /// A copy of each contour, in the order of the contour ranges. The only error is `OutOfMemory`.
+    /// Returns a copy of each contour, in the order of the contour ranges. Requires what `can_read_contours` tests. The
+    /// only error is `OutOfMemory`.
     pub fn to_contours(&self) -> Result<IntShape<T>, ShapeError>
         requires { All (InOrder (length self.now.points.items)) self.now.contour_ranges.items }
         ensures ok { IfOk result (λ contours. paths_of_shape contours.items
@@ -237,8 +241,8 @@ impl<T: IntNumber> FlatShapesBuffer<T> {
         )
     }
 
-    /// A copy of each shape, in the order of the shape ranges; an empty shape where the range is empty or reversed.
-    /// The only error is `OutOfMemory`.
+    /// Returns a copy of each shape, in the order of the shape ranges. An empty or reversed range gives an empty shape.
+    /// Requires what `can_read_shapes` tests. The only error is `OutOfMemory`.
     pub fn to_shapes(&self) -> Result<IntShapes<T>, ShapeError>
         requires { CanReadShapes self.now }
         ensures ok { IfOk result (λ list. shape_lists list.items ≡ shapes_in self.now) }

@@ -1,4 +1,4 @@
-//! The flat buffer over points of any kind whose ranges name contours.
+//! The flat buffer of contours over points of any type.
 
 ghost use Rattle.std.specs.Prelude.{◌≡◌, ◌+◌, ◌<◌, ◌≤◌, ◌++◌, ◌∷◌, ◌↔◌, ◌⊎◌, [], List, length, vec_capacity, IfOk, OnOk, OnErr, IsOkUnless, IsErrOf, IsTrue, IsOk};
 ghost use Rattle.std.specs.List.{All};
@@ -17,19 +17,19 @@ use i_shape_source::float::resource::{ShapePoint, ShapeResource};
 use std::alloc::Global;
 use std::ops::Range;
 
-/// Contours in one list of points: each range names the points of a contour. Ranges may be anything;
+/// Contours in one list of points. Each range names the points of one contour. The ranges may be anything;
 /// `can_read_contours` tests those that a reader needs.
 #[derive(PartialEq, Eq, Debug, Drop)]
 pub struct FloatFlatContoursBuffer<P: Copy> {
     /// The points of all contours.
     pub points: Vec<P>,
-    /// The places of each contour's points.
+    /// The index range of each contour's points.
     pub ranges: Vec<Range<usize>>,
 }
 
-/// Makers and tests.
+/// Constructors and tests.
 impl<P: Copy> FloatFlatContoursBuffer<P> {
-    /// An empty buffer that takes its memory from `alloc`.
+    /// Returns an empty buffer that allocates from `alloc`.
     pub fn new(alloc: Global) -> Self
         ensures { HasLists result [] [] }
     {
@@ -39,7 +39,8 @@ impl<P: Copy> FloatFlatContoursBuffer<P> {
         }
     }
 
-    /// An empty buffer with room for so many points and contours. The only error is `OutOfMemory`.
+    /// Returns an empty buffer with room for at least `points` points and `contours` contours. The only error is
+    /// `OutOfMemory`.
     pub fn with_capacity(alloc: Global, points: usize, contours: usize) -> Result<Self, ShapeError>
         ensures ok { IfOk result (λ buffer. HasLists buffer [] []) }
         ensures room { IfOk result (λ buffer. HasListsRoom buffer points contours) }
@@ -51,7 +52,7 @@ impl<P: Copy> FloatFlatContoursBuffer<P> {
         })
     }
 
-    /// A buffer with the same points and ranges. The only error is `OutOfMemory`.
+    /// Returns a buffer with the same points and ranges. The only error is `OutOfMemory`.
     pub fn clone(&self) -> Result<Self, ShapeError>
         ensures ok { IfOk result
             (λ copy. HasLists copy self.now.points.items self.now.ranges.items) }
@@ -64,14 +65,14 @@ impl<P: Copy> FloatFlatContoursBuffer<P> {
         })
     }
 
-    /// Whether there are no points. Ranges aren't looked at.
+    /// Returns whether there are no points. Ignores the ranges.
     pub fn is_empty(&self) -> bool
         ensures { IsTrue result ↔ (self.now.points.items ≡ []) }
     {
         self.points.is_empty()
     }
 
-    /// Whether `to_contours` may be called: each range is in order and within the points.
+    /// Returns whether `to_contours` may be called: each range is in order and ends within the points.
     pub fn can_read_contours(&self) -> bool
         ensures { IsTrue result ↔ All (InOrder (length self.now.points.items))
             self.now.ranges.items }
@@ -79,7 +80,7 @@ impl<P: Copy> FloatFlatContoursBuffer<P> {
         all_in_order(self.ranges.as_slice(), self.points.len())
     }
 
-    /// A copy of each range's points. The only error is `OutOfMemory`.
+    /// Returns a copy of each range's points. Requires what `can_read_contours` tests. The only error is `OutOfMemory`.
     pub fn to_contours(&self) -> Result<Vec<Contour<P>>, ShapeError>
         requires { All (InOrder (length self.now.points.items)) self.now.ranges.items }
         ensures ok { IfOk result (λ contours. paths_of_shape contours.items
@@ -102,8 +103,8 @@ impl<P: Copy> FloatFlatContoursBuffer<P> {
         self.ranges.clear();
     }
 
-    /// Empties the buffer, with room for so many points and contours. The only error is `OutOfMemory`;
-    /// the lists then stay as they were.
+    /// Empties the buffer and makes room for `points` points and `contours` contours. The only error is `OutOfMemory`,
+    /// which leaves the lists unchanged.
     pub fn clear_and_reserve(&mut self, points: usize, contours: usize) -> Result<(), ShapeError>
         ensures ok { OnOk result (HasLists self.new [] []) }
         ensures err { OnErr result (HasLists self.new self.old.points.items self.old.ranges.items) }
@@ -117,8 +118,8 @@ impl<P: Copy> FloatFlatContoursBuffer<P> {
         Ok(())
     }
 
-    /// Appends a contour. `TooManyPoints` where there were more than `usize::MAX` points then, tested first; else `OutOfMemory`.
-    /// After an error the lists are as they were.
+    /// Appends a contour. `TooManyPoints` if the buffer would have more than `usize::MAX` points, checked first;
+    /// otherwise the only error is `OutOfMemory`. An error leaves the lists unchanged.
     pub fn add_contour(&mut self, contour: &[P]) -> Result<(), ShapeError>
         ensures ok { OnOk result
             (HasLists self.new (self.old.points.items ++ contour.now)
@@ -139,7 +140,8 @@ impl<P: Copy> FloatFlatContoursBuffer<P> {
         Ok(())
     }
 
-    /// Appends all the items as one contour. The only error is `OutOfMemory`; the lists then stay as they were.
+    /// Appends all items of an iterator as one contour. The only error is `OutOfMemory`, which leaves the lists
+    /// unchanged.
     pub fn add_contour_iter<I: Iterator<Item = P> + Drop>(
         &mut self,
         iter: I,
@@ -159,8 +161,8 @@ impl<P: Copy> FloatFlatContoursBuffer<P> {
         Ok(())
     }
 
-    /// Puts copies of these points and ranges in place of all others. Ranges aren't checked. The only error is `OutOfMemory`;
-    /// the lists then stay as they were.
+    /// Replaces the contents by copies of these points and ranges. The ranges aren't checked. The only error is
+    /// `OutOfMemory`, which leaves the lists unchanged.
     pub fn set_flat(&mut self, points: &[P], ranges: &[Range<usize>]) -> Result<(), ShapeError>
         ensures ok { OnOk result (HasLists self.new points.now ranges.now) }
         ensures reserved { HasListsRoom self.old (length points.now) (length ranges.now)
@@ -174,10 +176,11 @@ impl<P: Copy> FloatFlatContoursBuffer<P> {
         Ok(())
     }
 
-    /// Puts all the items and copies of these ranges in place of all others. Ranges aren't checked.
+    /// Replaces the contents by all items of an iterator and copies of these ranges. The ranges aren't checked.
     ///
-    /// Before the first item is taken, there is room for as many points as the iterator's upper size hint says, or the lower where
-    /// there is none, and as the greatest end of the ranges. The only error is `OutOfMemory`; the buffer is then empty.
+    /// Before it takes the first item, the call makes room for as many points as the upper size hint says, or the lower
+    /// one where there is no upper one, and for no fewer than the greatest end of the ranges. The only error is
+    /// `OutOfMemory`, which leaves the buffer empty.
     pub fn set_with_iter<I: Iterator<Item = P> + Drop>(
         &mut self,
         iter: I,
@@ -204,8 +207,9 @@ impl<P: Copy> FloatFlatContoursBuffer<P> {
 }
 
 impl<P: ShapePoint> FloatFlatContoursBuffer<P> {
-    /// Puts the paths of a resource, end to end, in place of all others. `TooManyPoints` where there are more than `usize::MAX`
-    /// paths or points, tested first; else `OutOfMemory`. After an error the lists are as they were.
+    /// Replaces the contents by the paths of a resource, end to end. `TooManyPoints` if there are more than
+    /// `usize::MAX` paths or points, checked first; otherwise the only error is `OutOfMemory`. An error leaves the
+    /// lists unchanged.
     pub fn set_with_resource<'a, R: ShapeResource<'a, P> + Copy>(
         &mut self,
         resource: R,

@@ -1,4 +1,4 @@
-//! What fills the lists of a flat buffer over points of any kind.
+//! Functions that fill the lists of a flat buffer over points of any type.
 
 ghost use Rattle.std.specs.Prelude.{◌≡◌, ◌+◌, ◌<◌, ◌≤◌, ◌++◌, ◌⊎◌, List, length, map, vec_len, vec_capacity, OnOk, OnErr, IsOkUnless, MatchOption};
 ghost use Rattle.std.specs.List.{All, Contains};
@@ -11,7 +11,7 @@ use crate::flat::lists::{Counts, append_contour};
 use i_shape_source::float::resource::{ShapePoint, ShapeResource};
 use std::ops::Range;
 
-/// The greatest end of some ranges, and 0 where there is none.
+/// Returns the greatest end of some ranges, or 0 where there are none.
 pub fn greatest_end(ranges: &[Range<usize>]) -> usize
     ensures bound { All (λ range. range.end ≤ result) ranges.now }
     ensures found { (result ≡ 0) ⊎ Contains (map (λ range. range.end) ranges.now) result }
@@ -19,7 +19,7 @@ pub fn greatest_end(ranges: &[Range<usize>]) -> usize
     ranges.iter().map(|range| range.end).max().unwrap_or(0)
 }
 
-/// Appends ranges, where there is room for them.
+/// Appends ranges. The list must have room.
 pub fn append_ranges(list: &mut Vec<Range<usize>>, ranges: &[Range<usize>])
     requires { vec_len list.old + length ranges.now ≤ vec_capacity list.old }
     ensures { list.new.items ≡ list.old.items ++ ranges.now }
@@ -29,7 +29,7 @@ pub fn append_ranges(list: &mut Vec<Range<usize>>, ranges: &[Range<usize>])
     }
 }
 
-/// Appends the items of an iterator. The only error is `OutOfMemory`; the points then stay as they were.
+/// Appends all items of an iterator. The only error is `OutOfMemory`, which leaves the points unchanged.
 pub fn append_items<P: Copy, I: Iterator<Item = P> + Drop>(
     points: &mut Vec<P>,
     iter: I,
@@ -44,7 +44,7 @@ pub fn append_items<P: Copy, I: Iterator<Item = P> + Drop>(
 {
     points.reserve(iter.size_hint().0)?;
     let start = points.len();
-    // Pushed one by one, since `extend` passes over a failed allocation: it asks once more.
+    // Pushes the items one by one, since `extend` ignores a failed allocation and asks once more.
     for item in iter {
         if points.push(item).is_err() {
             points.truncate(start);
@@ -54,7 +54,7 @@ pub fn append_items<P: Copy, I: Iterator<Item = P> + Drop>(
     Ok(())
 }
 
-/// How many points and paths a resource has, and `None` where one of them exceeds `usize::MAX`.
+/// Returns the numbers of points and paths of a resource, or `None` where one of them exceeds `usize::MAX`.
 pub fn checked_path_counts<'a, P: ShapePoint + 'a, R: ShapeResource<'a, P> + Copy>(
     resource: R,
 ) -> Option<Counts>
@@ -73,7 +73,7 @@ pub fn checked_path_counts<'a, P: ShapePoint + 'a, R: ShapeResource<'a, P> + Cop
     Some(Counts { points, contours })
 }
 
-/// Appends the paths of a resource end to end and their ranges, where there is room for them.
+/// Appends the paths of a resource end to end, and their ranges. Both lists must have room.
 pub fn append_paths<'a, P: ShapePoint + 'a, R: ShapeResource<'a, P> + Copy>(
     points: &mut Vec<P>,
     ranges: &mut Vec<Range<usize>>,

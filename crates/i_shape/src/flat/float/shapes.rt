@@ -1,4 +1,4 @@
-//! The flat buffer over points of any kind whose shape ranges name contour ranges.
+//! The flat buffer of shapes over points of any type.
 
 ghost use Rattle.std.specs.Prelude.{◌≡◌, ◌+◌, ◌<◌, ◌≤◌, ◌++◌, ◌∷◌, ◌↔◌, ◌⊎◌, [], List, length, vec_capacity, IfOk, OnOk, OnErr, IsOk, IsOkUnless, IsErrOf, IsTrue};
 ghost use Rattle.std.specs.List.{All};
@@ -18,21 +18,22 @@ use i_shape_source::float::resource::{ShapePoint, ShapeResource};
 use std::alloc::Global;
 use std::ops::Range;
 
-/// Shapes in one list of points: each contour range names the points of a contour, and each shape range the contour ranges
-/// of a shape. Ranges may be anything; `can_read_contours` and `can_read_shapes` test those that a reader needs.
+/// Shapes in one list of points. Each contour range names the points of one contour, and each shape range the contour
+/// ranges of one shape. The ranges may be anything; `can_read_contours` and `can_read_shapes` test those that a reader
+/// needs.
 #[derive(PartialEq, Eq, Debug, Drop)]
 pub struct FloatFlatShapesBuffer<P: Copy> {
     /// The points of all contours.
     pub points: Vec<P>,
-    /// The places of each contour's points.
+    /// The index range of each contour's points.
     pub contour_ranges: Vec<Range<usize>>,
-    /// The places of each shape's contour ranges.
+    /// The index range of each shape's contour ranges.
     pub shape_ranges: Vec<Range<usize>>,
 }
 
-/// Makers and tests.
+/// Constructors and tests.
 impl<P: Copy> FloatFlatShapesBuffer<P> {
-    /// An empty buffer that takes its memory from `alloc`.
+    /// Returns an empty buffer that allocates from `alloc`.
     pub fn new(alloc: Global) -> Self
         ensures { HasShapeLists result [] [] [] }
     {
@@ -43,7 +44,8 @@ impl<P: Copy> FloatFlatShapesBuffer<P> {
         }
     }
 
-    /// An empty buffer with room for so many points, contours and shapes. The only error is `OutOfMemory`.
+    /// Returns an empty buffer with room for at least `points` points, `contours` contours and `shapes` shapes. The
+    /// only error is `OutOfMemory`.
     pub fn with_capacity(
         alloc: Global,
         points: usize,
@@ -61,7 +63,7 @@ impl<P: Copy> FloatFlatShapesBuffer<P> {
         })
     }
 
-    /// A buffer with the same points and ranges. The only error is `OutOfMemory`.
+    /// Returns a buffer with the same points and ranges. The only error is `OutOfMemory`.
     pub fn clone(&self) -> Result<Self, ShapeError>
         ensures ok { IfOk result (λ copy. SameGroups self.now copy) }
         ensures memory { IsOkUnless result ShapeError.OutOfMemory }
@@ -74,14 +76,14 @@ impl<P: Copy> FloatFlatShapesBuffer<P> {
         })
     }
 
-    /// Whether there are no points. Ranges aren't looked at.
+    /// Returns whether there are no points. Ignores the ranges.
     pub fn is_empty(&self) -> bool
         ensures { IsTrue result ↔ (self.now.points.items ≡ []) }
     {
         self.points.is_empty()
     }
 
-    /// Whether `to_contours` may be called: each contour range is in order and within the points.
+    /// Returns whether `to_contours` may be called: each contour range is in order and ends within the points.
     pub fn can_read_contours(&self) -> bool
         ensures { IsTrue result ↔ All (InOrder (length self.now.points.items))
             self.now.contour_ranges.items }
@@ -89,8 +91,8 @@ impl<P: Copy> FloatFlatShapesBuffer<P> {
         all_in_order(self.contour_ranges.as_slice(), self.points.len())
     }
 
-    /// Whether `to_shapes` may be called: each shape range that isn't empty or reversed ends within the contour ranges,
-    /// and those that it names are in order and within the points.
+    /// Returns whether `to_shapes` may be called. Each shape range that isn't empty or reversed must end within the
+    /// contour ranges, and the contour ranges that it names must be in order and end within the points.
     pub fn can_read_shapes(&self) -> bool
         ensures { IsTrue result
             ↔ All (IsReadableShape (length self.now.points.items) self.now.contour_ranges.items)
@@ -101,7 +103,8 @@ impl<P: Copy> FloatFlatShapesBuffer<P> {
         })
     }
 
-    /// A copy of each contour range's points. The only error is `OutOfMemory`.
+    /// Returns a copy of each contour range's points. Requires what `can_read_contours` tests. The only error is
+    /// `OutOfMemory`.
     pub fn to_contours(&self) -> Result<Vec<Contour<P>>, ShapeError>
         requires { All (InOrder (length self.now.points.items)) self.now.contour_ranges.items }
         ensures ok { IfOk result (λ contours. paths_of_shape contours.items
@@ -113,8 +116,8 @@ impl<P: Copy> FloatFlatShapesBuffer<P> {
         copied_parts(alloc, self.points.as_slice(), ranges)
     }
 
-    /// A copy of each shape, in the order of the shape ranges; an empty shape where the range is empty or reversed.
-    /// The only error is `OutOfMemory`.
+    /// Returns a copy of each shape, in the order of the shape ranges. An empty or reversed range gives an empty shape.
+    /// Requires what `can_read_shapes` tests. The only error is `OutOfMemory`.
     pub fn to_shapes(&self) -> Result<Shapes<P>, ShapeError>
         requires { All
             (IsReadableShape (length self.now.points.items) self.now.contour_ranges.items)
@@ -148,8 +151,8 @@ impl<P: Copy> FloatFlatShapesBuffer<P> {
         self.shape_ranges.clear();
     }
 
-    /// Empties the buffer, with room for so many points, contours and shapes. The only error is `OutOfMemory`;
-    /// the lists then stay as they were.
+    /// Empties the buffer and makes room for `points` points, `contours` contours and `shapes` shapes. The only error
+    /// is `OutOfMemory`, which leaves the lists unchanged.
     pub fn clear_and_reserve(
         &mut self,
         points: usize,
@@ -169,8 +172,8 @@ impl<P: Copy> FloatFlatShapesBuffer<P> {
         Ok(())
     }
 
-    /// Appends a shape of this one contour. `TooManyPoints` where there were more than `usize::MAX` points then, tested first;
-    /// else `OutOfMemory`. After an error the lists are as they were.
+    /// Appends a shape of this one contour. `TooManyPoints` if the buffer would have more than `usize::MAX` points,
+    /// checked first; otherwise the only error is `OutOfMemory`. An error leaves the lists unchanged.
     pub fn add_contour(&mut self, contour: &[P]) -> Result<(), ShapeError>
         ensures ok { OnOk result
             (HasShapeLists self.new (self.old.points.items ++ contour.now)
@@ -198,7 +201,8 @@ impl<P: Copy> FloatFlatShapesBuffer<P> {
         Ok(())
     }
 
-    /// Appends a shape of one contour of all the items. The only error is `OutOfMemory`; the lists then stay as they were.
+    /// Appends a shape of one contour, which has all items of an iterator. The only error is `OutOfMemory`, which
+    /// leaves the lists unchanged.
     pub fn add_contour_iter<I: Iterator<Item = P> + Drop>(
         &mut self,
         iter: I,
@@ -224,8 +228,8 @@ impl<P: Copy> FloatFlatShapesBuffer<P> {
         Ok(())
     }
 
-    /// Puts copies of these points and ranges in place of all others. Ranges aren't checked. The only error is `OutOfMemory`;
-    /// the lists then stay as they were.
+    /// Replaces the contents by copies of these points and ranges. The ranges aren't checked. The only error is
+    /// `OutOfMemory`, which leaves the lists unchanged.
     pub fn set_flat(
         &mut self,
         points: &[P],
@@ -246,10 +250,11 @@ impl<P: Copy> FloatFlatShapesBuffer<P> {
         Ok(())
     }
 
-    /// Puts all the items and copies of these ranges in place of all others. Ranges aren't checked.
+    /// Replaces the contents by all items of an iterator and copies of these ranges. The ranges aren't checked.
     ///
-    /// Before the first item is taken, there is room for as many points as the iterator's upper size hint says, or the lower where
-    /// there is none, and as the greatest end of the contour ranges. The only error is `OutOfMemory`; the buffer is then empty.
+    /// Before it takes the first item, the call makes room for as many points as the upper size hint says, or the lower
+    /// one where there is no upper one, and for no fewer than the greatest end of the contour ranges. The only error is
+    /// `OutOfMemory`, which leaves the buffer empty.
     pub fn set_with_iter<I: Iterator<Item = P> + Drop>(
         &mut self,
         iter: I,
@@ -279,10 +284,10 @@ impl<P: Copy> FloatFlatShapesBuffer<P> {
 }
 
 impl<P: ShapePoint> FloatFlatShapesBuffer<P> {
-    /// Puts the paths of a resource, end to end, in place of all others: all in one shape, and no shape where there are no paths,
-    /// which takes no memory.
-    /// `TooManyPoints` where there are more than `usize::MAX` paths or points, tested first; else `OutOfMemory`.
-    /// After an error the lists are as they were.
+    /// Replaces the contents by the paths of a resource, end to end, as one shape. A resource without paths gives no
+    /// shape and needs no allocation.
+    /// `TooManyPoints` if there are more than `usize::MAX` paths or points, checked first; otherwise the only error is
+    /// `OutOfMemory`. An error leaves the lists unchanged.
     pub fn set_with_resource<'a, R: ShapeResource<'a, P> + Copy>(
         &mut self,
         resource: R,

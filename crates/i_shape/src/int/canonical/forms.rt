@@ -1,6 +1,6 @@
-//! The forms of shapes and of lists of shapes, by the cleaner that gives those of contours.
+//! The forms of shapes and shape lists, given a cleaner that returns the forms of contours.
 
-ghost use Rattle.std.specs.Prelude.{◌≡◌, ◌++◌, List, Option, Some, IfOk, IfSome, OnOk, IsOkUnless};
+ghost use Rattle.std.specs.Prelude.{◌≡◌, ◌++◌, List, [], Option, Some, IsOk, IfOk, IfSome, OnOk, IsOkUnless};
 ghost use Rattle.std.specs.Option.{option_to_list};
 ghost use Rattle.i_shape_core.specs.Point.{Point};
 ghost use Rattle.i_shape_core.specs.IntPoint.{answered};
@@ -14,7 +14,7 @@ use i_shape_core::error::ShapeError;
 use i_shape_core::number::IntNumber;
 use std::alloc::Global;
 
-/// The forms of the contours that don't collapse, in order. Room is made for one more, which no clause says.
+/// Returns the forms of the contours that don't collapse, sorted. Reserves room for one more, which no clause states.
 fn sorted_forms<I: IntNumber, C: CleanerLaws>(
     cleaner: &mut C,
     alloc: Global,
@@ -34,7 +34,7 @@ fn sorted_forms<I: IntNumber, C: CleanerLaws>(
     Ok(sorted)
 }
 
-/// The form of a shape, and none where its outer contour collapses.
+/// Returns the form of a shape, or `None` where its outer contour collapses.
 pub fn shape_form<I: IntNumber, C: CleanerLaws>(
     cleaner: &mut C,
     alloc: Global,
@@ -46,6 +46,7 @@ pub fn shape_form<I: IntNumber, C: CleanerLaws>(
     ensures safe { IfOk result
         (λ r. IfSome r (λ form. IsSafeShape I.width (shape_of I.value form.items))) }
     ensures memory { IsOkUnless result ShapeError.OutOfMemory }
+    ensures none { shape_of I.value shape.now ≡ [] → IsOk result }
 {
     let Some((outer, holes)) = shape.split_first() else {
         return Ok(Some(Vec::new(alloc)));
@@ -58,7 +59,7 @@ pub fn shape_form<I: IntNumber, C: CleanerLaws>(
     Ok(Some(contours))
 }
 
-/// Appends the form of a shape, and nothing where its outer contour collapses.
+/// Appends the form of a shape, or nothing where its outer contour collapses.
 fn push_shape_form<I: IntNumber, C: CleanerLaws>(
     cleaner: &mut C,
     forms: &mut IntShapes<I>,
@@ -81,7 +82,7 @@ fn push_shape_form<I: IntNumber, C: CleanerLaws>(
     }
 }
 
-/// The forms of the shapes that have one, in order.
+/// Returns the forms of the shapes that have one, sorted.
 pub fn list_form<I: IntNumber, C: CleanerLaws>(
     cleaner: &mut C,
     alloc: Global,
@@ -92,6 +93,7 @@ pub fn list_form<I: IntNumber, C: CleanerLaws>(
         (λ r. ListForm C.answers (shapes_of I.value shapes.now) (shapes_of I.value r.items)) }
     ensures safe { IfOk result (λ r. IsSafeList I.width (shapes_of I.value r.items)) }
     ensures memory { IsOkUnless result ShapeError.OutOfMemory }
+    ensures none { shapes_of I.value shapes.now ≡ [] → IsOk result }
 {
     let mut forms = Vec::with_capacity(alloc, shapes.len())?;
     for shape in shapes {

@@ -1,6 +1,6 @@
-//! Shapes and shape lists without spikes: the tests, the cleaned copies, and the cleaning in place.
+//! Removal of spikes from shapes and shape lists: tests, cleaned copies, and cleaning in place.
 
-ghost use Rattle.std.specs.Prelude.{◌≡◌, ◌↔◌, List, IsTrue};
+ghost use Rattle.std.specs.Prelude.{◌≡◌, ◌↔◌, List, [], IsTrue, IsOk};
 ghost use Rattle.i_shape_core.specs.Point.{Point};
 ghost use Rattle.i_shape_core.specs.Convex.{NoSpikes};
 ghost use Rattle.i_shape_core.specs.Cleaners.{DespikeAnswer};
@@ -19,42 +19,45 @@ use i_shape_core::error::ShapeError;
 use i_shape_core::number::IntNumber;
 use std::alloc::Global;
 
-/// The test of a shape of safe points for spikes, and its copy without them.
+/// Tests a shape of safe points for spikes, and copies it without them.
 pub trait DeSpikeShape<I: IntNumber> {
-    /// The contours over whole numbers.
+    /// The contours in unbounded integers.
     ghost shape: { Self → List (List Point) };
 
-    /// Whether no contour has a spike, and each has three points or more without repeated ones; an empty shape passes.
-    /// It takes no memory.
+    /// Returns whether no contour has a spike, and each has at least three points, consecutive duplicates counted once.
+    /// An empty shape passes. Allocates nothing.
     fn has_no_spikes(&self) -> bool
         requires { IsSafeShape I.width (shape self.now) }
         ensures { IsTrue result ↔ EachContour NoSpikes (shape self.now) };
 
-    /// The shape without spikes. `None` where the first contour collapses; later contours that collapse are left out.
-    /// A contour without spikes is copied as it is, and an empty shape stays empty. The only error is `OutOfMemory`.
+    /// Returns a copy without spikes, or `None` where the first contour collapses. Later contours that collapse are
+    /// left out. A contour without spikes is copied unchanged, and an empty shape stays empty. The only error is
+    /// `OutOfMemory`, which can't occur for an empty shape.
     fn despiked_shape(&self, alloc: Global) -> Result<Option<IntShape<I>>, ShapeError>
         requires { IsSafeShape I.width (shape self.now) }
-        ensures { OkUnlessMemory result
-            (CleansShapeTo DespikeAnswer I.width I.value (shape self.now)) };
+        ensures answer { OkUnlessMemory result
+            (CleansShapeTo DespikeAnswer I.width I.value (shape self.now)) }
+        ensures none { shape self.now ≡ [] → IsOk result };
 }
 
-/// The test of a list of shapes of safe points for spikes, and its copy without them.
+/// Tests a list of shapes of safe points for spikes, and copies it without them.
 pub trait DeSpikeShapes<I: IntNumber> {
-    /// The shapes over whole numbers.
+    /// The shapes in unbounded integers.
     ghost shapes: { Self → List (List (List Point)) };
 
-    /// Whether no contour of any shape has a spike, and each has three points or more without repeated ones.
-    /// It takes no memory.
+    /// Returns whether no contour of any shape has a spike, and each has at least three points, consecutive duplicates
+    /// counted once. Allocates nothing.
     fn has_no_spikes(&self) -> bool
         requires { IsSafeList I.width (shapes self.now) }
         ensures { IsTrue result ↔ EachShape NoSpikes (shapes self.now) };
 
-    /// The shapes without spikes, in order. A shape whose first contour collapses is left out; an empty shape stays.
-    /// The only error is `OutOfMemory`.
+    /// Returns a copy of the shapes without spikes, in order. A shape whose first contour collapses is left out; an
+    /// empty shape stays. The only error is `OutOfMemory`, which can't occur for an empty list.
     fn despiked_shapes(&self, alloc: Global) -> Result<IntShapes<I>, ShapeError>
         requires { IsSafeList I.width (shapes self.now) }
-        ensures { OkUnlessMemory result
-            (CleansListTo DespikeAnswer I.width I.value (shapes self.now)) };
+        ensures answer { OkUnlessMemory result
+            (CleansListTo DespikeAnswer I.width I.value (shapes self.now)) }
+        ensures none { shapes self.now ≡ [] → IsOk result };
 }
 
 impl<I: IntNumber> DeSpikeShape<I> for IntShape<I> {
@@ -83,7 +86,8 @@ impl<I: IntNumber> DeSpikeShapes<I> for IntShapes<I> {
     }
 }
 
-/// A shape whose first contour collapses is left empty; later contours that collapse are taken out. An empty shape answers false.
+/// A shape whose first contour collapses becomes empty. Later contours that collapse are removed. For an empty shape
+/// the call returns false.
 impl<I: IntNumber> DeSpike for IntShape<I> {
     ghost can_despike = { λ shape. IsSafeShape I.width (shape_of I.value shape.items) };
 
@@ -94,7 +98,7 @@ impl<I: IntNumber> DeSpike for IntShape<I> {
     }
 }
 
-/// A shape whose first contour collapses is taken out; a shape that was empty stays.
+/// A shape whose first contour collapses is removed. A shape that was empty stays.
 impl<I: IntNumber> DeSpike for IntShapes<I> {
     ghost can_despike = { λ shapes. IsSafeList I.width (shapes_of I.value shapes.items) };
 

@@ -1,6 +1,6 @@
-//! Shapes and shape lists without zero turns: the tests, and the cleaned copies.
+//! Removal of zero turns from shapes and shape lists: tests, cleaned copies, and cleaning in place.
 
-ghost use Rattle.std.specs.Prelude.{◌≡◌, ◌↔◌, List, IsTrue};
+ghost use Rattle.std.specs.Prelude.{◌≡◌, ◌↔◌, List, [], IsTrue, IsOk};
 ghost use Rattle.i_shape_core.specs.Point.{Point};
 ghost use Rattle.i_shape_core.specs.Contour.{IsSimple};
 ghost use Rattle.i_shape_core.specs.Cleaners.{SimpleAnswer};
@@ -20,40 +20,44 @@ use i_shape_core::number::IntNumber;
 use i_shape_core::simplifier::ContourSimplifier;
 use std::alloc::Global;
 
-/// The test of a shape of safe points for zero turns, and its copy without them.
+/// Tests a shape of safe points for zero turns, and copies it without them.
 pub trait SimpleShape<I: IntNumber> {
-    /// The contours over whole numbers.
+    /// The contours in unbounded integers.
     ghost shape: { Self → List (List Point) };
 
-    /// Whether every contour is simple; an empty shape is. It takes no memory.
+    /// Returns whether every contour is simple: it has at least three points and no zero turn. An empty shape is
+    /// simple. Allocates nothing.
     fn is_simple(&self) -> bool
         requires { IsSafeShape I.width (shape self.now) }
         ensures { IsTrue result ↔ EachContour IsSimple (shape self.now) };
 
-    /// The shape without zero turns. `None` where the first contour collapses; later contours that collapse are left out.
-    /// A simple contour is copied as it is, and an empty shape stays empty. The only error is `OutOfMemory`.
+    /// Returns a copy without zero turns, or `None` where the first contour collapses. Later contours that collapse are
+    /// left out. A simple contour is copied unchanged, and an empty shape stays empty. The only error is `OutOfMemory`,
+    /// which can't occur for an empty shape.
     fn simplified(&self, alloc: Global) -> Result<Option<IntShape<I>>, ShapeError>
         requires { IsSafeShape I.width (shape self.now) }
-        ensures { OkUnlessMemory result
-            (CleansShapeTo SimpleAnswer I.width I.value (shape self.now)) };
+        ensures answer { OkUnlessMemory result
+            (CleansShapeTo SimpleAnswer I.width I.value (shape self.now)) }
+        ensures none { shape self.now ≡ [] → IsOk result };
 }
 
-/// The test of a list of shapes of safe points for zero turns, and its copy without them.
+/// Tests a list of shapes of safe points for zero turns, and copies it without them.
 pub trait SimpleShapes<I: IntNumber> {
-    /// The shapes over whole numbers.
+    /// The shapes in unbounded integers.
     ghost shapes: { Self → List (List (List Point)) };
 
-    /// Whether every contour of every shape is simple. It takes no memory.
+    /// Returns whether every contour of every shape is simple. Allocates nothing.
     fn is_simple(&self) -> bool
         requires { IsSafeList I.width (shapes self.now) }
         ensures { IsTrue result ↔ EachShape IsSimple (shapes self.now) };
 
-    /// The shapes without zero turns, in order. A shape whose first contour collapses is left out; an empty shape stays.
-    /// The only error is `OutOfMemory`.
+    /// Returns a copy of the shapes without zero turns, in order. A shape whose first contour collapses is left out; an
+    /// empty shape stays. The only error is `OutOfMemory`, which can't occur for an empty list.
     fn simplified(&self, alloc: Global) -> Result<IntShapes<I>, ShapeError>
         requires { IsSafeList I.width (shapes self.now) }
-        ensures { OkUnlessMemory result
-            (CleansListTo SimpleAnswer I.width I.value (shapes self.now)) };
+        ensures answer { OkUnlessMemory result
+            (CleansListTo SimpleAnswer I.width I.value (shapes self.now)) }
+        ensures none { shapes self.now ≡ [] → IsOk result };
 }
 
 impl<I: IntNumber> SimpleShape<I> for &[IntContour<I>] {
@@ -80,7 +84,8 @@ impl<I: IntNumber> SimpleShapes<I> for &[IntShape<I>] {
     }
 }
 
-/// A shape whose first contour collapses is left empty; later contours that collapse are taken out. An empty shape answers false.
+/// A shape whose first contour collapses becomes empty. Later contours that collapse are removed. For an empty shape
+/// the call returns false.
 impl<I: IntNumber> Simplify for IntShape<I> {
     ghost can_simplify = { λ shape. IsSafeShape I.width (shape_of I.value shape.items) };
 
@@ -91,7 +96,7 @@ impl<I: IntNumber> Simplify for IntShape<I> {
     }
 }
 
-/// A shape whose first contour collapses is taken out; a shape that was empty stays.
+/// A shape whose first contour collapses is removed. A shape that was empty stays.
 impl<I: IntNumber> Simplify for IntShapes<I> {
     ghost can_simplify = { λ shapes. IsSafeList I.width (shapes_of I.value shapes.items) };
 

@@ -12,7 +12,7 @@ use i_shape_source::float::resource::{ShapePoint, ShapeResource};
 use std::marker::Model;
 use std::ops::Range;
 
-/// The part that the first readable range names, and the ranges after it.
+/// Returns the points that the first readable range names, and the ranges after it.
 fn first_readable<'a, P>(
     points: &'a [P],
     ranges: &'a [Range<usize>],
@@ -31,7 +31,8 @@ fn first_readable<'a, P>(
     None
 }
 
-/// Lends the points of each range of a contours buffer that is in order and within the points.
+/// Iterates over the points of each range of a contours buffer. Skips ranges that are reversed or reach beyond the
+/// points.
 #[derive(Drop)]
 pub struct FloatContoursBufferResourceIterator<'a, P> {
     points: &'a [P],
@@ -73,7 +74,8 @@ impl<'a, P> Iterator for FloatContoursBufferResourceIterator<'a, P> {
     }
 }
 
-/// Lends the points of each contour range of a shapes buffer that is in order and within the points.
+/// Iterates over the points of each contour range of a shapes buffer. Skips ranges that are reversed or reach beyond
+/// the points.
 #[derive(Drop)]
 pub struct FloatShapesBufferResourceIterator<'a, P> {
     points: &'a [P],

@@ -17,7 +17,7 @@ use i_shape_source::int::resource::IntShapeResource;
 use std::marker::Model;
 use std::ops::Range;
 
-/// Lends the points of each range, of empty ones too.
+/// Iterates over the points of each range, and yields an empty path for an empty range.
 #[derive(Drop)]
 pub struct IntBufferResourceIterator<'a, I> {
     points: &'a [IntPoint<I>],
@@ -47,7 +47,7 @@ impl<'a, I> IntBufferResourceIterator<'a, I> {
         IntBufferResourceIterator { points, ranges }
     }
 
-    /// The number of paths that are still to come.
+    /// Returns the number of paths left.
     pub fn len(&self) -> usize
         ensures { result ≡ length self.now }
     {
@@ -68,7 +68,7 @@ impl<'a, I> Iterator for IntBufferResourceIterator<'a, I> {
         Some(&self.points[range.start..range.end])
     }
 
-    /// The number of paths that are still to come, twice.
+    /// Returns the number of paths left, as both bounds.
     fn size_hint(&self) -> (usize, Option<usize>)
         ensures lower { IsWithinCount result.0 (at_most (length self.now)) }
         ensures upper { IfSome result.1 (UpTo (at_most (length self.now))) }

@@ -13,7 +13,7 @@ invariant_of-self-2 g c =
     let value : g.row.I.Denot → ℤ = g.I.IntNumber.value in
     let polygon = shape_of value c.args.polygon.now in
     let form = shape_of value c.in-Some.form.items in
-    let answer : ShapeForm CanonicalAnswer polygon (Some form) = (rw c.in-Some.is at c.in_ok-form.ensures).answer in
+    let answer : ShapeForm CanonicalAnswer polygon (Some form) = (rw c.in-Some.is at c.in_ok-form.ensures.answer).answer in
     let cmp = polygon_cmp value g.I.Ord.cmp g.met.I.IntNumber.order in
     subst AreOwnForms (sym (ap (shapes_of value) c.in-Ok.ensures.keys))
     (own_forms_more cmp (λ s. shape_of value s.items) (polygons_exact value g.I.Ord.cmp g.met.I.IntNumber.order) c.self.inside.forms.keys c.in-Some.form polygon answer c.self.invariant)
@@ -23,7 +23,7 @@ returns-then-not-added-clause-ok g c =
     let value : g.row.I.Denot → ℤ = g.I.IntNumber.value in
     let polygon = shape_of value c.args.polygon.now in
     let form = shape_of value c.in-Some.form.items in
-    let answer : ShapeForm CanonicalAnswer polygon (Some form) = (rw c.in-Some.is at c.in_ok-form.ensures).answer in
+    let answer : ShapeForm CanonicalAnswer polygon (Some form) = (rw c.in-Some.is at c.in_ok-form.ensures.answer).answer in
     let forms : AreOwnForms c.args.self.now = rw c.self.view_is at c.self.invariant in
     let cmp = polygon_cmp value g.I.Ord.cmp g.met.I.IntNumber.order in
     let told = rw c.self.view_is at (key_listed cmp (λ s. shape_of value s.items) (polygons_exact value g.I.Ord.cmp g.met.I.IntNumber.order) c.in-Some.form c.self.inside.forms.keys) in
@@ -35,7 +35,7 @@ returns-clause-ok g c =
     let value : g.row.I.Denot → ℤ = g.I.IntNumber.value in
     let polygon = shape_of value c.args.polygon.now in
     let form = shape_of value c.in-Some.form.items in
-    let answer : ShapeForm CanonicalAnswer polygon (Some form) = (rw c.in-Some.is at c.in_ok-form.ensures).answer in
+    let answer : ShapeForm CanonicalAnswer polygon (Some form) = (rw c.in-Some.is at c.in_ok-form.ensures.answer).answer in
     let forms : AreOwnForms c.args.self.now = rw c.self.view_is at c.self.invariant in
     let cmp = polygon_cmp value g.I.Ord.cmp g.met.I.IntNumber.order in
     let exact = polygons_exact value g.I.Ord.cmp g.met.I.IntNumber.order in

@@ -22,8 +22,8 @@ loop-shape-preserved g c =
     let Clean : List (Vec (IntPoint g.row.I.Denot)) → Type 0 = λ w. ShapeClean answers (shape_of value w) step.0 in
     rw step.2 (survivors-more (λ s. shape_of value s.items) (ShapeClean answers) c.args.shapes.now c.loop-shape.shape-index c.shape-item.result (shapes_of value c.loop-shape.kept.items) step.0 c.loop-shape-test.true c.shape-item.is c.loop-shape.invariant (subst Clean c.as_slice.ensures.value step.1))
 
-pub returns : goal.returns
-returns g c =
+pub returns-clause-answer : goal.returns-clause-answer
+returns-clause-answer g c =
     let answers = g.C.ContourCleaner.answers in
     let whole = take_all c.loop-shape.shape-index c.args.shapes.now c.loop-shape-test.false in
     let answer = rw whole at c.loop-shape.invariant in

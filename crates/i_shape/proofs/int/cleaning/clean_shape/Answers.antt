@@ -24,8 +24,8 @@ append_holes-requires g c =
     let Safe : List (Vec (IntPoint g.row.I.Denot)) → Type 0 = λ w. IsSafeShape g.I.IntNumber.width (shape_of value w) in
     All-tail (All (IsSafe g.I.IntNumber.width)) (contour_of value c.in-Some.outer.now.items) (shape_of value c.in-Some.holes.now) (subst Safe c.in-Some.ensures.cases.0 c.requires)
 
-pub returns-in_default : goal.returns-in_default
-returns-in_default g c =
+pub returns-in_default-clause-answer : goal.returns-in_default-clause-answer
+returns-in_default-clause-answer g c =
     let value = g.I.IntNumber.value in
     let answer : ShapeClean g.C.ContourCleaner.answers (shape_of value c.args.shape.now) (Some (shape_of value c.new.result.items)) = grind (arith, common_steps) in
     record {
@@ -34,11 +34,11 @@ returns-in_default g c =
       safe = shape_safe g.C.ContourCleaner.answers g.I.IntNumber.width (g.met.C.CleanerLaws.stays_safe g.I.IntNumber.width) _ _ answer c.requires;
     }
 
-pub returns-in_default-2 : goal.returns-in_default-2
-returns-in_default-2 g c = record { answer = search rules; kept = tt; safe = tt }
+pub returns-in_default-2-clause-answer : goal.returns-in_default-2-clause-answer
+returns-in_default-2-clause-answer g c = record { answer = search rules; kept = tt; safe = tt }
 
-pub returns : goal.returns
-returns g c =
+pub returns-clause-answer : goal.returns-clause-answer
+returns-clause-answer g c =
     let value = g.I.IntNumber.value in
     let answer : ShapeClean g.C.ContourCleaner.answers (shape_of value c.args.shape.now) (Some (shape_of value c.append_holes.new.kept.items)) = search rules in
     record {

@@ -1,4 +1,4 @@
-//! What the cleaning inside both forms of a flat buffer does with contours that ranges name.
+//! Cleaning of the contours that ranges name, for both flat buffers.
 
 ghost use Rattle.std.specs.Prelude.{◌≡◌, ◌<◌, ◌↔◌, List, Option, length, IfOk, OnOk, IsOkUnless, IsTrue, MatchOption, option_map};
 ghost use Rattle.std.specs.List.{All, sum_by};
@@ -16,7 +16,7 @@ use crate::int::cleaning::ContourCleaner;
 use i_shape_core::number::IntNumber;
 use std::ops::Range;
 
-/// The points that a range names.
+/// Returns the points that a range names.
 pub fn part<'a, T: IntNumber>(points: &'a [IntPoint<T>], range: &Range<usize>) -> &'a [IntPoint<T>]
     requires { InOrder (length points.now) range.now }
     ensures { result.now ≡ part_of points.now range.now }
@@ -24,7 +24,7 @@ pub fn part<'a, T: IntNumber>(points: &'a [IntPoint<T>], range: &Range<usize>) -
     &points[range.start..range.end]
 }
 
-/// Whether no contour that the ranges name has to be cleaned.
+/// Returns whether no contour that the ranges name needs cleaning.
 pub fn are_clean<T: IntNumber, C: ContourCleaner>(
     points: &[IntPoint<T>],
     ranges: &[Range<usize>],
@@ -41,7 +41,7 @@ pub fn are_clean<T: IntNumber, C: ContourCleaner>(
     true
 }
 
-/// How many points the ranges name together; `None` where that exceeds `usize::MAX`.
+/// Returns how many points the ranges name together, or `None` where that exceeds `usize::MAX`.
 pub fn checked_total(ranges: &[Range<usize>]) -> Option<usize>
     ensures { MatchOption result (usize.MAX < sum_by range_len ranges.now)
         (λ n. n ≡ sum_by range_len ranges.now) }
@@ -53,8 +53,8 @@ pub fn checked_total(ranges: &[Range<usize>]) -> Option<usize>
     Some(total)
 }
 
-/// Appends the cleaned contour, over its copy at the end of `points`, and nothing where it collapses. Answers whether anything is left
-/// of it. After an error both lists may have grown: the callers drop them.
+/// Appends the cleaned contour, written over its copy at the end of `points`, or nothing where it collapses. Returns
+/// whether anything is left of it. After an error both lists may have grown; the callers drop them.
 pub fn append_cleaned<T: IntNumber, C: ContourCleaner>(
     cleaner: &mut C,
     points: &mut Vec<IntPoint<T>>,

@@ -1,4 +1,4 @@
-//! The cleaning inside a flat buffer of shapes.
+//! Cleaning within a flat buffer of shapes.
 
 ghost use Rattle.std.specs.Prelude.{◌≡◌, ◌⊎◌, ◌<◌, ◌≤◌, ◌↔◌, length, IfOk, OnOk, IsOkUnless, IsErrOf, IsTrue, MatchOption};
 ghost use Rattle.std.specs.List.{All};
@@ -26,12 +26,13 @@ use std::alloc::Global;
 use std::ops::Range;
 
 impl<T: IntNumber> FlatShapesBuffer<T> {
-    /// Removes zero turns from each contour, contours that collapse, and shapes whose first contour collapses; an empty shape stays.
-    /// Answers whether any contour had to be cleaned. Where none had, nothing changes, and no memory is taken. Otherwise the buffer
-    /// has the cleaned shapes end to end, in order, and nothing else. `TooManyPoints` where a contour has to be cleaned and the
-    /// shapes have more than `usize::MAX` points or contours together, each as often as it is named, tested before any memory is taken;
-    /// else `OutOfMemory`. After an error the lists are as they were.
-    /// Whatever it answers, the shapes can be read still and have safe points.
+    /// Removes zero turns from each contour, the contours that collapse, and the shapes whose first contour collapses.
+    /// An empty shape stays. Returns whether a contour had to be cleaned. If none had to, the call changes nothing and
+    /// allocates nothing. Otherwise the buffer holds the cleaned shapes end to end, in order, and nothing else.
+    /// Requires what `can_read_shapes` tests, and safe points. `TooManyPoints` if a contour has to be cleaned and the
+    /// shapes have more than `usize::MAX` points or contours together, each counted as often as it is named, checked
+    /// before any allocation; otherwise the only error is `OutOfMemory`. An error leaves the buffer unchanged.
+    /// After every call the shapes can be read and have safe points.
     pub fn simplify_shapes(&mut self) -> Result<bool, ShapeError>
         requires readable { CanReadShapes self.old }
         requires safe { IsSafeList T.width (named_shapes T.value self.old) }
@@ -47,8 +48,8 @@ impl<T: IntNumber> FlatShapesBuffer<T> {
         clean_shapes::<T, ContourSimplifier>(self)
     }
 
-    /// Removes spikes from each contour that has some, contours that collapse, and shapes whose first contour collapses, in the same
-    /// way. Answers whether any contour had to be cleaned.
+    /// Removes spikes from each contour that has any, the contours that collapse, and the shapes whose first contour
+    /// collapses. Otherwise like `simplify_shapes`. Returns whether a contour had to be cleaned.
     pub fn remove_spikes(&mut self) -> Result<bool, ShapeError>
         requires readable { CanReadShapes self.old }
         requires safe { IsSafeList T.width (named_shapes T.value self.old) }
@@ -97,7 +98,7 @@ fn clean_shapes<T: IntNumber, C: InPlaceCleaner>(
     Ok(true)
 }
 
-/// The contour ranges that a shape range names.
+/// Returns the contour ranges that a shape range names, none where it is empty or reversed.
 fn named_ranges<'a>(contour_ranges: &'a [Range<usize>], range: &Range<usize>) -> &'a [Range<usize>]
     requires { range.now.start < range.now.end → range.now.end ≤ length contour_ranges.now }
     ensures { result.now ≡ part_of contour_ranges.now range.now }
@@ -109,7 +110,7 @@ fn named_ranges<'a>(contour_ranges: &'a [Range<usize>], range: &Range<usize>) ->
     }
 }
 
-/// Whether no contour of any shape has to be cleaned.
+/// Returns whether no contour of any shape needs cleaning.
 fn are_clean_shapes<T: IntNumber, C: ContourCleaner>(
     points: &[IntPoint<T>],
     contour_ranges: &[Range<usize>],
@@ -130,7 +131,8 @@ fn are_clean_shapes<T: IntNumber, C: ContourCleaner>(
     true
 }
 
-/// How many points and contours the shapes have together; `None` where one of the numbers exceeds `usize::MAX`.
+/// Returns how many points and contours the shapes have together, or `None` where one of the numbers exceeds
+/// `usize::MAX`.
 fn checked_named(contour_ranges: &[Range<usize>], shape_ranges: &[Range<usize>]) -> Option<Counts>
     requires { All (λ range. range.start < range.end → range.end ≤ length contour_ranges.now)
         shape_ranges.now }
@@ -149,7 +151,7 @@ fn checked_named(contour_ranges: &[Range<usize>], shape_ranges: &[Range<usize>])
     Some(Counts { points, contours })
 }
 
-/// Appends the cleaned shape that contour ranges name, and nothing where its first contour collapses.
+/// Appends the cleaned shape that contour ranges name, or nothing where its first contour collapses.
 fn append_cleaned_shape<T: IntNumber, C: ContourCleaner>(
     cleaner: &mut C,
     kept: &mut FlatShapesBuffer<T>,
@@ -188,7 +190,8 @@ fn append_cleaned_shape<T: IntNumber, C: ContourCleaner>(
     Ok(())
 }
 
-/// A buffer of the cleaned shapes. `TooManyPoints` where they have more than `usize::MAX` points or contours together.
+/// Returns a buffer of the cleaned shapes. `TooManyPoints` if they have more than `usize::MAX` points or contours
+/// together.
 fn cleaned_shapes<T: IntNumber, C: ContourCleaner>(
     alloc: Global,
     points: &[IntPoint<T>],

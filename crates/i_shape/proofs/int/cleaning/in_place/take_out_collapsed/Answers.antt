@@ -5,9 +5,9 @@ use Rattle.std.proofs.lemmas.Fn.{filter_same}
 use Rattle.i_shape_core.specs.IntPoint.{contour_of}
 use Rattle.i_shape_core.specs.declared.point.IntPoint.{IntPoint}
 use Rattle.i_shape.specs.ShapeLists.{shape_of}
-use Rattle.i_shape.specs.Changes.{has_points, keeps_outer}
-use Rattle.i_shape.proofs.in_place.Edits.{has_points_told, filter_read, outer_kept}
-use Rattle.i_shape.proofs.int.cleaning.changes.take_out_collapsed.Goals as goal
+use Rattle.i_shape.specs.LeftInPlace.{has_points, keeps_outer}
+use Rattle.i_shape.proofs.in_place.Left.{has_points_told, filter_read, outer_kept}
+use Rattle.i_shape.proofs.int.cleaning.in_place.take_out_collapsed.Goals as goal
 
 pub returns-then-keeps_outer : goal.returns-then-keeps_outer
 returns-then-keeps_outer g c =

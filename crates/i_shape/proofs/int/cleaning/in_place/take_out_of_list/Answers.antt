@@ -1,15 +1,19 @@
-use Rattle.std.proofs.Common.{rules, arith, ◌≡◌, ◌<◌, ◌≤◌, ◌++◌, Bool, List, [], ◌∙◌, sym, ap, map, set, get_or, take, drop, length}
+use Rattle.std.proofs.Common.{rules, arith, subst, ◌+◌, ◌≡◌, ◌<◌, ◌≤◌, ◌++◌, Bool, List, [], ◌∙◌, sym, ap, map, get_or, take, drop, length}
 use Rattle.std.specs.Global.{Vec}
 use Rattle.std.specs.List.{filter}
+use Rattle.std.proofs.lemmas.Slice.Zip.{AllZip-map}
 use Rattle.std.proofs.lemmas.Fn.{filter_same}
 use Rattle.std.proofs.lemmas.List.{map-set, length-map, get_or-map, take-append-le, take_all}
 use Rattle.i_shape_core.specs.Point.{Point}
 use Rattle.i_shape_core.specs.IntPoint.{contour_of}
 use Rattle.i_shape_core.specs.declared.point.IntPoint.{IntPoint}
 use Rattle.i_shape.specs.ShapeLists.{shape_of, shapes_of}
-use Rattle.i_shape.specs.Changes.{has_points, keeps_outer}
-use Rattle.i_shape.proofs.in_place.Edits.{has_points_told, filter_read, changed_more, changed_all}
-use Rattle.i_shape.proofs.int.cleaning.changes.take_out_of_list.Goals as goal
+use Rattle.i_shape.specs.LeftInPlace.{has_points, keeps_outer}
+use Rattle.i_shape.proofs.in_place.Left.{has_points_told, filter_read, SoFar, so_far_none, so_far_next, so_far_more, so_far_all}
+use Rattle.i_shape.proofs.int.cleaning.in_place.take_out_of_list.Goals as goal
+
+pub loop-shape-init : goal.loop-shape-init
+loop-shape-init g c = so_far_none _ (shapes_of g.I.IntNumber.value c.deref_mut-shape-items.result.now)
 
 pub loop-shape-preserved : goal.loop-shape-preserved
 loop-shape-preserved g c =
@@ -24,9 +28,10 @@ loop-shape-preserved g c =
     let test : Vec (IntPoint g.row.I.Denot) → Bool = λ v. has_points (contour_of value v.items) in
     let kept : c.retain-in-loop-shape.new.self.items ≡ filter test (get_or items i item).items = filter_same _ test _ (λ x b f' k. search (rules, has_points_told value x.items x.len x.ok.0)) _ _ c.retain-in-loop-shape.ensures.filtered in
     let read : get_or now i [] ≡ shape_of value (get_or items i item).items = get_or-map (λ s. shape_of value s.items) items i item [] here in
-    let new : shape_of value c.retain-in-loop-shape.new.self.items ≡ filter has_points (get_or now i []) =
-    ap (shape_of value) kept ∙ filter_read (λ v. contour_of value v.items) has_points (get_or items i item).items ∙ ap (filter has_points) (sym read) in
-    map-set (λ s. shape_of value s.items) items i c.retain-in-loop-shape.new.self ∙ ap (λ s. set now i s) new ∙ changed_more (filter has_points) before now i [] there c.loop-shape.invariant
+    let R : List (List Point) → List (List Point) → Type 0 = λ s t. t ≡ filter has_points s in
+    let new : shape_of value c.retain-in-loop-shape.new.self.items ≡ filter has_points (get_or before i []) =
+    ap (shape_of value) kept ∙ filter_read (λ v. contour_of value v.items) has_points (get_or items i item).items ∙ ap (filter has_points) (sym read ∙ so_far_next R before now i [] there c.loop-shape.invariant) in
+    subst (λ l. SoFar R before l (i + 1)) (sym (map-set (λ s. shape_of value s.items) items i c.retain-in-loop-shape.new.self)) (so_far_more R before now i [] there c.loop-shape.invariant _ new)
 
 pub returns : goal.returns
 returns g c =
@@ -40,5 +45,5 @@ returns g c =
     let same : c.retain.new.self.len ≡ length items = omega (arith, c.retain.new.self.ok.0, c.deref_mut-shape-items.ensures.len, c.loop-shape.auto.shape-items) in
     let whole : take c.retain.new.self.len (items ++ drop (length items) c.retain.new.self.items) ≡ items =
     take-append-le c.retain.new.self.len items (drop (length items) c.retain.new.self.items) (omega (arith, same)) ∙ take_all c.retain.new.self.len items (omega (arith, same)) in
-    ap (shapes_of value) whole ∙ changed_all (filter has_points) before (shapes_of value items) c.loop-shape.shape-index done c.loop-shape.invariant
+    ap (shapes_of value) whole ∙ AllZip-map (filter has_points) before (shapes_of value items) (so_far_all _ before (shapes_of value items) c.loop-shape.shape-index done c.loop-shape.invariant)
     ∙ ap (λ w. map (filter has_points) (shapes_of value w)) (c.deref_mut-shape-items.ensures.value ∙ kept) ∙ ap (map (filter has_points)) (filter_read (λ s. shape_of value s.items) keeps_outer c.args.shapes.now.items)

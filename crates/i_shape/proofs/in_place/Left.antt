@@ -1,0 +1,229 @@
+-- What is left where each contour is cleaned in its place, and then the collapsed ones are taken out.
+use Rattle.std.proofs.Common.{◌≡◌, ℕ, ℤ, ◌+◌, ◌<◌, ◌≤◌, ◌==◌, Bool, not, cond, true, false, max, Result, Ok, Err, List, [], ◌∷◌, ◌++◌, length, set, get_or, take, drop, map, refl, sym, ap, ◌∙◌, subst, arith, append_assoc, append-nil, Option, Some, None, unwrap_or}
+use Rattle.std.specs.Int.{Width}
+use Rattle.std.specs.List.{All, AllZip, filter}
+use Rattle.std.proofs.lemmas.List.{set_at, get_or_at, drop_more, take_more, take_all, drop_all, length-take-le, take-append-le, get_or-map, map-set}
+use Rattle.std.proofs.lemmas.List.Elements.{All-nil, All-head, All-push, All-weaker}
+use Rattle.std.proofs.lemmas.Slice.Zip.{all_zipped_more, AllZip-long}
+use Rattle.std.proofs.lemmas.Bool.Decides.{Decides-eqb}
+use Rattle.i_shape_core.specs.Point.{Point}
+use Rattle.i_shape_core.specs.IntPoint.{contour_of, IsSafe}
+use Rattle.i_shape_core.specs.declared.point.IntPoint.{IntPoint}
+use Rattle.i_shape_core.specs.Cleaners.{KeptAnswer}
+use Rattle.i_shape_core.specs.declared.error.ShapeError.{ShapeError}
+use Rattle.i_shape_core.specs.declared.error.ShapeError.TheVariants.{OutOfMemory}
+use Rattle.i_shape_core.proofs.lists.Survivors.{survivors-none}
+use Rattle.i_shape_source.proofs.SafePaths.{all_parts}
+use Rattle.i_shape.specs.ShapeLists.{IsSafeShape}
+use Rattle.i_shape.specs.ShapeAnswers.{Survivors, ShapeClean, ListClean, EachContour, EachShape, AreKept}
+use Rattle.i_shape.specs.InPlace.{Leaves, CleansShape, CleansList}
+use Rattle.i_shape.specs.declared.int.cleaning.in_place.InPlaceWork.{InPlaceWork}
+use Rattle.i_shape.specs.LeftInPlace.{AreLeftOf, IsWithin, AreWithin, Bounds, HasRoom, HasRoomFor, has_points, keeps_outer, kept_contours, kept_shapes}
+use Rattle.i_shape.proofs.lists.Surviving.{mapped-taken}
+use Rattle.i_shape.proofs.shapes.Kept.{same_kept, shape_keeps, shape_safe, list_keeps}
+
+-- a loop over a list has changed the first i members
+pub record SoFar {X : Type 0} (R : X → X → Type 0) (before now : List X) (i : ℕ) : Type 0 where
+  pub left : List X
+  pub each : AllZip R (take i before) left
+  pub rest : now ≡ left ++ drop i before
+
+module _ {X : Type 0} (R : X → X → Type 0) where
+  -- none yet
+  pub so_far_none : (xs : List X) → SoFar R xs xs 0
+  so_far_none xs = record { left = []; each = tt; rest = refl }
+
+  module _ (before now : List X) (i : ℕ) (d : X) (lt : i < length before) (s : SoFar R before now i) where
+    far : length s.left ≡ i
+    far = AllZip-long R (take i before) s.left s.each ∙ length-take-le i before (omega (arith, lt))
+
+    split : now ≡ s.left ++ get_or before i d ∷ drop (i + 1) before
+    split = s.rest ∙ ap (λ l. s.left ++ l) (drop_more before i d lt)
+
+    -- the next is as it was
+    pub so_far_next : get_or now i d ≡ get_or before i d
+    so_far_next = ap (λ l. get_or l i d) split ∙ get_or_at s.left (get_or before i d) (drop (i + 1) before) d i far
+
+    -- it is changed too
+    pub so_far_more : (y : X) → R (get_or before i d) y → SoFar R before (set now i y) (i + 1)
+    so_far_more y here = record {
+      left = s.left ++ y ∷ [];
+      each = subst (λ l. AllZip R l (s.left ++ y ∷ [])) (sym (take_more before i d lt)) (all_zipped_more R (take i before) s.left (get_or before i d) y s.each here);
+      rest = ap (λ l. set l i y) split ∙ set_at s.left (get_or before i d) (drop (i + 1) before) y i far ∙ sym (append_assoc s.left (y ∷ []) (drop (i + 1) before));
+    }
+
+  -- the same where the members are seen by f
+  module _ {A : Type 0} (f : A → X) (before : List X) (items : List A) (i : ℕ) (a : A) (d : X) (here : i < length items) (there : i < length before) (s : SoFar R before (map f items) i) where
+    pub so_far_read : f (get_or items i a) ≡ get_or before i d
+    so_far_read = sym (get_or-map f items i a d here) ∙ so_far_next before (map f items) i d there s
+
+    pub so_far_set : (b : A) → R (f (get_or items i a)) (f b) → SoFar R before (map f (set items i b)) (i + 1)
+    so_far_set b changed = subst (λ l. SoFar R before l (i + 1)) (sym (map-set f items i b)) (so_far_more before (map f items) i d there s (f b) (subst (λ x. R x (f b)) so_far_read changed))
+
+  -- all are
+  pub so_far_all : (before now : List X) (i : ℕ) → length before ≤ i → SoFar R before now i → AllZip R before now
+  so_far_all before now i done s =
+      let is : now ≡ s.left = s.rest ∙ ap (λ l. s.left ++ l) (drop_all i before done) ∙ append-nil s.left in
+      subst (AllZip R before) (sym is) (subst (λ l. AllZip R l s.left) (take_all i before done) s.each)
+
+-- a bound on the members that don't pass, of one member more
+module _ {X : Type 0} (Passes : X → Type 0) (Within : ℕ → X → Type 0) (passes_within : (n : ℕ) (x : X) → Passes x → Within n x) (wider : (m n : ℕ) (x : X) → m ≤ n → Within m x → Within n x) (xs : List X) (x : X) where
+  -- that passes
+  pub bounds_passing : (r : Option ℕ) → Bounds Passes Within xs r → Passes x → Bounds Passes Within (xs ++ x ∷ []) r
+  bounds_passing None b pass = All-push Passes xs x b pass
+  bounds_passing (Some n) b pass = (λ all. b.0 (all_parts Passes xs (x ∷ []) all).0, All-push (Within n) xs x b.1 (passes_within n x pass))
+
+  before_it : (n m : ℕ) (r : Option ℕ) → n ≡ max m (unwrap_or r 0) → Bounds Passes Within xs r → All (Within n) xs
+  before_it n m None is b = All-weaker Passes (Within n) (λ x pass. passes_within n x pass) xs b
+  before_it n m (Some k) is b = All-weaker (Within k) (Within n) (λ x w. wider k n x (omega (arith, is)) w) xs b.1
+
+  -- that doesn't
+  pub bounds_failing : (n m : ℕ) (r : Option ℕ) → n ≡ max m (unwrap_or r 0) → Bounds Passes Within xs r → (Passes x → ⊥) → Within m x → Bounds Passes Within (xs ++ x ∷ []) (Some n)
+  bounds_failing n m r is b fails within = (
+    λ all. fails (All-head Passes x [] (all_parts Passes xs (x ∷ []) all).1),
+    All-push (Within n) xs x (before_it n m r is b) (wider m n x (omega (arith, is)) within),
+  )
+
+-- a list that was written whole over another
+pub written_whole : {A : Type 0} (items old : List A) (n : ℕ) → n ≡ length items → take n (items ++ drop (length items) old) ≡ items
+written_whole items old n same = take-append-le n items (drop (length items) old) (omega (arith, same)) ∙ take_all n items (omega (arith, same))
+
+-- the same where a loop reads the members, and a call sees them by f
+module _ {A X : Type 0} (f : A → X) (Passes : X → Type 0) (Within : ℕ → X → Type 0) (passes_within : (n : ℕ) (x : X) → Passes x → Within n x) (wider : (m n : ℕ) (x : X) → m ≤ n → Within m x → Within n x)
+    (xs : List A) (i : ℕ) (x : A) (lt : i < length xs) (read : x ≡ get_or xs i x) (r : Option ℕ) (before : Bounds Passes Within (map f (take i xs)) r) where
+  pub passing_more : Passes (f x) → Bounds Passes Within (map f (take (i + 1) xs)) r
+  passing_more pass = subst (λ l. Bounds Passes Within l r) (sym (mapped-taken f xs i x lt read)) (bounds_passing Passes Within passes_within wider (map f (take i xs)) (f x) r before pass)
+
+  pub failing_more : (n m : ℕ) → n ≡ max m (unwrap_or r 0) → (Passes (f x) → ⊥) → Within m (f x) → Bounds Passes Within (map f (take (i + 1) xs)) (Some n)
+  failing_more n m is fails within = subst (λ l. Bounds Passes Within l (Some n)) (sym (mapped-taken f xs i x lt read)) (bounds_failing Passes Within passes_within wider (map f (take i xs)) (f x) n m r is before fails within)
+
+module _ (Passes : List Point → Type 0) where
+  -- a contour that passes is within any bound, and one within a bound is within a wider one
+  pub contour_within : (n : ℕ) (c : List Point) → Passes c → IsWithin Passes n c
+  contour_within n c pass = λ fails. absurd (fails pass)
+
+  pub contour_wider : (m n : ℕ) (c : List Point) → m ≤ n → IsWithin Passes m c → IsWithin Passes n c
+  contour_wider m n c le within = λ fails. omega (arith, le, within fails)
+
+  -- so are the contours of a shape
+  pub shape_within : (n : ℕ) (shape : List (List Point)) → EachContour Passes shape → AreWithin Passes n shape
+  shape_within n shape all = All-weaker Passes (IsWithin Passes n) (contour_within n) shape all
+
+  pub shape_wider : (m n : ℕ) (shape : List (List Point)) → m ≤ n → AreWithin Passes m shape → AreWithin Passes n shape
+  shape_wider m n shape le within = All-weaker (IsWithin Passes m) (IsWithin Passes n) (λ c w. contour_wider m n c le w) shape within
+
+  -- room for the longest contour that doesn't pass is room for each
+  module _ {W : Type 0} (has_room : W → ℕ → Type 0) (fewer : (w : W) (m n : ℕ) → m ≤ n → has_room w n → has_room w m) (w : W) (n : ℕ) (room : has_room w n) where
+    pub room_for : (shape : List (List Point)) → AreWithin Passes n shape → All (HasRoomFor has_room Passes w) shape
+    room_for shape within = All-weaker (IsWithin Passes n) (HasRoomFor has_room Passes w) (λ c within fails. fewer w (length c) n (within fails) room) shape within
+
+    pub room_for_list : (shapes : List (List (List Point))) → All (AreWithin Passes n) shapes → All (All (HasRoomFor has_room Passes w)) shapes
+    room_for_list shapes within = All-weaker (AreWithin Passes n) (All (HasRoomFor has_room Passes w)) room_for shapes within
+
+-- and with room for the copy of a contour there is some for that of a shorter one
+pub fewer_in_place : {I C : Type 0} (has_room : C → ℕ → Type 0) → ((cleaner : C) (m n : ℕ) → m ≤ n → has_room cleaner n → has_room cleaner m) → (work : InPlaceWork I C) (m n : ℕ) → m ≤ n → HasRoom has_room work n → HasRoom has_room work m
+fewer_in_place has_room fewer work m n le room = (fewer work.cleaner m n le room.0, omega (arith, le, room.1))
+
+-- What is left once collapsed contours are taken out.
+module _ (Answer : List Point → Option (List Point) → Type 0) where
+  contours_left : (cs ds : List (List Point)) → AreLeftOf Answer cs ds → Survivors Answer cs (filter has_points ds)
+  contours_left [] [] h = survivors-none Answer
+  contours_left [] (d ∷ ds) h = absurd h
+  contours_left (c ∷ cs) [] h = absurd h
+  contours_left (c ∷ cs) ([] ∷ ds) h = let rest = contours_left cs ds h.1 in (None ∷ rest.0, (h.0, rest.1), rest.2)
+  contours_left (c ∷ cs) ((p ∷ d) ∷ ds) h = let rest = contours_left cs ds h.1 in (Some (p ∷ d) ∷ rest.0, (h.0, rest.1), ap (λ l. (p ∷ d) ∷ l) rest.2)
+
+  -- what is left of a shape is the cleaned shape
+  pub shape_left : (shape left : List (List Point)) → AreLeftOf Answer shape left → Leaves (ShapeClean Answer) shape (kept_contours left)
+  shape_left [] [] h = (Some [], refl, refl)
+  shape_left [] (d ∷ ds) h = absurd h
+  shape_left (c ∷ cs) [] h = absurd h
+  shape_left (c ∷ cs) ([] ∷ ds) h = (None, h.0, refl)
+  shape_left (c ∷ cs) ((p ∷ d) ∷ ds) h = (Some ((p ∷ d) ∷ filter has_points ds), (h.0, contours_left cs ds h.1), refl)
+
+  -- what is left of a list is the cleaned list
+  pub list_left : (shapes left : List (List (List Point))) → AllZip (AreLeftOf Answer) shapes left → ListClean Answer shapes (kept_shapes left)
+  list_left [] [] h = survivors-none (ShapeClean Answer)
+  list_left [] (l ∷ left) h = absurd h
+  list_left (s ∷ shapes) [] h = absurd h
+  list_left ([] ∷ shapes) ([] ∷ left) h = let rest = list_left shapes left h.1 in (Some [] ∷ rest.0, (refl, rest.1), ap (λ l. [] ∷ l) rest.2)
+  list_left ([] ∷ shapes) ((d ∷ ds) ∷ left) h = absurd h.0
+  list_left ((c ∷ cs) ∷ shapes) ([] ∷ left) h = absurd h.0
+  list_left ((c ∷ cs) ∷ shapes) (([] ∷ ds) ∷ left) h = let rest = list_left shapes left h.1 in (None ∷ rest.0, (h.0.0, rest.1), rest.2)
+  list_left ((c ∷ cs) ∷ shapes) (((p ∷ d) ∷ ds) ∷ left) h =
+      let rest = list_left shapes left h.1 in
+      (Some ((p ∷ d) ∷ filter has_points ds) ∷ rest.0, ((h.0.0, contours_left cs ds h.0.1), rest.1), ap (λ l. ((p ∷ d) ∷ filter has_points ds) ∷ l) rest.2)
+
+same_error : (e k : ShapeError) (r : Result Bool ShapeError) → r ≡ Err e → r ≡ Err k → e ≡ OutOfMemory → k ≡ OutOfMemory
+same_error e k r was is memory = cc
+
+-- A shape and a list that didn't pass, and what is left of them.
+module _ (Passes : List Point → Type 0) (Answer : List Point → Option (List Point) → Type 0) (keeps : (c : List Point) (r : Option (List Point)) → Answer c r → KeptAnswer c r) where
+  left_keeps : (shape new : List (List Point)) (answer : Option (List (List Point))) → ShapeClean Answer shape answer → new ≡ unwrap_or answer [] → 0 < length new → AreKept shape new
+  left_keeps shape new None clean is some = absurd (omega (arith, ap length is))
+  left_keeps shape new (Some kept) clean is some = rw is (shape_keeps Answer keeps shape (Some kept) clean)
+
+  -- a shape that did not pass is cleaned in place, where the cleaned shape is left
+  pub shape_cleaned_in_place : (shape new : List (List Point)) → (EachContour Passes shape → ⊥) → Leaves (ShapeClean Answer) shape new → CleansShape Passes Answer shape new (Ok true)
+  shape_cleaned_in_place shape new fails leaves = record {
+    cleans = record { passes = λ pass. absurd (fails pass); clean = λ e. absurd cc; left = leaves; refused = λ k e. absurd cc };
+    kept = left_keeps shape new leaves.0 leaves.1 leaves.2;
+  }
+
+  -- where memory is refused they stay
+  pub shape_refused_in_place : (shape : List (List Point)) (e : ShapeError) → (EachContour Passes shape → ⊥) → e ≡ OutOfMemory → CleansShape Passes Answer shape shape (Err e)
+  shape_refused_in_place shape e fails memory = record {
+    cleans = record { passes = λ pass. absurd (fails pass); clean = λ f. absurd cc; left = tt; refused = λ k f. (same_error e k (Err e) refl f memory, refl) };
+    kept = λ some. same_kept shape;
+  }
+
+  -- where memory is refused, a list that did not pass stays
+  pub list_refused_in_place : (shapes : List (List (List Point))) (e : ShapeError) → (EachShape Passes shapes → ⊥) → e ≡ OutOfMemory → CleansList Passes Answer shapes shapes (Err e)
+  list_refused_in_place shapes e fails memory = record {
+    cleans = record { passes = λ pass. absurd (fails pass); clean = λ f. absurd cc; left = tt; refused = λ k f. (same_error e k (Err e) refl f memory, refl) };
+    kept = tt;
+  }
+
+  -- a list that did not pass is cleaned in place, where the cleaned list is left
+  pub list_cleaned_in_place : (shapes new : List (List (List Point))) → (EachShape Passes shapes → ⊥) → ListClean Answer shapes new → CleansList Passes Answer shapes new (Ok true)
+  list_cleaned_in_place shapes new fails clean = record {
+    cleans = record { passes = λ pass. absurd (fails pass); clean = λ e. absurd cc; left = clean; refused = λ k e. absurd cc };
+    kept = list_keeps Answer keeps shapes new clean;
+  }
+
+zero_told : (n : ℕ) → (n == 0) ≡ true → n ≡ 0
+zero_told n told = (Decides-eqb n 0).0 told
+
+more_told : (n : ℕ) → 0 < n → (n == 0) ≡ false
+more_told n some = go (n == 0) refl
+  where
+    go : (b : Bool) → (n == 0) ≡ b → (n == 0) ≡ false
+    go false e = e
+    go true e = absurd (omega (arith, zero_told n e, some))
+
+-- a contour has points exactly where its list isn't told empty
+pub has_points_told : {T : Type 0} (value : T → ℤ) (points : List (IntPoint T)) (n : ℕ) → n ≡ length points → has_points (contour_of value points) ≡ not (n == 0)
+has_points_told value [] n e = rw e refl
+has_points_told value (p ∷ points) n e = let told : (n == 0) ≡ false = more_told n (omega (arith, e)) in rw told refl
+
+-- a filter by what is read of each member
+pub filter_read : {X Y : Type 0} (f : X → Y) (p : Y → Bool) (xs : List X) → map f (filter (λ x. p (f x)) xs) ≡ filter p (map f xs)
+filter_read f p [] = refl
+filter_read f p (x ∷ xs) = go (filter_read f p xs) (p (f x))
+  where
+    go : map f (filter (λ x. p (f x)) xs) ≡ filter p (map f xs) → (b : Bool) → map f (cond b (x ∷ filter (λ x. p (f x)) xs) (filter (λ x. p (f x)) xs)) ≡ cond b (f x ∷ filter p (map f xs)) (filter p (map f xs))
+    go rest true = ap (λ l. f x ∷ l) rest
+    go rest false = rest
+
+-- a shape whose outer contour is left keeps each contour that has points
+pub outer_kept : (s : List (List Point)) → true ≡ keeps_outer s → filter has_points s ≡ kept_contours s
+outer_kept s e = rw (sym e) refl
+
+-- what is left in the place of a shape is safe
+pub leaves_safe : (Answer : List Point → Option (List Point) → Type 0) (w : Width) → ((c e : List Point) → Answer c (Some e) → All (IsSafe w) c → All (IsSafe w) e)
+    → (shape new : List (List Point)) (leaves : Leaves (ShapeClean Answer) shape new) → IsSafeShape w shape → IsSafeShape w new
+leaves_safe Answer w stays_safe shape new leaves safe = go leaves.0 leaves.1 leaves.2
+  where
+    go : (answer : Option (List (List Point))) → ShapeClean Answer shape answer → new ≡ unwrap_or answer [] → IsSafeShape w new
+    go None clean is = rw is (All-nil (All (IsSafe w)))
+    go (Some kept) clean is = rw is (shape_safe Answer w stays_safe shape (Some kept) clean safe)

@@ -1,0 +1,31 @@
+use Rattle.std.proofs.Common.{◌≡◌, List, take, sym, ap, ◌∙◌, subst, arith}
+use Rattle.std.specs.List.{All}
+use Rattle.std.proofs.lemmas.Grind.{common_steps}
+use Rattle.i_shape_core.specs.IntPoint.{contour_of, IsSafe}
+use Rattle.i_shape_core.specs.Written.{slot}
+use Rattle.i_shape_core.specs.declared.point.IntPoint.{IntPoint}
+use Rattle.i_shape_core.proofs.answers.Written.{slot_some}
+use Rattle.i_shape.proofs.in_place.Left.{written_whole}
+use Rattle.i_shape.proofs.int.cleaning.in_place.InPlaceWork.clean_contour.Goals as goal
+
+pub is_clean-requires : goal.is_clean-requires
+is_clean-requires g c =
+    let Safe : List (IntPoint g.row.I.Denot) → Type 0 = λ w. All (IsSafe g.I.IntNumber.width) (contour_of g.I.IntNumber.value w) in
+    subst Safe (sym c.as_slice.ensures.value) c.requires.safe
+
+pub returns-then-is_clean-clause-left : goal.returns-then-is_clean-clause-left
+returns-then-is_clean-clause-left g c =
+    let contour = contour_of g.I.IntNumber.value c.args.contour.now.items in
+    let Clean : List (IntPoint g.row.I.Denot) → Type 0 = λ w. g.C.ContourCleaner.clean (contour_of g.I.IntNumber.value w) in
+    let clean = subst Clean c.as_slice.ensures.value (c.is_clean.ensures.0 c.if-is_clean.true) in
+    subst (g.C.ContourCleaner.answers contour) (sym (slot_some contour (g.met.C.InPlaceCleaner.clean_points contour clean))) (g.met.C.InPlaceCleaner.stays contour clean)
+
+pub returns-clause-left : goal.returns-clause-left
+returns-clause-left g c =
+    let value = g.I.IntNumber.value in
+    let out = c.write_left-left.new.out in
+    let n = c.write_left-left.result in
+    let Left : List (IntPoint g.row.I.Denot) → List (IntPoint g.row.I.Denot) → Type 0 = λ given left. g.C.ContourCleaner.answers (contour_of value given) (slot (contour_of value left)) in
+    let copied : c.as_slice-3.result.now ≡ c.args.contour.now.items = grind (arith, common_steps) in
+    let left : c.truncate.new.self.items ≡ take n out = c.truncate.ensures.items ∙ ap (take n) (written_whole out _ c.args.contour.now.len (omega (arith, c.as_mut_slice.ensures.len, c.write_left-left.ensures.len))) in
+    subst (λ w. Left c.args.contour.now.items w) (sym left) (subst (λ w. Left w (take n out)) copied c.write_left-left.ensures.written.cleaned.answer)

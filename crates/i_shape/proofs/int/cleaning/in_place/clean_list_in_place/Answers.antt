@@ -1,0 +1,59 @@
+use Rattle.std.proofs.Common.{rules, ◌≡◌, Bool, Result, Some, Err, List, sym, subst}
+use Rattle.std.specs.Global.{Vec}
+use Rattle.i_shape_core.specs.Point.{Point}
+use Rattle.i_shape_core.specs.declared.point.IntPoint.{IntPoint}
+use Rattle.i_shape_core.specs.declared.error.ShapeError.{ShapeError}
+use Rattle.i_shape.specs.ShapeLists.{shapes_of, IsSafeList}
+use Rattle.i_shape.specs.ShapeAnswers.{ListClean, EachContour, EachShape}
+use Rattle.i_shape.specs.InPlace.{CleansList}
+use Rattle.i_shape.specs.LeftInPlace.{Bounds, AreWithin, HasRoom}
+use Rattle.i_shape.proofs.shapes.Kept.{list_safe}
+use Rattle.i_shape.proofs.in_place.Contours.{list_stays_in_place}
+use Rattle.i_shape.proofs.in_place.Left.{room_for_list, fewer_in_place, list_left, list_cleaned_in_place, list_refused_in_place}
+use Rattle.i_shape.proofs.int.cleaning.in_place.clean_list_in_place.Goals as goal
+
+pub longest_unclean_of_list-requires : goal.longest_unclean_of_list-requires
+longest_unclean_of_list-requires g c =
+    let Safe : List (Vec (Vec (IntPoint g.row.I.Denot))) → Type 0 = λ w. IsSafeList g.I.IntNumber.width (shapes_of g.I.IntNumber.value w) in
+    subst Safe (sym c.as_slice.ensures.value) c.requires
+
+pub returns-in_default-clause-gives : goal.returns-in_default-clause-gives
+returns-in_default-clause-gives g c =
+    let cleaner = g.C.ContourCleaner in
+    let Passes : List (Vec (Vec (IntPoint g.row.I.Denot))) → Type 0 = λ w. EachShape cleaner.clean (shapes_of g.I.IntNumber.value w) in
+    list_stays_in_place cleaner.clean cleaner.answers g.met.C.InPlaceCleaner.stays g.met.C.InPlaceCleaner.kept (shapes_of g.I.IntNumber.value c.args.shapes.now.items) (subst Passes c.as_slice.ensures.value c.in_default.ensures)
+
+pub clean_shapes-requires-clause-room : goal.clean_shapes-requires-clause-room
+clean_shapes-requires-clause-room g c =
+    let cleaner = g.C.ContourCleaner in
+    let Told : List (Vec (Vec (IntPoint g.row.I.Denot))) → Type 0 = λ w. Bounds (EachContour cleaner.clean) (AreWithin cleaner.clean) (shapes_of g.I.IntNumber.value w) (Some c.in-Some.longest) in
+    let told = subst Told c.as_slice.ensures.value c.in-Some.ensures in
+    room_for_list cleaner.clean (HasRoom cleaner.has_room) (fewer_in_place cleaner.has_room g.met.C.ContourCleaner.fewer) c.in_ok-work.work c.in-Some.longest c.in_ok-work.ensures.room (shapes_of g.I.IntNumber.value c.args.shapes.now.items) told.1
+
+pub returns-clause-gives : goal.returns-clause-gives
+returns-clause-gives g c =
+    let value = g.I.IntNumber.value in
+    let cleaner = g.C.ContourCleaner in
+    let shapes : List (List (List Point)) = shapes_of value c.args.shapes.now.items in
+    let Told : List (Vec (Vec (IntPoint g.row.I.Denot))) → Type 0 = λ w. Bounds (EachContour cleaner.clean) (AreWithin cleaner.clean) (shapes_of value w) (Some c.in-Some.longest) in
+    let told = subst Told c.as_slice.ensures.value c.in-Some.ensures in
+    list_cleaned_in_place cleaner.clean cleaner.answers g.met.C.InPlaceCleaner.kept shapes _ told.0
+    (subst (ListClean cleaner.answers shapes) (sym c.take_out_of_list.ensures) (list_left cleaner.answers shapes (shapes_of value c.clean_shapes.new.shapes.items) c.clean_shapes.ensures.left))
+
+pub returns-clause-safe : goal.returns-clause-safe
+returns-clause-safe g c =
+    let value = g.I.IntNumber.value in
+    let cleaner = g.C.ContourCleaner in
+    let shapes : List (List (List Point)) = shapes_of value c.args.shapes.now.items in
+    list_safe cleaner.answers g.I.IntNumber.width (g.met.C.CleanerLaws.stays_safe g.I.IntNumber.width) shapes _
+    (subst (ListClean cleaner.answers shapes) (sym c.take_out_of_list.ensures) (list_left cleaner.answers shapes (shapes_of value c.clean_shapes.new.shapes.items) c.clean_shapes.ensures.left)) c.requires
+
+pub returns-in_err-work-clause-gives : goal.returns-in_err-work-clause-gives
+returns-in_err-work-clause-gives g c =
+    let cleaner = g.C.ContourCleaner in
+    let old = shapes_of g.I.IntNumber.value c.args.shapes.now.items in
+    let Told : List (Vec (Vec (IntPoint g.row.I.Denot))) → Type 0 = λ w. Bounds (EachContour cleaner.clean) (AreWithin cleaner.clean) (shapes_of g.I.IntNumber.value w) (Some c.in-Some.longest) in
+    let told = subst Told c.as_slice.ensures.value c.in-Some.ensures in
+    let Gives : Result Bool ShapeError → Type 0 = λ r. CleansList cleaner.clean cleaner.answers old old r in
+    let is : c.from_residual.result ≡ Err c.in_err-work.field-0.0 = search rules in
+    subst Gives (sym is) (list_refused_in_place cleaner.clean cleaner.answers g.met.C.InPlaceCleaner.kept old _ told.0 c.in_err-work.ensures.memory)

@@ -1,0 +1,53 @@
+-- What steps of cleaning in place look for and leave. Private functions alone speak of it.
+use Rattle.std.specs.Prelude.{◌≤◌, Bool, true, false, ℕ, List, [], ◌∷◌, Option, Some, None, length, map, vec_capacity, if◌then◌else◌}
+use Rattle.std.specs.List.{All, AllZip, filter}
+use Rattle.i_shape_core.specs.Point.{Point}
+use Rattle.i_shape_core.specs.Written.{slot}
+use Rattle.i_shape.specs.declared.int.cleaning.in_place.InPlaceWork.{InPlaceWork}
+
+-- d is what is left of c: its answer, or no points where it collapses
+abbrev pub IsLeftOf : (List Point → Option (List Point) → Type 0) → List Point → List Point → Type 0
+IsLeftOf Answer c d = Answer c (slot d)
+
+-- each contour is what is left of the one in its place
+abbrev pub AreLeftOf : (List Point → Option (List Point) → Type 0) → List (List Point) → List (List Point) → Type 0
+AreLeftOf Answer shape left = AllZip (IsLeftOf Answer) shape left
+
+-- a contour that doesn't pass has at most n points
+abbrev pub IsWithin : (List Point → Type 0) → ℕ → List Point → Type 0
+IsWithin Passes n c = (Passes c → ⊥) → length c ≤ n
+
+-- no contour of the shape that doesn't pass has more than n points
+abbrev pub AreWithin : (List Point → Type 0) → ℕ → List (List Point) → Type 0
+AreWithin Passes n shape = All (IsWithin Passes n) shape
+
+-- none where each member passes, and otherwise a bound on those that don't
+abbrev pub Bounds : {X : Type 0} → (X → Type 0) → (ℕ → X → Type 0) → List X → Option ℕ → Type 0
+Bounds Passes Within xs None = All Passes xs
+Bounds Passes Within xs (Some n) = (All Passes xs → ⊥) × All (Within n) xs
+
+-- there is room for the contour, if it doesn't pass
+abbrev pub HasRoomFor : {W : Type 0} → (W → ℕ → Type 0) → (List Point → Type 0) → W → List Point → Type 0
+HasRoomFor has_room Passes w c = (Passes c → ⊥) → has_room w (length c)
+
+-- contours of so many points can be cleaned in place without more memory
+abbrev pub HasRoom : {I C : Type 0} → (C → ℕ → Type 0) → InPlaceWork I C → ℕ → Type 0
+HasRoom has_room work n = has_room work.cleaner n × (n ≤ vec_capacity work.copy)
+
+-- whether the contour has a point
+abbrev pub has_points : List Point → Bool
+has_points [] = false
+has_points (p ∷ c) = true
+
+-- a shape whose outer contour is left, or that had none
+abbrev pub keeps_outer : List (List Point) → Bool
+keeps_outer [] = true
+keeps_outer (outer ∷ holes) = has_points outer
+
+-- the contours that are left, none where the outer one isn't
+abbrev pub kept_contours : List (List Point) → List (List Point)
+kept_contours shape = if keeps_outer shape then filter has_points shape else []
+
+-- the shapes that are left, of the contours that are
+abbrev pub kept_shapes : List (List (List Point)) → List (List (List Point))
+kept_shapes shapes = map (filter has_points) (filter keeps_outer shapes)
