@@ -1,11 +1,11 @@
-/* The calls of i_shape.h for C++17, over points of any type that is two signed whole numbers of one type: templates,
+/* The calls of i_shape.h for C++17, for points of any type that is two signed integers of one type. These are templates
  * over libi_shape.a or libi_shape.so. Each call but flat and nested makes the C call of its name, less _into, which
- * i_shape.h describes; docs/CPP.md has samples.
+ * i_shape.h describes; remove_spikes makes despike_shapes, and contains makes contains_by. docs/CPP.md has samples.
  *
  * These take points and offsets from whatever std::data and std::size take: a vector, an array, or a pointer and a count
- * as i_shape::Span. Offsets are of any unsigned type; those of another one than std::size_t are copied. Many items are
- * answered as vectors. A code of C is thrown as an i_shape::Error; where a vector gets no memory, std::bad_alloc is.
- * Whatever is thrown, nothing that was given is changed. */
+ * as i_shape::Span. Offsets are of any unsigned type; those of another one than std::size_t are copied. Results of
+ * several items are vectors. A code of C is thrown as i_shape::Error. If a vector gets no memory, std::bad_alloc is
+ * thrown. After any exception, arguments are unchanged. */
 #ifndef I_SHAPE_HPP
 #define I_SHAPE_HPP
 
@@ -25,9 +25,11 @@
 namespace i_shape {
 
 enum class Code : std::int32_t {
-    unsafe = I_SHAPE_UNSAFE,      /* a point that the call reads isn't safe */
-    unfit = I_SHAPE_UNFIT,        /* the offsets don't part the points, or the array of the answer is too short */
-    no_memory = I_SHAPE_NO_MEMORY /* an allocation failed */
+    unsafe = I_SHAPE_UNSAFE,           /* a point that the call reads isn't safe */
+    bad_offsets = I_SHAPE_BAD_OFFSETS, /* the offsets don't part the points, or the contours */
+    no_memory = I_SHAPE_NO_MEMORY,     /* an allocation failed */
+    no_room = I_SHAPE_NO_ROOM,         /* the array of the answer is too short */
+    unfit [[deprecated("its name is bad_offsets, and no_room is another code")]] = bad_offsets
 };
 
 /* The array of a call in which something is refused: points, points that are asked about, offsets of contours, offsets
@@ -55,7 +57,8 @@ private:
     static const char *words_of(Code code) noexcept {
         switch (code) {
         case Code::unsafe: return "a point isn't in the safe range";
-        case Code::unfit: return "the offsets don't part the points, or the array of the answer is too short";
+        case Code::bad_offsets: return "the offsets don't part the points, or the contours";
+        case Code::no_room: return "the array of the answer is too short";
         case Code::no_memory: break;
         }
         return "out of memory";
@@ -127,7 +130,7 @@ struct Shapes {
 
 namespace detail {
 
-/* The calls of C at the width of coordinates of so many bytes. */
+/* The calls of C for coordinates of this many bytes. */
 template <std::size_t Bytes>
 struct Calls {
     static_assert(Bytes == 4, "i_shape: a coordinate has 16, 32 or 64 bits");
@@ -153,8 +156,9 @@ struct Calls {
         static constexpr auto is_simple = i_shape_is_simple_i##W; \
         static constexpr auto has_no_spikes = i_shape_has_no_spikes_i##W; \
         static constexpr auto is_convex = i_shape_is_convex_i##W; \
-        static constexpr auto contains = i_shape_contains_i##W; \
+        static constexpr auto contains = i_shape_contains_by_i##W; \
         static constexpr auto is_safe = i_shape_is_safe_i##W; \
+        static constexpr auto first_unsafe = i_shape_first_unsafe_i##W; \
         static constexpr auto winding = i_shape_winding_i##W; \
         static constexpr auto windings = i_shape_windings_i##W; \
         static constexpr auto contains_points = i_shape_contains_points_i##W; \
@@ -235,37 +239,29 @@ typename CallsFor<Point>::Point as_c(const Point &point) noexcept {
 /* The place of the first point from first on, and before end, that isn't safe. */
 template <class Points>
 std::optional<std::size_t> first_unsafe(const Points &points, std::size_t first, std::size_t end) noexcept {
-    for (std::size_t k = first; k < end; k++)
-        if (!CallsOf<Points>::is_safe(read(points) + k, 1)) return k;
-    return std::nullopt;
-}
-
-/* The place of the first offset of so many items that doesn't part them. */
-inline std::optional<std::size_t> first_unfit(Offsets offsets, std::size_t count) noexcept {
-    for (std::size_t k = 0; k < offsets.size(); k++)
-        if (offsets.data()[k] > count || (k > 0 && offsets.data()[k] < offsets.data()[k - 1])) return k;
-    return std::nullopt;
+    const std::size_t place = first + CallsOf<Points>::first_unsafe(read(points) + first, end - first);
+    return place < end ? std::optional(place) : std::nullopt;
 }
 
 /* The error of offsets that don't part so many items; nothing where they do. */
-inline std::optional<Error> unfit(Array array, Offsets offsets, std::size_t count) noexcept {
-    const auto place = first_unfit(offsets, count);
-    if (place || offsets.size() == 0) return Error(Code::unfit, array, place);
-    return std::nullopt;
+inline std::optional<Error> bad_offsets(Array array, Offsets offsets, std::size_t count) noexcept {
+    if (offsets.size() == 0) return Error(Code::bad_offsets, array);
+    const std::size_t place = i_shape_first_bad_offset(count, read_offsets(offsets), offsets.size());
+    return place < offsets.size() ? std::optional(Error(Code::bad_offsets, array, place)) : std::nullopt;
 }
 
 /* The error of a code of a call on a contour. */
 template <class Points>
 Error error_of(Code code, const Points &points) noexcept {
     if (code == Code::unsafe) return Error(code, Array::points, first_unsafe(points, 0, std::size(points)));
-    return Error(code, code == Code::unfit ? Array::out : Array::none);
+    return Error(code, code == Code::no_room ? Array::out : Array::none);
 }
 
 /* The same of many contours. */
 template <class Points>
 Error error_of(Code code, const Points &points, Offsets offsets) noexcept {
-    if (code == Code::unfit) return unfit(Array::offsets, offsets, std::size(points)).value_or(Error(code, Array::out));
-    if (code == Code::no_memory) return Error(code);
+    if (code == Code::bad_offsets) return bad_offsets(Array::offsets, offsets, std::size(points)).value_or(Error(code));
+    if (code != Code::unsafe) return error_of(code, points);
     return Error(code, Array::points, first_unsafe(points, offsets.data()[0], offsets.data()[offsets.size() - 1]));
 }
 
@@ -273,8 +269,8 @@ Error error_of(Code code, const Points &points, Offsets offsets) noexcept {
 template <class Points>
 Error error_of(Code code, const Points &points, Offsets contours, Offsets shapes) noexcept {
     const Error error = error_of(code, points, contours);
-    if (error.array() != Array::out) return error;
-    return unfit(Array::shapes, shapes, contours.size() - 1).value_or(error);
+    if (code != Code::bad_offsets || error.array() == Array::offsets) return error;
+    return bad_offsets(Array::shapes, shapes, contours.size() - 1).value_or(error);
 }
 
 /* The answer of a call, or the error of its code. What the call was given is named behind it. */
@@ -381,8 +377,8 @@ template <class Points>
 using AreaOf = typename detail::CallsOf<Points>::Area;
 
 /* One contour: what is left of it, nothing where it collapses. Those of the name .._into write it to the front of out and
- * answer how many points that is; they throw Code::unfit where out is shorter than the points. out shares no memory with
- * these. */
+ * answer how many points that is; they throw Code::no_room where out is shorter than the points. out shares no memory
+ * with these. */
 
 template <class Points>
 std::vector<PointOf<Points>> simplify(const Points &points) {
@@ -453,9 +449,16 @@ Shapes<PointOf<Points>> simplify_shapes(const Points &points, const Offsets &con
     return detail::clean_shapes(detail::CallsOf<Points>::simplify_shapes, points, contours, shapes);
 }
 
+/* A contour that has no spikes stays as it is, also with points that repeat, which despike removes. */
 template <class Points, class Offsets, class ShapeOffsets>
-Shapes<PointOf<Points>> despike_shapes(const Points &points, const Offsets &contours, const ShapeOffsets &shapes) {
+Shapes<PointOf<Points>> remove_spikes(const Points &points, const Offsets &contours, const ShapeOffsets &shapes) {
     return detail::clean_shapes(detail::CallsOf<Points>::despike_shapes, points, contours, shapes);
+}
+
+template <class Points, class Offsets, class ShapeOffsets>
+[[deprecated("its name is remove_spikes")]]
+Shapes<PointOf<Points>> despike_shapes(const Points &points, const Offsets &contours, const ShapeOffsets &shapes) {
+    return remove_spikes(points, contours, shapes);
 }
 
 template <class Points, class Offsets, class ShapeOffsets>
@@ -486,16 +489,26 @@ bool is_convex(const Points &points) {
 }
 
 template <class Points>
-bool contains(const Points &points, const PointOf<Points> &about) {
-    const auto at = detail::as_c(about);
-    const std::int32_t answer = detail::CallsOf<Points>::contains(detail::read(points), std::size(points), at.x, at.y);
-    if (answer == I_SHAPE_UNSAFE) detail::check_asked(Span<const PointOf<Points>>(&about, 1));
-    return detail::count_of(answer, points) != 0;
-}
-
-template <class Points>
 bool is_safe(const Points &points) {
     return detail::test(detail::CallsOf<Points>::is_safe, points);
+}
+
+/* Which points contours fill, by how often they wind about them together. */
+enum class FillRule : std::int32_t {
+    even_odd = I_SHAPE_EVEN_ODD,
+    nonzero = I_SHAPE_NONZERO,
+    positive = I_SHAPE_POSITIVE,
+    negative = I_SHAPE_NEGATIVE,
+};
+
+/* Whether the rule fills a point, by how often a contour winds about it. It throws as winding does. */
+template <class Points>
+bool contains(const Points &points, const PointOf<Points> &about, FillRule rule = FillRule::even_odd) {
+    const auto at = detail::as_c(about);
+    const std::int32_t answer =
+        detail::CallsOf<Points>::contains(detail::read(points), std::size(points), at.x, at.y, static_cast<std::int32_t>(rule));
+    if (answer == I_SHAPE_UNSAFE) detail::check_asked(Span<const PointOf<Points>>(&about, 1));
+    return detail::count_of(answer, points) != 0;
 }
 
 /* How often a contour winds about a point. It throws Code::unsafe where that point or one of the contour isn't safe. */
@@ -522,14 +535,6 @@ std::vector<std::ptrdiff_t> windings(const Points &points, const Offsets &offset
     return numbers;
 }
 
-/* Which points contours fill, by how often they wind about them together. */
-enum class FillRule : std::int32_t {
-    even_odd = I_SHAPE_EVEN_ODD,
-    nonzero = I_SHAPE_NONZERO,
-    positive = I_SHAPE_POSITIVE,
-    negative = I_SHAPE_NEGATIVE,
-};
-
 /* Whether the rule fills each of the points about, by how often many contours together wind about it: 1 or 0. */
 template <class Points, class Offsets, class About>
 std::vector<std::uint8_t> contains_points(const Points &points, const Offsets &offsets, const About &about, FillRule rule) {
@@ -550,9 +555,9 @@ std::optional<AreaOf<Points>> area_two(const Points &points) noexcept {
     return area;
 }
 
-/* Tests of many contours: a byte of each, 1 or 0, in place of a vector of bool, whose items have no address. All but
- * is_safe_contours throw Code::unsafe where a point isn't safe, and each throws Code::unfit where the offsets don't part
- * the points. */
+/* Tests of many contours: a byte for each, 1 or 0, since items of a vector of bool have no address. All but
+ * is_safe_contours throw Code::unsafe where a point isn't safe, and each throws Code::bad_offsets where the offsets don't
+ * part the points. */
 
 template <class Points, class Offsets>
 std::vector<std::uint8_t> is_simple_contours(const Points &points, const Offsets &offsets) {
@@ -574,7 +579,7 @@ std::vector<std::uint8_t> is_safe_contours(const Points &points, const Offsets &
     return detail::measure_contours<std::uint8_t>(detail::CallsOf<Points>::is_safe_contours, points, offsets);
 }
 
-/* Twice the area of each of many contours, 0 where it has no point. It throws Code::unfit as the tests do. */
+/* Twice the area of each of many contours, 0 where it has no point. It throws Code::bad_offsets as the tests do. */
 template <class Points, class Offsets>
 std::vector<AreaOf<Points>> area_two_contours(const Points &points, const Offsets &offsets) {
     return detail::measure_contours<AreaOf<Points>>(detail::CallsOf<Points>::area_two_contours, points, offsets);

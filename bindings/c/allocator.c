@@ -1,4 +1,4 @@
-/* The three functions of docs/C.md, "An allocator of the host's own", over malloc: for a processor whose own the Rattle kit doesn't have. No
+/* The three functions of docs/C.md, "Your own allocator", over malloc: for a processor whose own the Rattle kit doesn't have. No
  * proof covers them. An align divides 16, to which malloc aligns too. */
 #include <stdalign.h>
 #include <stddef.h>

@@ -8,7 +8,7 @@ static void clean(const i_shape_point_i16 *points, size_t count) {
     ptrdiff_t answer = i_shape_simplify_i16(points, count, left, ROOM);
     switch (answer) {
     case I_SHAPE_UNSAFE: puts("a coordinate is out of the safe range: scale down, or take 32 bits"); break;
-    case I_SHAPE_UNFIT: puts("there is no room for so many points"); break;
+    case I_SHAPE_NO_ROOM: puts("there is no room for so many points"); break;
     case I_SHAPE_NO_MEMORY: puts("there is no memory for it"); break;
     case 0: puts("nothing is left: it encloses no area"); break;
     default: printf("%d points are left\n", (int)answer);

@@ -145,6 +145,16 @@ enum { MOST_GROWTHS = 32 };
 #define AREA_IS(area, expected) ((area).low == (uint64_t)(expected) && (area).high == ((expected) < 0 ? UINT64_MAX : 0))
 #include "width.h"
 
+/* The first bad offset: at a step back, above the points, at the start, nowhere, and where there is none. */
+static void test_bad_offsets(void) {
+    const size_t offsets[5] = {0, 3, 2, 9, 9};
+    check(i_shape_first_bad_offset(9, offsets, 5) == 2, 0, "first_bad_offset", "an offset that runs backwards");
+    check(i_shape_first_bad_offset(8, offsets + 2, 3) == 1, 0, "first_bad_offset", "an offset out of the points");
+    check(i_shape_first_bad_offset(8, offsets + 3, 2) == 0, 0, "first_bad_offset", "the first offset out of the points");
+    check(i_shape_first_bad_offset(9, offsets + 2, 3) == 3, 0, "first_bad_offset", "each offset is right");
+    check(i_shape_first_bad_offset(9, offsets, 0) == 0, 0, "first_bad_offset", "no offset");
+}
+
 /* A square of 2^61 by 2^61 has a double area of 2^123. */
 static void test_great_area(void) {
     const int64_t side = INT64_C(1) << 61;
@@ -209,6 +219,7 @@ int main(void) {
     test_width_i16();
     test_width_i32();
     test_width_i64();
+    test_bad_offsets();
     test_great_area();
     test_halves();
     test_threads();

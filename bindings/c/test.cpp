@@ -169,7 +169,8 @@ private:
     static const char *words_of(i_shape::Code code) {
         switch (code) {
         case i_shape::Code::unsafe: return "a point isn't in the safe range";
-        case i_shape::Code::unfit: return "the offsets don't part the points";
+        case i_shape::Code::bad_offsets: return "the offsets don't part the points";
+        case i_shape::Code::no_room: return "the array of the answer is too short";
         case i_shape::Code::no_memory: break;
         }
         return "out of memory";
@@ -338,7 +339,7 @@ private:
         const Contour line = {point(1, 1), point(2, 2), point(3, 3)}, triangle = {point(0, -4), point(4, 0), point(-4, 0)};
         const i_shape::Shapes<Point> all = i_shape::flat(std::vector<std::vector<Contour>>{{outer, inner, line, other}, {line, other}, {}, {triangle}});
         const i_shape::Shapes<Point> answers[CLEANERS] = {i_shape::simplify_shapes(all.points, all.contours, all.shapes),
-                                                                  i_shape::despike_shapes(all.points, all.contours, all.shapes),
+                                                                  i_shape::remove_spikes(all.points, all.contours, all.shapes),
                                                                   i_shape::canonical_shapes(all.points, all.contours, all.shapes),
                                                                   i_shape::canonical_unoriented_shapes(all.points, all.contours, all.shapes)};
         for (int k = 0; k < CLEANERS; k++) {
@@ -358,6 +359,9 @@ private:
         check(i_shape::contains(square(), point(1, 1)), "contains", "a point inside");
         check(!i_shape::contains(square(), point(5, 1)), "contains", "a point outside");
         check(!i_shape::contains(Contour(), point(5, 1)), "contains", "no contour");
+        const Contour right = {point(0, 0), point(0, 4), point(4, 4), point(4, 0)};
+        check(!i_shape::contains(right, point(1, 1), i_shape::FillRule::positive), "contains", "a rule that doesn't fill it");
+        check(i_shape::contains(right, point(1, 1), i_shape::FillRule::negative), "contains", "a rule that fills it");
         check(!i_shape::is_safe(Contour{point(0, least_unsafe)}), "is_safe", "a point that isn't safe");
     }
 
@@ -403,16 +407,16 @@ private:
         throws(Code::unsafe, "contains", "a point that isn't safe", [&] { i_shape::contains(square(), point(least_unsafe, 1)); });
         throws(Code::unsafe, "winding", "a point that isn't safe", [&] { i_shape::winding(square(), point(least_unsafe, 1)); });
         throws(Code::unsafe, "windings", "a vertex that isn't safe", [&] { i_shape::windings(unsafe, whole, square()); });
-        throws(Code::unfit, "locate", "no offset", [&] { i_shape::locate(square(), none, square(), i_shape::FillRule::nonzero); });
-        throws(Code::unfit, "windings", "no offset", [&] { i_shape::windings(square(), none, square()); });
+        throws(Code::bad_offsets, "locate", "no offset", [&] { i_shape::locate(square(), none, square(), i_shape::FillRule::nonzero); });
+        throws(Code::bad_offsets, "windings", "no offset", [&] { i_shape::windings(square(), none, square()); });
         throws(Code::unsafe, "is_simple_contours", "a point that isn't safe", [&] { i_shape::is_simple_contours(unsafe, whole); });
         throws(Code::unsafe, "has_no_spikes_contours", "a point that isn't safe", [&] { i_shape::has_no_spikes_contours(unsafe, whole); });
         throws(Code::unsafe, "is_convex_contours", "a point that isn't safe", [&] { i_shape::is_convex_contours(unsafe, whole); });
-        throws(Code::unfit, "is_simple_contours", "no offset", [&] { i_shape::is_simple_contours(square(), none); });
-        throws(Code::unfit, "has_no_spikes_contours", "no offset", [&] { i_shape::has_no_spikes_contours(square(), none); });
-        throws(Code::unfit, "is_convex_contours", "no offset", [&] { i_shape::is_convex_contours(square(), none); });
-        throws(Code::unfit, "is_safe_contours", "no offset", [&] { i_shape::is_safe_contours(square(), none); });
-        throws(Code::unfit, "area_two_contours", "no offset", [&] { i_shape::area_two_contours(square(), none); });
+        throws(Code::bad_offsets, "is_simple_contours", "no offset", [&] { i_shape::is_simple_contours(square(), none); });
+        throws(Code::bad_offsets, "has_no_spikes_contours", "no offset", [&] { i_shape::has_no_spikes_contours(square(), none); });
+        throws(Code::bad_offsets, "is_convex_contours", "no offset", [&] { i_shape::is_convex_contours(square(), none); });
+        throws(Code::bad_offsets, "is_safe_contours", "no offset", [&] { i_shape::is_safe_contours(square(), none); });
+        throws(Code::bad_offsets, "area_two_contours", "no offset", [&] { i_shape::area_two_contours(square(), none); });
     }
 
     /* Calls throw the code of each way in which they can fail. Clean one, contours and shapes are those of one cleaner. */
@@ -428,11 +432,11 @@ private:
         throws(Code::unsafe, name, "a point that isn't safe, into", [&] { into(unsafe, out); });
         throws(Code::unsafe, name, "a point that isn't safe, of contours", [&] { clean_contours(unsafe, whole); });
         throws(Code::unsafe, name, "a point that isn't safe, of polygons", [&] { clean_shapes(unsafe, whole, polygon); });
-        throws(Code::unfit, name, "room for all points but one", [&] { into(given, i_shape::Span<Point>(out.data(), out.size() - 1)); });
-        throws(Code::unfit, name, "no offset", [&] { clean_contours(given, none); });
-        throws(Code::unfit, name, "an offset out of the points", [&] { clean_contours(given, outside); });
-        throws(Code::unfit, name, "no offset of polygons", [&] { clean_shapes(given, whole, none); });
-        throws(Code::unfit, name, "a contour out of the points", [&] { clean_shapes(given, outside, polygon); });
+        throws(Code::no_room, name, "room for all points but one", [&] { into(given, i_shape::Span<Point>(out.data(), out.size() - 1)); });
+        throws(Code::bad_offsets, name, "no offset", [&] { clean_contours(given, none); });
+        throws(Code::bad_offsets, name, "an offset out of the points", [&] { clean_contours(given, outside); });
+        throws(Code::bad_offsets, name, "no offset of polygons", [&] { clean_shapes(given, whole, none); });
+        throws(Code::bad_offsets, name, "a contour out of the points", [&] { clean_shapes(given, outside, polygon); });
         is_refused = true;
         throws(Code::no_memory, name, "refused memory", [&] { clean(given); });
         throws(Code::no_memory, name, "refused memory, into", [&] { into(given, out); });
@@ -492,7 +496,7 @@ private:
         test_codes_of("simplify", i_shape::simplify<Contour>, i_shape::simplify_into<Contour>, i_shape::simplify_contours<Contour, Offsets>,
                       i_shape::simplify_shapes<Contour, Offsets, Offsets>);
         test_codes_of("despike", i_shape::despike<Contour>, i_shape::despike_into<Contour>, i_shape::despike_contours<Contour, Offsets>,
-                      i_shape::despike_shapes<Contour, Offsets, Offsets>);
+                      i_shape::remove_spikes<Contour, Offsets, Offsets>);
         test_codes_of("canonical", i_shape::canonical<Contour>, i_shape::canonical_into<Contour>, i_shape::canonical_contours<Contour, Offsets>,
                       i_shape::canonical_shapes<Contour, Offsets, Offsets>);
         test_codes_of("canonical_unoriented", i_shape::canonical_unoriented<Contour>, i_shape::canonical_unoriented_into<Contour>,

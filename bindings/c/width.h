@@ -53,10 +53,10 @@ static void AT(test_codes)(void) {
     for (int k = 0; k < CLEANERS; k++) {
         POINT given[3] = {{0, 0}, {4, 0}, {0, 4}}, out[3];
         fill(out, sizeof out);
-        check(AT(cleaners)[k](given, 3, out, 2) == I_SHAPE_UNFIT && is_filled(out, sizeof out), W, cleaner_names[k], "room for two of three points");
+        check(AT(cleaners)[k](given, 3, out, 2) == I_SHAPE_NO_ROOM && is_filled(out, sizeof out), W, cleaner_names[k], "room for two of three points");
         given[1].x = LEAST_UNSAFE;
         check(AT(cleaners)[k](given, 3, out, 3) == I_SHAPE_UNSAFE && is_filled(out, sizeof out), W, cleaner_names[k], "a point that isn't safe");
-        check(AT(cleaners)[k](given, 3, out, 2) == I_SHAPE_UNFIT, W, cleaner_names[k], "the room is tested first");
+        check(AT(cleaners)[k](given, 3, out, 2) == I_SHAPE_NO_ROOM, W, cleaner_names[k], "the room is tested first");
         given[1].x = (COORDINATE)-LEAST_UNSAFE;
         check(AT(cleaners)[k](given, 3, out, 3) == I_SHAPE_UNSAFE, W, cleaner_names[k], "the least coordinate that isn't safe");
         given[1].x = (COORDINATE)(1 - LEAST_UNSAFE);
@@ -105,11 +105,11 @@ static void AT(test_many_codes)(void) {
         const char *name = cleaner_names[k];
         fill(out, sizeof out);
         fill(out_offsets, sizeof out_offsets);
-        check(call(given, 6, inner, 0, out, 6, out_offsets, 3) == I_SHAPE_UNFIT, W, name, "no offset");
-        check(call(given, 6, backwards, 3, out, 6, out_offsets, 3) == I_SHAPE_UNFIT, W, name, "offsets that run backwards");
-        check(call(given, 6, outside, 2, out, 6, out_offsets, 3) == I_SHAPE_UNFIT, W, name, "an offset out of the points");
-        check(call(given, 6, inner, 2, out, 5, out_offsets, 3) == I_SHAPE_UNFIT, W, name, "room for five of six points");
-        check(call(given, 6, inner, 2, out, 6, out_offsets, 1) == I_SHAPE_UNFIT, W, name, "room for one of two offsets");
+        check(call(given, 6, inner, 0, out, 5, out_offsets, 3) == I_SHAPE_BAD_OFFSETS, W, name, "no offset");
+        check(call(given, 6, backwards, 3, out, 6, out_offsets, 3) == I_SHAPE_BAD_OFFSETS, W, name, "offsets that run backwards");
+        check(call(given, 6, outside, 2, out, 6, out_offsets, 3) == I_SHAPE_BAD_OFFSETS, W, name, "an offset out of the points");
+        check(call(given, 6, low, 2, out, 5, out_offsets, 3) == I_SHAPE_NO_ROOM, W, name, "room for five of six points");
+        check(call(given, 6, inner, 2, out, 6, out_offsets, 1) == I_SHAPE_NO_ROOM, W, name, "room for one of two offsets");
         check(call(given, 6, low, 2, out, 6, out_offsets, 3) == I_SHAPE_UNSAFE, W, name, "a first point that isn't safe");
         check(call(given, 6, high, 2, out, 6, out_offsets, 3) == I_SHAPE_UNSAFE, W, name, "a last point that isn't safe");
         check(is_filled(out, sizeof out) && is_filled(out_offsets, sizeof out_offsets), W, name, "codes leave the arrays as they were");
@@ -161,14 +161,14 @@ static void AT(test_shapes_codes)(void) {
 #define CLEAN(CONTOURS, CONTOUR_OFFSETS, SHAPES, SHAPE_OFFSETS, ROOM, CONTOUR_ROOM, SHAPE_ROOM) \
     AT(polygons)[k](given, 6, CONTOURS, CONTOUR_OFFSETS, SHAPES, SHAPE_OFFSETS, out, ROOM, out_contours, CONTOUR_ROOM, out_shapes, SHAPE_ROOM)
 #define IS_UNTOUCHED (is_filled(out, sizeof out) && is_filled(out_contours, sizeof out_contours) && is_filled(out_shapes, sizeof out_shapes))
-        check(CLEAN(contours, 0, shapes, 2, 6, 3, 3) == I_SHAPE_UNFIT, W, name, "no offset of contours");
-        check(CLEAN(contours, 3, shapes, 0, 6, 3, 3) == I_SHAPE_UNFIT, W, name, "no offset of polygons");
-        check(CLEAN(outside, 2, shapes, 2, 6, 3, 3) == I_SHAPE_UNFIT, W, name, "a contour out of the points");
-        check(CLEAN(contours, 3, beyond, 2, 6, 3, 3) == I_SHAPE_UNFIT, W, name, "a polygon out of the contours");
-        check(CLEAN(contours, 3, backwards, 3, 6, 3, 3) == I_SHAPE_UNFIT, W, name, "polygons that run backwards");
-        check(CLEAN(contours, 3, shapes, 2, 5, 3, 3) == I_SHAPE_UNFIT, W, name, "polygons, room for five of six points");
-        check(CLEAN(contours, 3, shapes, 2, 6, 2, 3) == I_SHAPE_UNFIT, W, name, "room for two of three offsets of contours");
-        check(CLEAN(contours, 3, shapes, 2, 6, 3, 1) == I_SHAPE_UNFIT, W, name, "room for one of two offsets of polygons");
+        check(CLEAN(contours, 0, shapes, 2, 6, 3, 3) == I_SHAPE_BAD_OFFSETS, W, name, "no offset of contours");
+        check(CLEAN(contours, 3, shapes, 0, 6, 3, 3) == I_SHAPE_BAD_OFFSETS, W, name, "no offset of polygons");
+        check(CLEAN(outside, 2, shapes, 2, 6, 3, 3) == I_SHAPE_BAD_OFFSETS, W, name, "a contour out of the points");
+        check(CLEAN(contours, 3, beyond, 2, 6, 3, 3) == I_SHAPE_BAD_OFFSETS, W, name, "a polygon out of the contours");
+        check(CLEAN(contours, 3, backwards, 3, 6, 3, 3) == I_SHAPE_BAD_OFFSETS, W, name, "polygons that run backwards");
+        check(CLEAN(contours, 3, shapes, 2, 5, 3, 3) == I_SHAPE_NO_ROOM, W, name, "polygons, room for five of six points");
+        check(CLEAN(contours, 3, shapes, 2, 6, 2, 3) == I_SHAPE_NO_ROOM, W, name, "room for two of three offsets of contours");
+        check(CLEAN(contours, 3, shapes, 2, 6, 3, 1) == I_SHAPE_NO_ROOM, W, name, "room for one of two offsets of polygons");
         given[5].y = LEAST_UNSAFE;
         check(CLEAN(contours, 3, shapes, 2, 6, 3, 3) == I_SHAPE_UNSAFE, W, name, "polygons with a point that isn't safe");
         check(IS_UNTOUCHED, W, name, "codes leave the arrays of polygons as they were");
@@ -197,9 +197,16 @@ static void AT(test_tests)(void) {
     check(CALL(contains)(square, 4, 1, 1) == 1, W, "contains", "a point inside");
     check(CALL(contains)(square, 4, 5, 1) == 0, W, "contains", "a point outside");
     check(CALL(contains)(square, 0, 5, 1) == 0, W, "contains", "no contour");
+    check(CALL(contains_by)(square, 0, 5, 1, I_SHAPE_EVEN_ODD) == 0, W, "contains_by", "no contour");
+    check(CALL(contains_by)(square, 4, 1, 1, 4) == I_SHAPE_BAD_OFFSETS, W, "contains_by", "no such rule");
+    check(CALL(contains_by)(square, 4, 1, LEAST_UNSAFE, I_SHAPE_NONZERO) == I_SHAPE_UNSAFE, W, "contains_by", "a point that isn't safe");
+    check(CALL(first_unsafe)(square, 4) == 4 && CALL(first_unsafe)(square, 0) == 0, W, "first_unsafe", "each point is safe");
     check(CALL(contains)(square, 4, LEAST_UNSAFE, 1) == I_SHAPE_UNSAFE, W, "contains", "a point that isn't safe");
     square[3].y = LEAST_UNSAFE;
     check(CALL(is_safe)(square, 4) == 0, W, "is_safe", "a vertex that isn't safe");
+    check(CALL(contains_by)(square, 4, 1, 1, I_SHAPE_NONZERO) == I_SHAPE_UNSAFE, W, "contains_by", "a vertex that isn't safe");
+    square[1].x = (COORDINATE)-LEAST_UNSAFE;
+    check(CALL(first_unsafe)(square, 4) == 1 && CALL(first_unsafe)(square + 2, 2) == 1, W, "first_unsafe", "two that aren't safe");
     check(CALL(is_simple)(square, 4) == I_SHAPE_UNSAFE, W, "is_simple", "a vertex that isn't safe");
     check(CALL(has_no_spikes)(square, 4) == I_SHAPE_UNSAFE, W, "has_no_spikes", "a vertex that isn't safe");
     check(CALL(is_convex)(square, 4) == I_SHAPE_UNSAFE, W, "is_convex", "a vertex that isn't safe");
@@ -237,12 +244,12 @@ static void AT(test_codes_of_tests)(void) {
         const char *name = test_names[k];
         uint8_t out[3];
         fill(out, sizeof out);
-        check(call(given, 8, inner, 0, out, 3) == I_SHAPE_UNFIT, W, name, "of many, no offset");
-        check(call(given, 8, backwards, 3, out, 3) == I_SHAPE_UNFIT, W, name, "of many, offsets that run backwards");
-        check(call(given, 8, outside, 2, out, 3) == I_SHAPE_UNFIT, W, name, "of many, an offset out of the points");
-        check(call(given, 8, inner, 3, out, 1) == I_SHAPE_UNFIT, W, name, "of many, room for one of two bytes");
-        check(call(given, 8, low, 3, out, 1) == I_SHAPE_UNFIT, W, name, "of many, the room is tested first");
-        check(is_filled(out, sizeof out), W, name, "of many, I_SHAPE_UNFIT leaves the array as it was");
+        check(call(given, 8, inner, 0, out, 3) == I_SHAPE_BAD_OFFSETS, W, name, "of many, no offset");
+        check(call(given, 8, backwards, 3, out, 3) == I_SHAPE_BAD_OFFSETS, W, name, "of many, offsets that run backwards");
+        check(call(given, 8, outside, 2, out, 3) == I_SHAPE_BAD_OFFSETS, W, name, "of many, an offset out of the points");
+        check(call(given, 8, inner, 3, out, 1) == I_SHAPE_NO_ROOM, W, name, "of many, room for one of two bytes");
+        check(call(given, 8, low, 3, out, 1) == I_SHAPE_NO_ROOM, W, name, "of many, the room is tested first");
+        check(is_filled(out, sizeof out), W, name, "of many, codes leave the array as it was");
         check(call(given, 8, low, 3, out, 2) == (any_points ? 0 : I_SHAPE_UNSAFE), W, name, "of many, a first point that isn't safe");
         check(any_points ? out[0] == 0 && out[1] == 1 : is_filled(out, sizeof out), W, name, "of many, what that leaves");
         fill(out, sizeof out);
@@ -262,10 +269,10 @@ static void AT(test_codes_of_areas)(void) {
     const size_t both[] = {1, 4, 7}, empty[] = {4, 4}, backwards[] = {1, 7, 4}, outside[] = {1, 8}, none[] = {7};
     AREA areas[3];
     fill(areas, sizeof areas);
-    check(CALL(area_two_contours)(given, 7, both, 0, areas, 3) == I_SHAPE_UNFIT, W, "area_two", "of many, no offset");
-    check(CALL(area_two_contours)(given, 7, backwards, 3, areas, 3) == I_SHAPE_UNFIT, W, "area_two", "of many, offsets that run backwards");
-    check(CALL(area_two_contours)(given, 7, outside, 2, areas, 3) == I_SHAPE_UNFIT, W, "area_two", "of many, an offset out of the points");
-    check(CALL(area_two_contours)(given, 7, both, 3, areas, 1) == I_SHAPE_UNFIT, W, "area_two", "of many, room for one of two areas");
+    check(CALL(area_two_contours)(given, 7, both, 0, areas, 3) == I_SHAPE_BAD_OFFSETS, W, "area_two", "of many, no offset");
+    check(CALL(area_two_contours)(given, 7, backwards, 3, areas, 3) == I_SHAPE_BAD_OFFSETS, W, "area_two", "of many, offsets that run backwards");
+    check(CALL(area_two_contours)(given, 7, outside, 2, areas, 3) == I_SHAPE_BAD_OFFSETS, W, "area_two", "of many, an offset out of the points");
+    check(CALL(area_two_contours)(given, 7, both, 3, areas, 1) == I_SHAPE_NO_ROOM, W, "area_two", "of many, room for one of two areas");
     check(CALL(area_two_contours)(given, 7, none, 1, areas, 0) == 0, W, "area_two", "of many, no contour");
     check(is_filled(areas, sizeof areas), W, "area_two", "of many, a code leaves the array as it was");
     check(CALL(area_two_contours)(given, 7, both, 3, areas, 2) == 0 && AREA_IS(areas[0], 16) && AREA_IS(areas[1], (int64_t)LEAST_UNSAFE)
@@ -284,6 +291,11 @@ static void AT(test_windings)(void) {
     for (size_t k = 0; k < 3; k++)
         check(CALL(winding)(given, 8, about[k].x, about[k].y) == twice[k], W, "winding", "a square twice");
     check(CALL(winding)(given + 8, 4, 2, 2) == -1, W, "winding", "a square that turns right");
+    for (int rule = I_SHAPE_EVEN_ODD; rule <= I_SHAPE_NEGATIVE; rule++) {
+        const int32_t of_two[4] = {0, 1, 1, 0}, of_less[4] = {1, 1, 0, 1};
+        check(CALL(contains_by)(given, 8, 2, 2, rule) == of_two[rule], W, "contains_by", "a square twice by each rule");
+        check(CALL(contains_by)(given + 8, 4, 2, 2, rule) == of_less[rule], W, "contains_by", "a square that turns right by each rule");
+    }
     check(CALL(winding)(given, 0, 2, 2) == 0, W, "winding", "no contour");
     check(CALL(winding)(given, 4, 2, LEAST_UNSAFE) == I_SHAPE_NO_WINDING, W, "winding", "a point that isn't safe");
     fill(out, sizeof out);
@@ -292,10 +304,10 @@ static void AT(test_windings)(void) {
     check(CALL(windings)(given, 15, offsets, 1, about, 1, out, 4) == 0 && out[0] == 0, W, "windings", "no contour");
     fill(out, sizeof out);
     check(CALL(windings)(given, 15, offsets, 3, about, 0, out, 0) == 0, W, "windings", "no point");
-    check(CALL(windings)(given, 15, offsets, 0, about, 3, out, 4) == I_SHAPE_UNFIT, W, "windings", "no offset");
-    check(CALL(windings)(given, 15, backwards, 3, about, 3, out, 4) == I_SHAPE_UNFIT, W, "windings", "offsets that run backwards");
-    check(CALL(windings)(given, 15, outside, 2, about, 3, out, 4) == I_SHAPE_UNFIT, W, "windings", "an offset out of the points");
-    check(CALL(windings)(given, 15, offsets, 3, about, 3, out, 2) == I_SHAPE_UNFIT, W, "windings", "room for two of three numbers");
+    check(CALL(windings)(given, 15, offsets, 0, about, 3, out, 4) == I_SHAPE_BAD_OFFSETS, W, "windings", "no offset");
+    check(CALL(windings)(given, 15, backwards, 3, about, 3, out, 4) == I_SHAPE_BAD_OFFSETS, W, "windings", "offsets that run backwards");
+    check(CALL(windings)(given, 15, outside, 2, about, 3, out, 4) == I_SHAPE_BAD_OFFSETS, W, "windings", "an offset out of the points");
+    check(CALL(windings)(given, 15, offsets, 3, about, 3, out, 2) == I_SHAPE_NO_ROOM, W, "windings", "room for two of three numbers");
     about[1].x = LEAST_UNSAFE;
     check(CALL(windings)(given, 15, offsets, 3, about, 3, out, 4) == I_SHAPE_UNSAFE, W, "windings", "a point that isn't safe");
     about[1].x = 0;
@@ -372,9 +384,9 @@ static void AT(test_locations)(void) {
     }
     fill(bytes, sizeof bytes);
     fill(places, sizeof places);
-    check(CALL(contains_points)(given, 12, offsets, 4, about, 4, 4, bytes, 5) == I_SHAPE_UNFIT, W, "contains_points", "no such rule");
-    check(CALL(locate)(given, 12, offsets, 4, about, 6, -1, places, 7) == I_SHAPE_UNFIT, W, "locate", "no such rule");
-    check(CALL(locate)(given, 12, offsets, 4, about, 6, I_SHAPE_NONZERO, places, 5) == I_SHAPE_UNFIT, W, "locate", "room for five of six");
+    check(CALL(contains_points)(given, 12, offsets, 4, about, 4, 4, bytes, 5) == I_SHAPE_BAD_OFFSETS, W, "contains_points", "no such rule");
+    check(CALL(locate)(given, 12, offsets, 4, about, 6, -1, places, 7) == I_SHAPE_BAD_OFFSETS, W, "locate", "no such rule");
+    check(CALL(locate)(given, 12, offsets, 4, about, 6, I_SHAPE_NONZERO, places, 5) == I_SHAPE_NO_ROOM, W, "locate", "room for five of six");
     about[1].x = LEAST_UNSAFE;
     check(CALL(contains_points)(given, 12, offsets, 4, about, 4, I_SHAPE_NONZERO, bytes, 5) == I_SHAPE_UNSAFE, W, "contains_points", "a point that isn't safe");
     check(is_filled(bytes, sizeof bytes) && is_filled(places, sizeof places), W, "locate", "codes leave the array as it was");
@@ -447,6 +459,7 @@ static void AT(test_refusals)(void) {
     WITH_EACH_GROWTH_REFUSED(CALL(has_no_spikes)(given, 10), 1, growths == 0, W, "has_no_spikes");
     WITH_EACH_GROWTH_REFUSED(CALL(is_convex)(given, 10), 1, growths == 0, W, "is_convex");
     WITH_EACH_GROWTH_REFUSED(CALL(contains)(given, 10, 1, 1), 1, growths == 0, W, "contains");
+    WITH_EACH_GROWTH_REFUSED(CALL(contains_by)(given, 10, 1, 1, I_SHAPE_NONZERO), 1, growths == 0, W, "contains_by");
     ptrdiff_t number;
     WITH_EACH_GROWTH_REFUSED(CALL(winding)(square, 4, 1, 1), 1, growths == 0, W, "winding");
     WITH_EACH_GROWTH_REFUSED(CALL(windings)(given, 10, offsets, 3, square, 1, &number, 1), 1, growths == 0, W, "windings");

@@ -1,8 +1,9 @@
 -- Contours in one array of points, parted by offsets.
-use Rattle.std.proofs.Common.{◌≡◌, ℕ, ℤ, ◌+◌, ◌-◌, ◌≤◌, ◌<◌, List, map, length, take, drop, slice_range, ap, sym, subst, ◌∙◌, arith, Option}
+use Rattle.std.proofs.Common.{◌≡◌, ◌↔◌, inl, inr, ℕ, ℤ, ◌+◌, ◌-◌, ◌≤◌, ◌<◌, List, map, length, take, drop, slice_range, ap, sym, subst, ◌∙◌, arith, Option}
 use Rattle.std.specs.Int.{Width}
 use Rattle.std.specs.List.{All}
 use Rattle.std.specs.Prelude.{Result, Ok, Err, IfOk, OnErr, OnOk}
+use Rattle.std.proofs.lemmas.Bool.{cases_lt}
 use Rattle.std.proofs.lemmas.List.{take-take, drop-take, drop-drop}
 use Rattle.std.proofs.lemmas.List.Elements.{All-take, All-drop}
 use Rattle.i_shape.specs.Point.{Point}
@@ -11,7 +12,8 @@ use Rattle.i_shape.specs.IntPoints.{IntPoint}
 use Rattle.i_shape_core.specs.Rings.{AreSafeRings, AreShortOrClean, Leaves, AreCleanedRings}
 use Rattle.i_shape_core.proofs.lists.Rings.{rises_to}
 use Rattle.i_shape_c.specs.Cleaned.{AreSafe}
-use Rattle.i_shape_c.specs.Batch.{offset, nth_contour, AreRising, AreSafeContours, NoneTakesMemory, IsCleanedBatch}
+use Rattle.i_shape_c.specs.Places.{AreGoodOffsets, IsFirstBadOffset}
+use Rattle.i_shape_c.specs.Batch.{offset, nth_contour, AreRising, PartsPoints, AreSafeContours, NoneTakesMemory, IsCleanedBatch}
 use Rattle.i_shape_c.proofs.Boundary.{copied_points, safe_contour}
 
 -- what holds whatever a call answers holds where it answers an error
@@ -33,6 +35,52 @@ if_ok (Err e) follows p = tt
 pub on_err_by : {T E P Q : Type 0} (r : Result T E) → (P → Q) → OnErr r P → OnErr r Q
 on_err_by (Ok t) follows p = tt
 on_err_by (Err e) follows p = follows p
+
+-- offsets after which one more is read, and the offset before it, 0 where there is none
+pub record AreRead (points : ℕ) (offsets : List ℕ) (n before : ℕ) : Type 0 where
+  pub good : AreGoodOffsets points offsets n
+  pub start : n ≡ 0 → before ≡ 0
+  pub last : (k : ℕ) → k + 1 ≡ n → before ≡ offset offsets k
+
+-- one more good offset
+pub read_more : (points : ℕ) (offsets : List ℕ) (n before : ℕ) → AreRead points offsets n before → before ≤ offset offsets n → offset offsets n ≤ points → AreRead points offsets (n + 1) (offset offsets n)
+read_more points offsets n before read up most = record {
+  good = record {
+    order = λ k less. elim (cases_lt (k + 1) n) [
+      | inl below ↦ read.good.order k below
+      | inr above ↦ let here : k + 1 ≡ n = omega (arith, less, above) in omega (arith, read.last k here, up, ap (offset offsets) here)
+    ];
+    most = λ k less. elim (cases_lt k n) [
+      | inl below ↦ read.good.most k below
+      | inr above ↦ let here : k ≡ n = omega (arith, less, above) in omega (arith, most, ap (offset offsets) here)
+    ];
+  };
+  start = λ none. absurd (omega (arith, none));
+  last = λ k is. let here : n ≡ k = omega (arith, is) in ap (offset offsets) here;
+}
+
+-- an offset below the one before it is bad
+pub bad_back : (points : ℕ) (offsets : List ℕ) (n before : ℕ) → AreRead points offsets n before → offset offsets n < before → AreGoodOffsets points offsets (n + 1) → ⊥
+bad_back points offsets n before read back good = elim (cases_lt 0 n) [
+  | inl some ↦ let here : n - 1 + 1 ≡ n = omega (arith, some) in let up = good.order (n - 1) (omega (arith, some)) in omega (arith, up, ap (offset offsets) here, read.last (n - 1) here, back)
+  | inr none ↦ let start = read.start (omega (arith, none)) in omega (arith, start, back)
+]
+
+-- offsets part the points where none of them is bad
+pub parted_by : (points : ℕ) (offsets : List ℕ) (place : ℕ) → IsFirstBadOffset points offsets place → 0 < length offsets → (place ≡ length offsets) ↔ PartsPoints points offsets
+parted_by points offsets place first some = (all_good, none_bad)
+  where
+    all_good : place ≡ length offsets → PartsPoints points offsets
+    all_good is = let good = subst (AreGoodOffsets points offsets) is first.before in record { some = some; order = good.order; last = good.most (length offsets - 1) (omega (arith, some)) }
+
+    none_bad : PartsPoints points offsets → place ≡ length offsets
+    none_bad parted = elim (cases_lt place (length offsets)) [
+      | inl less ↦ absurd (first.here less (record {
+        order = λ k below. parted.order k (omega (arith, below, less));
+        most = λ k below. let up = rises_to offsets (length offsets) k (length offsets - 1) parted.order (omega (arith, below, less)) (omega (arith, some)) in omega (arith, up, parted.last);
+      }))
+      | inr more ↦ omega (arith, more, first.within)
+    ]
 
 -- a part of a part
 inner_part : {X : Type 0} (xs : List X) (a b c d : ℕ) → a ≤ b → b ≤ c → c ≤ d → slice_range xs b c ≡ take (c - b) (drop (b - a) (slice_range xs a d))

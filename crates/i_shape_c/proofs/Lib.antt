@@ -1,3 +1,4 @@
+pub mod Refusals
 pub mod Boundary
 pub mod Parts
 pub mod Batches
@@ -5,7 +6,6 @@ pub mod Areas
 pub mod PolygonLists
 pub mod Appended
 pub mod PolygonsLeft
-pub mod PolygonAnswers
 pub mod Counts
 pub mod Windings
 pub mod Told

@@ -5,7 +5,6 @@ use Rattle.std.proofs.lemmas.List.{take_more, take_more_set}
 use Rattle.std.proofs.lemmas.List.FromFn.{map-range_with_len_more}
 use Rattle.std.proofs.lemmas.Slice.Zip.{all_zipped_more}
 use Rattle.i_shape_c.specs.Batch.{offset, nth_contour}
-use Rattle.i_shape_c.specs.Cleaned.{unsafe_code, unfit_code}
 
 -- one contour more is told of
 pub told_more : {P X : Type 0} (R : List P → X → Type 0) (points : List P) (offsets : List ℕ) (out : List X) (n place : ℕ) (item : X) → place ≡ n + 1 → n < length out
@@ -27,7 +26,3 @@ item_more R items out n item told within read room before here =
 -- what is something isn't nothing
 pub not_none : {X : Type 0} (o : Option X) (x : X) → o ≡ Some x → o ≡ None → ⊥
 not_none o x some none = absurd (cc)
-
--- the codes differ
-pub codes_apart : unsafe_code ≡ unfit_code → ⊥
-codes_apart e = absurd (cc)

@@ -1,5 +1,5 @@
 -- How what is left of polygons is written one behind the other. Private functions alone speak of it.
-use Rattle.std.specs.Prelude.{◌≡◌, Bool, ℕ, ℤ, ◌+◌, ◌-◌, ◌<◌, ◌≤◌, ◌++◌, ◌⊎◌, List, [], ◌∷◌, map, length, take, drop, slice_range, IsTrue, Option, MatchOption}
+use Rattle.std.specs.Prelude.{◌≡◌, Bool, ℕ, ℤ, ◌+◌, ◌-◌, ◌<◌, ◌≤◌, ◌++◌, List, [], ◌∷◌, map, length, take, drop, slice_range, IsTrue, Option}
 use Rattle.std.specs.Int.{Width}
 use Rattle.std.specs.List.{range_with_len}
 use Rattle.std.specs.Option.{option_map, option_to_list}
@@ -7,9 +7,8 @@ use Rattle.i_shape.specs.Point.{Point}
 use Rattle.i_shape.specs.IntPoint.{IsSafeContour}
 use Rattle.i_shape.specs.Paths.{concatenated}
 use Rattle.i_shape.specs.ShapeAnswers.{ShapeClean, ListClean}
-use Rattle.i_shape_c.specs.Batch.{offset, nth_contour, AreSafeContours}
-use Rattle.i_shape_c.specs.Cleaned.{unfit_code, unsafe_code}
-use Rattle.i_shape_c.specs.Polygons.{parts, offsets_of, CanCleanShapes}
+use Rattle.i_shape_c.specs.Batch.{offset, nth_contour}
+use Rattle.i_shape_c.specs.Polygons.{parts, offsets_of}
 use Rattle.i_shape_c.specs.declared.polygons.Counts.{Counts}
 
 -- a contour can be cleaned without more memory: it is safe, where it is said to be clean it is, and where it isn't there is room for its points;
@@ -67,13 +66,6 @@ pub record AppendsShapeLeft {P : Type 0} (Answer : List Point → Option (List P
   pub left : Option (List (List P))
   pub answer : ShapeClean Answer (map (map point) shape) (option_map (map (map point)) left)
   pub appended : AppendsPolygons (option_to_list left) old_points new_points old_contours new_contours old_shapes new_shapes before after
-
--- why polygons can't be cleaned, in the order of the tests, and none where they can
-abbrev pub RefusesPolygons : {P : Type 0} → Width → (P → Point) → List P → List ℕ → List ℕ → ℕ → ℕ → ℕ → Option ℤ → Type 0
-RefusesPolygons width point points contours shapes out_points out_contours out_shapes r =
-    MatchOption r (CanCleanShapes (length points) contours shapes out_points out_contours out_shapes × AreSafeContours width point points contours)
-    (λ code. ((code ≡ unfit_code) × (CanCleanShapes (length points) contours shapes out_points out_contours out_shapes → ⊥))
-    ⊎ ((code ≡ unsafe_code) × CanCleanShapes (length points) contours shapes out_points out_contours out_shapes × (AreSafeContours width point points contours → ⊥)))
 
 -- the three arrays hold the polygons, which are n, from the start on; there are no more of them, of their contours and of their points than so many
 pub record WritesPolygons {P : Type 0} (list : List (List (List P))) (points rings shapes : ℕ) (old_points new_points : List P) (old_contours new_contours old_shapes new_shapes : List ℕ) (n : ℕ) : Type 0 where

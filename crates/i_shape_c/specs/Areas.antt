@@ -1,11 +1,11 @@
--- Double areas, as C is given them.
+-- Double areas, as C receives them.
 use Rattle.std.specs.Prelude.{◌≡◌, ◌+◌, ◌*◌, ◌^◌, ℤ, List}
 use Rattle.std.specs.Int.{Width, w128, cast_unsigned, int_wrap}
 use Rattle.i_shape.specs.Point.{Point}
 use Rattle.i_shape.specs.Edges.{shoelace}
 use Rattle.i_shape_c.specs.declared.area.Halves.{Halves}
 
--- the two halves of its bits, where a number below 0 stands for itself and 2^128
+-- the two halves of its bits in two's complement: a number below 0 is represented by itself plus 2^128
 abbrev pub AreHalves : ℤ → Halves → Type 0
 AreHalves z halves = halves.low + halves.high * 2 ^ 64 ≡ cast_unsigned w128 z
 

@@ -1,6 +1,8 @@
 pub mod Points
+pub mod Codes
 pub mod Cleaned
 pub mod Batch
+pub mod Places
 pub mod Polygons
 pub mod Appended
 pub mod Tests

@@ -1,16 +1,19 @@
--- What the calls answer that tell where each of many points lies, by a fill rule.
-use Rattle.std.specs.Prelude.{◌≡◌, ◌≢◌, ◌↔◌, ℕ, ℤ, ◌+◌, ◌<◌, pos, negsuc, zero, suc, List, map, length, take, drop, Option, Some, None, IfSome}
+-- What the calls return that locate each of many points, by a fill rule.
+use Rattle.std.specs.Prelude.{◌≡◌, ◌≢◌, ℕ, ℤ, ◌+◌, ◌<◌, ◌≤◌, pos, negsuc, zero, suc, List, map, length, take, drop, Option, Some, None, IfSome}
 use Rattle.std.specs.Int.{Width}
 use Rattle.std.specs.List.{AllZip}
 use Rattle.i_shape.specs.Point.{Point}
 use Rattle.i_shape.specs.Boundary.{IsOnEdge}
 use Rattle.i_shape.specs.Filling.{IsFilled}
+use Rattle.i_shape.specs.IntPoint.{IsSafe}
+use Rattle.i_shape.specs.Winding.{winding}
 use Rattle.i_shape_core.specs.declared.fill_rule.FillRule.{FillRule}
 use Rattle.i_shape_core.specs.declared.fill_rule.FillRule.TheVariants.{EvenOdd, NonZero, Positive, Negative}
-use Rattle.i_shape_c.specs.Batch.{nth_contour, AreSafeContours}
-use Rattle.i_shape_c.specs.Cleaned.{unsafe_code, unfit_code, AreSafe}
+use Rattle.i_shape_c.specs.Batch.{nth_contour, PartsPoints, AreSafeContours}
+use Rattle.i_shape_c.specs.Cleaned.{AreSafe}
+use Rattle.i_shape_c.specs.Codes.{Refuses}
 use Rattle.i_shape_c.specs.Tests.{IsTold}
-use Rattle.i_shape_c.specs.Windings.{CanWind, contours_winding}
+use Rattle.i_shape_c.specs.Windings.{contours_winding}
 
 -- the fill rule of a code
 abbrev pub rule_of : ℤ → Option FillRule
@@ -21,20 +24,26 @@ rule_of (pos (suc (suc (suc zero)))) = Some Negative
 rule_of (pos (suc (suc (suc (suc n))))) = None
 rule_of (negsuc n) = None
 
--- the arrays fit, and there is such a rule
-pub record CanTell (points : ℕ) (offsets : List ℕ) (about out : ℕ) (rule : ℤ) : Type 0 where
-  pub fit : CanWind points offsets about out
-  pub known : rule_of rule ≢ None
-
--- p lies on an edge of one of the contours that the offsets part
+-- p lies on an edge of one of the contours that the offsets give
 pub record IsOnContours {P : Type 0} (point : P → Point) (points : List P) (offsets : List ℕ) (p : Point) : Type 0 where
   pub place : ℕ
   pub within : place + 1 < length offsets
   pub on : IsOnEdge (map point (nth_contour points offsets place)) p
 
--- 1 where the rule fills p, by how often the contours wind about it together, and else 0
+-- 1 where the rule fills p, given the contours' total winding number about it, and otherwise 0
 abbrev pub IsFilledByte : {P : Type 0} → (P → Point) → FillRule → List P → List ℕ → Point → ℕ → Type 0
 IsFilledByte point rule points offsets p byte = IsTold (IsFilled rule (contours_winding point points offsets p)) (pos byte)
+
+-- 1 where the rule fills a point with the winding number `turns`, 0 where it doesn't, or a code
+abbrev pub FillsAnswer : Option FillRule → ℤ → ℤ → Type 0
+FillsAnswer rule turns (pos n) = IfSome rule (λ r. IsTold (IsFilled r turns) (pos n))
+FillsAnswer rule turns (negsuc n) = n < 4
+
+-- what a call returns that tests whether a rule fills a point, and exactly when it returns which code: none for memory
+-- or room
+pub record FillsPoint {P : Type 0} (width : Width) (point : P → Point) (points : List P) (about : Point) (rule result : ℤ) : Type 0 where
+  pub answer : FillsAnswer (rule_of rule) (winding (map point points) about) result
+  pub refuses : Refuses (rule_of rule ≢ None) (Unit {0}) (AreSafe width point points × IsSafe width about) (Unit {0}) result
 
 -- 0 on the boundary, and elsewhere 1 inside and -1 outside
 abbrev pub IsLocation : Type 0 → Type 0 → ℤ → Type 0
@@ -48,19 +57,18 @@ IsLocation On Filled (negsuc (suc n)) = ⊥
 abbrev pub IsLocated : {P : Type 0} → (P → Point) → FillRule → List P → List ℕ → Point → ℤ → Type 0
 IsLocated point rule points offsets p code = IsLocation (IsOnContours point points offsets p) (IsFilled rule (contours_winding point points offsets p)) code
 
--- the new items begin with one for each point, in order, that is given of it, and what stands behind these is as it was
+-- the new items begin with the result for each point, in order, and what follows these is unchanged
 pub record AreTold {P X : Type 0} (Gives : Point → X → Type 0) (point : P → Point) (about : List P) (old new : List X) : Type 0 where
   pub each : AllZip (λ q. Gives (point q)) about (take (length about) new)
   pub rest : drop (length about) new ≡ drop (length about) old
 
--- 0, and an item of each point, or one of two codes, and nothing is written
+-- 0 and an item for each point, or a code with nothing written
 abbrev pub TellsAnswer : {P X : Type 0} → (FillRule → List P → List ℕ → Point → X → Type 0) → (P → Point) → List P → List ℕ → List P → ℤ → List X → List X → ℤ → Type 0
 TellsAnswer Gives point points offsets about rule old new (pos zero) = IfSome (rule_of rule) (λ r. AreTold (Gives r points offsets) point about old new)
 TellsAnswer Gives point points offsets about rule old new (pos (suc n)) = ⊥
-TellsAnswer Gives point points offsets about rule old new (negsuc n) = (n < 2) × (new ≡ old)
+TellsAnswer Gives point points offsets about rule old new (negsuc n) = (n < 4) × (new ≡ old)
 
--- what a call writes of each of many points, and exactly when it answers with which code
+-- what a call writes for each of many points, and exactly when it returns which code: none for memory
 pub record TellsEach {P X : Type 0} (Gives : FillRule → List P → List ℕ → Point → X → Type 0) (width : Width) (point : P → Point) (points : List P) (offsets : List ℕ) (about : List P) (rule : ℤ) (old new : List X) (result : ℤ) : Type 0 where
   pub answer : TellsAnswer Gives point points offsets about rule old new result
-  pub unfit : result ≡ unfit_code ↔ (CanTell (length points) offsets (length about) (length old) rule → ⊥)
-  pub unsafe_points : result ≡ unsafe_code ↔ (CanTell (length points) offsets (length about) (length old) rule × ((AreSafeContours width point points offsets × AreSafe width point about) → ⊥))
+  pub refuses : Refuses ((rule_of rule ≢ None) × PartsPoints (length points) offsets) (length about ≤ length old) (AreSafeContours width point points offsets × AreSafe width point about) (Unit {0}) result

@@ -10,8 +10,8 @@ use crate::point::CPoint;
 use i_shape::IntNumber;
 use i_shape_core::area::area_of;
 
-/// Twice the area, above zero where the contour turns left, and `None` where there is no point. No safe range is asked: a sum that
-/// doesn't fit wraps. It takes no memory.
+/// Returns twice the signed area, positive where the contour runs counterclockwise, or `None` where there is no point.
+/// The points needn't be safe; a sum that doesn't fit wraps. Allocates nothing.
 pub fn area_two<P: CPoint>(points: &[P]) -> Option<<P::Coordinate as IntNumber>::Wide>
     ensures some { IsSome result ↔ (0 < length points.now) }
     ensures area { IfSome result (λ area. P.Coordinate.Wide.value area
@@ -24,7 +24,7 @@ pub fn area_two<P: CPoint>(points: &[P]) -> Option<<P::Coordinate as IntNumber>:
     Some(area_of(points))
 }
 
-/// A whole number of 128 bits, as the two halves of its bits.
+/// A 128-bit integer, as the two halves of its bits.
 #[repr(C)]
 #[derive(Copy, Clone)]
 pub struct Halves {

@@ -1,10 +1,13 @@
-//! The cleaning of many contours, which lie end to end in one array and are parted by offsets.
+//! Cleaning of many contours, which lie end to end in one array. Offsets divide the array into contours.
 
-ghost use Rattle.std.specs.Prelude.{◌≡◌, ◌↔◌, ◌^◌, ◌<◌, length, IsTrue, IfOk, OnErr};
-ghost use Rattle.i_shape_c.specs.Batch.{PartsPoints, CanClean, AreSafeContours, NoneTakesMemory, IsCleanedBatch, IsUntouched, CleansContours};
+ghost use Rattle.std.specs.Prelude.{◌≡◌, ◌≤◌, ◌↔◌, ◌^◌, ◌<◌, length, IsTrue, IfOk, OnErr};
+ghost use Rattle.i_shape_c.specs.Batch.{PartsPoints, HasRoom, AreSafeContours, NoneTakesMemory, IsCleanedBatch, IsUntouched, CleansContours};
+ghost use Rattle.i_shape_c.specs.Cleaned.{AreSafe};
+ghost use Rattle.i_shape_c.specs.Codes.{IsRefusal};
 ghost use Rattle.i_shape_c.specs.Points.{point_by};
 
-use crate::codes::{NO_MEMORY, UNFIT, UNSAFE};
+use crate::codes::Refusal;
+use crate::places::first_bad_offset;
 use crate::point::CPoint;
 use i_shape::ShapeError;
 use i_shape::int::cleaner::ContourCleaner;
@@ -13,8 +16,8 @@ use i_shape_core::rings::try_clean_rings;
 use i_shape_core::safe_range::are_safe;
 use std::alloc::Global;
 
-/// Writes what is left of each contour to the front of `out_points`, and to `out_offsets` where it starts and ends. Answers how many
-/// points these are, or a code below 0.
+/// Writes the cleaned contours to the front of `out_points`, and their offsets to `out_offsets`. Returns how many
+/// points are written, or a code below 0.
 pub fn clean_contours<P: CPoint, C: ContourCleaner>(
     alloc: Global,
     points: &[P],
@@ -27,41 +30,77 @@ pub fn clean_contours<P: CPoint, C: ContourCleaner>(
         (point_by P.Coordinate.value P.point) points.now offsets.now
         out_points.old out_points.new out_offsets.old out_offsets.new result }
 {
-    if !can_clean(points.len(), offsets, out_points.len(), out_offsets.len()) {
-        return UNFIT;
-    }
-    if !are_safe(part(points, offsets[0], offsets[offsets.len() - 1])) {
-        return UNSAFE;
+    let has_room = has_room(
+        points.len(),
+        offsets.len(),
+        out_points.len(),
+        out_offsets.len(),
+    );
+    if let Some(refusal) = refusal(points, offsets, has_room) {
+        return refusal.code() as isize;
     }
     match clean_all::<P, C>(alloc, points, offsets, out_points, out_offsets) {
         Ok(total) => total as isize,
-        Err(_) => NO_MEMORY,
+        Err(_) => Refusal::NoMemory.code() as isize,
     }
 }
 
-/// Whether the offsets part the points, and there is room for as many of both.
-pub fn can_clean(points: usize, offsets: &[usize], out_points: usize, out_offsets: usize) -> bool
-    ensures { IsTrue result ↔ CanClean points offsets.now out_points out_offsets }
+/// Returns whether there is room for as many points and offsets.
+pub fn has_room(points: usize, offsets: usize, out_points: usize, out_offsets: usize) -> bool
+    ensures { IsTrue result ↔ HasRoom points offsets out_points out_offsets }
 {
-    points <= out_points && offsets.len() <= out_offsets && are_parted(points, offsets)
+    points <= out_points && offsets <= out_offsets
 }
 
-/// Whether the offsets part so many points.
+/// Returns why a call on contours is refused, or `None` where the offsets divide safe points, and there is room.
+pub fn refusal<P: CPoint>(points: &[P], offsets: &[usize], has_room: bool) -> Option<Refusal>
+    ensures { IsRefusal (PartsPoints (length points.now) offsets.now) (IsTrue has_room)
+        (AreSafeContours P.Coordinate.width (point_by P.Coordinate.value P.point)
+        points.now offsets.now) result }
+{
+    if !are_parted(points.len(), offsets) {
+        return Some(Refusal::BadOffsets);
+    }
+    if !has_room {
+        return Some(Refusal::NoRoom);
+    }
+    if !are_safe(part(points, offsets[0], offsets[offsets.len() - 1])) {
+        return Some(Refusal::Unsafe);
+    }
+    None
+}
+
+/// Returns the same for a call that writes an item for each point of `about`.
+pub fn refusal_about<P: CPoint>(
+    points: &[P],
+    offsets: &[usize],
+    about: &[P],
+    room: usize,
+) -> Option<Refusal>
+    ensures { IsRefusal (PartsPoints (length points.now) offsets.now) (length about.now ≤ room)
+        (AreSafeContours P.Coordinate.width (point_by P.Coordinate.value P.point)
+        points.now offsets.now
+        × AreSafe P.Coordinate.width (point_by P.Coordinate.value P.point) about.now) result }
+{
+    if let Some(refusal) = refusal(points, offsets, about.len() <= room) {
+        return Some(refusal);
+    }
+    if are_safe(about) {
+        None
+    } else {
+        Some(Refusal::Unsafe)
+    }
+}
+
+/// Returns whether the offsets divide that number of points.
 pub fn are_parted(points: usize, offsets: &[usize]) -> bool
     ensures { IsTrue result ↔ PartsPoints points offsets.now }
 {
-    if offsets.is_empty() {
-        return false;
-    }
-    for place in 1..offsets.len() {
-        if offsets[place] < offsets[place - 1] {
-            return false;
-        }
-    }
-    offsets[offsets.len() - 1] <= points
+    !offsets.is_empty() && first_bad_offset(points, offsets) == offsets.len()
 }
 
-/// The same, where the offsets part safe points and there is room for as many of both. Where memory is refused nothing is written.
+/// Cleans the contours like `clean_contours`, given offsets that divide safe points, and room for as many of both.
+/// Returns how many points are written. An error leaves both arrays unchanged.
 pub fn clean_all<P: CPoint, C: ContourCleaner>(
     alloc: Global,
     points: &[P],
@@ -69,7 +108,8 @@ pub fn clean_all<P: CPoint, C: ContourCleaner>(
     out_points: &mut [P],
     out_offsets: &mut [usize],
 ) -> Result<usize, ShapeError>
-    requires can { CanClean (length points.now) offsets.now
+    requires parted { PartsPoints (length points.now) offsets.now }
+    requires room { HasRoom (length points.now) (length offsets.now)
         (length out_points.old) (length out_offsets.old) }
     requires points_safe { AreSafeContours P.Coordinate.width
         (point_by P.Coordinate.value P.point) points.now offsets.now }

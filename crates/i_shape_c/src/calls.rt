@@ -1,4 +1,4 @@
-//! The calls of C, a file for each width.
+//! The calls from C, one file for each width.
 
 mod i16;
 mod i32;

@@ -1,4 +1,4 @@
-//! The canonical forms of polygons, made in a buffer of shapes.
+//! Canonical forms of polygons, computed in a buffer of shapes.
 
 ghost use Rattle.std.specs.Prelude.{[], ◌≡◌, ◌+◌, ◌-◌, ◌^◌, ◌<◌, ◌≤◌, ◌∷◌, ◌++◌, List, length, map, drop, IfOk, OnOk, OnErr};
 ghost use Rattle.std.specs.List.{range_with_len};
@@ -17,7 +17,7 @@ ghost use Rattle.i_shape_core.proofs.answers.Cleaners.{canonical_fewer, unorient
 ghost use Rattle.i_shape.proofs.shapes.FewerForms.{forms_fewer, nothing_formed};
 
 use crate::batch::part;
-use crate::codes::NO_MEMORY;
+use crate::codes::Refusal;
 use crate::lists::{append_points, copy_out};
 use crate::point::CPoint;
 use crate::polygons::refusal;
@@ -29,12 +29,12 @@ use i_shape::{IntNumber, ShapeError};
 use std::alloc::Global;
 use std::ops::Range;
 
-/// Gives a canonical form of a list of polygons.
+/// Computes a canonical form of a list of polygons.
 pub trait ShapesForm<I: IntNumber> {
     /// Relates the polygons to their form.
     ghost gives: { List (List (List Point)) → List (List (List Point)) → Type 0 };
 
-    /// Puts the form of the polygons that the buffer holds in their places.
+    /// Replaces the polygons that the buffer holds by their form.
     fn form(shapes: &mut FlatShapesBuffer<I>) -> Result<(), ShapeError>
         requires held { HoldsShapes shapes.old (shapes_in shapes.old) }
         requires safe { IsSafeList I.width (named_shapes I.value shapes.old) }
@@ -42,10 +42,10 @@ pub trait ShapesForm<I: IntNumber> {
         ensures left { OnOk result
             (gives (named_shapes I.value shapes.old) (named_shapes I.value shapes.new)) };
 
-    /// The form of no polygon has none.
+    /// The form of an empty list is empty.
     ghost nothing: { gives [] [] };
 
-    /// The form has no more polygons, contours and points than there were.
+    /// The form has no more polygons, contours or points than the given list.
     ghost fewer: { (given left : List (List (List Point))) → gives given left → AreFewer given left };
 }
 
@@ -77,7 +77,8 @@ impl<I: IntNumber> ShapesForm<I> for UnorientedCanonicalizer {
     }
 }
 
-/// Writes the form of the polygons to the front of the three arrays, and answers how many they are, or a code below 0.
+/// Writes the form of the polygons to the front of the three arrays. Returns how many polygons it has, or a code below
+/// 0.
 pub fn form_shapes<P: CPoint, S: ShapesForm<P::Coordinate>>(
     alloc: Global,
     points: &[P],
@@ -93,7 +94,7 @@ pub fn form_shapes<P: CPoint, S: ShapesForm<P::Coordinate>>(
         out_points.old out_points.new out_contours.old out_contours.new
         out_shapes.old out_shapes.new result }
 {
-    if let Some(code) = refusal(
+    if let Some(refusal) = refusal(
         points,
         contours,
         shapes,
@@ -101,18 +102,18 @@ pub fn form_shapes<P: CPoint, S: ShapesForm<P::Coordinate>>(
         out_contours.len(),
         out_shapes.len(),
     ) {
-        return code;
+        return refusal.code() as isize;
     }
     match formed::<P, S>(alloc, points, contours, shapes) {
         Ok(left) => {
             write_shapes(&left, out_points, out_contours, out_shapes);
             left.shape_ranges.len() as isize
         }
-        Err(_) => NO_MEMORY,
+        Err(_) => Refusal::NoMemory.code() as isize,
     }
 }
 
-/// The form of the polygons, end to end. That of no polygon takes no memory.
+/// Returns the form of the polygons, end to end. An empty list needs no allocation.
 fn formed<P: CPoint, S: ShapesForm<P::Coordinate>>(
     alloc: Global,
     points: &[P],
@@ -140,7 +141,7 @@ fn formed<P: CPoint, S: ShapesForm<P::Coordinate>>(
     Ok(buffer)
 }
 
-/// The polygons, end to end. It takes memory for their points and contours alone.
+/// Returns the polygons, end to end. Allocates for their own points and contours only.
 fn polygons_of<P: CPoint>(
     alloc: Global,
     points: &[P],
@@ -176,7 +177,7 @@ fn polygons_of<P: CPoint>(
     Ok(buffer)
 }
 
-/// Appends the contours from one number to another, and their ranges.
+/// Appends the contours from index `from` up to, but not including, `to`, and their ranges.
 fn append_contours<P: CPoint>(
     list: &mut IntContour<P::Coordinate>,
     ranges: &mut Vec<Range<usize>>,
@@ -202,7 +203,7 @@ fn append_contours<P: CPoint>(
     Ok(())
 }
 
-/// Writes polygons to the front of the three arrays.
+/// Writes the polygons to the front of the three arrays.
 fn write_shapes<P: CPoint>(
     shapes: &FlatShapesBuffer<P::Coordinate>,
     out_points: &mut [P],
@@ -225,7 +226,7 @@ fn write_shapes<P: CPoint>(
     write_offsets(shapes.shape_ranges.as_slice(), out_shapes);
 }
 
-/// Writes where lists that lie end to end begin, and where the last one ends, to the front of `out`.
+/// Writes the offsets of lists that lie end to end to the front of `out`: 0, and then the end of each list.
 fn write_offsets(ranges: &[Range<usize>], out: &mut [usize])
     requires { length ranges.now < length out.old }
     ensures { out.new ≡ 0 ∷ map (λ range. range.end) ranges.now

@@ -1,19 +1,34 @@
-//! What the calls answer where there is no other answer.
+//! The codes that calls return in place of a result.
 
-/// A point that is cleaned isn't safe.
-pub const UNSAFE: isize = -1;
+ghost use Rattle.std.specs.Prelude.{◌≡◌};
+ghost use Rattle.i_shape_c.specs.Codes.{code_of};
 
-/// The offsets don't part the points, or an array of the answer is too short.
-pub const UNFIT: isize = -2;
+/// Why a call has no result.
+#[derive(Clone, Copy)]
+pub enum Refusal {
+    /// A point isn't safe.
+    Unsafe,
+    /// The offsets don't divide the points, or there is no such fill rule.
+    BadOffsets,
+    /// An allocation failed.
+    NoMemory,
+    /// An array of the result is too short.
+    NoRoom,
+}
 
-/// An allocation failed.
-pub const NO_MEMORY: isize = -3;
+impl Refusal {
+    /// Returns the code, below 0.
+    pub fn code(self) -> i32
+        ensures { result ≡ code_of self }
+    {
+        match self {
+            Refusal::Unsafe => -1,
+            Refusal::BadOffsets => -2,
+            Refusal::NoMemory => -3,
+            Refusal::NoRoom => -4,
+        }
+    }
+}
 
-/// `UNSAFE` as a test answers it, and the winding numbers of many points.
-pub const UNSAFE_TEST: i32 = -1;
-
-/// `UNFIT` as the winding numbers, tests and areas of many answer it.
-pub const UNFIT_TEST: i32 = -2;
-
-/// Of a winding number: a point isn't safe.
+/// Returned in place of a winding number where a point isn't safe.
 pub const NO_WINDING: isize = isize::MIN;

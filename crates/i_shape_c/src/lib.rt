@@ -1,5 +1,5 @@
-//! The cleaners, tests and measures of contours for callers in C: points and answers lie in arrays of the caller's. Each call is total: it
-//! tests what it needs, and answers a code where it isn't met.
+//! The cleaners, tests and measures of contours for callers in C. Points and results lie in the caller's arrays. Each
+//! call checks its preconditions, and returns a code if one isn't met.
 #![tactic(auto)]
 
 mod area;
@@ -11,8 +11,9 @@ mod contour;
 mod lists;
 mod location;
 mod measures;
+mod places;
 mod point;
 mod polygons;
-mod tests;
+mod predicates;
 mod version;
 mod winding;

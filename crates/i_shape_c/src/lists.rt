@@ -1,4 +1,4 @@
-//! Points of C, and points of the library.
+//! Conversions between points of C and points of the library.
 
 ghost use Rattle.std.specs.Prelude.{◌≡◌, ◌≤◌, ◌++◌, length, map, drop, IfOk};
 
@@ -7,7 +7,7 @@ use i_shape::int::IntPoint;
 use i_shape::int::shape::IntContour;
 use std::alloc::AllocError;
 
-/// Appends the points, as the library has them. It takes no memory where there is room for them.
+/// Appends the points, converted to the library's. Allocates nothing where there is room for them.
 pub fn append_points<P: CPoint>(
     given: &[P],
     list: &mut IntContour<P::Coordinate>,
@@ -21,7 +21,7 @@ pub fn append_points<P: CPoint>(
     Ok(())
 }
 
-/// Writes the points to the front of `out`.
+/// Writes the points, converted to C's, to the front of `out`.
 pub fn copy_out<P: CPoint>(points: &[IntPoint<P::Coordinate>], out: &mut [P])
     requires { length points.now ≤ length out.old }
     ensures { out.new ≡ map P.c_point points.now ++ drop (length points.now) out.old }

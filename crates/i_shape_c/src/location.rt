@@ -1,34 +1,36 @@
-//! Which points contours fill by a fill rule, and which lie on their edges, at any width.
+//! The points that contours fill by a fill rule, and the points on their edges, at any width.
 
 ghost use Rattle.std.specs.Prelude.{◌≡◌, ◌≤◌, ◌↔◌, ℕ, List, length, map, IsTrue, IfOk};
 ghost use Rattle.i_shape.specs.IntPoint.{point_of, IsSafe};
 ghost use Rattle.i_shape.specs.Point.{Point};
+ghost use Rattle.i_shape.specs.Filling.{IsFilled};
 ghost use Rattle.i_shape_c.specs.Batch.{PartsPoints, AreSafeContours};
-ghost use Rattle.i_shape_c.specs.Cleaned.{AreSafe, unsafe_code, unfit_code};
-ghost use Rattle.i_shape_c.specs.Locations.{rule_of, IsOnContours, IsFilledByte, IsLocated, AreTold, CanTell, TellsAnswer};
+ghost use Rattle.i_shape_c.specs.Cleaned.{AreSafe};
+ghost use Rattle.i_shape_c.specs.Locations.{rule_of, IsOnContours, IsFilledByte, IsLocated, AreTold, TellsEach, FillsPoint};
 ghost use Rattle.i_shape_c.specs.Points.{point_by};
 ghost use Rattle.i_shape_c.specs.Windings.{contours_winding};
 
-use crate::batch::{are_parted, part};
-use crate::codes::{UNFIT_TEST, UNSAFE_TEST};
+use crate::batch::{part, refusal_about};
+use crate::codes::Refusal;
 use crate::point::CPoint;
 use crate::winding::{wind_all, wind_in_batches};
 use i_shape::int::IntPoint;
 use i_shape::{FillRule, IntNumber};
 use i_shape_core::boundary::is_on_boundary;
 use i_shape_core::safe_range::are_safe;
+use i_shape_core::winding::winding_about;
 use std::alloc::{AllocError, Global};
 
-/// What is told of a point by a fill rule.
+/// What a call reports about a point, given a fill rule.
 pub trait Telling<P: CPoint>: Copy {
     ghost use Rattle.i_shape_core.specs.declared.fill_rule.FillRule.{FillRule};
 
     type Answer: Copy;
 
-    /// Relates contours and a point to what is told of it.
+    /// Relates contours and a point to the result.
     ghost gives: { FillRule → List P → List ℕ → Point → Self.Answer → Type 0 };
 
-    /// What is told of a point about which the contours wind so often together.
+    /// Returns the result for a point about which the contours have the total winding number `turns`.
     fn tell(
         rule: FillRule,
         points: &[P],
@@ -45,7 +47,7 @@ pub trait Telling<P: CPoint>: Copy {
         ensures { gives rule points.now offsets.now (point_of P.Coordinate.value point) result };
 }
 
-/// Whether the rule fills the point, 1 or 0.
+/// Whether the rule fills the point: 1 or 0.
 #[derive(Clone, Copy)]
 pub struct Filled {}
 
@@ -74,7 +76,7 @@ impl<P: CPoint> Telling<P> for Filled {
     }
 }
 
-/// Where the point lies: 0 on an edge, and elsewhere 1 where the rule fills it, and -1 where it doesn't.
+/// Where the point lies: 0 on an edge; elsewhere 1 where the rule fills it, and -1 where it doesn't.
 #[derive(Clone, Copy)]
 pub struct Located {}
 
@@ -109,7 +111,7 @@ impl<P: CPoint> Telling<P> for Located {
     }
 }
 
-/// Whether the point lies on an edge of one of the contours.
+/// Returns whether the point lies on an edge of one of the contours.
 fn is_on_contours<P: CPoint>(
     points: &[P],
     offsets: &[usize],
@@ -130,7 +132,7 @@ fn is_on_contours<P: CPoint>(
     false
 }
 
-/// The fill rule of a code.
+/// Returns the fill rule of a code, or `None` where there is none.
 fn rule_of(code: i32) -> Option<FillRule>
     ensures { result ≡ rule_of code }
 {
@@ -143,7 +145,34 @@ fn rule_of(code: i32) -> Option<FillRule>
     }
 }
 
-/// Writes what is told of each of the points by the rule of the code. Answers 0, or a code below 0.
+/// Returns whether the fill rule fills the point, given the contour's winding number about it: 1 or 0, or a code below
+/// 0.
+pub fn contains_by<P: CPoint>(points: &[P], given: P, code: i32) -> i32
+    ensures { FillsPoint P.Coordinate.width (point_by P.Coordinate.value P.point)
+        points.now (point_by P.Coordinate.value P.point given) code result }
+{
+    let Some(rule) = rule_of(code) else {
+        return Refusal::BadOffsets.code();
+    };
+    let point = given.to_point();
+    if !point.is_in_safe_range() || !are_safe(points) {
+        return Refusal::Unsafe.code();
+    }
+    if fills(rule, winding_about(points, point)) {
+        1
+    } else {
+        0
+    }
+}
+
+/// Returns whether the rule fills a point about which contours have this winding number.
+fn fills(rule: FillRule, turns: isize) -> bool
+    ensures { IsTrue result ↔ IsFilled rule turns }
+{
+    rule.fills(turns as i128)
+}
+
+/// Writes the result for each point of `about`, by the fill rule of the code. Returns 0, or a code below 0.
 pub fn tell_points<P: CPoint, T: Telling<P>>(
     alloc: Global,
     points: &[P],
@@ -152,33 +181,20 @@ pub fn tell_points<P: CPoint, T: Telling<P>>(
     code: i32,
     out: &mut [T::Answer],
 ) -> i32
-    ensures answer { TellsAnswer T.gives (point_by P.Coordinate.value P.point)
+    ensures { TellsEach T.gives P.Coordinate.width (point_by P.Coordinate.value P.point)
         points.now offsets.now about.now code out.old out.new result }
-    ensures unfit { result ≡ unfit_code ↔ (CanTell (length points.now) offsets.now
-        (length about.now) (length out.old) code → ⊥) }
-    ensures unsafe_points { result ≡ unsafe_code ↔ (CanTell (length points.now) offsets.now
-        (length about.now) (length out.old) code
-        × ((AreSafeContours P.Coordinate.width (point_by P.Coordinate.value P.point)
-        points.now offsets.now × AreSafe P.Coordinate.width
-        (point_by P.Coordinate.value P.point) about.now) → ⊥)) }
 {
     let Some(rule) = rule_of(code) else {
-        return UNFIT_TEST;
+        return Refusal::BadOffsets.code();
     };
-    if out.len() < about.len() || !are_parted(points.len(), offsets) {
-        return UNFIT_TEST;
-    }
-    if !are_safe(part(points, offsets[0], offsets[offsets.len() - 1])) {
-        return UNSAFE_TEST;
-    }
-    if !are_safe(about) {
-        return UNSAFE_TEST;
+    if let Some(refusal) = refusal_about(points, offsets, about, out.len()) {
+        return refusal.code();
     }
     tell_each::<P, T>(alloc, points, offsets, about, rule, out);
     0
 }
 
-/// Writes what is told of each of the points.
+/// Writes the result for each point of `about`.
 fn tell_each<P: CPoint, T: Telling<P>>(
     alloc: Global,
     points: &[P],
@@ -201,7 +217,7 @@ fn tell_each<P: CPoint, T: Telling<P>>(
     }
 }
 
-/// How often the contours wind about each of the points together.
+/// Returns the contours' total winding number about each point of `about`.
 fn winding_numbers<P: CPoint>(
     alloc: Global,
     points: &[P],
@@ -221,7 +237,7 @@ fn winding_numbers<P: CPoint>(
     Ok(numbers)
 }
 
-/// Writes what is told of each of the points, about which the contours wind so often.
+/// Writes the result for each point of `about`, given the contours' total winding numbers.
 fn tell_by_numbers<P: CPoint, T: Telling<P>>(
     points: &[P],
     offsets: &[usize],
@@ -252,7 +268,7 @@ fn tell_by_numbers<P: CPoint, T: Telling<P>>(
     }
 }
 
-/// Writes what is told of each of the points, one by one.
+/// Writes the result for each point of `about`, one by one.
 fn tell_one_by_one<P: CPoint, T: Telling<P>>(
     points: &[P],
     offsets: &[usize],

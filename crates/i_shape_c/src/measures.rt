@@ -1,4 +1,4 @@
-//! What is told of each of many contours: the answer of a test, or the area. It takes no memory.
+//! Tests and areas of many contours. The calls allocate nothing.
 
 ghost use Rattle.std.specs.Prelude.{◌≡◌, ◌↔◌, ◌-◌, List, length, map, slice_range, IsTrue};
 ghost use Rattle.std.specs.Int.{int_wrap, w32, w64, w128};
@@ -8,31 +8,30 @@ ghost use Rattle.i_shape.specs.IntPoint.{point_of, IsSafe};
 ghost use Rattle.i_shape.specs.Point.{Point};
 ghost use Rattle.i_shape_c.specs.Areas.{AreHalves};
 ghost use Rattle.i_shape_c.specs.Batch.{offset};
-ghost use Rattle.i_shape_c.specs.Cleaned.{unsafe_code, unfit_code};
-ghost use Rattle.i_shape_c.specs.Measures.{CanMeasure, MeasuresAnswer, IsByteOf};
+ghost use Rattle.i_shape_c.specs.Measures.{AnswersEach, IsByteOf};
 ghost use Rattle.i_shape_c.specs.Points.{point_by};
 
 use crate::area::{Halves, area_two};
 use crate::batch::{are_parted, part};
-use crate::codes::{UNFIT_TEST, UNSAFE_TEST};
+use crate::codes::Refusal;
 use crate::point::{CPoint, PointI16, PointI32, PointI64};
-use crate::tests::ContourTest;
+use crate::predicates::ContourTest;
 use i_shape_core::safe_range::are_safe;
 
-/// What is told of a contour: the answer of a test, or the area.
+/// What a call reports about a contour: the result of a test, or the area.
 pub trait ContourMeasure<P: CPoint>: Copy {
     type Answer: Copy;
 
-    /// What is asked of the measure.
+    /// The precondition on the measure.
     ghost can_measure: { Self → Type 0 };
 
-    /// What is asked of each point.
+    /// The precondition on each point.
     ghost asked: { Self → P → Type 0 };
 
-    /// Relates a contour to what is told of it.
+    /// Relates a contour to the result.
     ghost gives: { Self → List Point → Self.Answer → Type 0 };
 
-    /// Whether each point is as it is asked.
+    /// Returns whether each point meets its precondition.
     fn admits(self, points: &[P]) -> bool
         ensures { IsTrue result ↔ All (asked self) points.now };
 
@@ -42,7 +41,7 @@ pub trait ContourMeasure<P: CPoint>: Copy {
         ensures { gives self (map (point_by P.Coordinate.value P.point) contour.now) result };
 }
 
-/// The answer of a test of safe points, 1 or 0.
+/// The result of a test of safe points: 1 or 0.
 #[derive(Clone, Copy)]
 pub struct Tested<T> {
     pub test: T,
@@ -66,7 +65,7 @@ impl<P: CPoint, T: ContourTest<P::Coordinate>> ContourMeasure<P> for Tested<T> {
     }
 }
 
-/// Whether each point is safe, 1 or 0.
+/// Whether each point is safe: 1 or 0.
 #[derive(Clone, Copy)]
 pub struct SafeRange {}
 
@@ -88,7 +87,7 @@ impl<P: CPoint> ContourMeasure<P> for SafeRange {
     }
 }
 
-/// Twice the area, 0 where there is no point. A sum that doesn't fit wraps.
+/// Twice the signed area, 0 for a contour without points. A sum that doesn't fit wraps.
 #[derive(Clone, Copy)]
 pub struct DoubleArea {}
 
@@ -146,9 +145,8 @@ impl ContourMeasure<PointI64> for DoubleArea {
     }
 }
 
-/// Writes the measure of each contour, in order, to the front of `out`, and answers 0. Answers `UNFIT_TEST` where the offsets don't
-/// part the points or `out` is too short, and else `UNSAFE_TEST` where the measure doesn't admit a point between the first offset and the
-/// last; then `out` is as it was.
+/// Writes the measure of each contour, in order, to the front of `out`. Returns 0, or a code below 0. A point that the
+/// measure doesn't admit counts as unsafe.
 pub fn measure_contours<P: CPoint, M: ContourMeasure<P>>(
     points: &[P],
     offsets: &[usize],
@@ -156,31 +154,22 @@ pub fn measure_contours<P: CPoint, M: ContourMeasure<P>>(
     out: &mut [M::Answer],
 ) -> i32
     requires { M.can_measure measure }
-    ensures answer { MeasuresAnswer (M.gives measure) (point_by P.Coordinate.value P.point)
+    ensures { AnswersEach (M.gives measure)
+        (All (M.asked measure) (slice_range points.now (offset offsets.now 0)
+        (offset offsets.now (length offsets.now - 1)))) (point_by P.Coordinate.value P.point)
         points.now offsets.now out.old out.new result }
-    ensures unfit { result ≡ unfit_code
-        ↔ (CanMeasure (length points.now) offsets.now (length out.old) → ⊥) }
-    ensures unsafe_points { result ≡ unsafe_code
-        ↔ (CanMeasure (length points.now) offsets.now (length out.old)
-        × (All (M.asked measure)
-        (slice_range points.now (offset offsets.now 0)
-        (offset offsets.now (length offsets.now - 1))) → ⊥)) }
 {
-    if !can_measure(points.len(), offsets, out.len()) {
-        return UNFIT_TEST;
+    if !are_parted(points.len(), offsets) {
+        return Refusal::BadOffsets.code();
+    }
+    if out.len() < offsets.len() - 1 {
+        return Refusal::NoRoom.code();
     }
     if !measure.admits(part(points, offsets[0], offsets[offsets.len() - 1])) {
-        return UNSAFE_TEST;
+        return Refusal::Unsafe.code();
     }
     for place in 1..offsets.len() {
         out[place - 1] = measure.measure(part(points, offsets[place - 1], offsets[place]));
     }
     0
-}
-
-/// Whether the offsets part the points, and there is room for an item of each contour.
-fn can_measure(points: usize, offsets: &[usize], room: usize) -> bool
-    ensures { IsTrue result ↔ CanMeasure points offsets.now room }
-{
-    are_parted(points, offsets) && offsets.len() - 1 <= room
 }

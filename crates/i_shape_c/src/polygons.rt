@@ -1,16 +1,17 @@
-//! The cleaning of polygons, which lie in three arrays: points, offsets that part these into contours, and offsets that part the contours
-//! into polygons.
+//! Cleaning of polygons, which lie in three arrays: points, offsets that divide the points into contours, and offsets
+//! that divide the contours into polygons.
 
 ghost use Rattle.std.specs.Prelude.{◌≡◌, ◌↔◌, ◌+◌, ◌-◌, ◌^◌, ◌<◌, ◌≤◌, ℕ, length, map, IfOk, OnErr, IsTrue};
 ghost use Rattle.i_shape.specs.IntPoint.{contour_of};
 ghost use Rattle.i_shape.specs.ShapeAnswers.{ListClean, EachShape};
-ghost use Rattle.i_shape_c.specs.Appended.{IsReady, AreReady, RefusesPolygons, AppendsRingLeft, AppendsShapeLeft, WritesLeft, polygons_of};
+ghost use Rattle.i_shape_c.specs.Appended.{IsReady, AreReady, AppendsRingLeft, AppendsShapeLeft, WritesLeft, polygons_of};
 ghost use Rattle.i_shape_c.specs.Batch.{offset, AreRising, PartsPoints, AreSafeContours};
-ghost use Rattle.i_shape_c.specs.Polygons.{parts, polygons, CanCleanShapes, AreShapesLeft, CleansPolygons};
+ghost use Rattle.i_shape_c.specs.Codes.{IsRefusal};
+ghost use Rattle.i_shape_c.specs.Polygons.{parts, polygons, PartsPolygons, HasShapesRoom, AreShapesLeft, CleansPolygons};
 ghost use Rattle.i_shape_c.specs.Points.{point_by};
 
-use crate::batch::{are_parted, can_clean, part};
-use crate::codes::{NO_MEMORY, UNFIT, UNSAFE};
+use crate::batch::{are_parted, has_room, part};
+use crate::codes::Refusal;
 use crate::point::CPoint;
 use i_shape::ShapeError;
 use i_shape::int::cleaner::ContourCleaner;
@@ -18,7 +19,7 @@ use i_shape_core::rings::{clean_at, make_room};
 use i_shape_core::safe_range::are_safe;
 use std::alloc::Global;
 
-/// Writes what is left of the polygons to the front of the three arrays, and answers how many they are, or a code below 0.
+/// Writes the cleaned polygons to the front of the three arrays. Returns how many there are, or a code below 0.
 pub fn clean_shapes<P: CPoint, C: ContourCleaner>(
     alloc: Global,
     points: &[P],
@@ -34,7 +35,7 @@ pub fn clean_shapes<P: CPoint, C: ContourCleaner>(
         out_points.old out_points.new out_contours.old out_contours.new
         out_shapes.old out_shapes.new result }
 {
-    if let Some(code) = refusal(
+    if let Some(refusal) = refusal(
         points,
         contours,
         shapes,
@@ -42,7 +43,7 @@ pub fn clean_shapes<P: CPoint, C: ContourCleaner>(
         out_contours.len(),
         out_shapes.len(),
     ) {
-        return code;
+        return refusal.code() as isize;
     }
     match write_cleaned::<P, C>(
         alloc,
@@ -54,11 +55,12 @@ pub fn clean_shapes<P: CPoint, C: ContourCleaner>(
         out_shapes,
     ) {
         Ok(count) => count as isize,
-        Err(_) => NO_MEMORY,
+        Err(_) => Refusal::NoMemory.code() as isize,
     }
 }
 
-/// The code that says why the polygons can't be cleaned, `None` where they can.
+/// Returns why a call on polygons is refused, or `None` where the offsets divide safe points, and there is room for as
+/// many of each.
 pub fn refusal<P: CPoint>(
     points: &[P],
     contours: &[usize],
@@ -66,45 +68,56 @@ pub fn refusal<P: CPoint>(
     out_points: usize,
     out_contours: usize,
     out_shapes: usize,
-) -> Option<isize>
-    ensures { RefusesPolygons P.Coordinate.width (point_by P.Coordinate.value P.point)
-        points.now contours.now shapes.now out_points out_contours out_shapes result }
+) -> Option<Refusal>
+    ensures { IsRefusal (PartsPolygons (length points.now) contours.now shapes.now)
+        (HasShapesRoom (length points.now) (length contours.now) (length shapes.now)
+        out_points out_contours out_shapes)
+        (AreSafeContours P.Coordinate.width (point_by P.Coordinate.value P.point)
+        points.now contours.now) result }
 {
-    if !can_clean_shapes(
+    if !are_polygons(points.len(), contours, shapes) {
+        return Some(Refusal::BadOffsets);
+    }
+    if !has_shapes_room(
         points.len(),
-        contours,
-        shapes,
+        contours.len(),
+        shapes.len(),
         out_points,
         out_contours,
         out_shapes,
     ) {
-        return Some(UNFIT);
+        return Some(Refusal::NoRoom);
     }
     if !are_safe(part(points, contours[0], contours[contours.len() - 1])) {
-        return Some(UNSAFE);
+        return Some(Refusal::Unsafe);
     }
     None
 }
 
-/// Whether the offsets part the points into contours, and these into polygons, and there is room for as many of each.
-fn can_clean_shapes(
+/// Returns whether the offsets divide the points into contours, and the contours into polygons.
+fn are_polygons(points: usize, contours: &[usize], shapes: &[usize]) -> bool
+    ensures { IsTrue result ↔ PartsPolygons points contours.now shapes.now }
+{
+    are_parted(points, contours) && are_parted(contours.len() - 1, shapes)
+}
+
+/// Returns whether there is room for as many points, and as many offsets of both arrays.
+fn has_shapes_room(
     points: usize,
-    contours: &[usize],
-    shapes: &[usize],
+    contours: usize,
+    shapes: usize,
     out_points: usize,
     out_contours: usize,
     out_shapes: usize,
 ) -> bool
-    ensures { IsTrue result ↔ CanCleanShapes points contours.now
-        shapes.now out_points out_contours out_shapes }
+    ensures { IsTrue result
+        ↔ HasShapesRoom points contours shapes out_points out_contours out_shapes }
 {
-    can_clean(points, contours, out_points, out_contours)
-        && are_parted(contours.len() - 1, shapes)
-        && shapes.len() <= out_shapes
+    has_room(points, contours, out_points, out_contours) && shapes <= out_shapes
 }
 
-/// Writes what is left of the polygons to the front of the three arrays, and answers how many they are. Memory comes first, for contours that
-/// aren't clean alone, so that nothing is written where it is refused.
+/// Writes the cleaned polygons to the front of the three arrays. Returns how many there are. Allocates before it
+/// writes, and only if a contour isn't clean, so an error leaves the arrays unchanged.
 fn write_cleaned<P: CPoint, C: ContourCleaner>(
     alloc: Global,
     points: &[P],
@@ -114,7 +127,8 @@ fn write_cleaned<P: CPoint, C: ContourCleaner>(
     out_contours: &mut [usize],
     out_shapes: &mut [usize],
 ) -> Result<usize, ShapeError>
-    requires can { CanCleanShapes (length points.now) contours.now shapes.now
+    requires parted { PartsPolygons (length points.now) contours.now shapes.now }
+    requires room { HasShapesRoom (length points.now) (length contours.now) (length shapes.now)
         (length out_points.old) (length out_contours.old) (length out_shapes.old) }
     requires points_safe { AreSafeContours P.Coordinate.width
         (point_by P.Coordinate.value P.point) points.now contours.now }
@@ -143,7 +157,7 @@ fn write_cleaned<P: CPoint, C: ContourCleaner>(
     ))
 }
 
-/// How many points, contours and polygons are written.
+/// The numbers of points, contours and polygons that are written.
 #[derive(Clone, Copy)]
 pub struct Counts {
     pub points: usize,
@@ -151,8 +165,8 @@ pub struct Counts {
     pub shapes: usize,
 }
 
-/// Cleans the contours of polygons, writes what is left of these to the front of the three arrays, and answers how many they are. `rings`
-/// begins with the offsets of the first polygon.
+/// Cleans the contours of the polygons and writes the cleaned polygons to the front of the three arrays. Returns how
+/// many there are. `rings` begins with the offsets of the first polygon.
 fn write_polygons<P: CPoint, C: ContourCleaner>(
     cleaner: &mut C,
     points: &[P],
@@ -203,8 +217,8 @@ fn write_polygons<P: CPoint, C: ContourCleaner>(
     counts.shapes
 }
 
-/// Writes what is left of a polygon behind those that are written: nothing where its outer contour collapses, and otherwise the contours
-/// that don't.
+/// Writes the cleaned polygon behind those already written: nothing where its outer contour collapses, and otherwise
+/// the contours that don't collapse. Returns the new counts.
 fn append_polygon<P: CPoint, C: ContourCleaner>(
     cleaner: &mut C,
     points: &[P],
@@ -248,7 +262,7 @@ fn append_polygon<P: CPoint, C: ContourCleaner>(
     }
 }
 
-/// Writes what is left of a contour behind those that are written, unless it collapses.
+/// Writes the cleaned contour behind those already written, or nothing where it collapses. Returns the new counts.
 fn append_ring<P: CPoint, C: ContourCleaner>(
     cleaner: &mut C,
     ring: &[P],

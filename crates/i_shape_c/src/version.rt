@@ -4,14 +4,14 @@ ghost use Rattle.std.specs.Prelude.{◌≡◌, ◌+◌, ◌*◌, ◌^◌};
 
 const MAJOR: u32 = 0;
 
-const MINOR: u32 = 1;
+const MINOR: u32 = 2;
 
 const PATCH: u32 = 0;
 
-/// 2^16 times the major, and 2^8 times the minor version, and the patch.
+/// Returns the version: 2^16 times the major number, plus 2^8 times the minor number, plus the patch number.
 #[unsafe(no_mangle)]
 pub extern "C" fn i_shape_version() -> u32
-    ensures { result ≡ 2 ^ 8 }
+    ensures { result ≡ 2 ^ 9 }
 {
     MAJOR * 65536 + MINOR * 256 + PATCH
 }

@@ -1,18 +1,18 @@
-//! Winding numbers of contours about points, at any width. Those of many points take memory where that saves time, and do without it
-//! where it is refused.
+//! Winding numbers of contours about points, at any width. Calls for many points allocate memory where that saves time,
+//! and do without it where the allocation fails.
 
 ghost use Rattle.std.specs.Prelude.{◌≡◌, ◌≤◌, ◌↔◌, ◌++◌, length, map, drop, OnOk, OnErr};
 ghost use Rattle.std.specs.List.{All};
 ghost use Rattle.i_shape_core.specs.Heights.{asked_points, IsRising, IsAdded, AllFit};
 ghost use Rattle.i_shape.specs.IntPoint.{point_of, IsSafe};
 ghost use Rattle.i_shape.specs.Winding.{winding};
-ghost use Rattle.i_shape_c.specs.Cleaned.{AreSafe, unsafe_code, unfit_code};
+ghost use Rattle.i_shape_c.specs.Cleaned.{AreSafe};
 ghost use Rattle.i_shape_c.specs.Batch.{PartsPoints, AreSafeContours};
-ghost use Rattle.i_shape_c.specs.Windings.{no_winding, CanWind, contours_winding, WindingsAnswer};
+ghost use Rattle.i_shape_c.specs.Windings.{no_winding, contours_winding, WindsAboutEach};
 ghost use Rattle.i_shape_c.specs.Points.{point_by};
 
-use crate::batch::{are_parted, part};
-use crate::codes::{NO_WINDING, UNFIT_TEST, UNSAFE_TEST};
+use crate::batch::{part, refusal_about};
+use crate::codes::NO_WINDING;
 use crate::point::CPoint;
 use i_shape::IntNumber;
 use i_shape::int::IntPoint;
@@ -21,16 +21,16 @@ use i_shape_core::safe_range::are_safe;
 use i_shape_core::winding::winding_about;
 use std::alloc::{AllocError, Global};
 
-/// The fewest points that are sorted by their heights: fewer are looked at one by one sooner.
+/// The fewest points that are sorted by their heights. Fewer are faster one by one.
 const FEWEST_SORTED: usize = 32;
 
 /// The fewest points of contours for which the points asked about are sorted.
 const FEWEST_EDGES: usize = 64;
 
-/// How many points are sorted at once at least, where so many are asked about.
+/// The smallest batch of points that are sorted at once, unless fewer are asked about.
 const LEAST_BATCH: usize = 65_536;
 
-/// How often the contour winds about the point, or the code of a point that isn't safe.
+/// Returns the contour's winding number about the point, or `NO_WINDING` where a point isn't safe.
 pub fn winding<P: CPoint>(points: &[P], given: P) -> isize
     ensures answer { (AreSafe P.Coordinate.width (point_by P.Coordinate.value P.point) points.now
         × IsSafe P.Coordinate.width (point_by P.Coordinate.value P.point given))
@@ -47,7 +47,7 @@ pub fn winding<P: CPoint>(points: &[P], given: P) -> isize
     winding_about(points, point)
 }
 
-/// Writes how often the contours wind about each of the points together. Answers 0, or a code below 0.
+/// Writes the contours' total winding number about each point of `about`. Returns 0, or a code below 0.
 pub fn windings<P: CPoint>(
     alloc: Global,
     points: &[P],
@@ -55,31 +55,18 @@ pub fn windings<P: CPoint>(
     about: &[P],
     out: &mut [isize],
 ) -> i32
-    ensures answer { WindingsAnswer (point_by P.Coordinate.value P.point)
+    ensures { WindsAboutEach P.Coordinate.width (point_by P.Coordinate.value P.point)
         points.now offsets.now about.now out.old out.new result }
-    ensures unfit { result ≡ unfit_code
-        ↔ (CanWind (length points.now) offsets.now (length about.now) (length out.old) → ⊥) }
-    ensures unsafe_points { result ≡ unsafe_code
-        ↔ (CanWind (length points.now) offsets.now (length about.now) (length out.old)
-        × ((AreSafeContours P.Coordinate.width (point_by P.Coordinate.value P.point)
-        points.now offsets.now × AreSafe P.Coordinate.width
-        (point_by P.Coordinate.value P.point) about.now) → ⊥)) }
 {
-    if out.len() < about.len() || !are_parted(points.len(), offsets) {
-        return UNFIT_TEST;
-    }
-    if !are_safe(part(points, offsets[0], offsets[offsets.len() - 1])) {
-        return UNSAFE_TEST;
-    }
-    if !are_safe(about) {
-        return UNSAFE_TEST;
+    if let Some(refusal) = refusal_about(points, offsets, about, out.len()) {
+        return refusal.code();
     }
     wind_in_batches(alloc, points, offsets, about, out);
     0
 }
 
-/// Writes how often the contours wind about each of the points together, in batches of as many points as the contours have, or more where
-/// these are few.
+/// Writes the contours' total winding number about each point of `about`, in batches of as many points as the contours
+/// have, and no fewer than `LEAST_BATCH`.
 pub fn wind_in_batches<P: CPoint>(
     alloc: Global,
     points: &[P],
@@ -111,7 +98,8 @@ pub fn wind_in_batches<P: CPoint>(
     }
 }
 
-/// Writes how often the contours wind about each of the points together: by the heights of the points, where they are worth sorting.
+/// Writes the contours' total winding number about each point of `about`. Sorts the points by height where that saves
+/// time.
 fn wind_batch<P: CPoint>(
     alloc: Global,
     points: &[P],
@@ -136,7 +124,8 @@ fn wind_batch<P: CPoint>(
     wind_one_by_one(points, offsets, about, out);
 }
 
-/// Writes how often the contours wind about each of the points together, by the points in the order of their heights.
+/// Writes the contours' total winding number about each point of `about`, in the order of the points' heights. An error
+/// leaves `out` unchanged.
 fn wind_by_height<P: CPoint>(
     alloc: Global,
     points: &[P],
@@ -161,7 +150,7 @@ fn wind_by_height<P: CPoint>(
     Ok(())
 }
 
-/// Adds how often the contours wind about each of the points to its total.
+/// Adds the contours' total winding number about each of the points to its total.
 fn add_contours<P: CPoint>(
     asked: &[Asked<P::Coordinate>],
     totals: &mut [isize],
@@ -191,7 +180,7 @@ fn add_contours<P: CPoint>(
     }
 }
 
-/// Writes how often the contours wind about each of the points together, edge after edge for each point.
+/// Writes the contours' total winding number about each point of `about`, edge after edge for each point.
 fn wind_one_by_one<P: CPoint>(points: &[P], offsets: &[usize], about: &[P], out: &mut [isize])
     requires parted { PartsPoints (length points.now) offsets.now }
     requires points_safe { AreSafeContours P.Coordinate.width
@@ -207,7 +196,7 @@ fn wind_one_by_one<P: CPoint>(points: &[P], offsets: &[usize], about: &[P], out:
     }
 }
 
-/// How often the contours wind about a point together.
+/// Returns the contours' total winding number about a point.
 pub fn wind_all<P: CPoint>(points: &[P], offsets: &[usize], point: IntPoint<P::Coordinate>) -> isize
     requires parted { PartsPoints (length points.now) offsets.now }
     requires points_safe { AreSafeContours P.Coordinate.width

@@ -1,4 +1,4 @@
-//! The calls at 16 bits.
+//! The calls at 16 bits, made by scripts/widths.sh from those at 32 bits.
 
 ghost use Rattle.std.specs.Prelude.{◌≡◌, ◌↔◌, ◌<◌, length, map, IsTrue};
 ghost use Rattle.std.specs.Int.{w16, w32};
@@ -15,24 +15,26 @@ ghost use Rattle.i_shape_c.specs.Areas.{IsDoubleArea};
 ghost use Rattle.i_shape_c.specs.Tests.{IsTold, TestsContour, TestsPoint};
 ghost use Rattle.i_shape_c.specs.Polygons.{AreNone, CleansPolygons};
 ghost use Rattle.i_shape_c.specs.Windings.{WindsAbout, WindsAboutEach};
-ghost use Rattle.i_shape_c.specs.Locations.{IsFilledByte, IsLocated, TellsEach};
+ghost use Rattle.i_shape_c.specs.Locations.{FillsPoint, IsFilledByte, IsLocated, TellsEach};
+ghost use Rattle.i_shape_c.specs.Places.{IsFirstUnsafe};
 
 use crate::area::area_two;
 use crate::batch::clean_contours;
 use crate::canonical::form_shapes;
 use crate::contour::clean_contour;
-use crate::location::{Filled, Located, tell_points};
+use crate::location::{Filled, Located, contains_by, tell_points};
+use crate::places::first_unsafe;
 use crate::point::PointI16;
 use crate::polygons::clean_shapes;
-use crate::tests::{Bulging, Simple, Spikeless, contains, is_safe, test_contour};
+use crate::predicates::{Bulging, Simple, Spikeless, contains, is_safe, test_contour};
 use crate::winding::{winding, windings};
 use i_shape::int::cleaner::{Canonicalizer, SpikeRemover, UnorientedCanonicalizer};
 use i_shape::int::despike::ContourDeSpiker;
 use i_shape::int::simple::ContourSimplifier;
 use std::alloc::Global;
 
-/// The contour without zero turns. Answers how many points are
-/// written to the front of `out`, 0 where the contour collapses.
+/// Removes zero turns from the contour. Returns how many points are written to the front of `out`, 0 where the contour
+/// collapses, or a code below 0.
 #[unsafe(no_mangle)]
 pub extern "C" fn i_shape_simplify_i16(
     alloc: Global,
@@ -45,8 +47,8 @@ pub extern "C" fn i_shape_simplify_i16(
     clean_contour::<PointI16, ContourSimplifier>(alloc, points, out)
 }
 
-/// The contour without the points at which the way turns back or stands still. Answers how many points are
-/// written to the front of `out`, 0 where the contour collapses.
+/// Removes spikes and repeated points from the contour. Returns how many points are written to the front of `out`, 0
+/// where the contour collapses, or a code below 0.
 #[unsafe(no_mangle)]
 pub extern "C" fn i_shape_despike_i16(
     alloc: Global,
@@ -59,8 +61,8 @@ pub extern "C" fn i_shape_despike_i16(
     clean_contour::<PointI16, ContourDeSpiker>(alloc, points, out)
 }
 
-/// The contour without zero turns, from the start at which it is least. Answers how many points are
-/// written to the front of `out`, 0 where the contour collapses.
+/// Writes the canonical form: the least rotation of the contour without zero turns. Returns how many points are written
+/// to the front of `out`, 0 where the contour collapses, or a code below 0.
 #[unsafe(no_mangle)]
 pub extern "C" fn i_shape_canonical_i16(
     alloc: Global,
@@ -73,8 +75,9 @@ pub extern "C" fn i_shape_canonical_i16(
     clean_contour::<PointI16, Canonicalizer>(alloc, points, out)
 }
 
-/// The canonical form whichever way round the contour is wound: that of the contour, or that of the contour read backwards,
-/// whichever is less. Answers how many points are written to the front of `out`, 0 where the contour collapses.
+/// Writes the canonical form without regard to direction: the lesser of the canonical forms of the contour and of its
+/// reverse. Returns how many points are written to the front of `out`, 0 where the contour collapses, or a code below
+/// 0.
 #[unsafe(no_mangle)]
 pub extern "C" fn i_shape_canonical_unoriented_i16(
     alloc: Global,
@@ -87,7 +90,8 @@ pub extern "C" fn i_shape_canonical_unoriented_i16(
     clean_contour::<PointI16, UnorientedCanonicalizer>(alloc, points, out)
 }
 
-/// For each contour an answer of `i_shape_simplify_i16`, empty where it collapses. Answers how many points are written, or a code below 0.
+/// Writes for each contour a result of `i_shape_simplify_i16`, empty where it collapses. Returns how many points are
+/// written, or a code below 0.
 #[unsafe(no_mangle)]
 pub extern "C" fn i_shape_simplify_contours_i16(
     alloc: Global,
@@ -103,7 +107,8 @@ pub extern "C" fn i_shape_simplify_contours_i16(
     clean_contours::<PointI16, ContourSimplifier>(alloc, points, offsets, out_points, out_offsets)
 }
 
-/// For each contour an answer of `i_shape_despike_i16`, empty where it collapses. Answers how many points are written, or a code below 0.
+/// Writes for each contour a result of `i_shape_despike_i16`, empty where it collapses. Returns how many points are
+/// written, or a code below 0.
 #[unsafe(no_mangle)]
 pub extern "C" fn i_shape_despike_contours_i16(
     alloc: Global,
@@ -119,7 +124,8 @@ pub extern "C" fn i_shape_despike_contours_i16(
     clean_contours::<PointI16, ContourDeSpiker>(alloc, points, offsets, out_points, out_offsets)
 }
 
-/// For each contour an answer of `i_shape_canonical_i16`, empty where it collapses. Answers how many points are written, or a code below 0.
+/// Writes for each contour a result of `i_shape_canonical_i16`, empty where it collapses. Returns how many points are
+/// written, or a code below 0.
 #[unsafe(no_mangle)]
 pub extern "C" fn i_shape_canonical_contours_i16(
     alloc: Global,
@@ -135,7 +141,8 @@ pub extern "C" fn i_shape_canonical_contours_i16(
     clean_contours::<PointI16, Canonicalizer>(alloc, points, offsets, out_points, out_offsets)
 }
 
-/// For each contour an answer of `i_shape_canonical_unoriented_i16`, empty where it collapses. Answers how many points are written, or a code below 0.
+/// Writes for each contour a result of `i_shape_canonical_unoriented_i16`, empty where it collapses. Returns how many
+/// points are written, or a code below 0.
 #[unsafe(no_mangle)]
 pub extern "C" fn i_shape_canonical_unoriented_contours_i16(
     alloc: Global,
@@ -157,7 +164,8 @@ pub extern "C" fn i_shape_canonical_unoriented_contours_i16(
     )
 }
 
-/// The polygons without zero turns, without the holes that collapse and the polygons whose outer contour does. Answers how many polygons are left, or a code below 0.
+/// Removes zero turns from the polygons, the holes that collapse, and the polygons whose outer contour collapses.
+/// Returns how many polygons are left, or a code below 0.
 #[unsafe(no_mangle)]
 pub extern "C" fn i_shape_simplify_shapes_i16(
     alloc: Global,
@@ -183,7 +191,8 @@ pub extern "C" fn i_shape_simplify_shapes_i16(
     )
 }
 
-/// The same without spikes. Answers how many polygons are left, or a code below 0.
+/// Removes spikes from the polygons, the holes that collapse, and the polygons whose outer contour collapses. Returns
+/// how many polygons are left, or a code below 0.
 #[unsafe(no_mangle)]
 pub extern "C" fn i_shape_despike_shapes_i16(
     alloc: Global,
@@ -209,7 +218,7 @@ pub extern "C" fn i_shape_despike_shapes_i16(
     )
 }
 
-/// The canonical form of the polygons. Answers how many polygons are left, or a code below 0.
+/// Writes the canonical form of the polygons. Returns how many polygons are left, or a code below 0.
 #[unsafe(no_mangle)]
 pub extern "C" fn i_shape_canonical_shapes_i16(
     alloc: Global,
@@ -235,7 +244,8 @@ pub extern "C" fn i_shape_canonical_shapes_i16(
     )
 }
 
-/// The canonical form of the polygons where each contour may be read backwards too. Answers how many polygons are left, or a code below 0.
+/// Writes the canonical form of the polygons without regard to the direction of each contour. Returns how many polygons
+/// are left, or a code below 0.
 #[unsafe(no_mangle)]
 pub extern "C" fn i_shape_canonical_unoriented_shapes_i16(
     alloc: Global,
@@ -261,7 +271,7 @@ pub extern "C" fn i_shape_canonical_unoriented_shapes_i16(
     )
 }
 
-/// Whether there are at least three points, and none of them is a zero turn. Answers 1 or 0, or a code below 0.
+/// Returns whether there are at least three points and none of them is a zero turn: 1 or 0, or a code below 0.
 #[unsafe(no_mangle)]
 pub extern "C" fn i_shape_is_simple_i16(points: &[PointI16]) -> i32
     ensures { TestsContour IsSimple w16 point_i16 points.now result }
@@ -269,7 +279,8 @@ pub extern "C" fn i_shape_is_simple_i16(points: &[PointI16]) -> i32
     test_contour(points, Simple {})
 }
 
-/// Whether at least three points are left without repeated ones, and the way over them nowhere goes back. Answers 1 or 0, or a code below 0.
+/// Returns whether there are at least three points, consecutive duplicates counted once, and the contour nowhere turns
+/// back: 1 or 0, or a code below 0.
 #[unsafe(no_mangle)]
 pub extern "C" fn i_shape_has_no_spikes_i16(points: &[PointI16]) -> i32
     ensures { TestsContour NoSpikes w16 point_i16 points.now result }
@@ -277,7 +288,8 @@ pub extern "C" fn i_shape_has_no_spikes_i16(points: &[PointI16]) -> i32
     test_contour(points, Spikeless {})
 }
 
-/// Whether at most two points are left without repeated ones, or the way over them nowhere goes back or bends to both sides. Answers 1 or 0, or a code below 0.
+/// Returns whether there are at most two points, consecutive duplicates counted once, or the contour nowhere turns back
+/// and doesn't turn both left and right: 1 or 0, or a code below 0.
 #[unsafe(no_mangle)]
 pub extern "C" fn i_shape_is_convex_i16(points: &[PointI16]) -> i32
     ensures { TestsContour Convex w16 point_i16 points.now result }
@@ -285,7 +297,7 @@ pub extern "C" fn i_shape_is_convex_i16(points: &[PointI16]) -> i32
     test_contour(points, Bulging {})
 }
 
-/// Whether the point (x, y) is inside. Answers 1 or 0, or a code below 0.
+/// Returns whether the point (x, y) is inside by the even-odd rule: 1 or 0, or a code below 0.
 #[unsafe(no_mangle)]
 pub extern "C" fn i_shape_contains_i16(points: &[PointI16], x: i16, y: i16) -> i32
     ensures { TestsPoint w16 point_i16 points.now (record { x = x; y = y }) result }
@@ -293,7 +305,17 @@ pub extern "C" fn i_shape_contains_i16(points: &[PointI16], x: i16, y: i16) -> i
     contains(points, PointI16 { x, y })
 }
 
-/// Whether the fill rule fills each of the points, by how often the contours wind about it together: 1 or 0, a byte each. Answers 0, or a code below 0.
+/// Returns whether the fill rule fills the point (x, y), given the contour's winding number about it: 1 or 0, or a code
+/// below 0.
+#[unsafe(no_mangle)]
+pub extern "C" fn i_shape_contains_by_i16(points: &[PointI16], x: i16, y: i16, rule: i32) -> i32
+    ensures { FillsPoint w16 point_i16 points.now (record { x = x; y = y }) rule result }
+{
+    contains_by(points, PointI16 { x, y }, rule)
+}
+
+/// Writes for each point of `about` whether the fill rule fills it, given the contours' total winding number about it:
+/// 1 or 0, one byte each. Returns 0, or a code below 0.
 #[unsafe(no_mangle)]
 pub extern "C" fn i_shape_contains_points_i16(
     alloc: Global,
@@ -309,7 +331,8 @@ pub extern "C" fn i_shape_contains_points_i16(
     tell_points::<PointI16, Filled>(alloc, points, offsets, about, rule, out)
 }
 
-/// Where each of the points lies: 0 on an edge, and elsewhere 1 where the fill rule fills it, and -1 where it doesn't. Answers 0, or a code below 0.
+/// Writes where each point of `about` lies: 0 on an edge; elsewhere 1 where the fill rule fills it, and -1 where it
+/// doesn't. Returns 0, or a code below 0.
 #[unsafe(no_mangle)]
 pub extern "C" fn i_shape_locate_i16(
     alloc: Global,
@@ -325,7 +348,8 @@ pub extern "C" fn i_shape_locate_i16(
     tell_points::<PointI16, Located>(alloc, points, offsets, about, rule, out)
 }
 
-/// How often the contour winds about the point (x, y), to the left. Answers that number, or a code below the range of these numbers.
+/// Returns the contour's winding number about the point (x, y), or a code below every winding number. Counterclockwise
+/// is positive.
 #[unsafe(no_mangle)]
 pub extern "C" fn i_shape_winding_i16(points: &[PointI16], x: i16, y: i16) -> isize
     ensures { WindsAbout w16 point_i16 points.now (record { x = x; y = y }) result }
@@ -333,7 +357,7 @@ pub extern "C" fn i_shape_winding_i16(points: &[PointI16], x: i16, y: i16) -> is
     winding(points, PointI16 { x, y })
 }
 
-/// How often the contours wind about each of the points together. Answers 0, or a code below 0.
+/// Writes the contours' total winding number about each point of `about`. Returns 0, or a code below 0.
 #[unsafe(no_mangle)]
 pub extern "C" fn i_shape_windings_i16(
     alloc: Global,
@@ -348,7 +372,7 @@ pub extern "C" fn i_shape_windings_i16(
     windings(alloc, points, offsets, about, out)
 }
 
-/// Whether each point is safe. Answers 1 or 0.
+/// Returns 1 where each point is safe, and 0 otherwise.
 #[unsafe(no_mangle)]
 pub extern "C" fn i_shape_is_safe_i16(points: &[PointI16]) -> i32
     ensures { IsTold (AreSafe w16 point_i16 points.now) result }
@@ -356,7 +380,16 @@ pub extern "C" fn i_shape_is_safe_i16(points: &[PointI16]) -> i32
     is_safe(points)
 }
 
-/// Twice the area, above 0 where the contour turns left. Answers whether there is a point. No safe range is asked: a sum that doesn't fit wraps.
+/// Returns the index of the first point that isn't safe, or the number of points where each is safe.
+#[unsafe(no_mangle)]
+pub extern "C" fn i_shape_first_unsafe_i16(points: &[PointI16]) -> usize
+    ensures { IsFirstUnsafe w16 point_i16 points.now result }
+{
+    first_unsafe(points)
+}
+
+/// Writes twice the signed area to `area`, positive where the contour runs counterclockwise. Returns whether there is a
+/// point. Without points `area` stays unchanged. The points needn't be safe; a sum that doesn't fit wraps.
 #[unsafe(no_mangle)]
 pub extern "C" fn i_shape_area_two_i16(points: &[PointI16], area: &mut i32) -> bool
     ensures some { IsTrue result ↔ (0 < length points.now) }

@@ -1,4 +1,4 @@
-//! Tests and areas of many contours, a file for each width.
+//! Tests and areas of many contours, one file for each width.
 
 mod i16;
 mod i32;

@@ -3,7 +3,7 @@ use Rattle.i_shape_c.proofs.batch.clean_all.Goals as goal
 
 pub try_clean_rings-requires-clause-points_safe : goal.try_clean_rings-requires-clause-points_safe
 try_clean_rings-requires-clause-points_safe g c =
-    safe_rings g.P.Coordinate.IntNumber.width g.P.Coordinate.IntNumber.value g.P.ContourPoint.point g.P.ContourPoint.points g.P.ContourPoint.each c.args.points.now c.args.offsets.now c.requires.can.parted.order c.requires.points_safe
+    safe_rings g.P.Coordinate.IntNumber.width g.P.Coordinate.IntNumber.value g.P.ContourPoint.point g.P.ContourPoint.points g.P.ContourPoint.each c.args.points.now c.args.offsets.now c.requires.parted.order c.requires.points_safe
 
 pub returns-clause-ok : goal.returns-clause-ok
 returns-clause-ok g c =
@@ -14,4 +14,4 @@ returns-clause-ok g c =
 pub returns-clause-memory : goal.returns-clause-memory
 returns-clause-memory g c =
     on_err_by c.try_clean_rings.result (λ unclean none. unclean (none_takes_memory g.P.Coordinate.IntNumber.width g.P.Coordinate.IntNumber.value g.P.ContourPoint.point g.P.ContourPoint.points g.P.ContourPoint.each g.C.ContourCleaner.clean
-    c.args.points.now c.args.offsets.now none)) c.try_clean_rings.ensures.unclean
+    c.args.points.now c.args.offsets.now none)) c.try_clean_rings.ensures.memory.unclean

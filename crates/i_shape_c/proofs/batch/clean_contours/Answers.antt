@@ -1,14 +1,32 @@
-use Rattle.std.proofs.Common.{rules, arith, refl, length, ◌-◌}
-use Rattle.i_shape_core.proofs.lists.Rings.{rises_to}
+use Rattle.std.proofs.Common.{◌≡◌, ◌<◌, ◌^◌, Some, refl, arith}
+use Rattle.std.specs.Int.{w64}
+use Rattle.std.proofs.lemmas.Int.{to_z_pos}
+use Rattle.i_shape.specs.IntPoint.{point_of}
+use Rattle.i_shape_c.specs.Batch.{BatchAnswer}
+use Rattle.i_shape_c.specs.declared.codes.Refusal.TheVariants.{NoMemory}
+use Rattle.i_shape_c.proofs.Refusals.{each_code, code_of_64, refusal_as, as_is, refused, refused_memory, not_refused}
 use Rattle.i_shape_c.proofs.batch.clean_contours.Goals as goal
 
-pub part-requires-clause-order : goal.part-requires-clause-order
-part-requires-clause-order g c =
-    let can = (c.if-not-can_clean.ensures.0 refl).parted in
-    rises_to c.args.offsets.now (length c.args.offsets.now) 0 (length c.args.offsets.now - 1) can.order (omega arith) (omega (arith, can.some))
+pub returns-in-Some : goal.returns-in-Some
+returns-in-Some g c =
+    let at = λ (p : g.row.P.Denot). point_of g.P.Coordinate.IntNumber.value (g.P.ContourPoint.point p) in
+    let r = c.in-Some.refusal in
+    rw (c.code.ensures, code_of_64 r) (record {
+      answer = each_code (BatchAnswer g.C.ContourCleaner.answers g.C.ContourCleaner.keeps g.P.Coordinate.IntNumber.width at c.args.points.now c.args.offsets.now c.args.out_points.now c.args.out_points.now c.args.out_offsets.now c.args.out_offsets.now) r
+          (λ n few. (few, record { points = refl; offsets = refl }));
+      refuses = refused r (refusal_as (Some r) as_is c.has_room-has_room.ensures as_is c.in-Some.ensures);
+    })
 
-pub returns-then-not-are_safe : goal.returns-then-not-are_safe
-returns-then-not-are_safe g c = record { answer = search rules; unfit = search rules; unsafe_points = search rules; memory = search rules }
+pub returns-in-Ok : goal.returns-in-Ok
+returns-in-Ok g c =
+    let fit = c.in_default.ensures in
+    let room = c.has_room-has_room.ensures.0 fit.1 in
+    let left = c.in-Ok.ensures.ok in
+    let small : c.in-Ok.total < 2 ^ 63 = omega (arith, left.fewer, room.points_room, c.requires) in
+    rw (to_z_pos w64 c.in-Ok.total small) (record { answer = left; refuses = not_refused (fit.0, room, fit.2) c.in-Ok.total })
 
 pub returns-in-Err : goal.returns-in-Err
-returns-in-Err g c = record { answer = search rules; unfit = search rules; unsafe_points = search rules; memory = search rules }
+returns-in-Err g c =
+    let fit = c.in_default.ensures in
+    let room = c.has_room-has_room.ensures.0 fit.1 in
+    rw (c.code-in-Err.ensures, code_of_64 NoMemory) (record { answer = (omega arith, c.in-Err.ensures.err); refuses = refused_memory (fit.0, room, fit.2) c.in-Err.ensures.memory })

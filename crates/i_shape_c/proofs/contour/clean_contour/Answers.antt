@@ -1,8 +1,11 @@
-use Rattle.std.proofs.Common.{◌≡◌, ◌⊎◌, ◌<◌, ◌^◌, inl, inr, List, length, map, rules, refl, arith}
+use Rattle.std.proofs.Common.{◌≡◌, ◌⊎◌, ◌<◌, ◌^◌, inl, inr, List, length, map, IsTrue, false, rules, refl, arith}
 use Rattle.std.specs.Int.{w64}
 use Rattle.std.proofs.lemmas.Int.{to_z_pos}
 use Rattle.i_shape.specs.IntPoint.{contour_of, point_of}
+use Rattle.i_shape_c.specs.Cleaned.{AreSafe}
+use Rattle.i_shape_c.specs.declared.codes.Refusal.TheVariants.{Unsafe, NoMemory}
 use Rattle.i_shape_c.proofs.Boundary.{copied_points, safe_contour, written_as}
+use Rattle.i_shape_c.proofs.Refusals.{code_of_64, refused, refused_memory, not_refused}
 use Rattle.i_shape_c.proofs.contour.clean_contour.Goals as goal
 
 pub try_clean_into-requires-clause-points_safe : goal.try_clean_into-requires-clause-points_safe
@@ -18,9 +21,7 @@ returns-in-Ok g c =
     let small : c.in-Ok.count < 2 ^ 63 = omega (arith, written.fewer, c.if-out-points.false, c.requires) in
     rw (to_z_pos w64 c.in-Ok.count small) (record {
       answer = written_as g.C.ContourCleaner.answers g.C.ContourCleaner.keeps (g.C.ContourCleaner.picks g.row.P.Denot) g.P.Coordinate.IntNumber.width _ _ c.args.points.now c.args.out.now c.try_clean_into.new.out c.in-Ok.count as_c written;
-      unfit = (λ is. absurd (cc), λ short. absurd (omega (arith, short, c.if-out-points.false)));
-      unsafe_points = (λ is. absurd (cc), λ both. absurd (both.1 (c.if-not-are_safe.ensures.0 refl)));
-      memory = λ is. absurd (cc);
+      refuses = not_refused (tt, omega (arith, c.if-out-points.false), c.if-not-are_safe.ensures.0 refl) c.in-Ok.count;
     })
 
 pub returns : goal.returns
@@ -28,13 +29,16 @@ returns g c =
     let value = g.P.Coordinate.IntNumber.value in
     let points = g.P.ContourPoint.points c.args.points.now in
     let same = copied_points g.P.Coordinate.IntNumber.width value g.P.ContourPoint.point c.args.points.now points (g.P.ContourPoint.each c.args.points.now) in
-    let refused : (length c.args.points.now < 3) ⊎ g.C.ContourCleaner.clean (map (λ p. point_of value (g.P.ContourPoint.point p)) c.args.points.now) → ⊥ = λ none. elim none [
+    let unspared : (length c.args.points.now < 3) ⊎ g.C.ContourCleaner.clean (map (λ p. point_of value (g.P.ContourPoint.point p)) c.args.points.now) → ⊥ = λ none. elim none [
       | inl few ↦ let told = c.in-Err.ensures.short few in absurd (cc)
       | inr clean ↦ c.in-Err.ensures.unclean (rw same clean)
     ] in
-    record {
+    rw (c.code-in-Err.ensures, code_of_64 NoMemory) (record {
       answer = search rules;
-      unfit = search rules;
-      unsafe_points = (λ is. search rules, λ both. absurd (both.1 (c.if-not-are_safe.ensures.0 refl)));
-      memory = λ is. refused;
-    }
+      refuses = refused_memory (tt, omega (arith, c.if-out-points.false), c.if-not-are_safe.ensures.0 refl) unspared;
+    })
+
+pub returns-then-not-are_safe : goal.returns-then-not-are_safe
+returns-then-not-are_safe g c =
+    let unsafe : AreSafe g.P.Coordinate.IntNumber.width (λ p. point_of g.P.Coordinate.IntNumber.value (g.P.ContourPoint.point p)) c.args.points.now → ⊥ = λ safe. let told : IsTrue false = c.if-not-are_safe.ensures.1 safe in cc in
+    rw (c.code-then-not-are_safe.ensures, code_of_64 Unsafe) (record { answer = (omega arith, refl); refuses = refused Unsafe (tt, omega (arith, c.if-out-points.false), unsafe) })

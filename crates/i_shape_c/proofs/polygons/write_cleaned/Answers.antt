@@ -10,50 +10,50 @@ use Rattle.i_shape_c.proofs.polygons.write_cleaned.Goals as goal
 
 pub part-rings-requires-clause-order : goal.part-rings-requires-clause-order
 part-rings-requires-clause-order g c =
-    let fit = c.requires.can.shapes_parted in
+    let fit = c.requires.parted.shapes_parted in
     let up = rises_to c.args.shapes.now (length c.args.shapes.now) 0 (length c.args.shapes.now - 1) fit.order (omega arith) (omega (arith, fit.some)) in
     omega (arith, up)
 
 pub part-rings-requires-clause-within : goal.part-rings-requires-clause-within
-part-rings-requires-clause-within g c = omega (arith, c.requires.can.shapes_parted.last, c.requires.can.contours_fit.parted.some)
+part-rings-requires-clause-within g c = omega (arith, c.requires.parted.shapes_parted.last, c.requires.parted.contours_parted.some)
 
 pub make_room-requires-clause-parted : goal.make_room-requires-clause-parted
 make_room-requires-clause-parted g c =
     let at : g.row.P.Denot → Point = λ p. point_of g.P.Coordinate.IntNumber.value (g.P.ContourPoint.point p) in
     rw (c.part-rings.ensures.part)
-    (rings_parted at c.args.points.now c.args.contours.now c.args.shapes.now c.requires.can.contours_fit.parted c.requires.can.shapes_parted)
+    (rings_parted at c.args.points.now c.args.contours.now c.args.shapes.now c.requires.parted.contours_parted c.requires.parted.shapes_parted)
 
 pub write_polygons-requires-clause-parted : goal.write_polygons-requires-clause-parted
 write_polygons-requires-clause-parted g c =
     let at : g.row.P.Denot → Point = λ p. point_of g.P.Coordinate.IntNumber.value (g.P.ContourPoint.point p) in
     rw (c.part-rings.ensures.part)
-    (rings_parted at c.args.points.now c.args.contours.now c.args.shapes.now c.requires.can.contours_fit.parted c.requires.can.shapes_parted)
+    (rings_parted at c.args.points.now c.args.contours.now c.args.shapes.now c.requires.parted.contours_parted c.requires.parted.shapes_parted)
 
 pub make_room-requires-clause-points_safe : goal.make_room-requires-clause-points_safe
 make_room-requires-clause-points_safe g c =
     let at : g.row.P.Denot → Point = λ p. point_of g.P.Coordinate.IntNumber.value (g.P.ContourPoint.point p) in
     let points = c.args.points.now in
     rw (c.part-rings.ensures.part)
-    (safe_rings g.P.Coordinate.IntNumber.width g.P.Coordinate.IntNumber.value g.P.ContourPoint.point g.P.ContourPoint.points g.P.ContourPoint.each points (rings at c.args.points.now c.args.contours.now c.args.shapes.now c.requires.can.contours_fit.parted c.requires.can.shapes_parted) (rings_parted at c.args.points.now c.args.contours.now c.args.shapes.now c.requires.can.contours_fit.parted c.requires.can.shapes_parted).order (rings_safe at c.args.points.now c.args.contours.now c.args.shapes.now c.requires.can.contours_fit.parted c.requires.can.shapes_parted g.P.Coordinate.IntNumber.width c.requires.points_safe))
+    (safe_rings g.P.Coordinate.IntNumber.width g.P.Coordinate.IntNumber.value g.P.ContourPoint.point g.P.ContourPoint.points g.P.ContourPoint.each points (rings at c.args.points.now c.args.contours.now c.args.shapes.now c.requires.parted.contours_parted c.requires.parted.shapes_parted) (rings_parted at c.args.points.now c.args.contours.now c.args.shapes.now c.requires.parted.contours_parted c.requires.parted.shapes_parted).order (rings_safe at c.args.points.now c.args.contours.now c.args.shapes.now c.requires.parted.contours_parted c.requires.parted.shapes_parted g.P.Coordinate.IntNumber.width c.requires.points_safe))
 
 pub write_polygons-requires-clause-ready : goal.write_polygons-requires-clause-ready
 write_polygons-requires-clause-ready g c = λ k less.
     let at : g.row.P.Denot → Point = λ p. point_of g.P.Coordinate.IntNumber.value (g.P.ContourPoint.point p) in
     let safe : AreSafeRings g.P.Coordinate.IntNumber.width (λ list. contour_of g.P.Coordinate.IntNumber.value (g.P.ContourPoint.points list)) c.args.points.now c.part-rings.result.now = rw (c.part-rings.ensures.part)
-    (safe_rings g.P.Coordinate.IntNumber.width g.P.Coordinate.IntNumber.value g.P.ContourPoint.point g.P.ContourPoint.points g.P.ContourPoint.each c.args.points.now (rings at c.args.points.now c.args.contours.now c.args.shapes.now c.requires.can.contours_fit.parted c.requires.can.shapes_parted) (rings_parted at c.args.points.now c.args.contours.now c.args.shapes.now c.requires.can.contours_fit.parted c.requires.can.shapes_parted).order (rings_safe at c.args.points.now c.args.contours.now c.args.shapes.now c.requires.can.contours_fit.parted c.requires.can.shapes_parted g.P.Coordinate.IntNumber.width c.requires.points_safe)) in
-    record { safe = safe k less; clean = λ all. c.in_ok-all_clean.ensures.clean all k less; reserved = c.in_ok-all_clean.ensures.room k less }
+    (safe_rings g.P.Coordinate.IntNumber.width g.P.Coordinate.IntNumber.value g.P.ContourPoint.point g.P.ContourPoint.points g.P.ContourPoint.each c.args.points.now (rings at c.args.points.now c.args.contours.now c.args.shapes.now c.requires.parted.contours_parted c.requires.parted.shapes_parted) (rings_parted at c.args.points.now c.args.contours.now c.args.shapes.now c.requires.parted.contours_parted c.requires.parted.shapes_parted).order (rings_safe at c.args.points.now c.args.contours.now c.args.shapes.now c.requires.parted.contours_parted c.requires.parted.shapes_parted g.P.Coordinate.IntNumber.width c.requires.points_safe)) in
+    record { safe = safe k less; clean = λ all. c.in_ok-all_clean.ensures.clean.0 all k less; reserved = c.in_ok-all_clean.ensures.memory.takes_room k less }
 
 pub returns-in_err-all_clean-clause-memory : goal.returns-in_err-all_clean-clause-memory
 returns-in_err-all_clean-clause-memory g c =
     let at : g.row.P.Denot → Point = λ p. point_of g.P.Coordinate.IntNumber.value (g.P.ContourPoint.point p) in
     let rings_now = c.part-rings.result.now in
     on_err c.from_residual.result (λ each.
-    let clean : (k : ℕ) → k + 1 < length rings_now → g.C.ContourCleaner.clean (map at (nth_contour c.args.points.now rings_now k)) = rw (c.part-rings.ensures.part) (rings_clean at c.args.points.now c.args.contours.now c.args.shapes.now c.requires.can.contours_fit.parted c.requires.can.shapes_parted g.C.ContourCleaner.clean each) in
-    c.in_err-all_clean.ensures.unclean (λ k less. inr (rw (same g.P.Coordinate.IntNumber.width g.P.Coordinate.IntNumber.value g.P.ContourPoint.point g.P.ContourPoint.points g.P.ContourPoint.each (nth_contour c.args.points.now rings_now k)) (clean k less))))
+    let clean : (k : ℕ) → k + 1 < length rings_now → g.C.ContourCleaner.clean (map at (nth_contour c.args.points.now rings_now k)) = rw (c.part-rings.ensures.part) (rings_clean at c.args.points.now c.args.contours.now c.args.shapes.now c.requires.parted.contours_parted c.requires.parted.shapes_parted g.C.ContourCleaner.clean each) in
+    c.in_err-all_clean.ensures.memory.unclean (λ k less. inr (rw (same g.P.Coordinate.IntNumber.width g.P.Coordinate.IntNumber.value g.P.ContourPoint.point g.P.ContourPoint.points g.P.ContourPoint.each (nth_contour c.args.points.now rings_now k)) (clean k less))))
 
 pub returns-clause-ok : goal.returns-clause-ok
 returns-clause-ok g c =
     let at : g.row.P.Denot → Point = λ p. point_of g.P.Coordinate.IntNumber.value (g.P.ContourPoint.point p) in
-    left_written at c.args.points.now c.args.contours.now c.args.shapes.now c.requires.can.contours_fit.parted c.requires.can.shapes_parted g.C.ContourCleaner.answers c.part-rings.result.now
+    left_written at c.args.points.now c.args.contours.now c.args.shapes.now c.requires.parted.contours_parted c.requires.parted.shapes_parted g.C.ContourCleaner.answers c.part-rings.result.now
     c.args.out_points.now c.write_polygons.new.out_points c.args.out_contours.now c.write_polygons.new.out_contours c.args.out_shapes.now c.write_polygons.new.out_shapes c.write_polygons.result
     c.part-rings.ensures.part c.write_polygons.ensures

@@ -1,4 +1,4 @@
-//! Tests and areas of many contours at 16 bits.
+//! Tests and areas of many contours at 16 bits, made by scripts/widths.sh from those at 32 bits.
 
 ghost use Rattle.std.specs.Int.{w16, w32};
 ghost use Rattle.i_shape.specs.Contour.{IsSimple};
@@ -10,9 +10,9 @@ ghost use Rattle.i_shape_core.specs.IntPoint.{IsSafeContour};
 
 use crate::measures::{DoubleArea, SafeRange, Tested, measure_contours};
 use crate::point::PointI16;
-use crate::tests::{Bulging, Simple, Spikeless};
+use crate::predicates::{Bulging, Simple, Spikeless};
 
-/// What `i_shape_is_simple_i16` answers of each contour, a byte each. Answers 0, or a code below 0.
+/// Writes the result of `i_shape_is_simple_i16` for each contour, one byte each. Returns 0, or a code below 0.
 #[unsafe(no_mangle)]
 pub extern "C" fn i_shape_is_simple_contours_i16(
     points: &[PointI16],
@@ -24,7 +24,7 @@ pub extern "C" fn i_shape_is_simple_contours_i16(
     measure_contours(points, offsets, Tested { test: Simple {} }, out)
 }
 
-/// What `i_shape_has_no_spikes_i16` answers of each contour, a byte each. Answers 0, or a code below 0.
+/// Writes the result of `i_shape_has_no_spikes_i16` for each contour, one byte each. Returns 0, or a code below 0.
 #[unsafe(no_mangle)]
 pub extern "C" fn i_shape_has_no_spikes_contours_i16(
     points: &[PointI16],
@@ -36,7 +36,7 @@ pub extern "C" fn i_shape_has_no_spikes_contours_i16(
     measure_contours(points, offsets, Tested { test: Spikeless {} }, out)
 }
 
-/// What `i_shape_is_convex_i16` answers of each contour, a byte each. Answers 0, or a code below 0.
+/// Writes the result of `i_shape_is_convex_i16` for each contour, one byte each. Returns 0, or a code below 0.
 #[unsafe(no_mangle)]
 pub extern "C" fn i_shape_is_convex_contours_i16(
     points: &[PointI16],
@@ -48,7 +48,7 @@ pub extern "C" fn i_shape_is_convex_contours_i16(
     measure_contours(points, offsets, Tested { test: Bulging {} }, out)
 }
 
-/// What `i_shape_is_safe_i16` answers of each contour, a byte each. Answers 0, or a code below 0.
+/// Writes the result of `i_shape_is_safe_i16` for each contour, one byte each. Returns 0, or a code below 0.
 #[unsafe(no_mangle)]
 pub extern "C" fn i_shape_is_safe_contours_i16(
     points: &[PointI16],
@@ -61,7 +61,8 @@ pub extern "C" fn i_shape_is_safe_contours_i16(
     measure_contours(points, offsets, SafeRange {}, out)
 }
 
-/// Twice the area of each contour, 0 where it has no point. No safe range is asked: a sum that doesn't fit wraps. Answers 0, or a code below 0.
+/// Writes twice the signed area of each contour, 0 for a contour without points. The points needn't be safe; a sum that
+/// doesn't fit wraps. Returns 0, or a code below 0.
 #[unsafe(no_mangle)]
 pub extern "C" fn i_shape_area_two_contours_i16(
     points: &[PointI16],

@@ -1,3 +1,4 @@
+-- Made by scripts/widths.sh from that at 32 bits.
 use Rattle.std.proofs.Common.{rules}
 use Rattle.std.specs.Int.{w16, w64}
 use Rattle.std.proofs.lemmas.Int.{to_z-of_z}

@@ -1,3 +1,4 @@
+-- Made by scripts/widths.sh from that at 32 bits.
 use Rattle.std.proofs.Common.{rules}
 use Rattle.i_shape_c.proofs.calls.i64.i_shape_area_two_i64.Goals as goal
 

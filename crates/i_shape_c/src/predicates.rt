@@ -1,4 +1,4 @@
-//! The tests of a contour, at any width. Each answers 1 or 0, or a code below 0, and takes no memory.
+//! Tests of a contour, at any width. Each returns 1 or 0, or a code below 0, and allocates nothing.
 
 ghost use Rattle.std.specs.Prelude.{◌≡◌, ◌↔◌, List, map, IsTrue};
 ghost use Rattle.std.specs.List.{All};
@@ -7,11 +7,12 @@ ghost use Rattle.i_shape.specs.Convex.{Convex, NoSpikes};
 ghost use Rattle.i_shape.specs.Edges.{Inside};
 ghost use Rattle.i_shape.specs.IntPoint.{contour_of, point_of, IsSafe};
 ghost use Rattle.i_shape.specs.Point.{Point};
-ghost use Rattle.i_shape_c.specs.Cleaned.{AreSafe, unsafe_code};
+ghost use Rattle.i_shape_c.specs.Cleaned.{AreSafe};
+ghost use Rattle.i_shape_c.specs.Codes.{unsafe_code};
 ghost use Rattle.i_shape_c.specs.Tests.{IsTold, TestAnswer};
 ghost use Rattle.i_shape_c.specs.Points.{point_by};
 
-use crate::codes::UNSAFE_TEST;
+use crate::codes::Refusal;
 use crate::point::CPoint;
 use i_shape::IntNumber;
 use i_shape::int::{ContourPoint, IntPoint};
@@ -22,10 +23,10 @@ use i_shape_core::simple::is_simple;
 
 /// A test of a contour of safe points.
 pub trait ContourTest<I: IntNumber>: Copy {
-    /// What is asked of the test.
+    /// The precondition on the test.
     ghost can_test: { Self → Type 0 };
 
-    /// What is told of a contour.
+    /// What the test establishes of a contour.
     ghost holds: { Self → List Point → Type 0 };
 
     fn test<P: ContourPoint<Coordinate = I>>(self, contour: &[P]) -> bool
@@ -48,7 +49,7 @@ impl<I: IntNumber> ContourTest<I> for Simple {
     }
 }
 
-/// Whether at least three points are left without repeated ones, and the way over them nowhere goes back.
+/// Whether there are at least three points, consecutive duplicates counted once, and the contour nowhere turns back.
 #[derive(Clone, Copy)]
 pub struct Spikeless {}
 
@@ -62,7 +63,8 @@ impl<I: IntNumber> ContourTest<I> for Spikeless {
     }
 }
 
-/// Whether at most two points are left without repeated ones, or the way over them nowhere goes back or bends to both sides.
+/// Whether there are at most two points, consecutive duplicates counted once, or the contour nowhere turns back and
+/// doesn't turn both left and right.
 #[derive(Clone, Copy)]
 pub struct Bulging {}
 
@@ -76,7 +78,7 @@ impl<I: IntNumber> ContourTest<I> for Bulging {
     }
 }
 
-/// Whether a safe point is inside.
+/// Whether a safe point is inside by the even-odd rule.
 #[derive(Clone, Copy)]
 pub struct Around<I> {
     point: IntPoint<I>,
@@ -92,7 +94,7 @@ impl<I: IntNumber> ContourTest<I> for Around<I> {
     }
 }
 
-/// The answer of a test of the points.
+/// Returns the result of a test of the points: 1 or 0, or a code below 0.
 pub fn test_contour<P: CPoint, T: ContourTest<P::Coordinate>>(points: &[P], test: T) -> i32
     requires { T.can_test test }
     ensures answer { TestAnswer
@@ -101,12 +103,12 @@ pub fn test_contour<P: CPoint, T: ContourTest<P::Coordinate>>(points: &[P], test
         ↔ (AreSafe P.Coordinate.width (point_by P.Coordinate.value P.point) points.now → ⊥) }
 {
     if !are_safe(points) {
-        return UNSAFE_TEST;
+        return Refusal::Unsafe.code();
     }
     if test.test(points) { 1 } else { 0 }
 }
 
-/// Whether the point is inside the contour.
+/// Returns whether the point is inside the contour: 1 or 0, or a code below 0.
 pub fn contains<P: CPoint>(points: &[P], given: P) -> i32
     ensures answer { TestAnswer
         (Inside (map (point_by P.Coordinate.value P.point) points.now)
@@ -117,12 +119,12 @@ pub fn contains<P: CPoint>(points: &[P], given: P) -> i32
 {
     let point = given.to_point();
     if !point.is_in_safe_range() {
-        return UNSAFE_TEST;
+        return Refusal::Unsafe.code();
     }
     test_contour(points, Around { point })
 }
 
-/// Whether each point is safe. It takes no memory.
+/// Returns whether each point is safe: 1 or 0. Allocates nothing.
 pub fn is_safe<P: CPoint>(points: &[P]) -> i32
     ensures { IsTold (AreSafe P.Coordinate.width (point_by P.Coordinate.value P.point) points.now)
         result }

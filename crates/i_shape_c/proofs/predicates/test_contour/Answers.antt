@@ -1,6 +1,8 @@
 use Rattle.std.proofs.Common.{rules, refl, sym, subst, IsTrue, false}
+use Rattle.i_shape_c.specs.declared.codes.Refusal.TheVariants.{Unsafe}
 use Rattle.i_shape_c.proofs.Boundary.{copied_points, safe_contour}
-use Rattle.i_shape_c.proofs.tests.test_contour.Goals as goal
+use Rattle.i_shape_c.proofs.Refusals.{code_of_32}
+use Rattle.i_shape_c.proofs.predicates.test_contour.Goals as goal
 
 pub test-requires-clause-points_safe : goal.test-requires-clause-points_safe
 test-requires-clause-points_safe g c =
@@ -22,3 +24,9 @@ returns-else-test-clause-answer g c = λ holds.
 
 pub returns-else-test-clause-unsafe_points : goal.returns-else-test-clause-unsafe_points
 returns-else-test-clause-unsafe_points g c = (λ is. search rules, λ not_safe. absurd (not_safe (c.if-not-are_safe.ensures.0 refl)))
+
+pub returns-then-not-are_safe-clause-answer : goal.returns-then-not-are_safe-clause-answer
+returns-then-not-are_safe-clause-answer g c = rw (c.code.ensures) tt
+
+pub returns-then-not-are_safe-clause-unsafe_points : goal.returns-then-not-are_safe-clause-unsafe_points
+returns-then-not-are_safe-clause-unsafe_points g c = rw (c.code.ensures, code_of_32 Unsafe) (λ is safe. let told : IsTrue false = c.if-not-are_safe.ensures.1 safe in cc, λ unlike. refl)

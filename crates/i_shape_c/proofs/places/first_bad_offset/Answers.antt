@@ -1,0 +1,32 @@
+use Rattle.std.proofs.Common.{◌≡◌, length, arith, refl}
+use Rattle.i_shape_c.proofs.Batches.{read_more, bad_back}
+use Rattle.i_shape_c.proofs.places.first_bad_offset.Goals as goal
+
+pub loop-place-init : goal.loop-place-init
+loop-place-init c = record {
+  good = record { order = λ k less. absurd (omega (arith, less)); most = λ k less. absurd (omega (arith, less)) };
+  start = λ none. refl;
+  last = λ k is. absurd (omega (arith, is));
+}
+
+pub returns-then-offset-before : goal.returns-then-offset-before
+returns-then-offset-before c = record {
+  within = omega (arith, c.loop-place-test.true);
+  before = c.loop-place.invariant.good;
+  here = λ less. bad_back c.args.points c.args.offsets.now c.loop-place.place c.loop-place.before c.loop-place.invariant c.if-offset-before.true;
+}
+
+pub returns-then-offset-points : goal.returns-then-offset-points
+returns-then-offset-points c = record {
+  within = omega (arith, c.loop-place-test.true);
+  before = c.loop-place.invariant.good;
+  here = λ less good. let most = good.most c.loop-place.place (omega arith) in omega (arith, most, c.if-offset-points.true);
+}
+
+pub loop-place-preserved : goal.loop-place-preserved
+loop-place-preserved c = read_more c.args.points c.args.offsets.now c.loop-place.place c.loop-place.before c.loop-place.invariant c.if-offset-before.false c.if-offset-points.false
+
+pub returns : goal.returns
+returns c =
+    let all : c.loop-place.place ≡ length c.args.offsets.now = omega (arith, c.loop-place-test.false, c.loop-place.auto.place-end) in
+    record { within = omega arith; before = rw all at c.loop-place.invariant.good; here = λ less. absurd (omega (arith, less)) }

@@ -1,0 +1,47 @@
+//! The first point or offset that a call refuses.
+
+ghost use Rattle.i_shape_c.specs.Places.{IsFirstUnsafe, IsFirstBadOffset};
+ghost use Rattle.i_shape_c.specs.Points.{point_by};
+
+use crate::point::CPoint;
+
+/// Returns the index of the first point that isn't safe, or the number of points where each is safe.
+pub fn first_unsafe<P: CPoint>(points: &[P]) -> usize
+    ensures { IsFirstUnsafe P.Coordinate.width (point_by P.Coordinate.value P.point)
+        points.now result }
+{
+    for place in 0..points.len() {
+        if !points[place].to_point().is_in_safe_range() {
+            return place;
+        }
+    }
+    points.len()
+}
+
+/// Returns the index of the first offset that is below the one before it or above the number of points. Returns the
+/// number of offsets where none is, so also where there are no offsets.
+pub fn first_bad_offset(points: usize, offsets: &[usize]) -> usize
+    ensures { IsFirstBadOffset points offsets.now result }
+{
+    let mut before = 0;
+    for place in 0..offsets.len() {
+        let offset = offsets[place];
+        if offset < before {
+            return place;
+        }
+        if offset > points {
+            return place;
+        }
+        before = offset;
+    }
+    offsets.len()
+}
+
+/// Returns the index of the first offset that is below the one before it or above `count`, or the number of offsets
+/// where none is.
+#[unsafe(no_mangle)]
+pub extern "C" fn i_shape_first_bad_offset(count: usize, offsets: &[usize]) -> usize
+    ensures { IsFirstBadOffset count offsets.now result }
+{
+    first_bad_offset(count, offsets)
+}
