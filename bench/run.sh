@@ -1,7 +1,7 @@
 #!/bin/sh
 # bench/run.sh [--quick] [--only WORD] [--largest N] [--build]
 # Times the library's own calls: nanoseconds a point at each width, least and greatest of four placements of the code, beside a copy and a
-# reading of the points in the same run. docs/PERFORMANCE.md says how to read the table. --quick takes fewer samples, and at most 1,000 points; --only
+# reading of the points in the same run. docs/COMPARISON.md says how to read the times. --quick takes fewer samples, and at most 1,000 points; --only
 # picks the calls and families in whose names WORD is; --largest takes contours up to N points (100,000 if it isn't given); --build times nothing.
 # It needs rt and a C compiler. What it builds lies in ${BENCH_DIR:-${TMPDIR:-/tmp}/i_shape_bench}, with a copy of the crates and of the proofs
 # that their out/ keeps: 2 GB.

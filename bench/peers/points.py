@@ -9,7 +9,7 @@ columns are milliseconds of processor time, the least of some runs:
 - windings, contains, locate: winding_numbers, contains_points and locate of
   i_shape, of the library in the folder I_SHAPE_C_DIR or of `make c`;
 - shapely: shapely.vectorized.contains of a polygon that is there, whose index
-  is made in the call; kept: of a prepared one, whose index is there too;
+  is made in the call; GEOS: of a prepared geometry, whose index is there too;
 - matplotlib: Path.contains_points of one ring.
 
 A dash stands where a call looks at each pair of an edge and a point, and these
@@ -43,7 +43,7 @@ import i_shape  # noqa: E402
 
 RADIUS = 5e8
 RNG = np.random.default_rng(5)
-COLUMNS = ("windings", "contains", "locate", "shapely", "kept", "matplotlib")
+COLUMNS = ("windings", "contains", "locate", "shapely", "GEOS", "matplotlib")
 
 
 def around(count, radii):
@@ -82,10 +82,15 @@ def shorelines(_):
     return [ring for ring in rings if len(ring) > 2]
 
 
-ROWS = [(circle, 10, 10), (circle, 100, 100), (circle, 10_000, 10_000),
-        (circle, 100_000, 100_000), (star, 10_000, 10_000),
-        (comb, 10_000, 10_000), (small_rings, 100_000, 100_000),
-        (shorelines, 0, 100), (shorelines, 0, 100_000)]
+ROWS = [(circle, 10, 10), (circle, 10, 1_000_000), (circle, 100, 100),
+        (circle, 10_000, 10_000), (circle, 100_000, 100_000),
+        (circle, 1_000_000, 10), (circle, 1_000_000, 1_000_000),
+        (star, 100, 100), (star, 10_000, 10_000), (star, 100_000, 10_000),
+        (comb, 100, 100), (comb, 10_000, 10_000),
+        (small_rings, 1_000, 1_000), (small_rings, 100_000, 100_000),
+        (small_rings, 1_000_000, 1_000_000), (shorelines, 0, 10),
+        (shorelines, 0, 100), (shorelines, 0, 100_000),
+        (shorelines, 0, 1_000_000)]
 
 
 def least(call):

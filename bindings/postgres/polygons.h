@@ -10,7 +10,7 @@ typedef void Pause(void);
 
 enum { PAUSE_POINTS = 1 << 16 };
 
-/* Whole numbers among floats, by the rule of docs/DEFINITIONS.md, "Keys". steps_to_one is 0 where no whole number of steps
+/* Whole numbers among floats, by the rule of docs/DATA.md, "Keys". steps_to_one is 0 where no whole number of steps
  * makes 1. Numbers of steps lie strictly between -limit and limit: 2^49, or less where more steps lead beyond the floats. */
 typedef struct {
     double step, steps_to_one, limit;

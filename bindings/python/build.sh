@@ -1,6 +1,7 @@
 #!/bin/sh
 # Builds the wheel of the Python package, with the library of `make c`, or of the folder I_SHAPE_C_DIR. It needs setuptools and wheel of the Python
-# that $PYTHON names, and no network. $WHEEL_SYSTEM is the system of its tag, where that isn't linux.
+# that $PYTHON names, and no network. $WHEEL_SYSTEM is the system of its tag, where that isn't linux. $WHEEL_FASTER is the folder of the library for
+# x86-64-v2, which then lies in the wheel too.
 #
 # usage: build.sh [FOLDER]
 #
@@ -20,6 +21,7 @@ trap 'rm -rf "$work"' EXIT
 cp -R "$here/src" "$here/README.md" "$here/pyproject.toml" "$here/setup.py" "$top/LICENSE" "$top/include/i_shape.h" "$work"
 find "$work" -name __pycache__ -prune -exec rm -rf {} +
 cp "$library" "$work/src/i_shape/libi_shape.so"
+[ -z "${WHEEL_FASTER-}" ] || cp "$WHEEL_FASTER/libi_shape.so" "$work/src/i_shape/libi_shape-v2.so"
 chmod -R u=rwX,go=rX "$work"
 if [ -z "$out" ]; then
     out=$here/out

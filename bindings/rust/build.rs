@@ -18,18 +18,23 @@ fn main() {
     println!("cargo:rustc-link-lib=static=i_shape");
 }
 
-/// `lib/SYSTEM-MACHINE` in an archive, and `bindings/c/out` in a clone.
+/// `lib/SYSTEM-MACHINE` in an archive, with `-v2` behind it where the target has all of x86-64-v2, and `bindings/c/out`
+/// in a clone.
 fn own_folder() -> PathBuf {
     let told = |name| env::var(name).expect("cargo sets it");
     let here = PathBuf::from(told("CARGO_MANIFEST_DIR"));
     let packed = here.join("lib");
-    if packed.is_dir() {
-        packed.join(format!(
-            "{}-{}",
-            told("CARGO_CFG_TARGET_OS"),
-            told("CARGO_CFG_TARGET_ARCH")
-        ))
-    } else {
-        here.join("../c/out")
+    if !packed.is_dir() {
+        return here.join("../c/out");
     }
+    let has = env::var("CARGO_CFG_TARGET_FEATURE").unwrap_or_default();
+    let has_v2 = ["cmpxchg16b", "popcnt", "sse4.2", "ssse3"]
+        .iter()
+        .all(|feature| has.split(',').any(|one| one == *feature));
+    packed.join(format!(
+        "{}-{}{}",
+        told("CARGO_CFG_TARGET_OS"),
+        told("CARGO_CFG_TARGET_ARCH"),
+        if has_v2 { "-v2" } else { "" }
+    ))
 }

@@ -2,7 +2,7 @@
 import { answersOf, polygonsIn } from "./answers.js";
 import { drawFrame, element, frameOf, marks, pathOf } from "./board.js";
 import { startCoast } from "./coast.js";
-import { load, supportsMemory64 } from "./i_shape/src/i_shape.js";
+import { FILL_RULES, load, supportsMemory64 } from "./i_shape/src/i_shape.js";
 import { flat } from "./polygons.js";
 
 // A square with straight points, a spike, a point that comes twice and a bend to the right; and a hole.
@@ -10,12 +10,6 @@ const EXAMPLE = [[
     [[-4, -3], [-1, -3], [2, -3], [3, -3], [3, 0], [4, 0], [3, 0], [3, 3], [3, 3], [0, 3], [-2, 1], [-4, 3], [-4, -1]],
     [[-2, -2], [-2, -1], [0, -1], [2, -1], [1, -2]],
 ]];
-const RULES = {
-    "even-odd": (winding) => winding % 2 !== 0,
-    "non-zero": (winding) => winding !== 0,
-    positive: (winding) => winding > 0,
-    negative: (winding) => winding < 0,
-};
 
 // The greatest safe coordinate of 32 bits.
 const GREATEST = 2 ** 30 - 1;
@@ -97,8 +91,10 @@ function show(known) {
 function showCursor() {
     const [[x, y], arm] = [cursor, 1.5 * RADIUS * frame.pixel];
     byId("cross").setAttribute("d", `M${x - arm} ${-y}h${2 * arm}M${x} ${-y - arm}v${2 * arm}`);
-    const [winding] = shapes.windingNumbers(answers.all.points, answers.all.ringOffsets, Int32Array.of(x, y));
-    const rules = Object.keys(RULES).filter((rule) => RULES[rule](winding));
+    const { points, ringOffsets } = answers.all;
+    const about = Int32Array.of(x, y);
+    const [winding] = shapes.windingNumbers(points, ringOffsets, about);
+    const rules = FILL_RULES.filter((rule) => shapes.containsPoints(points, ringOffsets, about, rule)[0]);
     say("cursor", written(cursor));
     say("winding", `${winding}`);
     say("filled", rules.length ? `by ${rules.join(", ")}` : "by no rule");

@@ -42,9 +42,9 @@ export function checkCoordinate(coordinate, { bits }) {
 }
 
 /** Answers an offset as a number that is exact. */
-function asOffset(offset, name) {
+function asOffset(offset, name, place) {
     if (typeof offset !== "bigint" && !Number.isInteger(offset)) throw new TypeError(`${name} have ${String(offset)}, and no whole number`);
-    if (offset < 0 || offset > Number.MAX_SAFE_INTEGER) throw new OffsetsError(`${name} have ${offset}: there are not so many items`);
+    if (offset < 0 || offset > Number.MAX_SAFE_INTEGER) throw new OffsetsError(`${name}[${place}] is ${offset}: there are not so many items`, place);
     return Number(offset);
 }
 
@@ -52,6 +52,6 @@ function asOffset(offset, name) {
 export function asOffsets(offsets, name = "offsets") {
     if (typeof offsets !== "object" || !Number.isInteger(offsets?.length)) throw new TypeError(`${name} are no array`);
     const numbers = new Float64Array(offsets.length);
-    for (let k = 0; k < numbers.length; k++) numbers[k] = asOffset(offsets[k], name);
+    for (let k = 0; k < numbers.length; k++) numbers[k] = asOffset(offsets[k], name, k);
     return numbers;
 }

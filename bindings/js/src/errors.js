@@ -25,8 +25,10 @@ export class UnsafePointError extends IShapeError {
 
 /** The offsets do not part the points, or the rings. */
 export class OffsetsError extends IShapeError {
-    constructor(message = "the offsets don't part what they are given for: one is missing, below the one before it, or above the count") {
+    /** @param {number} [place] that of an offset, as i_shape.d.ts says; undefined if there is none */
+    constructor(message, place) {
         super(-2, message);
+        this.place = place;
     }
 }
 

@@ -1,4 +1,4 @@
-/** What these types name of browsers, as `Response` and `WebAssembly`, is in the `lib` named dom. */
+/** `Response` and `WebAssembly` are declared in the `lib` dom. */
 
 /** An array of points x0, y0, x1, y1, .. */
 export type Points = Int16Array | Int32Array | BigInt64Array;
@@ -9,7 +9,7 @@ export type Coordinate<P extends Points> = P extends BigInt64Array ? bigint : nu
 /** The type of an answer's points: of the width of those that are given, and of no class below it. */
 export type Plain<P extends Points> = P extends BigInt64Array ? BigInt64Array : P extends Int32Array ? Int32Array : Int16Array;
 
-/** Whole numbers from 0 on, each at least the one before it. */
+/** Integers from 0 on, in ascending order, repeats allowed. */
 export type Offsets = ArrayLike<number> | ArrayLike<bigint>;
 
 /** Rings end to end: ring k is the points from `offsets[k]` to before `offsets[k + 1]`. */
@@ -32,7 +32,7 @@ export interface GivenPolygons {
     polygonOffsets: Offsets;
 }
 
-/** A fill rule: the points about which rings wind together an odd number of times, not 0 times, more than 0, or fewer than 0 times, to the left. */
+/** A fill rule: which winding numbers are filled: odd ones, all but 0, positive ones, or negative ones. */
 export type FillRule = "evenodd" | "nonzero" | "positive" | "negative";
 
 /** The fill rules. */
@@ -51,8 +51,11 @@ export class UnsafePointError extends IShapeError {
     readonly ring: number | undefined;
 }
 
-/** There is no offset, one is below 0 or below the one before it, or the last is above the number of points or rings. */
-export class OffsetsError extends IShapeError {}
+/** There is no offset, or one is below 0, below the one before it, or above the number of points or rings. */
+export class OffsetsError extends IShapeError {
+    /** The place of the first such offset, or of the first below 0 or above 2^53 - 1, if there is one; undefined if there is no offset. */
+    readonly place: number | undefined;
+}
 
 /** An allocation in the module's memory failed. */
 export class OutOfMemoryError extends IShapeError {}
@@ -60,7 +63,7 @@ export class OutOfMemoryError extends IShapeError {}
 /** Whether the engine has memory of 64 bits, which `i_shape64.wasm` needs; `i_shape32.wasm` doesn't. */
 export function supportsMemory64(): boolean;
 
-/** What a module is had from: its URL, what `fetch` gives for it, its bytes, or the compiled module. */
+/** Where a module comes from: its URL, the result of `fetch`, its bytes, or the compiled module. */
 export type Source = URL | Response | BufferSource | WebAssembly.Module;
 
 /**
@@ -104,17 +107,16 @@ export interface IShape {
     readonly heldBytes: number;
 
     /**
-     * The contour without its zero turns, at which the way goes straight on, turns back or stands still; an empty array where
-     * it collapses.
+     * The contour without collinear vertices, repeated points and spikes; an empty array if it collapses.
      * @throws {UnsafePointError} a point isn't safe
      * @throws {OutOfMemoryError}
      */
     simplify<P extends Points>(contour: P): Plain<P>;
 
-    /** The contour without the points at which the way turns back or stands still. Else as `simplify`. */
+    /** The contour without repeated points and spikes. Otherwise as `simplify`. */
     despike<P extends Points>(contour: P): Plain<P>;
 
-    /** The simplified contour from the start that makes it least. Else as `simplify`. */
+    /** The least rotation of the simplified contour. Otherwise as `simplify`. */
     canonical<P extends Points>(contour: P): Plain<P>;
 
     /** The lesser of the canonical forms of the contour and of the contour read backwards. Else as `simplify`. */
@@ -123,7 +125,7 @@ export interface IShape {
     /** Whether there are at least three points, and no zero turn: `simplify` has nothing to remove then. */
     isSimple(contour: Points): boolean;
 
-    /** Whether at least three points are left without repeated ones, and the way over them nowhere turns back. */
+    /** Whether there are at least three points, not counting repeated ones, and the contour nowhere turns back. */
     hasNoSpikes(contour: Points): boolean;
 
     /** Whether at most two points are left without repeated ones, or the way over them nowhere turns back or bends to both sides. */
@@ -132,10 +134,10 @@ export interface IShape {
     /** Whether each point is safe, as all calls but `isSafe`, `isSafeRings`, `areaTwo` and `areaTwoRings` ask. */
     isSafe(points: Points): boolean;
 
-    /** Whether an odd number of edges pass the height of (x, y) strictly to the right of it. */
-    contains<P extends Points>(contour: P, x: Coordinate<P>, y: Coordinate<P>): boolean;
+    /** Whether the fill rule, by default "evenodd", fills (x, y), by how often the contour winds about it. Of points on an edge some are filled and others aren't. */
+    contains<P extends Points>(contour: P, x: Coordinate<P>, y: Coordinate<P>, rule?: FillRule): boolean;
 
-    /** How often the contour winds about (x, y), to the left. */
+    /** The winding number of the contour around (x, y), counterclockwise as positive. */
     windingNumber<P extends Points>(contour: P, x: Coordinate<P>, y: Coordinate<P>): number;
 
     /** How often all rings together wind about each of the points `about`, of the type of `points`. */
@@ -151,7 +153,7 @@ export interface IShape {
     locate<P extends Points>(points: P, offsets: Offsets, about: Plain<P>, rule?: FillRule): Int8Array;
 
     /**
-     * Twice the area, above 0 where the contour turns left; undefined where there is no point. Any coordinates are
+     * Twice the signed area, positive for a counterclockwise contour; undefined for no points. Any coordinates are
      * allowed: a sum that doesn't fit twice the bits of a coordinate wraps.
      */
     areaTwo(contour: Points): bigint | undefined;
@@ -191,7 +193,7 @@ export interface IShape {
 
     /**
      * A key of each ring, or of each polygon where there are `polygonOffsets`: two are equal exactly where the canonical forms are, for points of any of the
-     * types. It is empty where the ring, or the outer ring of the polygon, collapses. What else stands in a key may differ between versions. `oriented: false`
+     * types. It is empty where the ring, or the outer ring of the polygon, collapses. Other versions may make other keys. `oriented: false`
      * lets each ring be read backwards too.
      */
     canonicalKeys(points: Points, ringOffsets: Offsets, polygonOffsets?: Offsets, options?: { oriented?: boolean }): string[];
@@ -215,6 +217,9 @@ export interface IShape {
     simplifyPolygons<P extends Points>(points: P, ringOffsets: Offsets, polygonOffsets: Offsets): Polygons<P>;
 
     /** The same with each ring as `despike` leaves it, but a ring without spikes as it is, with its repeated points. */
+    removeSpikes<P extends Points>(points: P, ringOffsets: Offsets, polygonOffsets: Offsets): Polygons<P>;
+
+    /** @deprecated Its name is `removeSpikes`. */
     despikePolygons<P extends Points>(points: P, ringOffsets: Offsets, polygonOffsets: Offsets): Polygons<P>;
 
     /** The canonical form: rings canonical, holes and polygons sorted, so that two lists of the same polygons have equal answers. */

@@ -6,13 +6,13 @@ import { asOffsets, byteLengthOf, checkCoordinate, isInSafeRange, kindOf, length
 import { IShapeError, OffsetsError, OutOfMemoryError, UnsafePointError } from "./errors.js";
 import { fromGeoJson, toGeoJson } from "./geojson.js";
 import { compiled } from "./loading.js";
-import { borrow } from "./memory.js";
+import { behind, borrow } from "./memory.js";
 
 export { IShapeError, OffsetsError, OutOfMemoryError, UnsafePointError, fromGeoJson, toGeoJson };
 
 // The codes of include/i_shape.h.
 const UNSAFE = -1;
-const UNFIT = -2;
+const BAD_OFFSETS = -2;
 const NO_WINDING = -(2n ** 63n);
 
 // Each at the place of its code.
@@ -39,20 +39,20 @@ function countOf(points) {
     return BigInt(lengthOf(points) / 2);
 }
 
-/** The place of the first unsafe point among those from `first` to before `end`; undefined where there is none. */
-function firstUnsafe(points, kind, first, end) {
-    for (let k = first; k < end; k++) {
-        if (!isInSafeRange(points[2 * k], kind) || !isInSafeRange(points[2 * k + 1], kind)) return k;
+/** What a call is given, copied into the module's memory: points, and the offsets of rings and of polygons. */
+class Given {
+    constructor(loan, points, kind, ...offsets) {
+        this.points = points;
+        this.kind = kind;
+        this.offsets = offsets;
+        this.address = loan.copy(points, kind);
+        this.offsetAddresses = offsets.map((each) => loan.copyWide(each));
     }
-    return undefined;
-}
 
-/** The error for a point of a contour, or of a ring, that isn't safe. */
-function unsafePoint(points, kind, offsets) {
-    const place = firstUnsafe(points, kind, offsets?.[0] ?? 0, offsets?.at(-1) ?? lengthOf(points) / 2);
-    const ring = place === undefined ? undefined : offsets?.findLastIndex((offset) => offset <= place);
-    const where = `${ring === undefined ? "" : `ring ${ring}: `}point ${place}`;
-    return new UnsafePointError(`${where} is (${points[2 * place]}, ${points[2 * place + 1]}), ${outside(kind)}`, place, ring);
+    /** For each array its address, and how many items it has. */
+    get words() {
+        return [this.address, countOf(this.points), ...this.offsets.flatMap((each, k) => [this.offsetAddresses[k], BigInt(each.length)])];
+    }
 }
 
 function outside({ bits }) {
@@ -66,15 +66,6 @@ function checkAsked(x, y, kind) {
     if (!isInSafeRange(x, kind) || !isInSafeRange(y, kind)) {
         throw new UnsafePointError(`the point asked about is (${x}, ${y}), ${outside(kind)}`);
     }
-}
-
-/** Answers what a call has answered, as a number, or throws what its code means. */
-function answered(answer, points, kind, offsets) {
-    const number = Number(answer);
-    if (number >= 0) return number;
-    if (number === UNSAFE) throw unsafePoint(points, kind, offsets);
-    if (number === UNFIT) throw new OffsetsError();
-    throw new OutOfMemoryError();
 }
 
 /** The code of a fill rule. */
@@ -95,13 +86,6 @@ function readAreas(loan, address, count, { bits }) {
     if (bits === 32) return Array.from(loan.read(BigInt64Array, address, count));
     const halves = loan.read(BigUint64Array, address, 2 * count);
     return Array.from({ length: count }, (_, k) => BigInt.asIntN(128, (halves[2 * k + 1] << 64n) | halves[2 * k]));
-}
-
-/** Parts what there is of each ring into polygons. */
-function cut(items, polygonOffsets) {
-    const offsets = asOffsets(polygonOffsets, "polygonOffsets");
-    if (!offsets.length || offsets.at(-1) > items.length || offsets.some((offset, k) => offset < offsets[k - 1])) throw new OffsetsError();
-    return Array.from(offsets.subarray(1), (end, k) => items.slice(offsets[k], end));
 }
 
 /** The key of a polygon by those of its rings, of which the outer one comes first. */
@@ -163,13 +147,13 @@ class IShape {
         return this.#test("is_safe", points);
     }
 
-    contains(contour, x, y) {
-        return this.#ask("contains", contour, x, y, (answer, kind) => answered(answer, contour, kind) === 1);
+    contains(contour, x, y, rule = "evenodd") {
+        return this.#ask("contains_by", contour, x, y, [codeOf(rule)], (answer, given) => this.#answered(answer, given) === 1);
     }
 
     windingNumber(contour, x, y) {
-        return this.#ask("winding", contour, x, y, (answer, kind) => {
-            if (answer === NO_WINDING) throw unsafePoint(contour, kind);
+        return this.#ask("winding", contour, x, y, [], (answer, given) => {
+            if (answer === NO_WINDING) throw this.#unsafePoint(given);
             return Number(answer);
         });
     }
@@ -191,7 +175,7 @@ class IShape {
         const kind = kindOf(contour);
         return borrow(this.#exports, (loan) => {
             const area = loan.take(16);
-            const isThere = this.#call("area_two", kind)(loan.copy(contour, kind), countOf(contour), area);
+            const isThere = this.#call("area_two", kind)(...new Given(loan, contour, kind).words, area);
             return isThere ? readAreas(loan, area, 1, kind)[0] : undefined;
         });
     }
@@ -236,7 +220,7 @@ class IShape {
         const forms = oriented ? this.canonicalRings(points, ringOffsets) : this.canonicalUnorientedRings(points, ringOffsets);
         const ends = forms.offsets;
         const keys = Array.from({ length: ends.length - 1 }, (_, k) => forms.points.subarray(2 * ends[k], 2 * ends[k + 1]).join(" "));
-        return polygonOffsets ? cut(keys, polygonOffsets).map(keyOfPolygon) : keys;
+        return polygonOffsets ? this.#cut(keys, polygonOffsets).map(keyOfPolygon) : keys;
     }
 
     sameRings(a, b, options) {
@@ -256,15 +240,19 @@ class IShape {
     areaTwoPolygons(points, ringOffsets, polygonOffsets) {
         const { bits } = kindOf(points);
         const sum = (areas) => BigInt.asIntN(2 * bits, areas.reduce((one, other) => one + other, 0n));
-        return cut(this.areaTwoRings(points, ringOffsets), polygonOffsets).map(sum);
+        return this.#cut(this.areaTwoRings(points, ringOffsets), polygonOffsets).map(sum);
     }
 
     simplifyPolygons(points, ringOffsets, polygonOffsets) {
         return this.#cleanPolygons("simplify_shapes", points, ringOffsets, polygonOffsets);
     }
 
-    despikePolygons(points, ringOffsets, polygonOffsets) {
+    removeSpikes(points, ringOffsets, polygonOffsets) {
         return this.#cleanPolygons("despike_shapes", points, ringOffsets, polygonOffsets);
+    }
+
+    despikePolygons(points, ringOffsets, polygonOffsets) {
+        return this.removeSpikes(points, ringOffsets, polygonOffsets);
     }
 
     canonicalPolygons(points, ringOffsets, polygonOffsets) {
@@ -279,27 +267,77 @@ class IShape {
         return this.#exports[`i_shape_${name}_i${bits}`];
     }
 
+    /** Answers what a call has answered, as a number, or throws what its code means. */
+    #answered(answer, given) {
+        const number = Number(answer);
+        if (number === UNSAFE) throw this.#unsafePoint(given);
+        if (number === BAD_OFFSETS) this.#checkOffsets(given);
+        if (number < 0) throw new OutOfMemoryError();
+        return number;
+    }
+
+    /** The place of the first unsafe point among so many at an address. */
+    #firstUnsafe(address, count, kind) {
+        return Number(this.#call("first_unsafe", kind)(address, BigInt(count)));
+    }
+
+    /** The error for a point of a contour, or of a ring, that isn't safe. */
+    #unsafePoint({ points, kind, address, offsets: [rings] }) {
+        const [first, end] = [rings?.[0] ?? 0, rings?.at(-1) ?? lengthOf(points) / 2];
+        const place = first + this.#firstUnsafe(behind(address, 2 * first * kind.Points.BYTES_PER_ELEMENT), end - first, kind);
+        const ring = rings?.findLastIndex((offset) => offset <= place);
+        const where = `${ring === undefined ? "" : `ring ${ring}: `}point ${place}`;
+        return new UnsafePointError(`${where} is (${points[2 * place]}, ${points[2 * place + 1]}), ${outside(kind)}`, place, ring);
+    }
+
+    /** Throws where offsets of rings don't part the points, or those of polygons the rings. */
+    #checkOffsets({ points, offsets: [rings, polygons], offsetAddresses: [ringAddress, polygonAddress] }) {
+        this.#checkParting(rings, ringAddress, lengthOf(points) / 2, polygons ? "ringOffsets" : "offsets");
+        if (polygons) this.#checkParting(polygons, polygonAddress, rings.length - 1, "polygonOffsets");
+    }
+
+    /** Throws where offsets at an address don't part so many items. */
+    #checkParting(offsets, address, count, name) {
+        if (!offsets.length) throw new OffsetsError(`there are no ${name}`);
+        const place = Number(this.#exports.i_shape_first_bad_offset(BigInt(count), address, BigInt(offsets.length)));
+        if (place === offsets.length) return;
+        const fault = offsets[place] < offsets[place - 1] ? "below the one before it" : `above the count, ${count}`;
+        throw new OffsetsError(`${name}[${place}] is ${offsets[place]}, ${fault}`, place);
+    }
+
+    /** Parts what there is of each ring into polygons. */
+    #cut(items, polygonOffsets) {
+        const offsets = asOffsets(polygonOffsets, "polygonOffsets");
+        borrow(this.#exports, (loan) => this.#checkParting(offsets, loan.copyWide(offsets), items.length, "polygonOffsets"));
+        return Array.from(offsets.subarray(1), (end, k) => items.slice(offsets[k], end));
+    }
+
     #clean(name, contour) {
         const kind = kindOf(contour);
         return borrow(this.#exports, (loan) => {
+            const given = new Given(loan, contour, kind);
             const out = loan.take(byteLengthOf(contour));
-            const count = countOf(contour);
-            const left = answered(this.#call(name, kind)(loan.copy(contour, kind), count, out, count), contour, kind);
+            const left = this.#answered(this.#call(name, kind)(...given.words, out, countOf(contour)), given);
             return loan.read(kind.Points, out, 2 * left);
         });
     }
 
     #test(name, points) {
         const kind = kindOf(points);
-        return borrow(this.#exports, (loan) =>
-            answered(this.#call(name, kind)(loan.copy(points, kind), countOf(points)), points, kind) === 1);
+        return borrow(this.#exports, (loan) => {
+            const given = new Given(loan, points, kind);
+            return this.#answered(this.#call(name, kind)(...given.words), given) === 1;
+        });
     }
 
-    /** Hands what a call answers about a point to `use`. */
-    #ask(name, contour, x, y, use) {
+    /** Hands what a call answers about a point to `use`; `rule` is its further argument, or empty. */
+    #ask(name, contour, x, y, rule, use) {
         const kind = kindOf(contour);
         checkAsked(x, y, kind);
-        return borrow(this.#exports, (loan) => use(this.#call(name, kind)(loan.copy(contour, kind), countOf(contour), x, y), kind));
+        return borrow(this.#exports, (loan) => {
+            const given = new Given(loan, contour, kind);
+            return use(this.#call(name, kind)(...given.words, x, y, ...rule), given);
+        });
     }
 
     /** Hands what a call writes of the points asked about, in items of so many bytes, to `read`; `rule` is its further argument, or empty. */
@@ -309,13 +347,13 @@ class IShape {
         const from = asOffsets(offsets);
         return borrow(this.#exports, (loan) => {
             const count = lengthOf(about) / 2;
+            const given = new Given(loan, points, kind, from);
+            const asked = new Given(loan, about, kind);
             const out = loan.take(bytes * count);
-            const answer = this.#call(name, kind)(
-                loan.copy(points, kind), countOf(points), loan.copyWide(from), BigInt(from.length),
-                loan.copy(about, kind), BigInt(count), ...rule, out, BigInt(count));
-            const unsafe = Number(answer) === UNSAFE ? firstUnsafe(about, kind, 0, count) : undefined;
-            if (unsafe !== undefined) checkAsked(about[2 * unsafe], about[2 * unsafe + 1], kind);
-            answered(answer, points, kind, from);
+            const answer = this.#call(name, kind)(...given.words, ...asked.words, ...rule, out, BigInt(count));
+            const unsafe = Number(answer) === UNSAFE ? this.#firstUnsafe(asked.address, count, kind) : count;
+            if (unsafe < count) checkAsked(about[2 * unsafe], about[2 * unsafe + 1], kind);
+            this.#answered(answer, given);
             return read(loan, out, count);
         });
     }
@@ -330,10 +368,9 @@ class IShape {
         const from = asOffsets(offsets);
         return borrow(this.#exports, (loan) => {
             const count = Math.max(from.length - 1, 0);
+            const given = new Given(loan, points, kind, from);
             const out = loan.take(bytes * count);
-            const answer = this.#call(name, kind)(
-                loan.copy(points, kind), countOf(points), loan.copyWide(from), BigInt(from.length), out, BigInt(count));
-            answered(answer, points, kind, from);
+            this.#answered(this.#call(name, kind)(...given.words, out, BigInt(count)), given);
             return read(loan, out, count, kind);
         });
     }
@@ -342,12 +379,10 @@ class IShape {
         const kind = kindOf(points);
         const from = asOffsets(offsets);
         return borrow(this.#exports, (loan) => {
+            const given = new Given(loan, points, kind, from);
             const out = loan.take(byteLengthOf(points));
             const outOffsets = loan.take(8 * from.length);
-            const count = countOf(points);
-            const offsetCount = BigInt(from.length);
-            const left = answered(this.#call(name, kind)(
-                loan.copy(points, kind), count, loan.copyWide(from), offsetCount, out, count, outOffsets, offsetCount), points, kind, from);
+            const left = this.#answered(this.#call(name, kind)(...given.words, out, countOf(points), outOffsets, BigInt(from.length)), given);
             return { points: loan.read(kind.Points, out, 2 * left), offsets: loan.readNarrow(Uint32Array, outOffsets, from.length) };
         });
     }
@@ -357,15 +392,12 @@ class IShape {
         const rings = asOffsets(ringOffsets, "ringOffsets");
         const polygons = asOffsets(polygonOffsets, "polygonOffsets");
         return borrow(this.#exports, (loan) => {
+            const given = new Given(loan, points, kind, rings, polygons);
             const out = loan.take(byteLengthOf(points));
             const outRings = loan.take(8 * rings.length);
             const outPolygons = loan.take(8 * polygons.length);
-            const count = countOf(points);
-            const ringCount = BigInt(rings.length);
-            const polygonCount = BigInt(polygons.length);
-            const left = answered(this.#call(name, kind)(
-                loan.copy(points, kind), count, loan.copyWide(rings), ringCount, loan.copyWide(polygons), polygonCount,
-                out, count, outRings, ringCount, outPolygons, polygonCount), points, kind, rings);
+            const left = this.#answered(this.#call(name, kind)(
+                ...given.words, out, countOf(points), outRings, BigInt(rings.length), outPolygons, BigInt(polygons.length)), given);
             const leftPolygons = loan.readNarrow(Uint32Array, outPolygons, left + 1);
             const leftRings = loan.readNarrow(Uint32Array, outRings, leftPolygons[left] + 1);
             return { points: loan.read(kind.Points, out, 2 * leftRings.at(-1)), ringOffsets: leftRings, polygonOffsets: leftPolygons };

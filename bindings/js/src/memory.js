@@ -7,6 +7,11 @@ function place(address) {
     return typeof address === "bigint" ? Number(address) : address >>> 0;
 }
 
+/** The address so many bytes behind another one. */
+export function behind(address, bytes) {
+    return address + (typeof address === "bigint" ? BigInt(bytes) : bytes);
+}
+
 /**
  * The blocks of memory that one call borrows. A block never moves, but memory that grows gets another buffer: a view of
  * it serves until the next block is taken or the library is called.

@@ -7,18 +7,18 @@ const ONE = ["simplify", "despike", "canonical", "canonicalUnoriented", "isSimpl
 const RINGS = ["simplifyRings", "despikeRings", "canonicalRings", "canonicalUnorientedRings"];
 const RING_TESTS = ["isSimpleRings", "hasNoSpikesRings", "isConvexRings"];
 const RINGS_OF_ANY_POINTS = ["isSafeRings", "areaTwoRings"];
-const POLYGONS = ["simplifyPolygons", "despikePolygons", "canonicalPolygons", "canonicalUnorientedPolygons"];
+const POLYGONS = ["simplifyPolygons", "removeSpikes", "canonicalPolygons", "canonicalUnorientedPolygons"];
 const ABOUT_MANY = ["windingNumbers", "containsPoints", "locate"];
 const SQUARE = [0, 0, 4, 0, 4, 4, 0, 4];
 
 // What parts no 4 points.
 const WRONG_OFFSETS = [
-    { name: "no offset", offsets: [] },
-    { name: "an offset below the one before it", offsets: [0, 4, 3] },
-    { name: "a last offset above the count", offsets: [0, 5] },
-    { name: "an offset below 0", offsets: [-1, 4] },
-    { name: "an offset of 2^32", offsets: [0, 2 ** 32] },
-    { name: "an offset of 2^64", offsets: [0n, 2n ** 64n] },
+    { name: "no offset", offsets: [], place: undefined },
+    { name: "an offset below the one before it", offsets: [0, 4, 3], place: 2 },
+    { name: "a last offset above the count", offsets: [0, 5], place: 1 },
+    { name: "an offset below 0", offsets: [-1, 4], place: 0 },
+    { name: "an offset of 2^32", offsets: [0, 2 ** 32], place: 1 },
+    { name: "an offset of 2^64", offsets: [0n, 2n ** 64n], place: 1 },
 ];
 
 describeWidths((shapes, { points, number, limit, bits, Points }) => {
@@ -32,7 +32,7 @@ describeWidths((shapes, { points, number, limit, bits, Points }) => {
 
     for (const { name, call } of calls) {
         for (const row of WRONG_OFFSETS) {
-            test(`${name}: ${row.name}`, () => assert.throws(() => call(square, row.offsets), { name: "OffsetsError", code: -2 }));
+            test(`${name}: ${row.name}`, () => assert.throws(() => call(square, row.offsets), { name: "OffsetsError", code: -2, place: row.place }));
         }
         test(`${name}: a point of the second ring that isn't safe`, () => {
             const from = square.slice();
@@ -58,7 +58,7 @@ describeWidths((shapes, { points, number, limit, bits, Points }) => {
     for (const name of POLYGONS) {
         for (const row of WRONG_OFFSETS) {
             test(`${name}: ${row.name} of polygons`, () =>
-                assert.throws(() => shapes[name](square, [0, 1, 2, 3, 4], row.offsets), { name: "OffsetsError", code: -2 }));
+                assert.throws(() => shapes[name](square, [0, 1, 2, 3, 4], row.offsets), { name: "OffsetsError", code: -2, place: row.place }));
         }
     }
 
@@ -97,6 +97,7 @@ describeWidths((shapes, { points, number, limit, bits, Points }) => {
             for (const rule of ["even-odd", null, 0, 4]) assert.throws(() => shapes[name](square, [0, 4], square, rule), RangeError);
         });
     }
+    test("contains: no such rule", () => assert.throws(() => shapes.contains(square, number(1), number(1), "even-odd"), RangeError));
 
     test("each call: an x without a y", () => {
         const odd = points([0, 0, 4]);
@@ -157,7 +158,7 @@ describe("load", () => {
             "a response": new Response(bytes),
             "a promise of one": Promise.resolve(new Response(bytes)),
         };
-        for (const [name, source] of Object.entries(sources)) assert.equal((await load(source)).version, "0.1.0", name);
+        for (const [name, source] of Object.entries(sources)) assert.equal((await load(source)).version, "0.2.0", name);
     });
     test("a response that failed, bytes that are no module, and another module", async () => {
         await assert.rejects(load(new Response("", { status: 404 })), /404/);

@@ -1,4 +1,4 @@
-/** How the module is found, and what is said where it isn't. The recipes of docs/JAVASCRIPT.md run in Chromium. */
+/** How the module is found, and what is said where it isn't. The recipes of the package run in Chromium. */
 import assert from "node:assert/strict";
 import { execFileSync, spawnSync } from "node:child_process";
 import { mkdirSync, mkdtempSync, rmSync, symlinkSync, writeFileSync } from "node:fs";
@@ -44,7 +44,7 @@ describe("loading", () => {
 
     test("the module of the package, and one by its URL", async () => {
         for (const shapes of [await load(), await load(new URL("../out/i_shape32.wasm", import.meta.url)), await load(new URL("out/i_shape32.wasm", served.url))]) {
-            assert.equal(shapes.version, "0.1.0");
+            assert.equal(shapes.version, "0.2.0");
         }
     });
 

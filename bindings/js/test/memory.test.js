@@ -23,7 +23,7 @@ function callsOf(shapes, { points, number }) {
     for (const name of ["windingNumbers", "containsPoints", "locate"]) calls[name] = () => shapes[name](rings, OFFSETS, rings);
     for (const name of ["simplifyRings", "despikeRings", "canonicalRings", "canonicalUnorientedRings"]) calls[name] = () => shapes[name](rings, OFFSETS);
     for (const name of ["isSimpleRings", "hasNoSpikesRings", "isConvexRings", "isSafeRings", "areaTwoRings"]) calls[name] = () => shapes[name](rings, OFFSETS);
-    for (const name of ["simplifyPolygons", "despikePolygons", "canonicalPolygons", "canonicalUnorientedPolygons"]) {
+    for (const name of ["simplifyPolygons", "removeSpikes", "canonicalPolygons", "canonicalUnorientedPolygons"]) {
         calls[name] = () => shapes[name](rings, OFFSETS, POLYGONS);
     }
     return calls;
@@ -134,7 +134,7 @@ describeModules((shapes, bits) => {
             canonicalRings: (it) => it.canonicalRings(contour, [0, count]),
             canonicalUnorientedRings: (it) => it.canonicalUnorientedRings(contour, [0, count]),
             simplifyPolygons: (it) => it.simplifyPolygons(contour, offsets, [0, 512, 1024]),
-            despikePolygons: (it) => it.despikePolygons(contour, offsets, [0, 512, 1024]),
+            removeSpikes: (it) => it.removeSpikes(contour, offsets, [0, 512, 1024]),
             canonicalPolygons: (it) => it.canonicalPolygons(contour, offsets, [0, 512, 1024]),
             canonicalUnorientedPolygons: (it) => it.canonicalUnorientedPolygons(contour, offsets, [0, 512, 1024]),
         })) {
@@ -188,7 +188,7 @@ describeModules((shapes, bits) => {
     test("after a trap each call traps", () => {
         const exports = new WebAssembly.Instance(new WebAssembly.Module(bytesOf(bits))).exports;
         const address = bits === 64 ? 2n ** 33n : 2 ** 31;
-        assert.equal(exports.i_shape_version(), 0x000100);
+        assert.equal(exports.i_shape_version(), 0x000200);
         assert.throws(() => exports.i_shape_is_safe_i32(address, 8n), WebAssembly.RuntimeError);
         assert.throws(() => exports.i_shape_version(), WebAssembly.RuntimeError);
     });

@@ -20,7 +20,7 @@ const LEFT = [
         polygonOffsets: [0, 3, 3, 4],
     },
     {
-        call: "despikePolygons",
+        call: "removeSpikes",
         points: [10, 0, 10, 10, 0, 10, 0, 0, 5, 0, /**/ 8, 6, 6, 6, 6, 8, 7, 7, /**/ 2, 4, 4, 2, 2, 2, /**/ 0, -4, 4, 0, -4, 0],
         ringOffsets: [0, 5, 9, 12, 15],
         polygonOffsets: [0, 3, 3, 4],
@@ -45,7 +45,7 @@ const OUTER = [0, 0, 5, 0, 9, 0, 9, 9, 0, 9];
 const HOLE = [2, 2, 2, 4, 4, 2];
 const OUTER_LEFT = {
     simplifyPolygons: [0, 0, 9, 0, 9, 9, 0, 9],
-    despikePolygons: OUTER,
+    removeSpikes: OUTER,
     canonicalPolygons: [0, 0, 9, 0, 9, 9, 0, 9],
     canonicalUnorientedPolygons: [0, 0, 0, 9, 9, 9, 9, 0],
 };
@@ -76,6 +76,10 @@ describeWidths((shapes, { points }) => {
             assert.deepEqual(shapes[call](from, GIVEN.ringOffsets, GIVEN.polygonOffsets), wanted);
             assert.deepEqual(from, points(GIVEN.points), "what is given stays as it is");
         });
+        if (call === "removeSpikes") {
+            test("despikePolygons: its old name", () =>
+                assert.deepEqual(shapes.despikePolygons(points(GIVEN.points), GIVEN.ringOffsets, GIVEN.polygonOffsets), wanted));
+        }
         test(`${call}: no polygon`, () =>
             assert.deepEqual(shapes[call](points(GIVEN.points), GIVEN.ringOffsets, [0]), {
                 points: points([]),

@@ -2,6 +2,7 @@
  * long as what it holds, for the address sanitizer. What is answered is compared with the calls of the C library on polygons, and with itself when it is read
  * again. Then each growth of the C library is refused in turn, and pauses are counted. usage: fuzz COUNT */
 #include "polygons.h"
+#include "tests/refusing.h"
 
 #include <stdio.h>
 #include <stdlib.h>
@@ -11,41 +12,6 @@ static void must(bool holds, const char *what) {
     if (holds) return;
     printf("%s\n", what);
     exit(1);
-}
-
-/* ---- the allocator of the C library, which refuses a growth ---- */
-
-static size_t growths, refused, blocks;
-
-struct tried {
-    uintptr_t ok;
-    void *at;
-};
-struct tried rattle_alloc(size_t size, size_t align);
-struct tried rattle_realloc(void *at, size_t kept, size_t size, size_t align);
-void rattle_dealloc(void *at);
-
-static struct tried grown(void *old, size_t size) {
-    static char nothing;
-    void *at = ++growths == refused ? NULL : realloc(old, size ? size : 1);
-    blocks += at && !old;
-    return (struct tried){at != NULL, at ? at : &nothing};
-}
-
-struct tried rattle_alloc(size_t size, size_t align) {
-    (void)align;
-    return grown(NULL, size);
-}
-
-struct tried rattle_realloc(void *at, size_t kept, size_t size, size_t align) {
-    (void)kept;
-    (void)align;
-    return grown(at, size);
-}
-
-void rattle_dealloc(void *at) {
-    blocks--;
-    free(at);
 }
 
 /* ---- random WKB ---- */

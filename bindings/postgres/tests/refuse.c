@@ -1,37 +1,9 @@
-/* In place of the C library's allocator, for the module of a test: a growth is refused, and how many blocks are held is told. */
+/* For the module of a test: which growth of the C library is refused, and how many blocks it holds. */
 #include "postgres.h"
 
 #include "fmgr.h"
 
-static int64 growths, refused, blocks;
-
-struct tried {
-    uintptr_t ok;
-    void *at;
-};
-struct tried rattle_alloc(size_t size, size_t align);
-struct tried rattle_realloc(void *at, size_t kept, size_t size, size_t align);
-void rattle_dealloc(void *at);
-
-static struct tried grown(void *old, size_t size) {
-    static char nothing;
-    void *at = ++growths == refused ? NULL : realloc(old, size ? size : 1);
-    blocks += at && !old;
-    return (struct tried){at != NULL, at ? at : &nothing};
-}
-
-struct tried rattle_alloc(size_t size, size_t align) {
-    return grown(NULL, size);
-}
-
-struct tried rattle_realloc(void *at, size_t kept, size_t size, size_t align) {
-    return grown(at, size);
-}
-
-void rattle_dealloc(void *at) {
-    blocks--;
-    free(at);
-}
+#include "tests/refusing.h"
 
 /* The growth of this number from now on; none at 0. */
 PG_FUNCTION_INFO_V1(refuse_growth);

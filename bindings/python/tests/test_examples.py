@@ -182,6 +182,16 @@ class Parcels(ExampleCase):
                           in samples.lists(whole)], rings)
 
 
+class Validity(ExampleCase):
+
+    name = "validity"
+
+    def test_despike_gives_each_parcel_back(self):
+        given, *_, left = self.printed("--side", "6")
+        self.assertIn("34 of 36 invalid, 2 as before", given)
+        self.assertIn("0 of 36 invalid, 36 as before", left)
+
+
 class Tiles(ExampleCase):
 
     name = "tiles"

@@ -257,24 +257,28 @@ class Errors(unittest.TestCase):
                 ([9, 9], "above the number of points"),
                 ([4, 3], "offsets[1] is 3, below 4"),
                 ([0, 4, 3, 8], "offsets[2] is 3, below 4"),
-                ([0, 9, 8], "offsets[2] is 8, below 9"),
+                ([0, 9, 8], "offsets[1] is 9, above the number of points, 8"),
                 ([2, 1, 8], "offsets[1] is 1, below 2"),
                 ([-1, 8], "offsets[0] is -1, below 0"),
                 ([-1], "offsets[0] is -1, below 0"),
                 ([0, -1, 8], "offsets[1] is -1, below 0"),
-                ([3, -2 ** 63, 8], "below 3"),
-                ([3, 2 ** 63 - 1, 8], "offsets[2] is 8, below"),
-                ([0, 8, -1], "offsets[2] is -1, below 8"),
+                ([3, -2 ** 63, 8], "below 0"),
+                ([3, 2 ** 63 - 1, 8], "above the number of points"),
+                ([0, 8, -1], "offsets[2] is -1, below 0"),
                 (np.array([0, 2 ** 64 - 1], "u8"),
                  "offsets[1] is 18446744073709551615: no array has"),
                 (np.array([2 ** 63, 8], "u8"),
                  "offsets[0] is 9223372036854775808: no array has"),
                 (np.array([], int), "are empty"), ([], "are empty")):
+            ends = [0, *map(int, offsets)]
+            place = next((k for k, end in enumerate(ends[1:])
+                          if not ends[k] <= end <= 8), None)
             for threads in (1, 2, 8):
                 with self.subTest(offsets=offsets, threads=threads):
                     fault = self.fails(i_shape.OffsetsError, points, offsets,
                                        threads=threads)
                     self.assertIn(words, str(fault))
+                    self.assertEqual(fault.offset, place)
 
     def test_random_offsets_are_right_or_refused(self):
         numbers = random.Random(9)

@@ -94,9 +94,9 @@ class Windings(unittest.TestCase):
             for rule, fills in RULES.items():
                 filled = i_shape.contains_points(points, about, rule=rule)
                 self.assertEqual(filled.tolist(), fills(turns).tolist(), ring)
-            inside = [i_shape.contains(points, point) for point in about]
-            self.assertEqual(i_shape.contains_points(points, about).tolist(),
-                             inside, ring)
+                inside = [i_shape.contains(points, point, rule=rule)
+                          for point in about]
+                self.assertEqual(filled.tolist(), inside, ring)
 
     def test_where_points_lie(self):
         for dtype, ring, points in rings_of_each_dtype():

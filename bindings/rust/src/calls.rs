@@ -37,7 +37,9 @@ pub(crate) type CleanShapes<I> = unsafe extern "C" fn(
 
 pub(crate) type Test<I> = unsafe extern "C" fn(*const IntPoint<I>, usize) -> i32;
 
-pub(crate) type Contains<I> = unsafe extern "C" fn(*const IntPoint<I>, usize, I, I) -> i32;
+pub(crate) type FirstUnsafe<I> = unsafe extern "C" fn(*const IntPoint<I>, usize) -> usize;
+
+pub(crate) type Contains<I> = unsafe extern "C" fn(*const IntPoint<I>, usize, I, I, i32) -> i32;
 
 pub(crate) type Winding<I> = unsafe extern "C" fn(*const IntPoint<I>, usize, I, I) -> isize;
 
@@ -92,7 +94,8 @@ pub trait Calls: Copy + Ord + fmt::Debug + 'static {
     const HAS_NO_SPIKES: Test<Self>;
     const IS_CONVEX: Test<Self>;
     const IS_SAFE: Test<Self>;
-    const CONTAINS: Contains<Self>;
+    const FIRST_UNSAFE: FirstUnsafe<Self>;
+    const CONTAINS_BY: Contains<Self>;
     const WINDING: Winding<Self>;
     const WINDINGS: Windings<Self>;
     const CONTAINS_POINTS: AskMany<Self, bool>;
@@ -262,12 +265,15 @@ macro_rules! calls {
                 area_two_contours "area_two_contours_i" $area
             );
             unsafe extern "C" {
-                #[link_name = concat!("i_shape_contains_i", $width)]
-                fn contains(
+                #[link_name = concat!("i_shape_first_unsafe_i", $width)]
+                fn first_unsafe(points: *const IntPoint<$number>, count: usize) -> usize;
+                #[link_name = concat!("i_shape_contains_by_i", $width)]
+                fn contains_by(
                     points: *const IntPoint<$number>,
                     count: usize,
                     x: $number,
                     y: $number,
+                    rule: i32,
                 ) -> i32;
                 #[link_name = concat!("i_shape_winding_i", $width)]
                 fn winding(
@@ -315,7 +321,8 @@ macro_rules! calls {
                 const HAS_NO_SPIKES: Test<Self> = has_no_spikes;
                 const IS_CONVEX: Test<Self> = is_convex;
                 const IS_SAFE: Test<Self> = is_safe;
-                const CONTAINS: Contains<Self> = contains;
+                const FIRST_UNSAFE: FirstUnsafe<Self> = first_unsafe;
+                const CONTAINS_BY: Contains<Self> = contains_by;
                 const WINDING: Winding<Self> = winding;
                 const WINDINGS: Windings<Self> = windings;
                 const CONTAINS_POINTS: AskMany<Self, bool> = contains_points;
@@ -337,6 +344,7 @@ calls!(i64, "64", Halves);
 
 unsafe extern "C" {
     safe fn i_shape_version() -> u32;
+    fn i_shape_first_bad_offset(count: usize, offsets: *const usize, offset_count: usize) -> usize;
 }
 
 /// The version of the C library that is linked: its major, minor and patch number.
@@ -345,19 +353,51 @@ pub fn library_version() -> (u32, u32, u32) {
     (version >> 16, version >> 8 & 0xff, version & 0xff)
 }
 
-/// Reads an answer: a number, or a code below 0.
-fn number(answer: isize) -> Result<usize, Error> {
+/// The place of the first offset that doesn't part so many items, `None` where each does.
+pub(crate) fn first_bad_offset(offsets: &[usize], count: usize) -> Option<usize> {
+    // SAFETY: the pointer and the count are those of one slice.
+    let place = unsafe { i_shape_first_bad_offset(count, offsets.as_ptr(), offsets.len()) };
+    (place < offsets.len()).then_some(place)
+}
+
+/// The place of the first point that isn't safe. Where each is, it is how many there are.
+fn first_unsafe<I: Calls>(points: &[IntPoint<I>]) -> usize {
+    // SAFETY: the pointer and the count are those of one slice.
+    unsafe { (I::FIRST_UNSAFE)(points.as_ptr(), points.len()) }
+}
+
+const UNSAFE: isize = -1;
+
+/// Reads the answer of a call on points: a number, or a code below 0. Offsets were tested before.
+fn number<I: Calls>(answer: isize, points: &[IntPoint<I>]) -> Result<usize, Error> {
     usize::try_from(answer).map_err(|_| match answer {
-        -1 => Error::UnsafePoint,
-        -2 => Error::Unfit,
+        UNSAFE => Error::UnsafePoint(first_unsafe(points)),
         -3 => Error::NoMemory,
+        -4 => Error::NoRoom,
         _ => unreachable!("the library answers no other code"),
     })
 }
 
-/// Reads the answer of a test.
-fn told(answer: i32) -> Result<bool, Error> {
-    number(answer as isize).map(|one| one == 1)
+/// Reads the answer of a call on the points that the offsets part.
+fn number_of_many<I: Calls>(
+    answer: isize,
+    points: &[IntPoint<I>],
+    offsets: &[usize],
+) -> Result<usize, Error> {
+    let (first, end) = (offsets[0], offsets[offsets.len() - 1]);
+    number(answer, &points[first..end]).map_err(|error| error.behind(first))
+}
+
+/// Where a call has refused a point, the error of the first that it is asked about and that isn't
+/// safe, if there is one.
+fn check_about<I: Calls>(answer: isize, about: &[IntPoint<I>]) -> Result<(), Error> {
+    if answer != UNSAFE {
+        return Ok(());
+    }
+    match first_unsafe(about) {
+        place if place < about.len() => Err(Error::UnsafeAbout(place)),
+        _ => Ok(()),
+    }
 }
 
 /// Items that a call may overwrite. It writes whole items alone, so none becomes one that isn't
@@ -377,14 +417,15 @@ pub(crate) fn clean_one<I: Calls>(
 ) -> Result<usize, Error> {
     // SAFETY: each pointer and count is of one slice, and `out` overlaps no other slice, being
     // borrowed alone.
-    number(unsafe {
+    let answer = unsafe {
         call(
             points.as_ptr(),
             points.len(),
             out.as_mut_ptr().cast(),
             out.len(),
         )
-    })
+    };
+    number(answer, points)
 }
 
 /// Cleans contours to the front of `out_points` and `out_offsets`, and answers how many points it
@@ -397,7 +438,7 @@ pub(crate) fn clean_many<I: Calls>(
     out_offsets: &mut [MaybeUninit<usize>],
 ) -> Result<usize, Error> {
     // SAFETY: as in `clean_one`.
-    number(unsafe {
+    let answer = unsafe {
         call(
             points.as_ptr(),
             points.len(),
@@ -408,7 +449,8 @@ pub(crate) fn clean_many<I: Calls>(
             out_offsets.as_mut_ptr().cast(),
             out_offsets.len(),
         )
-    })
+    };
+    number_of_many(answer, points, offsets)
 }
 
 /// Cleans polygons to the front of the three slices, and answers how many polygons it has written
@@ -423,7 +465,7 @@ pub(crate) fn clean_shapes<I: Calls>(
     out_shapes: &mut [MaybeUninit<usize>],
 ) -> Result<usize, Error> {
     // SAFETY: as in `clean_one`.
-    number(unsafe {
+    let answer = unsafe {
         call(
             points.as_ptr(),
             points.len(),
@@ -438,22 +480,28 @@ pub(crate) fn clean_shapes<I: Calls>(
             out_shapes.as_mut_ptr().cast(),
             out_shapes.len(),
         )
-    })
+    };
+    number_of_many(answer, points, contours)
 }
 
 /// The answer of a test of the points.
 pub(crate) fn holds<I: Calls>(test: Test<I>, points: &[IntPoint<I>]) -> Result<bool, Error> {
     // SAFETY: the pointer and the count are those of one slice.
-    told(unsafe { test(points.as_ptr(), points.len()) })
+    let answer = unsafe { test(points.as_ptr(), points.len()) };
+    number(answer as isize, points).map(|one| one == 1)
 }
 
-/// Whether the contour contains the point.
-pub(crate) fn contains<I: Calls>(
+/// Whether the rule fills the point, by how often the contour winds about it.
+pub(crate) fn contains_by<I: Calls>(
     points: &[IntPoint<I>],
     about: IntPoint<I>,
+    rule: FillRule,
 ) -> Result<bool, Error> {
+    let IntPoint { x, y } = about;
     // SAFETY: the pointer and the count are those of one slice.
-    told(unsafe { (I::CONTAINS)(points.as_ptr(), points.len(), about.x, about.y) })
+    let answer = unsafe { (I::CONTAINS_BY)(points.as_ptr(), points.len(), x, y, rule as i32) };
+    check_about(answer as isize, &[about])?;
+    number(answer as isize, points).map(|one| one == 1)
 }
 
 /// How often the contour winds about the point.
@@ -464,7 +512,8 @@ pub(crate) fn winding<I: Calls>(
     // SAFETY: the pointer and the count are those of one slice.
     let winding = unsafe { (I::WINDING)(points.as_ptr(), points.len(), about.x, about.y) };
     if winding == isize::MIN {
-        return Err(Error::UnsafePoint);
+        check_about(UNSAFE, &[about])?;
+        number(UNSAFE, points)?;
     }
     Ok(winding)
 }
@@ -489,7 +538,8 @@ pub(crate) fn windings<I: Calls>(
             out.len(),
         )
     };
-    number(answer as isize).map(|_| ())
+    check_about(answer as isize, about)?;
+    number_of_many(answer as isize, points, offsets).map(|_| ())
 }
 
 /// Writes an item of each point to the front of `out`. The library writes a `bool` as a byte of 1 or
@@ -516,7 +566,8 @@ pub(crate) fn ask_many<I: Calls, T>(
             out.len(),
         )
     };
-    number(answer as isize).map(|_| ())
+    check_about(answer as isize, about)?;
+    number_of_many(answer as isize, points, offsets).map(|_| ())
 }
 
 /// Twice the signed area, `None` where there is no point.
@@ -545,5 +596,5 @@ pub(crate) fn measure_many<I: Calls, T>(
             out.len(),
         )
     };
-    number(answer as isize).map(|_| ())
+    number_of_many(answer as isize, points, offsets).map(|_| ())
 }

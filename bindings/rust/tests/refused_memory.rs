@@ -219,7 +219,7 @@ fn other_forms_panic_with_the_text() {
     assert!(panics(&|| drop(given.winding_numbers(&given))));
     assert!(panics(&|| drop(Contours::new(&given, &[0, 5]).canonical())));
     assert!(panics(&|| drop(
-        Shapes::new(&given, &[0, 5], &[0, 1]).despiked()
+        Shapes::new(&given, &[0, 5], &[0, 1]).spikes_removed()
     )));
 }
 

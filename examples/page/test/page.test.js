@@ -176,7 +176,7 @@ describe("the page", () => {
             after(() => browser?.close());
 
             check("an example at first, in whose place one is drawn, and nothing once it is cleared", async () => {
-                await page.texts({ version: `i_shape 0.1.0, in WebAssembly with ${bits} bits of memory.`, given: "18 points in 2 rings", problem: "" });
+                await page.texts({ version: `i_shape 0.2.0, in WebAssembly with ${bits} bits of memory.`, given: "18 points in 2 rings", problem: "" });
                 await page.put([1, 1], [2, 2]);
                 await page.texts({ given: "2 points in 1 ring" });
                 await page.fresh();
@@ -193,7 +193,7 @@ describe("the page", () => {
 
             check("the numbers at the cursor", async () => {
                 for (const [point, winding, filled] of [
-                    [[1, 1], "1", "by even-odd, non-zero, positive"],
+                    [[1, 1], "1", "by evenodd, nonzero, positive"],
                     [[-1, 1], "0", "by no rule"],
                 ]) {
                     await browser.move(...(await page.placeOf(point)));
@@ -244,7 +244,7 @@ describe("the page", () => {
                 await page.paste("text", "0 0 0 4 4 4 4 0 0 0 0 4 4 4 4 0");
                 await browser.clickOn("read");
                 await browser.move(...(await page.placeOf([1, 1])));
-                await page.texts({ given: "8 points in 1 ring", removed: "0", area: "-32", winding: "-2", filled: "by non-zero, negative" });
+                await page.texts({ given: "8 points in 1 ring", removed: "0", area: "-32", winding: "-2", filled: "by nonzero, negative" });
             });
 
             for (const [form, text, wanted] of [

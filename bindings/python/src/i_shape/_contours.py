@@ -8,8 +8,8 @@ from typing import Optional, Sequence, TypeVar
 import numpy as np
 import numpy.typing as npt
 
-from ._library import (CALLS, Halves, address, as_points, as_safe_point,
-                       raise_code)
+from ._library import (CALLS, FillRule, Halves, address, as_points, as_rule,
+                       as_safe_point, raise_code)
 
 Int = TypeVar("Int", np.int16, np.int32, np.int64)
 
@@ -31,9 +31,9 @@ def _clean(name: str, points: npt.NDArray[Int]) -> Optional[npt.NDArray[Int]]:
 def simplify(points: npt.NDArray[Int]) -> Optional[npt.NDArray[Int]]:
     """Return the contour without its zero turns.
 
-    A zero turn is a point at which the way goes straight on, turns back or
-    stands still. They are removed until none is left. What is left doesn't
-    depend on the order of removal, but for the point that it starts with.
+    A zero turn is a vertex at which the contour goes straight on, turns back,
+    or repeats a point. They are removed until none is left. The result
+    doesn't depend on the order of removal, except for its starting point.
 
     Parameters
     ----------
@@ -83,8 +83,8 @@ def simplify(points: npt.NDArray[Int]) -> Optional[npt.NDArray[Int]]:
 def despike(points: npt.NDArray[Int]) -> Optional[npt.NDArray[Int]]:
     """Return the contour without its back points.
 
-    A back point is one at which the way turns back or stands still. One at
-    which it goes straight on stays.
+    A back point repeats the one before it, or is the tip of a spike.
+    Vertices on straight edges stay.
 
     Parameters
     ----------
@@ -116,7 +116,7 @@ def despike(points: npt.NDArray[Int]) -> Optional[npt.NDArray[Int]]:
 
 def canonical(points: npt.NDArray[Int], *,
               oriented: bool = True) -> Optional[npt.NDArray[Int]]:
-    """Return the simplified contour from the start that makes it least.
+    """Return the least rotation of the simplified contour.
 
     Lists are compared point by point, and points by x and then by y. Two
     contours have equal answers exactly where one becomes the other by
@@ -332,11 +332,12 @@ def is_safe(points: npt.NDArray[Int]) -> bool:
     return _test("is_safe", points)
 
 
-def contains(points: npt.NDArray[Int], point: Sequence[int]) -> bool:
-    """Return whether the point lies inside the contour.
+def contains(points: npt.NDArray[Int], point: Sequence[int], *,
+             rule: FillRule = "evenodd") -> bool:
+    """Return whether the contour fills the point, by a fill rule.
 
-    It does where an odd number of edges pass its height strictly to the
-    right of it. Of points on an edge some are inside and others aren't.
+    By the even-odd rule it does if a ray from the point to the right crosses
+    an odd number of edges. Some points on an edge are filled, others aren't.
 
     Parameters
     ----------
@@ -344,6 +345,8 @@ def contains(points: npt.NDArray[Int], point: Sequence[int]) -> bool:
         The contour, as for :func:`simplify`.
     point : pair of int
         x and y, as safe as ``points``.
+    rule : "evenodd", "nonzero", "positive" or "negative"
+        As for :func:`contains_points`.
 
     Returns
     -------
@@ -357,8 +360,8 @@ def contains(points: npt.NDArray[Int], point: Sequence[int]) -> bool:
     TypeError
         As :func:`simplify` does, and where x or y isn't a whole number.
     ValueError
-        As :func:`simplify` does, and where ``point`` has fewer or more
-        than two numbers.
+        As :func:`simplify` does, where ``point`` has fewer or more than two
+        numbers, and where there is no such rule.
 
     Examples
     --------
@@ -370,8 +373,8 @@ def contains(points: npt.NDArray[Int], point: Sequence[int]) -> bool:
     """
     points = as_points(points)
     x, y = as_safe_point(point, points.dtype)
-    answer: int = CALLS[points.itemsize].contains(address(points),
-                                                  len(points), x, y)
+    answer: int = CALLS[points.itemsize].contains(
+        address(points), len(points), x, y, as_rule(rule))
     if answer < 0:
         raise_code(answer, points)
     return answer == 1

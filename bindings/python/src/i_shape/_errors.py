@@ -16,9 +16,9 @@ class UnsafePointError(ValueError):
     ----------
     ring : int or None
         Index of the first ring that has an unsafe point. One contour given
-        to :func:`i_shape.winding_numbers` or :func:`i_shape.contains_points`
-        is ring 0. None for other calls on one contour or on points alone,
-        and where it is a point that a call is asked about.
+        to :func:`i_shape.winding_numbers`, :func:`i_shape.contains_points` or
+        :func:`i_shape.locate` is ring 0. None for other calls on one contour
+        or on points alone, and where it is a point that a call is asked about.
     point : int or None
         Row of the first unsafe point in ``points``; None where it is a
         point that a call is asked about, as :func:`i_shape.contains` is.
@@ -34,8 +34,18 @@ class UnsafePointError(ValueError):
 class OffsetsError(ValueError):
     """The offsets do not part the points, or the rings.
 
-    There is no offset, one is below 0 or below the one before it, or the
-    last one is above the number of points (of rings, for polygons; of
-    polygons, for features). :func:`i_shape.io.narrow_offsets` raises it
-    where an offset is below 0 or has no room in 32 bits.
+    There is no offset, or one is below 0, below the one before it, or
+    above the number of points (of rings, for polygons; of polygons, for
+    features). :func:`i_shape.io.narrow_offsets` raises it where an offset is
+    below 0 or has no room in 32 bits.
+
+    Attributes
+    ----------
+    offset : int or None
+        Index of the first such offset, or of the first from 2**63 on, if
+        there is one; None if there is no offset.
     """
+
+    def __init__(self, message: str, offset: Optional[int] = None) -> None:
+        super().__init__(message)
+        self.offset = offset

@@ -1,6 +1,6 @@
 """Keys of rings and of polygons: bytes that are equal where forms are.
 
-docs/DEFINITIONS.md has their form, which no version changes. Whole numbers
+docs/DATA.md has their form, which no version changes. Whole numbers
 take 64 bits, so keys of arrays of any dtype can be compared.
 """
 
@@ -191,9 +191,9 @@ def same_rings(a: Pair, b: Pair, *, oriented: bool = True,
                threads: int = 1) -> npt.NDArray[np.intp]:
     """Return for each ring of one list where the same ring is in another.
 
-    Rings are the same where their canonical forms are equal, of which
-    :func:`canonical_rings` tells. Nothing is left of a ring that collapses,
-    so all these are the same.
+    Rings are the same where their canonical forms are equal, as
+    :func:`canonical_rings` returns them. A ring that collapses leaves
+    nothing, so all these are the same.
 
     Parameters
     ----------

@@ -11,7 +11,8 @@ import operator
 import os
 from concurrent.futures import ThreadPoolExecutor
 from pathlib import Path
-from typing import Any, Callable, NamedTuple, NoReturn, Optional, TypeVar
+from typing import (Any, Callable, Literal, NamedTuple, NoReturn, Optional,
+                    TypeVar)
 
 import numpy as np
 import numpy.typing as npt
@@ -20,10 +21,14 @@ from ._errors import OffsetsError, UnsafePointError
 
 Array = npt.NDArray[Any]
 Part = TypeVar("Part")
+FillRule = Literal["evenodd", "nonzero", "positive", "negative"]
 
-UNSAFE, UNFIT, NO_MEMORY = -1, -2, -3
+# In the order of their codes in C.
+_RULES = ("evenodd", "nonzero", "positive", "negative")
+
+UNSAFE, NO_MEMORY = -1, -3
 NO_WINDING = -(1 << 8 * ctypes.sizeof(ctypes.c_ssize_t) - 1)
-_VERSION = 0x0001  # the major and minor version of the library's header
+_VERSION = 0x0002  # the major and minor version of the library's header
 
 
 class Halves(ctypes.Structure):
@@ -32,10 +37,28 @@ class Halves(ctypes.Structure):
     _fields_ = [("low", ctypes.c_uint64), ("high", ctypes.c_uint64)]
 
 
+def _has_v2() -> bool:
+    """Whether Linux says that the processor has all of x86-64-v2."""
+    try:
+        with open("/proc/cpuinfo") as told:
+            flags = next((line for line in told if line.startswith("flags")),
+                         "")
+    except OSError:
+        return False
+    return {"cx16", "lahf_lm", "popcnt", "sse4_2", "ssse3"} <= {*flags.split()}
+
+
+def _path() -> Path:
+    folder = os.environ.get("I_SHAPE_C_DIR")
+    faster = Path(__file__).with_name("libi_shape-v2.so")
+    if not folder and faster.exists() and _has_v2():
+        return faster
+    return Path(folder or faster.parent, "libi_shape.so").resolve()
+
+
 def _load() -> ctypes.CDLL:
     # CDLL, and not PyDLL: the interpreter's lock is off during a call.
-    folder = os.environ.get("I_SHAPE_C_DIR") or Path(__file__).parent
-    library = ctypes.CDLL(str(Path(folder, "libi_shape.so").resolve()))
+    library = ctypes.CDLL(str(_path()))
     library.i_shape_version.restype = ctypes.c_uint32
     library.i_shape_version.argtypes = []
     if library.i_shape_version() >> 8 != _VERSION:
@@ -60,6 +83,7 @@ class Calls(NamedTuple):
     polygons: dict[str, Any]
     test: dict[str, Any]
     test_many: dict[str, Any]
+    first_unsafe: Any
     contains: Any
     winding: Any
     windings: Any
@@ -95,8 +119,10 @@ def _calls(bits: int, number: Any, area: Any) -> Calls:
         test_many={name: _call(f"i_shape_{name}_contours_i{bits}",
                                ctypes.c_int32, *array * 3)
                    for name in tests},
-        contains=_call(f"i_shape_contains_i{bits}", ctypes.c_int32, *array,
-                       number, number),
+        first_unsafe=_call(f"i_shape_first_unsafe_i{bits}", ctypes.c_size_t,
+                           *array),
+        contains=_call(f"i_shape_contains_by_i{bits}", ctypes.c_int32, *array,
+                       number, number, ctypes.c_int32),
         winding=_call(f"i_shape_winding_i{bits}", ctypes.c_ssize_t, *array,
                       number, number),
         windings=_call(f"i_shape_windings_i{bits}", ctypes.c_int32,
@@ -112,6 +138,9 @@ def _calls(bits: int, number: Any, area: Any) -> Calls:
                     *array * 3),
         area=area)
 
+
+_first_bad_offset = _call("i_shape_first_bad_offset", ctypes.c_size_t,
+                          ctypes.c_size_t, ctypes.c_void_p, ctypes.c_size_t)
 
 # By the size of a coordinate in bytes.
 CALLS = {
@@ -175,8 +204,16 @@ def as_offsets(offsets: Any, name: str = "offsets") -> Array:
     if array.dtype.kind == "u" and (copied < 0).any():
         place = int((copied < 0).argmax())
         raise OffsetsError(f"{name}[{place}] is {int(copied[place]) + 2**64}:"
-                           " no array has so many items")
+                           " no array has so many items", place)
     return copied
+
+
+def as_rule(rule: str) -> int:
+    """The code of the fill rule in C."""
+    if rule not in _RULES:
+        raise ValueError(f"rule is {rule!r}: one of {', '.join(_RULES)} is"
+                         " needed")
+    return _RULES.index(rule)
 
 
 def as_threads(threads: Any) -> int:
@@ -237,9 +274,9 @@ def as_safe_point(point: Any, dtype: Any) -> tuple[int, int]:
 
 
 def first_unsafe(points: Array) -> Optional[int]:
-    limit = bound(points.dtype)
-    unsafe = ((points <= -limit) | (points >= limit)).any(axis=1)
-    return int(unsafe.argmax()) if unsafe.any() else None
+    place: int = CALLS[points.itemsize].first_unsafe(address(points),
+                                                     len(points))
+    return place if place < len(points) else None
 
 
 def raise_code(code: int, points: Array) -> NoReturn:
@@ -256,19 +293,21 @@ def raise_code(code: int, points: Array) -> NoReturn:
         point=point)
 
 
-def raise_offsets(offsets: Array, limit: int, name: str = "offsets",
-                  of: str = "points", before: int = 0) -> NoReturn:
-    """Raises the first fault of offsets that do not part their items.
+def check_offsets(offsets: Array, limit: int, name: str = "offsets",
+                  of: str = "points", before: int = 0) -> None:
+    """Raise an error for the first offset that doesn't part so many items.
 
-    The first of them stands at the place ``before``.
+    The first of the offsets stands at the place ``before``.
     """
-    if offsets[0] < 0:
-        raise OffsetsError(f"{name}[{before}] is {offsets[0]}, below 0")
-    falls = offsets[1:] < offsets[:-1]
-    if falls.any():
-        place = int(falls.argmax()) + 1
-        raise OffsetsError(
-            f"{name}[{before + place}] is {offsets[place]}, below"
-            f" {offsets[place - 1]}, the one before it")
-    raise OffsetsError(f"{name}[{before + len(offsets) - 1}] is"
-                       f" {offsets[-1]}, above the number of {of}, {limit}")
+    place = _first_bad_offset(limit, address(offsets), len(offsets))
+    if place == len(offsets):
+        return
+    offset = int(offsets[place])
+    if offset < 0:
+        fault = "below 0"
+    elif place and offset < offsets[place - 1]:
+        fault = f"below {offsets[place - 1]}, the one before it"
+    else:
+        fault = f"above the number of {of}, {limit}"
+    raise OffsetsError(f"{name}[{before + place}] is {offset}, {fault}",
+                       before + place)

@@ -8,7 +8,7 @@ import numpy as np
 import numpy.typing as npt
 
 from ._library import (CALLS, Array, address, as_offsets, as_parts, as_points,
-                       raise_offsets, run_parts)
+                       check_offsets, run_parts)
 from ._polygons import given_polygons
 from ._rings import equal_cuts, raise_codes
 
@@ -31,8 +31,7 @@ def _measure_rings(call: Any, points: Array, offsets: Array, item: Any,
     from ``before`` on.
     """
     parts = as_parts(threads, len(offsets) - 1)
-    if parts > 1 and (offsets[1:] < offsets[:-1]).any():
-        raise_offsets(offsets, len(points), name, before=before)
+    check_offsets(offsets, len(points), name, before=before)
     cuts = [0, len(offsets) - 1] if parts == 1 else equal_cuts(offsets, parts)
     out = np.empty(len(offsets) - 1, item)
 
@@ -43,7 +42,7 @@ def _measure_rings(call: Any, points: Array, offsets: Array, item: Any,
                          address(items), len(items))
         return code
 
-    raise_codes(run_parts(measure, parts), points, offsets, name, before)
+    raise_codes(run_parts(measure, parts), points, offsets, before)
     return out
 
 
@@ -239,7 +238,7 @@ def area_two_rings(points: npt.NDArray[Int], offsets: npt.ArrayLike, *,
         For each ring what :func:`area_two` answers, in order, and 0 where
         the ring has no point. The dtype is int32 for points of int16, int64
         for int32, and object for int64: numbers of Python, since an area
-        may take 128 bits. A sum that doesn't fit so many bits wraps.
+        may take 128 bits. A sum that doesn't fit these bits wraps around.
 
     Raises
     ------

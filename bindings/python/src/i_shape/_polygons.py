@@ -5,13 +5,13 @@ The library cleans them whole, by one call for each thread.
 
 from __future__ import annotations
 
-from typing import Any, NamedTuple, Tuple, TypeVar
+from typing import Any, Iterator, NamedTuple, Tuple, TypeVar
 
 import numpy as np
 import numpy.typing as npt
 
 from ._library import (CALLS, Array, address, as_offsets, as_parts, as_points,
-                       as_threads, raise_offsets, run_parts)
+                       as_threads, check_offsets, run_parts)
 from ._rings import (canonical_cleaner, clean_rings, equal_cuts,
                      raise_codes)
 
@@ -61,10 +61,8 @@ def given_polygons(points: Any, ring_offsets: Any,
     points = as_points(points)
     rings = as_offsets(ring_offsets, "ring_offsets")
     parts = as_offsets(polygon_offsets, "polygon_offsets")
+    check_offsets(parts, len(rings) - 1, "polygon_offsets", "rings")
     start, end = int(parts[0]), int(parts[-1])
-    count = len(rings) - 1
-    if start < 0 or end > count or (parts[1:] < parts[:-1]).any():
-        raise_offsets(parts, count, "polygon_offsets", "rings")
     return Given(points, rings[start:end + 1], parts - start, start)
 
 
@@ -76,43 +74,63 @@ def _part(given: Given, start: int, end: int) -> Given:
                   given.before + first)
 
 
+def _words(*arrays: Array) -> Iterator[int]:
+    """Of each array what a call takes: its address and its length."""
+    for array in arrays:
+        yield from (address(array), len(array))
+
+
+def _shrink(array: Array, length: int) -> None:
+    """Give back what isn't used of an array that nobody else has."""
+    array.resize((length, *array.shape[1:]), refcheck=False)
+
+
+def _shrink_polygons(polygons: Polygons, count: int) -> Polygons:
+    """The arrays of an answer, which has so many polygons, at their length."""
+    points, rings, parts = polygons
+    _shrink(parts, count + 1)
+    _shrink(rings, int(parts[-1]) + 1)
+    _shrink(points, int(rings[-1]))
+    return polygons
+
+
 def _clean_part(cleaner: str, given: Given) -> tuple[int, Polygons]:
     """Clean the polygons by one call of the library.
 
-    It answers how many are left, or a code, and the arrays with their room.
+    It answers how many are left, or a code, and their arrays.
     """
     first, last = int(given.rings[0]), int(given.rings[-1])
-    points, rings = given.points[first:last], given.rings - first
+    points, rings = given.points[first:last], given.rings
+    if first:
+        rings = rings - first
     out = Polygons(np.empty_like(points), np.empty_like(rings),
                    np.empty_like(given.parts))
-    arrays = (points, rings, given.parts, *out)
     count: int = CALLS[points.itemsize].polygons[cleaner](
-        *(word for array in arrays for word in (address(array), len(array))))
-    return count, out
+        *_words(points, rings, given.parts, *out))
+    return count, _shrink_polygons(out, count) if count >= 0 else out
 
 
-def _end_to_end(answers: list[tuple[int, Polygons]]) -> Polygons:
-    """The polygons of some answers, in new arrays of their own length."""
-    points, rings, parts = [], [np.zeros(1, np.int64)], [np.zeros(1, np.int64)]
-    point_count = ring_count = 0
-    for count, out in answers:
-        its_parts = out.polygon_offsets[:count + 1]
-        its_rings = out.ring_offsets[:int(its_parts[-1]) + 1]
-        points.append(out.points[:int(its_rings[-1])])
-        rings.append(its_rings[1:] + point_count)
-        parts.append(its_parts[1:] + ring_count)
-        point_count += int(its_rings[-1])
-        ring_count += int(its_parts[-1])
-    return Polygons(np.concatenate(points), np.concatenate(rings),
-                    np.concatenate(parts))
+def _end_to_end(answers: list[Polygons]) -> Polygons:
+    """The polygons of some answers."""
+    if len(answers) == 1:
+        return answers[0]
+    points, rings, parts = zip(*answers)
+    ring_starts = np.cumsum([0, *map(len, points)])
+    part_starts = np.cumsum([0, *(len(each) - 1 for each in rings)])
+    zero = np.zeros(1, np.int64)
+    return Polygons(
+        np.concatenate(points),
+        np.concatenate([zero, *(each[1:] + start for each, start
+                                in zip(rings, ring_starts.tolist()))]),
+        np.concatenate([zero, *(each[1:] + start for each, start
+                                in zip(parts, part_starts.tolist()))]))
 
 
 def _clean_polygons(cleaner: str, given: Given, parts: int) -> Polygons:
     """Clean the polygons, parted among so many threads."""
-    rings, count = given.rings, len(given.points)
-    if (not 0 <= rings[0] <= rings[-1] <= count
-            or parts > 1 and (rings[1:] < rings[:-1]).any()):
-        raise_offsets(rings, count, "ring_offsets", before=given.before)
+    rings = given.rings
+    check_offsets(rings, len(given.points), "ring_offsets",
+                  before=given.before)
     cuts = [0, len(given.parts) - 1]
     if parts > 1:
         cuts = equal_cuts(rings[given.parts], parts)
@@ -121,8 +139,8 @@ def _clean_polygons(cleaner: str, given: Given, parts: int) -> Polygons:
                                  _part(given, cuts[part], cuts[part + 1])),
         len(cuts) - 1)
     raise_codes([left for left, _ in answers], given.points, rings,
-                "ring_offsets", given.before)
-    return _end_to_end(answers)
+                given.before)
+    return _end_to_end([polygons for _, polygons in answers])
 
 
 def simplify_polygons(points: npt.NDArray[Int], ring_offsets: npt.ArrayLike,

@@ -9,9 +9,9 @@ import numpy as np
 import numpy.typing as npt
 
 from ._errors import UnsafePointError
-from ._library import (CALLS, NO_MEMORY, UNFIT, UNSAFE, Array, address,
-                       as_offsets, as_parts, as_points, first_unsafe,
-                       raise_code, raise_offsets, run_parts, unsafe_text)
+from ._library import (CALLS, NO_MEMORY, UNSAFE, Array, address,
+                       as_offsets, as_parts, as_points, check_offsets,
+                       first_unsafe, raise_code, run_parts, unsafe_text)
 
 Int = TypeVar("Int", np.int16, np.int32, np.int64)
 
@@ -41,7 +41,6 @@ def _clean_part(call: Any, points: Array, offsets: Array,
     start, end = int(offsets[0]), int(offsets[-1])
     points = points[start:end]
     if start:
-        # One below the first offset gets below 0: it stays out of order.
         offsets = offsets - start
     ends = np.empty(offsets.shape, np.int64)
     left = call(address(points), len(points), address(offsets), len(offsets),
@@ -59,14 +58,11 @@ def equal_cuts(offsets: Array, parts: int) -> list[int]:
 
 
 def raise_codes(codes: list[int], points: Array, offsets: Array,
-                name: str = "offsets", before: int = 0) -> None:
+                before: int = 0) -> None:
     """Raise what one call on all the rings would have.
 
-    The error calls the offsets by ``name``, and counts them and the rings
-    from ``before`` on.
+    The error counts the rings from ``before`` on.
     """
-    if UNFIT in codes:
-        raise_offsets(offsets, len(points), name, before=before)
     if UNSAFE in codes:
         start, end = int(offsets[0]), int(offsets[-1])
         place = first_unsafe(points[start:end])
@@ -92,15 +88,13 @@ def clean_rings(cleaner: str, points: Any, offsets: Any, threads: Any,
     points = as_points(points)
     offsets = as_offsets(offsets)
     parts = as_parts(threads, len(offsets) - 1)
+    check_offsets(offsets, len(points), name, before=before)
     start, end = int(offsets[0]), int(offsets[-1])
-    if (not 0 <= start <= end <= len(points)
-            or parts > 1 and (offsets[1:] < offsets[:-1]).any()):
-        raise_offsets(offsets, len(points), name, before=before)
     call = CALLS[points.itemsize].many[cleaner]
     out = np.empty((end - start, 2), points.dtype)
     if parts == 1:
         total, ends = _clean_part(call, points, offsets, out)
-        raise_codes([total], points, offsets, name, before)
+        raise_codes([total], points, offsets, before)
     else:
         cuts = equal_cuts(offsets, parts)
         starts = (offsets[cuts] - start).tolist()
@@ -111,8 +105,7 @@ def clean_rings(cleaner: str, points: Any, offsets: Any, threads: Any,
                                out[starts[part]:starts[part + 1]])
 
         answers = run_parts(clean_part, parts)
-        raise_codes([left for left, _ in answers], points, offsets, name,
-                    before)
+        raise_codes([left for left, _ in answers], points, offsets, before)
         # What the parts have left is moved together, from the front on.
         ends = np.empty(offsets.shape, np.int64)
         ends[0] = total = 0

@@ -2,24 +2,21 @@
 
 from __future__ import annotations
 
-from typing import Any, Literal, Sequence, Tuple, TypeVar, Union
+from typing import Any, Sequence, Tuple, TypeVar, Union
 
 import numpy as np
 import numpy.typing as npt
 
 from ._errors import UnsafePointError
-from ._library import (CALLS, NO_WINDING, UNSAFE, Array, address, as_offsets,
-                       as_parts, as_points, as_safe_point, first_unsafe,
-                       raise_code, run_parts, unsafe_text)
+from ._library import (CALLS, NO_WINDING, UNSAFE, Array, FillRule, address,
+                       as_offsets, as_parts, as_points, as_rule,
+                       as_safe_point, check_offsets, first_unsafe, raise_code,
+                       run_parts, unsafe_text)
 from ._rings import Rings, raise_codes
 
 Int = TypeVar("Int", np.int16, np.int32, np.int64)
 Contours = Union[npt.NDArray[Int], Rings,
                  Tuple[npt.NDArray[Int], npt.ArrayLike]]
-FillRule = Literal["evenodd", "nonzero", "positive", "negative"]
-
-# In the order of their codes in C.
-_RULES = ("evenodd", "nonzero", "positive", "negative")
 
 
 def winding_number(points: npt.NDArray[Int], point: Sequence[int]) -> int:
@@ -102,6 +99,7 @@ def _tell(name: str, contours: Any, about: Any, rule: Sequence[int],
     if about.dtype != points.dtype:
         raise TypeError(f"about has dtype {about.dtype}, the contours"
                         f" {points.dtype}: one dtype is needed")
+    check_offsets(offsets, len(points))
     parts = as_parts(threads, len(about))
     out = np.empty(len(about), dtype)
     call = getattr(CALLS[points.itemsize], name)
@@ -120,17 +118,9 @@ def _tell(name: str, contours: Any, about: Any, rule: Sequence[int],
     return out
 
 
-def _code_of(rule: str) -> int:
-    """Return the code of the rule in C."""
-    if rule not in _RULES:
-        raise ValueError(f"rule is {rule!r}: one of {', '.join(_RULES)} is"
-                         " needed")
-    return _RULES.index(rule)
-
-
 def winding_numbers(contours: Contours[Int], about: npt.NDArray[Int], *,
                     threads: int = 1) -> npt.NDArray[np.intp]:
-    """Return how often contours wind about each of many points, together.
+    """Return the total winding number of contours around each of many points.
 
     Parameters
     ----------
@@ -196,8 +186,8 @@ def contains_points(contours: Contours[Int], about: npt.NDArray[Int], *,
     Returns
     -------
     array of shape (m,) and dtype bool
-        Of points on an edge some are filled and others aren't:
-        :func:`locate` tells these apart.
+        Some points on an edge are filled, others aren't. :func:`locate`
+        returns 0 for each of them.
 
     Raises
     ------
@@ -218,7 +208,7 @@ def contains_points(contours: Contours[Int], about: npt.NDArray[Int], *,
     [True, True, False]
     """
     filled: npt.NDArray[np.bool_] = _tell(
-        "contains_points", contours, about, (_code_of(rule),), np.bool_,
+        "contains_points", contours, about, (as_rule(rule),), np.bool_,
         threads)
     return filled
 
@@ -253,5 +243,5 @@ def locate(contours: Contours[Int], about: npt.NDArray[Int], *,
     [1, 0, 0, -1]
     """
     located: npt.NDArray[np.int8] = _tell(
-        "locate", contours, about, (_code_of(rule),), np.int8, threads)
+        "locate", contours, about, (as_rule(rule),), np.int8, threads)
     return located

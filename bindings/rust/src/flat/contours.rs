@@ -1,6 +1,6 @@
 //! Contours end to end in one list of points.
 
-use super::offsets::{append, are_fit, ranges, try_append_part, try_rebased, try_sum};
+use super::offsets::{append, ranges, try_append_part, try_fit, try_rebased, try_sum};
 use crate::calls::{AskMany, CleanMany, ask_many, clean_many, holds, overwritten, windings};
 use crate::error::answered;
 use crate::int::{IntNumber, IntPoint};
@@ -55,10 +55,10 @@ macro_rules! cleaners {
             /// It answers how many points these are. Where each contour is clean or has fewer than
             /// three points, it takes no memory.
             ///
-            /// [`Error::Unfit`] where `out_points` is shorter than [`points`](Contours::points) or
+            /// [`Error::NoRoom`] where `out_points` is shorter than [`points`](Contours::points) or
             /// `out_offsets` than [`offsets`](Contours::offsets); [`Error::UnsafePoint`] where a
-            /// point of a contour isn't safe; [`Error::NoMemory`] where an allocation fails: then the
-            /// front of each, of the length that is asked of it, may be written.
+            /// point of a contour isn't safe; [`Error::NoMemory`] where an allocation fails. After an
+            /// error nothing is written.
             pub fn $try_into(
                 self,
                 out_points: &mut [IntPoint<I>],
@@ -89,15 +89,11 @@ macro_rules! cleaners {
 
 impl<'a, I: IntNumber> Contours<'a, I> {
     /// The contours that the offsets part the points into. Points outside the offsets aren't read.
-    /// [`Error::Unfit`] where the offsets aren't [fit](super::offsets::are_fit) for the points.
+    /// [`Error::BadOffsets`] where the offsets aren't [fit](super::offsets::are_fit) for the points.
     pub fn try_new(points: &'a [IntPoint<I>], offsets: &'a [usize]) -> Result<Self, Error> {
-        match offsets.last() {
-            Some(&last) if are_fit(offsets, points.len()) => Ok(Contours {
-                points: &points[..last],
-                offsets,
-            }),
-            _ => Err(Error::Unfit),
-        }
+        try_fit(offsets, points.len()).map_err(Error::BadOffsets)?;
+        let points = &points[..offsets[offsets.len() - 1]];
+        Ok(Contours { points, offsets })
     }
 
     /// The contours that the offsets part the points into.
@@ -177,8 +173,8 @@ impl<'a, I: IntNumber> Contours<'a, I> {
     /// How often the contours together wind about each of the points: what a fill rule asks of the
     /// contours of a shape.
     ///
-    /// [`Error::UnsafePoint`] where a point of a contour or one of `about` isn't safe,
-    /// [`Error::NoMemory`] where there is none for the answer. It takes more memory where that saves
+    /// [`Error::UnsafeAbout`] where one of `about` isn't safe, [`Error::UnsafePoint`] where a point
+    /// of a contour isn't, [`Error::NoMemory`] where there is none for the answer. It takes more memory where that saves
     /// time, and does without where it is refused.
     pub fn try_winding_numbers(self, about: &[IntPoint<I>]) -> Result<Vec<isize>, Error> {
         let mut numbers = with_room(about.len())?;
@@ -206,8 +202,8 @@ impl<'a, I: IntNumber> Contours<'a, I> {
     /// Writes how often the contours together wind about each of the points to the front of `out`.
     /// It takes memory where that saves time, and does without where it is refused.
     ///
-    /// [`Error::Unfit`] where `out` is shorter than `about`, [`Error::UnsafePoint`] where a point
-    /// of a contour or one of `about` isn't safe.
+    /// [`Error::NoRoom`] where `out` is shorter than `about`, [`Error::UnsafeAbout`] where one of
+    /// these isn't safe, [`Error::UnsafePoint`] where a point of a contour isn't.
     pub fn try_winding_numbers_into(
         self,
         about: &[IntPoint<I>],
@@ -313,7 +309,8 @@ impl<'a, I: IntNumber> Contours<'a, I> {
             &rebased,
             left.points.spare_capacity_mut(),
             left.offsets.spare_capacity_mut(),
-        )?;
+        )
+        .map_err(|error| error.behind(self.offsets[0]))?;
         // SAFETY: the call has written so many points, and as many offsets as it was given.
         unsafe {
             left.points.set_len(count);
@@ -345,8 +342,7 @@ impl<I: IntNumber> OwnedContours<I> {
         }
     }
 
-    /// A copy of the contours, end to end. [`Error::Unfit`] where they have more points together
-    /// than a `usize` holds, [`Error::NoMemory`] where an allocation fails.
+    /// A copy of the contours, end to end. [`Error::NoMemory`] where an allocation fails.
     pub fn try_from_contours<C: AsRef<[IntPoint<I>]>>(contours: &[C]) -> Result<Self, Error> {
         let count = try_sum(contours.iter().map(|contour| contour.as_ref().len()))?;
         let mut points = with_room(count)?;

@@ -1,6 +1,7 @@
 //! Offsets: one before each part of a list, and one behind the last.
 
 use crate::Error;
+use crate::calls::first_bad_offset;
 use crate::error::answered;
 use crate::memory::{try_reserve, with_room};
 use std::borrow::Cow;
@@ -9,10 +10,19 @@ use std::ops::Range;
 /// Whether the offsets part a list of `count` items: there is one, none is below the one before it,
 /// and the last is at most `count`. The first may be above 0.
 pub fn are_fit(offsets: &[usize], count: usize) -> bool {
-    offsets.is_sorted() && offsets.last().is_some_and(|&last| last <= count)
+    try_fit(offsets, count).is_ok()
 }
 
-/// The offsets of parts with these lengths, from 0 on. [`Error::Unfit`] where the lengths add up to
+/// The place of the first offset that doesn't part a list of `count` items, `None` where there is
+/// no offset.
+pub(super) fn try_fit(offsets: &[usize], count: usize) -> Result<(), Option<usize>> {
+    match first_bad_offset(offsets, count) {
+        None if !offsets.is_empty() => Ok(()),
+        place => Err(place),
+    }
+}
+
+/// The offsets of parts with these lengths, from 0 on. [`Error::BadOffsets`] where the lengths add up to
 /// more than a `usize` holds, [`Error::NoMemory`] where an allocation fails.
 ///
 /// ```
@@ -24,7 +34,9 @@ pub fn try_from_lengths(lengths: impl IntoIterator<Item = usize>) -> Result<Vec<
     let mut end: usize = 0;
     offsets.push(end);
     for length in lengths {
-        end = end.checked_add(length).ok_or(Error::Unfit)?;
+        end = end
+            .checked_add(length)
+            .ok_or(Error::BadOffsets(Some(offsets.len())))?;
         try_reserve(&mut offsets, 1)?;
         offsets.push(end);
     }
@@ -42,7 +54,7 @@ pub fn from_lengths(lengths: impl IntoIterator<Item = usize>) -> Vec<usize> {
 }
 
 /// The offsets of the parts that the ranges name, as a [`buffer`](super::buffer) has them.
-/// [`Error::Unfit`] where a range ends before its start or starts elsewhere than where the one
+/// [`Error::BadOffsets`] where a range ends before its start or starts elsewhere than where the one
 /// before it ends, [`Error::NoMemory`] where an allocation fails. Of no range the offsets are
 /// `[0]`.
 ///
@@ -50,7 +62,7 @@ pub fn from_lengths(lengths: impl IntoIterator<Item = usize>) -> Vec<usize> {
 /// use i_shape::{Error, flat::offsets::try_from_ranges};
 ///
 /// assert_eq!(try_from_ranges(&[2..5, 5..5]), Ok(vec![2, 5, 5]));
-/// assert_eq!(try_from_ranges(&[2..5, 6..7]), Err(Error::Unfit));
+/// assert_eq!(try_from_ranges(&[2..5, 6..7]), Err(Error::BadOffsets(Some(2))));
 /// ```
 pub fn try_from_ranges(ranges: &[Range<usize>]) -> Result<Vec<usize>, Error> {
     let mut end = ranges.first().map_or(0, |range| range.start);
@@ -58,7 +70,7 @@ pub fn try_from_ranges(ranges: &[Range<usize>]) -> Result<Vec<usize>, Error> {
     offsets.push(end);
     for range in ranges {
         if range.start != end || range.end < end {
-            return Err(Error::Unfit);
+            return Err(Error::BadOffsets(Some(offsets.len())));
         }
         end = range.end;
         offsets.push(end);
@@ -76,9 +88,11 @@ pub fn from_ranges(ranges: &[Range<usize>]) -> Vec<usize> {
     answered(try_from_ranges(ranges))
 }
 
-/// The sum of the lengths. [`Error::Unfit`] where a `usize` doesn't hold it.
+/// The sum of the lengths. [`Error::NoMemory`] where a `usize` doesn't hold it.
 pub(super) fn try_sum(mut lengths: impl Iterator<Item = usize>) -> Result<usize, Error> {
-    lengths.try_fold(0, usize::checked_add).ok_or(Error::Unfit)
+    lengths
+        .try_fold(0, usize::checked_add)
+        .ok_or(Error::NoMemory)
 }
 
 /// Appends a part to the items, and its end. It takes no memory where there is room for both.

@@ -1,7 +1,7 @@
 //! Polygons end to end in one list of points.
 
 use super::contours::Contours;
-use super::offsets::{append, are_fit, ranges, try_append_part, try_rebased, try_sum};
+use super::offsets::{append, ranges, try_append_part, try_fit, try_rebased, try_sum};
 use crate::Error;
 use crate::calls::{CleanShapes, clean_shapes, holds, overwritten};
 use crate::error::answered;
@@ -74,7 +74,7 @@ macro_rules! cleaners {
             /// It answers how many polygons these are, n: they end at `out_shapes[n]`, and their
             /// contours at `out_contours[out_shapes[n]]`.
             ///
-            /// [`Error::Unfit`] where `out_points` is shorter than [`points`](Shapes::points),
+            /// [`Error::NoRoom`] where `out_points` is shorter than [`points`](Shapes::points),
             /// `out_contours` than [`contours`](Shapes::contours) or `out_shapes` than
             /// [`shapes`](Shapes::shapes); [`Error::UnsafePoint`] where a point of a contour isn't
             /// safe, also of one before the first polygon; [`Error::NoMemory`] where memory is
@@ -117,16 +117,15 @@ macro_rules! cleaners {
 
 impl<'a, I: IntNumber> Shapes<'a, I> {
     /// The polygons that the offsets `shapes` part the contours into, which the offsets `contours`
-    /// part the points into. What lies outside the offsets isn't read. [`Error::Unfit`] where
-    /// offsets of either level aren't [fit](super::offsets::are_fit).
+    /// part the points into. What lies outside the offsets isn't read. [`Error::BadOffsets`] or
+    /// [`Error::BadShapeOffsets`] where these aren't [fit](super::offsets::are_fit).
     pub fn try_new(
         points: &'a [IntPoint<I>],
         contours: &'a [usize],
         shapes: &'a [usize],
     ) -> Result<Self, Error> {
-        if !are_fit(contours, points.len()) || !are_fit(shapes, contours.len() - 1) {
-            return Err(Error::Unfit);
-        }
+        try_fit(contours, points.len()).map_err(Error::BadOffsets)?;
+        try_fit(shapes, contours.len() - 1).map_err(Error::BadShapeOffsets)?;
         let contours = &contours[..=shapes[shapes.len() - 1]];
         Ok(Shapes {
             points: &points[..contours[contours.len() - 1]],
@@ -211,13 +210,49 @@ impl<'a, I: IntNumber> Shapes<'a, I> {
     cleaners! {
         SIMPLIFY_SHAPES: try_simplified, simplified, try_simplify_into, simplify_into,
             "without zero turns";
-        DESPIKE_SHAPES: try_despiked, despiked, try_despike_into, despike_into,
-            "without the points at which a contour turns back or stands still";
+        DESPIKE_SHAPES: try_spikes_removed, spikes_removed, try_remove_spikes_into, remove_spikes_into,
+            "without spikes: a contour that has none stays as it is, also with points that repeat, and of the others nothing that turns back or stands still is left";
         CANONICAL_SHAPES: try_canonical, canonical, try_canonical_into, canonical_into,
             "in canonical form: that of each contour, the holes of each polygon sorted, and then the polygons";
         CANONICAL_UNORIENTED_SHAPES: try_canonical_unoriented, canonical_unoriented,
             try_canonical_unoriented_into, canonical_unoriented_into,
             "in canonical form, for contours that may be read backwards: by the lesser of the forms of both ways";
+    }
+
+    /// The polygons without spikes.
+    #[deprecated(note = "its name is `try_spikes_removed`")]
+    pub fn try_despiked(self) -> Result<OwnedShapes<I>, Error> {
+        self.try_spikes_removed()
+    }
+
+    /// The polygons without spikes.
+    #[deprecated(note = "its name is `spikes_removed`")]
+    #[track_caller]
+    pub fn despiked(self) -> OwnedShapes<I> {
+        self.spikes_removed()
+    }
+
+    /// Writes the polygons without spikes.
+    #[deprecated(note = "its name is `try_remove_spikes_into`")]
+    pub fn try_despike_into(
+        self,
+        out_points: &mut [IntPoint<I>],
+        out_contours: &mut [usize],
+        out_shapes: &mut [usize],
+    ) -> Result<usize, Error> {
+        self.try_remove_spikes_into(out_points, out_contours, out_shapes)
+    }
+
+    /// Writes the polygons without spikes.
+    #[deprecated(note = "its name is `remove_spikes_into`")]
+    #[track_caller]
+    pub fn despike_into(
+        self,
+        out_points: &mut [IntPoint<I>],
+        out_contours: &mut [usize],
+        out_shapes: &mut [usize],
+    ) -> usize {
+        self.remove_spikes_into(out_points, out_contours, out_shapes)
     }
 
     /// The contours between two offsets of polygons.
@@ -249,7 +284,8 @@ impl<'a, I: IntNumber> Shapes<'a, I> {
             left.points.spare_capacity_mut(),
             left.contours.spare_capacity_mut(),
             left.shapes.spare_capacity_mut(),
-        )?;
+        )
+        .map_err(|error| error.behind(self.contours[self.shapes[0]]))?;
         // SAFETY: the call has written an offset behind each polygon and each contour, and one
         // before them, and the points.
         unsafe {
@@ -285,8 +321,7 @@ impl<I: IntNumber> OwnedShapes<I> {
         }
     }
 
-    /// A copy of the polygons, end to end. [`Error::Unfit`] where they have more contours or points
-    /// together than a `usize` holds, [`Error::NoMemory`] where an allocation fails.
+    /// A copy of the polygons, end to end. [`Error::NoMemory`] where an allocation fails.
     pub fn try_from_shapes<S: AsRef<[IntContour<I>]>>(shapes: &[S]) -> Result<Self, Error> {
         let contour_count = try_sum(shapes.iter().map(|shape| shape.as_ref().len()))?;
         let count = try_sum(shapes.iter().flat_map(AsRef::as_ref).map(Vec::len))?;

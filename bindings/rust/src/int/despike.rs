@@ -2,6 +2,7 @@
 //! it goes straight on stay.
 
 use super::cleaned::cleaned;
+use super::count::PointsCount;
 use super::shape::{IntContour, IntShape, IntShapes};
 use super::simple::each;
 use super::{IntNumber, IntPoint};
@@ -49,7 +50,7 @@ pub trait DeSpikeContour<I: IntNumber> {
 
     /// Writes what [`try_despiked_contour`](DeSpikeContour::try_despiked_contour) answers to the
     /// front of `out`, and answers how many points these are, 0 where the contour collapses.
-    /// [`Error::Unfit`] where `out` is shorter than the contour. Of a contour with nothing to
+    /// [`Error::NoRoom`] where `out` is shorter than the contour. Of a contour with nothing to
     /// remove or with fewer than three points it takes no memory.
     fn try_despike_into(&self, out: &mut [IntPoint<I>]) -> Result<usize, Error>;
 
@@ -113,13 +114,13 @@ pub trait DeSpikeShape<I: IntNumber> {
 
 impl<I: IntNumber> DeSpikeShape<I> for [IntContour<I>] {
     fn try_has_no_spikes(&self) -> Result<bool, Error> {
-        each(self, |contour| contour.try_has_no_spikes())
+        each(self, Vec::len, |contour| contour.try_has_no_spikes())
     }
 
     fn try_despiked_shape(&self) -> Result<Option<IntShape<I>>, Error> {
         let left = OwnedShapes::try_from_shapes(&[self])?
             .as_shapes()
-            .try_despiked()?;
+            .try_spikes_removed()?;
         Ok(left.try_to_shapes()?.pop())
     }
 }
@@ -158,13 +159,17 @@ pub trait DeSpikeShapes<I: IntNumber> {
 
 impl<I: IntNumber> DeSpikeShapes<I> for [IntShape<I>] {
     fn try_has_no_spikes(&self) -> Result<bool, Error> {
-        each(self, |shape| shape.try_has_no_spikes())
+        each(
+            self,
+            |shape| shape.points_count(),
+            |shape| shape.try_has_no_spikes(),
+        )
     }
 
     fn try_despiked_shapes(&self) -> Result<IntShapes<I>, Error> {
         OwnedShapes::try_from_shapes(self)?
             .as_shapes()
-            .try_despiked()?
+            .try_spikes_removed()?
             .try_to_shapes()
     }
 }

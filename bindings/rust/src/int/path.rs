@@ -2,7 +2,7 @@
 
 use super::area::Area;
 use super::{IntNumber, IntPoint, WideIntNumber};
-use crate::calls::{contains, holds, winding};
+use crate::calls::{contains_by, holds, winding};
 use crate::error::answered;
 use crate::flat::Contours;
 use crate::{Error, FillRule, Location};
@@ -60,8 +60,10 @@ pub trait ContourExtension<I: IntNumber> {
     }
 
     /// Whether an odd number of edges pass the height of `point` strictly to the right of it.
-    /// [`Error::UnsafePoint`] where that point or one of the contour isn't safe.
-    fn try_contains_point(&self, point: IntPoint<I>) -> Result<bool, Error>;
+    /// It refuses as [`try_winding_number`](ContourExtension::try_winding_number) does.
+    fn try_contains_point(&self, point: IntPoint<I>) -> Result<bool, Error> {
+        self.try_contains_by(point, FillRule::EvenOdd)
+    }
 
     /// Whether the contour contains the point, as
     /// [`try_contains_point`](ContourExtension::try_contains_point) says.
@@ -76,7 +78,8 @@ pub trait ContourExtension<I: IntNumber> {
 
     /// How often the contour winds about `point`, to the left: how many edges pass its height
     /// upwards and strictly to the right of it, less those that do so downwards.
-    /// [`Error::UnsafePoint`] where that point or one of the contour isn't safe.
+    /// [`Error::UnsafeAbout`] where that point isn't safe, [`Error::UnsafePoint`] where one of the
+    /// contour isn't.
     fn try_winding_number(&self, point: IntPoint<I>) -> Result<isize, Error>;
 
     /// How often the contour winds about `point`, as
@@ -92,9 +95,7 @@ pub trait ContourExtension<I: IntNumber> {
 
     /// Whether a fill rule fills `point`. It refuses as
     /// [`try_winding_number`](ContourExtension::try_winding_number) does.
-    fn try_contains_by(&self, point: IntPoint<I>, rule: FillRule) -> Result<bool, Error> {
-        Ok(rule.fills(self.try_winding_number(point)?))
-    }
+    fn try_contains_by(&self, point: IntPoint<I>, rule: FillRule) -> Result<bool, Error>;
 
     /// Whether a fill rule fills `point`.
     ///
@@ -106,9 +107,10 @@ pub trait ContourExtension<I: IntNumber> {
         answered(self.try_contains_by(point, rule))
     }
 
-    /// How often the contour winds about each of the points. [`Error::UnsafePoint`] where one of
-    /// them or of the contour isn't safe, [`Error::NoMemory`] where there is none for the answer.
-    /// It takes more memory where that saves time, and does without where it is refused.
+    /// How often the contour winds about each of the points. It refuses as
+    /// [`try_winding_number`](ContourExtension::try_winding_number) does, and with
+    /// [`Error::NoMemory`] where there is none for the answer. It takes more memory where that
+    /// saves time, and does without where it is refused.
     fn try_winding_numbers(&self, points: &[IntPoint<I>]) -> Result<Vec<isize>, Error>;
 
     /// How often the contour winds about each of the points.
@@ -141,8 +143,8 @@ pub trait ContourExtension<I: IntNumber> {
         answered(self.try_contains_points(points, rule))
     }
 
-    /// Whether `point` lies on an edge, its ends included. [`Error::UnsafePoint`] where that point
-    /// or one of the contour isn't safe.
+    /// Whether `point` lies on an edge, its ends included. It refuses as
+    /// [`try_winding_number`](ContourExtension::try_winding_number) does.
     fn try_is_on_boundary(&self, point: IntPoint<I>) -> Result<bool, Error>;
 
     /// Whether `point` lies on an edge, its ends included.
@@ -181,8 +183,8 @@ impl<I: IntNumber> ContourExtension<I> for [IntPoint<I>] {
         Ok(self.try_area_two()? <= I::Wide::ZERO)
     }
 
-    fn try_contains_point(&self, point: IntPoint<I>) -> Result<bool, Error> {
-        contains(self, point)
+    fn try_contains_by(&self, point: IntPoint<I>, rule: FillRule) -> Result<bool, Error> {
+        contains_by(self, point, rule)
     }
 
     fn try_winding_number(&self, point: IntPoint<I>) -> Result<isize, Error> {

@@ -2,6 +2,7 @@
 //! still. Nothing here looks at self-intersections, or at where holes lie.
 
 use super::cleaned::cleaned;
+use super::count::PointsCount;
 use super::shape::{IntContour, IntShape, IntShapes};
 use super::{IntNumber, IntPoint};
 use crate::Error;
@@ -74,7 +75,7 @@ pub trait SimpleContour<I: IntNumber> {
     }
 
     /// Writes what [`try_simplified`](SimpleContour::try_simplified) answers to the front of `out`,
-    /// and answers how many points these are, 0 where the contour collapses. [`Error::Unfit`] where
+    /// and answers how many points these are, 0 where the contour collapses. [`Error::NoRoom`] where
     /// `out` is shorter than the contour. Of a contour that is clean or has fewer than three points
     /// it takes no memory.
     fn try_simplify_into(&self, out: &mut [IntPoint<I>]) -> Result<usize, Error>;
@@ -186,7 +187,7 @@ pub trait SimpleShape<I: IntNumber> {
 
 impl<I: IntNumber> SimpleShape<I> for [IntContour<I>] {
     fn try_is_simple(&self) -> Result<bool, Error> {
-        each(self, |contour| contour.try_is_simple())
+        each(self, Vec::len, |contour| contour.try_is_simple())
     }
 
     fn try_simplified(&self) -> Result<Option<IntShape<I>>, Error> {
@@ -229,7 +230,11 @@ pub trait SimpleShapes<I: IntNumber> {
 
 impl<I: IntNumber> SimpleShapes<I> for [IntShape<I>] {
     fn try_is_simple(&self) -> Result<bool, Error> {
-        each(self, |shape| shape.try_is_simple())
+        each(
+            self,
+            |shape| shape.points_count(),
+            |shape| shape.try_is_simple(),
+        )
     }
 
     fn try_simplified(&self) -> Result<IntShapes<I>, Error> {
@@ -318,13 +323,27 @@ impl ContourSimplifier {
     }
 }
 
+/// What is answered of each item. An error counts the points of the items before it, too.
+pub(super) fn of_each<T, U>(
+    items: &[T],
+    points_count: impl Fn(&T) -> usize,
+    ask: impl Fn(&T) -> Result<U, Error>,
+) -> impl Iterator<Item = Result<U, Error>> {
+    items.iter().scan(0, move |before, item| {
+        let answer = ask(item).map_err(|error| error.behind(*before));
+        *before += points_count(item);
+        Some(answer)
+    })
+}
+
 /// Whether each item passes a test; the first refusal or `false` ends it.
 pub(super) fn each<T>(
     items: &[T],
+    points_count: impl Fn(&T) -> usize,
     test: impl Fn(&T) -> Result<bool, Error>,
 ) -> Result<bool, Error> {
-    for item in items {
-        if !test(item)? {
+    for passes in of_each(items, points_count, test) {
+        if !passes? {
             return Ok(false);
         }
     }

@@ -2,6 +2,7 @@
 //! that, and which lie on an edge.
 
 use super::shape::IntContour;
+use super::simple::of_each;
 use super::{IntNumber, IntPoint};
 use crate::error::answered;
 use crate::flat::OwnedContours;
@@ -11,9 +12,9 @@ use crate::{Error, FillRule, Location};
 /// How often the contours of a shape wind about points together, which points a fill rule fills by
 /// that, and which lie on an edge.
 ///
-/// Each call refuses with [`Error::UnsafePoint`] where a point of the shape or one that is asked
-/// about isn't safe. Those about many points copy the contours, and refuse with
-/// [`Error::NoMemory`] where an allocation fails.
+/// Each call refuses with [`Error::UnsafeAbout`] where a point that is asked about isn't safe, and
+/// with [`Error::UnsafePoint`] where one of the shape isn't. Those about many points copy the
+/// contours, and refuse with [`Error::NoMemory`] where an allocation fails.
 pub trait ShapeExtension<I: IntNumber> {
     /// The sum of the contours' winding numbers about `point`.
     fn try_winding_number(&self, point: IntPoint<I>) -> Result<isize, Error>;
@@ -108,11 +109,9 @@ pub trait ShapeExtension<I: IntNumber> {
 impl<I: IntNumber> ShapeExtension<I> for [IntContour<I>] {
     fn try_winding_number(&self, point: IntPoint<I>) -> Result<isize, Error> {
         if !point.is_in_safe_range() {
-            return Err(Error::UnsafePoint);
+            return Err(Error::UnsafeAbout(0));
         }
-        self.iter()
-            .map(|contour| contour.try_winding_number(point))
-            .sum()
+        of_each(self, Vec::len, |contour| contour.try_winding_number(point)).sum()
     }
 
     fn try_winding_numbers(&self, points: &[IntPoint<I>]) -> Result<Vec<isize>, Error> {
@@ -133,12 +132,11 @@ impl<I: IntNumber> ShapeExtension<I> for [IntContour<I>] {
 
     fn try_is_on_boundary(&self, point: IntPoint<I>) -> Result<bool, Error> {
         if !point.is_in_safe_range() {
-            return Err(Error::UnsafePoint);
+            return Err(Error::UnsafeAbout(0));
         }
         // each contour is asked, whatever those before it answer, whether its points are safe
-        self.iter().try_fold(false, |is_on, contour| {
-            Ok(contour.try_is_on_boundary(point)? || is_on)
-        })
+        of_each(self, Vec::len, |contour| contour.try_is_on_boundary(point))
+            .try_fold(false, |is_on, is_on_it| Ok(is_on_it? || is_on))
     }
 
     fn try_locate(&self, points: &[IntPoint<I>], rule: FillRule) -> Result<Vec<Location>, Error> {

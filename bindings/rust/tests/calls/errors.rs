@@ -19,7 +19,7 @@ at_each_width!(
     batches_with_an_unsafe_point,
     points_asked_about,
     slices_that_are_too_short,
-    offsets_that_are_unfit,
+    offsets_that_are_bad,
     contours_without_a_point,
     nothing_is_written
 );
@@ -49,7 +49,7 @@ fn spoilt<I: Number>() -> IntContour<I> {
 }
 
 fn contours_with_an_unsafe_point<I: Number>() {
-    let error = Error::UnsafePoint;
+    let error = Error::UnsafePoint(3);
     let (given, inside) = (spoilt::<I>(), point::<I>([1, 1]));
     let mut out = given.clone();
     refuses!(error, given, try_is_simple, is_simple);
@@ -119,7 +119,7 @@ fn contours_with_an_unsafe_point<I: Number>() {
 }
 
 fn shapes_with_an_unsafe_point<I: Number>() {
-    let error = Error::UnsafePoint;
+    let error = Error::UnsafePoint(4 + 3);
     let shape: IntShape<I> = vec![contour(&SQUARE), spoilt()];
     refuses!(error, shape, try_is_simple, is_simple);
     refuses!(error, shape, try_simplified, simplified);
@@ -168,6 +168,7 @@ fn shapes_with_an_unsafe_point<I: Number>() {
     refuses!(error, left, try_remove_spikes, remove_spikes);
     assert_eq!(left, shape);
 
+    let error = Error::UnsafePoint(4 + 4 + 3);
     let list = vec![vec![contour(&SQUARE)], shape];
     refuses!(error, list, try_is_simple, is_simple);
     refuses!(error, list, try_simplified, simplified);
@@ -182,9 +183,14 @@ fn shapes_with_an_unsafe_point<I: Number>() {
 }
 
 fn batches_with_an_unsafe_point<I: Number>() {
-    let error = Error::UnsafePoint;
+    let error = Error::UnsafePoint(3);
     let points = spoilt::<I>();
     let mut out = (points.clone(), [0; 2], [0; 2]);
+    // an error counts the points before the first contour, too
+    let behind = Contours::new(&points, &[2, 5]);
+    refuses!(error, behind, try_simplified, simplified);
+    let behind = Shapes::new(&points, &[0, 2, 5], &[1, 2]);
+    refuses!(error, behind, try_simplified, simplified);
     let contours = Contours::new(&points, &[0, 5]);
     refuses!(error, contours, try_simplified, simplified);
     refuses!(error, contours, try_despiked, despiked);
@@ -265,7 +271,7 @@ fn batches_with_an_unsafe_point<I: Number>() {
 
     let shapes = Shapes::new(&points, &[0, 5], &[0, 1]);
     refuses!(error, shapes, try_simplified, simplified);
-    refuses!(error, shapes, try_despiked, despiked);
+    refuses!(error, shapes, try_spikes_removed, spikes_removed);
     refuses!(error, shapes, try_canonical, canonical);
     refuses!(
         error,
@@ -286,8 +292,8 @@ fn batches_with_an_unsafe_point<I: Number>() {
     refuses!(
         error,
         shapes,
-        try_despike_into,
-        despike_into,
+        try_remove_spikes_into,
+        remove_spikes_into,
         points,
         contours,
         ends
@@ -313,7 +319,7 @@ fn batches_with_an_unsafe_point<I: Number>() {
 }
 
 fn points_asked_about<I: Number>() {
-    let error = Error::UnsafePoint;
+    let error = Error::UnsafeAbout(0);
     let given = contour::<I>(&SQUARE);
     let outside = IntPoint::new(I::ABOVE, I::ZERO);
     refuses!(error, given, try_contains_point, contains_point, outside);
@@ -355,7 +361,7 @@ fn points_asked_about<I: Number>() {
 }
 
 fn slices_that_are_too_short<I: Number>() {
-    let error = Error::Unfit;
+    let error = Error::NoRoom;
     let given = contour::<I>(&STRAIGHT);
     let mut short = contour::<I>(&SQUARE);
     refuses!(error, given, try_simplify_into, simplify_into, &mut short);
@@ -432,8 +438,8 @@ fn slices_that_are_too_short<I: Number>() {
         refuses!(
             error,
             shapes,
-            try_despike_into,
-            despike_into,
+            try_remove_spikes_into,
+            remove_spikes_into,
             points,
             contours,
             ends
@@ -459,29 +465,42 @@ fn slices_that_are_too_short<I: Number>() {
     }
 }
 
-fn offsets_that_are_unfit<I: Number>() {
+fn offsets_that_are_bad<I: Number>() {
     let points = contour::<I>(&SQUARE);
-    let unfit: [&[usize]; 4] = [&[], &[0, 5], &[3, 1, 4], &[5]];
-    for offsets in unfit {
+    let bad: [(&[usize], _); 4] = [
+        (&[], None),
+        (&[0, 5], Some(1)),
+        (&[3, 1, 4], Some(1)),
+        (&[5], Some(0)),
+    ];
+    for (offsets, place) in bad {
+        let error = Error::BadOffsets(place);
         let answer = Contours::try_new(&points, offsets);
-        refuses(Error::Unfit, answer, || Contours::new(&points, offsets));
+        refuses(error, answer, || Contours::new(&points, offsets));
         let answer = Shapes::try_new(&points, offsets, &[0]);
-        refuses(Error::Unfit, answer, || Shapes::new(&points, offsets, &[0]));
+        refuses(error, answer, || Shapes::new(&points, offsets, &[0]));
     }
-    let unfit: [&[usize]; 4] = [&[], &[0, 3], &[2, 1], &[3]];
-    for shapes in unfit {
+    let bad: [(&[usize], _); 4] = [
+        (&[], None),
+        (&[0, 3], Some(1)),
+        (&[2, 1], Some(1)),
+        (&[3], Some(0)),
+    ];
+    for (shapes, place) in bad {
         let answer = Shapes::try_new(&points, &[0, 2, 4], shapes);
-        refuses(Error::Unfit, answer, || {
+        refuses(Error::BadShapeOffsets(place), answer, || {
             Shapes::new(&points, &[0, 2, 4], shapes)
         });
     }
     use i_shape::flat::offsets::{from_lengths, from_ranges, try_from_lengths, try_from_ranges};
     let lengths = [usize::MAX, 2];
-    refuses(Error::Unfit, try_from_lengths(lengths), || {
-        from_lengths(lengths)
-    });
+    refuses(
+        Error::BadOffsets(Some(2)),
+        try_from_lengths(lengths),
+        || from_lengths(lengths),
+    );
     let apart = [0..2, 3..4];
-    refuses(Error::Unfit, try_from_ranges(&apart), || {
+    refuses(Error::BadOffsets(Some(2)), try_from_ranges(&apart), || {
         from_ranges(&apart)
     });
 }
@@ -529,14 +548,19 @@ fn nothing_is_written<I: Number>() {
 #[test]
 fn errors_have_texts() {
     let errors = [
-        Error::UnsafePoint,
-        Error::Unfit,
+        Error::UnsafePoint(1),
+        Error::UnsafeAbout(1),
+        Error::BadOffsets(Some(1)),
+        Error::BadOffsets(None),
+        Error::BadShapeOffsets(Some(1)),
+        Error::BadShapeOffsets(None),
+        Error::NoRoom,
         Error::NoMemory,
         Error::NoPoint,
     ];
     let texts: Vec<_> = errors.iter().map(Error::to_string).collect();
     assert!(texts.iter().all(|text| !text.is_empty()));
-    assert!((1..4).all(|k| !texts[..k].contains(&texts[k])));
+    assert!((1..9).all(|k| !texts[..k].contains(&texts[k])));
     let error: Box<dyn std::error::Error + Send + Sync> = Error::NoMemory.into();
     assert_eq!(error.to_string(), "out of memory");
     assert!(OwnedShapes::<i32>::try_from_shapes(&[] as &[IntShape<i32>]).is_ok());

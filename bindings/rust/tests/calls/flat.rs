@@ -271,11 +271,10 @@ fn polygons_cleaned<I: Number>() {
         .canonical_unoriented();
     assert_eq!(polygons.canonical_unoriented(), unoriented);
     let despiked = shapes::<I>(&[&[&STRAIGHT, &HOLE], &[], &[&SQUARE]]);
-    assert_eq!(polygons.despiked().to_shapes(), despiked);
-    assert_eq!(
-        polygons.try_despiked(),
-        Ok(OwnedShapes::from_shapes(&despiked))
-    );
+    assert_eq!(polygons.spikes_removed().to_shapes(), despiked);
+    #[allow(deprecated)]
+    let by_old_name = polygons.try_despiked();
+    assert_eq!(by_old_name, Ok(OwnedShapes::from_shapes(&despiked)));
     assert_eq!(Shapes::<I>::new(&[], &[0], &[0]).simplified().shapes(), [0]);
 }
 
@@ -288,8 +287,8 @@ fn polygons_into_slices<I: Number>() {
             |shapes, points, contours, ends| shapes.simplify_into(points, contours, ends),
         ),
         (
-            |shapes| shapes.despiked(),
-            |shapes, points, contours, ends| shapes.despike_into(points, contours, ends),
+            |shapes| shapes.spikes_removed(),
+            |shapes, points, contours, ends| shapes.remove_spikes_into(points, contours, ends),
         ),
         (
             |shapes| shapes.canonical(),
@@ -401,15 +400,18 @@ fn offsets_made_of_lengths_and_ranges() {
     assert_eq!(offsets::from_lengths([]), [0]);
     assert_eq!(
         offsets::try_from_lengths([usize::MAX, 1]),
-        Err(Error::Unfit)
+        Err(Error::BadOffsets(Some(2)))
     );
     assert_eq!(offsets::from_ranges(&[0..5, 5..5, 5..8]), [0, 5, 5, 8]);
     assert_eq!(offsets::from_ranges(&[]), [0]);
-    assert_eq!(offsets::try_from_ranges(&[0..5, 4..8]), Err(Error::Unfit));
+    assert_eq!(
+        offsets::try_from_ranges(&[0..5, 4..8]),
+        Err(Error::BadOffsets(Some(2)))
+    );
     let (start, end) = (5, 2);
     assert_eq!(
         offsets::try_from_ranges(&[0..5, start..end]),
-        Err(Error::Unfit)
+        Err(Error::BadOffsets(Some(2)))
     );
 }
 

@@ -16,7 +16,7 @@ _MOST = 2 ** 31 - 1
 
 
 def open_rings(points: npt.ArrayLike, offsets: npt.ArrayLike) -> Rings:
-    """Return rings without the first point that stands at the end again.
+    """Return rings without the repeated first point at their end.
 
     GeoArrow, shapely, GeoJSON and WKT repeat it. A ring whose last point is
     another one, or that has just one point, stays as it is.
@@ -126,5 +126,5 @@ def narrow_offsets(offsets: npt.ArrayLike) -> npt.NDArray[np.int32]:
     if strange.any():
         place = int(strange.argmax())
         raise OffsetsError(f"offsets[{place}] is {wide[place]}, and not"
-                           " between 0 and 2**31 - 1")
+                           " between 0 and 2**31 - 1", place)
     return wide.astype(np.int32)

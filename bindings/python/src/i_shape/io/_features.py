@@ -8,7 +8,7 @@ from typing import Any, NamedTuple, Optional, Tuple
 import numpy as np
 import numpy.typing as npt
 
-from .._library import Array, as_offsets, raise_offsets
+from .._library import Array, as_offsets, check_offsets
 from .._polygons import Polygons, Triple
 
 
@@ -63,7 +63,7 @@ class OtherGeometryError(FeatureError):
 
 
 class Place(NamedTuple):
-    """Where a point stands: each index counts within the part before it."""
+    """The position of a point: each index counts within the part before it."""
 
     feature: int
     polygon: int
@@ -187,9 +187,7 @@ def as_plane_points(points: Any) -> Array:
 def _parting(offsets: Any, limit: int, name: str, of: str) -> Array:
     """Offsets that part so many items."""
     found = as_offsets(offsets, name)
-    if (found[0] < 0 or found[-1] > limit
-            or (found[1:] < found[:-1]).any()):
-        raise_offsets(found, limit, name, of)
+    check_offsets(found, limit, name, of)
     return found
 
 

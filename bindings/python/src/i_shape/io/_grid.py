@@ -25,7 +25,7 @@ def _is_finite(number: float) -> bool:
 
 @dataclass(frozen=True)
 class Grid:
-    """Where whole numbers lie among floats: k stands for origin + k * step.
+    """The position of whole numbers among floats: k means origin + k * step.
 
     Attributes
     ----------
