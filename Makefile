@@ -14,13 +14,13 @@ TO_MAN = $(DESTDIR)$(MANDIR)/man1
 C_OUT := bindings/c/out$(if $(TARGET)$(CPU),/$(TARGET)$(if $(TARGET),$(if $(CPU),-))$(CPU))
 PROGRAM := crates/i_shape_tool_main/out/$(if $(TARGET)$(CPU),$(TARGET)$(CPU)/i_shape_tool,i_shape_tool_main)
 
-.PHONY: test gate help check fmt program c wasm page wheel postgres dist pictures install install-program install-c install-postgres uninstall uninstall-program uninstall-c clean
+.PHONY: test gate help check fmt program c wasm page wheel postgres dist site pictures install install-program install-c install-postgres uninstall uninstall-program uninstall-c clean
 
 # The tests of behaviour, without a proof, in about a minute. What isn't built is skipped.
 test:
 	@python3 .ci/parts.py test
 
-# The whole gate: proves everything, runs all tests, and checks that wrong bodies are refused and refused memory is told. docs/develop/GATE.md says more.
+# The whole gate: proves everything, runs all tests, and checks that wrong bodies are refused and refused memory is told. docs/develop/README.md says more.
 gate:
 	@python3 .ci/parts.py gate
 
@@ -63,11 +63,15 @@ postgres: c
 	@mkdir -p bindings/postgres/out
 	@$(MAKE) -s -C bindings/postgres/out -f ../Makefile I_SHAPE_C_DIR=$(abspath $(C_OUT))
 
-# What a release holds, in dist: docs/develop/RELEASE.md says what that is.
+# What a release holds, in dist: docs/develop/README.md says what that is.
 dist:
 	@rm -rf dist
 	@bash scripts/dist.sh dist
 	@cat dist/SHA256SUMS
+
+# The pages and a reference of the packages as HTML, in docs/out: scripts/site.sh says what it needs.
+site:
+	@bash scripts/site.sh
 
 # The pictures of docs/pictures, by the program.
 pictures: program
@@ -114,4 +118,4 @@ install-postgres: c
 
 # Removes what is built and the kept work of the proofs.
 clean:
-	rm -rf crates/*/out bindings/c/out bindings/js/out bindings/postgres/out bindings/python/out bindings/rust/target examples/page/out dist
+	rm -rf crates/*/out bindings/c/out bindings/js/out bindings/postgres/out bindings/python/out bindings/rust/target docs/out examples/page/out dist

@@ -128,10 +128,10 @@ test_cmake() {
         return
     fi
     make -s install-c PREFIX="$prefix/usr" && ln -s usr/lib "$prefix/lib"
-    test_project 'find_package' static "-DCMAKE_PREFIX_PATH=$prefix" -DI_SHAPE_VERSION=0.1
+    test_project 'find_package' static "-DCMAKE_PREFIX_PATH=$prefix" -DI_SHAPE_VERSION=0.2
     test_project 'add_subdirectory' shared "-DI_SHAPE_FOLDER=$PWD/bindings/c" -DBUILD_SHARED_LIBS=ON
-    ! cmake -S bindings/c/consumer -B "$work/project" "-DCMAKE_PREFIX_PATH=$prefix" -DI_SHAPE_VERSION=0.2 > "$work/log" 2>&1 &&
-        grep -q 'version: 0.1' "$work/log"
+    ! cmake -S bindings/c/consumer -B "$work/project" "-DCMAKE_PREFIX_PATH=$prefix" -DI_SHAPE_VERSION=0.1 > "$work/log" 2>&1 &&
+        grep -q 'version: 0.2' "$work/log"
     count $? 'CMake, find_package: another minor version'
     test_versions
 }
@@ -192,7 +192,7 @@ cpp=("${CXX:-c++}" -std=c++17 -x c++ bindings/c/test.c -x none)
 corners=$'0 0\n4 0\n4 4\n0 4'
 test_names
 test_build
-test_program README.md bindings/c/sample.c "${CC:-cc}" -std=c11
+test_program docs/C.md bindings/c/sample.c "${CC:-cc}" -std=c11
 test_program docs/C.md bindings/c/codes.c "${CC:-cc}" -std=c11
 test_program docs/C.md examples/clean.c "${CC:-cc}" -std=c11
 test_program docs/C.md examples/polygons.c "${CC:-cc}" -std=c11

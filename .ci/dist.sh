@@ -33,6 +33,11 @@ has_modules() {
     bash bindings/js/build.sh --is-built || { [ "$only_built" != --if-built ] && command -v rt > /dev/null; }
 }
 
+# Building the site fails if a link is broken.
+has_site() {
+    [ "$only_built" != --if-built ] && bash scripts/site.sh --has-tools 2> "$work/log"
+}
+
 # The tests of the part $1 follow, if what is asked by the words from $3 on holds; else they are skipped for the reason $2.
 plan() {
     if "${@:3}"; then
@@ -238,6 +243,9 @@ test_wheel() {
     count $? "wheel-$1: its tag and files"
     is_of_manylinux i_shape/libi_shape.so
     count $? "wheel-$1: what its library asks for"
+    [ "$1" = x86_64 ] || return
+    is_of_manylinux i_shape/libi_shape-v2.so && ! cmp -s i_shape/libi_shape-v2.so i_shape/libi_shape.so
+    count $? 'wheel-x86_64: the library for x86-64-v2'
 }
 
 # A program in Python: the examples of the page that the installed wheel holds print what stands below them.
@@ -248,6 +256,14 @@ told = doctest.DocTestRunner().run(doctest.DocTestParser().get_doctest(page, {},
 raise SystemExit(told.failed or not told.attempted)
 '
 
+# A program in Python: that for x86-64-v2 is loaded where the processor has it, and the other one where it hasn't.
+take_library='
+import builtins, io, pathlib, i_shape._library as library
+assert pathlib.Path(library._library._name).name == ("libi_shape-v2.so" if "sse4_2" in open("/proc/cpuinfo").read() else "libi_shape.so")
+builtins.open = lambda path: io.StringIO("flags : fpu sse sse2 ssse3 popcnt cx16 lahf_lm\n")
+assert library._path().name == "libi_shape.so"
+'
+
 # pip takes the wheel of this machine, which answers, and not that of another.
 test_installed() {
     "$python" -m venv --system-site-packages "$work/environment" > "$work/log" 2>&1
@@ -256,6 +272,8 @@ test_installed() {
     cd "$empty" && rm -rf i_shape
     "$work/environment/bin/python" -c "$run_page"
     count $? 'wheel-x86_64: installed, and what its page shows'
+    "$work/environment/bin/python" -c "$take_library"
+    count $? 'wheel-x86_64: the library that the processor takes'
     is_packed wheel-aarch64 || return
     ! "${pip[@]}" "${wheels}_aarch64.whl" > "$work/log" 2>&1 && grep -q 'not a supported wheel' "$work/log"
     count $? 'wheel-aarch64: refused on x86_64'
@@ -323,7 +341,7 @@ test_rust() {
         src/{base,calls,error,fill_rule,flat,int,lib,location,macros,memory,source}.rs src/flat/{buffer,contours,measures,offsets,shapes}.rs \
         src/int/{area,canonical,cleaned,count,despike,number,path,point,safe_range,shape,simple,winding}.rs src/source/int/resource.rs \
         tests/calls/{contours,errors,flat,main,original_examples,own_points,shapes,shared}.rs tests/refused_memory.rs \
-        lib/linux-{x86_64,aarch64}/{PROOF,libi_shape.a})
+        lib/linux-{x86_64,x86_64-v2,aarch64}/{PROOF,libi_shape.a})
     if ! cargo --version > /dev/null 2>&1; then
         skip 'rust: its tests' 'there is no cargo'
         return
@@ -335,6 +353,8 @@ test_rust() {
     add "$status" 'the crate for Rust'
     [ "$(cargo run --offline --locked --quiet --example corners)" = "$corners" ]
     count $? 'rust: its example'
+    [ "$(RUSTFLAGS='-C target-cpu=x86-64-v2' cargo build --offline --locked --quiet --target x86_64-unknown-linux-gnu --example corners --message-format json | grep -c 'lib/linux-x86_64-v2"')" -gt 0 ]
+    count $? 'rust: the library for x86-64-v2'
 }
 
 parts=()
@@ -351,6 +371,7 @@ for machine in x86_64 aarch64; do
     plan "program-$machine" 'it is not built' has scripts/program/build.sh "$machine"
 done
 plan javascript 'the modules are not built' has_modules
+plan site 'something that scripts/site.sh needs is not there' has_site
 if is_packed linux-x86_64 && is_packed linux-aarch64; then parts+=(rust); else skip rust 'the libraries are not built for it'; fi
 if [ ${#parts[@]} = 0 ]; then
     tell_counts dist

@@ -11,8 +11,8 @@ usage: .ci/pages.py [PAGE..]
 - a block `console`: its commands run in order, as in one shell at the top of a clone named raspochre, each printing what stands below it;
 - the links within the repository: the page is there, and the heading;
 - no line of a merge is left that wasn't ended;
-- docs/develop/GATE.md has an item for each part of the gate;
-- docs/develop/ARCHITECTURE.md names each file of lemmas, and docs/develop/CONTRACTS.md each edit of must-fail/ and no edit that isn't there;
+- a block `antt`: each of its lines stands in a file of definitions;
+- docs/develop/README.md has an item for each part of the gate, and names each edit of must-fail/ and no edit that isn't there;
 - the version: it is that of the header in CHANGELOG.md, in the archive, in the packages for Python and JavaScript and in the crate for Rust.
 
 The sources are proved, compiled and tested by other parts of the gate. A block `console` names what has to be there, as in `console library python`, and is
@@ -139,6 +139,12 @@ def fault_of_clauses(text):
     return f"no source has the line: {strange[0].strip()}" if strange else None
 
 
+def fault_of_definitions(text):
+    """What of a quoted definition stands in no file of definitions."""
+    lines = {line.strip() for name in files(["crates/*/specs/*.antt"]) for line in read(name).splitlines()}
+    return next((f"no definition has the line: {line.strip()}" for line in text.splitlines() if line.strip() and line.strip() not in lines), None)
+
+
 def fault_of_c(text):
     """A file has the whole text, or, of declarations, each of its lines, whatever the space between the words."""
     sources = ["".join(read(name).split()) for name in files(C)]
@@ -217,41 +223,28 @@ def fault_of_version():
     return "; ".join(f"{name} says {text}, the header {version}" for name, text in told.items() if text != version) or None
 
 
-def fault_of_lemmas():
-    """Each file of lemmas is named."""
-    page = read(f"{TOP}/docs/develop/ARCHITECTURE.md")
-    names = {re.sub(r".*/proofs/|\.antt$", "", name) for name in files(["crates/*/proofs/**/*.antt"])} - {"Lib"}
-    names = {part for name in names if not name.endswith(("/Answers", "/Invariants", "/Proof")) for part in name.split("/")}
-    return ", ".join(sorted(f"{name} isn't named" for name in names if f"`{name}`" not in page)) or None
-
-
 def fault_of_gate():
-    """Each part of the gate has an item in docs/develop/GATE.md, and each script of an item is a part."""
+    """Each part of the gate has an item in docs/develop/README.md, and each script of an item is a part."""
     gate = {command.split()[-1] if command.startswith("python3") else command.split()[0] for command in parts.BEFORE_PROOFS + parts.AFTER_PROOFS}
-    shown = set(re.findall(r"^- \*\*.*?\*\*, `(\S+?)(?: [^`]*)?`", read(f"{TOP}/docs/develop/GATE.md"), re.MULTILINE))
+    shown = set(re.findall(r"^- \*\*.*?\*\*, `(\S+?)(?: [^`]*)?`", read(f"{TOP}/docs/develop/README.md"), re.MULTILINE))
     missing = [f"{name} has no item" for name in gate - shown]
     missing += [f"{name} is no part" for name in shown - gate if name.endswith(".sh")]
     return "; ".join(sorted(missing)) or None
 
 
 def fault_of_edits():
-    """The table of docs/develop/CONTRACTS.md has a row for each edit of must-fail/ and no other, and behind `Mutants:` only edits that some crate has."""
-    page = read(f"{TOP}/docs/develop/CONTRACTS.md")
-    edits = {kind: {tuple(name.removesuffix(".edit").split("/")[-3::2]) for name in files([f"crates/*/{kind}/*.edit"])} for kind in ("must-fail", "wrong")}
-    named = set()
-    for names, crate in re.findall(r"^\| (`\w+`(?:, `\w+`)*) \| (core|source|shape|text|tool)\b", page, re.MULTILINE):
-        named |= {("i_shape" if crate == "shape" else f"i_shape_{crate}", name) for name in re.findall(r"`(\w+)`", names)}
-    missing = [f"{crate}'s {name} isn't named" for crate, name in edits["must-fail"] - named]
-    strange = [f"{crate} has no edit {name} in must-fail/" for crate, name in named - edits["must-fail"]]
-    of_any_crate = {name for _, name in edits["must-fail"] | edits["wrong"]}
-    for item in re.findall(r"^  Mutants: (.*(?:\n  .*)*)", page, re.MULTILINE):
-        strange += [f"no crate has an edit {name}" for name in re.findall(r"`(\w+)`", item) if name not in of_any_crate]
-    return "; ".join(sorted(missing + strange)) or None
+    """The table of docs/develop/README.md names each edit of must-fail/ and no other."""
+    edits = {tuple(name.removesuffix(".edit").split("/")[-3::2]) for name in files(["crates/*/must-fail/*.edit"])}
+    rows = re.findall(r"^\| (`\w+`(?:, `\w+`)*) \| (core|source|shape|text)\b", read(f"{TOP}/docs/develop/README.md"), re.MULTILINE)
+    named = {("i_shape" if crate == "shape" else f"i_shape_{crate}", name) for names, crate in rows for name in re.findall(r"`(\w+)`", names)}
+    faults = [f"{crate}'s {name} isn't named" for crate, name in edits - named]
+    return "; ".join(sorted(faults + [f"{crate} has no edit {name} in must-fail/" for crate, name in named - edits])) or None
 
 
 FAULTS = {
     "rust": fault_of_rust,
     "text": fault_of_clauses,
+    "antt": fault_of_definitions,
     "c": fault_of_c,
     "cpp": fault_of_c,
     "js": fault_of_javascript,
@@ -275,8 +268,8 @@ def main():
     pages = [os.path.abspath(name) for name in sys.argv[1:]] or files(PAGES)
     tests = [(os.path.relpath(name, TOP), *test) for name in pages for test in tests_of(name)]
     if not sys.argv[1:]:
-        tests += [("CHANGELOG.md", "the version", [], fault_of_version), ("docs/develop/ARCHITECTURE.md", "lemma files", [], fault_of_lemmas),
-                  ("docs/develop/CONTRACTS.md", "edits", [], fault_of_edits), ("docs/develop/GATE.md", "parts", [], fault_of_gate)]
+        tests += [("CHANGELOG.md", "the version", [], fault_of_version), ("docs/develop/README.md", "edits", [], fault_of_edits),
+                  ("docs/develop/README.md", "parts", [], fault_of_gate)]
     passed, failed, skipped = 0, 0, {}
     for page, place, needed, look in tests:
         missing = next((name for name in needed if not is_at_hand(name)), None)

@@ -3,7 +3,7 @@
 
 usage: .ci/parts.py test|gate|run
 
-test is what `make test` runs, gate what `make gate` runs, and run is both, for .ci/run. docs/develop/GATE.md says what each part shows.
+test is what `make test` runs, gate what `make gate` runs, and run is both, for .ci/run. docs/develop/README.md says what each part shows.
 
 A part is a command. What it counts is its last line `[NAME: ]N passed, M failed[, K skipped]`; one without such a line, or that fails though it counts no
 failure, counts as one failed. Each tells its processor minutes. The last line adds up the counts, and the status is 0 where none failed. Whatever ends this

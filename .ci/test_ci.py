@@ -172,11 +172,20 @@ mine
 ```
 [a](#one-two) [b](README.md#limits) [c](https://example.org)
 """
+
+
+def changed(text, old, new):
+    """The text with each old text replaced, which it has to hold."""
+    assert old in text, old
+    return text.replace(old, new)
+
+
 FAULTS = (
-    "```rust\n" + SAMPLE.replace("(2, 0)", "(3, 0)") + "```\n",
-    "```rust\n" + SAMPLE.replace("/// How many", "/// Just how many") + "```\n",
+    "```rust\n" + changed(SAMPLE, "(2, 0)", "(3, 0)") + "```\n",
+    "```rust\n" + changed(SAMPLE, "/// Returns the", "/// Returns just the") + "```\n",
     f"```rust\nuse std::fmt::Write;\n{SAMPLE}```\n",
-    "```text\n" + CLAUSE.replace("memory", "room") + "```\n",
+    "```text\n" + changed(CLAUSE, "memory", "room") + "```\n",
+    "```antt\nIsZeroTurn a b c = cross a b c ≡ pos 1\n```\n",
     "```cpp\nint nothing(void) {\n```\n",
     "```js\nconsole.log(1);\n```\n",
     "```console\n$ printf 'one\\ntwo\\n'\none\n```\n",
@@ -208,7 +217,8 @@ ghost use Rattle.std.specs.Prelude.{◌≡◌, ◌+◌, ◌<◌};
 /// Twice the number.
 pub fn doubled(number: u32) -> u32
     requires { number < 1000 }
-    ensures { result ≡ number + number }
+    ensures twice { result ≡ number + number }
+    ensures small { result < 2000 }
 {
     number + number
 }
@@ -223,7 +233,9 @@ pub fn quadrupled(number: u32) -> u32
 """
 # Wrong bodies of these: a name, the function, an old and a new text, and what is said of each.
 EDITS = (
-    ("forgets_half", "doubled", "    number + number", "    number", "refused at doubled"),
+    ("forgets_half", "doubled", "    number + number", "    number", "refused at doubled: returns-clause-twice"),
+    ("names_a_clause", "doubled\nclause: twice", "    number + number", "    number", "refused at doubled: returns-clause-twice"),
+    ("names_another", "doubled\nclause: small", "    number + number", "    number", "NOT REFUSED by the clause small of doubled, but at returns-clause-twice"),
     ("turns_nothing", "doubled", "    number + number", "    number.wrapping_add(number)", "NOT REFUSED at doubled"),
     ("turns_the_callee", "quadrupled", "    number + number", "    number", "NOT REFUSED at quadrupled, but at doubled"),
     ("text_is_not_there", "doubled", "number * 2", "number * 3", "BAD EDIT: its old text stands in src/lib.rt 0 times"),
@@ -247,10 +259,11 @@ class WrongTest(Case):
         status, said = self.run_wrong()
         for name, *_, what in EDITS:
             self.assertIn(f"wrong doubles/{name}: {what}", said)
-        self.assertEqual((status, said.splitlines()[-1]), (1, "wrong bodies: 1 passed, 4 failed"))
+        self.assertEqual((status, said.splitlines()[-1]), (1, "wrong bodies: 2 passed, 5 failed"))
         # What passed is noted, and tried again where something changes that it was judged by.
-        note = "wrong doubles/forgets_half: refused at doubled by an earlier run"
-        self.assertIn(note, self.run_wrong("--only", "forgets_half")[1])
+        note = "wrong doubles/forgets_half: refused at doubled by an earlier run: returns-clause-twice"
+        self.assertIn(note, self.run_wrong("--only", "forgets_half", "--write")[1])
+        self.assertIn("\nclause: twice\n", pages.read(f"{self.room}/crates/doubles/wrong/forgets_half.edit"))
         write(f"{self.room}/crates/doubles/src/lib.rt", f"{DOUBLES}// changed\n")
         status, said = self.run_wrong("--only", "forgets_half")
         self.assertNotIn(note, said)

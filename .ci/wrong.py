@@ -1,13 +1,15 @@
 #!/usr/bin/env python3
 """Tries the wrong bodies in crates/NAME/wrong/: the prover must refuse each at the function that it turns.
 
-usage: .ci/wrong.py [--lanes N] [--anew] [--only WORD..]
+usage: .ci/wrong.py [--lanes N] [--anew] [--write] [--only WORD..]
 
 An edit is a file crates/NAME/wrong/WHAT_IT_DOES.edit: a line 'file: src/..', a line 'refused: module::Type::function' with
-the function whose fault it must be, and pairs of lines 'old: TEXT' and 'new: TEXT'. Each old text stands in its file once.
+the function whose fault it must be, a line 'clause: NAME' with the clause that excludes it, and pairs of lines 'old: TEXT'
+and 'new: TEXT'. Each old text stands in its file once. The line 'clause' may be missing.
 
 Edits are put into a copy of their crate, at most one for each function, and checked together, over what earlier checks
-kept. An edit passes where the prover does not prove its own function; a fault of a function that it calls, or a text that
+kept. An edit passes where the prover leaves a goal of its own function open, and one of these is of the clause that the edit
+names: the goal 'returns-clause-NAME', say, or the goal NAME itself. A fault of a function that it calls, or a text that
 cannot be read, is not enough. Rounds go on until each edit is judged. The last line is 'wrong bodies: N passed, M failed'.
 
 An edit that passed is noted in ~/.cache/raspochre, or below $XDG_CACHE_HOME, by a sum of what it was judged by: the kit's
@@ -16,6 +18,7 @@ below. While none of these changes, it passes again without a check, in any clon
 
 --lanes N      tries the edits of as many crates at once; as many as there are processors where it isn't given
 --anew         tries the edits that are noted too
+--write        writes the line 'clause' into each edit that passes and has none: read it, since it only says what was open
 --only WORD..  tries the edits of these crates, and those whose names contain one of these words
 
 The libraries below a crate whose edits are tried are proved first, where they aren't.
@@ -71,18 +74,20 @@ class Edit:
     """A wrong body, as its file tells it."""
 
     def __init__(self, file):
-        self.crate, self.name = file.split("/")[-3], os.path.basename(file).removesuffix(".edit")
-        self.text, self.function, self.pairs = read(file), None, []
+        self.file, self.crate, self.name = file, file.split("/")[-3], os.path.basename(file).removesuffix(".edit")
+        self.text, self.function, self.clause, self.pairs = read(file), None, None, []
         # the functions beside whose edits it is not tried, and whether it is tried beside none
         self.apart_from, self.is_alone = set(), False
         path = old = None
         lines = [line.partition(":") for line in self.text.splitlines() if line]
-        self.is_well_formed = bool(re.fullmatch("(file |refused |old new )+", "".join(f"{word} " for word, _, _ in lines)))
+        self.is_well_formed = bool(re.fullmatch("(file |refused |clause |old new )+", "".join(f"{word} " for word, _, _ in lines)))
         for word, _, text in lines:
             if word == "file":
                 path = text.strip()
             elif word == "refused":
                 self.function = text.strip()
+            elif word == "clause":
+                self.clause = text.strip()
             elif word == "old":
                 old = text.removeprefix(" ")
             elif word == "new":
@@ -93,7 +98,7 @@ class Edit:
         if not self.function:
             return "it has no line 'refused:'"
         if not self.is_well_formed or not self.pairs or any(not path or not old for path, old, _ in self.pairs):
-            return "its lines are not 'file:', and then pairs of 'old:' and 'new:'"
+            return "its lines are not 'file:', 'refused:', 'clause:', and then pairs of 'old:' and 'new:'"
         for path in {path for path, _, _ in self.pairs}:
             if os.path.normpath(path) != path or not path.startswith("src/") or not os.path.isfile(f"{folder}/{path}"):
                 return f"there is no file {path} of code"
@@ -108,6 +113,17 @@ class Edit:
                 return None, f"its old text stands in {path} {text.count(old)} times, and not once"
             texts[path] = text.replace(old, new)
         return texts, None
+
+    def is_excluded_by(self, goal):
+        """Whether the goal is of the clause that the edit names, or the edit names none."""
+        return self.clause in (None, goal) or goal.endswith(f"-clause-{self.clause}")
+
+    def write_clause(self, goal):
+        """Writes into its file that it is excluded by the clause that this goal is of."""
+        self.clause = goal.rpartition("-clause-")[2]
+        self.text = re.sub(r"^(refused:.*\n)", rf"\1clause: {self.clause}\n", self.text, count=1, flags=re.M)
+        with open(self.file, "w", encoding="utf-8") as out:
+            out.write(self.text)
 
     def stays_inside(self, folder):
         """Whether each old text lies in the function itself, so that it can turn no other. A constant can, where others read it."""
@@ -143,6 +159,13 @@ class Found:
         """Returns what the errors in the function's own proof say."""
         own = rf"(?:\./)?proofs/{re.escape(function.replace('::', '/'))}/\w+\.antt:\d+:\d+: error: (.*)"
         return [at[1] for at in (re.match(own, line) for line in self.lines) if at]
+
+    def goals_of(self, function):
+        """Returns the goals of the function's own that are open, but for those whose answers name what is gone."""
+        listed = re.search(r"`search` did not prove ((?:`[^`]+`(?:, )?)+)", self.told[function])
+        answered = [it for it in self.errors_of(function) if not re.search(GONE, it)]
+        named = [it[1] for it in (re.match(r"`([^`]+)`:", it) for it in answered) if it]
+        return list(dict.fromkeys([*re.findall(r"`([^`]+)`", listed[1] if listed else ""), *named]))
 
     def unread(self, paths):
         """Returns a line that tells that the code in one of these files could not be read, or None."""
@@ -193,12 +216,13 @@ class Notes:
         judges = read(os.path.realpath(__file__)), read(KIT.__file__), kit.st_size, kit.st_mtime_ns, self.stamp
         return f"{NOTES}/{hashlib.sha256(repr((judges, edit.name, edit.text)).encode()).hexdigest()}"
 
-    def has(self, edit):
+    def goals_of(self, edit):
+        """Returns the goals at which the edit was refused, or None where it isn't noted."""
         try:
             os.utime(self.place(edit))
+            return read(self.place(edit)).split()
         except OSError:
-            return False
-        return True
+            return None
 
     def add(self, edits):
         """Notes that these passed, unless a file has changed since the run began, or there is no room for a note."""
@@ -208,7 +232,7 @@ class Notes:
             os.makedirs(NOTES, exist_ok=True)
             for edit in edits:
                 with open(self.place(edit), "w", encoding="utf-8") as note:
-                    note.write(f"{edit.crate}/{edit.name}: refused at {edit.function}\n")
+                    note.write("\n".join(edit.goals))
 
     def drop(self, edit):
         with contextlib.suppress(OSError):
@@ -226,8 +250,8 @@ def sweep_notes():
 class Trial:
     """The wrong bodies of one crate, tried in rounds on one copy of it."""
 
-    def __init__(self, crate, edits):
-        self.crate, self.left, self.notes, self.passed = crate, edits, Notes(crate), []
+    def __init__(self, crate, edits, writes):
+        self.crate, self.left, self.notes, self.writes, self.passed = crate, edits, Notes(crate), writes, []
 
     def sort_out(self, is_anew):
         """Judges the edits that need no check, those that can't be tried and those that are noted, unless all are tried anew, and tells which of the
@@ -235,8 +259,9 @@ class Trial:
         for edit in list(self.left):
             if fault := edit.fault(self.crate.folder):
                 self.judge(edit, f"BAD EDIT: {fault}")
-            elif not is_anew and self.notes.has(edit):
-                self.judge(edit, None, f"refused at {edit.function} by an earlier run")
+            elif not is_anew and (goals := self.notes.goals_of(edit)) is not None:
+                self.refuse(edit, goals, " by an earlier run")
+                self.notes.add([edit])
             elif not edit.stays_inside(self.crate.folder):
                 edit.is_alone = True
         return self
@@ -251,13 +276,19 @@ class Trial:
                     self.look_at(edit, found, len(taken) == 1)
                 self.notes.add(self.passed[known:])
 
-    def judge(self, edit, why_not, told=""):
+    def judge(self, edit, why_not):
         self.left.remove(edit)
-        if why_not:
-            self.notes.drop(edit)
-        else:
-            self.passed.append(edit)
-        tell(edit, why_not or told)
+        self.notes.drop(edit)
+        tell(edit, why_not)
+
+    def refuse(self, edit, goals, when=""):
+        """Takes the edit as refused at these goals."""
+        self.left.remove(edit)
+        self.passed.append(edit)
+        edit.goals = goals
+        tell(edit, f"refused at {edit.function}{when}: {', '.join(goals)}")
+        if self.writes and goals and not edit.clause:
+            edit.write_clause(goals[0])
 
     def lay_round(self, room):
         """Lays a copy of the crate with as many of the edits that are left as can be tried beside one another, and returns those."""
@@ -308,8 +339,10 @@ class Trial:
             self.judge(edit, f"NOT REFUSED at {own}{others}")
         elif found.names_what_is_gone(own):
             self.judge(edit, f"NOT REFUSED at a goal of {own}: its proof names what the edit took away")
+        elif not any(map(edit.is_excluded_by, found.goals_of(own) or [""])):
+            self.judge(edit, f"NOT REFUSED by the clause {edit.clause} of {own}, but at {', '.join(found.goals_of(own))}")
         else:
-            self.judge(edit, None, f"refused at {own}")
+            self.refuse(edit, found.goals_of(own))
 
 
 def is_named(edit, word):
@@ -340,6 +373,7 @@ def main():
     parser = argparse.ArgumentParser(description=__doc__, formatter_class=argparse.RawDescriptionHelpFormatter)
     parser.add_argument("--lanes", type=int, default=processors(), metavar="N")
     parser.add_argument("--anew", action="store_true")
+    parser.add_argument("--write", action="store_true")
     parser.add_argument("--only", nargs="+", default=[], metavar="WORD")
     asked = parser.parse_args()
     if asked.lanes < 1:
@@ -355,7 +389,7 @@ def main():
     for edit in chosen:
         if edit.crate not in listed:
             tell(edit, "BAD EDIT: crates.txt does not list its crate")
-    trials = [Trial(listed[it], edits[it]).sort_out(asked.anew) for it in edits if it in listed]
+    trials = [Trial(listed[it], edits[it], asked.write).sort_out(asked.anew) for it in edits if it in listed]
     noted = sum(len(it.passed) for it in trials)
     open_ones = sorted((it for it in trials if it.left), key=lambda it: -len(it.left))
     # its first call sets a signal's handler, which only the main thread may
@@ -369,6 +403,8 @@ def main():
     sweep_notes()
     if noted:
         print(f"{noted} wrong bodies passed in earlier runs on this machine, and nothing that they were judged by has changed")
+    if unnamed := sum(not it.clause for it in chosen):
+        print(f"{unnamed} wrong bodies name no clause")
     print(f"wrong bodies: {passed} passed, {failed} failed")
     return 1 if failed else 0
 

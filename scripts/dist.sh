@@ -1,11 +1,11 @@
 #!/usr/bin/env bash
 # Packs what a release holds into a folder: the C library for each Linux, in an archive and in a wheel, the program for each, the package for JavaScript, the
-# crate for Rust in source with both libraries, and SHA256SUMS. What isn't built yet is built first; the C library and the program for each processor of their machine. Two runs over one commit give the same bytes:
+# crate for Rust in source with the libraries, the site, and SHA256SUMS. What isn't built yet is built first; the C library and the program for each processor of their machine. Two runs over one commit give the same bytes:
 # names are sorted, and each time is that of the commit, or SOURCE_DATE_EPOCH.
 #
 # usage: dist.sh FOLDER [PART..]
 #
-# A part is linux-x86_64, linux-aarch64, wheel-x86_64, wheel-aarch64, program-x86_64, program-aarch64, javascript or rust. Where none is named, all are packed.
+# A part is linux-x86_64, linux-aarch64, wheel-x86_64, wheel-aarch64, program-x86_64, program-aarch64, javascript, rust or site. Where none is named, all are packed.
 set -euo pipefail
 umask 022
 export LC_ALL=C
@@ -13,7 +13,7 @@ unset MAKEFLAGS MFLAGS
 top=$(cd "$(dirname "$0")/.." && pwd)
 folder=${1:?the folder to pack into}
 shift
-[ $# -gt 0 ] || set -- linux-x86_64 linux-aarch64 wheel-x86_64 wheel-aarch64 program-x86_64 program-aarch64 javascript rust
+[ $# -gt 0 ] || set -- linux-x86_64 linux-aarch64 wheel-x86_64 wheel-aarch64 program-x86_64 program-aarch64 javascript rust site
 version=$("$top/scripts/version.sh")
 SOURCE_DATE_EPOCH=${SOURCE_DATE_EPOCH:-$(git -C "$top" log -1 --format=%ct)}
 export SOURCE_DATE_EPOCH
@@ -59,10 +59,16 @@ pack_linux() {
     pack "$name" "$name.tar.gz"
 }
 
-# The default beside the library for each x86-64, in the folder $1/lib: glibc's loader takes that on a processor that has x86-64-v2.
-add_faster() {
-    local default=$top/bindings/c/out to=$1/lib/glibc-hwcaps/x86-64-v2
+# The library for x86-64-v2, with $default its folder.
+build_default() {
+    default=$top/bindings/c/out
     bash "$top/bindings/c/build.sh"
+}
+
+# It beside the library for each x86-64, in the folder $1/lib: glibc's loader takes that on a processor that has x86-64-v2.
+add_faster() {
+    local to=$1/lib/glibc-hwcaps/x86-64-v2
+    build_default
     mkdir -p "$to"
     cp -P "$default"/libi_shape.so.* "$to"
     print_proof "$default/build.log" > "$1/PROOF.x86-64-v2"
@@ -80,7 +86,9 @@ pack_program() {
 
 pack_wheel() {
     build_library "$1"
-    I_SHAPE_C_DIR=$library WHEEL_SYSTEM=manylinux_2_17 sh "$top/bindings/python/build.sh" "$work/packed" > /dev/null
+    default=''
+    [ "$1" != x86_64 ] || build_default
+    I_SHAPE_C_DIR=$library WHEEL_FASTER=$default WHEEL_SYSTEM=manylinux_2_17 sh "$top/bindings/python/build.sh" "$work/packed" > /dev/null
 }
 
 # As `npm pack` lays it out.
@@ -93,19 +101,33 @@ pack_javascript() {
     pack package "i_shape-$version-javascript.tgz"
 }
 
+# The static library of the folder $2, as that for $1, in the folder $3/lib.
+add_static() {
+    local to=$3/lib/linux-$1
+    mkdir -p "$to"
+    cp "$2/libi_shape.a" "$to"
+    print_proof "$2/build.log" > "$to/PROOF"
+}
+
 # The crate with the library for each machine. The example that it shares with C lies in it.
 pack_rust() {
-    local its=$top/bindings/rust name=i_shape-$version-rust machine to
+    local its=$top/bindings/rust name=i_shape-$version-rust machine
     for machine in x86_64 aarch64; do
         build_library $machine
-        to=$work/$name/lib/linux-$machine
-        mkdir -p "$to"
-        cp "$library/libi_shape.a" "$to"
-        print_proof "$library/build.log" > "$to/PROOF"
+        add_static $machine "$library" "$work/$name"
     done
+    build_default
+    add_static x86_64-v2 "$default" "$work/$name"
     cp -R "$its"/{Cargo.lock,README.md,build.rs,examples,src,tests} "$top/LICENSE" "$work/$name"
     cp "$top/examples/clean.rs" "$work/$name/examples"
     sed 's|"../../examples/clean.rs"|"examples/clean.rs"|' "$its/Cargo.toml" > "$work/$name/Cargo.toml"
+    pack "$name" "$name.tar.gz"
+}
+
+pack_site() {
+    local name=i_shape-$version-site
+    bash "$top/scripts/site.sh"
+    cp -R "$top/docs/out" "$work/$name"
     pack "$name" "$name.tar.gz"
 }
 
@@ -116,6 +138,7 @@ for part; do
     program-x86_64 | program-aarch64) pack_program "${part#program-}" ;;
     javascript) pack_javascript ;;
     rust) pack_rust ;;
+    site) pack_site ;;
     *) echo "dist.sh: what is $part?" >&2 && exit 2 ;;
     esac
 done

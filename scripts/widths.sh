@@ -27,12 +27,13 @@ in_halves() {
 make_module() {
     local proof name
     mkdir -p "$4/src/$3"
-    at_width "$1" "$2" < "$crate/src/$3/i32.rt" > "$4/src/$3/i$1.rt"
+    at_width "$1" "$2" < "$crate/src/$3/i32.rt" | sed '1s|\.$|, made by scripts/widths.sh from those at 32 bits.|' > "$4/src/$3/i$1.rt"
     for proof in "$crate/proofs/$3/i32"/*/*.antt; do
         name=$(dirname "${proof#"$crate/proofs/$3/i32/"}")
         mkdir -p "$4/proofs/$3/i$1/${name%i32}i$1"
         # a proof that names both widths would name one twice at 64 bits
-        sed -E "s/i32/i$1/g; s/\bw32\b/w$1/g; s/\{w64, w64\}/{w64}/" "$proof" > "$4/proofs/$3/i$1/${name%i32}i$1/$(basename "$proof")"
+        sed -E "1i -- Made by scripts/widths.sh from that at 32 bits.
+            s/i32/i$1/g; s/\bw32\b/w$1/g; s/\{w64, w64\}/{w64}/" "$proof" > "$4/proofs/$3/i$1/${name%i32}i$1/$(basename "$proof")"
     done
 }
 

@@ -1,0 +1,38 @@
+#!/usr/bin/env bash
+# Builds the pages and a reference of the packages into docs/out, as HTML with a search box: docs/out/index.html is the first page. It needs Debian's
+# python3-sphinx, python3-myst-parser, python3-breathe, furo, doxygen and python3-numpy, and cargo, but nothing that make builds. It fails if Sphinx warns or
+# a link is broken.
+#
+# usage: site.sh [--has-tools]
+set -euo pipefail
+TOP=$(cd "$(dirname "$0")/.." && pwd)
+export TOP
+{ /usr/bin/python3 -c 'import breathe, furo, myst_parser, numpy, sphinx' && doxygen --version && cargo --version; } > /dev/null || exit
+[ "${1-}" != --has-tools ] || exit 0
+cd "$TOP"
+work=$(mktemp -d)
+trap 'rm -rf "$work"' EXIT
+
+doxygen - > "$work/log" 2>&1 << END
+INPUT = include/i_shape.h include/i_shape.hpp
+INPUT_FILTER = "perl -0p docs/site/comments.pl"
+EXCLUDE_SYMBOLS = i_shape::detail i_shape::PointTraits<* I_SHAPE_CALLS
+GENERATE_HTML = NO
+GENERATE_LATEX = NO
+GENERATE_XML = YES
+OUTPUT_DIRECTORY = "$work/doxygen"
+END
+
+# The crate's build script needs a library; an empty one is enough for documentation.
+mkdir "$work/library" "$work/extra"
+ar rc "$work/library/libi_shape.a"
+I_SHAPE_C_DIR=$work/library cargo doc --quiet --offline --no-deps --manifest-path bindings/rust/Cargo.toml --target-dir "$work/target"
+mv "$work/target/doc" "$work/extra/rust"
+
+mkdir "$work/source"
+ln -s "$TOP"/* "$TOP"/docs/site/{conf.py,*.rst} "$work/source"
+/usr/bin/python3 -m sphinx -q -W --keep-going -b html -d "$work/kept" "$work/source" "$work/html"
+cp "$work/html/README.html" "$work/html/index.html"
+rm -rf docs/out
+mv "$work/html" docs/out
+/usr/bin/python3 docs/site/links.py docs/out
