@@ -1,7 +1,6 @@
 //! How a call under test ended.
 
 use i_shape::ShapeError;
-use std::io;
 use std::process::Abort;
 
 /// Tells that a call begins. The call ends by `ended`.
@@ -11,39 +10,14 @@ pub fn begun(rt: &(impl Abort + Print), name: &str) {
 
 /// Tells how a call ended. The test stops at a refusal for anything but memory.
 pub fn ended<T: Drop>(rt: &(impl Abort + Print), name: &str, outcome: Result<T, ShapeError>) {
-    told(rt, name, outcome).expect(rt, name);
-}
-
-/// Prints `NAME done` or `NAME refused`, and answers the value of a call that was done. The test stops at a refusal for anything
-/// but memory.
-pub fn told<T: Drop>(
-    rt: &(impl Abort + Print),
-    name: &str,
-    outcome: Result<T, ShapeError>,
-) -> io::Result<Option<T>> {
-    match outcome {
-        Ok(value) => {
-            println!(rt; "{name} done")?;
-            Ok(Some(value))
-        }
+    let end = match outcome {
+        Ok(_) => "done",
         Err(error) => {
-            println!(rt; "{name} refused")?;
-            assert_eq!(rt; error, ShapeError::OutOfMemory);
-            Ok(None)
+            assert!(rt; matches!(error, ShapeError::OutOfMemory), "{name}");
+            "refused"
         }
-    }
-}
-
-/// Tells how a call ended that may be refused, and is to take no memory. The test stops where it didn't give `wanted`.
-pub fn told_unrefused<T: Drop + PartialEq>(
-    rt: &(impl Abort + Print),
-    name: &str,
-    outcome: Result<T, ShapeError>,
-    wanted: T,
-) -> io::Result<()> {
-    let value = told(rt, name, outcome)?;
-    assert!(rt; value == Some(wanted), "{name}");
-    Ok(())
+    };
+    println!(rt; "{name} {end}").expect(rt, name);
 }
 
 /// A call, told by its name.
