@@ -43,6 +43,9 @@ pub trait ContourCleaner: Drop {
     /// The cleaner needs no more memory for a contour of that many points.
     ghost has_room: { Self → ℕ → Type 0 };
 
+    /// Contours of fewer points need no memory.
+    ghost fewest: { ℕ };
+
     /// Returns a cleaner that allocates from `alloc`, but not before a contour needs memory.
     fn new(alloc: Global) -> Self;
 
@@ -159,6 +162,9 @@ pub trait ContourCleaner: Drop {
 
     /// Room for a contour is also room for a shorter one.
     ghost fewer: { (cleaner : Self) (m n : ℕ) → m ≤ n → has_room cleaner n → has_room cleaner m };
+
+    /// There is room for a contour that needs no memory.
+    ghost spares: { (cleaner : Self) (n : ℕ) → n < fewest → has_room cleaner n };
 }
 
 /// Removes zero turns.
@@ -172,6 +178,8 @@ impl ContourCleaner for ContourSimplifier {
     ghost picks = { λ P. Sublist };
 
     ghost has_room = { HasRoomToSimplify };
+
+    ghost fewest = { 3 };
 
     fn new(alloc: Global) -> ContourSimplifier {
         ContourSimplifier::new(alloc)
@@ -211,6 +219,8 @@ impl ContourCleaner for ContourSimplifier {
     }
 
     ghost fewer = { Prim.search (rules, arith) };
+
+    ghost spares = { Prim.search (rules, arith) };
 }
 
 /// Removes spikes and repeated points.
@@ -224,6 +234,8 @@ impl ContourCleaner for ContourDeSpiker {
     ghost picks = { λ P. Sublist };
 
     ghost has_room = { HasRoomToDespike };
+
+    ghost fewest = { 4 };
 
     fn new(alloc: Global) -> ContourDeSpiker {
         ContourDeSpiker::new(alloc)
@@ -263,6 +275,8 @@ impl ContourCleaner for ContourDeSpiker {
     }
 
     ghost fewer = { Prim.search (rules, arith) };
+
+    ghost spares = { Prim.search (rules, arith) };
 }
 
 /// Removes spikes and repeated points, but leaves a contour without spikes as it is, with its repeated points.
@@ -281,6 +295,8 @@ impl ContourCleaner for SpikeRemover {
     ghost picks = { λ P. Sublist };
 
     ghost has_room = { λ cleaner. HasRoomToDespike cleaner.de_spiker };
+
+    ghost fewest = { 4 };
 
     fn new(alloc: Global) -> SpikeRemover {
         SpikeRemover {
@@ -322,6 +338,8 @@ impl ContourCleaner for SpikeRemover {
     }
 
     ghost fewer = { Prim.search (rules, arith) };
+
+    ghost spares = { Prim.search (rules, arith) };
 }
 
 /// Brings contours into canonical form.
@@ -340,6 +358,8 @@ impl ContourCleaner for Canonicalizer {
     ghost picks = { λ P. RotatedSublist };
 
     ghost has_room = { λ cleaner. HasRoomToSimplify cleaner.simplifier };
+
+    ghost fewest = { 3 };
 
     fn new(alloc: Global) -> Canonicalizer {
         Canonicalizer {
@@ -377,6 +397,8 @@ impl ContourCleaner for Canonicalizer {
     }
 
     ghost fewer = { Prim.search (rules, arith) };
+
+    ghost spares = { Prim.search (rules, arith) };
 }
 
 /// Brings contours into canonical form without regard to direction.
@@ -395,6 +417,8 @@ impl ContourCleaner for UnorientedCanonicalizer {
     ghost picks = { λ P. SublistEitherWay };
 
     ghost has_room = { λ cleaner. HasRoomToSimplify cleaner.canonicalizer.simplifier };
+
+    ghost fewest = { 3 };
 
     fn new(alloc: Global) -> UnorientedCanonicalizer {
         UnorientedCanonicalizer {
@@ -432,4 +456,6 @@ impl ContourCleaner for UnorientedCanonicalizer {
     }
 
     ghost fewer = { Prim.search (rules, arith) };
+
+    ghost spares = { Prim.search (rules, arith) };
 }
