@@ -41,18 +41,10 @@ unoriented_fewer c l one = elim one.one [
   | inr same ↦ subst (λ d. length d ≤ length c) (sym same) (omega (arith, length-reverse c, canonical_fewer (reverse c) one.backwards one.is_backwards))
 ]
 
--- a clean contour has points, and so has what is left of another
+-- a simple contour has points
 pub simple_points : (c : List Point) → IsSimple c → 0 < length c
 simple_points c s = omega (arith, s.enough)
-
--- what `simplified` leaves of a contour that is not simple has points
-pub simple_left_points : (c e : List Point) → (IsSimple c → ⊥) → SimpleAnswer c (Some e) → 0 < length e
-simple_left_points c e n one = omega (arith, one.enough)
 
 -- a contour without spikes has points
 pub spikeless_points : (c : List Point) → NoSpikes c → 0 < length c
 spikeless_points c s = omega (arith, spikeless_long c s)
-
--- what the removal of spikes leaves of a contour that has some has points
-pub despike_left_points : (c e : List Point) → (NoSpikes c → ⊥) → DespikeAnswer c (Some e) → 0 < length e
-despike_left_points c e n a = omega (arith, (a.cleaned n).enough)

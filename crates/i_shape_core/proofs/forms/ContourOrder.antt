@@ -1,5 +1,5 @@
 -- What comparisons of points and of lists of points tell.
-use Rattle.std.proofs.Common.{◌≡◌, ◌⊎◌, inl, inr, ℤ, ◌<ℤ◌, List, [], ◌∷◌, map, false, true≢false, refl, sym, subst}
+use Rattle.std.proofs.Common.{◌≡◌, inl, inr, ℤ, ◌<ℤ◌, List, [], ◌∷◌, map, false, true≢false, refl, sym, subst}
 use Rattle.std.specs.Cmp.{IsTotalOrder}
 use Rattle.std.specs.Cmp.Lexicographic.{slice_cmp}
 use Rattle.std.specs.Ordering.{MatchOrdering, ordering_then, is_lt, int_cmp}
@@ -55,12 +55,6 @@ module _ {X : Type 0} (cmp : X → X → Ordering) (f : X → List Point) (told 
       go Less t e = absurd (true≢false e)
       go Equal t e = subst (λ c. IsAtMost (f x) c) (sym t) (at_most_refl (f x))
       go Greater t e = t.0
-
-module _ {X : Type 0} (cmp : X → X → Ordering) (f : X → List Point) (told : Tells cmp f IsContourBefore) (x y : X) where
-  -- a contour that is told equal to another or greater is at least that
-  pub told_not_less : (cmp x y ≡ Equal) ⊎ (cmp x y ≡ Greater) → IsAtMost (f y) (f x)
-  told_not_less (inl e) = let t : f x ≡ f y = rw e at (told x y) in subst (λ c. IsAtMost (f y) c) (sym t) (at_most_refl (f y))
-  told_not_less (inr e) = let t = rw e at (told x y) in t.0
 
 -- points are compared by x, and then by y
 module _ {I : Type 0} (value : I → ℤ) (cmp : I → I → Ordering) (order : (a b : I) → cmp a b ≡ int_cmp (value a) (value b)) where
