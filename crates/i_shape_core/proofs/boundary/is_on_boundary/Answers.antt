@@ -1,7 +1,8 @@
 use Rattle.std.proofs.Common.{◌≡◌, ◌<◌, ◌-◌, IsTrue, length, get_or, arith}
 use Rattle.i_shape_core.specs.IntPoint.{point_of, contour_of}
-use Rattle.i_shape_core.proofs.plane.Contours.{read-safe, length-contour}
+use Rattle.i_shape_core.proofs.plane.Contours.{length-contour}
 use Rattle.i_shape_core.proofs.plane.PointLists.{points-length, points-at}
+use Rattle.i_shape_core.proofs.plane.SafeParts.{item_safe}
 use Rattle.i_shape_core.proofs.measure.BoundaryWalk.{none_more, told_none, told_on, from_last, from_next, edge_read}
 use Rattle.i_shape_core.proofs.boundary.is_on_boundary.Goals as goal
 
@@ -16,7 +17,6 @@ returns-in_default g c =
 pub loop-given-init : goal.loop-given-init
 loop-given-init g c =
     let value = g.P.Coordinate.IntNumber.value in
-    let width = g.P.Coordinate.IntNumber.width in
     let point = g.P.ContourPoint.point in
     let points = g.P.ContourPoint.points in
     let whole = c.args.contour.now in
@@ -25,23 +25,13 @@ loop-given-init g c =
     let last : c.to_point-start.result ≡ get_or (points whole) (length (points whole) - 1) c.to_point-start.result =
     rw (count, c.to_point-start.ensures) (points-at point points g.P.ContourPoint.each whole _ c.in-Some.last.now (omega (arith, c.in-Some.ensures.item.3.0)) c.in-Some.ensures.item.1) in
     record {
-      start_safe = read-safe width value (points whole) (length (points whole) - 1) c.to_point-start.result c.requires.points_safe (omega (arith, some)) last;
+      start_safe = item_safe g.P.Coordinate.IntNumber.width g.P.Coordinate.IntNumber.value g.P.ContourPoint.point g.P.ContourPoint.points g.P.ContourPoint.each _ _ _ _ c.requires.points_safe c.to_point-start.ensures (omega (arith, c.in-Some.ensures.item.3.0)) c.in-Some.ensures.item.1;
       from = λ h. from_last value (points whole) c.to_point-start.result some last;
       none = λ j h within on. absurd (omega (arith, h));
     }
 
 pub is_between-requires-clause-end_safe : goal.is_between-requires-clause-end_safe
-is_between-requires-clause-end_safe g c =
-    let value = g.P.Coordinate.IntNumber.value in
-    let width = g.P.Coordinate.IntNumber.width in
-    let point = g.P.ContourPoint.point in
-    let points = g.P.ContourPoint.points in
-    let whole = c.args.contour.now in
-    let count = points-length point points g.P.ContourPoint.each whole in
-    let within : c.loop-given.given-index < length (points whole) = omega (arith, c.loop-given-test.true, count) in
-    let end : c.to_point-end.result ≡ get_or (points whole) c.loop-given.given-index c.to_point-end.result =
-    rw c.to_point-end.ensures (points-at point points g.P.ContourPoint.each whole _ c.given-item.result c.loop-given-test.true c.given-item.is) in
-    read-safe width value (points whole) _ c.to_point-end.result c.requires.points_safe within end
+is_between-requires-clause-end_safe g c = item_safe g.P.Coordinate.IntNumber.width g.P.Coordinate.IntNumber.value g.P.ContourPoint.point g.P.ContourPoint.points g.P.ContourPoint.each _ _ _ _ c.requires.points_safe c.to_point-end.ensures c.loop-given-test.true c.given-item.is
 
 pub returns-then-is_between : goal.returns-then-is_between
 returns-then-is_between g c =
@@ -60,7 +50,6 @@ returns-then-is_between g c =
 pub loop-given-preserved : goal.loop-given-preserved
 loop-given-preserved g c =
     let value = g.P.Coordinate.IntNumber.value in
-    let width = g.P.Coordinate.IntNumber.width in
     let point = g.P.ContourPoint.point in
     let points = g.P.ContourPoint.points in
     let whole = c.args.contour.now in
@@ -71,7 +60,7 @@ loop-given-preserved g c =
     rw c.to_point-end.ensures (points-at point points g.P.ContourPoint.each whole _ c.given-item.result c.loop-given-test.true c.given-item.is) in
     let told = edge_read value (points whole) (point_of value c.args.point) c.loop-given.given-index c.loop-given.start c.to_point-end.result within end (c.loop-given.invariant.from inside) c.is_between.result c.is_between.ensures in
     record {
-      start_safe = read-safe width value (points whole) _ c.to_point-end.result c.requires.points_safe within end;
+      start_safe = item_safe g.P.Coordinate.IntNumber.width g.P.Coordinate.IntNumber.value g.P.ContourPoint.point g.P.ContourPoint.points g.P.ContourPoint.each _ _ _ _ c.requires.points_safe c.to_point-end.ensures c.loop-given-test.true c.given-item.is;
       from = λ h. from_next value (points whole) c.loop-given.given-index c.to_point-end.result h end;
       none = none_more (contour_of value (points whole)) (point_of value c.args.point) c.loop-given.given-index c.loop-given.invariant.none (λ on. let t : IsTrue c.is_between.result = told.1 on in let f = c.if-is_between.false in absurd (cc));
     }

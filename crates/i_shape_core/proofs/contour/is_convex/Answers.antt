@@ -3,8 +3,8 @@ use Rattle.std.proofs.lemmas.Grind.{common_steps}
 use Rattle.i_shape_core.specs.declared.bend.Bend.TheVariants.{Straight, Reversal}
 use Rattle.i_shape_core.specs.IntPoint.{point_of}
 use Rattle.i_shape_core.specs.Convex.{is_same}
-use Rattle.i_shape_core.proofs.plane.Contours.{read-safe}
 use Rattle.i_shape_core.proofs.plane.PointLists.{points-length, points-item}
+use Rattle.i_shape_core.proofs.plane.SafeParts.{item_safe}
 use Rattle.i_shape_core.proofs.walks.Spikes.{found_safe}
 use Rattle.i_shape_core.proofs.convex.BendWalk.{bending_begins, bending_repeat, bending_item, bending_over, clash_item, few_tells, convex_without, convex_alike}
 use Rattle.i_shape_core.proofs.contour.is_convex.Goals as goal
@@ -25,11 +25,7 @@ returns-in_default-last_other g c =
 
 pub sub-edge-requires : goal.sub-edge-requires
 sub-edge-requires g c =
-    let count = points-length g.P.ContourPoint.point g.P.ContourPoint.points g.P.ContourPoint.each c.args.points.now in
-    let some : 0 < length (g.P.ContourPoint.points c.args.points.now) = omega (arith, count, c.in-Some.ensures.item.3.0) in
-    let last : c.to_point-here.result ≡ get_or (g.P.ContourPoint.points c.args.points.now) (length (g.P.ContourPoint.points c.args.points.now) - 1) c.to_point-here.result =
-    rw count (points-item g.P.ContourPoint.point g.P.ContourPoint.points g.P.ContourPoint.each c.args.points.now _ c.in-Some.last.now c.to_point-here.result c.to_point-here.ensures (omega (arith, c.in-Some.ensures.item.3.0)) c.in-Some.ensures.item.1) in
-    let here = read-safe g.P.Coordinate.IntNumber.width g.P.Coordinate.IntNumber.value (g.P.ContourPoint.points c.args.points.now) _ _ c.requires (omega (arith, some)) last in
+    let here = item_safe g.P.Coordinate.IntNumber.width g.P.Coordinate.IntNumber.value g.P.ContourPoint.point g.P.ContourPoint.points g.P.ContourPoint.each _ _ _ _ c.requires c.to_point-here.ensures (omega (arith, c.in-Some.ensures.item.3.0)) c.in-Some.ensures.item.1 in
     let behind = found_safe g.P.Coordinate.IntNumber.width g.P.Coordinate.IntNumber.value (g.P.ContourPoint.points c.args.points.now) c.to_point-here.result c.in-Some-last_other.behind c.requires c.in-Some-last_other.ensures in
     search rules
 
@@ -40,24 +36,18 @@ loop-given-init g c =
     let last : c.to_point-here.result ≡ get_or (g.P.ContourPoint.points c.args.points.now) (length (g.P.ContourPoint.points c.args.points.now) - 1) c.to_point-here.result =
     rw count (points-item g.P.ContourPoint.point g.P.ContourPoint.points g.P.ContourPoint.each c.args.points.now _ c.in-Some.last.now c.to_point-here.result c.to_point-here.ensures (omega (arith, c.in-Some.ensures.item.3.0)) c.in-Some.ensures.item.1) in
     record {
-      here_safe = read-safe g.P.Coordinate.IntNumber.width g.P.Coordinate.IntNumber.value (g.P.ContourPoint.points c.args.points.now) _ _ c.requires (omega (arith, some)) last;
+      here_safe = item_safe g.P.Coordinate.IntNumber.width g.P.Coordinate.IntNumber.value g.P.ContourPoint.point g.P.ContourPoint.points g.P.ContourPoint.each _ _ _ _ c.requires c.to_point-here.ensures (omega (arith, c.in-Some.ensures.item.3.0)) c.in-Some.ensures.item.1;
       bending = bending_begins g.P.Coordinate.IntNumber.value (g.P.ContourPoint.points c.args.points.now) c.to_point-here.result c.in-Some-last_other.behind _ some last c.in-Some-last_other.ensures c.sub-edge.ensures;
     }
 
 pub sub-next-requires : goal.sub-next-requires
 sub-next-requires g c =
-    let count = points-length g.P.ContourPoint.point g.P.ContourPoint.points g.P.ContourPoint.each c.args.points.now in
-    let within : c.loop-given.given-index < length (g.P.ContourPoint.points c.args.points.now) = omega (arith, count, c.loop-given-test.true) in
-    let read = points-item g.P.ContourPoint.point g.P.ContourPoint.points g.P.ContourPoint.each c.args.points.now _ c.given-item.result c.to_point-point.result c.to_point-point.ensures c.loop-given-test.true c.given-item.is in
-    let next = read-safe g.P.Coordinate.IntNumber.width g.P.Coordinate.IntNumber.value (g.P.ContourPoint.points c.args.points.now) _ c.to_point-point.result c.requires within read in
+    let next = item_safe g.P.Coordinate.IntNumber.width g.P.Coordinate.IntNumber.value g.P.ContourPoint.point g.P.ContourPoint.points g.P.ContourPoint.each _ _ _ _ c.requires c.to_point-point.ensures c.loop-given-test.true c.given-item.is in
     search rules
 
 pub bend_of-bent-requires : goal.bend_of-bent-requires
 bend_of-bent-requires g c =
-    let count = points-length g.P.ContourPoint.point g.P.ContourPoint.points g.P.ContourPoint.each c.args.points.now in
-    let within : c.loop-given.given-index < length (g.P.ContourPoint.points c.args.points.now) = omega (arith, count, c.loop-given-test.true) in
-    let read = points-item g.P.ContourPoint.point g.P.ContourPoint.points g.P.ContourPoint.each c.args.points.now _ c.given-item.result c.to_point-point.result c.to_point-point.ensures c.loop-given-test.true c.given-item.is in
-    let next = read-safe g.P.Coordinate.IntNumber.width g.P.Coordinate.IntNumber.value (g.P.ContourPoint.points c.args.points.now) _ c.to_point-point.result c.requires within read in
+    let next = item_safe g.P.Coordinate.IntNumber.width g.P.Coordinate.IntNumber.value g.P.ContourPoint.point g.P.ContourPoint.points g.P.ContourPoint.each _ _ _ _ c.requires c.to_point-point.ensures c.loop-given-test.true c.given-item.is in
     grind (arith, common_steps, g.met.P.Coordinate.IntNumber)
 
 pub loop-given-preserved-then-are_same : goal.loop-given-preserved-then-are_same
@@ -96,7 +86,7 @@ loop-given-preserved g c =
       | else-eq-via-else-eq w ↦ λ s. let t = told.1 s in let f = w.if-eq.false in absurd (cc)
     ] in
     record {
-      here_safe = read-safe g.P.Coordinate.IntNumber.width g.P.Coordinate.IntNumber.value (g.P.ContourPoint.points c.args.points.now) _ c.to_point-point.result c.requires within read;
+      here_safe = item_safe g.P.Coordinate.IntNumber.width g.P.Coordinate.IntNumber.value g.P.ContourPoint.point g.P.ContourPoint.points g.P.ContourPoint.each _ _ _ _ c.requires c.to_point-point.ensures c.loop-given-test.true c.given-item.is;
       bending = bending_item g.P.Coordinate.IntNumber.value (g.P.ContourPoint.points c.args.points.now) c.loop-given.bend c.bend_of-bent.result c.in-Some-followed_by.both c.loop-given.repeats c.loop-given.given-index
           (point_of g.P.Coordinate.IntNumber.value c.loop-given.edge) (point_of g.P.Coordinate.IntNumber.value c.sub-next.result) c.loop-given.here c.to_point-point.result
           within read moved c.bend_of-bent.ensures c.sub-next.ensures (sym c.in-Some-followed_by.ensures) c.loop-given.invariant.bending;

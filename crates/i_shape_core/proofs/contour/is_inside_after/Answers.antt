@@ -1,20 +1,16 @@
 use Rattle.std.proofs.Common.{◌≡◌, ◌<◌, ◌∙◌, ap, sym, not, cond, Bool, length, arith}
 use Rattle.i_shape_core.specs.IntPoint.{point_of}
 use Rattle.i_shape_core.specs.Edges.{is_right}
-use Rattle.i_shape_core.proofs.plane.Contours.{read-safe, rest-none}
+use Rattle.i_shape_core.proofs.plane.Contours.{rest-none}
 use Rattle.i_shape_core.proofs.plane.PointLists.{points-length, points-item}
+use Rattle.i_shape_core.proofs.plane.SafeParts.{item_safe}
 use Rattle.i_shape_core.proofs.plane.CrossProducts.{edge}
 use Rattle.i_shape_core.proofs.measure.InsideWalk.{walk_step}
 use Rattle.i_shape_core.proofs.contour.is_inside_after.Goals as goal
 use Rattle.i_shape_core.proofs.contour.is_inside_after.Goals.{then-passes_right, else-passes_right}
 
 pub passes_right-requires-clause-end_safe : goal.passes_right-requires-clause-end_safe
-passes_right-requires-clause-end_safe g c =
-    let points = g.P.ContourPoint.points in
-    let whole = c.args.points.now in
-    let count = points-length g.P.ContourPoint.point points g.P.ContourPoint.each whole in
-    let read = points-item g.P.ContourPoint.point points g.P.ContourPoint.each whole c.loop-given.given-index c.given-item.result c.to_point-end.result c.to_point-end.ensures c.loop-given-test.true c.given-item.is in
-    read-safe g.P.Coordinate.IntNumber.width g.P.Coordinate.IntNumber.value (points whole) _ c.to_point-end.result c.requires.points_safe (omega (arith, count, c.loop-given-test.true)) read
+passes_right-requires-clause-end_safe g c = item_safe g.P.Coordinate.IntNumber.width g.P.Coordinate.IntNumber.value g.P.ContourPoint.point g.P.ContourPoint.points g.P.ContourPoint.each _ _ _ _ c.requires.points_safe c.to_point-end.ensures c.loop-given-test.true c.given-item.is
 
 pub loop-given-preserved : goal.loop-given-preserved
 loop-given-preserved g c =
@@ -35,7 +31,7 @@ loop-given-preserved g c =
       | else-passes_right w ↦ w.is_inside-is ∙ ap (λ (t : Bool). cond t (not c.loop-given.is_inside) c.loop-given.is_inside) (sym w.if-passes_right.false ∙ c.passes_right.ensures)
     ] in
     rw start (record {
-      start_safe = read-safe g.P.Coordinate.IntNumber.width value (points whole) _ end c.requires.points_safe within read;
+      start_safe = item_safe g.P.Coordinate.IntNumber.width g.P.Coordinate.IntNumber.value g.P.ContourPoint.point g.P.ContourPoint.points g.P.ContourPoint.each _ _ _ _ c.requires.points_safe c.to_point-end.ensures c.loop-given-test.true c.given-item.is;
       told = walk_step value (point_of value c.args.point) (points whole) c.loop-given.given-index c.loop-given.start end c.loop-given.is_inside c.if-passes_right.is_inside _ within read c.loop-given.invariant.told turned;
     })
 

@@ -1,8 +1,8 @@
 use Rattle.std.proofs.Common.{◌≡◌, ◌-◌, ◌<◌, get_or, length, arith}
 use Rattle.i_shape_core.specs.IntPoint.{point_of}
-use Rattle.i_shape_core.proofs.plane.Contours.{read-safe}
 use Rattle.i_shape_core.proofs.arithmetic.Coordinates.{safe_points-apart}
 use Rattle.i_shape_core.proofs.plane.PointLists.{points-length, points-item}
+use Rattle.i_shape_core.proofs.plane.SafeParts.{item_safe}
 use Rattle.i_shape_core.proofs.walks.Spikes.{walking_begins, none_differs, found_safe, nothing_told, last_block_tells}
 use Rattle.i_shape_core.proofs.despike.has_no_spikes.Goals as goal
 
@@ -18,7 +18,6 @@ returns-in_default-last_other g c =
     let each = g.P.ContourPoint.each in
     let whole = c.args.points.now in
     let value = g.P.Coordinate.IntNumber.value in
-    let width = g.P.Coordinate.IntNumber.width in
     let count = points-length point points each whole in
     let some : 0 < length (points whole) = omega (arith, count, c.in-Some.ensures.item.3.0) in
     let last : c.to_point-here.result ≡ get_or (points whole) (length (points whole) - 1) c.to_point-here.result =
@@ -27,29 +26,13 @@ returns-in_default-last_other g c =
 
 pub sub-requires : goal.sub-requires
 sub-requires g c =
-    let point = g.P.ContourPoint.point in
-    let points = g.P.ContourPoint.points in
-    let each = g.P.ContourPoint.each in
-    let whole = c.args.points.now in
-    let value = g.P.Coordinate.IntNumber.value in
     let width = g.P.Coordinate.IntNumber.width in
-    let count = points-length point points each whole in
-    let some : 0 < length (points whole) = omega (arith, count, c.in-Some.ensures.item.3.0) in
-    let last : c.to_point-here.result ≡ get_or (points whole) (length (points whole) - 1) c.to_point-here.result =
-    rw count (points-item point points each whole _ c.in-Some.last.now c.to_point-here.result c.to_point-here.ensures (omega (arith, c.in-Some.ensures.item.3.0)) c.in-Some.ensures.item.1) in
-    let here = read-safe width value (points whole) _ c.to_point-here.result c.requires (omega (arith, some)) last in
-    let before = found_safe width value (points whole) c.to_point-here.result c.in-Some-last_other.behind c.requires c.in-Some-last_other.ensures in
+    let here = item_safe g.P.Coordinate.IntNumber.width g.P.Coordinate.IntNumber.value g.P.ContourPoint.point g.P.ContourPoint.points g.P.ContourPoint.each _ _ _ _ c.requires c.to_point-here.ensures (omega (arith, c.in-Some.ensures.item.3.0)) c.in-Some.ensures.item.1 in
+    let before = found_safe width g.P.Coordinate.IntNumber.value (g.P.ContourPoint.points c.args.points.now) c.to_point-here.result c.in-Some-last_other.behind c.requires c.in-Some-last_other.ensures in
     safe_points-apart width g.met.P.Coordinate.IntNumber.some_bits g.met.P.Coordinate.IntNumber.bits_split _ _ here before
 
 pub walk_onward-requires-clause-start_safe : goal.walk_onward-requires-clause-start_safe
-walk_onward-requires-clause-start_safe g c =
-    let points = g.P.ContourPoint.points in
-    let whole = c.args.points.now in
-    let count = points-length g.P.ContourPoint.point points g.P.ContourPoint.each whole in
-    let some : 0 < length (points whole) = omega (arith, count, c.in-Some.ensures.item.3.0) in
-    let last : c.to_point-here.result ≡ get_or (points whole) (length (points whole) - 1) c.to_point-here.result =
-    rw count (points-item g.P.ContourPoint.point points g.P.ContourPoint.each whole _ c.in-Some.last.now c.to_point-here.result c.to_point-here.ensures (omega (arith, c.in-Some.ensures.item.3.0)) c.in-Some.ensures.item.1) in
-    read-safe g.P.Coordinate.IntNumber.width g.P.Coordinate.IntNumber.value (points whole) _ c.to_point-here.result c.requires (omega (arith, some)) last
+walk_onward-requires-clause-start_safe g c = item_safe g.P.Coordinate.IntNumber.width g.P.Coordinate.IntNumber.value g.P.ContourPoint.point g.P.ContourPoint.points g.P.ContourPoint.each _ _ _ _ c.requires c.to_point-here.ensures (omega (arith, c.in-Some.ensures.item.3.0)) c.in-Some.ensures.item.1
 
 pub returns : goal.returns
 returns g c =

@@ -1,8 +1,9 @@
 use Rattle.std.proofs.Common.{◌≡◌, ◌<◌, ◌∙◌, pos, length, refl, sym, ap, arith}
 use Rattle.i_shape_core.specs.Point.{Point, vector, cross_of, dot_of}
 use Rattle.i_shape_core.specs.IntPoint.{point_of, contour_of}
-use Rattle.i_shape_core.proofs.plane.Contours.{read-safe, rest-read, rest-none, refuted_by_test}
+use Rattle.i_shape_core.proofs.plane.Contours.{rest-read, rest-none, refuted_by_test}
 use Rattle.i_shape_core.proofs.plane.PointLists.{points-length, points-item}
+use Rattle.i_shape_core.proofs.plane.SafeParts.{item_safe}
 use Rattle.i_shape_core.proofs.arithmetic.Coordinates.{safe_points-apart, safe_difference-above, below-told}
 use Rattle.i_shape_core.proofs.walks.Spikes.{onward_start, onward_skips, onward_on, onward_stops}
 use Rattle.i_shape_core.proofs.despike.walk_onward.Goals as goal
@@ -10,11 +11,7 @@ use Rattle.i_shape_core.proofs.despike.walk_onward.Goals.{then-not-are_same+then
 
 pub sub-next-requires : goal.sub-next-requires
 sub-next-requires g c =
-    let points = g.P.ContourPoint.points in
-    let count = points-length g.P.ContourPoint.point points g.P.ContourPoint.each c.args.block.now in
-    let within : c.loop-given.given-index < length (points c.args.block.now) = omega (arith, count, c.loop-given-test.true) in
-    let read = points-item g.P.ContourPoint.point points g.P.ContourPoint.each c.args.block.now _ c.given-item.result c.to_point-point.result c.to_point-point.ensures c.loop-given-test.true c.given-item.is in
-    let next = read-safe g.P.Coordinate.IntNumber.width g.P.Coordinate.IntNumber.value (points c.args.block.now) _ c.to_point-point.result c.requires.block_safe within read in
+    let next = item_safe g.P.Coordinate.IntNumber.width g.P.Coordinate.IntNumber.value g.P.ContourPoint.point g.P.ContourPoint.points g.P.ContourPoint.each _ _ _ _ c.requires.block_safe c.to_point-point.ensures c.loop-given-test.true c.given-item.is in
     safe_points-apart g.P.Coordinate.IntNumber.width g.met.P.Coordinate.IntNumber.some_bits g.met.P.Coordinate.IntNumber.bits_split _ _ next c.loop-given.invariant.here_safe
 
 pub loop-given-init : goal.loop-given-init
@@ -25,11 +22,7 @@ loop-given-init g c = record {
 
 pub dot_product-requires : goal.dot_product-requires
 dot_product-requires g c =
-    let points = g.P.ContourPoint.points in
-    let count = points-length g.P.ContourPoint.point points g.P.ContourPoint.each c.args.block.now in
-    let within : c.loop-given.given-index < length (points c.args.block.now) = omega (arith, count, c.loop-given-test.true) in
-    let read = points-item g.P.ContourPoint.point points g.P.ContourPoint.each c.args.block.now _ c.given-item.result c.to_point-point.result c.to_point-point.ensures c.loop-given-test.true c.given-item.is in
-    let next = read-safe g.P.Coordinate.IntNumber.width g.P.Coordinate.IntNumber.value (points c.args.block.now) _ c.to_point-point.result c.requires.block_safe within read in
+    let next = item_safe g.P.Coordinate.IntNumber.width g.P.Coordinate.IntNumber.value g.P.ContourPoint.point g.P.ContourPoint.points g.P.ContourPoint.each _ _ _ _ c.requires.block_safe c.to_point-point.ensures c.loop-given-test.true c.given-item.is in
     λ least. safe_difference-above g.P.Coordinate.IntNumber.width g.met.P.Coordinate.IntNumber.some_bits g.met.P.Coordinate.IntNumber.bits_split _ _ (g.P.Coordinate.IntNumber.value g.P.Coordinate.IntNumber.MIN) next.0 c.loop-given.invariant.here_safe.0 g.met.P.Coordinate.IntNumber.min_value
     (sym (ap (λ (p : Point). p.x) c.sub-next.ensures) ∙ ap g.P.Coordinate.IntNumber.value least.2)
 
@@ -64,7 +57,7 @@ loop-given-preserved g c =
       | else-not-are_same w ↦ w.here-is
     ] in
     rw here (record {
-      here_safe = read-safe g.P.Coordinate.IntNumber.width value (points c.args.block.now) _ c.to_point-point.result c.requires.block_safe within read;
+      here_safe = item_safe g.P.Coordinate.IntNumber.width g.P.Coordinate.IntNumber.value g.P.ContourPoint.point g.P.ContourPoint.points g.P.ContourPoint.each _ _ _ _ c.requires.block_safe c.to_point-point.ensures c.loop-given-test.true c.given-item.is;
       onward = elim c.if-not-are_same.branch [
         | then-not-are_same+then-is_parallel_to+else-lt w ↦
             let told = below-told g.P.Coordinate.Wide.WideIntNumber.value w.dot_product.result w.ZERO.result w.lt.result _ _ w.lt.ensures (wide.partial_order _ _) (ap g.P.Coordinate.Wide.WideIntNumber.value w.ZERO.ensures ∙ wide.zero_value)

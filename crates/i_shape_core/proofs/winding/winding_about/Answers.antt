@@ -3,8 +3,9 @@ use Rattle.std.proofs.lemmas.Int.{to_z-of_z}
 use Rattle.i_shape_core.specs.IntPoint.{point_of, contour_of}
 use Rattle.i_shape_core.specs.Winding.{level, IsWithinHalf}
 use Rattle.i_shape_core.proofs.arithmetic.WholeNumbers.{zero_add}
-use Rattle.i_shape_core.proofs.plane.Contours.{length-contour, read-safe}
+use Rattle.i_shape_core.proofs.plane.Contours.{length-contour}
 use Rattle.i_shape_core.proofs.plane.PointLists.{points-length, points-at}
+use Rattle.i_shape_core.proofs.plane.SafeParts.{item_safe}
 use Rattle.i_shape_core.proofs.measure.WindingWalk.{winding_half, near_first, near_step, no_points, walk_edge, walk_over, total_fits, total_added}
 use Rattle.i_shape_core.proofs.winding.winding_about.Goals as goal
 
@@ -18,33 +19,14 @@ returns-in_default-clause-answer g c =
     no_points value (point_of value c.args.point) (points whole) (omega (arith, count, c.in_default.ensures.item.3))
 
 pub loop-given-init : goal.loop-given-init
-loop-given-init g c =
-    let value = g.P.Coordinate.IntNumber.value in
-    let width = g.P.Coordinate.IntNumber.width in
-    let point = g.P.ContourPoint.point in
-    let points = g.P.ContourPoint.points in
-    let whole = c.args.contour.now in
-    let count = points-length point points g.P.ContourPoint.each whole in
-    let last : c.to_point-before.result ≡ get_or (points whole) (length (points whole) - 1) c.to_point-before.result =
-    rw (count, c.to_point-before.ensures) (points-at point points g.P.ContourPoint.each whole _ c.in-Some.last.now (omega (arith, c.in-Some.ensures.item.3.0)) c.in-Some.ensures.item.1) in
-    record {
-      before_safe = read-safe width value (points whole) (length (points whole) - 1) c.to_point-before.result c.requires.points_safe (omega (arith, count, c.in-Some.ensures.item.3.0)) last;
-      near = near_first _;
-      told = zero_add _;
-    }
+loop-given-init g c = record {
+  before_safe = item_safe g.P.Coordinate.IntNumber.width g.P.Coordinate.IntNumber.value g.P.ContourPoint.point g.P.ContourPoint.points g.P.ContourPoint.each _ _ _ _ c.requires.points_safe c.to_point-before.ensures (omega (arith, c.in-Some.ensures.item.3.0)) c.in-Some.ensures.item.1;
+  near = near_first _;
+  told = zero_add _;
+}
 
 pub edge_winding-total-requires-clause-end_safe : goal.edge_winding-total-requires-clause-end_safe
-edge_winding-total-requires-clause-end_safe g c =
-    let value = g.P.Coordinate.IntNumber.value in
-    let width = g.P.Coordinate.IntNumber.width in
-    let point = g.P.ContourPoint.point in
-    let points = g.P.ContourPoint.points in
-    let whole = c.args.contour.now in
-    let count = points-length point points g.P.ContourPoint.each whole in
-    let within : c.loop-given.given-index < length (points whole) = omega (arith, c.loop-given-test.true, count) in
-    let end : c.to_point-end.result ≡ get_or (points whole) c.loop-given.given-index c.to_point-end.result =
-    rw c.to_point-end.ensures (points-at point points g.P.ContourPoint.each whole _ c.given-item.result c.loop-given-test.true c.given-item.is) in
-    read-safe width value (points whole) _ c.to_point-end.result c.requires.points_safe within end
+edge_winding-total-requires-clause-end_safe g c = item_safe g.P.Coordinate.IntNumber.width g.P.Coordinate.IntNumber.value g.P.ContourPoint.point g.P.ContourPoint.points g.P.ContourPoint.each _ _ _ _ c.requires.points_safe c.to_point-end.ensures c.loop-given-test.true c.given-item.is
 
 pub overflow_add-total : goal.overflow_add-total
 overflow_add-total g c =
@@ -67,7 +49,6 @@ overflow_add-total g c =
 pub loop-given-preserved : goal.loop-given-preserved
 loop-given-preserved g c =
     let value = g.P.Coordinate.IntNumber.value in
-    let width = g.P.Coordinate.IntNumber.width in
     let point = g.P.ContourPoint.point in
     let points = g.P.ContourPoint.points in
     let whole = c.args.contour.now in
@@ -85,7 +66,7 @@ loop-given-preserved g c =
     total_added w64 (to_z w64 c.loop-given.total-bits) c.edge_winding-total.result fits turn in
     let p = point_of value c.args.point in
     record {
-      before_safe = read-safe width value (points whole) _ c.to_point-end.result c.requires.points_safe within end;
+      before_safe = item_safe g.P.Coordinate.IntNumber.width g.P.Coordinate.IntNumber.value g.P.ContourPoint.point g.P.ContourPoint.points g.P.ContourPoint.each _ _ _ _ c.requires.points_safe c.to_point-end.ensures c.loop-given-test.true c.given-item.is;
       near = rw (sum, c.edge_winding-total.ensures) (near_step p (point_of value c.loop-given.before) (point_of value c.to_point-end.result) c.loop-given.given-index (level p (point_of value c.to_point-before.result)) (to_z w64 c.loop-given.total-bits) c.loop-given.invariant.near);
       told = rw sum (walk_edge value p (points whole) c.loop-given.given-index c.loop-given.before c.to_point-end.result (to_z w64 c.loop-given.total-bits) c.edge_winding-total.result _ within end c.edge_winding-total.ensures c.loop-given.invariant.told);
     }

@@ -3,8 +3,8 @@ use Rattle.std.proofs.lemmas.Int.{to_z-of_z}
 use Rattle.std.proofs.lemmas.List.{take_more, take_more_set, take-append-drop, drop-set-lt, drop-drop, map-append}
 use Rattle.i_shape_core.specs.IntPoint.{point_of, contour_of}
 use Rattle.i_shape_core.specs.Winding.{winding}
-use Rattle.i_shape_core.proofs.plane.Contours.{read-safe}
-use Rattle.i_shape_core.proofs.plane.PointLists.{points-length, points-at, points-push}
+use Rattle.i_shape_core.proofs.plane.PointLists.{points-push}
+use Rattle.i_shape_core.proofs.plane.SafeParts.{item_safe}
 use Rattle.i_shape_core.proofs.winding.windings_about.Goals as goal
 
 pub loop-place-init : goal.loop-place-init
@@ -15,12 +15,7 @@ loop-place-init g c =
 
 pub winding_about-requires-clause-point_safe : goal.winding_about-requires-clause-point_safe
 winding_about-requires-clause-point_safe g c =
-    let point = g.Q.ContourPoint.point in
-    let points = g.Q.ContourPoint.points in
-    let within : c.loop-place.place < length (points c.args.points.now) = omega (arith, c.loop-place-test.true, points-length point points g.Q.ContourPoint.each c.args.points.now) in
-    rw c.to_point.ensures
-    (read-safe g.P.Coordinate.IntNumber.width g.P.Coordinate.IntNumber.value (points c.args.points.now) c.loop-place.place (point c.index-points-place.result) c.requires.points_safe within
-    (points-at point points g.Q.ContourPoint.each c.args.points.now c.loop-place.place c.index-points-place.result c.loop-place-test.true c.index-points-place.is))
+    item_safe g.P.Coordinate.IntNumber.width g.P.Coordinate.IntNumber.value g.Q.ContourPoint.point g.Q.ContourPoint.points g.Q.ContourPoint.each _ _ _ _ c.requires.points_safe c.to_point.ensures c.loop-place-test.true c.index-points-place.is
 
 pub loop-place-preserved : goal.loop-place-preserved
 loop-place-preserved g c =
