@@ -1,12 +1,6 @@
-use Rattle.std.proofs.Common.{rules, arith}
+use Rattle.std.proofs.Common.{arith}
 use Rattle.i_shape_core.proofs.plane.Contours.{length-contour}
 use Rattle.i_shape_core.proofs.despike.RefSliceIntPointDeSpikeContour.despiked_counted.Goals as goal
-
-pub returns-clause-answer : goal.returns-clause-answer
-returns-clause-answer g c = search rules
-
-pub returns-clause-visits : goal.returns-clause-visits
-returns-clause-visits g c = search rules
 
 pub returns-clause-short : goal.returns-clause-short
 returns-clause-short g c = λ few. c.despike_counted.ensures.short (omega (arith, few, length-contour g.I.IntNumber.value c.args.self.now.now))

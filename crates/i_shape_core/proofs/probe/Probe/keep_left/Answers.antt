@@ -1,10 +1,7 @@
-use Rattle.std.proofs.Common.{rules, Some, ap}
+use Rattle.std.proofs.Common.{Some, ap}
 use Rattle.i_shape_core.proofs.plane.Contours.{kept-contour}
 use Rattle.i_shape_core.proofs.probe.Probe.keep_left.Goals as goal
 
 pub returns-clause-kept : goal.returns-clause-kept
 returns-clause-kept g c =
     (rw c.in-Some.is (ap Some (kept-contour g.I.IntNumber.value _ (g.P.ContourPoint.points c.in_ok-kept.kept.items) c.in-Some.places.now c.in_ok-kept.ensures.points)), c.in_ok-kept.ensures.visits)
-
-pub returns-in_default-clause-kept : goal.returns-in_default-clause-kept
-returns-in_default-clause-kept g c = search rules

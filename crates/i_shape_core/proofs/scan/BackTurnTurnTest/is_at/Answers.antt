@@ -1,5 +1,0 @@
-use Rattle.std.proofs.Common.{rules}
-use Rattle.i_shape_core.proofs.scan.BackTurnTurnTest.is_at.Goals as goal
-
-pub returns : goal.returns
-returns g c = search rules
