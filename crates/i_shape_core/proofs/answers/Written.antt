@@ -1,12 +1,11 @@
 -- What a cleaner writes into a list of a caller's.
-use Rattle.std.proofs.Common.{◌≡◌, ℕ, ◌<◌, false, true, List, [], ◌∷◌, length, take, drop, Option, Some, None, refl, arith, ◌≤◌, ◌++◌, subst, ◌∙◌, ◌⊎◌, inl, inr, ap, reverse, Ok, Err, option_map}
+use Rattle.std.proofs.Common.{◌≡◌, ℕ, ◌<◌, false, true, List, [], ◌∷◌, length, take, drop, Option, Some, None, refl, arith, ◌≤◌, ◌++◌, ◌∙◌, ◌⊎◌, inl, inr, ap, reverse, Ok, Err, option_map}
 use Rattle.std.specs.Int.{Width}
 use Rattle.std.specs.List.{All}
 use Rattle.std.specs.Result.{IfOk, IsOk, IsOkUnless}
 use Rattle.std.specs.declared.result.Result.{Result}
 use Rattle.std.proofs.lemmas.Bool.{cases_lt}
 use Rattle.std.proofs.lemmas.List.{length-take-le}
-use Rattle.std.proofs.Math.Seq.{take-append_seam, drop-append_seam}
 use Rattle.i_shape_core.specs.Point.{Point}
 use Rattle.i_shape_core.specs.IntPoint.{IsSafe}
 use Rattle.i_shape_core.specs.Contour.{Test, Rotation, Sublist, RotatedSublist, SublistEitherWay}
@@ -22,6 +21,7 @@ use Rattle.i_shape_core.proofs.walks.Found.{all_answered, in_order_answered, kep
 use Rattle.i_shape_core.proofs.removal.Ends.{reach_shrinks}
 use Rattle.i_shape_core.proofs.removal.Rotations.{all_rotated, rotation_refl, rotation_trans}
 use Rattle.i_shape_core.proofs.removal.Reversal.{rotation_of_reversed}
+use Rattle.i_shape_core.proofs.lists.Appended.{front_taken, back_left}
 use Rattle.i_shape_core.proofs.lists.Sublists.{sublist_refl, sublist_none}
 use Rattle.i_shape_core.proofs.forms.Unoriented.{unoriented_lesser_way, unoriented_kept, unoriented_left}
 
@@ -89,8 +89,8 @@ pub canonical_written : {X : Type 0} (width : Width) (read : List X → List Poi
     → IsWritten CanonicalAnswer KeptAnswer RotatedSublist width read given old (rotated ++ drop n simple) n
 canonical_written width read counts given old simple rotated n some within written many least rotation =
     let long : length rotated ≡ n = many ∙ length-take-le n simple within in
-    let front : take n (rotated ++ drop n simple) ≡ rotated = subst (λ m. take m (rotated ++ drop n simple) ≡ rotated) long (take-append_seam rotated (drop n simple)) in
-    let back : drop n (rotated ++ drop n simple) ≡ drop n simple = subst (λ m. drop m (rotated ++ drop n simple) ≡ drop n simple) long (drop-append_seam rotated (drop n simple)) in
+    let front = front_taken n rotated (drop n simple) long in
+    let back = back_left n rotated (drop n simple) long in
     let before = slot_some (read (take n simple)) (omega (arith, counts (take n simple), length-take-le n simple within, some)) in
     let after : slot (read rotated) ≡ Some (read rotated) = slot_some (read rotated) (omega (arith, counts rotated, long, some)) in
     let cleaned = rw before at written.cleaned in
@@ -129,8 +129,8 @@ pub unoriented_written : {X : Type 0} (width : Width) (read : List X → List Po
     → (rotated ≡ take n canonical) ⊎ Rotation (reverse (take n canonical)) rotated → IsWritten UnorientedAnswer KeptEitherWay SublistEitherWay width read given old (rotated ++ drop n canonical) n
 unoriented_written width read counts given old canonical rotated n some within safe written many lesser way =
     let long : length rotated ≡ n = many ∙ length-take-le n canonical within in
-    let front : take n (rotated ++ drop n canonical) ≡ rotated = subst (λ m. take m (rotated ++ drop n canonical) ≡ rotated) long (take-append_seam rotated (drop n canonical)) in
-    let back : drop n (rotated ++ drop n canonical) ≡ drop n canonical = subst (λ m. drop m (rotated ++ drop n canonical) ≡ drop n canonical) long (drop-append_seam rotated (drop n canonical)) in
+    let front = front_taken n rotated (drop n canonical) long in
+    let back = back_left n rotated (drop n canonical) long in
     let before = slot_some (read (take n canonical)) (omega (arith, counts (take n canonical), length-take-le n canonical within, some)) in
     let after : slot (read rotated) ≡ Some (read rotated) = slot_some (read rotated) (omega (arith, counts rotated, long, some)) in
     let form : IsCanonical (read given) (read (take n canonical)) = rw before at written.cleaned.answer in

@@ -3,7 +3,8 @@
 use Rattle.std.proofs.Common.{T, ◌≡◌, ℕ, zero, suc, Bool, true, false, cond, eqb, ltb, List, [], ◌∷◌, get_or, ℤ, pos, negsuc, ◌+ℤ◌, ◌*ℤ◌, neg_ℤ, ap, refl, sym, subst, ◌∙◌, arith}
 use Rattle.std.proofs.lemmas.Int.{ints}
 use lib.Dec.{eqb→eq}
-use Rattle.i_shape_core.proofs.arithmetic.WholeNumbers.{add-mul, mul-add, mul_assoc, mul_comm, zero-mul, one-mul, zero_add, equal_of_difference, add_assoc, add_swap}
+use Rattle.std.proofs.Math.IntN.{+ℤ_idl, +ℤ_assoc, *ℤ_comm, zero-*ℤ}
+use Rattle.i_shape_core.proofs.arithmetic.WholeNumbers.{add-mul, mul-add, mul_assoc, one-mul, equal_of_difference, add_swap}
 
 -- a polynomial as it is written
 pub data Term : Type 0 where
@@ -106,7 +107,7 @@ same_is_path : (js ks : List ℕ) → same_variables js ks ≡ true → js ≡ k
 same_is_path js ks e = same_is js ks (subst T (sym e) tt)
 
 kept_total : (v : List ℤ) (n : ℤ) (ks : List ℕ) (ms : List Monomial) → total v (unless_zero n ks ms) ≡ n *ℤ product v ks +ℤ total v ms
-kept_total v (pos zero) ks ms = sym (ap (λ (z : ℤ). z +ℤ total v ms) (zero-mul (product v ks)) ∙ zero_add (total v ms))
+kept_total v (pos zero) ks ms = sym (ap (λ (z : ℤ). z +ℤ total v ms) (zero-*ℤ (product v ks)) ∙ +ℤ_idl (total v ms))
 kept_total v (pos (suc n)) ks ms = refl
 kept_total v (negsuc n) ks ms = refl
 
@@ -117,19 +118,19 @@ with_monomial_total v n ks (m ∷ ms) = step (with_monomial_total v n ks ms) (sa
     step : total v (with_monomial n ks ms) ≡ n *ℤ product v ks +ℤ total v ms → (t : Bool) → same_variables ks m.places ≡ t → total v (cond t (unless_zero (n +ℤ m.factor) ks ms) (m ∷ with_monomial n ks ms)) ≡ n *ℤ product v ks +ℤ (m.factor *ℤ product v m.places +ℤ total v ms)
     step rest true e = kept_total v (n +ℤ m.factor) ks ms
         ∙ ap (λ (z : ℤ). z +ℤ total v ms) (add-mul n m.factor (product v ks))
-        ∙ add_assoc (n *ℤ product v ks) (m.factor *ℤ product v ks) (total v ms)
+        ∙ +ℤ_assoc (n *ℤ product v ks) (m.factor *ℤ product v ks) (total v ms)
         ∙ ap (λ (ns : List ℕ). n *ℤ product v ks +ℤ (m.factor *ℤ product v ns +ℤ total v ms)) (same_is_path ks m.places e)
     step rest false e = ap (λ (z : ℤ). m.factor *ℤ product v m.places +ℤ z) rest
         ∙ add_swap (m.factor *ℤ product v m.places) (n *ℤ product v ks) (total v ms)
 
 sum_of_total : (v : List ℤ) (ms qs : List Monomial) → total v (sum_of ms qs) ≡ total v ms +ℤ total v qs
-sum_of_total v [] qs = sym (zero_add (total v qs))
+sum_of_total v [] qs = sym (+ℤ_idl (total v qs))
 sum_of_total v (m ∷ ms) qs = with_monomial_total v m.factor m.places (sum_of ms qs)
     ∙ ap (λ (z : ℤ). m.factor *ℤ product v m.places +ℤ z) (sum_of_total v ms qs)
-    ∙ sym (add_assoc (m.factor *ℤ product v m.places) (total v ms) (total v qs))
+    ∙ sym (+ℤ_assoc (m.factor *ℤ product v m.places) (total v ms) (total v qs))
 
 swapped_factors : (a b c : ℤ) → a *ℤ (b *ℤ c) ≡ b *ℤ (a *ℤ c)
-swapped_factors a b c = sym (mul_assoc a b c) ∙ ap (λ (z : ℤ). z *ℤ c) (mul_comm a b) ∙ mul_assoc b a c
+swapped_factors a b c = sym (mul_assoc a b c) ∙ ap (λ (z : ℤ). z *ℤ c) (*ℤ_comm a b) ∙ mul_assoc b a c
 
 inserted_product : (v : List ℤ) (k : ℕ) (js : List ℕ) → product v (with_variable k js) ≡ get_or v k (pos 0) *ℤ product v js
 inserted_product v k [] = refl
@@ -149,7 +150,7 @@ four_factors : (a b c d : ℤ) → (a *ℤ b) *ℤ (c *ℤ d) ≡ (a *ℤ c) *�
 four_factors a b c d = mul_assoc a b (c *ℤ d) ∙ ap (λ (z : ℤ). a *ℤ z) (swapped_factors b c d) ∙ sym (mul_assoc a c (b *ℤ d))
 
 scaled_total : (v : List ℤ) (n : ℤ) (ks : List ℕ) (ms : List Monomial) → total v (times_monomial n ks ms) ≡ (n *ℤ product v ks) *ℤ total v ms
-scaled_total v n ks [] = sym (mul_comm (n *ℤ product v ks) (pos 0) ∙ zero-mul (n *ℤ product v ks))
+scaled_total v n ks [] = sym (*ℤ_comm (n *ℤ product v ks) (pos 0) ∙ zero-*ℤ (n *ℤ product v ks))
 scaled_total v n ks (m ∷ ms) = with_monomial_total v (n *ℤ m.factor) (merged_variables ks m.places) (times_monomial n ks ms)
     ∙ ap (λ (z : ℤ). (n *ℤ m.factor) *ℤ z +ℤ total v (times_monomial n ks ms)) (merged_product v ks m.places)
     ∙ ap (λ (z : ℤ). z +ℤ total v (times_monomial n ks ms)) (four_factors n m.factor (product v ks) (product v m.places))
@@ -157,7 +158,7 @@ scaled_total v n ks (m ∷ ms) = with_monomial_total v (n *ℤ m.factor) (merged
     ∙ sym (mul-add (n *ℤ product v ks) (m.factor *ℤ product v m.places) (total v ms))
 
 product_of_total : (v : List ℤ) (ms qs : List Monomial) → total v (product_of ms qs) ≡ total v ms *ℤ total v qs
-product_of_total v [] qs = sym (zero-mul (total v qs))
+product_of_total v [] qs = sym (zero-*ℤ (total v qs))
 product_of_total v (m ∷ ms) qs = sum_of_total v (times_monomial m.factor m.places qs) (product_of ms qs)
     ∙ ap (λ (z : ℤ). z +ℤ total v (product_of ms qs)) (scaled_total v m.factor m.places qs)
     ∙ ap (λ (z : ℤ). (m.factor *ℤ product v m.places) *ℤ total v qs +ℤ z) (product_of_total v ms qs)

@@ -7,15 +7,11 @@ use borrow.Author.Differences.{up, down, sum_is_lem, product_is}
 pub add-mul : (a b c : ℤ) → (a +ℤ b) *ℤ c ≡ a *ℤ c +ℤ b *ℤ c
 add-mul a b c = omega (arith, ints, ap (λ (n : ℕ). n * up c) (sum_is_lem a b), ap (λ (n : ℕ). n * down c) (sum_is_lem a b))
 
--- the order of factors doesn't matter
-pub mul_comm : (a b : ℤ) → a *ℤ b ≡ b *ℤ a
-mul_comm a b = omega (arith, ints)
-
 -- a number times a sum
 pub mul-add : (a b c : ℤ) → a *ℤ (b +ℤ c) ≡ a *ℤ b +ℤ a *ℤ c
 mul-add a b c = omega (arith, ints, ap (λ (n : ℕ). n * up a) (sum_is_lem b c), ap (λ (n : ℕ). n * down a) (sum_is_lem b c))
 
--- their grouping doesn't matter
+-- the grouping of factors doesn't matter
 pub mul_assoc : (a b c : ℤ) → (a *ℤ b) *ℤ c ≡ a *ℤ (b *ℤ c)
 mul_assoc a b c = omega (
   arith,
@@ -30,27 +26,11 @@ mul_assoc a b c = omega (
   ap (λ (n : ℕ). down a * n) (product_is b c).1,
 )
 
--- zero times a number
-pub zero-mul : (a : ℤ) → pos 0 *ℤ a ≡ pos 0
-zero-mul a = omega (arith, ints)
-
 -- one times a number
 pub one-mul : (a : ℤ) → pos 1 *ℤ a ≡ a
 one-mul a = omega (arith, ints)
 
--- a number times zero
-pub mul-zero : (a : ℤ) → a *ℤ pos 0 ≡ pos 0
-mul-zero a = omega (arith, ints)
-
--- zero and a number
-pub zero_add : (a : ℤ) → pos 0 +ℤ a ≡ a
-zero_add a = omega (arith, ints)
-
--- the grouping of summands doesn't matter
-pub add_assoc : (a b c : ℤ) → (a +ℤ b) +ℤ c ≡ a +ℤ (b +ℤ c)
-add_assoc a b c = omega (arith, ints)
-
--- nor does their order
+-- the first two of three summands change places
 pub add_swap : (a b c : ℤ) → a +ℤ (b +ℤ c) ≡ b +ℤ (a +ℤ c)
 add_swap a b c = omega (arith, ints)
 

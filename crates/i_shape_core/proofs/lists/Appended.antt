@@ -1,5 +1,14 @@
 -- Facts on lists end to end.
-use Rattle.std.proofs.Common.{◌≡◌, ◌⊎◌, List, [], ◌∷◌, ◌++◌, inl, inr, refl, sym}
+use Rattle.std.proofs.Common.{◌≡◌, ◌⊎◌, ℕ, List, [], ◌∷◌, ◌++◌, length, take, drop, inl, inr, refl, sym, subst}
+use Rattle.std.proofs.Math.Seq.{take-append_seam, drop-append_seam}
+
+-- the first of two lists is taken by its length
+pub front_taken : {A : Type 0} (n : ℕ) (xs ys : List A) → length xs ≡ n → take n (xs ++ ys) ≡ xs
+front_taken n xs ys many = subst (λ m. take m (xs ++ ys) ≡ xs) many (take-append_seam xs ys)
+
+-- and the second is what is left
+pub back_left : {A : Type 0} (n : ℕ) (xs ys : List A) → length xs ≡ n → drop n (xs ++ ys) ≡ ys
+back_left n xs ys many = subst (λ m. drop m (xs ++ ys) ≡ ys) many (drop-append_seam xs ys)
 
 -- equal lists begin with the same member
 pub same_head : {A : Type 0} (a b : A) (x y : List A) → a ∷ x ≡ b ∷ y → a ≡ b

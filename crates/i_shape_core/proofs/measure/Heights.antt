@@ -9,6 +9,7 @@ use Rattle.std.proofs.lemmas.Cmp.{int_cmp_total}
 use Rattle.std.specs.List.Sorted.{IsPermutation, IsSortedByKey, IsSortedBy}
 use Rattle.std.specs.Ordering.{int_cmp, is_lt}
 use Rattle.std.specs.declared.cmp.Ordering.{Ordering}
+use Rattle.std.proofs.Math.IntN.{+ℤ_idl}
 use Rattle.i_shape_core.proofs.arithmetic.Products.{reach-fits}
 use Rattle.std.specs.Int.{Width, int_wrap}
 use Rattle.std.specs.List.{All, Contains}
@@ -311,11 +312,8 @@ winding_fits c p room =
 pub total_from_added : (ps : List Point) (f : Point → ℤ) (zeros totals : List ℤ) → length totals ≡ length ps → ((k : ℕ) → get_or zeros k (pos 0) ≡ pos 0) → AllFit totals → ((p : Point) → FitsSigned w64 (f p)) → IsAdded ps f zeros totals → totals ≡ map f ps
 total_from_added ps f zeros totals many none fit fits added = same_lists totals (map f ps) (many ∙ sym (length-map ps f)) (λ k z within.
     let inside : k < length ps = omega (arith, within, many) in
-    get_or_default totals k z (pos 0) within ∙ sym (int_wrap_fits w64 _ (fit k)) ∙ added.each k inside ∙ ap (int_wrap w64) (ap (λ (z : ℤ). z +ℤ f (point_at ps k)) (none k) ∙ nothing_less (f (point_at ps k))) ∙ int_wrap_fits w64 _ (fits (point_at ps k))
+    get_or_default totals k z (pos 0) within ∙ sym (int_wrap_fits w64 _ (fit k)) ∙ added.each k inside ∙ ap (int_wrap w64) (ap (λ (z : ℤ). z +ℤ f (point_at ps k)) (none k) ∙ +ℤ_idl (f (point_at ps k))) ∙ int_wrap_fits w64 _ (fits (point_at ps k))
     ∙ sym (get_or-map f ps k origin z inside))
-  where
-    nothing_less : (z : ℤ) → pos 0 +ℤ z ≡ z
-    nothing_less z = omega (arith, ints)
 
 -- ---- the totals are written
 module _ {I : Type 0} (value : I → ℤ) (points : List (IntPoint I)) (f : Point → ℤ) (asked : List (Asked I)) (moved : IsPermutation (asks 0 points) asked) where

@@ -10,7 +10,7 @@ use Rattle.i_shape_core.specs.Winding.{level, winding_of_edge, winding, IsWithin
 use Rattle.i_shape_core.specs.Convex.{last_of}
 use Rattle.i_shape_core.specs.Blocks.{path_over, winding_over}
 use Rattle.std.specs.Int.{Width}
-use Rattle.i_shape_core.proofs.arithmetic.WholeNumbers.{add_assoc}
+use Rattle.std.proofs.Math.IntN.{+ℤ_assoc}
 use Rattle.i_shape_core.proofs.plane.Contours.{rest-read, rest-none}
 use Rattle.i_shape_core.proofs.measure.Edges.{sum_push}
 use Rattle.i_shape_core.proofs.plane.CrossProducts.{edge}
@@ -124,7 +124,7 @@ pub walk_edge : {I : Type 0} (value : I → ℤ) (p : Point) (cs : List (IntPoin
     → t +ℤ w +ℤ winding_over p (point_of value x) (contour_of value (drop (i + 1) cs)) ≡ s
 walk_edge value p cs i start x t w s h e f g =
     let k = subst (λ (ps : List Point). t +ℤ winding_over p (point_of value start) ps ≡ s) (rest-read value cs i x h e) g in
-    rw f (add_assoc t (winding_of_edge p (edge (point_of value start) (point_of value x))) (winding_over p (point_of value x) (contour_of value (drop (i + 1) cs))) ∙ k)
+    rw f (+ℤ_assoc t (winding_of_edge p (edge (point_of value start) (point_of value x))) (winding_over p (point_of value x) (contour_of value (drop (i + 1) cs))) ∙ k)
 
 -- the walk from the last point over all points winds as the contour does
 pub walk_all : {I : Type 0} (value : I → ℤ) (p : Point) (cs : List (IntPoint I)) (last : IntPoint I) → 0 < length cs → last ≡ get_or cs (length cs - 1) last

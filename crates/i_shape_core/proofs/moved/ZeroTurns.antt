@@ -1,7 +1,7 @@
 -- Removals from a contour that is moved by an affine map.
 use Rattle.std.proofs.Common.{◌≡◌, List, [], ◌∷◌, ℤ, pos, ◌*ℤ◌, refl, ap, ◌∙◌}
 use Rattle.i_shape_core.specs.Point.{Point, cross, IsZeroTurn}
-use Rattle.i_shape_core.proofs.arithmetic.WholeNumbers.{mul-zero}
+use Rattle.std.proofs.Math.IntN.{*ℤ-zero}
 use Rattle.i_shape_core.proofs.arithmetic.Polynomials.{Term, variable, plus, times, minus, by_polynomials}
 use Rattle.i_shape_core.proofs.plane.CrossProducts.{Place, cross_term, A, B, C}
 use Rattle.i_shape_core.specs.Moves.{Move, determinant, moved_point}
@@ -33,7 +33,7 @@ unfolding cross
 cross_moved m a b c = by_polynomials (numbers_of_move a b c m) (cross_term (new_place A) (new_place B) (new_place C)) (times area_factor (cross_term A B C)) refl
 
 times_zero : (d x y : ℤ) → x ≡ d *ℤ y → y ≡ pos 0 → x ≡ pos 0
-times_zero d x y e f = e ∙ ap (λ (z : ℤ). d *ℤ z) f ∙ mul-zero d
+times_zero d x y e f = e ∙ ap (λ (z : ℤ). d *ℤ z) f ∙ *ℤ-zero d
 
 -- straight on or back stays so
 pub zero_moved : (m : Move) → Carries (moved_point m) IsZeroTurn IsZeroTurn

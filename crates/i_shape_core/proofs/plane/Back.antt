@@ -1,9 +1,10 @@
 -- Points at which a path turns back or stands still, and points at which it goes straight on.
 use Rattle.std.proofs.Common.{◌≡◌, zero, suc, [], ◌∷◌, ℤ, pos, negsuc, ◌+ℤ◌, ◌-ℤ◌, ◌*ℤ◌, neg_ℤ, ◌<ℤ◌, ◌≤ℤ◌, refl, sym, ap, subst, ◌∙◌, arith, ◌⊎◌, inl, inr}
 use Rattle.std.proofs.lemmas.Int.{ints}
+use Rattle.std.proofs.Math.IntN.{*ℤ-zero}
 use Rattle.i_shape_core.specs.Point.{Point, cross, dot, IsBack}
 use Rattle.i_shape_core.proofs.arithmetic.Polynomials.{Term, number, plus, times, minus, by_polynomials}
-use Rattle.i_shape_core.proofs.arithmetic.WholeNumbers.{zero_product, equal_of_difference, squares_not_negative, squares_zero, zero_of_positive, not_positive_of, sum_above, drop_last, low_of_zero, mul-zero}
+use Rattle.i_shape_core.proofs.arithmetic.WholeNumbers.{zero_product, equal_of_difference, squares_not_negative, squares_zero, zero_of_positive, not_positive_of, sum_above, drop_last, low_of_zero}
 use Rattle.i_shape_core.proofs.plane.CrossProducts.{Place, coordinates, cross_term, dot_term, A, B, C, D, triangle_identity, zero_reversed, dot_reversed, same_point, cross-same}
 
 -- the square of the way from a to b
@@ -102,7 +103,7 @@ straight_dot x a p b = by_polynomials (coordinates (x ∷ a ∷ p ∷ b ∷ []))
 -- where a path goes straight on at p, and turns back at a without p, it turns back at a with p
 pub back_before_straight : (x a p b : Point) → cross a p b ≡ pos 0 → pos 0 <ℤ dot a p b → IsBack x a b → IsBack x a p
 back_before_straight x a p b e l h = (
-  zero_of_positive s (cross x a p) above (sym (drop_last (way_squared a p *ℤ cross x a b) (s *ℤ cross x a p) (dot x a p) (cross a p b) (straight_cross x a p b) e) ∙ ap (λ (z : ℤ). way_squared a p *ℤ z) h.0 ∙ mul-zero (way_squared a p)),
+  zero_of_positive s (cross x a p) above (sym (drop_last (way_squared a p *ℤ cross x a b) (s *ℤ cross x a p) (dot x a p) (cross a p b) (straight_cross x a p b) e) ∙ ap (λ (z : ℤ). way_squared a p *ℤ z) h.0 ∙ *ℤ-zero (way_squared a p)),
   not_positive_of (way_squared a p) s (dot x a b) (dot x a p) (square_at_least a p) above (drop_last (way_squared a p *ℤ dot x a b) (s *ℤ dot x a p) (neg_ℤ (cross x a p)) (cross a p b) (straight_dot x a p b) e) h.1,
 )
   where

@@ -1,9 +1,10 @@
 -- The walk that looks for spikes.
-use Rattle.std.proofs.Common.{◌≡◌, ◌≢◌, ℕ, ◌-◌, ◌<◌, ◌≤◌, List, [], ◌∷◌, ◌++◌, reverse, length, get_or, Option, Some, None, option_map, unwrap_or, not, ℤ, pos, int_lt, ◌<ℤ◌, ◌≤ℤ◌, T, refl, sym, ap, subst, ◌∙◌, arith, ◌⊎◌, inl, inr, ◌↔◌, Bool, true, false, cond, ◌&&◌, IsTrue, IsNone, is_some}
+use Rattle.std.proofs.Common.{◌≡◌, ◌≢◌, ℕ, ◌-◌, ◌<◌, ◌≤◌, List, [], ◌∷◌, ◌++◌, reverse, length, get_or, Option, Some, None, option_map, unwrap_or, not, ℤ, pos, int_lt, ◌<ℤ◌, T, refl, sym, ap, subst, ◌∙◌, arith, ◌⊎◌, inl, inr, ◌↔◌, Bool, true, false, cond, ◌&&◌, IsTrue, IsNone, is_some}
 use Rattle.std.proofs.lemmas.Int.{ints}
 use Rattle.std.proofs.lemmas.List.{reverse-append, append-nil}
 use Rattle.std.proofs.lemmas.List.Elements.{All-head, All-tail, All-push}
 use Rattle.std.proofs.lemmas.List.Folds.{find-append}
+use Rattle.std.proofs.lemmas.Bool.Decides.{same_from_decides}
 use Rattle.std.specs.List.{All, find}
 use Rattle.std.specs.Int.{Width}
 use Rattle.std.specs.Option.{option_or}
@@ -229,16 +230,10 @@ nothing_told value cs h = (λ t. absurd (cc), λ s. absurd (none_without_points 
 pub same-told : {I : Type 0} (value : I → ℤ) (equal : I → I → Bool) → ((a b : I) → IsTrue (equal a b) ↔ (value a ≡ value b))
     → (p q : IntPoint I) → equal p.x q.x && equal p.y q.y ≡ is_same (point_of value p) (point_of value q)
 unfolding is_same
-same-told {I} value equal law p q = ap (λ (b : Bool). b && equal p.y q.y) (alike p.x q.x) ∙ ap (λ (b : Bool). int_eq (value p.x) (value q.x) && b) (alike p.y q.y)
+same-told {I} value equal law p q = ap (λ b. b && equal p.y q.y) (alike p.x q.x) ∙ ap (λ b. int_eq (value p.x) (value q.x) && b) (alike p.y q.y)
   where
     alike : (a b : I) → equal a b ≡ int_eq (value a) (value b)
-    alike a b = go (equal a b) (int_eq (value a) (value b)) (law a b) (signed_Decides (value a) (value b))
-      where
-        go : (s t : Bool) → IsTrue s ↔ (value a ≡ value b) → IsTrue t ↔ (value a ≡ value b) → s ≡ t
-        go true true f h = refl
-        go false false f h = refl
-        go true false f h = sym (h.1 (f.0 refl))
-        go false true f h = f.1 (h.0 refl)
+    alike a b = same_from_decides (equal a b) (int_eq (value a) (value b)) (law a b) (signed_Decides (value a) (value b))
 
 -- ---- a search from the end
 
@@ -455,9 +450,6 @@ last_block_tells {I} {A} value c e p rest last_but_one_differs onward same told 
     go (Some r) s h = (λ x. free (λ b. let f = h.1 b in absurd (cc)), λ x. s)
     go None s h = (λ x. absurd (cc), λ x. absurd (edge_ends c e p (contour_of value rest) [] (h.0 refl) whole x))
 
-not_above : (d : ℤ) → d <ℤ pos 0 → d ≤ℤ pos 0
-not_above d h = omega (arith, ints)
-
 -- a contour of which no point turns back has no spikes
 pub spikeless_end : (d : List Point) → 3 ≤ length d → ((k : ℕ) → IsRemovable IsBack d k → ⊥) → NoSpikes d
 unfolding cross_at
@@ -477,5 +469,5 @@ spikeless_end d h none = subst (λ (c : List Point). 3 ≤ length c → ((k : �
     reversal k r = none k (record {
       enough = h;
       within = r.within;
-      passes = (r.straight, not_above (dot (point_at d (place_before (length d) k)) (point_at d k) (point_at d (place_after (length d) k))) r.back);
+      passes = (r.straight, omega (arith, ints, r.back));
     })

@@ -1,8 +1,8 @@
 use Rattle.std.proofs.Common.{◌≡◌, ◌+ℤ◌, ◌-◌, ◌^◌, ◌<◌, FitsSigned, length, get_or, w64, to_z, of_z, sym, subst₂, ◌∙◌, arith, rules}
 use Rattle.std.proofs.lemmas.Int.{to_z-of_z}
+use Rattle.std.proofs.Math.IntN.{+ℤ_idl}
 use Rattle.i_shape_core.specs.IntPoint.{point_of, contour_of}
 use Rattle.i_shape_core.specs.Winding.{level, IsWithinHalf}
-use Rattle.i_shape_core.proofs.arithmetic.WholeNumbers.{zero_add}
 use Rattle.i_shape_core.proofs.plane.Contours.{length-contour}
 use Rattle.i_shape_core.proofs.plane.PointLists.{points-length, points-at}
 use Rattle.i_shape_core.proofs.plane.SafeParts.{item_safe}
@@ -22,7 +22,7 @@ pub loop-given-init : goal.loop-given-init
 loop-given-init g c = record {
   before_safe = item_safe g.P.Coordinate.IntNumber.width g.P.Coordinate.IntNumber.value g.P.ContourPoint.point g.P.ContourPoint.points g.P.ContourPoint.each _ _ _ _ c.requires.points_safe c.to_point-before.ensures (omega (arith, c.in-Some.ensures.item.3.0)) c.in-Some.ensures.item.1;
   near = near_first _;
-  told = zero_add _;
+  told = +ℤ_idl _;
 }
 
 pub edge_winding-total-requires-clause-end_safe : goal.edge_winding-total-requires-clause-end_safe
