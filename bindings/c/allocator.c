@@ -1,27 +1,11 @@
 /* The three functions of docs/C.md, "Your own allocator", over malloc: for a processor whose own the Rattle kit doesn't have. No
  * proof covers them. An align divides 16, to which malloc aligns too. */
+#include "allocator.h"
+
 #include <stdalign.h>
-#include <stddef.h>
-#include <stdint.h>
 #include <stdlib.h>
 
 _Static_assert(alignof(max_align_t) >= 16, "malloc aligns to 16");
-
-struct tried {
-    uintptr_t ok;
-    void *at;
-};
-
-struct tried rattle_alloc(size_t size, size_t align);
-struct tried rattle_realloc(void *at, size_t kept, size_t size, size_t align);
-void rattle_dealloc(void *at);
-
-/* Where an allocation fails, the address is one that nothing is read from. */
-static struct tried tried(void *at) {
-    static char nothing;
-    struct tried answer = {at != NULL, at ? at : &nothing};
-    return answer;
-}
 
 struct tried rattle_alloc(size_t size, size_t align) {
     (void)align;

@@ -51,7 +51,7 @@ is_proved() {
 is_built() {
     is_proved && [ -e "$out/libi_shape.a" ] && [ -e "$out/libi_shape.so" ] && [ -e "$out/libi_shape.so.$version" ] &&
         [ -e "$out/i_shape-config-version.cmake" ] && [ -e "$out/i_shape.pc.in" ] &&
-        ! is_older_than_one_of "$out/i_shape.pc.in" "$proved" "$top/include" "$here/build.sh" "$here/allocator.c" "$here/i_shape.pc.in" "$here/cmake"
+        ! is_older_than_one_of "$out/i_shape.pc.in" "$proved" "$top/include" "$here/build.sh" "$here"/allocator.[ch] "$here/i_shape.pc.in" "$here/cmake"
 }
 
 # Each library after those that it uses. Sources that are changed meanwhile are newer than the archive.

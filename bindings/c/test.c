@@ -42,42 +42,24 @@ static size_t refused, growths, blocks, asked;
 #endif
 
 #ifdef OWN_ALLOCATOR
-static char nothing;
-
-struct tried {
-    uintptr_t ok;
-    void *at;
-};
-
-#ifdef __cplusplus
-extern "C" {
-#endif
-struct tried rattle_alloc(size_t size, size_t align);
-struct tried rattle_realloc(void *at, size_t kept, size_t size, size_t align);
-void rattle_dealloc(void *at);
+#include "allocator.h"
 
 struct tried rattle_alloc(size_t size, size_t align) {
     asked += size;
     void *at = ++growths == refused ? NULL : malloc(size ? size : align);
-    struct tried answer = {at != NULL, at ? at : &nothing};
     if (at) blocks++;
-    return answer;
+    return tried(at);
 }
 
 struct tried rattle_realloc(void *before, size_t kept, size_t size, size_t align) {
     asked += size - kept;
-    void *at = ++growths == refused ? NULL : realloc(before, size ? size : align);
-    struct tried answer = {at != NULL, at ? at : &nothing};
-    return answer;
+    return tried(++growths == refused ? NULL : realloc(before, size ? size : align));
 }
 
 void rattle_dealloc(void *at) {
     blocks--;
     free(at);
 }
-#ifdef __cplusplus
-}
-#endif
 #endif
 
 #ifdef WRAPPED_MALLOC

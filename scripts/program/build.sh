@@ -43,7 +43,7 @@ is_default_built() {
 is_built() {
     is_default_built || return
     [ -n "$target$cpu" ] || return 0
-    [ -x "$out/i_shape_tool" ] && [ -z "$(find "$here" "$module" "$allocator" "$default" -type f -newer "$out/i_shape_tool" -print -quit)" ]
+    [ -x "$out/i_shape_tool" ] && [ -z "$(find "$here" "$module" "${allocator%.c}".[ch] "$default" -type f -newer "$out/i_shape_tool" -print -quit)" ]
 }
 
 # Each library after those that it uses: asked for the program alone, rt reads all sources once more. Two jobs are done about as soon as four, for less work.

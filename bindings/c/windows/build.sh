@@ -12,7 +12,7 @@ mingw=x86_64-w64-mingw32
 
 is_built() {
     [ -e "$out/i_shape.dll" ] && bash "$top/bindings/c/build.sh" --is-built &&
-        [ -z "$(find "$here" "$module" "$top/bindings/c/allocator.c" "$top/crates/i_shape_c/out/libi_shape_c.a" -type f -newer "$out/i_shape.dll" -print -quit)" ]
+        [ -z "$(find "$here" "$module" "$top"/bindings/c/allocator.[ch] "$top/crates/i_shape_c/out/libi_shape_c.a" -type f -newer "$out/i_shape.dll" -print -quit)" ]
 }
 
 # The functions that the object file $1 calls are known.
