@@ -5,9 +5,9 @@ usage: .ci/parts.py test|gate|run
 
 test is what `make test` runs, gate what `make gate` runs, and run is both, for .ci/run. docs/develop/README.md says what each part shows.
 
-A part is a command. What it counts is its last line `[NAME: ]N passed, M failed[, K skipped]`; one without such a line, or that fails though it counts no
-failure, counts as one failed. Each tells its processor minutes. The last line adds up the counts, and the status is 0 where none failed. Whatever ends this
-script, all processes that it has started end with it, and its folder goes.
+A part is a command. What it counts is its last line `[NAME: ]N passed, M failed[, K skipped]`, or what rt counts of a crate's tests; one without such a line,
+or that fails though it counts no failure, counts as one failed. Each tells its processor minutes. The last line adds up the counts, and the status is 0 where
+none failed. Whatever ends this script, all processes that it has started end with it, and its folder goes.
 """
 import contextlib
 import ctypes
@@ -23,13 +23,11 @@ import threading
 import time
 
 TOP = os.path.dirname(os.path.dirname(os.path.realpath(__file__)))
-COUNTS = re.compile(r"^(?:[a-z. ]+: )?(\d+) passed, (\d+) failed(?:, (\d+) skipped)?$", re.MULTILINE)
-# What rt counts of a crate's tests, and what it says of those that pass.
-TESTED = re.compile(r"^test result: .*\. (\d+) passed; (\d+) failed;()", re.MULTILINE)
-PASSES = re.compile(r"test .* \.\.\. ok$")
+COUNTS = re.compile(r"^(?:[a-z. ]+: |test result: .*\. )?(\d+) passed[,;] (\d+) failed(?:, (\d+) skipped$|;.*$|$)", re.MULTILINE)
 LEFT_OUT = shutil.ignore_patterns(".git", "out", "target", "dist", "environment", "__pycache__")
-# The parts of what may be built, for the tests. They share what is built, and so run one after another. A page runs the program by rt try where it is not built,
-# which is done before the tests are, if it leaves the processors to these.
+# The tests of crates/i_shape_tests, without a proof, and beside them, one after another, the parts of what may be built, which they share. A page runs the program
+# by rt try where it isn't built, which is done before the tests are, if it leaves the processors to these.
+TRIED = "bash -c 'set -o pipefail; cd crates/i_shape_tests && rt try --test | grep -v \"^test .* ok$\"'"
 OF_WHAT_IS_BUILT = (".ci/c_library.sh --if-built", ".ci/elsewhere.sh --if-built", ".ci/python_package.sh", ".ci/javascript.sh --if-built",
                     ".ci/dist.sh --if-built", ".ci/scaling.sh", ".ci/pictures.sh", "nice -n 5 python3 .ci/pages.py")
 # The parts of the gate, before and after the proofs.
@@ -40,9 +38,9 @@ AFTER_PROOFS = (".ci/long_tests.sh", ".ci/c_library.sh", ".ci/elsewhere.sh", ".c
 WRONG_BODIES = "nice -n 10 sh -c '(cd crates/i_shape_c && rt lib --jobs 2) && exec python3 .ci/wrong.py --lanes 2'"
 
 
-def counts_of(said, status, pattern=COUNTS):
+def counts_of(said, status):
     """How many tests a part passed, failed and skipped that said this and ended with this status, and what is wrong with its counts, if something is."""
-    *_, last = [None, *pattern.findall(said)]
+    *_, last = [None, *COUNTS.findall(said)]
     if not last:
         return (0, 1, 0), "no count was given by"
     passed, failed, skipped = (int(count or 0) for count in last)
@@ -94,20 +92,15 @@ class Parts:
             how = {"stdin": subprocess.DEVNULL, "stdout": subprocess.PIPE, "stderr": subprocess.STDOUT, "text": True, "errors": "replace"}
             return subprocess.Popen(shlex.split(command), cwd=folder, **how)
 
-    def run(self, command, folder, pattern=COUNTS, hidden=None, at_once=True):
-        """Runs a part in a folder. What it says, but for the lines that begin with what is hidden, is told at once or at its end."""
+    def run(self, command, folder):
+        """Runs a part in a folder, and tells what it says."""
         lines = []
-
-        def tell(told):
-            for line in told:
-                if not (hidden and hidden.match(line)):
-                    print(line, end="", flush=True)
 
         def listen(said):
             try:
                 for line in said:
                     lines.append(line)
-                    tell([line] if at_once else [])
+                    print(line, end="", flush=True)
             except OSError:
                 # whom it is told to has gone
                 os.kill(os.getpid(), signal.SIGTERM)
@@ -122,10 +115,8 @@ class Parts:
         _, part.returncode, used = os.wait4(part.pid, 0)
         # a process that it has left behind may hold its output open
         listener.join(10)
-        with self.lock:
-            tell([] if at_once else lines)
-            print(f"processor minutes: {(used.ru_utime + used.ru_stime) / 60:.1f} ({command})", flush=True)
-            self.add(command, *counts_of("".join(lines), part.returncode, pattern))
+        print(f"processor minutes: {(used.ru_utime + used.ru_stime) / 60:.1f} ({command})", flush=True)
+        self.add(command, *counts_of("".join(lines), part.returncode))
 
     def add(self, what, counts, fault=None):
         if fault:
@@ -161,19 +152,14 @@ class Parts:
         shutil.rmtree(self.work, ignore_errors=True)
 
 
-def try_tests(parts):
-    """The tests of crates/i_shape_tests, without a proof."""
-    if shutil.which("rt"):
-        parts.run("rt try --test", f"{TOP}/crates/i_shape_tests", TESTED, PASSES, at_once=False)
-    else:
-        parts.add("crates/i_shape_tests: there is no rt of the Rattle kit on the path", (0, 0, 1), "skipped")
-
-
 def run_tests(parts):
-    tried = parts.beside(try_tests)
+    tried = parts.beside(Parts.run, TRIED, TOP) if shutil.which("rt") else None
     for command in OF_WHAT_IS_BUILT:
         parts.run(command, TOP)
-    tried.join()
+    if tried:
+        tried.join()
+    else:
+        parts.add("crates/i_shape_tests: there is no rt of the Rattle kit on the path", (0, 0, 1), "skipped")
 
 
 def try_wrong_bodies(parts, copy):
@@ -182,7 +168,7 @@ def try_wrong_bodies(parts, copy):
         shutil.copytree(f"{TOP}/{name}", f"{copy}/{name}", ignore=LEFT_OUT)
     for name in ("crates.txt", "HANDLES"):
         shutil.copy(f"{TOP}/{name}", copy)
-    parts.run(WRONG_BODIES, copy, at_once=False)
+    parts.run(WRONG_BODIES, copy)
 
 
 def run_gate(parts):

@@ -3,18 +3,14 @@
 # this run, and which runs as nobody where root runs this. By pg_regress what the calls answer and refuse, keys, tables and plans; beside that a restore, keys
 # beside Python's, refused allocations, a processor without SSE4.2, and the commands of docs/POSTGIS.md. Before that the reader is fuzzed under the address
 # sanitizer. It takes the library of `make c`. Where that isn't built, or where PostgreSQL 15, its headers or PostGIS aren't there, it is skipped.
-set -u
-cd "$(dirname "$0")/.." || exit 1
-. .ci/count.sh || exit 1
-export LC_ALL=C PYTHONDONTWRITEBYTECODE=1
+. "$(dirname "$0")/part.sh" || exit 1
 config=${PG_CONFIG:-/usr/lib/postgresql/15/bin/pg_config}
 library=$PWD/bindings/c/out
 here=bindings/postgres
-fuzzed=1000000
-
-[ -e "$("$config" --pgxs 2> /dev/null)" ] || skip_part 'postgres' 'there is no server of PostgreSQL 15 with its headers'
-[ -e "$("$config" --sharedir)/extension/postgis.control" ] || skip_part 'postgres' 'there is no PostGIS for PostgreSQL 15'
-bash bindings/c/build.sh --is-built || skip_part 'postgres' '`make c` builds the library that it takes'
+sanitizers=(-fsanitize=address,undefined -fno-sanitize-recover=undefined)
+[ -e "$("$config" --pgxs 2> /dev/null)" ] || skip_part 'there is no server of PostgreSQL 15 with its headers'
+[ -e "$("$config" --sharedir)/extension/postgis.control" ] || skip_part 'there is no PostGIS for PostgreSQL 15'
+bash bindings/c/build.sh --is-built || skip_part '`make c` builds the library that it takes'
 
 # Runs what follows as whom the server runs as, which may not be root.
 as_server() {
@@ -32,54 +28,37 @@ start_server() {
     for name in bindir libdir sharedir includedir-server; do
         mkdir -p "$own/$(realpath -m --relative-to=/usr "$("$config" "--$name")")"
     done
-    cp -a /usr/lib/postgresql/15 "$own/lib/postgresql/" && cp -a /usr/share/postgresql/15 "$own/share/postgresql/" &&
-        cp -a /usr/include/postgresql "$own/include/" || return 1
+    cp -a /usr/lib/postgresql/15 "$own/lib/postgresql/" && cp -a /usr/share/postgresql/15 "$own/share/postgresql/" && cp -a /usr/include/postgresql "$own/include/" || return
     bin=$own/lib/postgresql/15/bin
     mkdir "$work/data" "$work/socket" && { [ "$(id -u)" != 0 ] || chown nobody "$work/data" "$work/socket"; } &&
-        as_server "$bin/initdb" -D "$work/data" -A trust -U postgres --locale=C.UTF-8 --no-sync || return 1
+        as_server "$bin/initdb" -D "$work/data" -A trust -U postgres --locale=C.UTF-8 --no-sync || return
     printf '%s\n' "listen_addresses = ''" "unix_socket_directories = '$work/socket'" 'fsync = off' 'jit = off' >> "$work/data/postgresql.conf"
     as_server "$bin/pg_ctl" -w -D "$work/data" -l "$work/data/log" start
 }
 
 # The extension, built in the folder $1 with the words from $2 on.
 build() {
-    local out=$1
-    mkdir -p "$out"
-    make -s -C "$out" -f "$PWD/$here/Makefile" "PG_CONFIG=$bin/pg_config" "I_SHAPE_C_DIR=$library" "${@:2}"
+    mkdir -p "$1"
+    make -s -C "$1" -f "$PWD/$here/Makefile" "PG_CONFIG=$bin/pg_config" "I_SHAPE_C_DIR=$library" "${@:2}"
 }
 
-# A statement, or more words, of psql. An error ends it.
+# A statement, or more words, of psql. An error ends it, and is told as an answer.
 ask() {
-    psql -XAtq -v ON_ERROR_STOP=1 "$@"
-}
-
-# Counts whether what follows answers $2, of the test $1.
-answers() {
-    local answer
-    answer=$("${@:3}" 2>&1)
-    [ "$answer" = "$2" ] || printf '%s\n' "$1 answers: $answer"
-    [ "$answer" = "$2" ]
-    count $? "$1"
+    psql -XAtq -v ON_ERROR_STOP=1 "$@" 2>&1
 }
 
 # The reader, the writers and the order of forms, over mutated WKB. No block is left, which the sanitizer looks for at the end.
 test_fuzz() {
-    local sanitizers=(-fsanitize=address,undefined -fno-sanitize-recover=undefined)
-    if ! { echo 'int main(void) { return 0; }' | "${CC:-cc}" -x c "${sanitizers[@]}" -o "$work/probe" - && "$work/probe"; } 2> /dev/null; then
-        skip 'mutated WKB' 'the compiler has no address sanitizer that runs here'
-        return
-    fi
-    "${CC:-cc}" -g -O1 "${sanitizers[@]}" -Iinclude "-I$here" "$here"/tests/fuzz.c "$here"/{wkb,forms}.c "$library/libi_shape.a" -lm -o "$work/fuzz" &&
-        "$work/fuzz" "$fuzzed"
-    count $? 'mutated WKB'
+    compiles_with "${sanitizers[@]}" || { skip 'mutated WKB' 'the compiler has no address sanitizer that runs here' && return; }
+    "${CC:-cc}" -g -O1 "${sanitizers[@]}" -Iinclude "-I$here" "$here"/tests/fuzz.c "$here"/{wkb,forms}.c "$library/libi_shape.a" -lm -o "$work/fuzz"
+    check 'mutated WKB' "$work/fuzz" 1000000
 }
 
 test_regress() {
     local name
-    build "$work/out" installcheck > "$work/log" 2>&1 || cat "$work/out/regression.diffs" "$work/log"
+    build "$work/out" installcheck > "$work/told" 2>&1 || cat "$work/out/regression.diffs" "$work/told"
     for name in $(sed -n 's/^REGRESS = //p' "$here/Makefile"); do
-        grep -qE "^test $name +\.\.\. ok" "$work/log"
-        count $? "pg_regress, $name"
+        check "pg_regress, $name" grep -qE "^test $name +\.\.\. ok" "$work/told"
     done
 }
 
@@ -91,18 +70,15 @@ test_restore() {
             -c 'CREATE UNIQUE INDEX ON kept (i_shape_key(geom, 1))' \
             -c 'INSERT INTO kept SELECT ST_MakeEnvelope(x, 0, x + 1, 1) FROM generate_series(1, 100) AS x'
     "$bin/pg_dump" dumped | ask -d restored > /dev/null
-    answers 'a restore' 100 ask -d restored -c 'SELECT count(*) FROM kept WHERE digest = sha256(i_shape_key(ST_Reverse(geom), 1))'
+    prints 'a restore' 100 ask -d restored -c 'SELECT count(*) FROM kept WHERE digest = sha256(i_shape_key(ST_Reverse(geom), 1))'
 }
 
 # Keys of the package for Python, made of the same polygons.
 test_python_keys() {
-    if ! /usr/bin/python3 -c 'import numpy.typing' 2> /dev/null; then
-        skip "keys beside Python's" "Debian's Python has no numpy"
-        return
-    fi
-    I_SHAPE_C_DIR=$library PYTHONPATH=bindings/python/src /usr/bin/python3 "$here/tests/keys.py" 20000 > "$work/keys"
+    "$python" -c 'import numpy.typing' 2> /dev/null || { skip "keys beside Python's" "$python has no numpy" && return; }
+    I_SHAPE_C_DIR=$library PYTHONPATH=bindings/python/src "$python" "$here/tests/keys.py" 20000 > "$work/keys"
     ask -c 'CREATE TABLE python_keys (wkb bytea, oriented bytea, unoriented bytea)' -c "\\copy python_keys FROM '$work/keys'"
-    answers "keys beside Python's" '20000|20000|20000|20000' ask -c "SELECT count(*),
+    prints "keys beside Python's" '20000|20000|20000|20000' ask -c "SELECT count(*),
         count(*) FILTER (WHERE i_shape_wkb_key(wkb, 0.25, true) IS NOT DISTINCT FROM nullif(oriented, '')),
         count(*) FILTER (WHERE i_shape_wkb_key(wkb, 0.25) IS NOT DISTINCT FROM nullif(unoriented, '')),
         count(*) FILTER (WHERE i_shape_key(ST_GeomFromEWKB(wkb), 0.25) IS NOT DISTINCT FROM nullif(unoriented, '')) FROM python_keys"
@@ -114,34 +90,27 @@ test_refusals() {
     mkdir -p "$work/refusing/tests" && build "$work/refusing" MORE_OBJS=tests/refuse.o MORE_CPPFLAGS=-DMOST_BYTES=1000 > "$work/log" 2>&1 || cat "$work/log"
     ask -c 'CREATE DATABASE refusing' -d template1
     ask -d refusing -c 'SET client_min_messages = error' -c 'CREATE EXTENSION postgis' -f "$work/refusing.sql"
-    ask -d refusing -v "module=$work/refusing/i_shape" < "$here/tests/refuse.sql" > "$work/printed" 2>&1
-    diff "$here/tests/refuse.out" "$work/printed"
-    count $? 'each allocation refused, and answers that are too long'
+    ask -d refusing -v "module=$work/refusing/i_shape" < "$here/tests/refuse.sql" > "$work/printed"
+    check 'each allocation refused, and answers that are too long' diff "$here/tests/refuse.out" "$work/printed"
 }
 
 # A module that finds a processor without SSE4.2 refuses to be loaded.
 test_processor() {
     [ "$(uname -m)" = x86_64 ] || return
     build "$work/old" 'MORE_CPPFLAGS="-D__builtin_cpu_supports(name)=0"' > "$work/log" 2>&1 || cat "$work/log"
-    answers 'a processor without SSE4.2' 'ERROR:  0A000' ask -v VERBOSITY=sqlstate -c "LOAD '$work/old/i_shape'"
+    prints 'a processor without SSE4.2' 'ERROR:  0A000' ask -v VERBOSITY=sqlstate -c "LOAD '$work/old/i_shape'"
 }
 
 # The module shows the server nothing but its calls, and has the library's version.
 test_module() {
-    answers 'the names of the module' 'Pg_magic_func _PG_init' \
-        bash -c "nm -D --defined-only '$work/out/i_shape.so' | sed 's/.* //' | grep -vE '^(pg_finfo_)?pg_i_shape_' | sort | xargs"
-    answers 'the version' "$(sed -n '/^## /{s/^## //p;q}' CHANGELOG.md)" ask -c 'SELECT i_shape_version()'
-}
-
-test_page() {
-    PATH="$bin:$PATH" PGDATABASE=page python3 .ci/pages.py docs/POSTGIS.md > "$work/log" 2>&1
-    add $? 'docs/POSTGIS.md'
+    prints 'the names of the module' $'Pg_magic_func\n_PG_init' bash -c "nm -D --defined-only '$work/out/i_shape.so' | sed 's/.* //' | grep -vE '^(pg_finfo_)?pg_i_shape_' | sort"
+    prints 'the version' "$(sed -n '/^## /{s/^## //p;q}' CHANGELOG.md)" ask -c 'SELECT i_shape_version()'
 }
 
 chmod 755 "$work"
 trap stop_server EXIT
 test_fuzz
-start_server > "$work/log" 2>&1 && build "$work/out" install >> "$work/log" 2>&1 || { cat "$work/data/log"; fail_part 'postgres'; }
+start_server > "$work/log" 2>&1 && build "$work/out" install >> "$work/log" 2>&1 || { cat "$work/log" "$work/data/log" && count 1 'the server' && end_part; }
 export PGHOST=$work/socket PGUSER=postgres PGDATABASE=contrib_regression
 test_regress
 test_module
@@ -150,5 +119,5 @@ test_python_keys
 test_refusals
 test_processor
 ask -d template1 -c 'CREATE DATABASE page'
-test_page
-tell_counts 'postgres'
+add 'docs/POSTGIS.md' env PATH="$bin:$PATH" PGDATABASE=page python3 .ci/pages.py docs/POSTGIS.md
+end_part

@@ -1,7 +1,6 @@
 #!/usr/bin/env python3
-"""Tests the scripts that test the rest: parts.py, pages.py, wrong.py, and how i_shape_tool and the program's build behave, over stand-ins for rt and small texts.
-
-The last line is 'tests of the scripts: N passed, M failed'.
+"""Tests the scripts that test the rest: parts.py, part.sh, pages.py, wrong.py, and how i_shape_tool and the program's build behave, over stand-ins for rt and
+small texts.
 """
 import os
 import shutil
@@ -50,17 +49,30 @@ class PartsTest(Case):
             ("1 passed, 0 failed\nc: 4 passed, 1 failed, 3 skipped\nmake: it failed\n", 2, (4, 1, 3)),
             ("2 passed, 0 failed\n", 1, (2, 1, 0)),
             ("no count\n", 0, (0, 1, 0)),
+            ("test result: ok. 7 passed; 0 failed; 0 ignored\n", 0, (7, 0, 0)),
         ):
             self.assertEqual(parts.counts_of(said, status)[0], counts, said)
-        self.assertEqual(parts.counts_of("test result: ok. 7 passed; 0 failed; 0 ignored\n", 0, parts.TESTED), ((7, 0, 0), None))
         self.assertEqual(parts.sum_line([(1, 0, 0), (2, 0, 0)]), "3 passed, 0 failed")
         self.assertEqual(parts.sum_line([(1, 0, 0), (2, 1, 4)]), "3 passed, 1 failed, 4 skipped")
+
+    def test_shell(self):
+        """What part.sh counts: each test that fails, and a run of tests that dies, counts nothing, or hides a failure."""
+        write(f"{self.room}/.ci/part.sh", pages.read(f"{TOP}/.ci/part.sh"))
+        write(f"{self.room}/.ci/a_part.sh", """. "$(dirname "$0")/part.sh"
+check right true && check wrong false && prints right 1 echo 1 && prints wrong 1 echo 2 && prints nothing '' true
+add right echo 'its tests: 10 passed, 0 failed, 2 skipped'
+for run in 'echo 1 passed, 1 failed' 'echo 1 passed, 0 failed; exit 1' 'echo 1; exit 0' 'kill -9 $$'; do add wrong sh -c "$run"; done
+has tests no-such-program || has_built tests no-such-script || end_part
+""")
+        ran = self.run_in("/", "bash", f"{self.room}/.ci/a_part.sh", "--if-built")
+        self.assertEqual((ran.returncode, ran.stdout.splitlines()[-1]), (1, "a part: 14 passed, 7 failed, 4 skipped"))
+        self.assertEqual(os.listdir(f"{self.room}/tmp"), [])
 
     def test_runs(self):
         """A part beside another, one that fails, one that leaves a process behind, and one that doesn't start."""
         script = """import parts, sys
 run = parts.Parts()
-beside = run.beside(lambda run: run.run("sh -c 'sleep 0.3; echo shown; echo hidden; echo 1 passed, 0 failed'", "/", hidden=parts.re.compile("hidden"), at_once=False))
+beside = run.beside(parts.Parts.run, "sh -c 'sleep 0.3; echo 1 passed, 0 failed'", "/")
 run.run("sh -c 'echo 2 passed, 0 failed; exit 3'", "/")
 run.run("sh -c 'sleep 300 > /dev/null 2>&1 & echo 4 passed, 0 failed'", "/")
 run.run("no-such-program", "/")
@@ -71,8 +83,6 @@ run.end()
 """
         ran = self.run_in(f"{TOP}/.ci", sys.executable, "-B", "-c", script, timeout=20)
         self.assertEqual(ran.stdout.splitlines()[-1], "7 passed, 3 failed")
-        self.assertIn("shown\n1 passed", ran.stdout)
-        self.assertNotIn("\nhidden", ran.stdout)
         self.assertEqual(os.listdir(f"{self.room}/tmp"), [])
 
     @staticmethod

@@ -3,18 +3,16 @@
 
 usage: .ci/wrong.py [--lanes N] [--anew] [--write] [--only WORD..]
 
-An edit is a file crates/NAME/wrong/WHAT_IT_DOES.edit: a line 'file: src/..', a line 'refused: module::Type::function' with
-the function whose fault it must be, a line 'clause: NAME' with the clause that excludes it, and pairs of lines 'old: TEXT'
-and 'new: TEXT'. Each old text stands in its file once. The line 'clause' may be missing.
+An edit is a file crates/NAME/wrong/WHAT_IT_DOES.edit: a line 'file: src/..', a line 'refused: module::Type::function' with the function whose fault it must be,
+a line 'clause: NAME' with the clause that excludes it, which may be missing, and pairs of lines 'old: TEXT' and 'new: TEXT'. Each old text stands in its file
+once.
 
-Edits are put into a copy of their crate, at most one for each function, and checked together, over what earlier checks
-kept. An edit passes where the prover leaves a goal of its own function open, and one of these is of the clause that the edit
-names: the goal 'returns-clause-NAME', say, or the goal NAME itself. A fault of a function that it calls, or a text that
-cannot be read, is not enough. Rounds go on until each edit is judged. The last line is 'wrong bodies: N passed, M failed'.
+Edits are put into a copy of their crate, at most one for each function, and checked together, over what earlier checks kept. An edit passes where the prover
+leaves a goal of its own function open, and one of these is of the clause that the edit names: the goal 'returns-clause-NAME', say, or the goal NAME itself. A
+fault of a function that it calls, or a text that cannot be read, is not enough. Rounds go on until each edit is judged.
 
-An edit that passed is noted in ~/.cache/raspochre, or below $XDG_CACHE_HOME, by a sum of what it was judged by: the kit's
-checker, this script, the edit, its crate's line in crates.txt, and the code, contracts and proofs of its crate and of those
-below. While none of these changes, it passes again without a check, in any clone. One that fails loses its note.
+An edit that passed is noted in ~/.cache/raspochre, or below $XDG_CACHE_HOME, by a sum of what it was judged by: the kit, this script, the edit, its crate's line
+in crates.txt, and the code, contracts and proofs of its crate and of those below. While none of these changes, it passes again without a check, in any clone.
 
 --lanes N      tries the edits of as many crates at once; as many as there are processors where it isn't given
 --anew         tries the edits that are noted too
@@ -33,34 +31,14 @@ import shutil
 import subprocess
 import sys
 import tempfile
-import time
 from concurrent.futures import ThreadPoolExecutor
 
 sys.dont_write_bytecode = True
+# the module of the command rt that composes the words of a check
+sys.path.insert(0, os.path.dirname(os.path.realpath(shutil.which("rt") or sys.exit("wrong.py: there is no rt on the path"))))
+import rtlib as KIT  # noqa: E402
 
-
-def load_kit():
-    """Returns the module of the command rt that composes the words of a check."""
-    rt = shutil.which("rt") or sys.exit("wrong.py: there is no rt on the path")
-    sys.path.insert(0, os.path.dirname(os.path.realpath(rt)))
-    import rtlib
-
-    return rtlib
-
-
-KIT = load_kit()
-
-
-def cache():
-    """Returns the folder in which the user's programs keep what they can make again."""
-    given = os.environ.get("XDG_CACHE_HOME", "")
-    return given if os.path.isabs(given) else os.path.expanduser("~/.cache")
-
-
-# where the wrong bodies that passed are noted, and the seconds after which a note goes that no run has used
-NOTES = f"{cache()}/raspochre/wrong_bodies"
-NOTE_LASTS = 60 * 24 * 60 * 60
-
+NOTES = f"{os.environ.get('XDG_CACHE_HOME') or os.path.expanduser('~/.cache')}/raspochre/wrong_bodies"
 # what an error says of a name that is no longer there, or of a proof that rests on one that was refused
 GONE = r"has no field|is not in scope|has no `|was not admitted"
 
@@ -75,29 +53,23 @@ class Edit:
 
     def __init__(self, file):
         self.file, self.crate, self.name = file, file.split("/")[-3], os.path.basename(file).removesuffix(".edit")
-        self.text, self.function, self.clause, self.pairs = read(file), None, None, []
+        self.text, self.pairs, self.goals = read(file), [], None
         # the functions beside whose edits it is not tried, and whether it is tried beside none
         self.apart_from, self.is_alone = set(), False
-        path = old = None
-        lines = [line.partition(":") for line in self.text.splitlines() if line]
-        self.is_well_formed = bool(re.fullmatch("(file |refused |clause |old new )+", "".join(f"{word} " for word, _, _ in lines)))
-        for word, _, text in lines:
-            if word == "file":
-                path = text.strip()
-            elif word == "refused":
-                self.function = text.strip()
-            elif word == "clause":
-                self.clause = text.strip()
-            elif word == "old":
-                old = text.removeprefix(" ")
-            elif word == "new":
-                self.pairs.append((path, old, text.removeprefix(" ")))
+        told, words = {}, ""
+        for word, _, text in (line.partition(":") for line in self.text.splitlines() if line):
+            told[word] = text.removeprefix(" ")
+            words += f"{word} "
+            if word == "new":
+                self.pairs.append((told.get("file"), told.get("old"), told["new"]))
+        self.is_well_formed = self.pairs and re.fullmatch("(file |refused |clause |old new )+", words)
+        self.function, self.clause = told.get("refused"), told.get("clause")
 
     def fault(self, folder):
         """Returns what keeps it from being tried on the crate in this folder, or None."""
         if not self.function:
             return "it has no line 'refused:'"
-        if not self.is_well_formed or not self.pairs or any(not path or not old for path, old, _ in self.pairs):
+        if not self.is_well_formed or not all(path and old for path, old, _ in self.pairs):
             return "its lines are not 'file:', 'refused:', 'clause:', and then pairs of 'old:' and 'new:'"
         for path in {path for path, _, _ in self.pairs}:
             if os.path.normpath(path) != path or not path.startswith("src/") or not os.path.isfile(f"{folder}/{path}"):
@@ -203,48 +175,30 @@ class Notes:
     """The wrong bodies of one crate that passed on this machine: a file for each, named for the sum of all that it was judged by."""
 
     def __init__(self, crate):
-        self.crate = crate
-        self.files, self.stamp = self.look(), crate.stamp()
-
-    def look(self):
-        """Returns what tells whether a file by which the crate's edits are judged was changed meanwhile, also where it was changed back."""
-        files = [KIT.RATTLE, *(file for crate in [self.crate, *self.crate.below()] for file in KIT.files_of(crate.folder))]
-        return [(it.st_ino, it.st_size, it.st_mtime_ns, it.st_ctime_ns) for it in map(os.lstat, files)]
+        self.crate, self.stamp = crate, crate.stamp()
 
     def place(self, edit):
-        kit = os.stat(KIT.RATTLE)
-        judges = read(os.path.realpath(__file__)), read(KIT.__file__), kit.st_size, kit.st_mtime_ns, self.stamp
-        return f"{NOTES}/{hashlib.sha256(repr((judges, edit.name, edit.text)).encode()).hexdigest()}"
+        judges = read(os.path.realpath(__file__)), read(KIT.__file__), self.stamp, edit.name, edit.text
+        return f"{NOTES}/{hashlib.sha256(repr(judges).encode()).hexdigest()}"
 
     def goals_of(self, edit):
         """Returns the goals at which the edit was refused, or None where it isn't noted."""
-        try:
+        with contextlib.suppress(OSError):
             os.utime(self.place(edit))
             return read(self.place(edit)).split()
-        except OSError:
-            return None
 
     def add(self, edits):
-        """Notes that these passed, unless a file has changed since the run began, or there is no room for a note."""
-        with contextlib.suppress(OSError):
-            if not edits or self.files != self.look():
-                return
-            os.makedirs(NOTES, exist_ok=True)
-            for edit in edits:
-                with open(self.place(edit), "w", encoding="utf-8") as note:
-                    note.write("\n".join(edit.goals))
+        """Notes that these passed, unless the crate has changed since the run began, or there is no room for a note."""
+        if edits and self.stamp == self.crate.stamp():
+            with contextlib.suppress(OSError):
+                os.makedirs(NOTES, exist_ok=True)
+                for edit in edits:
+                    with open(self.place(edit), "w", encoding="utf-8") as note:
+                        note.write("\n".join(edit.goals))
 
     def drop(self, edit):
         with contextlib.suppress(OSError):
             os.remove(self.place(edit))
-
-
-def sweep_notes():
-    """Removes the notes that no run has used for long."""
-    with contextlib.suppress(OSError):
-        for note in os.scandir(NOTES):
-            if time.time() - note.stat().st_mtime > NOTE_LASTS:
-                os.remove(note.path)
 
 
 class Trial:
@@ -254,8 +208,7 @@ class Trial:
         self.crate, self.left, self.notes, self.writes, self.passed = crate, edits, Notes(crate), writes, []
 
     def sort_out(self, is_anew):
-        """Judges the edits that need no check, those that can't be tried and those that are noted, unless all are tried anew, and tells which of the
-        others are tried alone."""
+        """Judges the edits that can't be tried, and those that are noted unless all are tried anew, and tells which of the others are tried alone."""
         for edit in list(self.left):
             if fault := edit.fault(self.crate.folder):
                 self.judge(edit, f"BAD EDIT: {fault}")
@@ -345,26 +298,6 @@ class Trial:
             self.refuse(edit, found.goals_of(own))
 
 
-def is_named(edit, word):
-    return word == edit.crate or word in edit.name
-
-
-def edits_by_crate(root, words):
-    """Returns the edits that the words name, or all where there are no words, by their crate."""
-    found = {}
-    for file in sorted(glob.glob(f"{root}/crates/*/wrong/*.edit")):
-        edit = Edit(file)
-        if not words or any(is_named(edit, word) for word in words):
-            found.setdefault(edit.crate, []).append(edit)
-    return found
-
-
-def has_libraries(crates):
-    """Proves the libraries below these crates where they are not, and returns whether all are."""
-    libraries = dict.fromkeys(it for crate in crates for it in crate.below())
-    return all(it.build_rlib(["--jobs", str(processors())], anew=False) == 0 for it in libraries)
-
-
 def processors():
     return len(os.sched_getaffinity(0))
 
@@ -381,32 +314,35 @@ def main():
     root = os.path.dirname(os.path.dirname(os.path.realpath(__file__)))
     os.chdir(root)
     listed = {it.name: it for it in KIT.crates_below(root)}
-    edits = edits_by_crate(root, asked.only)
-    chosen = [it for of_crate in edits.values() for it in of_crate]
+    every = [Edit(file) for file in sorted(glob.glob(f"{root}/crates/*/wrong/*.edit"))]
+    chosen = [it for it in every if not asked.only or any(word == it.crate or word in it.name for word in asked.only)]
     for word in asked.only:
-        if word not in listed and not any(is_named(it, word) for it in chosen):
+        if word not in listed and not any(word in it.name for it in every):
             parser.error(f"no crate and no wrong body is named {word}")
     for edit in chosen:
         if edit.crate not in listed:
             tell(edit, "BAD EDIT: crates.txt does not list its crate")
-    trials = [Trial(listed[it], edits[it], asked.write).sort_out(asked.anew) for it in edits if it in listed]
+    edits = {crate: [it for it in chosen if it.crate == name] for name, crate in listed.items()}
+    trials = [Trial(crate, its, asked.write).sort_out(asked.anew) for crate, its in edits.items() if its]
     noted = sum(len(it.passed) for it in trials)
     open_ones = sorted((it for it in trials if it.left), key=lambda it: -len(it.left))
     # its first call sets a signal's handler, which only the main thread may
     KIT.guarded()
-    if has_libraries([it.crate for it in open_ones]):
+    libraries = dict.fromkeys(below for it in open_ones for below in it.crate.below())
+    if all(it.build_rlib(["--jobs", str(processors())], anew=False) == 0 for it in libraries):
         with ThreadPoolExecutor(asked.lanes) as pool:
             list(pool.map(Trial.run, open_ones))
     passed = sum(len(it.passed) for it in trials)
     # an edit that was not judged counts as failed
     failed = len(chosen) - passed
-    sweep_notes()
+    # notes that no run has used for sixty days go
+    subprocess.run(["find", NOTES, "-type", "f", "-mtime", "+60", "-delete"], stderr=subprocess.DEVNULL, check=False)
     if noted:
         print(f"{noted} wrong bodies passed in earlier runs on this machine, and nothing that they were judged by has changed")
     if unnamed := sum(not it.clause for it in chosen):
         print(f"{unnamed} wrong bodies name no clause")
     print(f"wrong bodies: {passed} passed, {failed} failed")
-    return 1 if failed else 0
+    return failed > 0
 
 
 if __name__ == "__main__":

@@ -1,7 +1,7 @@
 #!/usr/bin/env bash
 # Makes the calls of C at 16 and at 64 bits, their proofs and their declarations, from those at 32 bits: i16.rt, i64.rt and i32.rt in
 # crates/i_shape_c/src/calls and its folder measures, the folders of these names in proofs/calls, and the sections of include/i_shape.h. With the word --check
-# it tells where what is there is something else, and the last line is 'widths: N passed, M failed'.
+# it tells where what is there is something else.
 set -euo pipefail
 shopt -s nullglob
 cd "$(dirname "$0")/.." || exit 1
@@ -68,14 +68,11 @@ if [ "${1-}" != --check ]; then
     printf '%s\n' "$made" > "$header"
     exit
 fi
-. .ci/count.sh
+. .ci/part.sh
 make_widths "$work"
-for part in src/calls proofs/calls; do
-    same=0
-    diff -r -x i32 -x i32.rt -x measures.rt "$crate/$part" "$work/$part" || same=1
-    count $same "$crate/$part: another width than scripts/widths.sh makes of i32"
+set +e
+for folder in src/calls proofs/calls; do
+    check "$crate/$folder: another width than scripts/widths.sh makes of i32" diff -r -x i32 -x i32.rt -x measures.rt "$crate/$folder" "$work/$folder"
 done
-same=0
-diff "$header" <(made_header) || same=1
-count $same "$header: another width than scripts/widths.sh makes of 32 bits"
-tell_counts widths
+check "$header: another width than scripts/widths.sh makes of 32 bits" diff "$header" <(made_header)
+end_part

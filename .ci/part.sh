@@ -1,0 +1,137 @@
+# For the scripts of the parts, which source this first: they run at the top of the checkout, have a folder $work, and count in $passed, $failed and $skipped.
+# $only_built is --if-built where nothing that would be proved is to be built: by the word of the script, or because there is no rt.
+set -u
+cd "$(dirname "${BASH_SOURCE[0]}")/.." || exit 1
+export LC_ALL=C PYTHONDONTWRITEBYTECODE=1
+unset PYTHONPATH PYTHONHOME
+part=$(basename "$0" .sh | tr _ ' ')
+only_built=${1-}
+command -v rt > /dev/null || only_built=--if-built
+python=${PYTHON:-/usr/bin/python3}
+corners=$'0 0\n4 0\n4 4\n0 4'
+warnings=(-Wall -Wextra -Wpedantic -Wconversion -Werror)
+runner=()
+passed=0 failed=0 skipped=0
+work=$(mktemp -d) || exit 1
+trap 'rm -rf "$work"' EXIT
+
+# Counts the test $2, which ended with status $1.
+count() {
+    if [ "$1" = 0 ]; then
+        passed=$((passed + 1))
+    else
+        failed=$((failed + 1))
+        echo "failed: $2"
+    fi
+}
+
+# Counts the test $1: the words from $2 on, whose output is told where they fail.
+check() {
+    "${@:2}" > "$work/log" 2>&1
+    local status=$?
+    [ "$status" = 0 ] || cat "$work/log"
+    count "$status" "$1"
+}
+
+# Counts the test $1: the words from $3 on print $2.
+prints() {
+    local printed
+    printed=$("${@:3}")
+    [ -n "$2" ] && [ "$printed" = "$2" ] || { echo "$1 prints: $printed" && false; }
+    count $? "$1"
+}
+
+# Adds up what the tests $1 count in the last line of what the words from $2 on print. One failure is counted where there is no such line, or where they fail and
+# count none.
+add() {
+    local its_passed its_failed its_skipped status
+    "${@:2}" > "$work/log" 2>&1
+    status=$?
+    read -r its_passed its_failed its_skipped <<< "$(sed -nE 's/^([a-z. ]+: )?([0-9]+) passed, ([0-9]+) failed(, ([0-9]+) skipped)?$/\2 \3 \5/p' "$work/log" | tail -n 1)"
+    if [ -z "$its_passed" ] || { [ "$status" != 0 ] && [ "$its_failed" = 0 ]; }; then
+        echo "$1: it ended with status $status"
+        its_failed=1
+    fi
+    grep -v ' passed, ' "$work/log"
+    passed=$((passed + its_passed))
+    failed=$((failed + its_failed))
+    skipped=$((skipped + its_skipped))
+}
+
+# Counts the tests $1, which are skipped for the reason $2, as one.
+skip() {
+    echo "skipped: $1: $2"
+    skipped=$((skipped + 1))
+}
+
+# Whether the programs from $2 on are there. Where one isn't, the tests $1 are skipped.
+has() {
+    local tool
+    for tool in "${@:2}"; do
+        "$tool" --version > /dev/null 2>&1 || { skip "$1" "there is no $tool" && return 1; }
+    done
+}
+
+# Whether the script $2, with the words from $3 on, builds what the tests $1 need, or has built it. They are skipped where it may not, and fail where it can't.
+has_built() {
+    if [ "$only_built" = --if-built ] && ! bash "$2" --is-built "${@:3}"; then
+        skip "$1" "$2 has not built what it needs"
+        return 1
+    fi
+    bash "$2" "${@:3}" > "$work/log" 2>&1 || { cat "$work/log" && count 1 "$1: what it needs isn't built" && return 1; }
+}
+
+has_python() {
+    "$python" -c 'import numpy.typing, setuptools, wheel, venv, ensurepip' > /dev/null 2>&1
+}
+
+has_node() {
+    node --input-type=module -e 'import.meta.resolve("node:fs")' > /dev/null 2>&1
+}
+
+# Ends the part with the line that counts its tests.
+end_part() {
+    echo "$part: $passed passed, $failed failed$([ "$skipped" = 0 ] || echo ", $skipped skipped")"
+    [ "$failed" = 0 ]
+    exit
+}
+
+# Ends the part, which is skipped for this reason.
+skip_part() {
+    skip "$part" "$1"
+    end_part
+}
+
+# Whether the compiler makes programs with these flags that run here.
+compiles_with() {
+    { echo 'int main(void) { return 0; }' | "${CC:-cc}" -x c "$@" -o "$work/probe" - && "$work/probe"; } > /dev/null 2>&1
+}
+
+compile_and_run() {
+    "$@" -O1 -g "${warnings[@]}" -Iinclude -pthread -o "$work/tests" && "${runner[@]}" "$work/tests"
+}
+
+# Compiles the tests $1 of the C library by the words from $2 on, and runs them by the words of the array runner.
+test_as() {
+    echo "$1"
+    add "$1" compile_and_run "${@:2}"
+}
+
+# Compiles the program $3 that answers as the library $2 does at the width $1, by the words from $4 on.
+compile_answers() {
+    "${@:4}" -std=c11 -O2 -Wall -Wextra -Werror "-DWIDTH=$1" "-DWIDTH_TWICE=$((2 * $1))" -Iinclude bindings/js/test/native/answers.c "$2" -o "$3"
+}
+
+# The calls that the header declares.
+declared() {
+    "${CC:-cc}" -E -Iinclude include/i_shape.h | grep -v '^static inline' | grep -oE '\bi_shape_[a-z0-9_]+ ?\(' | tr -d ' (' | sort
+}
+
+# The tests of the crate for Rust, by these words of cargo.
+test_crate() {
+    cargo test --offline --locked --quiet "$@" > "$work/told" 2>&1
+    local status=$?
+    [ "$status" = 0 ] || cat "$work/told"
+    awk '/^test result:/ { passed += $4; failed += $6 } END { print passed + 0 " passed, " failed + 0 " failed" }' "$work/told"
+    return $status
+}
