@@ -47,7 +47,8 @@ pub trait ContourCleaner: Drop {
     ghost fewest: { ℕ };
 
     /// Returns a cleaner that allocates from `alloc`, but not before a contour needs memory.
-    fn new(alloc: Global) -> Self;
+    fn new(alloc: Global) -> Self
+        ensures no_room { (n : ℕ) → has_room result n → n < fewest };
 
     /// Makes room for contours of up to `points` points, and allocates nothing below three. It never reduces the room.
     /// The only error is `OutOfMemory`, which can't occur below three points or if there is room.
@@ -55,6 +56,7 @@ pub trait ContourCleaner: Drop {
         ensures room { IfOk result (λ _. has_room self.new points) }
         ensures reserved { has_room self.old points → IsOk result }
         ensures short { points < 3 → IsOk result }
+        ensures spared { points < fewest → self.new ≡ self.old }
         ensures keeps_room { (n : ℕ) → has_room self.old n → has_room self.new n }
         ensures memory { IsOkUnless result ShapeError.OutOfMemory };
 
@@ -72,7 +74,8 @@ pub trait ContourCleaner: Drop {
         requires { IsSafeContour I.width (contour_of I.value contour.now) }
         ensures answer { let c = contour_of I.value contour.now in
             OkUnlessMemory result (CleansTo answers keeps I.width I.value c) }
-        ensures short { length contour.now < 3 → result ≡ Ok None };
+        ensures short { length contour.now < 3 → result ≡ Ok None }
+        ensures keeps_room { (n : ℕ) → has_room self.old n → has_room self.new n };
 
     /// Does the same as `cleaned` for a contour that isn't clean, without testing it first.
     fn cleaned_unchecked<I: IntNumber>(
@@ -84,6 +87,7 @@ pub trait ContourCleaner: Drop {
         ensures answer { let c = contour_of I.value contour.now in
             OkUnlessMemory result (CleansTo answers keeps I.width I.value c) }
         ensures short { length contour.now < 3 → result ≡ Ok None }
+        ensures keeps_room { (n : ℕ) → has_room self.old n → has_room self.new n }
     {
         self.cleaned(contour)
     }

@@ -174,6 +174,7 @@ impl ContourDeSpiker {
     pub fn reserve(&mut self, points: usize) -> Result<(), ShapeError>
         ensures room { IfOk result (λ _. HasRoomToDespike self.new points) }
         ensures reserved { HasRoomToDespike self.old points → IsOk result }
+        ensures spared { points < 4 → self.new ≡ self.old }
         ensures keeps_room { KeepsRoomToDespike self.old self.new }
         ensures memory { IsOkUnless result ShapeError.OutOfMemory }
     {

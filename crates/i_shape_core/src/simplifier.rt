@@ -94,6 +94,7 @@ impl ContourSimplifier {
     pub fn reserve(&mut self, points: usize) -> Result<(), ShapeError>
         ensures room { IfOk result (λ _. HasRoomToSimplify self.new points) }
         ensures reserved { HasRoomToSimplify self.old points → IsOk result }
+        ensures spared { points < 3 → self.new ≡ self.old }
         ensures keeps_room { KeepsRoomToSimplify self.old self.new }
         ensures memory { IsOkUnless result ShapeError.OutOfMemory }
     {
