@@ -9,7 +9,7 @@ use Rattle.std.proofs.lemmas.Int.{ints, int_wrap_fits}
 use Rattle.std.specs.Int.{Width, int_wrap}
 use Rattle.i_shape_core.specs.Widths.{bits, hbits}
 use Rattle.i_shape_core.specs.IntPoint.{IsSafeCoordinate, IsSafe}
-use Rattle.i_shape_core.specs.Point.{Point}
+use Rattle.i_shape_core.specs.Point.{Point, vector}
 use Rattle.i_shape_core.proofs.arithmetic.Products.{InReach, reach-fits}
 
 lt-cases : (x y : ℤ) → IsTrue (is_lt (int_cmp x y)) ↔ (x <ℤ y)
@@ -78,13 +78,13 @@ safe-difference w some split a b s t =
     within : (r q : ℕ) → r ≡ 2 * q → (a b : ℤ) → neg_ℤ (pos q) <ℤ a → a <ℤ pos q → neg_ℤ (pos q) <ℤ b → b <ℤ pos q → InReach r (a -ℤ b)
     within r q e a b h i j k = record { from = omega (arith, ints); below = omega (arith, ints) }
 
--- and isn't the least number
-pub safe_difference-above : (w : Width) → 2 ≤ hbits w → bits w ≡ hbits w + 1 → (a b least : ℤ) → IsSafeCoordinate w a → IsSafeCoordinate w b → least ≡ negsuc (2 ^ hbits w - 1) → a -ℤ b ≡ least → ⊥
-safe_difference-above w some split a b least s t l e =
+-- and the x of a vector between two safe points isn't the least number
+pub safe_vector-above : (w : Width) → 2 ≤ hbits w → bits w ≡ hbits w + 1 → (a b v : Point) (least : ℤ) → IsSafe w a → IsSafe w b → least ≡ negsuc (2 ^ hbits w - 1) → v ≡ vector b a → v.x ≡ least → ⊥
+safe_vector-above w some split a b v least s t l is e =
     let k : ℕ = bits w - 2 in
     let h : hbits w ≡ 1 + k = omega arith in
     let p : 2 ^ hbits w ≡ 2 * 2 ^ k = ap (λ (n : ℕ). 2 ^ n) h ∙ pow-add 2 1 k in
-    low (2 ^ hbits w) (2 ^ k) p (pow_pos k) a b s.0 t.1 (e ∙ l)
+    low (2 ^ hbits w) (2 ^ k) p (pow_pos k) a.x b.x s.0.0 t.0.1 (sym (ap (λ (p : Point). p.x) is) ∙ e ∙ l)
   where
     low : (r q : ℕ) → r ≡ 2 * q → 0 < q → (a b : ℤ) → neg_ℤ (pos q) <ℤ a → b <ℤ pos q → a -ℤ b ≡ negsuc (r - 1) → ⊥
     low r q e o a b h i f = omega (arith, ints)

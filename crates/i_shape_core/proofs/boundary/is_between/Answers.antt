@@ -1,8 +1,7 @@
-use Rattle.std.proofs.Common.{arith}
-use Rattle.std.proofs.lemmas.Grind.{common_steps}
-use Rattle.i_shape_core.specs.Point.{cross, dot}
+use Rattle.std.proofs.Common.{ap}
+use Rattle.i_shape_core.proofs.arithmetic.Coordinates.{safe_vector-above}
 use Rattle.i_shape_core.proofs.boundary.is_between.Goals as goal
 
 pub dot_product-requires : goal.dot_product-requires
-unfolding cross dot
-dot_product-requires g c = grind (arith, common_steps, g.met.I.IntNumber, g.met.I.Wide.WideIntNumber)
+dot_product-requires g c = λ least.
+    safe_vector-above g.I.IntNumber.width g.met.I.IntNumber.some_bits g.met.I.IntNumber.bits_split _ _ _ _ c.requires.point_safe c.requires.start_safe g.met.I.IntNumber.min_value c.sub-before.ensures (ap g.I.IntNumber.value least.0)

@@ -1,9 +1,9 @@
-use Rattle.std.proofs.Common.{◌≡◌, ◌≢◌, ◌↔◌, ◌<◌, ◌-◌, ◌∙◌, get_or, length, sym, inl, inr, IsTrue, false, rules, arith}
-use Rattle.std.proofs.lemmas.Grind.{common_steps}
+use Rattle.std.proofs.Common.{◌≡◌, ◌≢◌, ◌↔◌, ◌<◌, ◌-◌, ◌∙◌, get_or, length, sym, ap, inl, inr, IsTrue, false, rules, arith}
 use Rattle.i_shape_core.specs.declared.bend.Bend.TheVariants.{Straight, Reversal}
 use Rattle.i_shape_core.specs.IntPoint.{point_of}
 use Rattle.i_shape_core.specs.Convex.{is_same}
 use Rattle.i_shape_core.proofs.plane.PointLists.{points-length, points-item}
+use Rattle.i_shape_core.proofs.arithmetic.Coordinates.{safe_points-apart, safe_vector-above}
 use Rattle.i_shape_core.proofs.plane.SafeParts.{item_safe}
 use Rattle.i_shape_core.proofs.walks.Spikes.{found_safe}
 use Rattle.i_shape_core.proofs.convex.BendWalk.{bending_begins, bending_repeat, bending_item, bending_over, clash_item, few_tells, convex_without, convex_alike}
@@ -27,7 +27,7 @@ pub sub-edge-requires : goal.sub-edge-requires
 sub-edge-requires g c =
     let here = item_safe g.P.Coordinate.IntNumber.width g.P.Coordinate.IntNumber.value g.P.ContourPoint.point g.P.ContourPoint.points g.P.ContourPoint.each _ _ _ _ c.requires c.to_point-here.ensures (omega (arith, c.in-Some.ensures.item.3.0)) c.in-Some.ensures.item.1 in
     let behind = found_safe g.P.Coordinate.IntNumber.width g.P.Coordinate.IntNumber.value (g.P.ContourPoint.points c.args.points.now) c.to_point-here.result c.in-Some-last_other.behind c.requires c.in-Some-last_other.ensures in
-    search rules
+    safe_points-apart g.P.Coordinate.IntNumber.width g.met.P.Coordinate.IntNumber.some_bits g.met.P.Coordinate.IntNumber.bits_split _ _ here behind
 
 pub loop-given-init : goal.loop-given-init
 loop-given-init g c =
@@ -43,12 +43,12 @@ loop-given-init g c =
 pub sub-next-requires : goal.sub-next-requires
 sub-next-requires g c =
     let next = item_safe g.P.Coordinate.IntNumber.width g.P.Coordinate.IntNumber.value g.P.ContourPoint.point g.P.ContourPoint.points g.P.ContourPoint.each _ _ _ _ c.requires c.to_point-point.ensures c.loop-given-test.true c.given-item.is in
-    search rules
+    safe_points-apart g.P.Coordinate.IntNumber.width g.met.P.Coordinate.IntNumber.some_bits g.met.P.Coordinate.IntNumber.bits_split _ _ next c.loop-given.invariant.here_safe
 
 pub bend_of-bent-requires : goal.bend_of-bent-requires
 bend_of-bent-requires g c =
     let next = item_safe g.P.Coordinate.IntNumber.width g.P.Coordinate.IntNumber.value g.P.ContourPoint.point g.P.ContourPoint.points g.P.ContourPoint.each _ _ _ _ c.requires c.to_point-point.ensures c.loop-given-test.true c.given-item.is in
-    grind (arith, common_steps, g.met.P.Coordinate.IntNumber)
+    λ least. safe_vector-above g.P.Coordinate.IntNumber.width g.met.P.Coordinate.IntNumber.some_bits g.met.P.Coordinate.IntNumber.bits_split _ _ _ _ next c.loop-given.invariant.here_safe g.met.P.Coordinate.IntNumber.min_value c.sub-next.ensures (ap g.P.Coordinate.IntNumber.value least)
 
 pub loop-given-preserved-then-are_same : goal.loop-given-preserved-then-are_same
 loop-given-preserved-then-are_same g c =

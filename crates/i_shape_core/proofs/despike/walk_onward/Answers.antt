@@ -1,10 +1,10 @@
 use Rattle.std.proofs.Common.{◌≡◌, ◌<◌, ◌∙◌, pos, length, refl, sym, ap, arith}
-use Rattle.i_shape_core.specs.Point.{Point, vector, cross_of, dot_of}
+use Rattle.i_shape_core.specs.Point.{vector, cross_of, dot_of}
 use Rattle.i_shape_core.specs.IntPoint.{point_of, contour_of}
 use Rattle.i_shape_core.proofs.plane.Contours.{rest-read, rest-none, refuted_by_test}
 use Rattle.i_shape_core.proofs.plane.PointLists.{points-length, points-item}
 use Rattle.i_shape_core.proofs.plane.SafeParts.{item_safe}
-use Rattle.i_shape_core.proofs.arithmetic.Coordinates.{safe_points-apart, safe_difference-above, below-told}
+use Rattle.i_shape_core.proofs.arithmetic.Coordinates.{safe_points-apart, safe_vector-above, below-told}
 use Rattle.i_shape_core.proofs.walks.Spikes.{onward_start, onward_skips, onward_on, onward_stops}
 use Rattle.i_shape_core.proofs.despike.walk_onward.Goals as goal
 use Rattle.i_shape_core.proofs.despike.walk_onward.Goals.{then-not-are_same+then-is_parallel_to+else-lt, then-not-are_same+else-is_parallel_to, else-not-are_same}
@@ -23,8 +23,7 @@ loop-given-init g c = record {
 pub dot_product-requires : goal.dot_product-requires
 dot_product-requires g c =
     let next = item_safe g.P.Coordinate.IntNumber.width g.P.Coordinate.IntNumber.value g.P.ContourPoint.point g.P.ContourPoint.points g.P.ContourPoint.each _ _ _ _ c.requires.block_safe c.to_point-point.ensures c.loop-given-test.true c.given-item.is in
-    λ least. safe_difference-above g.P.Coordinate.IntNumber.width g.met.P.Coordinate.IntNumber.some_bits g.met.P.Coordinate.IntNumber.bits_split _ _ (g.P.Coordinate.IntNumber.value g.P.Coordinate.IntNumber.MIN) next.0 c.loop-given.invariant.here_safe.0 g.met.P.Coordinate.IntNumber.min_value
-    (sym (ap (λ (p : Point). p.x) c.sub-next.ensures) ∙ ap g.P.Coordinate.IntNumber.value least.2)
+    λ least. safe_vector-above g.P.Coordinate.IntNumber.width g.met.P.Coordinate.IntNumber.some_bits g.met.P.Coordinate.IntNumber.bits_split _ _ _ _ next c.loop-given.invariant.here_safe g.met.P.Coordinate.IntNumber.min_value c.sub-next.ensures (ap g.P.Coordinate.IntNumber.value least.2)
 
 pub returns-then-lt-clause-back : goal.returns-then-lt-clause-back
 returns-then-lt-clause-back g c =
