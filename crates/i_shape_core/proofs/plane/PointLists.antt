@@ -1,5 +1,5 @@
 -- Lists of a caller's points, read as lists of the library's.
-use Rattle.std.proofs.Common.{◌≡◌, ◌∙◌, ℕ, ◌<◌, List, [], ◌∷◌, ◌++◌, map, take, drop, length, get_or, slice_get, reverse, Bool, true, false, cond, Some, option_map, refl, sym, ap}
+use Rattle.std.proofs.Common.{◌≡◌, ◌∙◌, ℕ, ◌<◌, ◌-◌, List, [], ◌∷◌, ◌++◌, map, take, drop, length, get_or, slice_get, reverse, Bool, true, false, cond, Some, option_map, refl, sym, ap, arith}
 use Rattle.std.specs.List.{find}
 use Rattle.std.proofs.lemmas.Option.{slice_get-map}
 use Rattle.std.proofs.lemmas.Simd.{map-map}
@@ -39,6 +39,14 @@ module _ {A B : Type 0} (point : A → B) (points : List A → List B) (each : (
   -- a point that was read at a place, as the library's
   pub points-item : (list : List A) (k : ℕ) (a : A) (b : B) → b ≡ point a → k < length list → a ≡ get_or list k a → b ≡ get_or (points list) k b
   points-item list k a b is within e = rw is (points-at list k a within e)
+
+  -- the place is one of the library's list too
+  pub item_read : (list : List A) (k : ℕ) (a : A) (b : B) → b ≡ point a → k < length list → a ≡ get_or list k a → (k < length (points list)) × (b ≡ get_or (points list) k b)
+  item_read list k a b is within e = (omega (arith, within, points-length list), points-item list k a b is within e)
+
+  -- and the last place is its last
+  pub last_read : (list : List A) (a : A) (b : B) → b ≡ point a → a ≡ get_or list (length list - 1) a → 0 < length list → (0 < length (points list)) × (b ≡ get_or (points list) (length (points list) - 1) b)
+  last_read list a b is e some = (omega (arith, some, points-length list), rw (points-length list) (points-item list (length list - 1) a b is (omega (arith, some)) e))
 
 -- what is made of each item of a list read backwards
 pub map-reversed : {A B : Type 0} (f : A → B) (list : List A) → map f (reverse list) ≡ reverse (map f list)

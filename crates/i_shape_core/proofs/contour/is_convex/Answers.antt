@@ -1,8 +1,8 @@
-use Rattle.std.proofs.Common.{◌≡◌, ◌≢◌, ◌↔◌, ◌<◌, ◌-◌, ◌∙◌, get_or, length, sym, ap, inl, inr, IsTrue, false, rules, arith}
+use Rattle.std.proofs.Common.{◌≡◌, ◌≢◌, ◌↔◌, ◌∙◌, sym, ap, inl, inr, IsTrue, false, rules, arith}
 use Rattle.i_shape_core.specs.declared.bend.Bend.TheVariants.{Straight, Reversal}
 use Rattle.i_shape_core.specs.IntPoint.{point_of}
 use Rattle.i_shape_core.specs.Convex.{is_same}
-use Rattle.i_shape_core.proofs.plane.PointLists.{points-length, points-item}
+use Rattle.i_shape_core.proofs.plane.PointLists.{points-length, item_read, last_read}
 use Rattle.i_shape_core.proofs.arithmetic.Coordinates.{safe_points-apart, safe_vector-above}
 use Rattle.i_shape_core.proofs.plane.SafeParts.{item_safe}
 use Rattle.i_shape_core.proofs.walks.Spikes.{found_safe}
@@ -17,11 +17,8 @@ returns-in_default g c =
 
 pub returns-in_default-last_other : goal.returns-in_default-last_other
 returns-in_default-last_other g c =
-    let count = points-length g.P.ContourPoint.point g.P.ContourPoint.points g.P.ContourPoint.each c.args.points.now in
-    let some : 0 < length (g.P.ContourPoint.points c.args.points.now) = omega (arith, count, c.in-Some.ensures.item.3.0) in
-    let last : c.to_point-here.result ≡ get_or (g.P.ContourPoint.points c.args.points.now) (length (g.P.ContourPoint.points c.args.points.now) - 1) c.to_point-here.result =
-    rw count (points-item g.P.ContourPoint.point g.P.ContourPoint.points g.P.ContourPoint.each c.args.points.now _ c.in-Some.last.now c.to_point-here.result c.to_point-here.ensures (omega (arith, c.in-Some.ensures.item.3.0)) c.in-Some.ensures.item.1) in
-    convex_alike g.P.Coordinate.IntNumber.value (g.P.ContourPoint.points c.args.points.now) c.to_point-here.result some last c.in_default-last_other.ensures
+    let last = last_read g.P.ContourPoint.point g.P.ContourPoint.points g.P.ContourPoint.each c.args.points.now c.in-Some.last.now c.to_point-here.result c.to_point-here.ensures c.in-Some.ensures.item.1 (omega (arith, c.in-Some.ensures.item.3.0)) in
+    convex_alike g.P.Coordinate.IntNumber.value (g.P.ContourPoint.points c.args.points.now) c.to_point-here.result last.0 last.1 c.in_default-last_other.ensures
 
 pub sub-edge-requires : goal.sub-edge-requires
 sub-edge-requires g c =
@@ -31,13 +28,10 @@ sub-edge-requires g c =
 
 pub loop-given-init : goal.loop-given-init
 loop-given-init g c =
-    let count = points-length g.P.ContourPoint.point g.P.ContourPoint.points g.P.ContourPoint.each c.args.points.now in
-    let some : 0 < length (g.P.ContourPoint.points c.args.points.now) = omega (arith, count, c.in-Some.ensures.item.3.0) in
-    let last : c.to_point-here.result ≡ get_or (g.P.ContourPoint.points c.args.points.now) (length (g.P.ContourPoint.points c.args.points.now) - 1) c.to_point-here.result =
-    rw count (points-item g.P.ContourPoint.point g.P.ContourPoint.points g.P.ContourPoint.each c.args.points.now _ c.in-Some.last.now c.to_point-here.result c.to_point-here.ensures (omega (arith, c.in-Some.ensures.item.3.0)) c.in-Some.ensures.item.1) in
+    let last = last_read g.P.ContourPoint.point g.P.ContourPoint.points g.P.ContourPoint.each c.args.points.now c.in-Some.last.now c.to_point-here.result c.to_point-here.ensures c.in-Some.ensures.item.1 (omega (arith, c.in-Some.ensures.item.3.0)) in
     record {
       here_safe = item_safe g.P.Coordinate.IntNumber.width g.P.Coordinate.IntNumber.value g.P.ContourPoint.point g.P.ContourPoint.points g.P.ContourPoint.each _ _ _ _ c.requires c.to_point-here.ensures (omega (arith, c.in-Some.ensures.item.3.0)) c.in-Some.ensures.item.1;
-      bending = bending_begins g.P.Coordinate.IntNumber.value (g.P.ContourPoint.points c.args.points.now) c.to_point-here.result c.in-Some-last_other.behind _ some last c.in-Some-last_other.ensures c.sub-edge.ensures;
+      bending = bending_begins g.P.Coordinate.IntNumber.value (g.P.ContourPoint.points c.args.points.now) c.to_point-here.result c.in-Some-last_other.behind _ last.0 last.1 c.in-Some-last_other.ensures c.sub-edge.ensures;
     }
 
 pub sub-next-requires : goal.sub-next-requires
@@ -52,20 +46,16 @@ bend_of-bent-requires g c =
 
 pub loop-given-preserved-then-are_same : goal.loop-given-preserved-then-are_same
 loop-given-preserved-then-are_same g c =
-    let count = points-length g.P.ContourPoint.point g.P.ContourPoint.points g.P.ContourPoint.each c.args.points.now in
-    let within : c.loop-given.given-index < length (g.P.ContourPoint.points c.args.points.now) = omega (arith, count, c.loop-given-test.true) in
-    let read = points-item g.P.ContourPoint.point g.P.ContourPoint.points g.P.ContourPoint.each c.args.points.now _ c.given-item.result c.to_point-point.result c.to_point-point.ensures c.loop-given-test.true c.given-item.is in
+    let item = item_read g.P.ContourPoint.point g.P.ContourPoint.points g.P.ContourPoint.each c.args.points.now c.loop-given.given-index c.given-item.result c.to_point-point.result c.to_point-point.ensures c.loop-given-test.true c.given-item.is in
     record {
       here_safe = c.loop-given.invariant.here_safe;
       bending = bending_repeat g.P.Coordinate.IntNumber.value (g.P.ContourPoint.points c.args.points.now) c.loop-given.bend c.loop-given.repeats c.loop-given.given-index (point_of g.P.Coordinate.IntNumber.value c.loop-given.edge) c.loop-given.here c.to_point-point.result
-          within read (sym c.are_same.ensures ∙ c.if-are_same.true) c.loop-given.invariant.bending;
+          item.0 item.1 (sym c.are_same.ensures ∙ c.if-are_same.true) c.loop-given.invariant.bending;
     }
 
 pub returns-in_default-followed_by : goal.returns-in_default-followed_by
 returns-in_default-followed_by g c =
-    let count = points-length g.P.ContourPoint.point g.P.ContourPoint.points g.P.ContourPoint.each c.args.points.now in
-    let within : c.loop-given.given-index < length (g.P.ContourPoint.points c.args.points.now) = omega (arith, count, c.loop-given-test.true) in
-    let read = points-item g.P.ContourPoint.point g.P.ContourPoint.points g.P.ContourPoint.each c.args.points.now _ c.given-item.result c.to_point-point.result c.to_point-point.ensures c.loop-given-test.true c.given-item.is in
+    let item = item_read g.P.ContourPoint.point g.P.ContourPoint.points g.P.ContourPoint.each c.args.points.now c.loop-given.given-index c.given-item.result c.to_point-point.result c.to_point-point.ensures c.loop-given-test.true c.given-item.is in
     let told : IsTrue c.eq.result ↔ (c.bend_of-bent.result ≡ Straight) = search rules in
     let moved : c.bend_of-bent.result ≡ Straight → is_same (point_of g.P.Coordinate.IntNumber.value c.loop-given.here) (point_of g.P.Coordinate.IntNumber.value c.to_point-point.result) ≡ false = elim c.else-eq.branch [
       | else-eq-via-then-eq+else-are_same w ↦ λ s. sym w.are_same.ensures ∙ w.if-are_same.false
@@ -73,13 +63,11 @@ returns-in_default-followed_by g c =
     ] in
     clash_item g.P.Coordinate.IntNumber.value (g.P.ContourPoint.points c.args.points.now) c.loop-given.bend c.bend_of-bent.result c.loop-given.repeats c.loop-given.given-index
     (point_of g.P.Coordinate.IntNumber.value c.loop-given.edge) (point_of g.P.Coordinate.IntNumber.value c.sub-next.result) c.loop-given.here c.to_point-point.result
-    within read moved c.bend_of-bent.ensures c.sub-next.ensures (sym c.in_default-followed_by.ensures) c.loop-given.invariant.bending
+    item.0 item.1 moved c.bend_of-bent.ensures c.sub-next.ensures (sym c.in_default-followed_by.ensures) c.loop-given.invariant.bending
 
 pub loop-given-preserved : goal.loop-given-preserved
 loop-given-preserved g c =
-    let count = points-length g.P.ContourPoint.point g.P.ContourPoint.points g.P.ContourPoint.each c.args.points.now in
-    let within : c.loop-given.given-index < length (g.P.ContourPoint.points c.args.points.now) = omega (arith, count, c.loop-given-test.true) in
-    let read = points-item g.P.ContourPoint.point g.P.ContourPoint.points g.P.ContourPoint.each c.args.points.now _ c.given-item.result c.to_point-point.result c.to_point-point.ensures c.loop-given-test.true c.given-item.is in
+    let item = item_read g.P.ContourPoint.point g.P.ContourPoint.points g.P.ContourPoint.each c.args.points.now c.loop-given.given-index c.given-item.result c.to_point-point.result c.to_point-point.ensures c.loop-given-test.true c.given-item.is in
     let told : IsTrue c.eq.result ↔ (c.bend_of-bent.result ≡ Straight) = search rules in
     let moved : c.bend_of-bent.result ≡ Straight → is_same (point_of g.P.Coordinate.IntNumber.value c.loop-given.here) (point_of g.P.Coordinate.IntNumber.value c.to_point-point.result) ≡ false = elim c.else-eq.branch [
       | else-eq-via-then-eq+else-are_same w ↦ λ s. sym w.are_same.ensures ∙ w.if-are_same.false
@@ -89,7 +77,7 @@ loop-given-preserved g c =
       here_safe = item_safe g.P.Coordinate.IntNumber.width g.P.Coordinate.IntNumber.value g.P.ContourPoint.point g.P.ContourPoint.points g.P.ContourPoint.each _ _ _ _ c.requires c.to_point-point.ensures c.loop-given-test.true c.given-item.is;
       bending = bending_item g.P.Coordinate.IntNumber.value (g.P.ContourPoint.points c.args.points.now) c.loop-given.bend c.bend_of-bent.result c.in-Some-followed_by.both c.loop-given.repeats c.loop-given.given-index
           (point_of g.P.Coordinate.IntNumber.value c.loop-given.edge) (point_of g.P.Coordinate.IntNumber.value c.sub-next.result) c.loop-given.here c.to_point-point.result
-          within read moved c.bend_of-bent.ensures c.sub-next.ensures (sym c.in-Some-followed_by.ensures) c.loop-given.invariant.bending;
+          item.0 item.1 moved c.bend_of-bent.ensures c.sub-next.ensures (sym c.in-Some-followed_by.ensures) c.loop-given.invariant.bending;
     }
 
 pub returns-then-ne : goal.returns-then-ne

@@ -1,8 +1,8 @@
-use Rattle.std.proofs.Common.{◌≡◌, ◌<◌, ◌∙◌, ap, sym, not, cond, Bool, length, arith}
+use Rattle.std.proofs.Common.{◌≡◌, ◌∙◌, ap, sym, not, cond, Bool, arith}
 use Rattle.i_shape_core.specs.IntPoint.{point_of}
 use Rattle.i_shape_core.specs.Edges.{is_right}
 use Rattle.i_shape_core.proofs.plane.Contours.{rest-none}
-use Rattle.i_shape_core.proofs.plane.PointLists.{points-length, points-item}
+use Rattle.i_shape_core.proofs.plane.PointLists.{points-length, item_read}
 use Rattle.i_shape_core.proofs.plane.SafeParts.{item_safe}
 use Rattle.i_shape_core.proofs.plane.CrossProducts.{edge}
 use Rattle.i_shape_core.proofs.measure.InsideWalk.{walk_step}
@@ -18,9 +18,7 @@ loop-given-preserved g c =
     let points = g.P.ContourPoint.points in
     let whole = c.args.points.now in
     let end = c.to_point-end.result in
-    let count = points-length g.P.ContourPoint.point points g.P.ContourPoint.each whole in
-    let within : c.loop-given.given-index < length (points whole) = omega (arith, count, c.loop-given-test.true) in
-    let read = points-item g.P.ContourPoint.point points g.P.ContourPoint.each whole c.loop-given.given-index c.given-item.result end c.to_point-end.ensures c.loop-given-test.true c.given-item.is in
+    let item = item_read g.P.ContourPoint.point g.P.ContourPoint.points g.P.ContourPoint.each c.args.points.now c.loop-given.given-index c.given-item.result c.to_point-end.result c.to_point-end.ensures c.loop-given-test.true c.given-item.is in
     let start : c.if-passes_right.start ≡ end = elim c.if-passes_right.branch [
       | then-passes_right w ↦ w.start-is
       | else-passes_right w ↦ w.start-is
@@ -32,7 +30,7 @@ loop-given-preserved g c =
     ] in
     rw start (record {
       start_safe = item_safe g.P.Coordinate.IntNumber.width g.P.Coordinate.IntNumber.value g.P.ContourPoint.point g.P.ContourPoint.points g.P.ContourPoint.each _ _ _ _ c.requires.points_safe c.to_point-end.ensures c.loop-given-test.true c.given-item.is;
-      told = walk_step value (point_of value c.args.point) (points whole) c.loop-given.given-index c.loop-given.start end c.loop-given.is_inside c.if-passes_right.is_inside _ within read c.loop-given.invariant.told turned;
+      told = walk_step value (point_of value c.args.point) (points whole) c.loop-given.given-index c.loop-given.start end c.loop-given.is_inside c.if-passes_right.is_inside _ item.0 item.1 c.loop-given.invariant.told turned;
     })
 
 pub returns : goal.returns

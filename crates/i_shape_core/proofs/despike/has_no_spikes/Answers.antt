@@ -1,7 +1,7 @@
-use Rattle.std.proofs.Common.{◌≡◌, ◌-◌, ◌<◌, get_or, length, arith}
+use Rattle.std.proofs.Common.{arith}
 use Rattle.i_shape_core.specs.IntPoint.{point_of}
 use Rattle.i_shape_core.proofs.arithmetic.Coordinates.{safe_points-apart}
-use Rattle.i_shape_core.proofs.plane.PointLists.{points-length, points-item}
+use Rattle.i_shape_core.proofs.plane.PointLists.{points-length, last_read}
 use Rattle.i_shape_core.proofs.plane.SafeParts.{item_safe}
 use Rattle.i_shape_core.proofs.walks.Spikes.{walking_begins, none_differs, found_safe, nothing_told, last_block_tells}
 use Rattle.i_shape_core.proofs.despike.has_no_spikes.Goals as goal
@@ -13,16 +13,11 @@ returns-in_default g c =
 
 pub returns-in_default-last_other : goal.returns-in_default-last_other
 returns-in_default-last_other g c =
-    let point = g.P.ContourPoint.point in
     let points = g.P.ContourPoint.points in
-    let each = g.P.ContourPoint.each in
     let whole = c.args.points.now in
     let value = g.P.Coordinate.IntNumber.value in
-    let count = points-length point points each whole in
-    let some : 0 < length (points whole) = omega (arith, count, c.in-Some.ensures.item.3.0) in
-    let last : c.to_point-here.result ≡ get_or (points whole) (length (points whole) - 1) c.to_point-here.result =
-    rw count (points-item point points each whole _ c.in-Some.last.now c.to_point-here.result c.to_point-here.ensures (omega (arith, c.in-Some.ensures.item.3.0)) c.in-Some.ensures.item.1) in
-    none_differs value (points whole) c.to_point-here.result some last c.in_default-last_other.ensures
+    let last = last_read g.P.ContourPoint.point g.P.ContourPoint.points g.P.ContourPoint.each c.args.points.now c.in-Some.last.now c.to_point-here.result c.to_point-here.ensures c.in-Some.ensures.item.1 (omega (arith, c.in-Some.ensures.item.3.0)) in
+    none_differs value (points whole) c.to_point-here.result last.0 last.1 c.in_default-last_other.ensures
 
 pub sub-requires : goal.sub-requires
 sub-requires g c =
@@ -36,17 +31,12 @@ walk_onward-requires-clause-start_safe g c = item_safe g.P.Coordinate.IntNumber.
 
 pub returns : goal.returns
 returns g c =
-    let point = g.P.ContourPoint.point in
     let points = g.P.ContourPoint.points in
-    let each = g.P.ContourPoint.each in
     let whole = c.args.points.now in
     let value = g.P.Coordinate.IntNumber.value in
-    let count = points-length point points each whole in
-    let some : 0 < length (points whole) = omega (arith, count, c.in-Some.ensures.item.3.0) in
-    let last : c.to_point-here.result ≡ get_or (points whole) (length (points whole) - 1) c.to_point-here.result =
-    rw count (points-item point points each whole _ c.in-Some.last.now c.to_point-here.result c.to_point-here.ensures (omega (arith, c.in-Some.ensures.item.3.0)) c.in-Some.ensures.item.1) in
+    let last = last_read g.P.ContourPoint.point g.P.ContourPoint.points g.P.ContourPoint.each c.args.points.now c.in-Some.last.now c.to_point-here.result c.to_point-here.ensures c.in-Some.ensures.item.1 (omega (arith, c.in-Some.ensures.item.3.0)) in
     last_block_tells value _ _ _ _ _ _ c.is_some.ensures c.walk_onward.ensures.back (record {
       from = point_of value c.in-Some-last_other.behind;
       edge = c.sub.ensures;
-      walking = walking_begins value (points whole) c.to_point-here.result c.in-Some-last_other.behind some last c.in-Some-last_other.ensures;
+      walking = walking_begins value (points whole) c.to_point-here.result c.in-Some-last_other.behind last.0 last.1 c.in-Some-last_other.ensures;
     })

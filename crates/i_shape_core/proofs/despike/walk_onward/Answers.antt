@@ -1,8 +1,8 @@
-use Rattle.std.proofs.Common.{◌≡◌, ◌<◌, ◌∙◌, pos, length, refl, sym, ap, arith}
+use Rattle.std.proofs.Common.{◌≡◌, ◌∙◌, pos, refl, sym, ap, arith}
 use Rattle.i_shape_core.specs.Point.{vector, cross_of, dot_of}
 use Rattle.i_shape_core.specs.IntPoint.{point_of, contour_of}
 use Rattle.i_shape_core.proofs.plane.Contours.{rest-read, rest-none, refuted_by_test}
-use Rattle.i_shape_core.proofs.plane.PointLists.{points-length, points-item}
+use Rattle.i_shape_core.proofs.plane.PointLists.{points-length, item_read}
 use Rattle.i_shape_core.proofs.plane.SafeParts.{item_safe}
 use Rattle.i_shape_core.proofs.arithmetic.Coordinates.{safe_points-apart, safe_vector-above, below-told}
 use Rattle.i_shape_core.proofs.walks.Spikes.{onward_start, onward_skips, onward_on, onward_stops}
@@ -30,10 +30,8 @@ returns-then-lt-clause-back g c =
     let value = g.P.Coordinate.IntNumber.value in
     let wide = g.met.P.Coordinate.Wide.WideIntNumber in
     let points = g.P.ContourPoint.points in
-    let count = points-length g.P.ContourPoint.point points g.P.ContourPoint.each c.args.block.now in
-    let within : c.loop-given.given-index < length (points c.args.block.now) = omega (arith, count, c.loop-given-test.true) in
-    let read = points-item g.P.ContourPoint.point points g.P.ContourPoint.each c.args.block.now _ c.given-item.result c.to_point-point.result c.to_point-point.ensures c.loop-given-test.true c.given-item.is in
-    let rest = rest-read value (points c.args.block.now) _ c.to_point-point.result within read in
+    let item = item_read g.P.ContourPoint.point g.P.ContourPoint.points g.P.ContourPoint.each c.args.block.now c.loop-given.given-index c.given-item.result c.to_point-point.result c.to_point-point.ensures c.loop-given-test.true c.given-item.is in
+    let rest = rest-read value (points c.args.block.now) _ c.to_point-point.result item.0 item.1 in
     let flat = ap (cross_of (point_of value c.loop-given.edge)) (sym c.sub-next.ensures) ∙ c.is_parallel_to.ensures.0 c.if-is_parallel_to.true in
     let told = below-told g.P.Coordinate.Wide.WideIntNumber.value c.dot_product.result c.ZERO.result c.lt.result _ _ c.lt.ensures (wide.partial_order _ _) (ap g.P.Coordinate.Wide.WideIntNumber.value c.ZERO.ensures ∙ wide.zero_value)
     (c.dot_product.ensures ∙ ap (dot_of (point_of value c.loop-given.edge)) c.sub-next.ensures) in
@@ -45,10 +43,8 @@ loop-given-preserved g c =
     let value = g.P.Coordinate.IntNumber.value in
     let wide = g.met.P.Coordinate.Wide.WideIntNumber in
     let points = g.P.ContourPoint.points in
-    let count = points-length g.P.ContourPoint.point points g.P.ContourPoint.each c.args.block.now in
-    let within : c.loop-given.given-index < length (points c.args.block.now) = omega (arith, count, c.loop-given-test.true) in
-    let read = points-item g.P.ContourPoint.point points g.P.ContourPoint.each c.args.block.now _ c.given-item.result c.to_point-point.result c.to_point-point.ensures c.loop-given-test.true c.given-item.is in
-    let rest = rest-read value (points c.args.block.now) _ c.to_point-point.result within read in
+    let item = item_read g.P.ContourPoint.point g.P.ContourPoint.points g.P.ContourPoint.each c.args.block.now c.loop-given.given-index c.given-item.result c.to_point-point.result c.to_point-point.ensures c.loop-given-test.true c.given-item.is in
+    let rest = rest-read value (points c.args.block.now) _ c.to_point-point.result item.0 item.1 in
     let onward = rw rest at c.loop-given.invariant.onward in
     let here : c.if-not-are_same.here ≡ c.to_point-point.result = elim c.if-not-are_same.branch [
       | then-not-are_same+then-is_parallel_to+else-lt w ↦ w.here-is
