@@ -1,10 +1,10 @@
-use Rattle.std.proofs.Common.{◌≡◌, ◌+ℤ◌, ◌-◌, ◌^◌, ◌<◌, FitsSigned, length, get_or, w64, to_z, of_z, sym, subst₂, ◌∙◌, arith, rules}
+use Rattle.std.proofs.Common.{◌≡◌, ◌+ℤ◌, ◌^◌, ◌<◌, FitsSigned, length, w64, to_z, of_z, sym, subst₂, ◌∙◌, arith, rules}
 use Rattle.std.proofs.lemmas.Int.{to_z-of_z}
 use Rattle.std.proofs.Math.IntN.{+ℤ_idl}
 use Rattle.i_shape_core.specs.IntPoint.{point_of, contour_of}
 use Rattle.i_shape_core.specs.Winding.{level, IsWithinHalf}
 use Rattle.i_shape_core.proofs.plane.Contours.{length-contour}
-use Rattle.i_shape_core.proofs.plane.PointLists.{points-length, points-at}
+use Rattle.i_shape_core.proofs.plane.PointLists.{points-length, item_read, last_read}
 use Rattle.i_shape_core.proofs.plane.SafeParts.{item_safe}
 use Rattle.i_shape_core.proofs.measure.WindingWalk.{winding_half, near_first, near_step, no_points, walk_edge, walk_over, total_fits, total_added}
 use Rattle.i_shape_core.proofs.winding.winding_about.Goals as goal
@@ -35,15 +35,12 @@ overflow_add-total g c =
     let points = g.P.ContourPoint.points in
     let whole = c.args.contour.now in
     let count = points-length point points g.P.ContourPoint.each whole in
-    let last : c.to_point-before.result ≡ get_or (points whole) (length (points whole) - 1) c.to_point-before.result =
-    rw (count, c.to_point-before.ensures) (points-at point points g.P.ContourPoint.each whole _ c.in-Some.last.now (omega (arith, c.in-Some.ensures.item.3.0)) c.in-Some.ensures.item.1) in
-    let within : c.loop-given.given-index < length (points whole) = omega (arith, c.loop-given-test.true, count) in
-    let end : c.to_point-end.result ≡ get_or (points whole) c.loop-given.given-index c.to_point-end.result =
-    rw c.to_point-end.ensures (points-at point points g.P.ContourPoint.each whole _ c.given-item.result c.loop-given-test.true c.given-item.is) in
+    let last = last_read g.P.ContourPoint.point g.P.ContourPoint.points g.P.ContourPoint.each whole c.in-Some.last.now c.to_point-before.result c.to_point-before.ensures c.in-Some.ensures.item.1 (omega (arith, c.in-Some.ensures.item.3.0)) in
+    let item = item_read g.P.ContourPoint.point g.P.ContourPoint.points g.P.ContourPoint.each whole c.loop-given.given-index c.given-item.result c.to_point-end.result c.to_point-end.ensures c.loop-given-test.true c.given-item.is in
     let room : length (points whole) < 2 ^ 64 = rw count (search rules) in
     let turn : FitsSigned w64 c.edge_winding-total.result = record { sfits = c.edge_winding-total.type_inv } in
     let fits = total_fits value (point_of value c.args.point) (points whole) c.loop-given.given-index c.loop-given.before c.to_point-before.result c.to_point-end.result (to_z w64 c.loop-given.total-bits) c.edge_winding-total.result
-    last within room end c.edge_winding-total.ensures c.loop-given.invariant.near in
+    last.1 item.0 room item.1 c.edge_winding-total.ensures c.loop-given.invariant.near in
     rw (to_z-of_z w64 c.edge_winding-total.result turn) fits
 
 pub loop-given-preserved : goal.loop-given-preserved
@@ -53,22 +50,19 @@ loop-given-preserved g c =
     let points = g.P.ContourPoint.points in
     let whole = c.args.contour.now in
     let count = points-length point points g.P.ContourPoint.each whole in
-    let last : c.to_point-before.result ≡ get_or (points whole) (length (points whole) - 1) c.to_point-before.result =
-    rw (count, c.to_point-before.ensures) (points-at point points g.P.ContourPoint.each whole _ c.in-Some.last.now (omega (arith, c.in-Some.ensures.item.3.0)) c.in-Some.ensures.item.1) in
-    let within : c.loop-given.given-index < length (points whole) = omega (arith, c.loop-given-test.true, count) in
-    let end : c.to_point-end.result ≡ get_or (points whole) c.loop-given.given-index c.to_point-end.result =
-    rw c.to_point-end.ensures (points-at point points g.P.ContourPoint.each whole _ c.given-item.result c.loop-given-test.true c.given-item.is) in
+    let last = last_read g.P.ContourPoint.point g.P.ContourPoint.points g.P.ContourPoint.each whole c.in-Some.last.now c.to_point-before.result c.to_point-before.ensures c.in-Some.ensures.item.1 (omega (arith, c.in-Some.ensures.item.3.0)) in
+    let item = item_read g.P.ContourPoint.point g.P.ContourPoint.points g.P.ContourPoint.each whole c.loop-given.given-index c.given-item.result c.to_point-end.result c.to_point-end.ensures c.loop-given-test.true c.given-item.is in
     let room : length (points whole) < 2 ^ 64 = rw count (search rules) in
     let turn : FitsSigned w64 c.edge_winding-total.result = record { sfits = c.edge_winding-total.type_inv } in
     let fits = total_fits value (point_of value c.args.point) (points whole) c.loop-given.given-index c.loop-given.before c.to_point-before.result c.to_point-end.result (to_z w64 c.loop-given.total-bits) c.edge_winding-total.result
-    last within room end c.edge_winding-total.ensures c.loop-given.invariant.near in
+    last.1 item.0 room item.1 c.edge_winding-total.ensures c.loop-given.invariant.near in
     let sum : to_z w64 (of_z w64 (to_z w64 c.loop-given.total-bits +ℤ to_z w64 (of_z w64 c.edge_winding-total.result))) ≡ to_z w64 c.loop-given.total-bits +ℤ c.edge_winding-total.result =
     total_added w64 (to_z w64 c.loop-given.total-bits) c.edge_winding-total.result fits turn in
     let p = point_of value c.args.point in
     record {
       before_safe = item_safe g.P.Coordinate.IntNumber.width g.P.Coordinate.IntNumber.value g.P.ContourPoint.point g.P.ContourPoint.points g.P.ContourPoint.each _ _ _ _ c.requires.points_safe c.to_point-end.ensures c.loop-given-test.true c.given-item.is;
       near = rw (sum, c.edge_winding-total.ensures) (near_step p (point_of value c.loop-given.before) (point_of value c.to_point-end.result) c.loop-given.given-index (level p (point_of value c.to_point-before.result)) (to_z w64 c.loop-given.total-bits) c.loop-given.invariant.near);
-      told = rw sum (walk_edge value p (points whole) c.loop-given.given-index c.loop-given.before c.to_point-end.result (to_z w64 c.loop-given.total-bits) c.edge_winding-total.result _ within end c.edge_winding-total.ensures c.loop-given.invariant.told);
+      told = rw sum (walk_edge value p (points whole) c.loop-given.given-index c.loop-given.before c.to_point-end.result (to_z w64 c.loop-given.total-bits) c.edge_winding-total.result _ item.0 item.1 c.edge_winding-total.ensures c.loop-given.invariant.told);
     }
 
 pub returns-clause-answer : goal.returns-clause-answer
@@ -78,9 +72,8 @@ returns-clause-answer g c =
     let points = g.P.ContourPoint.points in
     let whole = c.args.contour.now in
     let count = points-length point points g.P.ContourPoint.each whole in
-    let last : c.to_point-before.result ≡ get_or (points whole) (length (points whole) - 1) c.to_point-before.result =
-    rw (count, c.to_point-before.ensures) (points-at point points g.P.ContourPoint.each whole _ c.in-Some.last.now (omega (arith, c.in-Some.ensures.item.3.0)) c.in-Some.ensures.item.1) in
-    walk_over value (point_of value c.args.point) (points whole) c.loop-given.given-index c.loop-given.before c.to_point-before.result _ (omega (arith, count, c.loop-given-test.false)) (omega (arith, count, c.in-Some.ensures.item.3.0)) last c.loop-given.invariant.told
+    let last = last_read g.P.ContourPoint.point g.P.ContourPoint.points g.P.ContourPoint.each whole c.in-Some.last.now c.to_point-before.result c.to_point-before.ensures c.in-Some.ensures.item.1 (omega (arith, c.in-Some.ensures.item.3.0)) in
+    walk_over value (point_of value c.args.point) (points whole) c.loop-given.given-index c.loop-given.before c.to_point-before.result _ (omega (arith, count, c.loop-given-test.false)) last.0 last.1 c.loop-given.invariant.told
 
 pub returns-in_default-clause-half : goal.returns-in_default-clause-half
 returns-in_default-clause-half g c =
