@@ -81,7 +81,7 @@ static inline double i_shape_halves_to_double(i_shape_halves halves) {
 
 /* One contour. These return the number of points written to the front of out: at least 3, at most count, and 0 if the
  * contour collapses. I_SHAPE_NO_ROOM: room is below count. Behind these points, and after a code, out is as it was.
- * Below three points, and for a contour that is clean, no memory is taken. */
+ * Below three points (despike: four), and for a contour that is clean, no memory is taken. */
 
 /* Without zero turns: collinear vertices, spikes and repeated points. One result up to rotation, in whatever order they
  * are removed. */
@@ -98,7 +98,7 @@ ptrdiff_t i_shape_canonical_unoriented_i32(const i_shape_point_i32 *points, size
  * out_offsets, from 0 on. A contour that collapses is empty, at its place. These return the number of points written.
  * I_SHAPE_BAD_OFFSETS: offset_count is 0, or an offset is below the one before it or above count. I_SHAPE_NO_ROOM: room
  * is below count, or offset_room below offset_count. Behind these points and offsets nothing is written, nor after a
- * code anywhere. Where each contour is clean or has fewer than three points, no memory is taken. */
+ * code anywhere. Where each contour is clean or has fewer than three points (despike: four), no memory is taken. */
 
 /* For each contour a result of i_shape_simplify_i32; that it is the same one is tested. */
 ptrdiff_t i_shape_simplify_contours_i32(const i_shape_point_i32 *points, size_t count, const size_t *offsets, size_t offset_count, i_shape_point_i32 *out_points, size_t room, size_t *out_offsets, size_t offset_room);
@@ -116,7 +116,7 @@ ptrdiff_t i_shape_canonical_unoriented_contours_i32(const i_shape_point_i32 *poi
  * and their points at out_contours[out_shapes[n]]. I_SHAPE_BAD_OFFSETS and I_SHAPE_NO_ROOM as above, and where the same
  * is wrong of shapes[] over the contours, or of its room. I_SHAPE_UNSAFE: contours that no polygon has are tested too.
  * Behind the result nothing is written, nor after a code. The first two take no memory where each contour of a polygon
- * is clean. */
+ * is clean or has fewer than three points (despike: four). */
 
 /* Without zero turns. */
 ptrdiff_t i_shape_simplify_shapes_i32(const i_shape_point_i32 *points, size_t count, const size_t *contours, size_t contour_offset_count, const size_t *shapes, size_t shape_offset_count, i_shape_point_i32 *out_points, size_t room, size_t *out_contours, size_t contour_room, size_t *out_shapes, size_t shape_room);

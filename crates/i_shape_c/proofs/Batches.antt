@@ -2,18 +2,18 @@
 use Rattle.std.proofs.Common.{◌≡◌, ◌↔◌, inl, inr, ℕ, ℤ, ◌+◌, ◌-◌, ◌≤◌, ◌<◌, List, map, length, take, drop, slice_range, ap, sym, subst, ◌∙◌, arith, Option}
 use Rattle.std.specs.Int.{Width}
 use Rattle.std.specs.List.{All}
-use Rattle.std.specs.Prelude.{Result, Ok, Err, IfOk, OnErr, OnOk}
+use Rattle.std.specs.Prelude.{Result, Ok, Err, IsOk, IfOk, OnErr, OnOk}
 use Rattle.std.proofs.lemmas.Bool.{cases_lt}
-use Rattle.std.proofs.lemmas.List.{take-take, drop-take, drop-drop}
+use Rattle.std.proofs.lemmas.List.{take-take, drop-take, drop-drop, length-map}
 use Rattle.std.proofs.lemmas.List.Elements.{All-take, All-drop}
 use Rattle.i_shape.specs.Point.{Point}
 use Rattle.i_shape.specs.IntPoint.{point_of, contour_of, IsSafe}
 use Rattle.i_shape.specs.IntPoints.{IntPoint}
-use Rattle.i_shape_core.specs.Rings.{AreSafeRings, AreShortOrClean, Leaves, AreCleanedRings}
+use Rattle.i_shape_core.specs.Rings.{AreSafeRings, HaveRoom, Leaves, AreCleanedRings}
 use Rattle.i_shape_core.proofs.lists.Rings.{rises_to}
-use Rattle.i_shape_c.specs.Cleaned.{AreSafe}
+use Rattle.i_shape_c.specs.Cleaned.{AreSafe, TakesNoMemory}
 use Rattle.i_shape_c.specs.Places.{AreGoodOffsets, IsFirstBadOffset}
-use Rattle.i_shape_c.specs.Batch.{offset, nth_contour, AreRising, PartsPoints, AreSafeContours, NoneTakesMemory, IsCleanedBatch}
+use Rattle.i_shape_c.specs.Batch.{offset, nth_contour, AreRising, PartsPoints, AreSafeContours, AreSpared, IsCleanedBatch}
 use Rattle.i_shape_c.proofs.Boundary.{copied_points, safe_contour}
 
 -- what holds whatever a call answers holds where it answers an error
@@ -31,10 +31,10 @@ pub if_ok : {T E : Type 0} {P Q : T → Type 0} (r : Result T E) → ((t : T) �
 if_ok (Ok t) follows p = follows t p
 if_ok (Err e) follows p = tt
 
--- what follows where a call answers an error
-pub on_err_by : {T E P Q : Type 0} (r : Result T E) → (P → Q) → OnErr r P → OnErr r Q
-on_err_by (Ok t) follows p = tt
-on_err_by (Err e) follows p = follows p
+-- what makes a call answer no error doesn't hold where it answers one
+pub unless_ok : {T E Q : Type 0} (r : Result T E) → (Q → IsOk r) → OnErr r (Q → ⊥)
+unless_ok (Ok t) ok = tt
+unless_ok (Err e) ok = λ q. let told = ok q in cc
 
 -- offsets after which one more is read, and the offset before it, 0 where there is none
 pub record AreRead (points : ℕ) (offsets : List ℕ) (n before : ℕ) : Type 0 where
@@ -134,6 +134,12 @@ module _ {P I : Type 0} (width : Width) (value : I → ℤ) (to : P → IntPoint
     offsets_rest = left.offsets_rest;
   }
 
-  -- contours that take no memory, as the library has them
-  pub none_takes_memory : (Clean : List Point → Type 0) (points : List P) (offsets : List ℕ) → NoneTakesMemory Clean at points offsets → AreShortOrClean Clean (λ list. contour_of value (copy list)) points offsets (length offsets)
-  none_takes_memory Clean points offsets none k less = rw (same (nth_contour points offsets k)) (none k less)
+  -- where contours take no memory, there is room for each that isn't clean
+  pub have_room : (fewest : ℕ) (Clean : List Point → Type 0) (room : ℕ → Type 0) → ((n : ℕ) → n < fewest → room n) → (points : List P) (offsets : List ℕ) → AreSpared (TakesNoMemory fewest Clean) at points offsets
+      → HaveRoom Clean (λ list. contour_of value (copy list)) room points offsets (length offsets)
+  have_room fewest Clean room spares points offsets none k less unclean =
+      let contour = nth_contour points offsets k in
+      elim (none k less) [
+        | inl few ↦ spares (length contour) (omega (arith, few, length-map contour at))
+        | inr clean ↦ absurd (unclean (rw (same contour) clean))
+      ]

@@ -5,7 +5,7 @@ use Rattle.i_shape.specs.Point.{Point}
 use Rattle.i_shape.specs.Written.{slot, IsCleaned}
 use Rattle.i_shape_core.specs.Rings.{AreCleanedRings}
 pub use Rattle.i_shape_core.specs.Rings.{offset, nth_ring as nth_contour, AreRising, PartsPoints}
-use Rattle.i_shape_c.specs.Cleaned.{AreSafe, TakesNoMemory}
+use Rattle.i_shape_c.specs.Cleaned.{AreSafe}
 use Rattle.i_shape_c.specs.Codes.{Refuses}
 
 -- there is room for as many points and offsets
@@ -17,9 +17,9 @@ pub record HasRoom (points offsets out_points out_offsets : ℕ) : Type 0 where
 abbrev pub AreSafeContours : {P : Type 0} → Width → (P → Point) → List P → List ℕ → Type 0
 AreSafeContours width point points offsets = AreSafe width point (slice_range points (offset offsets 0) (offset offsets (length offsets - 1)))
 
--- each contour is clean, or has fewer than three points
-abbrev pub NoneTakesMemory : {P : Type 0} → (List Point → Type 0) → (P → Point) → List P → List ℕ → Type 0
-NoneTakesMemory Clean point points offsets = (k : ℕ) → k + 1 < length offsets → TakesNoMemory Clean point (nth_contour points offsets k)
+-- `Spares` holds of each contour
+abbrev pub AreSpared : {P : Type 0} → (List Point → Type 0) → (P → Point) → List P → List ℕ → Type 0
+AreSpared Spares point points offsets = (k : ℕ) → k + 1 < length offsets → Spares (map point (nth_contour points offsets k))
 
 -- each contour that the new offsets give is what the cleaner makes of the given one at the same index, empty where that
 -- collapses; there are n points in all, and what follows them and the offsets is unchanged
@@ -37,9 +37,10 @@ BatchAnswer Answer Kept width point points offsets old_points new_points old_off
     IsCleanedBatch Answer Kept width point points offsets old_points new_points old_offsets new_offsets n
 BatchAnswer Answer Kept width point points offsets old_points new_points old_offsets new_offsets (negsuc n) = (n < 4) × IsUntouched old_points new_points old_offsets new_offsets
 
--- what a call that cleans many contours returns and leaves, and exactly when it returns a code
-pub record CleansContours {P : Type 0} (Clean : List Point → Type 0) (Answer Kept : List Point → Option (List Point) → Type 0) (width : Width) (point : P → Point) (points : List P) (offsets : List ℕ)
+-- what a call that cleans many contours returns and leaves, and exactly when it returns a code: never that of a failed
+-- allocation where `Spares` holds of each contour
+pub record CleansContours {P : Type 0} (Spares : List Point → Type 0) (Answer Kept : List Point → Option (List Point) → Type 0) (width : Width) (point : P → Point) (points : List P) (offsets : List ℕ)
     (old_points new_points : List P) (old_offsets new_offsets : List ℕ) (result : ℤ) : Type 0 where
   pub answer : BatchAnswer Answer Kept width point points offsets old_points new_points old_offsets new_offsets result
   pub refuses : Refuses (PartsPoints (length points) offsets) (HasRoom (length points) (length offsets) (length old_points) (length old_offsets)) (AreSafeContours width point points offsets)
-      (NoneTakesMemory Clean point points offsets) result
+      (AreSpared Spares point points offsets) result

@@ -1,5 +1,5 @@
 -- What the calls that clean one contour return.
-use Rattle.std.specs.Prelude.{◌≡◌, ◌<◌, ◌≤◌, ◌⊎◌, ℤ, pos, negsuc, List, length, map, Option}
+use Rattle.std.specs.Prelude.{◌≡◌, ◌<◌, ◌≤◌, ◌⊎◌, ℕ, ℤ, pos, negsuc, List, length, map, Option}
 use Rattle.i_shape.specs.Point.{Point}
 use Rattle.std.specs.Int.{Width}
 use Rattle.std.specs.List.{All}
@@ -7,9 +7,9 @@ use Rattle.i_shape.specs.IntPoint.{IsSafe}
 use Rattle.i_shape.specs.Written.{IsWritten}
 use Rattle.i_shape_c.specs.Codes.{Refuses}
 
--- the points are fewer than three, or a clean contour
-abbrev pub TakesNoMemory : {P : Type 0} → (List Point → Type 0) → (P → Point) → List P → Type 0
-TakesNoMemory Clean point points = (length points < 3) ⊎ Clean (map point points)
+-- the contour is clean or has fewer than `fewest` points
+abbrev pub TakesNoMemory : ℕ → (List Point → Type 0) → List Point → Type 0
+TakesNoMemory fewest Clean contour = (length contour < fewest) ⊎ Clean contour
 
 -- each point is safe, where `point` gives the point that a point of C represents
 abbrev pub AreSafe : {P : Type 0} → Width → (P → Point) → List P → Type 0
@@ -20,7 +20,8 @@ abbrev pub CleanAnswer : {P : Type 0} → (List Point → Option (List Point) �
 CleanAnswer Answer Kept Picks width point given old new (pos n) = IsWritten Answer Kept Picks width (map point) given old new n
 CleanAnswer Answer Kept Picks width point given old new (negsuc n) = (n < 4) × (new ≡ old)
 
--- what a call that cleans one contour returns and leaves, and exactly when it returns a code: it has no offsets
-pub record CleansContour {P : Type 0} (Clean : List Point → Type 0) (Answer Kept : List Point → Option (List Point) → Type 0) (Picks : List P → List P → Type 0) (width : Width) (point : P → Point) (given old new : List P) (result : ℤ) : Type 0 where
+-- what a call that cleans one contour returns and leaves, and exactly when it returns a code: it has no offsets, and never
+-- returns the code of a failed allocation for a contour of which `Spares` holds
+pub record CleansContour {P : Type 0} (Spares : List Point → Type 0) (Answer Kept : List Point → Option (List Point) → Type 0) (Picks : List P → List P → Type 0) (width : Width) (point : P → Point) (given old new : List P) (result : ℤ) : Type 0 where
   pub answer : CleanAnswer Answer Kept Picks width point given old new result
-  pub refuses : Refuses (Unit {0}) (length given ≤ length old) (AreSafe width point given) (TakesNoMemory Clean point given) result
+  pub refuses : Refuses (Unit {0}) (length given ≤ length old) (AreSafe width point given) (Spares (map point given)) result

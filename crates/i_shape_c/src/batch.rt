@@ -1,8 +1,8 @@
 //! Cleaning of many contours, which lie end to end in one array. Offsets divide the array into contours.
 
 ghost use Rattle.std.specs.Prelude.{◌≡◌, ◌≤◌, ◌↔◌, ◌^◌, ◌<◌, length, IsTrue, IfOk, OnErr};
-ghost use Rattle.i_shape_c.specs.Batch.{PartsPoints, HasRoom, AreSafeContours, NoneTakesMemory, IsCleanedBatch, IsUntouched, CleansContours};
-ghost use Rattle.i_shape_c.specs.Cleaned.{AreSafe};
+ghost use Rattle.i_shape_c.specs.Batch.{PartsPoints, HasRoom, AreSafeContours, AreSpared, IsCleanedBatch, IsUntouched, CleansContours};
+ghost use Rattle.i_shape_c.specs.Cleaned.{TakesNoMemory, AreSafe};
 ghost use Rattle.i_shape_c.specs.Codes.{IsRefusal};
 ghost use Rattle.i_shape_c.specs.Points.{point_by};
 
@@ -26,8 +26,8 @@ pub fn clean_contours<P: CPoint, C: ContourCleaner>(
     out_offsets: &mut [usize],
 ) -> isize
     requires { length out_points.old < 2 ^ 63 }
-    ensures { CleansContours C.clean C.answers C.keeps P.Coordinate.width
-        (point_by P.Coordinate.value P.point) points.now offsets.now
+    ensures { CleansContours (TakesNoMemory C.fewest C.clean) C.answers C.keeps
+        P.Coordinate.width (point_by P.Coordinate.value P.point) points.now offsets.now
         out_points.old out_points.new out_offsets.old out_offsets.new result }
 {
     let has_room = has_room(
@@ -120,7 +120,8 @@ pub fn clean_all<P: CPoint, C: ContourCleaner>(
     ensures err { OnErr result
         (IsUntouched out_points.old out_points.new out_offsets.old out_offsets.new) }
     ensures memory { OnErr result
-        (NoneTakesMemory C.clean (point_by P.Coordinate.value P.point) points.now offsets.now → ⊥) }
+        (AreSpared (TakesNoMemory C.fewest C.clean) (point_by P.Coordinate.value P.point)
+        points.now offsets.now → ⊥) }
 {
     try_clean_rings(&mut C::new(alloc), points, offsets, out_points, out_offsets)
 }

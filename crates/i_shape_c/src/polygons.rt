@@ -6,6 +6,7 @@ ghost use Rattle.i_shape.specs.IntPoint.{contour_of};
 ghost use Rattle.i_shape.specs.ShapeAnswers.{ListClean, EachShape};
 ghost use Rattle.i_shape_c.specs.Appended.{IsReady, AreReady, AppendsRingLeft, AppendsShapeLeft, WritesLeft, polygons_of};
 ghost use Rattle.i_shape_c.specs.Batch.{offset, AreRising, PartsPoints, AreSafeContours};
+ghost use Rattle.i_shape_c.specs.Cleaned.{TakesNoMemory};
 ghost use Rattle.i_shape_c.specs.Codes.{IsRefusal};
 ghost use Rattle.i_shape_c.specs.Polygons.{parts, polygons, PartsPolygons, HasShapesRoom, AreShapesLeft, CleansPolygons};
 ghost use Rattle.i_shape_c.specs.Points.{point_by};
@@ -30,7 +31,7 @@ pub fn clean_shapes<P: CPoint, C: ContourCleaner>(
     out_shapes: &mut [usize],
 ) -> isize
     requires { length out_shapes.old < 2 ^ 63 }
-    ensures { CleansPolygons (EachShape C.clean) (ListClean C.answers) P.Coordinate.width
+    ensures { CleansPolygons (EachShape (TakesNoMemory C.fewest C.clean)) (ListClean C.answers) P.Coordinate.width
         (point_by P.Coordinate.value P.point) points.now contours.now shapes.now
         out_points.old out_points.new out_contours.old out_contours.new
         out_shapes.old out_shapes.new result }
@@ -117,7 +118,7 @@ fn has_shapes_room(
 }
 
 /// Writes the cleaned polygons to the front of the three arrays. Returns how many there are. Allocates before it
-/// writes, and only if a contour isn't clean, so an error leaves the arrays unchanged.
+/// writes, and only if a contour that isn't clean is long enough, so an error leaves the arrays unchanged.
 fn write_cleaned<P: CPoint, C: ContourCleaner>(
     alloc: Global,
     points: &[P],
@@ -138,7 +139,7 @@ fn write_cleaned<P: CPoint, C: ContourCleaner>(
         out_contours.old out_contours.new out_shapes.old out_shapes.new n) }
     ensures err { OnErr result ((out_points.new ≡ out_points.old)
         × (out_contours.new ≡ out_contours.old) × (out_shapes.new ≡ out_shapes.old)) }
-    ensures memory { OnErr result (EachShape C.clean (polygons
+    ensures memory { OnErr result (EachShape (TakesNoMemory C.fewest C.clean) (polygons
         (map (point_by P.Coordinate.value P.point) points.now) contours.now shapes.now) → ⊥) }
 {
     let end = shapes[shapes.len() - 1] + 1;

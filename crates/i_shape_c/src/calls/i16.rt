@@ -9,7 +9,7 @@ ghost use Rattle.i_shape.specs.ShapeAnswers.{ListClean, EachShape};
 ghost use Rattle.i_shape.specs.Contour.{IsSimple, Sublist, RotatedSublist, SublistEitherWay};
 ghost use Rattle.i_shape.specs.Convex.{Convex, NoSpikes};
 ghost use Rattle.i_shape_c.specs.Points.{point_i16};
-ghost use Rattle.i_shape_c.specs.Cleaned.{AreSafe, CleansContour};
+ghost use Rattle.i_shape_c.specs.Cleaned.{TakesNoMemory, AreSafe, CleansContour};
 ghost use Rattle.i_shape_c.specs.Batch.{CleansContours};
 ghost use Rattle.i_shape_c.specs.Areas.{IsDoubleArea};
 ghost use Rattle.i_shape_c.specs.Tests.{IsTold, TestsContour, TestsPoint};
@@ -41,7 +41,7 @@ pub extern "C" fn i_shape_simplify_i16(
     points: &[PointI16],
     out: &mut [PointI16],
 ) -> isize
-    ensures { CleansContour IsSimple SimpleAnswer KeptAnswer Sublist w16 point_i16
+    ensures { CleansContour (TakesNoMemory 3 IsSimple) SimpleAnswer KeptAnswer Sublist w16 point_i16
         points.now out.old out.new result }
 {
     clean_contour::<PointI16, ContourSimplifier>(alloc, points, out)
@@ -55,7 +55,7 @@ pub extern "C" fn i_shape_despike_i16(
     points: &[PointI16],
     out: &mut [PointI16],
 ) -> isize
-    ensures { CleansContour IsDespikedAlready SpikelessAnswer KeptAnswer Sublist w16 point_i16
+    ensures { CleansContour (TakesNoMemory 4 IsDespikedAlready) SpikelessAnswer KeptAnswer Sublist w16 point_i16
         points.now out.old out.new result }
 {
     clean_contour::<PointI16, ContourDeSpiker>(alloc, points, out)
@@ -69,7 +69,7 @@ pub extern "C" fn i_shape_canonical_i16(
     points: &[PointI16],
     out: &mut [PointI16],
 ) -> isize
-    ensures { CleansContour IsSimple CanonicalAnswer KeptAnswer RotatedSublist w16 point_i16
+    ensures { CleansContour (TakesNoMemory 3 IsSimple) CanonicalAnswer KeptAnswer RotatedSublist w16 point_i16
         points.now out.old out.new result }
 {
     clean_contour::<PointI16, Canonicalizer>(alloc, points, out)
@@ -84,7 +84,7 @@ pub extern "C" fn i_shape_canonical_unoriented_i16(
     points: &[PointI16],
     out: &mut [PointI16],
 ) -> isize
-    ensures { CleansContour IsSimple UnorientedAnswer KeptEitherWay SublistEitherWay w16 point_i16
+    ensures { CleansContour (TakesNoMemory 3 IsSimple) UnorientedAnswer KeptEitherWay SublistEitherWay w16 point_i16
         points.now out.old out.new result }
 {
     clean_contour::<PointI16, UnorientedCanonicalizer>(alloc, points, out)
@@ -100,7 +100,7 @@ pub extern "C" fn i_shape_simplify_contours_i16(
     out_points: &mut [PointI16],
     out_offsets: &mut [usize],
 ) -> isize
-    ensures { CleansContours IsSimple SimpleAnswer KeptAnswer w16 point_i16
+    ensures { CleansContours (TakesNoMemory 3 IsSimple) SimpleAnswer KeptAnswer w16 point_i16
         points.now offsets.now
         out_points.old out_points.new out_offsets.old out_offsets.new result }
 {
@@ -117,7 +117,7 @@ pub extern "C" fn i_shape_despike_contours_i16(
     out_points: &mut [PointI16],
     out_offsets: &mut [usize],
 ) -> isize
-    ensures { CleansContours IsDespikedAlready SpikelessAnswer KeptAnswer w16 point_i16
+    ensures { CleansContours (TakesNoMemory 4 IsDespikedAlready) SpikelessAnswer KeptAnswer w16 point_i16
         points.now offsets.now
         out_points.old out_points.new out_offsets.old out_offsets.new result }
 {
@@ -134,7 +134,7 @@ pub extern "C" fn i_shape_canonical_contours_i16(
     out_points: &mut [PointI16],
     out_offsets: &mut [usize],
 ) -> isize
-    ensures { CleansContours IsSimple CanonicalAnswer KeptAnswer w16 point_i16
+    ensures { CleansContours (TakesNoMemory 3 IsSimple) CanonicalAnswer KeptAnswer w16 point_i16
         points.now offsets.now
         out_points.old out_points.new out_offsets.old out_offsets.new result }
 {
@@ -151,7 +151,7 @@ pub extern "C" fn i_shape_canonical_unoriented_contours_i16(
     out_points: &mut [PointI16],
     out_offsets: &mut [usize],
 ) -> isize
-    ensures { CleansContours IsSimple UnorientedAnswer KeptEitherWay w16 point_i16
+    ensures { CleansContours (TakesNoMemory 3 IsSimple) UnorientedAnswer KeptEitherWay w16 point_i16
         points.now offsets.now
         out_points.old out_points.new out_offsets.old out_offsets.new result }
 {
@@ -176,7 +176,7 @@ pub extern "C" fn i_shape_simplify_shapes_i16(
     out_contours: &mut [usize],
     out_shapes: &mut [usize],
 ) -> isize
-    ensures { CleansPolygons (EachShape IsSimple) (ListClean SimpleAnswer) w16 point_i16
+    ensures { CleansPolygons (EachShape (TakesNoMemory 3 IsSimple)) (ListClean SimpleAnswer) w16 point_i16
         points.now contours.now shapes.now out_points.old out_points.new
         out_contours.old out_contours.new out_shapes.old out_shapes.new result }
 {
@@ -203,7 +203,7 @@ pub extern "C" fn i_shape_despike_shapes_i16(
     out_contours: &mut [usize],
     out_shapes: &mut [usize],
 ) -> isize
-    ensures { CleansPolygons (EachShape NoSpikes) (ListClean DespikeAnswer) w16 point_i16
+    ensures { CleansPolygons (EachShape (TakesNoMemory 4 NoSpikes)) (ListClean DespikeAnswer) w16 point_i16
         points.now contours.now shapes.now out_points.old out_points.new
         out_contours.old out_contours.new out_shapes.old out_shapes.new result }
 {

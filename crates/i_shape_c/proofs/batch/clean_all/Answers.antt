@@ -1,4 +1,4 @@
-use Rattle.i_shape_c.proofs.Batches.{safe_rings, cleaned_batch, none_takes_memory, if_ok, on_err_by}
+use Rattle.i_shape_c.proofs.Batches.{safe_rings, cleaned_batch, have_room, if_ok, unless_ok}
 use Rattle.i_shape_c.proofs.batch.clean_all.Goals as goal
 
 pub try_clean_rings-requires-clause-points_safe : goal.try_clean_rings-requires-clause-points_safe
@@ -13,5 +13,5 @@ returns-clause-ok g c =
 
 pub returns-clause-memory : goal.returns-clause-memory
 returns-clause-memory g c =
-    on_err_by c.try_clean_rings.result (λ unclean none. unclean (none_takes_memory g.P.Coordinate.IntNumber.width g.P.Coordinate.IntNumber.value g.P.ContourPoint.point g.P.ContourPoint.points g.P.ContourPoint.each g.C.ContourCleaner.clean
-    c.args.points.now c.args.offsets.now none)) c.try_clean_rings.ensures.memory.unclean
+    unless_ok c.try_clean_rings.result (λ none. c.try_clean_rings.ensures.memory.reserved (have_room g.P.Coordinate.IntNumber.width g.P.Coordinate.IntNumber.value g.P.ContourPoint.point g.P.ContourPoint.points g.P.ContourPoint.each
+    g.C.ContourCleaner.fewest g.C.ContourCleaner.clean (g.C.ContourCleaner.has_room c.new.result) (g.met.C.ContourCleaner.spares c.new.result) c.args.points.now c.args.offsets.now none))

@@ -1,8 +1,9 @@
-use Rattle.std.proofs.Common.{◌≡◌, ◌⊎◌, ◌<◌, ◌^◌, inl, inr, List, length, map, IsTrue, false, rules, refl, arith}
+use Rattle.std.proofs.Common.{◌≡◌, ◌<◌, ◌^◌, inl, inr, List, length, map, IsTrue, false, rules, refl, arith}
 use Rattle.std.specs.Int.{w64}
 use Rattle.std.proofs.lemmas.Int.{to_z_pos}
+use Rattle.std.proofs.lemmas.List.{length-map}
 use Rattle.i_shape.specs.IntPoint.{contour_of, point_of}
-use Rattle.i_shape_c.specs.Cleaned.{AreSafe}
+use Rattle.i_shape_c.specs.Cleaned.{TakesNoMemory, AreSafe}
 use Rattle.i_shape_c.specs.declared.codes.Refusal.TheVariants.{Unsafe, NoMemory}
 use Rattle.i_shape_c.proofs.Boundary.{copied_points, safe_contour, written_as}
 use Rattle.i_shape_c.proofs.Refusals.{code_of_64, refused, refused_memory, not_refused}
@@ -29,8 +30,9 @@ returns g c =
     let value = g.P.Coordinate.IntNumber.value in
     let points = g.P.ContourPoint.points c.args.points.now in
     let same = copied_points g.P.Coordinate.IntNumber.width value g.P.ContourPoint.point c.args.points.now points (g.P.ContourPoint.each c.args.points.now) in
-    let unspared : (length c.args.points.now < 3) ⊎ g.C.ContourCleaner.clean (map (λ p. point_of value (g.P.ContourPoint.point p)) c.args.points.now) → ⊥ = λ none. elim none [
-      | inl few ↦ let told = c.in-Err.ensures.short few in absurd (cc)
+    let at = λ (p : g.row.P.Denot). point_of value (g.P.ContourPoint.point p) in
+    let unspared : TakesNoMemory g.C.ContourCleaner.fewest g.C.ContourCleaner.clean (map at c.args.points.now) → ⊥ = λ none. elim none [
+      | inl few ↦ let told = c.in-Err.ensures.reserved (g.met.C.ContourCleaner.spares c.new.result (length c.args.points.now) (omega (arith, few, length-map c.args.points.now at))) in absurd (cc)
       | inr clean ↦ c.in-Err.ensures.unclean (rw same clean)
     ] in
     rw (c.code-in-Err.ensures, code_of_64 NoMemory) (record {

@@ -1,10 +1,11 @@
-use Rattle.std.proofs.Common.{◌-◌, ◌+◌, ◌<◌, ℕ, inr, length, map, arith}
+use Rattle.std.proofs.Common.{◌-◌, length, arith}
 use Rattle.i_shape.specs.Point.{Point}
 use Rattle.i_shape.specs.IntPoint.{point_of, contour_of}
 use Rattle.i_shape_core.specs.Rings.{AreSafeRings}
-use Rattle.i_shape_c.specs.Batch.{nth_contour}
+use Rattle.i_shape_c.specs.Batch.{AreSpared}
+use Rattle.i_shape_c.specs.Cleaned.{TakesNoMemory}
 use Rattle.i_shape_core.proofs.lists.Rings.{rises_to}
-use Rattle.i_shape_c.proofs.Batches.{safe_rings, same, on_err}
+use Rattle.i_shape_c.proofs.Batches.{safe_rings, have_room, on_err}
 use Rattle.i_shape_c.proofs.PolygonsLeft.{rings, rings_parted, rings_safe, rings_clean, left_written}
 use Rattle.i_shape_c.proofs.polygons.write_cleaned.Goals as goal
 
@@ -47,9 +48,12 @@ pub returns-in_err-all_clean-clause-memory : goal.returns-in_err-all_clean-claus
 returns-in_err-all_clean-clause-memory g c =
     let at : g.row.P.Denot → Point = λ p. point_of g.P.Coordinate.IntNumber.value (g.P.ContourPoint.point p) in
     let rings_now = c.part-rings.result.now in
+    let Spares = TakesNoMemory g.C.ContourCleaner.fewest g.C.ContourCleaner.clean in
     on_err c.from_residual.result (λ each.
-    let clean : (k : ℕ) → k + 1 < length rings_now → g.C.ContourCleaner.clean (map at (nth_contour c.args.points.now rings_now k)) = rw (c.part-rings.ensures.part) (rings_clean at c.args.points.now c.args.contours.now c.args.shapes.now c.requires.parted.contours_parted c.requires.parted.shapes_parted g.C.ContourCleaner.clean each) in
-    c.in_err-all_clean.ensures.memory.unclean (λ k less. inr (rw (same g.P.Coordinate.IntNumber.width g.P.Coordinate.IntNumber.value g.P.ContourPoint.point g.P.ContourPoint.points g.P.ContourPoint.each (nth_contour c.args.points.now rings_now k)) (clean k less))))
+    let none : AreSpared Spares at c.args.points.now rings_now = rw (c.part-rings.ensures.part) (rings_clean at c.args.points.now c.args.contours.now c.args.shapes.now c.requires.parted.contours_parted c.requires.parted.shapes_parted Spares each) in
+    let told = c.in_err-all_clean.ensures.memory.reserved (have_room g.P.Coordinate.IntNumber.width g.P.Coordinate.IntNumber.value g.P.ContourPoint.point g.P.ContourPoint.points g.P.ContourPoint.each g.C.ContourCleaner.fewest g.C.ContourCleaner.clean
+    (g.C.ContourCleaner.has_room c.new-cleaner.result) (g.met.C.ContourCleaner.spares c.new-cleaner.result) c.args.points.now rings_now none) in
+    absurd (cc))
 
 pub returns-clause-ok : goal.returns-clause-ok
 returns-clause-ok g c =
