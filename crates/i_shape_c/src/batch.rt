@@ -36,7 +36,8 @@ pub fn clean_contours<P: CPoint, C: ContourCleaner>(
         out_points.len(),
         out_offsets.len(),
     );
-    if let Some(refusal) = refusal(points, offsets, has_room) {
+    let is_parted = are_parted(points.len(), offsets);
+    if let Some(refusal) = refusal(points, offsets, is_parted, has_room) {
         return refusal.code() as isize;
     }
     match clean_all::<P, C>(alloc, points, offsets, out_points, out_offsets) {
@@ -53,12 +54,18 @@ pub fn has_room(points: usize, offsets: usize, out_points: usize, out_offsets: u
 }
 
 /// Returns why a call on contours is refused, or `None` where the offsets divide safe points, and there is room.
-pub fn refusal<P: CPoint>(points: &[P], offsets: &[usize], has_room: bool) -> Option<Refusal>
-    ensures { IsRefusal (PartsPoints (length points.now) offsets.now) (IsTrue has_room)
+pub fn refusal<P: CPoint>(
+    points: &[P],
+    offsets: &[usize],
+    is_parted: bool,
+    has_room: bool,
+) -> Option<Refusal>
+    requires { IsTrue is_parted → PartsPoints (length points.now) offsets.now }
+    ensures { IsRefusal (IsTrue is_parted) (IsTrue has_room)
         (AreSafeContours P.Coordinate.width (point_by P.Coordinate.value P.point)
         points.now offsets.now) result }
 {
-    if !are_parted(points.len(), offsets) {
+    if !is_parted {
         return Some(Refusal::BadOffsets);
     }
     if !has_room {
@@ -82,7 +89,8 @@ pub fn refusal_about<P: CPoint>(
         points.now offsets.now
         × AreSafe P.Coordinate.width (point_by P.Coordinate.value P.point) about.now) result }
 {
-    if let Some(refusal) = refusal(points, offsets, about.len() <= room) {
+    let is_parted = are_parted(points.len(), offsets);
+    if let Some(refusal) = refusal(points, offsets, is_parted, about.len() <= room) {
         return Some(refusal);
     }
     if are_safe(about) {

@@ -11,13 +11,12 @@ ghost use Rattle.i_shape_c.specs.Codes.{IsRefusal};
 ghost use Rattle.i_shape_c.specs.Polygons.{parts, polygons, PartsPolygons, HasShapesRoom, AreShapesLeft, CleansPolygons};
 ghost use Rattle.i_shape_c.specs.Points.{point_by};
 
-use crate::batch::{are_parted, has_room, part};
+use crate::batch::{self, are_parted, has_room, part};
 use crate::codes::Refusal;
 use crate::point::CPoint;
 use i_shape::ShapeError;
 use i_shape::int::cleaner::ContourCleaner;
 use i_shape_core::rings::{clean_at, make_room};
-use i_shape_core::safe_range::are_safe;
 use std::alloc::Global;
 
 /// Writes the cleaned polygons to the front of the three arrays. Returns how many there are, or a code below 0.
@@ -76,23 +75,16 @@ pub fn refusal<P: CPoint>(
         (AreSafeContours P.Coordinate.width (point_by P.Coordinate.value P.point)
         points.now contours.now) result }
 {
-    if !are_polygons(points.len(), contours, shapes) {
-        return Some(Refusal::BadOffsets);
-    }
-    if !has_shapes_room(
+    let is_parted = are_polygons(points.len(), contours, shapes);
+    let has_room = has_shapes_room(
         points.len(),
         contours.len(),
         shapes.len(),
         out_points,
         out_contours,
         out_shapes,
-    ) {
-        return Some(Refusal::NoRoom);
-    }
-    if !are_safe(part(points, contours[0], contours[contours.len() - 1])) {
-        return Some(Refusal::Unsafe);
-    }
-    None
+    );
+    batch::refusal(points, contours, is_parted, has_room)
 }
 
 /// Returns whether the offsets divide the points into contours, and the contours into polygons.

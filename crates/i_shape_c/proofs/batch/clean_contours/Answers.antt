@@ -1,4 +1,4 @@
-use Rattle.std.proofs.Common.{◌≡◌, ◌<◌, ◌^◌, Some, refl, arith}
+use Rattle.std.proofs.Common.{◌<◌, ◌^◌, Some, refl, arith}
 use Rattle.std.specs.Int.{w64}
 use Rattle.std.proofs.lemmas.Int.{to_z_pos}
 use Rattle.i_shape.specs.IntPoint.{point_of}
@@ -14,19 +14,21 @@ returns-in-Some g c =
     rw (c.code.ensures, code_of_64 r) (record {
       answer = each_code (BatchAnswer g.C.ContourCleaner.answers g.C.ContourCleaner.keeps g.P.Coordinate.IntNumber.width at c.args.points.now c.args.offsets.now c.args.out_points.now c.args.out_points.now c.args.out_offsets.now c.args.out_offsets.now) r
           (λ n few. (few, record { points = refl; offsets = refl }));
-      refuses = refused r (refusal_as (Some r) as_is c.has_room-has_room.ensures as_is c.in-Some.ensures);
+      refuses = refused r (refusal_as (Some r) c.are_parted-is_parted.ensures c.has_room-has_room.ensures as_is c.in-Some.ensures);
     })
 
 pub returns-in-Ok : goal.returns-in-Ok
 returns-in-Ok g c =
     let fit = c.in_default.ensures in
+    let parted = c.are_parted-is_parted.ensures.0 fit.0 in
     let room = c.has_room-has_room.ensures.0 fit.1 in
     let left = c.in-Ok.ensures.ok in
     let small : c.in-Ok.total < 2 ^ 63 = omega (arith, left.fewer, room.points_room, c.requires) in
-    rw (to_z_pos w64 c.in-Ok.total small) (record { answer = left; refuses = not_refused (fit.0, room, fit.2) c.in-Ok.total })
+    rw (to_z_pos w64 c.in-Ok.total small) (record { answer = left; refuses = not_refused (parted, room, fit.2) c.in-Ok.total })
 
 pub returns-in-Err : goal.returns-in-Err
 returns-in-Err g c =
     let fit = c.in_default.ensures in
+    let parted = c.are_parted-is_parted.ensures.0 fit.0 in
     let room = c.has_room-has_room.ensures.0 fit.1 in
-    rw (c.code-in-Err.ensures, code_of_64 NoMemory) (record { answer = (omega arith, c.in-Err.ensures.err); refuses = refused_memory (fit.0, room, fit.2) c.in-Err.ensures.memory })
+    rw (c.code-in-Err.ensures, code_of_64 NoMemory) (record { answer = (omega arith, c.in-Err.ensures.err); refuses = refused_memory (parted, room, fit.2) c.in-Err.ensures.memory })
