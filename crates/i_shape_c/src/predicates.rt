@@ -1,6 +1,6 @@
 //! Tests of a contour, at any width. Each returns 1 or 0, or a code below 0, and allocates nothing.
 
-ghost use Rattle.std.specs.Prelude.{◌≡◌, ◌↔◌, List, map, IsTrue};
+ghost use Rattle.std.specs.Prelude.{◌↔◌, List, IsTrue};
 ghost use Rattle.std.specs.List.{All};
 ghost use Rattle.i_shape.specs.Contour.{IsSimple};
 ghost use Rattle.i_shape.specs.Convex.{Convex, NoSpikes};
@@ -8,8 +8,7 @@ ghost use Rattle.i_shape.specs.Edges.{Inside};
 ghost use Rattle.i_shape.specs.IntPoint.{contour_of, point_of, IsSafe};
 ghost use Rattle.i_shape.specs.Point.{Point};
 ghost use Rattle.i_shape_c.specs.Cleaned.{AreSafe};
-ghost use Rattle.i_shape_c.specs.Codes.{unsafe_code};
-ghost use Rattle.i_shape_c.specs.Tests.{IsTold, TestAnswer};
+ghost use Rattle.i_shape_c.specs.Tests.{IsTold, TestsContour, TestsPoint};
 ghost use Rattle.i_shape_c.specs.Points.{point_by};
 
 use crate::codes::Refusal;
@@ -97,10 +96,8 @@ impl<I: IntNumber> ContourTest<I> for Around<I> {
 /// Returns the result of a test of the points: 1 or 0, or a code below 0.
 pub fn test_contour<P: CPoint, T: ContourTest<P::Coordinate>>(points: &[P], test: T) -> i32
     requires { T.can_test test }
-    ensures answer { TestAnswer
-        (T.holds test (map (point_by P.Coordinate.value P.point) points.now)) result }
-    ensures unsafe_points { result ≡ unsafe_code
-        ↔ (AreSafe P.Coordinate.width (point_by P.Coordinate.value P.point) points.now → ⊥) }
+    ensures { TestsContour (T.holds test) P.Coordinate.width (point_by P.Coordinate.value P.point)
+        points.now result }
 {
     if !are_safe(points) {
         return Refusal::Unsafe.code();
@@ -110,12 +107,8 @@ pub fn test_contour<P: CPoint, T: ContourTest<P::Coordinate>>(points: &[P], test
 
 /// Returns whether the point is inside the contour: 1 or 0, or a code below 0.
 pub fn contains<P: CPoint>(points: &[P], given: P) -> i32
-    ensures answer { TestAnswer
-        (Inside (map (point_by P.Coordinate.value P.point) points.now)
-        (point_by P.Coordinate.value P.point given)) result }
-    ensures unsafe_points { result ≡ unsafe_code
-        ↔ ((AreSafe P.Coordinate.width (point_by P.Coordinate.value P.point) points.now
-        × IsSafe P.Coordinate.width (point_by P.Coordinate.value P.point given)) → ⊥) }
+    ensures { TestsPoint P.Coordinate.width (point_by P.Coordinate.value P.point)
+        points.now (point_by P.Coordinate.value P.point given) result }
 {
     let point = given.to_point();
     if !point.is_in_safe_range() {

@@ -1,14 +1,13 @@
 //! Winding numbers of contours about points, at any width. Calls for many points allocate memory where that saves time,
 //! and do without it where the allocation fails.
 
-ghost use Rattle.std.specs.Prelude.{◌≡◌, ◌≤◌, ◌↔◌, ◌++◌, length, map, drop, OnOk, OnErr};
+ghost use Rattle.std.specs.Prelude.{◌≡◌, ◌≤◌, ◌++◌, length, map, drop, OnOk, OnErr};
 ghost use Rattle.std.specs.List.{All};
 ghost use Rattle.i_shape_core.specs.Heights.{asked_points, IsRising, IsAdded, AllFit};
 ghost use Rattle.i_shape.specs.IntPoint.{point_of, IsSafe};
-ghost use Rattle.i_shape.specs.Winding.{winding};
 ghost use Rattle.i_shape_c.specs.Cleaned.{AreSafe};
 ghost use Rattle.i_shape_c.specs.Batch.{PartsPoints, AreSafeContours};
-ghost use Rattle.i_shape_c.specs.Windings.{no_winding, contours_winding, WindsAboutEach};
+ghost use Rattle.i_shape_c.specs.Windings.{contours_winding, WindsAbout, WindsAboutEach};
 ghost use Rattle.i_shape_c.specs.Points.{point_by};
 
 use crate::batch::{part, refusal_about};
@@ -32,13 +31,8 @@ const LEAST_BATCH: usize = 65_536;
 
 /// Returns the contour's winding number about the point, or `NO_WINDING` where a point isn't safe.
 pub fn winding<P: CPoint>(points: &[P], given: P) -> isize
-    ensures answer { (AreSafe P.Coordinate.width (point_by P.Coordinate.value P.point) points.now
-        × IsSafe P.Coordinate.width (point_by P.Coordinate.value P.point given))
-        → result ≡ winding (map (point_by P.Coordinate.value P.point) points.now)
-        (point_by P.Coordinate.value P.point given) }
-    ensures unsafe_points { result ≡ no_winding
-        ↔ ((AreSafe P.Coordinate.width (point_by P.Coordinate.value P.point) points.now
-        × IsSafe P.Coordinate.width (point_by P.Coordinate.value P.point given)) → ⊥) }
+    ensures { WindsAbout P.Coordinate.width (point_by P.Coordinate.value P.point)
+        points.now (point_by P.Coordinate.value P.point given) result }
 {
     let point = given.to_point();
     if !point.is_in_safe_range() || !are_safe(points) {

@@ -1,4 +1,4 @@
-use Rattle.std.proofs.Common.{◌∙◌, ◌^◌, ◌<◌, length, map, ap, refl, sym, FitsSigned, w64, rules}
+use Rattle.std.proofs.Common.{◌∙◌, ◌^◌, ◌<◌, length, map, ap, refl, w64, rules}
 use Rattle.std.proofs.lemmas.Int.{to_z-of_z}
 use Rattle.i_shape.specs.IntPoint.{point_of, IsSafe}
 use Rattle.i_shape.specs.Winding.{winding}
@@ -10,17 +10,15 @@ pub winding_about-requires-clause-points_safe : goal.winding_about-requires-clau
 winding_about-requires-clause-points_safe g c =
     safe_contour g.P.Coordinate.IntNumber.width g.P.Coordinate.IntNumber.value g.P.ContourPoint.point c.args.points.now (g.P.ContourPoint.points c.args.points.now) (g.P.ContourPoint.each c.args.points.now) (c.if-not-are_safe.ensures.0 refl)
 
-pub returns-clause-answer : goal.returns-clause-answer
-returns-clause-answer g c = λ safe.
+pub returns : goal.returns
+returns g c =
     let value = g.P.Coordinate.IntNumber.value in
-    let fits : FitsSigned w64 c.winding_about.result = record { sfits = c.winding_about.type_inv } in
-    to_z-of_z w64 c.winding_about.result fits ∙ c.winding_about.ensures.answer
-    ∙ ap (λ points. winding points (point_of value c.to_point-point.result)) (copied_points g.P.Coordinate.IntNumber.width value g.P.ContourPoint.point c.args.points.now (g.P.ContourPoint.points c.args.points.now) (g.P.ContourPoint.each c.args.points.now))
-    ∙ ap (λ p. winding (map (λ q. point_of value (g.P.ContourPoint.point q)) c.args.points.now) (point_of value p)) c.to_point-point.ensures
-
-pub returns-clause-unsafe_points : goal.returns-clause-unsafe_points
-returns-clause-unsafe_points g c =
-    let fits : FitsSigned w64 c.winding_about.result = record { sfits = c.winding_about.type_inv } in
+    let at = λ (p : g.row.P.Denot). point_of value (g.P.ContourPoint.point p) in
     let few : length c.args.points.now < 2 ^ 64 = search rules in
-    let here : IsSafe g.P.Coordinate.IntNumber.width (point_of g.P.Coordinate.IntNumber.value (g.P.ContourPoint.point c.args.given)) = rw (c.to_point-point.ensures) at (c.if-not-is_in_safe_range.ensures.0 refl) in
-    (λ is safe. half_apart (length c.args.points.now) c.winding_about.result few c.winding_about.ensures.half (sym (to_z-of_z w64 c.winding_about.result fits) ∙ is), λ not_safe. absurd (not_safe (c.if-not-are_safe.ensures.0 refl, here)))
+    let here : IsSafe g.P.Coordinate.IntNumber.width (at c.args.given) = rw (c.to_point-point.ensures) at (c.if-not-is_in_safe_range.ensures.0 refl) in
+    rw (to_z-of_z w64 c.winding_about.result (record { sfits = c.winding_about.type_inv })) (record {
+      answer = λ safe. c.winding_about.ensures.answer
+          ∙ ap (λ points. winding points (point_of value c.to_point-point.result)) (copied_points g.P.Coordinate.IntNumber.width value g.P.ContourPoint.point c.args.points.now (g.P.ContourPoint.points c.args.points.now) (g.P.ContourPoint.each c.args.points.now))
+          ∙ ap (λ p. winding (map at c.args.points.now) (point_of value p)) c.to_point-point.ensures;
+      unsafe_points = (λ is safe. half_apart (length c.args.points.now) c.winding_about.result few c.winding_about.ensures.half is, λ not_safe. absurd (not_safe (c.if-not-are_safe.ensures.0 refl, here)));
+    })
