@@ -26,10 +26,7 @@ pub fn first_bad_offset(points: usize, offsets: &[usize]) -> usize
     let mut before = 0;
     for place in 0..offsets.len() {
         let offset = offsets[place];
-        if offset < before {
-            return place;
-        }
-        if offset > points {
+        if offset < before || offset > points {
             return place;
         }
         before = offset;

@@ -1,5 +1,6 @@
 use Rattle.std.proofs.Common.{◌≡◌, length, arith, refl}
 use Rattle.i_shape_c.proofs.Batches.{read_more, bad_back}
+use Rattle.i_shape_c.proofs.places.first_bad_offset.Goals.{then-offset-before-via-then-offset-before, then-offset-before-via-else-offset-before+then-offset-points}
 use Rattle.i_shape_c.proofs.places.first_bad_offset.Goals as goal
 
 pub loop-place-init : goal.loop-place-init
@@ -13,14 +14,10 @@ pub returns-then-offset-before : goal.returns-then-offset-before
 returns-then-offset-before c = record {
   within = omega (arith, c.loop-place-test.true);
   before = c.loop-place.invariant.good;
-  here = λ less. bad_back c.args.points c.args.offsets.now c.loop-place.place c.loop-place.before c.loop-place.invariant c.if-offset-before.true;
-}
-
-pub returns-then-offset-points : goal.returns-then-offset-points
-returns-then-offset-points c = record {
-  within = omega (arith, c.loop-place-test.true);
-  before = c.loop-place.invariant.good;
-  here = λ less good. let most = good.most c.loop-place.place (omega arith) in omega (arith, most, c.if-offset-points.true);
+  here = λ less good. elim c.then-offset-before.branch [
+    | then-offset-before-via-then-offset-before w ↦ bad_back c.args.points c.args.offsets.now c.loop-place.place c.loop-place.before c.loop-place.invariant w.if-offset-before.true good
+    | then-offset-before-via-else-offset-before+then-offset-points w ↦ let most = good.most c.loop-place.place (omega arith) in omega (arith, most, w.if-offset-points.true)
+  ];
 }
 
 pub loop-place-preserved : goal.loop-place-preserved
