@@ -9,3 +9,4 @@ pub mod PolygonsLeft
 pub mod Counts
 pub mod Windings
 pub mod Told
+pub mod Examples

@@ -1,0 +1,149 @@
+-- The definitions that the calls' clauses cite, at values that are written out.
+use Rattle.std.proofs.Common.{◌≡◌, ◌<◌, ◌+◌, ℕ, ℤ, List, [], ◌∷◌, ◌++◌, length, map, pos, negsuc, refl, sym, ◌∙◌, lit≤, lit<, inl, inr, arith, Option, Some, None, FitsSigned}
+use Rattle.std.specs.Int.{w16, w32}
+use Rattle.std.proofs.lemmas.Int.{int_wrap_fits, ints}
+use Rattle.i_shape.specs.Point.{Point, cross, dot}
+use Rattle.i_shape.specs.Edges.{shoelace, area_of_edge, Inside, is_right}
+use Rattle.i_shape.specs.ShapeAnswers.{ListClean}
+use Rattle.i_shape.specs.Winding.{winding, winding_of_edge}
+use Rattle.i_shape.specs.Written.{slot, IsCleaned}
+use Rattle.i_shape_core.specs.declared.fill_rule.FillRule.TheVariants.{EvenOdd, NonZero}
+use Rattle.i_shape_c.specs.Areas.{AreHalves, IsDoubleArea}
+use Rattle.i_shape_c.specs.Batch.{nth_contour, AreRising, PartsPoints, HasRoom, AreSafeContours, AreSpared, BatchAnswer}
+use Rattle.i_shape_c.specs.Cleaned.{AreSafe, TakesNoMemory, CleanAnswer}
+use Rattle.i_shape_c.specs.Codes.{code_of, IsRefusal, Refuses}
+use Rattle.i_shape_c.specs.Locations.{rule_of, IsFilledByte, FillsAnswer, IsLocated, TellsAnswer}
+use Rattle.i_shape_c.specs.Measures.{IsByteOf, MeasuresAnswer}
+use Rattle.i_shape_c.specs.Places.{IsFirstUnsafe, IsFirstBadOffset}
+use Rattle.i_shape_c.specs.Polygons.{parts, polygons, offsets_of, PartsPolygons, HasShapesRoom, AreNone, ShapesAnswer}
+use Rattle.i_shape_c.specs.Tests.{IsTold, TestAnswer, TestsContour, TestsPoint}
+use Rattle.i_shape_c.specs.Windings.{contours_winding, WindingsAnswer, WindsAbout}
+use Rattle.i_shape_c.specs.declared.codes.Refusal.TheVariants.{Unsafe, BadOffsets, NoMemory, NoRoom}
+
+abbrev at : ℕ → ℕ → Point
+at x y = record { x = pos x; y = pos y }
+
+abbrev self : Point → Point
+self p = p
+
+abbrev box : List Point
+box = at 0 0 ∷ at 10 0 ∷ at 10 10 ∷ at 0 10 ∷ []
+
+-- the first test that fails gives the code, and no memory is the code only where nothing is spared
+refusals : (code_of Unsafe ≡ negsuc 0) × (code_of BadOffsets ≡ negsuc 1) × (code_of NoMemory ≡ negsuc 2) × (code_of NoRoom ≡ negsuc 3)
+    × IsRefusal ⊥ ⊥ ⊥ (Some BadOffsets) × (IsRefusal ⊥ ⊥ ⊥ (Some NoRoom) → ⊥) × (IsRefusal (Unit {0}) ⊥ ⊥ (Some Unsafe) → ⊥) × (Refuses (Unit {0}) (Unit {0}) (Unit {0}) (Unit {0}) (code_of NoMemory) → ⊥)
+refusals = (refl, refl, refl, refl, λ parted. parted, λ why. why.0, λ why. why.1, λ why. why.memory refl tt)
+
+-- what lies before the first offset or behind the last is no part, and equal offsets part an empty one
+parted : (parts {P = ℕ} (1 ∷ 2 ∷ 3 ∷ 4 ∷ 5 ∷ []) (1 ∷ 3 ∷ 3 ∷ 4 ∷ []) ≡ (2 ∷ 3 ∷ []) ∷ [] ∷ (4 ∷ []) ∷ []) × (parts {P = ℕ} (1 ∷ 2 ∷ []) (1 ∷ []) ≡ [])
+    × (polygons {P = ℕ} (1 ∷ 2 ∷ 3 ∷ []) (0 ∷ 1 ∷ 1 ∷ 3 ∷ []) (0 ∷ 2 ∷ 2 ∷ 3 ∷ []) ≡ ((1 ∷ []) ∷ [] ∷ []) ∷ [] ∷ ((2 ∷ 3 ∷ []) ∷ []) ∷ [])
+    × (offsets_of {P = ℕ} 0 ((1 ∷ 2 ∷ []) ∷ [] ∷ (3 ∷ []) ∷ []) ≡ 0 ∷ 2 ∷ 2 ∷ 3 ∷ []) × (offsets_of {P = ℕ} 0 [] ≡ 0 ∷ [])
+parted = (refl, refl, refl, refl, refl)
+
+not_parted : PartsPoints 4 (4 ∷ []) × (PartsPoints 5 [] → ⊥) × (PartsPoints 4 (0 ∷ 5 ∷ []) → ⊥) × (PartsPoints 5 (3 ∷ 0 ∷ []) → ⊥) × (PartsPolygons 4 (4 ∷ []) (0 ∷ 1 ∷ []) → ⊥)
+not_parted = (record { some = lit< tt; order = λ k less. absurd (omega (arith, less)); last = lit≤ tt }, λ p. omega (arith, p.some), λ p. omega (arith, p.last), λ p. omega (arith, p.order 0 (lit< tt)), λ p. omega (arith, p.shapes_parted.last))
+
+room : HasRoom 3 2 3 2 × (HasRoom 3 2 2 2 → ⊥) × (HasRoom 3 2 3 1 → ⊥) × (HasShapesRoom 3 2 2 3 2 1 → ⊥)
+room = (record { points_room = lit≤ tt; offsets_room = lit≤ tt }, λ r. omega (arith, r.points_room), λ r. omega (arith, r.offsets_room), λ r. omega (arith, r.shapes_room))
+
+first_bad : IsFirstBadOffset 5 (6 ∷ []) 0 × (IsFirstBadOffset 5 (6 ∷ []) 1 → ⊥) × (IsFirstBadOffset 5 (3 ∷ 2 ∷ []) 2 → ⊥)
+first_bad = (
+  record { within = lit≤ tt; before = record { order = λ k less. absurd (omega (arith, less)); most = λ k less. absurd (omega (arith, less)) }; here = λ less good. omega (arith, good.most 0 (lit< tt)) },
+  λ bad. omega (arith, bad.before.most 0 (lit< tt)),
+  λ bad. omega (arith, bad.before.order 0 (lit< tt)),
+)
+
+abbrev far : List Point
+far = at 5 5 ∷ at 0 1073741824 ∷ []
+
+first_unsafe : IsFirstUnsafe w32 self far 1 × (IsFirstUnsafe w32 self far 2 → ⊥) × AreSafeContours w32 self far (0 ∷ 1 ∷ [])
+first_unsafe = (record { within = lit≤ tt; before = one; here = λ less all. beyond all }, λ first. beyond first.before, one)
+  where
+    one : AreSafe w32 self (at 5 5 ∷ [])
+    one k d less = let first : k ≡ 0 = omega (arith, less) in rw first ((omega arith, omega arith), (omega arith, omega arith))
+
+    beyond : AreSafe w32 self far → ⊥
+    beyond all = omega (arith, (all 1 (at 0 0) (lit< tt)).1.1)
+
+none_unsafe : AreSafe w32 self []
+none_unsafe k d less = absurd (omega (arith, less))
+
+abbrev Spares : List Point → Type 0
+Spares = TakesNoMemory 3 (λ c. ⊥)
+
+spared : Spares (at 1 1 ∷ at 1 1 ∷ []) × (Spares box → ⊥) × AreSpared Spares self box (0 ∷ 2 ∷ []) × (AreSpared Spares self box (0 ∷ 4 ∷ []) → ⊥)
+spared = (inl (lit< tt), long, λ k less. let first : k ≡ 0 = omega (arith, less) in rw first (inl (lit< tt)), λ each. long (each 0 (lit< tt)))
+  where
+    long : TakesNoMemory 3 (λ c. ⊥) box → ⊥
+    long (inl few) = omega (arith, few)
+    long (inr never) = never
+
+-- cleaning, where each contour is its own answer
+abbrev Stays : List Point → Option (List Point) → Type 0
+Stays c r = r ≡ slot c
+
+abbrev Answer : List Point → List Point → List Point → ℤ → Type 0
+Answer = CleanAnswer Stays Stays (λ given left. given ≡ left) w32 self
+
+one_cleaned : Answer [] box box (pos 0) × (Answer [] box [] (pos 0) → ⊥) × (Answer box box (at 9 9 ∷ box) (pos 4) → ⊥) × (Answer box box box (negsuc 4) → ⊥) × (Answer box [] box (negsuc 0) → ⊥)
+one_cleaned = (record { fewer = lit≤ tt; picked = refl; cleaned = record { answer = refl; kept = refl; safe = tt }; rest = refl }, λ w. cc, λ w. cc, λ w. omega (arith, w.0), λ w. cc)
+
+abbrev Batch : List ℕ → ℤ → Type 0
+Batch = BatchAnswer Stays Stays w32 self [] (0 ∷ 0 ∷ []) [] [] (9 ∷ 9 ∷ 9 ∷ [])
+
+each_cleaned : Batch (0 ∷ 0 ∷ 9 ∷ []) (pos 0) × (Batch (9 ∷ 9 ∷ 9 ∷ []) (pos 0) → ⊥) × (Batch (0 ∷ 0 ∷ 0 ∷ []) (pos 0) → ⊥) × (Batch (0 ∷ 0 ∷ 9 ∷ []) (negsuc 0) → ⊥)
+each_cleaned = (record { first = refl; order = order; last = refl; fewer = lit≤ tt; cleaned = cleaned; rest = refl; offsets_rest = refl }, λ w. cc, λ w. cc, λ w. cc)
+  where
+    order : AreRising (0 ∷ 0 ∷ 9 ∷ []) 2
+    order k less = let first : k ≡ 0 = omega (arith, less) in rw first (lit≤ tt)
+
+    cleaned : (k : ℕ) → k + 1 < 2 → IsCleaned Stays Stays w32 (map self (nth_contour [] (0 ∷ 0 ∷ []) k)) (slot (map self (nth_contour [] (0 ∷ 0 ∷ 9 ∷ []) k)))
+    cleaned k less = let first : k ≡ 0 = omega (arith, less) in rw first (record { answer = refl; kept = refl; safe = tt })
+
+-- no polygon leaves none: both lists of offsets are 0 alone
+abbrev None_left : List ℕ → ℤ → Type 0
+None_left new = ShapesAnswer (ListClean Stays) self box (0 ∷ 4 ∷ []) (0 ∷ []) [] [] (7 ∷ 9 ∷ []) new (7 ∷ []) (0 ∷ [])
+
+none_left : None_left (0 ∷ 9 ∷ []) (pos 0) × (None_left (0 ∷ 9 ∷ []) (negsuc 0) → ⊥) × (None_left (0 ∷ 9 ∷ []) (pos 1) → ⊥) × AreNone []
+none_left = (
+  record { list = []; left = ([], tt, refl); count = refl; fewer_points = lit≤ tt; fewer_contours = lit< tt; fewer_shapes = lit< tt; written = refl; rest = refl; contours_are = refl; shapes_are = refl },
+  λ w. cc,
+  λ w. omega (arith, w.fewer_shapes),
+  refl,
+)
+
+told : IsTold (Unit {0}) (pos 1) × (IsTold ⊥ (pos 1) → ⊥) × (IsTold (Unit {0}) (pos 0) → ⊥) × (TestAnswer ⊥ (negsuc 1) → ⊥) × IsByteOf (λ c. ⊥) box 0 × (rule_of (pos 1) ≡ Some NonZero) × (rule_of (pos 4) ≡ None)
+told = (tt, λ h. h, λ h. h tt, λ h. h, λ h. h, refl, refl)
+
+tested : TestsContour (λ c. ⊥) w32 self [] (pos 0) × (TestsContour (λ c. ⊥) w32 self [] (negsuc 0) → ⊥) × (TestsPoint w32 self [] (at 5 5) (pos 1) → ⊥)
+unfolding Inside is_right cross
+tested = (record { answer = λ h. h; unsafe_points = (λ is. absurd (cc), λ unsafe. absurd (unsafe none_unsafe)) }, λ t. t.unsafe_points.0 refl none_unsafe, λ t. let told = t.answer in cc)
+
+abbrev Tells : List ℕ → Type 0
+Tells new = TellsAnswer (λ rule points offsets q x. x ≡ 7) self box (0 ∷ []) (at 5 5 ∷ []) (pos 0) (9 ∷ 9 ∷ []) new (pos 0)
+
+filled : FillsAnswer (Some NonZero) (pos 2) (pos 1) × (FillsAnswer (Some EvenOdd) (pos 2) (pos 1) → ⊥) × (FillsAnswer None (pos 2) (negsuc 4) → ⊥) × Tells (7 ∷ 9 ∷ []) × (Tells (7 ∷ 8 ∷ []) → ⊥)
+filled = (λ none. cc, λ odd. cc, λ few. omega (arith, few), record { each = (refl, tt); rest = refl }, λ t. cc)
+
+-- winding numbers are summed over the contours that the offsets give
+wound : (contours_winding self (box ++ box) (0 ∷ 4 ∷ 8 ∷ []) (at 5 5) ≡ pos 2) × (contours_winding self (box ++ box) (4 ∷ 8 ∷ []) (at 5 5) ≡ pos 1) × (WindsAbout w32 self [] (at 5 5) (pos 1) → ⊥)
+    × WindingsAnswer self box (0 ∷ 4 ∷ []) (at 5 5 ∷ at 15 5 ∷ []) (pos 9 ∷ pos 9 ∷ pos 9 ∷ []) (pos 1 ∷ pos 0 ∷ pos 9 ∷ []) (pos 0)
+unfolding winding winding_of_edge is_right cross
+wound = (refl, refl, λ w. let told = w.answer (none_unsafe, ((omega arith, omega arith), (omega arith, omega arith))) in cc, refl)
+
+on_an_edge : IsLocated self EvenOdd box (0 ∷ 4 ∷ []) (at 5 0) (pos 0) × (IsLocated self EvenOdd [] (0 ∷ []) (at 5 0) (pos 0) → ⊥) × (IsFilledByte self NonZero box (0 ∷ 4 ∷ []) (at 5 5) 0 → ⊥)
+unfolding winding winding_of_edge is_right cross dot
+on_an_edge = (record { place = 0; within = lit< tt; on = record { place = 0; within = lit< tt; between = record { straight = refl; ahead = omega arith } } }, λ on. omega (arith, on.within), λ not. not (λ none. cc))
+
+abbrev Counts : List ℕ → ℤ → Type 0
+Counts = MeasuresAnswer (λ c n. n ≡ length c) self box (0 ∷ 3 ∷ 3 ∷ 4 ∷ []) (9 ∷ 9 ∷ 9 ∷ 9 ∷ [])
+
+measured : Counts (3 ∷ 0 ∷ 1 ∷ 9 ∷ []) (pos 0) × (Counts (3 ∷ 0 ∷ 1 ∷ 8 ∷ []) (pos 0) → ⊥) × (Counts (3 ∷ 1 ∷ 0 ∷ 9 ∷ []) (pos 0) → ⊥) × (Counts (3 ∷ 0 ∷ 1 ∷ 9 ∷ []) (pos 1) → ⊥)
+measured = (record { each = (refl, (refl, (refl, tt))); rest = refl }, λ m. cc, λ m. cc, λ m. m)
+
+areas : AreHalves (negsuc 0) (record { low = 18446744073709551615; high = 18446744073709551615 }) × (AreHalves (negsuc 0) (record { low = 1; high = 0 }) → ⊥) × IsDoubleArea w16 box (pos 200) × (IsDoubleArea w16 box (pos 100) → ⊥)
+unfolding shoelace area_of_edge
+areas = (refl, λ h. cc, sym (int_wrap_fits w16 (pos 200) fits), λ a. let same = a ∙ int_wrap_fits w16 (pos 200) fits in omega (arith, ints, same))
+  where
+    fits : FitsSigned w16 (pos 200)
+    fits = record { sfits = omega arith }
