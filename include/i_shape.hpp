@@ -128,6 +128,14 @@ struct Shapes {
     std::vector<std::size_t> shapes;
 };
 
+/* Which contours and polygons are left, as indices: polygon shapes[k] of those given has of its contours
+ * contours[offsets[k]] up to, but without, contours[offsets[k + 1]]. */
+struct Indices {
+    std::vector<std::size_t> contours;
+    std::vector<std::size_t> shapes;
+    std::vector<std::size_t> offsets;
+};
+
 namespace detail {
 
 /* The calls of C for coordinates of this many bytes. */
@@ -469,6 +477,28 @@ Shapes<PointOf<Points>> canonical_shapes(const Points &points, const Offsets &co
 template <class Points, class Offsets, class ShapeOffsets>
 Shapes<PointOf<Points>> canonical_unoriented_shapes(const Points &points, const Offsets &contours, const ShapeOffsets &shapes) {
     return detail::clean_shapes(detail::CallsOf<Points>::canonical_unoriented_shapes, points, contours, shapes);
+}
+
+/* What is left of polygons whose contours that collapse are empty, as those that simplify_contours returns: a polygon is
+ * left where its outer contour has points or it has no contours, and so are those of its contours that have points. */
+template <class Offsets, class ShapeOffsets>
+Indices compact_shapes(const Offsets &contours, const ShapeOffsets &shapes) {
+    const auto all_contours = detail::as_offsets(contours);
+    const auto all_shapes = detail::as_offsets(shapes);
+    if (const auto error = detail::bad_offsets(Array::offsets, all_contours, SIZE_MAX)) throw *error;
+    if (const auto error = detail::bad_offsets(Array::shapes, all_shapes, all_contours.size() - 1)) throw *error;
+    Indices left;
+    left.contours.resize(all_contours.size() - 1);
+    left.shapes.resize(all_shapes.size() - 1);
+    left.offsets.resize(all_shapes.size());
+    const std::ptrdiff_t answer = i_shape_compact_shapes(detail::read_offsets(all_contours), all_contours.size(), detail::read_offsets(all_shapes), all_shapes.size(),
+                                                         detail::address<std::size_t>(left.contours.data()), left.contours.size(),
+                                                         detail::address<std::size_t>(left.shapes.data()), left.shapes.size(), left.offsets.data(), left.offsets.size());
+    const std::size_t count = static_cast<std::size_t>(answer);
+    left.shapes.resize(count);
+    left.offsets.resize(count + 1);
+    left.contours.resize(left.offsets.back());
+    return left;
 }
 
 /* Tests of a contour. All but is_safe throw Code::unsafe where a point isn't safe. */

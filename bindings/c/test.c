@@ -137,6 +137,58 @@ static void test_bad_offsets(void) {
     check(i_shape_first_bad_offset(9, offsets, 0) == 0, 0, "first_bad_offset", "no offset");
 }
 
+/* Which polygons and contours are left of one with a hole that collapses, one with a hole whose outer contour collapses, one without contours, one whose only
+ * contour collapses, and a triangle. */
+static void test_compact(void) {
+    static const size_t contours[8] = {2, 6, 6, 9, 9, 12, 12, 15}, shapes[6] = {0, 3, 5, 5, 6, 7};
+    static const size_t left_contours[3] = {0, 2, 6}, left_shapes[3] = {0, 2, 4}, left_offsets[4] = {0, 2, 2, 3};
+    static const size_t falling[2] = {1, 0}, beyond[2] = {0, 8};
+    size_t out_contours[7], out_shapes[5], out_offsets[6];
+    const struct { const size_t *contours, *shapes; size_t contour_count, shape_count, contour_room, shape_room, offset_room; ptrdiff_t code; const char *what; } refused_calls[] = {
+        {contours, shapes, 0, 6, 7, 5, 6, I_SHAPE_BAD_OFFSETS, "no offset of contours"},
+        {contours, shapes, 8, 0, 7, 5, 6, I_SHAPE_BAD_OFFSETS, "no offset of polygons"},
+        {falling, shapes, 2, 1, 7, 5, 6, I_SHAPE_BAD_OFFSETS, "contours that run backwards"},
+        {contours, falling, 8, 2, 7, 5, 6, I_SHAPE_BAD_OFFSETS, "polygons that run backwards"},
+        {contours, beyond, 8, 2, 7, 5, 6, I_SHAPE_BAD_OFFSETS, "polygons out of the contours"},
+        {contours, beyond, 8, 2, 0, 0, 0, I_SHAPE_BAD_OFFSETS, "offsets before room"},
+        {contours, shapes, 8, 6, 6, 5, 6, I_SHAPE_NO_ROOM, "no room for contours"},
+        {contours, shapes, 8, 6, 7, 4, 6, I_SHAPE_NO_ROOM, "no room for polygons"},
+        {contours, shapes, 8, 6, 7, 5, 5, I_SHAPE_NO_ROOM, "no room for offsets"}
+    };
+    fill(out_contours, sizeof out_contours);
+    fill(out_shapes, sizeof out_shapes);
+    fill(out_offsets, sizeof out_offsets);
+    for (size_t k = 0; k < sizeof refused_calls / sizeof *refused_calls; k++) {
+        const ptrdiff_t code = i_shape_compact_shapes(refused_calls[k].contours, refused_calls[k].contour_count, refused_calls[k].shapes, refused_calls[k].shape_count,
+                                                      out_contours, refused_calls[k].contour_room, out_shapes, refused_calls[k].shape_room, out_offsets, refused_calls[k].offset_room);
+        check(code == refused_calls[k].code, 0, "compact", refused_calls[k].what);
+        check(is_filled(out_contours, sizeof out_contours) && is_filled(out_shapes, sizeof out_shapes) && is_filled(out_offsets, sizeof out_offsets), 0, "compact", "what a code leaves");
+    }
+    check(i_shape_compact_shapes(contours, 8, shapes, 6, out_contours, 7, out_shapes, 5, out_offsets, 6) == 3, 0, "compact", "how many are left");
+    check(memcmp(out_contours, left_contours, sizeof left_contours) == 0 && is_filled(out_contours + 3, sizeof out_contours - sizeof left_contours), 0, "compact", "contours");
+    check(memcmp(out_shapes, left_shapes, sizeof left_shapes) == 0 && is_filled(out_shapes + 3, sizeof out_shapes - sizeof left_shapes), 0, "compact", "polygons");
+    check(memcmp(out_offsets, left_offsets, sizeof left_offsets) == 0 && is_filled(out_offsets + 4, sizeof out_offsets - sizeof left_offsets), 0, "compact", "offsets");
+    check(i_shape_compact_shapes(contours, 1, shapes, 1, out_contours, 0, out_shapes, 0, out_offsets, 1) == 0 && out_offsets[0] == 0, 0, "compact", "no polygon");
+}
+
+/* Each third of many polygons collapses, with its hole. */
+static void test_compact_many(void) {
+    enum { POLYGONS = 3000 };
+    static size_t contours[2 * POLYGONS + 1], shapes[POLYGONS + 1], out_contours[2 * POLYGONS], out_shapes[POLYGONS], out_offsets[POLYGONS + 1];
+    int are_left = 1;
+    for (size_t k = 0; k < POLYGONS; k++) {
+        contours[2 * k + 1] = contours[2 * k] + (k % 3 ? 3 : 0);
+        contours[2 * k + 2] = contours[2 * k + 1] + 3;
+        shapes[k + 1] = 2 * (k + 1);
+    }
+    check(i_shape_compact_shapes(contours, 2 * POLYGONS + 1, shapes, POLYGONS + 1, out_contours, 2 * POLYGONS, out_shapes, POLYGONS, out_offsets, POLYGONS + 1) == 2 * POLYGONS / 3, 0, "compact", "how many of many");
+    for (size_t k = 0; k < 2 * POLYGONS / 3; k++) {
+        const size_t polygon = 3 * (k / 2) + 1 + k % 2;
+        are_left &= out_shapes[k] == polygon && out_offsets[k + 1] == 2 * (k + 1) && out_contours[2 * k] == 2 * polygon && out_contours[2 * k + 1] == 2 * polygon + 1;
+    }
+    check(are_left, 0, "compact", "each of many");
+}
+
 /* A square of 2^61 by 2^61 has a double area of 2^123. */
 static void test_great_area(void) {
     const int64_t side = INT64_C(1) << 61;
@@ -202,6 +254,8 @@ int main(void) {
     test_width_i32();
     test_width_i64();
     test_bad_offsets();
+    test_compact();
+    test_compact_many();
     test_great_area();
     test_halves();
     test_threads();

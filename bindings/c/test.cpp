@@ -189,6 +189,7 @@ public:
         run_some();
         test_kinds_of_arrays();
         test_shapes();
+        test_compact();
         test_area();
         test_codes();
         test_codes_of_cleaners();
@@ -353,6 +354,21 @@ private:
               "nested", "polygons");
         const auto none = i_shape::flat(std::vector<std::vector<Contour>>());
         check(i_shape::nested(i_shape::simplify_shapes(none.points, none.contours, none.shapes)).empty(), "simplify_shapes", "no polygon");
+    }
+
+    /* The same polygons, whose contours are cleaned before. */
+    void test_compact() const {
+        const std::vector<std::size_t> contours = {0, 4, 7, 7, 10, 10, 13, 16}, none;
+        const std::vector<std::uint16_t> shapes = {0, 4, 6, 6, 7};
+        const i_shape::Indices left = i_shape::compact_shapes(contours, shapes);
+        check(left.contours == std::vector<std::size_t>{0, 1, 3, 6}, "compact_shapes", "contours");
+        check(left.shapes == std::vector<std::size_t>{0, 2, 3}, "compact_shapes", "polygons");
+        check(left.offsets == std::vector<std::size_t>{0, 3, 3, 4}, "compact_shapes", "offsets");
+        check(i_shape::compact_shapes(std::vector<std::size_t>{7}, std::vector<std::size_t>{0}).shapes.empty(), "compact_shapes", "no polygon");
+        names(i_shape::Array::offsets, 1, [&] { i_shape::compact_shapes(std::vector<std::size_t>{1, 0}, none); });
+        names(i_shape::Array::offsets, std::nullopt, [&] { i_shape::compact_shapes(none, shapes); });
+        names(i_shape::Array::shapes, 1, [&] { i_shape::compact_shapes(contours, std::vector<std::size_t>{0, 8}); });
+        names(i_shape::Array::shapes, std::nullopt, [&] { i_shape::compact_shapes(contours, none); });
     }
 
     void test_tests() const {

@@ -9,4 +9,5 @@ pub mod PolygonsLeft
 pub mod Counts
 pub mod Windings
 pub mod Told
+pub mod Compacted
 pub mod Examples

@@ -4,6 +4,7 @@ pub mod Cleaned
 pub mod Batch
 pub mod Places
 pub mod Polygons
+pub mod Compacted
 pub mod Appended
 pub mod Tests
 pub mod Areas

@@ -7,6 +7,7 @@ mod batch;
 mod calls;
 mod canonical;
 mod codes;
+mod compact;
 mod contour;
 mod lists;
 mod location;

@@ -88,7 +88,7 @@ pub fn refusal<P: CPoint>(
 }
 
 /// Returns whether the offsets divide the points into contours, and the contours into polygons.
-fn are_polygons(points: usize, contours: &[usize], shapes: &[usize]) -> bool
+pub fn are_polygons(points: usize, contours: &[usize], shapes: &[usize]) -> bool
     ensures { IsTrue result ↔ PartsPolygons points contours.now shapes.now }
 {
     are_parted(points, contours) && are_parted(contours.len() - 1, shapes)
