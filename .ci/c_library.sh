@@ -32,9 +32,7 @@ test_build() {
 }
 
 # What the page $1 says that the command with $2 in it prints.
-shown() {
-    awk -v name="$2" '/^```$/ || /^\$ / { is_its = 0 } is_its { print } /^\$ / && index($0, name) { is_its = 1 }' "$1"
-}
+shown() { awk -v name="$2" '/^```$/ || /^\$ / { is_its = 0 } is_its { print } /^\$ / && index($0, name) { is_its = 1 }' "$1"; }
 
 # The program $2 prints what the page $1 says. It is compiled by the words from $3 on.
 test_program() {
@@ -61,9 +59,7 @@ test_cpp() {
 }
 
 # What the program $1 prints, and which of the libraries it is linked with.
-answer_and_library() {
-    "$1" && if readelf -d "$1" | grep -q 'NEEDED.*libi_shape\.so'; then echo shared; else echo static; fi
-}
+answer_and_library() { "$1" && if readelf -d "$1" | grep -q 'NEEDED.*libi_shape\.so'; then echo shared; else echo static; fi; }
 
 # A project of CMake, configured by the words from $3 on, builds, and each of its programs prints the corners, over the library of its name: i_shape is the one $2.
 test_project() {
@@ -118,25 +114,22 @@ test_install() {
     count $? 'make uninstall-c'
 }
 
-# Runs cargo's command $1 on the crate for Rust, by the words from $2 on, if there is that command.
-lint_rust() {
-    local name="cargo $1 of the crate for Rust"
-    cargo "$1" --help > /dev/null 2>&1 || { skip "$name" "there is no cargo $1" && return; }
-    check "$name" cargo "$1" --manifest-path bindings/rust/Cargo.toml "${@:2}"
-}
+in_crate() { (cd bindings/rust && "$@"); }
 
 # The crate for Rust passes its tests, its example prints what the page says, and there is no warning of rustdoc, clippy or rustfmt. Its edition asks for cargo 1.85.
 test_rust() {
-    local its=(--offline --locked --quiet --target-dir "$work/target")
-    if ! cargo metadata --offline --no-deps --format-version 1 --manifest-path bindings/rust/Cargo.toml > /dev/null 2>&1; then
-        skip 'the crate for Rust' 'there is no cargo from 1.85 on'
-        return
-    fi
-    add 'the crate for Rust' test_crate --target-dir "$work/target" --manifest-path bindings/rust/Cargo.toml
-    prints 'examples/clean.rs' "$(shown docs/C.md examples/clean.c)" cargo run "${its[@]}" --manifest-path bindings/rust/Cargo.toml --example clean
-    RUSTDOCFLAGS='-D warnings' check 'cargo doc of the crate for Rust' cargo doc --manifest-path bindings/rust/Cargo.toml --no-deps "${its[@]}"
-    lint_rust clippy --all-targets "${its[@]}" -- -D warnings
-    lint_rust fmt --check
+    local words
+    export CARGO_NET_OFFLINE=true CARGO_TARGET_DIR=$work/target RUSTDOCFLAGS='-D warnings'
+    in_crate cargo metadata --no-deps --format-version 1 > /dev/null 2>&1 || { skip 'the crate for Rust' 'there is no cargo from 1.85 on' && return; }
+    add 'the crate for Rust' in_crate test_crate
+    prints 'examples/clean.rs' "$(shown docs/C.md examples/clean.c)" in_crate cargo run --locked --quiet --example clean
+    for words in 'doc --no-deps --locked --quiet' 'clippy --all-targets --locked --quiet -- -D warnings' 'fmt --check'; do
+        if cargo "${words%% *}" --help > /dev/null 2>&1; then
+            check "cargo $words: the crate for Rust" in_crate cargo $words
+        else
+            skip "cargo $words: the crate for Rust" 'there is no such command'
+        fi
+    done
 }
 
 has_built 'c library' bindings/c/build.sh || end_part

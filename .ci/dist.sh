@@ -13,9 +13,7 @@ unset I_SHAPE_C_DIR
 # The copy that the gate tests has no commits.
 git log -1 > /dev/null 2>&1 || export SOURCE_DATE_EPOCH=${SOURCE_DATE_EPOCH:-1000000000}
 
-is_packed() {
-    [[ " ${parts[*]} " == *" $1 "* ]]
-}
+is_packed() { [[ " ${parts[*]} " == *" $1 "* ]]; }
 
 # Packs the part $1 too, if the script $2 has built, or builds, what is for the machine $3, and the default that it is built over.
 plan_for() {
@@ -33,24 +31,8 @@ plan_with() {
     parts+=("$1")
 }
 
-# Building the site fails if a link is broken.
-plan_site() {
-    [ "$only_built" != --if-built ] && bash scripts/site.sh --has-tools 2> "$work/log" && parts+=(site) || skip site 'something that scripts/site.sh needs is not there'
-}
-
-# The words of the path without the folders that hold the kit.
-path_without_kit() {
-    local folder left=''
-    while read -rd : folder; do
-        [ -x "$folder/rt" ] || [ -x "$folder/rattle" ] || left+=:$folder
-    done <<< "$PATH:"
-    echo "${left#:}"
-}
-
 # Goes into an empty folder, whose name has a space.
-go_to_empty() {
-    rm -rf "$empty" && mkdir "$empty" && cd "$empty" || exit
-}
+go_to_empty() { rm -rf "$empty" && mkdir "$empty" && cd "$empty" || exit; }
 
 # Unpacks the archive $2, of which $1 and the words from $3 on are the part and its files, into an empty folder, and goes into it.
 unpack() {
@@ -212,9 +194,7 @@ try {
 '
 
 # The sample of the package's page in the language $1.
-sample_of() {
-    sed -n "/^\`\`\`$1\$/,/^\`\`\`\$/{/^\`\`\`/!p}" node_modules/i_shape/README.md
-}
+sample_of() { sed -n "/^\`\`\`$1\$/,/^\`\`\`\$/{/^\`\`\`/!p}" node_modules/i_shape/README.md; }
 
 # What the page of the package shows runs where the package lies as one that was installed.
 test_javascript() {
@@ -222,7 +202,7 @@ test_javascript() {
         src/i_shape.d.ts || return
     has 'javascript: the files that npm packs' npm &&
         check 'javascript: the files that npm packs' diff <(npm pack --dry-run --offline --json | grep -oP '"path": "\K[^"]+' | sort) <(find . -type f | sed 's|^\./||' | sort)
-    has_node || { skip 'javascript: what its page shows' 'there is no Node from 20.6 on' && return; }
+    has_node 'javascript: what its page shows' || return
     mkdir ../node_modules && cd .. && mv package node_modules/i_shape
     sample_of js > sample.mjs
     prints 'javascript: what its page shows' '0 0 4 0 4 4 0 4' node sample.mjs
@@ -252,10 +232,11 @@ parts=()
 for machine in x86_64 aarch64; do
     plan_for "linux-$machine" bindings/c/build.sh $machine
     plan_for "program-$machine" scripts/program/build.sh $machine
-    if has_python; then plan_with "wheel-$machine" "linux-$machine"; else skip "wheel-$machine" "$python has no numpy, setuptools, wheel or venv"; fi
+    has_python "wheel-$machine" && plan_with "wheel-$machine" "linux-$machine"
 done
 has_built javascript bindings/js/build.sh && parts+=(javascript)
-plan_site
+# Building the site fails if a link is broken.
+if [ "$only_built" != --if-built ] && bash scripts/site.sh --has-tools > /dev/null 2>&1; then parts+=(site); else skip site 'scripts/site.sh has not what it needs'; fi
 plan_with rust linux-x86_64 linux-aarch64
 [ ${#parts[@]} != 0 ] || end_part
 bash scripts/dist.sh "$work/dist" "${parts[@]}" > "$work/log" 2>&1 || { cat "$work/log" && count 1 'scripts/dist.sh' && end_part; }
@@ -270,7 +251,8 @@ count $? 'SHA256SUMS'
 bash scripts/dist.sh "$work/again" "${parts[0]}" > "$work/log" 2>&1 && cmp "$work/dist/SHA256SUMS" "$work/again/SHA256SUMS"
 count $? 'SHA256SUMS, after one part is packed again'
 
-PATH=$(path_without_kit)
+# without the folders that hold the kit
+PATH=$(tr : '\n' <<< "$PATH" | while read -r folder; do [ -x "$folder/rt" ] || [ -x "$folder/rattle" ] || echo "$folder"; done | paste -sd :)
 ! command -v rt > /dev/null
 count $? 'there is no rt on the path'
 is_packed linux-x86_64 && test_x86_64

@@ -83,27 +83,20 @@ answer_texts() {
 
 # A thousand texts of some lines, of which some two hundred have a fault.
 make_texts() {
-    mkdir "$work/texts"
-    awk -v folder="$work/texts" 'function below(count) { return int(rand() * count) }
-    function number(reach) { return below(2 * reach + 1) - reach }
-    BEGIN {
-        srand(7)
-        split("2 3 5 12 1000 1073741823", reaches, " ")
-        split("1 2 3|x 1|1  2 3 4| 1 2|1 2 |2147483648 0|1073741824 0 1 1 2 3|-1073741824 5|+1 2|1.5 2|1 2\r|\377 1", faults, "|")
-        for (text = 1; text <= 1000; text++) {
-            file = folder "/" text
-            lines = below(12)
-            at = below(4) ? 0 : 1 + below(lines + 1)
-            for (line = 1; line <= lines + (at > lines); line++) {
-                words = ""
-                reach = reaches[1 + below(6)]
-                for (count = below(14); count > 0; count--) words = words (words == "" ? "" : " ") number(reach) " " number(reach)
-                printf "%s%s", line == at ? faults[1 + below(12)] : words, line == lines && below(2) ? "" : "\n" > file
-            }
-            printf "" > file
-            close(file)
-        }
-    }'
+    mkdir "$work/texts" && "$python" - "$work/texts" << 'PROGRAM'
+import random, sys
+random.seed(7)
+faults = ("1 2 3", "x 1", "1  2 3 4", " 1 2", "1 2 ", "2147483648 0", "1073741824 0 1 1 2 3", "-1073741824 5", "+1 2", "1.5 2", "1 2\r", "\377 1")
+for number in range(1000):
+    lines = []
+    for _ in range(random.randrange(12)):
+        reach = random.choice((2, 3, 5, 12, 1000, 1073741823))
+        lines.append(" ".join(str(random.randint(-reach, reach)) for _ in range(2 * random.randrange(14))))
+    if random.random() < 0.2:
+        lines.insert(random.randint(0, len(lines)), random.choice(faults))
+    with open(f"{sys.argv[1]}/{number}", "w", encoding="latin-1", newline="") as text:
+        text.write("\n".join(lines) + random.choice(("", "\n")))
+PROGRAM
 }
 
 test_program() {
@@ -126,9 +119,7 @@ test_program() {
     done
 }
 
-by_wine() {
-    (cd "$work" && set -o pipefail && wine "$1.exe" 2> /dev/null | tr -d '\r')
-}
+by_wine() { (cd "$work" && set -o pipefail && wine "$1.exe" 2> /dev/null | tr -d '\r'); }
 
 # The answers of the library $2 to random contours at each width, into the folder $1, by a program that the words from $3 on compile.
 answer_contours() {
@@ -149,16 +140,13 @@ test_windows() {
     test_as 'Windows, DLL' "${c[@]}" $tests $library/libi_shape.dll.a
     add 'the tests of retarget.py' python3 bindings/module/test_retarget.py windows
     prints 'Windows: what the DLL asks for' $'KERNEL32.dll\nmsvcrt.dll' bash -c "x86_64-w64-mingw32-objdump -p $library/i_shape.dll | sed -n 's/^\s*DLL Name: //p' | sort"
-    awk 'BEGIN {
-        srand(3)
-        for (line = 0; line < 10000; line++) {
-            reach = int(exp(rand() * 10))
-            count = int(rand() * 14)
-            text = count
-            for (k = -2; k < 2 * count; k++) text = text " " int(rand() * (2 * reach + 1)) - reach
-            print text
-        }
-    }' > "$work/contours"
+    "$python" - << 'PROGRAM' > "$work/contours"
+import math, random
+random.seed(3)
+for _ in range(10000):
+    reach, count = int(math.exp(random.uniform(0, 10))), random.randrange(14)
+    print(count, *(random.randint(-reach, reach) for _ in range(2 * count + 2)))
+PROGRAM
     answer_contours "$work/windows" $library/libi_shape.a "${c[@]}"
     count $? 'Windows: random contours'
     runner=()

@@ -26,8 +26,7 @@ build_answers() {
     export I_SHAPE_ANSWERS=$work/answers
 }
 
-has_node || skip_part "there is no Node from 20.6 on"
-has_built javascript $package/build.sh || end_part
+has_node javascript && has_built javascript $package/build.sh || end_part
 # Before version 24 Node has memory of 64 bits only if it is asked for.
 flags=()
 node --experimental-wasm-memory64 -e 0 2> /dev/null && flags=(--experimental-wasm-memory64)

@@ -5,22 +5,17 @@ usage: .ci/pages.py [PAGE..]
 
 - a block `rust`: each of its items stands in one source of the crates, of the crate for Rust or of the examples, word for word but for clauses, attributes and
   doc lines that the page leaves out; and what the block imports is imported there;
-- a block `text` with clauses: each of its lines stands in a source of the crates;
-- a block `c` or `cpp`: it stands in a file of C or C++;
-- a block `js`: a file of JavaScript is that text;
+- a block `text` with clauses, or `antt`: each of its lines stands in a source of the crates, or in a file of definitions;
+- a block `c`, `cpp` or `js`: it stands in a file of C or C++, or is a file of JavaScript;
 - a block `console`: its commands run in order, as in one shell at the top of a clone named raspochre, each printing what stands below it;
-- the links within the repository: the page is there, and the heading;
-- no line of a merge is left that wasn't ended;
-- a block `antt`: each of its lines stands in a file of definitions;
+- the links within the repository: the page is there, and the heading; and no line of a merge is left;
 - docs/develop/README.md has an item for each part of the gate, and names each edit of must-fail/ and no edit that isn't there;
-- the version: it is that of the header in CHANGELOG.md, in the archive, in the packages for Python and JavaScript and in the crate for Rust.
+- the version in CHANGELOG.md, the archive, the packages for Python and JavaScript and the crate for Rust is that of the header.
 
-The sources are proved, compiled and tested by other parts of the gate. A block `console` names what has to be there, as in `console library python`, and is
-skipped where it isn't; what is skipped for one reason counts as one.
+A block `console` names what has to be there, as in `console library python`, and is skipped where it isn't; what is skipped for one reason counts as one.
 """
 import functools
 import glob
-import json
 import os
 import re
 import subprocess
@@ -35,12 +30,11 @@ PAGES = ["README.md", "CHANGELOG.md", "docs/*.md", "docs/develop/*.md", "example
 RUST = ["crates/*/src/**/*.rt", "bindings/rust/**/*.rs", "examples/**/*.rs", "bench/**/*.rs"]
 C = ["bindings/c/*.c", "bindings/c/*.cpp", "bindings/c/*.h", "examples/**/*.c", "bench/**/*.c", "include/*.h", "include/*.hpp"]
 JAVASCRIPT = ["bindings/js/*.js", "examples/*.mjs"]
-# Whether what the three libraries have kept of their proofs, or the C library that was built from it, is newer than they are.
-PROVED = """rt version && test -d crates/i_shape/out/rlib && test -z "$(find crates/i_shape_core crates/i_shape_source crates/i_shape \\
-    -name out -prune -o \\( -name '*.rt' -o -name '*.antt' \\) \\
-    -newer "$(ls -t crates/i_shape/out/rlib/stamp crates/i_shape_c/out/libi_shape_c.a 2> /dev/null | head -n 1)" -print -quit)\""""
 NEEDED = {
-    "proof": PROVED,
+    # what the three libraries have kept of their proofs, or the C library that was built from it, is newer than they are
+    "proof": """rt version && test -d crates/i_shape/out/rlib && test -z "$(find crates/i_shape_core crates/i_shape_source crates/i_shape \\
+        -name out -prune -o \\( -name '*.rt' -o -name '*.antt' \\) \\
+        -newer "$(ls -t crates/i_shape/out/rlib/stamp crates/i_shape_c/out/libi_shape_c.a 2> /dev/null | head -n 1)" -print -quit)\"""",
     "rt": "rt version",
     "program": "bash scripts/program/build.sh --is-built",
     "library": "bash bindings/c/build.sh --is-built",
@@ -96,10 +90,8 @@ def bare(text):
 
 def imports(text):
     """The names that a text imports, each with its path."""
-    names = set()
-    for path, several in re.findall(r"^(?:ghost )?use ([^;{]+?)(?:\{([^}]*)\})?;", text, re.MULTILINE):
-        names |= {path + name.strip() for name in several.split(",")} if several else {path}
-    return names
+    found = re.findall(r"^(?:ghost )?use ([^;{]+?)(?:\{([^}]*)\})?;", text, re.MULTILINE)
+    return {path + name.strip() for path, several in found for name in several.split(",")}
 
 
 def items(text):
@@ -120,9 +112,7 @@ def holds(source, item):
 
 def fault_of_rust(text):
     """What of a block stands in no source; nothing where all does."""
-    if not items(text):
-        return "it has no item"
-    for name in files(RUST):
+    for name in files(RUST) if items(text) else []:
         source = with_whole_clauses(read(name))
         if all(holds(source, item) for item in items(text)):
             strange = imports(text) - imports(source)
@@ -130,26 +120,28 @@ def fault_of_rust(text):
     return "no source has its items"
 
 
+def first_strange(text, sources):
+    """Which line of a text stands in none of these sources."""
+    known = {line.strip().rstrip(";,") for source in sources for line in source.splitlines()}
+    lines = (line.strip() for line in text.splitlines() if not line.startswith("//"))
+    return next((f"no source has the line: {line}" for line in lines if line and line.rstrip(";,") not in known), None)
+
+
 def fault_of_clauses(text):
     """What of a quoted contract stands in no source. A block without clauses is no quotation."""
-    if not re.search(r"^\s*(requires|ensures|ghost)\b", text, re.MULTILINE):
-        return None
-    sources = {line.strip().rstrip(";,") for name in files(RUST) for line in with_whole_clauses(read(name)).splitlines()}
-    strange = [line for line in with_whole_clauses(text).splitlines() if line.strip() and not line.startswith("//") and line.strip().rstrip(";,") not in sources]
-    return f"no source has the line: {strange[0].strip()}" if strange else None
+    is_quoted = re.search(r"^\s*(requires|ensures|ghost)\b", text, re.MULTILINE)
+    return first_strange(with_whole_clauses(text), (with_whole_clauses(read(name)) for name in files(RUST))) if is_quoted else None
 
 
 def fault_of_definitions(text):
-    """What of a quoted definition stands in no file of definitions."""
-    lines = {line.strip() for name in files(["crates/*/specs/*.antt"]) for line in read(name).splitlines()}
-    return next((f"no definition has the line: {line.strip()}" for line in text.splitlines() if line.strip() and line.strip() not in lines), None)
+    return first_strange(text, (read(name) for name in files(["crates/*/specs/*.antt"])))
 
 
 def fault_of_c(text):
     """A file has the whole text, or, of declarations, each of its lines, whatever the space between the words."""
     sources = ["".join(read(name).split()) for name in files(C)]
-    parts = [text] if "{\n" in text else text.splitlines()
-    return None if any(all("".join(part.split()) in source for part in parts) for source in sources) else "no file of C or C++ has this text"
+    pieces = [text] if "{\n" in text else text.splitlines()
+    return None if any(all("".join(piece.split()) in source for piece in pieces) for source in sources) else "no file of C or C++ has this text"
 
 
 def fault_of_javascript(text):
@@ -195,40 +187,34 @@ def headings(page):
 
 
 def fault_of_links(name, page):
-    for link in re.findall(r"\]\(([^)\s]+)\)", page):
+    for link in re.findall(r"\]\((?![a-z]+:)([^)\s]+)\)", page):
         path, _, anchor = link.partition("#")
-        if re.match("[a-z]+:", link):
-            continue
         goal = os.path.normpath(os.path.join(os.path.dirname(name), path)) if path else name
-        if not os.path.exists(goal):
+        if not os.path.exists(goal) or (anchor and anchor not in headings(read(goal))):
             return f"there is no {link}"
-        if anchor and anchor not in headings(read(goal)):
-            return f"there is no heading {link}"
-    return None
+    return "a line of a merge is left" if re.search("^(<{7}|>{7}) ", page, re.MULTILINE) else None
 
 
 def fault_of_version():
     """The version in each file that says it is that of the header."""
-    header = re.search(r"I_SHAPE_VERSION 0x(..)(..)(..)$", read(f"{TOP}/include/i_shape.h"), re.MULTILINE)
-    major, minor, patch = (int(part, 16) for part in header.groups())
-    package = int(re.search(r"_VERSION = (0x\w+)", read(f"{TOP}/bindings/python/src/i_shape/_library.py"))[1], 16)
+    version = subprocess.run([f"{TOP}/scripts/version.sh"], stdout=subprocess.PIPE, text=True, check=True).stdout.strip()
+    major, minor, patch = map(int, version.split("."))
     told = {
-        "the archive": ".".join(re.findall(r"const (?:MAJOR|MINOR|PATCH): u32 = (\d+);", read(f"{TOP}/crates/i_shape_c/src/version.rt"))),
-        "the crate for Rust": re.search(r'^version = "(.*)"$', read(f"{TOP}/bindings/rust/Cargo.toml"), re.MULTILINE)[1],
-        "the package for JavaScript": json.loads(read(f"{TOP}/bindings/js/package.json"))["version"],
-        "the Python package": f"{package >> 8}.{package & 255}.{patch}",
-        "this page": re.search(r"^## (\S+)", read(f"{TOP}/CHANGELOG.md"), re.MULTILINE)[1],
+        "crates/i_shape_c/src/version.rt": rf"MAJOR: u32 = {major};.*MINOR: u32 = {minor};.*PATCH: u32 = {patch};",
+        "bindings/rust/Cargo.toml": rf'^version = "{version}"$',
+        "bindings/js/package.json": rf'^ *"version": "{version}",$',
+        "bindings/python/src/i_shape/_library.py": rf"^_VERSION = 0x{major:02x}{minor:02x}\b",
+        "CHANGELOG.md": rf"\A(?:(?!\n## ).)*\n## {version}\n",
     }
-    version = f"{major}.{minor}.{patch}"
-    return "; ".join(f"{name} says {text}, the header {version}" for name, text in told.items() if text != version) or None
+    strange = [name for name, words in told.items() if not re.search(words, read(f"{TOP}/{name}"), re.MULTILINE | re.DOTALL)]
+    return f"the header has {version}, and not {', '.join(strange)}" if strange else None
 
 
 def fault_of_gate():
     """Each part of the gate has an item in docs/develop/README.md, and each script of an item is a part."""
-    gate = {command.split()[-1] if command.startswith("python3") else command.split()[0] for command in parts.BEFORE_PROOFS + parts.AFTER_PROOFS}
+    gate = {command.removeprefix("python3 ").split()[0] for command in parts.BEFORE_PROOFS + parts.AFTER_PROOFS}
     shown = set(re.findall(r"^- \*\*.*?\*\*, `(\S+?)(?: [^`]*)?`", read(f"{TOP}/docs/develop/README.md"), re.MULTILINE))
-    missing = [f"{name} has no item" for name in gate - shown]
-    missing += [f"{name} is no part" for name in shown - gate if name.endswith(".sh")]
+    missing = [f"{name} has no item" for name in gate - shown] + [f"{name} is no part" for name in shown - gate if name.endswith(".sh")]
     return "; ".join(sorted(missing)) or None
 
 
@@ -241,15 +227,8 @@ def fault_of_edits():
     return "; ".join(sorted(faults + [f"{crate} has no edit {name} in must-fail/" for crate, name in named - edits])) or None
 
 
-FAULTS = {
-    "rust": fault_of_rust,
-    "text": fault_of_clauses,
-    "antt": fault_of_definitions,
-    "c": fault_of_c,
-    "cpp": fault_of_c,
-    "js": fault_of_javascript,
-    "console": fault_of_console,
-}
+FAULTS = {"rust": fault_of_rust, "text": fault_of_clauses, "antt": fault_of_definitions, "c": fault_of_c, "cpp": fault_of_c, "js": fault_of_javascript,
+          "console": fault_of_console}
 
 
 def tests_of(name):
@@ -258,27 +237,22 @@ def tests_of(name):
     for language, line, text in blocks(page):
         kind, *needed = (language or "none").split()
         if kind in FAULTS:
-            yield f"line {line}", needed, lambda kind=kind, text=text: FAULTS[kind](text)
-    yield "links", [], lambda: fault_of_links(name, page)
-    for line in re.findall(r"^(?:<{7}|>{7}) .*", page, re.MULTILINE):
-        yield "merge", [], lambda line=line: f"{line} is left"
+            yield f"{os.path.relpath(name, TOP)}, line {line}", needed, functools.partial(FAULTS[kind], text)
+    yield f"{os.path.relpath(name, TOP)}, links", [], lambda: fault_of_links(name, page)
 
 
 def main():
-    pages = [os.path.abspath(name) for name in sys.argv[1:]] or files(PAGES)
-    tests = [(os.path.relpath(name, TOP), *test) for name in pages for test in tests_of(name)]
-    if not sys.argv[1:]:
-        tests += [("CHANGELOG.md", "the version", [], fault_of_version), ("docs/develop/README.md", "edits", [], fault_of_edits),
-                  ("docs/develop/README.md", "parts", [], fault_of_gate)]
+    tests = [test for name in map(os.path.abspath, sys.argv[1:]) for test in tests_of(name)]
+    if not tests:
+        tests = [test for name in files(PAGES) for test in tests_of(name)] + [("the version", [], fault_of_version), ("the edits", [], fault_of_edits),
+                                                                             ("the parts", [], fault_of_gate)]
     passed, failed, skipped = 0, 0, {}
-    for page, place, needed, look in tests:
-        missing = next((name for name in needed if not is_at_hand(name)), None)
-        fault = None if missing else look()
-        if missing:
-            skipped.setdefault(missing, []).append(f"{page}, {place}")
-        elif fault:
+    for place, needed, look in tests:
+        if missing := next((name for name in needed if not is_at_hand(name)), None):
+            skipped.setdefault(missing, []).append(place)
+        elif fault := look():
             failed += 1
-            print(f"failed: {page}, {place}: {fault}")
+            print(f"failed: {place}: {fault}")
         else:
             passed += 1
     for name, places in skipped.items():

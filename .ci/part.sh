@@ -81,12 +81,13 @@ has_built() {
     bash "$2" "${@:3}" > "$work/log" 2>&1 || { cat "$work/log" && count 1 "$1: what it needs isn't built" && return 1; }
 }
 
+# Whether a Python is there that builds and installs the package, and a Node that runs the one for JavaScript. Where not, the tests $1 are skipped.
 has_python() {
-    "$python" -c 'import numpy.typing, setuptools, wheel, venv, ensurepip' > /dev/null 2>&1
+    "$python" -c 'import numpy.typing, setuptools, wheel, venv, ensurepip' > /dev/null 2>&1 || { skip "$1" "$python has no numpy, setuptools, wheel or venv" && return 1; }
 }
 
 has_node() {
-    node --input-type=module -e 'import.meta.resolve("node:fs")' > /dev/null 2>&1
+    node --input-type=module -e 'import.meta.resolve("node:fs")' > /dev/null 2>&1 || { skip "$1" 'there is no Node from 20.6 on' && return 1; }
 }
 
 # Ends the part with the line that counts its tests.
@@ -103,13 +104,9 @@ skip_part() {
 }
 
 # Whether the compiler makes programs with these flags that run here.
-compiles_with() {
-    { echo 'int main(void) { return 0; }' | "${CC:-cc}" -x c "$@" -o "$work/probe" - && "$work/probe"; } > /dev/null 2>&1
-}
+compiles_with() { { echo 'int main(void) { return 0; }' | "${CC:-cc}" -x c "$@" -o "$work/probe" - && "$work/probe"; } > /dev/null 2>&1; }
 
-compile_and_run() {
-    "$@" -O1 -g "${warnings[@]}" -Iinclude -pthread -o "$work/tests" && "${runner[@]}" "$work/tests"
-}
+compile_and_run() { "$@" -O1 -g "${warnings[@]}" -Iinclude -pthread -o "$work/tests" && "${runner[@]}" "$work/tests"; }
 
 # Compiles the tests $1 of the C library by the words from $2 on, and runs them by the words of the array runner.
 test_as() {
@@ -127,9 +124,9 @@ declared() {
     "${CC:-cc}" -E -Iinclude include/i_shape.h | grep -v '^static inline' | grep -oE '\bi_shape_[a-z0-9_]+ ?\(' | tr -d ' (' | sort
 }
 
-# The tests of the crate for Rust, by these words of cargo.
+# The tests of the crate for Rust in this folder.
 test_crate() {
-    cargo test --offline --locked --quiet "$@" > "$work/told" 2>&1
+    cargo test --offline --locked --quiet > "$work/told" 2>&1
     local status=$?
     [ "$status" = 0 ] || cat "$work/told"
     awk '/^test result:/ { passed += $4; failed += $6 } END { print passed + 0 " passed, " failed + 0 " failed" }' "$work/told"

@@ -6,9 +6,7 @@
 export I_SHAPE_TOOL=${I_SHAPE_TOOL:-$PWD/crates/i_shape_tool_main/out/i_shape_tool_main}
 
 # All that draw.py prints of the lines $1, by the words from $2 on.
-drawn() {
-    printf "$1" | "$python" examples/draw/draw.py --program "$I_SHAPE_TOOL" "${@:2}" simplify 2>&1
-}
+drawn() { printf "$1" | "$python" examples/draw/draw.py --program "$I_SHAPE_TOOL" "${@:2}" simplify 2>&1; }
 
 mkdir "$work/drawn" && examples/draw/draw_all.sh "$work/drawn" && diff -qr docs/pictures "$work/drawn"
 count $? 'the pictures: `make pictures` draws them anew'

@@ -13,9 +13,7 @@ sanitizers=(-fsanitize=address,undefined -fno-sanitize-recover=undefined)
 bash bindings/c/build.sh --is-built || skip_part '`make c` builds the library that it takes'
 
 # Runs what follows as whom the server runs as, which may not be root.
-as_server() {
-    if [ "$(id -u)" = 0 ]; then setpriv --reuid=nobody --regid=nogroup --clear-groups "$@"; else "$@"; fi
-}
+as_server() { if [ "$(id -u)" = 0 ]; then setpriv --reuid=nobody --regid=nogroup --clear-groups "$@"; else "$@"; fi; }
 
 stop_server() {
     [ ! -e "$work/data/postmaster.pid" ] || as_server "$bin/pg_ctl" -D "$work/data" -m immediate stop > /dev/null 2>&1
@@ -43,9 +41,7 @@ build() {
 }
 
 # A statement, or more words, of psql. An error ends it, and is told as an answer.
-ask() {
-    psql -XAtq -v ON_ERROR_STOP=1 "$@" 2>&1
-}
+ask() { psql -XAtq -v ON_ERROR_STOP=1 "$@" 2>&1; }
 
 # The reader, the writers and the order of forms, over mutated WKB. No block is left, which the sanitizer looks for at the end.
 test_fuzz() {

@@ -17,7 +17,7 @@ run_tests() {
     return $status
 }
 
-has_python || skip_part "$python has no numpy, setuptools, wheel or venv"
+has_python 'python package' || end_part
 [ -n "${I_SHAPE_C_DIR-}" ] || bash bindings/c/build.sh --is-built || skip_part '`make c` builds the library that it takes'
 install_package > "$work/log" 2>&1 || { cat "$work/log" && count 1 'the wheel' && end_part; }
 unset I_SHAPE_C_DIR

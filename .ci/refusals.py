@@ -4,7 +4,7 @@
 Runs each test with its growth of number N refused, for N = 1, 2, .. up to the first run in which none is. A test prints 'NAME begins' before a call, and behind it
 'NAME done' or 'NAME refused'. growths.txt there lists how many growths a call makes: it passes where it was refused at so many, and done in the last run. It is a
 fault where a run fails, or leaves a block of memory; where a call is done though a growth was refused within it, or refused though none was; and where a call isn't
-listed, or is told of twice. The last line is 'refusals: N passed, M failed'.
+listed, or is told of twice.
 """
 import collections
 import os
@@ -19,19 +19,12 @@ PROGRAM = f"{CRATE}/out/refusals_tests"
 MOST = 200
 
 
-def is_built():
-    """Whether the tests' program is there, and newer than the crates."""
-    words = ["find", "crates", "crates.txt", "(", "-name", "out", "-o", "-name", "wrong", "-o", "-name", "must-fail", "-o", "-name", "growths.txt", ")", "-prune", "-o", "-type", "f", "-newer", PROGRAM, "-print", "-quit"]
-    return os.access(PROGRAM, os.X_OK) and not subprocess.run(words, cwd=TOP, stdout=subprocess.PIPE, check=True).stdout
-
-
 def build(library):
-    """Builds the tests, where they aren't built, and by the kit's compiler the library that refuses a growth."""
-    if not is_built():
+    """Builds the tests, where they aren't built or older than the crates, and the library that refuses a growth."""
+    changed = "crates crates.txt ( -name out -o -name wrong -o -name must-fail -o -name growths.txt ) -prune -o -type f -newer crates/refusals/out/refusals_tests -print -quit"
+    if not os.access(PROGRAM, os.X_OK) or subprocess.run(["find", *changed.split()], cwd=TOP, stdout=subprocess.PIPE, check=True).stdout:
         subprocess.run(["rt", "test"], cwd=CRATE, check=True)
-    kit = os.path.dirname(subprocess.run(["rt", "doc"], stdout=subprocess.PIPE, text=True, check=True).stdout.strip())
-    words = "-std=c11 -shared -fPIC -nostdlib -fuse-ld=lld -fno-builtin -o".split()
-    subprocess.run([f"{kit}/toolchain/bin/clang", *words, library, f"{TOP}/.ci/refuse_growth.c"], check=True)
+    subprocess.run([os.environ.get("CC", "cc"), "-D_GNU_SOURCE", "-shared", "-fPIC", "-fno-builtin", "-o", library, f"{TOP}/.ci/refuse_growth.c"], check=True)
 
 
 class Run:

@@ -1,25 +1,20 @@
 // A library for LD_PRELOAD that refuses one growth of the memory of a proved program, which takes it by malloc and realloc alone, and counts the blocks that it
 // holds. REFUSED_GROWTH in the environment is that growth's number, counted from 1 once the libraries are loaded. The refusal is told on standard output, and at
-// the end how many blocks are left. No header is used, since the kit's clang has none: the C library is glibc, in which the functions behind malloc, realloc and
-// free have the names below.
+// the end how many blocks are left. The functions of glibc behind malloc, realloc and free have the names below.
+#include <stdio.h>
+#include <stdlib.h>
 
-typedef __SIZE_TYPE__ size_t;
-
-char *getenv(const char *name);
-long strtol(const char *text, char **end, int base);
-int dprintf(int file, const char *format, ...);
 void *__libc_malloc(size_t size);
 void *__libc_realloc(void *memory, size_t size);
 void __libc_free(void *memory);
 
 // How many growths there are up to the one to refuse; 0 where none is left to refuse.
 static long growths_left = 0;
-
 static long blocks = 0;
 
 __attribute__((constructor)) static void read_environment(void) {
     const char *number = getenv("REFUSED_GROWTH");
-    growths_left = number ? strtol(number, 0, 10) : 0;
+    growths_left = number ? strtol(number, NULL, 10) : 0;
     blocks = 0;
 }
 
@@ -29,26 +24,22 @@ __attribute__((destructor)) static void tell_blocks(void) {
 
 // Counts a growth, and answers whether it is the one to refuse.
 static _Bool is_refused(void) {
-    if (growths_left == 0 || --growths_left > 0) {
-        return 0;
-    }
-    dprintf(1, "growth refused\n");
-    return 1;
+    return growths_left > 0 && --growths_left == 0 && dprintf(1, "growth refused\n");
 }
 
 void *malloc(size_t size) {
-    void *memory = is_refused() ? 0 : __libc_malloc(size);
-    blocks += memory != 0;
+    void *memory = is_refused() ? NULL : __libc_malloc(size);
+    blocks += memory != NULL;
     return memory;
 }
 
 void *realloc(void *memory, size_t size) {
-    void *grown = is_refused() ? 0 : __libc_realloc(memory, size);
-    blocks += memory == 0 && grown != 0;
+    void *grown = is_refused() ? NULL : __libc_realloc(memory, size);
+    blocks += memory == NULL && grown != NULL;
     return grown;
 }
 
 void free(void *memory) {
-    blocks -= memory != 0;
+    blocks -= memory != NULL;
     __libc_free(memory);
 }

@@ -7,21 +7,16 @@ program=${I_SHAPE_TOOL:-crates/i_shape_tool_main/out/i_shape_tool_main}
 parallel --version > /dev/null 2>&1 || skip_part 'there is no parallel'
 
 # The program on each part of standard input, as many words of parallel as are given first.
-parted() {
-    parallel --will-cite --pipe --keep-order --jobs 4 "${@:1:$#-1}" "$program" "${@: -1}"
-}
+parted() { parallel --will-cite --pipe --keep-order --jobs 4 "${@:1:$#-1}" "$program" "${@: -1}"; }
 
 # 20,000 lines of 0 to 11 points of a small square: many collapse, some are empty.
-awk 'BEGIN {
-    srand(1)
-    for (line = 0; line < 20000; line++) {
-        text = ""
-        for (count = int(rand() * 12); count > 0; count--)
-            text = text (text == "" ? "" : " ") int(rand() * 5) " " int(rand() * 5)
-        print text
-    }
-}' > "$work/text"
-printf '0 0 4 0 4 4' >> "$work/text"
+"$python" - << 'PROGRAM' > "$work/text"
+import random
+random.seed(1)
+for _ in range(20000):
+    print(*random.choices(range(5), k=2 * random.randrange(12)))
+print("0 0 4 0 4 4", end="")
+PROGRAM
 for command in despike area canonical compact simplify; do
     "$program" $command < "$work/text" > "$work/one" && [ -s "$work/one" ] &&
         parted --block 7k $command < "$work/text" 2>&1 | cmp "$work/one" -

@@ -27,13 +27,16 @@ def write(file, text):
 
 
 class Case(unittest.TestCase):
-    """A test in a folder of its own, with a folder `bin` before the path, and one for what is temporary."""
+    """A test in a folder of its own, with a folder `bin` before the path, and one for what is temporary, which is empty at the end."""
 
     def setUp(self):
         self.room = tempfile.mkdtemp()
-        self.addCleanup(shutil.rmtree, self.room, ignore_errors=True)
         os.makedirs(f"{self.room}/tmp")
         self.environment = {**os.environ, "PATH": f"{self.room}/bin:{os.environ['PATH']}", "TMPDIR": f"{self.room}/tmp", "STAND_IN": self.room}
+
+    def tearDown(self):
+        self.assertEqual(os.listdir(f"{self.room}/tmp"), [])
+        shutil.rmtree(self.room)
 
     def started(self):
         return pages.read(f"{self.room}/started").split() if os.path.exists(f"{self.room}/started") else []
@@ -66,7 +69,6 @@ has tests no-such-program || has_built tests no-such-script || end_part
 """)
         ran = self.run_in("/", "bash", f"{self.room}/.ci/a_part.sh", "--if-built")
         self.assertEqual((ran.returncode, ran.stdout.splitlines()[-1]), (1, "a part: 14 passed, 7 failed, 4 skipped"))
-        self.assertEqual(os.listdir(f"{self.room}/tmp"), [])
 
     def test_runs(self):
         """A part beside another, one that fails, one that leaves a process behind, and one that doesn't start."""
@@ -83,39 +85,32 @@ run.end()
 """
         ran = self.run_in(f"{TOP}/.ci", sys.executable, "-B", "-c", script, timeout=20)
         self.assertEqual(ran.stdout.splitlines()[-1], "7 passed, 3 failed")
-        self.assertEqual(os.listdir(f"{self.room}/tmp"), [])
 
-    @staticmethod
-    def in_session(leader):
-        listed = subprocess.run(["ps", "-o", "pid=,stat=", "-s", str(leader)], stdout=subprocess.PIPE, text=True, check=False).stdout
+    def in_session(self, leader):
+        listed = self.run_in("/", "ps", "-o", "pid=,stat=", "-s", str(leader)).stdout
         return [int(pid) for pid, state in map(str.split, listed.splitlines()) if state[0] != "Z"]
 
     def test_stops(self):
         """Ctrl-C ends the gate while rt ci and the wrong bodies run, and nothing is left of it."""
         checkout = f"{self.room}/checkout"
-        for name in (".ci/test_ci.py", "scripts/widths.sh"):
-            write(f"{checkout}/{name}", "#!/bin/sh\necho '1 passed, 0 failed'\n")
-        write(f"{checkout}/.ci/test_ci.py", "print('1 passed, 0 failed')\n")
-        shutil.copy(f"{TOP}/.ci/parts.py", f"{checkout}/.ci")
-        for name in ("crates/i_shape_c/src/lib.rt", "crates.txt", "HANDLES"):
+        write(f"{checkout}/scripts/widths.sh", "#!/bin/sh\necho '1 passed, 0 failed'\n")
+        write(f"{checkout}/.ci/parts.py", pages.read(f"{TOP}/.ci/parts.py"))
+        for name in (".ci/test_ci.py", "crates/i_shape_c/src/lib.rt", "crates.txt", "HANDLES"):
             write(f"{checkout}/{name}", "")
         write(f"{self.room}/bin/rt", '#!/bin/sh\necho started >> "$STAND_IN/started"\nwhile :; do sleep 300; done\n')
-        gate = subprocess.Popen([sys.executable, f"{checkout}/.ci/parts.py", "gate"], env=self.environment, start_new_session=True,
-                                stdout=subprocess.DEVNULL, stderr=subprocess.DEVNULL)
+        how = {"env": self.environment, "start_new_session": True, "stdout": subprocess.DEVNULL, "stderr": subprocess.DEVNULL}
+        gate = subprocess.Popen([sys.executable, f"{checkout}/.ci/parts.py", "gate"], **how)
         self.addCleanup(lambda: [os.kill(pid, signal.SIGKILL) for pid in self.in_session(gate.pid)])
-        for _ in range(300):
-            if len(self.started()) == 2:
-                break
+        deadline = time.time() + 30
+        while len(self.started()) < 2 and time.time() < deadline:
             time.sleep(0.1)
-        self.assertEqual(len(self.started()), 2)
+        self.assertEqual(self.started(), ["started"] * 2)
         os.killpg(gate.pid, signal.SIGINT)
         self.assertEqual(gate.wait(5), 130)
         self.assertEqual(self.in_session(gate.pid), [])
-        self.assertEqual(os.listdir(f"{self.room}/tmp"), [])
 
 
 class ToolTest(Case):
-    PROGRAM = "crates/i_shape_tool_main/out/i_shape_tool_main"
     # It answers by rt try as it is told to, and builds one at a time.
     RT = """#!/bin/sh
 echo "$1" >> "$STAND_IN/started"
@@ -129,9 +124,8 @@ mkdir "$STAND_IN/one" && sleep 0.1 && rmdir "$STAND_IN/one"
     def setUp(self):
         super().setUp()
         self.top = f"{self.room}/top"
-        for crate in ("core", "text", "tool_main"):
-            write(f"{self.top}/crates/i_shape_{crate}/src/lib.rt", "")
-        write(f"{self.top}/crates.txt", "")
+        for file in ("crates.txt", *(f"crates/i_shape_{crate}/src/lib.rt" for crate in ("core", "text", "tool_main"))):
+            write(f"{self.top}/{file}", "")
         shutil.copy(f"{TOP}/i_shape_tool", self.top)
         shutil.copytree(f"{TOP}/scripts", f"{self.top}/scripts")
         write(f"{self.room}/bin/rt", self.RT)
@@ -148,11 +142,11 @@ mkdir "$STAND_IN/one" && sleep 0.1 && rmdir "$STAND_IN/one"
         self.assertRegex(told, r"\Ai_shape_tool: not built from these sources; .*`make program` proves and builds it\nline 1: not a contour\n\Z")
         line = told.splitlines(True)[0]
         self.assertEqual(self.tool(told="error\nrun=none proved=no\n", status=2), (4, "", f"{line}error\nrun=none proved=no\n"))
+        # A text that is too long for rt try is refused.
         before = self.started()
         self.assertEqual(self.tool("\n" * 174763), (4, "", line))
         self.assertEqual(self.started(), before)
         self.assertEqual(self.tool("\n" * 174762)[0], 0)
-        self.assertEqual(os.listdir(f"{self.room}/tmp"), [])
 
     def test_built(self):
         """Of two builds at once one builds. The program of these sources runs then, and one of older sources doesn't."""
@@ -164,8 +158,7 @@ mkdir "$STAND_IN/one" && sleep 0.1 && rmdir "$STAND_IN/one"
         self.assertEqual(self.tool(answer="tried\n")[:2], (0, "tried\n"))
 
 
-SAMPLE = pages.read(f"{TOP}/crates/callers/src/corners.rt")
-SAMPLE = SAMPLE[SAMPLE.index("use "):]
+SAMPLE = "use " + pages.read(f"{TOP}/crates/callers/src/corners.rt").partition("use ")[2]
 CLAUSE = "    ensures memory { IsOkUnless result ShapeError.OutOfMemory }\n"
 RIGHT = f"""# One: two
 ```rust
@@ -191,10 +184,10 @@ def changed(text, old, new):
 
 
 FAULTS = (
-    "```rust\n" + changed(SAMPLE, "(2, 0)", "(3, 0)") + "```\n",
-    "```rust\n" + changed(SAMPLE, "/// Returns the", "/// Returns just the") + "```\n",
+    f"```rust\n{changed(SAMPLE, '(2, 0)', '(3, 0)')}```\n",
+    f"```rust\n{changed(SAMPLE, '/// Returns the', '/// Returns just the')}```\n",
     f"```rust\nuse std::fmt::Write;\n{SAMPLE}```\n",
-    "```text\n" + changed(CLAUSE, "memory", "room") + "```\n",
+    f"```text\n{changed(CLAUSE, 'memory', 'room')}```\n",
     "```antt\nIsZeroTurn a b c = cross a b c ≡ pos 1\n```\n",
     "```cpp\nint nothing(void) {\n```\n",
     "```js\nconsole.log(1);\n```\n",
@@ -224,7 +217,6 @@ DOUBLES = """#![tactic(auto)]
 
 ghost use Rattle.std.specs.Prelude.{◌≡◌, ◌+◌, ◌<◌};
 
-/// Twice the number.
 pub fn doubled(number: u32) -> u32
     requires { number < 1000 }
     ensures twice { result ≡ number + number }
@@ -233,7 +225,6 @@ pub fn doubled(number: u32) -> u32
     number + number
 }
 
-/// Four times the number.
 pub fn quadrupled(number: u32) -> u32
     requires { number < 500 }
     ensures { result ≡ (number + number) + (number + number) }
@@ -241,15 +232,16 @@ pub fn quadrupled(number: u32) -> u32
     doubled(doubled(number))
 }
 """
+SUM = "    number + number"
 # Wrong bodies of these: a name, the function, an old and a new text, and what is said of each.
 EDITS = (
-    ("forgets_half", "doubled", "    number + number", "    number", "refused at doubled: returns-clause-twice"),
-    ("names_a_clause", "doubled\nclause: twice", "    number + number", "    number", "refused at doubled: returns-clause-twice"),
-    ("names_another", "doubled\nclause: small", "    number + number", "    number", "NOT REFUSED by the clause small of doubled, but at returns-clause-twice"),
-    ("turns_nothing", "doubled", "    number + number", "    number.wrapping_add(number)", "NOT REFUSED at doubled"),
-    ("turns_the_callee", "quadrupled", "    number + number", "    number", "NOT REFUSED at quadrupled, but at doubled"),
+    ("forgets_half", "doubled", SUM, "    number", "refused at doubled: returns-clause-twice"),
+    ("names_a_clause", "doubled\nclause: twice", SUM, "    number", "refused at doubled: returns-clause-twice"),
+    ("names_another", "doubled\nclause: small", SUM, "    number", "NOT REFUSED by the clause small of doubled, but at returns-clause-twice"),
+    ("turns_nothing", "doubled", SUM, "    number.wrapping_add(number)", "NOT REFUSED at doubled"),
+    ("turns_the_callee", "quadrupled", SUM, "    number", "NOT REFUSED at quadrupled, but at doubled"),
     ("text_is_not_there", "doubled", "number * 2", "number * 3", "BAD EDIT: its old text stands in src/lib.rt 0 times"),
-    ("does_not_parse", "doubled", "    number + number", "    (number + number", "BAD EDIT: it did not reach the prover"),
+    ("does_not_parse", "doubled", SUM, "    (number + number", "BAD EDIT: it did not reach the prover"),
 )
 
 

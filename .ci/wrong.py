@@ -3,13 +3,10 @@
 
 usage: .ci/wrong.py [--lanes N] [--anew] [--write] [--only WORD..]
 
-An edit is a file crates/NAME/wrong/WHAT_IT_DOES.edit: a line 'file: src/..', a line 'refused: module::Type::function' with the function whose fault it must be,
-a line 'clause: NAME' with the clause that excludes it, which may be missing, and pairs of lines 'old: TEXT' and 'new: TEXT'. Each old text stands in its file
-once.
-
-Edits are put into a copy of their crate, at most one for each function, and checked together, over what earlier checks kept. An edit passes where the prover
-leaves a goal of its own function open, and one of these is of the clause that the edit names: the goal 'returns-clause-NAME', say, or the goal NAME itself. A
-fault of a function that it calls, or a text that cannot be read, is not enough. Rounds go on until each edit is judged.
+docs/develop/README.md says what an edit is. Edits are put into a copy of their crate, at most one for each function, and checked together, over what earlier
+checks kept. An edit passes where the prover leaves a goal of its own function open, and one of these is of the clause that the edit names: the goal
+'returns-clause-NAME', say, or the goal NAME itself. A fault of a function that it calls, or a text that cannot be read, is not enough. Rounds go on until each
+edit is judged. The libraries below a crate whose edits are tried are proved first, where they aren't.
 
 An edit that passed is noted in ~/.cache/raspochre, or below $XDG_CACHE_HOME, by a sum of what it was judged by: the kit, this script, the edit, its crate's line
 in crates.txt, and the code, contracts and proofs of its crate and of those below. While none of these changes, it passes again without a check, in any clone.
@@ -18,8 +15,6 @@ in crates.txt, and the code, contracts and proofs of its crate and of those belo
 --anew         tries the edits that are noted too
 --write        writes the line 'clause' into each edit that passes and has none: read it, since it only says what was open
 --only WORD..  tries the edits of these crates, and those whose names contain one of these words
-
-The libraries below a crate whose edits are tried are proved first, where they aren't.
 """
 import argparse
 import contextlib
@@ -41,6 +36,9 @@ import rtlib as KIT  # noqa: E402
 NOTES = f"{os.environ.get('XDG_CACHE_HOME') or os.path.expanduser('~/.cache')}/raspochre/wrong_bodies"
 # what an error says of a name that is no longer there, or of a proof that rests on one that was refused
 GONE = r"has no field|is not in scope|has no `|was not admitted"
+# an error of code that could not be read: it names no goal, or says so
+UNREAD = (r"(?:\./)?(src/\S+?):\d+:\d+: error: "
+          r"(?:(?!`[^`]*`: )|.*(?:is not in scope|has no field|is no name|operand is missing|expected the end|cannot continue))")
 
 
 def read(file):
@@ -67,9 +65,7 @@ class Edit:
 
     def fault(self, folder):
         """Returns what keeps it from being tried on the crate in this folder, or None."""
-        if not self.function:
-            return "it has no line 'refused:'"
-        if not self.is_well_formed or not all(path and old for path, old, _ in self.pairs):
+        if not self.function or not self.is_well_formed or not all(path and old for path, old, _ in self.pairs):
             return "its lines are not 'file:', 'refused:', 'clause:', and then pairs of 'old:' and 'new:'"
         for path in {path for path, _, _ in self.pairs}:
             if os.path.normpath(path) != path or not path.startswith("src/") or not os.path.isfile(f"{folder}/{path}"):
@@ -99,15 +95,10 @@ class Edit:
 
     def stays_inside(self, folder):
         """Whether each old text lies in the function itself, so that it can turn no other. A constant can, where others read it."""
-        own = self.function.rpartition("::")[2]
         for path, old, _ in self.pairs:
-            text = read(f"{folder}/{path}")
-            above = text[: text.find(old) + len(old)]
-            *_, item = [None, *re.finditer(r'^( *)(?:[\w()"]+ )*(fn|const) (\w+)', above, re.M)]
-            if not item or (item[2], item[3]) != ("fn", own):
-                return False
-            # a line that stands no deeper than the function's first one, and is no further line of its head or the brace below that
-            if re.search(rf"\n {{0,{len(item[1])}}}(?!where\b)[^ {{)>\n]", above[item.end() :]):
+            above = read(f"{folder}/{path}").partition(old)[0] + old
+            items = re.findall(r'^ *(?:[\w()"]+ )*(fn|const|static|struct|enum|type|trait|impl|mod|macro_rules!|use)\b ?(\w*)', above, re.M)
+            if items[-1:] != [("fn", self.function.rpartition("::")[2])]:
                 return False
         return True
 
@@ -141,29 +132,19 @@ class Found:
 
     def unread(self, paths):
         """Returns a line that tells that the code in one of these files could not be read, or None."""
-        for line in self.lines:
-            at = re.match(r"(?:\./)?(src/\S+?):\d+:\d+: error: (`[^`]*`: )?(.*)", line)
-            told = at and (not at[2] or re.search(r"is not in scope|has no field|is no name|operand is missing|expected the end|cannot continue", at[3]))
-            if told and at[1] in paths:
-                return line
-        return None
+        return next((line for line in self.lines if (at := re.match(UNREAD, line)) and at[1] in paths), None)
 
     def names_what_is_gone(self, function):
         """Whether the function's proof fails only because it names what the edit took away."""
         errors = self.errors_of(function)
         return bool(errors) and all(re.search(GONE, it) for it in errors)
 
-    def complaint(self):
-        return next((it for it in self.lines if "error" in it), (self.lines or ["the check said nothing"])[-1])
-
 
 def link_or_copy(one, other):
-    """Gives a file of proved work, which a check replaces but never changes, a second name, and copies any other file."""
-    try:
+    """Gives a file of proved work, which a check replaces but never changes, a second name, where it can, and copies any other file."""
+    with contextlib.suppress(OSError):
         if one.endswith(".oantt"):
             return os.link(one, other)
-    except OSError:
-        pass
     return shutil.copy2(one, other)
 
 
@@ -214,7 +195,7 @@ class Trial:
                 self.judge(edit, f"BAD EDIT: {fault}")
             elif not is_anew and (goals := self.notes.goals_of(edit)) is not None:
                 self.refuse(edit, goals, " by an earlier run")
-                self.notes.add([edit])
+                self.notes.add([edit] if self.writes else [])
             elif not edit.stays_inside(self.crate.folder):
                 edit.is_alone = True
         return self
@@ -245,10 +226,11 @@ class Trial:
 
     def lay_round(self, room):
         """Lays a copy of the crate with as many of the edits that are left as can be tried beside one another, and returns those."""
-        for part in KIT.PARTS:
-            self.lay(part, f"{room}/{part}")
         # a round keeps what it checked of the wrong bodies, and the right ones would be proved once more beside the next
-        self.lay("out/incremental", f"{room}/kept")
+        for part, to in (*((part, part) for part in KIT.PARTS), ("out/incremental", "kept")):
+            if os.path.isdir(f"{self.crate.folder}/{part}"):
+                shutil.rmtree(f"{room}/{to}", ignore_errors=True)
+                shutil.copytree(f"{self.crate.folder}/{part}", f"{room}/{to}", copy_function=link_or_copy)
         taken = []
         for edit in self.left:
             texts, _ = edit.edited(room)
@@ -258,12 +240,6 @@ class Trial:
                     with open(f"{room}/{path}", "w", encoding="utf-8") as out:
                         out.write(text)
         return taken
-
-    def lay(self, part, to):
-        """Lays a part of the crate, where it has that, in the place of what is there."""
-        if os.path.isdir(f"{self.crate.folder}/{part}"):
-            shutil.rmtree(to, ignore_errors=True)
-            shutil.copytree(f"{self.crate.folder}/{part}", to, copy_function=link_or_copy)
 
     def can_stand_beside(self, edit, other):
         is_apart = edit.function in other.apart_from or other.function in edit.apart_from
@@ -284,7 +260,8 @@ class Trial:
             edit.apart_from |= found.at_fault - {own}
             edit.is_alone = not found.has_ended or bool(unread) or not edit.apart_from
         elif not found.has_ended:
-            self.judge(edit, f"BAD EDIT: it did not reach the prover: {found.complaint()[:200]}")
+            complaint = next((it for it in found.lines if "error" in it), (found.lines or ["the check said nothing"])[-1])
+            self.judge(edit, f"BAD EDIT: it did not reach the prover: {complaint[:200]}")
         elif unread:
             self.judge(edit, f"BAD EDIT: the prover cannot read the edited text: {unread[:200]}")
         elif own not in found.at_fault:
@@ -298,19 +275,14 @@ class Trial:
             self.refuse(edit, found.goals_of(own))
 
 
-def processors():
-    return len(os.sched_getaffinity(0))
-
-
 def main():
+    processors = len(os.sched_getaffinity(0))
     parser = argparse.ArgumentParser(description=__doc__, formatter_class=argparse.RawDescriptionHelpFormatter)
-    parser.add_argument("--lanes", type=int, default=processors(), metavar="N")
+    parser.add_argument("--lanes", type=int, default=processors, metavar="N")
     parser.add_argument("--anew", action="store_true")
     parser.add_argument("--write", action="store_true")
     parser.add_argument("--only", nargs="+", default=[], metavar="WORD")
     asked = parser.parse_args()
-    if asked.lanes < 1:
-        parser.error("--lanes is a number from 1 on")
     root = os.path.dirname(os.path.dirname(os.path.realpath(__file__)))
     os.chdir(root)
     listed = {it.name: it for it in KIT.crates_below(root)}
@@ -329,7 +301,7 @@ def main():
     # its first call sets a signal's handler, which only the main thread may
     KIT.guarded()
     libraries = dict.fromkeys(below for it in open_ones for below in it.crate.below())
-    if all(it.build_rlib(["--jobs", str(processors())], anew=False) == 0 for it in libraries):
+    if all(it.build_rlib(["--jobs", str(processors)], anew=False) == 0 for it in libraries):
         with ThreadPoolExecutor(asked.lanes) as pool:
             list(pool.map(Trial.run, open_ones))
     passed = sum(len(it.passed) for it in trials)
