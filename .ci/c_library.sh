@@ -1,7 +1,6 @@
 #!/usr/bin/env bash
-# Builds the C library and tests it: as C11 and as C++17, each warning an error; with an allocator of the tests' own, which refuses each growth in turn, and with
-# that for other machines; the shared library; under the address sanitizer and valgrind; i_shape.hpp by two compilers, and the points that it refuses; what is
-# built, installed and found by CMake; the programs of the pages; and the crate for Rust.
+# Builds the C library and tests it, with allocators that refuse each growth in turn, and under the address sanitizer and valgrind; i_shape.hpp by two compilers;
+# what is built, installed and found by CMake; the programs of the pages; and the crate for Rust.
 . "$(dirname "$0")/part.sh" || exit 1
 library=bindings/c/out
 archive=crates/i_shape_c/out/libi_shape_c.a
@@ -15,8 +14,7 @@ test_names() {
     check 'the names of the archive' diff <(nm -g --defined-only "$work/all.o" | sed -nE 's/^.* T (.*)$/\1/p' | sort) <(declared)
 }
 
-# `make c` over what is built: it waits for no other build, takes no TARGET or CPU of the environment, sees that a library is gone, and puts back what a
-# killed build for another processor has left, the archive of the default beside another in its place.
+# `make c` over what is built. A killed build for another processor has left the archive of the default, and another in its place.
 test_build() {
     local left=$library/killed
     check 'what is built, while another build runs' flock "$library/build.lock" timeout 60 bash bindings/c/build.sh
@@ -36,9 +34,9 @@ shown() { awk -v name="$2" '/^```$/ || /^\$ / { is_its = 0 } is_its { print } /^
 
 # The program $2 prints what the page $1 says. It is compiled by the words from $3 on.
 test_program() {
+    rm -f "$work/program"
     "${@:3}" "${warnings[@]}" -Iinclude "$2" "$library/libi_shape.a" -o "$work/program"
     prints "$2" "$(shown "$1" "$2")" "$work/program"
-    rm -f "$work/program"
 }
 
 # Each point of refused.cpp is refused by the words that stand beside it.
@@ -84,8 +82,7 @@ test_versions() {
     done
 }
 
-# The library in a project of CMake, installed into a folder whose name has a space and that a link leads to, and as a folder of a clone; another minor
-# version isn't found.
+# The library in a project of CMake, installed into a folder whose name has a space and that a link leads to, and as a folder of a clone.
 test_cmake() {
     local prefix="$work/a prefix"
     has CMake cmake || return
@@ -97,12 +94,10 @@ test_cmake() {
     test_versions
 }
 
-# `make install-c` into folders of one's own below DESTDIR: the shared library's name there has its version, as CMake is told; pkg-config and CMake name the
-# folders; and `make uninstall-c` leaves nothing.
+# `make install-c` into folders of one's own below DESTDIR, and `make uninstall-c`.
 test_install() {
-    local to=$work/destdir its soname
-    local lib=$to/usr/lib/of_a_machine
-    its=(DESTDIR="$to" PREFIX=/usr LIBDIR=/usr/lib/of_a_machine INCLUDEDIR=/usr/include/of_its_own)
+    local to=$work/destdir lib=$work/destdir/usr/lib/of_a_machine soname
+    local its=(DESTDIR="$to" PREFIX=/usr LIBDIR=/usr/lib/of_a_machine INCLUDEDIR=/usr/include/of_its_own)
     make -s install-c "${its[@]}" && soname=$(readelf -d "$lib/libi_shape.so" | sed -nE 's/.*SONAME.*\[(.*)\]/\1/p') &&
         [ "$soname" = "libi_shape.so.$(scripts/version.sh | cut -d. -f1)" ] && [ -e "$lib/$soname" ] &&
         grep -q "IMPORTED_SONAME $soname$" "$lib/cmake/i_shape/i_shape-targets.cmake"
@@ -120,15 +115,12 @@ in_crate() { (cd bindings/rust && "$@"); }
 test_rust() {
     local words
     export CARGO_NET_OFFLINE=true CARGO_TARGET_DIR=$work/target RUSTDOCFLAGS='-D warnings'
-    in_crate cargo metadata --no-deps --format-version 1 > /dev/null 2>&1 || { skip 'the crate for Rust' 'there is no cargo from 1.85 on' && return; }
+    needs 'the crate for Rust' 'there is no cargo from 1.85 on' in_crate cargo metadata --no-deps --format-version 1 || return
     add 'the crate for Rust' in_crate test_crate
     prints 'examples/clean.rs' "$(shown docs/C.md examples/clean.c)" in_crate cargo run --locked --quiet --example clean
     for words in 'doc --no-deps --locked --quiet' 'clippy --all-targets --locked --quiet -- -D warnings' 'fmt --check'; do
-        if cargo "${words%% *}" --help > /dev/null 2>&1; then
-            check "cargo $words: the crate for Rust" in_crate cargo $words
-        else
-            skip "cargo $words: the crate for Rust" 'there is no such command'
-        fi
+        needs "the crate for Rust, cargo $words" 'there is no such command' cargo "${words%% *}" --help &&
+            check "the crate for Rust, cargo $words" in_crate cargo $words
     done
 }
 
@@ -145,22 +137,19 @@ test_cmake
 test_install
 test_rust
 tests=("${c[@]}" bindings/c/test.c)
-cpp=("${CXX:-c++}" -std=c++17 -x c++ bindings/c/test.c -x none)
 other=bindings/c/allocator.c
 test_as 'C11' "${tests[@]}" "$library/libi_shape.a"
-test_as 'C++17' "${cpp[@]}" "$library/libi_shape.a"
+test_as 'C++17' "${CXX:-c++}" -std=c++17 -x c++ bindings/c/test.c -x none "$library/libi_shape.a"
 test_as 'C11, shared' "${tests[@]}" "$library/libi_shape.so" "-Wl,-rpath,$PWD/$library"
 test_as 'the allocator for other machines' "${tests[@]}" $other "$library/libi_shape.a"
 test_as 'each growth refused' "${tests[@]}" -DOWN_ALLOCATOR "$library/libi_shape.a"
 test_as 'the allocator for other machines, each growth refused' "${tests[@]}" -DWRAPPED_MALLOC -Wl,--wrap=malloc,--wrap=realloc,--wrap=free $other \
     "$library/libi_shape.a"
 sanitizers=(-fsanitize=address,undefined -fno-sanitize-recover=undefined)
-if compiles_with "${sanitizers[@]}"; then
+if needs 'address sanitizer' 'the compiler has none that runs here' compiles_with "${sanitizers[@]}"; then
     test_as 'address sanitizer' "${tests[@]}" $other "${sanitizers[@]}" "$library/libi_shape.a"
     test_as 'address sanitizer, each growth refused' "${tests[@]}" "${sanitizers[@]}" -DOWN_ALLOCATOR "$library/libi_shape.a"
     test_as 'address sanitizer, i_shape.hpp' "${CXX:-c++}" -std=c++17 "${sanitizers[@]}" bindings/c/test.cpp "$library/libi_shape.a"
-else
-    skip 'address sanitizer' 'the compiler has none that runs here'
 fi
 if has valgrind valgrind; then
     runner=(valgrind -q --error-exitcode=9 --leak-check=full)

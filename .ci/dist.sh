@@ -1,7 +1,6 @@
 #!/usr/bin/env bash
 # Packs what a release holds, by scripts/dist.sh, and tries each archive as someone who has nothing else of the project: unpacked into an empty folder, with
-# no rt on the path. Packed again in another time zone, and as another user, where a namespace can be made for that, each has the same bytes. The libraries
-# ask for no symbol of a glibc above 2.17.
+# no rt on the path. Packed again in another time zone, and as another user, where a namespace can be made for that, each has the same bytes.
 . "$(dirname "$0")/part.sh" || exit 1
 top=$PWD
 empty="$work/an empty folder"
@@ -22,15 +21,6 @@ plan_for() {
         has_built "$1" "$2" && has_built "$1" "$2" "${words[@]}" && parts+=("$1")
 }
 
-# Packs the part $1 too, if those from $2 on are packed.
-plan_with() {
-    local needed
-    for needed in "${@:2}"; do
-        is_packed "$needed" || { skip "$1" "$needed is not packed" && return; }
-    done
-    parts+=("$1")
-}
-
 # Goes into an empty folder, whose name has a space.
 go_to_empty() { rm -rf "$empty" && mkdir "$empty" && cd "$empty" || exit; }
 
@@ -48,8 +38,7 @@ prints_corners() {
     rm -f "$work/program"
 }
 
-# Whether the shared library or program $1 asks for nothing but what libc.so.6 has had since glibc 2.$2, looks for it nowhere else, and wants no stack that is
-# executed.
+# Whether the library or program $1 asks only for what libc.so.6 has had since glibc 2.$2, looks for it nowhere else, and wants no stack that is executed.
 needs_glibc() {
     [ "$(readelf -dW "$1" | sed -nE 's/.*\((NEEDED|RPATH|RUNPATH)\).*\[(.*)\]/\1 \2/p')" = 'NEEDED libc.so.6' ] &&
         ! readelf --dyn-syms -W "$1" | awk -v most="$2" '$7 == "UND" && $8 != "" && ($5 != "WEAK" || $8 ~ /@/) && !(split($8, parts, /@GLIBC_2[.]/) == 2 &&
@@ -62,17 +51,17 @@ is_proved() {
         grep -q "^logic=proved .* target=$1-unknown-linux-gnu " PROOF && ! grep -q cpu= PROOF
 }
 
+loads_faster() { grep -q sse4_2 /proc/cpuinfo && ldd --version | grep -qE ' 2\.(3[3-9]|[4-9][0-9])$'; }
+
 # The library that x86-64 has besides, and the words of the loader that it is taken.
 test_faster() {
     local its=lib/glibc-hwcaps/x86-64-v2/libi_shape.so.$major
     needs_glibc "$its" 17 && grep -q '^logic=proved .* cpu=x86-64-v2 ' PROOF.x86-64-v2
     count $? 'linux-x86_64: the library for x86-64-v2, and its proof'
     "${CC:-cc}" -std=c11 -Iinclude sample/sample.c lib/libi_shape.so -o "$work/program"
-    if grep -q sse4_2 /proc/cpuinfo && ldd --version | grep -qE ' 2\.(3[3-9]|[4-9][0-9])$'; then
+    if needs 'linux-x86_64: the loader takes it' 'the processor is before x86-64-v2, or glibc before 2.33' loads_faster; then
         [ "$(LD_LIBRARY_PATH=lib LD_DEBUG=files "$work/program" 2> "$work/log")" = "$corners" ] && grep -q "calling init: $its$" "$work/log"
         count $? 'linux-x86_64: the loader takes it'
-    else
-        skip 'linux-x86_64: the loader takes it' 'the processor is before x86-64-v2, or glibc before 2.33'
     fi
     has 'linux-x86_64: a processor before x86-64-v2' qemu-x86_64 || return
     prints 'linux-x86_64: the loader of an older processor takes the other' "$corners" "${old_processor[@]}" -E LD_LIBRARY_PATH=lib "$work/program"
@@ -149,55 +138,36 @@ test_wheel() {
     count $? 'wheel-x86_64: the library for x86-64-v2'
 }
 
-# A program in Python: the examples of the page that the installed wheel holds print what stands below them.
-run_page='
-import doctest, importlib.metadata, re
-page = re.sub("^```.*", "", importlib.metadata.metadata("i_shape").get_payload(), flags=re.MULTILINE)
-told = doctest.DocTestRunner().run(doctest.DocTestParser().get_doctest(page, {}, "README.md", None, 0))
-raise SystemExit(told.failed or not told.attempted)
-'
-
-# A program in Python: that for x86-64-v2 is loaded where the processor has it, and the other one where it hasn't.
-take_library='
-import builtins, io, pathlib, i_shape._library as library
-assert pathlib.Path(library._library._name).name == ("libi_shape-v2.so" if "sse4_2" in open("/proc/cpuinfo").read() else "libi_shape.so")
-builtins.open = lambda path: io.StringIO("flags : fpu sse sse2 ssse3 popcnt cx16 lahf_lm\n")
-assert library._path().name == "libi_shape.so"
-'
-
 # pip takes the wheel of this machine, which answers, and not that of another.
 test_installed() {
     local own=$work/environment/bin/python wheels=$work/dist/i_shape-$version-py3-none-manylinux_2_17
     local pip=("$own" -m pip install --isolated --no-index --no-deps)
     go_to_empty
     { "$python" -m venv --system-site-packages "$work/environment" && "${pip[@]}" "${wheels}_x86_64.whl"; } > "$work/log" 2>&1 || cat "$work/log"
-    check 'wheel-x86_64: installed, and what its page shows' "$own" -c "$run_page"
-    check 'wheel-x86_64: the library that the processor takes' "$own" -c "$take_library"
+    check 'wheel-x86_64: installed, and what its page shows' "$own" - << 'PROGRAM'
+import doctest, importlib.metadata, re
+page = re.sub("^```.*", "", importlib.metadata.metadata("i_shape").get_payload(), flags=re.MULTILINE)
+told = doctest.DocTestRunner().run(doctest.DocTestParser().get_doctest(page, {}, "README.md", None, 0))
+raise SystemExit(told.failed or not told.attempted)
+PROGRAM
+    # that for x86-64-v2 is loaded where the processor has it, and the other one where it hasn't
+    check 'wheel-x86_64: the library that the processor takes' "$own" - << 'PROGRAM'
+import builtins, io, pathlib, i_shape._library as library
+assert pathlib.Path(library._library._name).name == ("libi_shape-v2.so" if "sse4_2" in open("/proc/cpuinfo").read() else "libi_shape.so")
+builtins.open = lambda path: io.StringIO("flags : fpu sse sse2 ssse3 popcnt cx16 lahf_lm\n")
+assert library._path().name == "libi_shape.so"
+PROGRAM
     is_packed wheel-aarch64 || return
     ! "${pip[@]}" "${wheels}_aarch64.whl" > "$work/log" 2>&1 && grep -q 'not a supported wheel' "$work/log"
     count $? 'wheel-aarch64: refused on x86_64'
 }
-
-# A program in JavaScript: the page of this folder shows the corners in Chromium. Its status is 3 where there is none.
-open_page='
-const { Browser, hasChromium, serve } = await import(process.argv[1]);
-if (!hasChromium) process.exit(3);
-const { server, url } = await serve(".");
-const browser = await Browser.open();
-try {
-    await browser.goTo(url);
-    await browser.until("document.body?.textContent.trim() === `0 0 4 0 4 4 0 4`");
-} finally {
-    await browser.close();
-    server.close();
-}
-'
 
 # The sample of the package's page in the language $1.
 sample_of() { sed -n "/^\`\`\`$1\$/,/^\`\`\`\$/{/^\`\`\`/!p}" node_modules/i_shape/README.md; }
 
 # What the page of the package shows runs where the package lies as one that was installed.
 test_javascript() {
+    local chromium=$top/bindings/js/test/support/chromium.js has_chromium='process.exit((await import(process.argv[1])).hasChromium ? 0 : 1)'
     unpack javascript "i_shape-$version-javascript.tgz" LICENSE README.md out/i_shape{32,64}.wasm package.json src/{arrays,errors,geojson,i_shape,loading,memory}.js \
         src/i_shape.d.ts || return
     has 'javascript: the files that npm packs' npm &&
@@ -207,11 +177,19 @@ test_javascript() {
     sample_of js > sample.mjs
     prints 'javascript: what its page shows' '0 0 4 0 4 4 0 4' node sample.mjs
     sample_of html > index.html
-    node --input-type=module -e "$open_page" "$top/bindings/js/test/support/chromium.js"
-    case $? in
-    3) skip 'javascript: what its page shows in a browser' 'there is no chromium' ;;
-    *) count $? 'javascript: what its page shows in a browser' ;;
-    esac
+    needs 'javascript: what its page shows in a browser' 'there is no chromium' node --input-type=module -e "$has_chromium" "$chromium" || return
+    check 'javascript: what its page shows in a browser' node --input-type=module - "$chromium" << 'PROGRAM'
+const { Browser, serve } = await import(process.argv[2]);
+const { server, url } = await serve(".");
+const browser = await Browser.open();
+try {
+    await browser.goTo(url);
+    await browser.until("document.body?.textContent.trim() === `0 0 4 0 4 4 0 4`");
+} finally {
+    await browser.close();
+    server.close();
+}
+PROGRAM
 }
 
 # The crate passes its tests over the library that lies in its archive, with no variable.
@@ -232,12 +210,12 @@ parts=()
 for machine in x86_64 aarch64; do
     plan_for "linux-$machine" bindings/c/build.sh $machine
     plan_for "program-$machine" scripts/program/build.sh $machine
-    has_python "wheel-$machine" && plan_with "wheel-$machine" "linux-$machine"
+    has_python "wheel-$machine" && needs "wheel-$machine" 'its library is not packed' is_packed "linux-$machine" && parts+=("wheel-$machine")
 done
 has_built javascript bindings/js/build.sh && parts+=(javascript)
 # Building the site fails if a link is broken.
-if [ "$only_built" != --if-built ] && bash scripts/site.sh --has-tools > /dev/null 2>&1; then parts+=(site); else skip site 'scripts/site.sh has not what it needs'; fi
-plan_with rust linux-x86_64 linux-aarch64
+if [ "$only_built" = --if-built ]; then skip site 'it is not built'; else needs site 'scripts/site.sh has not what it needs' bash scripts/site.sh --has-tools && parts+=(site); fi
+needs rust 'its library is not packed' is_packed linux-x86_64 && needs rust 'its library is not packed' is_packed linux-aarch64 && parts+=(rust)
 [ ${#parts[@]} != 0 ] || end_part
 bash scripts/dist.sh "$work/dist" "${parts[@]}" > "$work/log" 2>&1 || { cat "$work/log" && count 1 'scripts/dist.sh' && end_part; }
 another_user=(unshare --user --map-user=1000 --map-group=1000)

@@ -1,7 +1,6 @@
 #!/usr/bin/env bash
 # Builds the WebAssembly modules and runs the tests of the package for JavaScript and of examples/page by Node: beside the native library and with the tests of C,
-# where there is a C compiler; in a browser, where there is a chromium. The types are checked, where there is a tsc. Of the calls that take no memory the object
-# file is that of the kit's own lowering. It takes Node from 20.6 on: Debian 12's own is older, and one from NodeSource or nodejs.org serves.
+# where there is a C compiler, and in browsers. It takes Node from 20.6 on: Debian 12's own is older, and one from NodeSource or nodejs.org serves.
 . "$(dirname "$0")/part.sh" || exit 1
 package=bindings/js
 
@@ -17,20 +16,13 @@ test_by_node() {
     return $status
 }
 
-# The programs that answer as the native library does, at each width.
-build_answers() {
-    local bits
-    for bits in 16 32 64; do
-        compile_answers $bits bindings/c/out/libi_shape.a "$work/answers$bits" "${CC:-cc}" || return
-    done
-    export I_SHAPE_ANSWERS=$work/answers
-}
-
 has_node javascript && has_built javascript $package/build.sh || end_part
 # Before version 24 Node has memory of 64 bits only if it is asked for.
 flags=()
 node --experimental-wasm-memory64 -e 0 2> /dev/null && flags=(--experimental-wasm-memory64)
-! command -v "${CC:-cc}" > /dev/null || check 'the programs of the native library' build_answers
+has 'the tests beside the native library' "${CC:-cc}" && for bits in 16 32 64; do
+    check "the native library at $bits bits" compile_answers $bits bindings/c/out/libi_shape.a "$work/answers$bits" "${CC:-cc}" && export I_SHAPE_ANSWERS=$work/answers
+done
 has 'the tests of C as modules' rt && for bits in 64 32; do
     check "the tests of C as a module of $bits bits" sh $package/test/c/build.sh $bits "$work/c_tests$bits.wasm" && export I_SHAPE_C_TESTS=$work/c_tests
 done

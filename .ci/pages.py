@@ -30,28 +30,23 @@ PAGES = ["README.md", "CHANGELOG.md", "docs/*.md", "docs/develop/*.md", "example
 RUST = ["crates/*/src/**/*.rt", "bindings/rust/**/*.rs", "examples/**/*.rs", "bench/**/*.rs"]
 C = ["bindings/c/*.c", "bindings/c/*.cpp", "bindings/c/*.h", "examples/**/*.c", "bench/**/*.c", "include/*.h", "include/*.hpp"]
 JAVASCRIPT = ["bindings/js/*.js", "examples/*.mjs"]
+# What shows that something is there, where it isn't a program that has a version, and what is said where it isn't there.
 NEEDED = {
     # what the three libraries have kept of their proofs, or the C library that was built from it, is newer than they are
-    "proof": """rt version && test -d crates/i_shape/out/rlib && test -z "$(find crates/i_shape_core crates/i_shape_source crates/i_shape \\
+    "proof": ("""rt version && test -d crates/i_shape/out/rlib && test -z "$(find crates/i_shape_core crates/i_shape_source crates/i_shape \\
         -name out -prune -o \\( -name '*.rt' -o -name '*.antt' \\) \\
         -newer "$(ls -t crates/i_shape/out/rlib/stamp crates/i_shape_c/out/libi_shape_c.a 2> /dev/null | head -n 1)" -print -quit)\"""",
-    "rt": "rt version",
-    "program": "bash scripts/program/build.sh --is-built",
-    "library": "bash bindings/c/build.sh --is-built",
-    "wasm": "bash bindings/js/build.sh --is-built",
-    "node": "node -e 'process.exit(parseInt(process.versions.node) < 20 ? 1 : 0)'",
-    "parallel": "parallel --version",
-    "clipper": "test -e /usr/include/polyclipping/clipper.hpp",
-    "pkg-config": "pkg-config --version",
-    "python": "/usr/bin/python3 -c 'import numpy.typing, setuptools, wheel, venv, ensurepip'",
-    "postgres": "test -n \"$PGHOST\" && psql -Atc 'SELECT 1' && test -w \"$(pg_config --sharedir)/extension\"",
-    "cargo": "cargo metadata --offline --no-deps --format-version 1 --manifest-path bindings/rust/Cargo.toml",
+              "there is no rt, or the libraries aren't proved"),
+    "program": ("bash scripts/program/build.sh --is-built", "the program isn't built"),
+    "library": ("bash bindings/c/build.sh --is-built", "the C library isn't built"),
+    "wasm": ("bash bindings/js/build.sh --is-built", "the WebAssembly modules aren't built"),
+    "node": ("node -e 'process.exit(parseInt(process.versions.node) < 20 ? 1 : 0)'", "there is no Node from 20 on"),
+    "clipper": ("test -e /usr/include/polyclipping/clipper.hpp", "there is no clipper"),
+    "python": ("/usr/bin/python3 -c 'import numpy.typing, setuptools, wheel, venv, ensurepip'", "Debian's Python has no numpy, setuptools, wheel or venv"),
+    "postgres": ("test -n \"$PGHOST\" && psql -Atc 'SELECT 1' && test -w \"$(pg_config --sharedir)/extension\"", "there is no server of PostgreSQL to install into"),
+    "cargo": ("cargo metadata --offline --no-deps --format-version 1 --manifest-path bindings/rust/Cargo.toml", "there is no cargo from 1.85 on"),
 }
-# What is said where one of these isn't there.
-MISSING = {"proof": "there is no rt, or the libraries aren't proved", "program": "the program isn't built", "library": "the C library isn't built",
-           "wasm": "the WebAssembly modules aren't built", "postgres": "there is no server of PostgreSQL at PGHOST to install into"}
-# How many seconds a command of a page may take.
-LONGEST = 600
+LONGEST = 600  # seconds that a command of a page may take
 LEFT_OUT = re.compile(r"\s*(///|//!|#!?\[|ensures\b|↔|×)|\s*$")
 
 
@@ -133,10 +128,6 @@ def fault_of_clauses(text):
     return first_strange(with_whole_clauses(text), (with_whole_clauses(read(name)) for name in files(RUST))) if is_quoted else None
 
 
-def fault_of_definitions(text):
-    return first_strange(text, (read(name) for name in files(["crates/*/specs/*.antt"])))
-
-
 def fault_of_c(text):
     """A file has the whole text, or, of declarations, each of its lines, whatever the space between the words."""
     sources = ["".join(read(name).split()) for name in files(C)]
@@ -144,14 +135,11 @@ def fault_of_c(text):
     return None if any(all("".join(piece.split()) in source for piece in pieces) for source in sources) else "no file of C or C++ has this text"
 
 
-def fault_of_javascript(text):
-    return None if any(read(name) == text for name in files(JAVASCRIPT)) else "no file of JavaScript is this text"
-
-
 @functools.lru_cache
 def is_at_hand(needed):
     """Whether what a block needs is there."""
-    return subprocess.run(["sh", "-c", NEEDED[needed]], cwd=TOP, capture_output=True, check=False).returncode == 0
+    shown, _ = NEEDED.get(needed, (f"{needed} --version", None))
+    return subprocess.run(["sh", "-c", shown], cwd=TOP, capture_output=True, check=False).returncode == 0
 
 
 def top_names():
@@ -227,8 +215,11 @@ def fault_of_edits():
     return "; ".join(sorted(faults + [f"{crate} has no edit {name} in must-fail/" for crate, name in named - edits])) or None
 
 
-FAULTS = {"rust": fault_of_rust, "text": fault_of_clauses, "antt": fault_of_definitions, "c": fault_of_c, "cpp": fault_of_c, "js": fault_of_javascript,
-          "console": fault_of_console}
+FAULTS = {
+    "rust": fault_of_rust, "text": fault_of_clauses, "c": fault_of_c, "cpp": fault_of_c, "console": fault_of_console,
+    "antt": lambda text: first_strange(text, map(read, files(["crates/*/specs/*.antt"]))),
+    "js": lambda text: None if text in map(read, files(JAVASCRIPT)) else "no file of JavaScript is this text",
+}
 
 
 def tests_of(name):
@@ -256,7 +247,7 @@ def main():
         else:
             passed += 1
     for name, places in skipped.items():
-        print(f"skipped: {MISSING.get(name, f'there is no {name}')}: {'; '.join(places)}")
+        print(f"skipped: {NEEDED[name][1] if name in NEEDED else f'there is no {name}'}: {'; '.join(places)}")
     print(f"pages: {parts.sum_line([(passed, failed, len(skipped))])}")
     return failed > 0
 

@@ -17,12 +17,7 @@ trap 'rm -rf "$work"' EXIT
 
 # Counts the test $2, which ended with status $1.
 count() {
-    if [ "$1" = 0 ]; then
-        passed=$((passed + 1))
-    else
-        failed=$((failed + 1))
-        echo "failed: $2"
-    fi
+    if [ "$1" = 0 ]; then passed=$((passed + 1)); else failed=$((failed + 1)) && echo "failed: $2"; fi
 }
 
 # Counts the test $1: the words from $2 on, whose output is told where they fail.
@@ -41,8 +36,7 @@ prints() {
     count $? "$1"
 }
 
-# Adds up what the tests $1 count in the last line of what the words from $2 on print. One failure is counted where there is no such line, or where they fail and
-# count none.
+# Adds up what the tests $1, the words from $2 on, count in their last line. Without such a line, or if they fail and count none, one failure is counted.
 add() {
     local its_passed its_failed its_skipped status
     "${@:2}" > "$work/log" 2>&1
@@ -59,35 +53,27 @@ add() {
 }
 
 # Counts the tests $1, which are skipped for the reason $2, as one.
-skip() {
-    echo "skipped: $1: $2"
-    skipped=$((skipped + 1))
-}
+skip() { echo "skipped: $1: $2" && skipped=$((skipped + 1)); }
 
-# Whether the programs from $2 on are there. Where one isn't, the tests $1 are skipped.
+# Whether the words from $3 on succeed. Where they don't, the tests $1 are skipped for the reason $2.
+needs() { "${@:3}" > /dev/null 2>&1 || { skip "$1" "$2" && return 1; }; }
+
+# Whether the programs from $2 on are there for the tests $1.
 has() {
     local tool
     for tool in "${@:2}"; do
-        "$tool" --version > /dev/null 2>&1 || { skip "$1" "there is no $tool" && return 1; }
+        needs "$1" "there is no $tool" "$tool" --version || return
     done
 }
 
+# Whether there are a Python that builds and installs the package, and a Node that runs the one for JavaScript, for the tests $1.
+has_python() { needs "$1" "$python has no numpy, setuptools, wheel or venv" "$python" -c 'import numpy.typing, setuptools, wheel, venv, ensurepip'; }
+has_node() { needs "$1" 'there is no Node from 20.6 on' node --input-type=module -e 'import.meta.resolve("node:fs")'; }
+
 # Whether the script $2, with the words from $3 on, builds what the tests $1 need, or has built it. They are skipped where it may not, and fail where it can't.
 has_built() {
-    if [ "$only_built" = --if-built ] && ! bash "$2" --is-built "${@:3}"; then
-        skip "$1" "$2 has not built what it needs"
-        return 1
-    fi
+    [ "$only_built" != --if-built ] || needs "$1" "$2 has not built what it needs" bash "$2" --is-built "${@:3}" || return
     bash "$2" "${@:3}" > "$work/log" 2>&1 || { cat "$work/log" && count 1 "$1: what it needs isn't built" && return 1; }
-}
-
-# Whether a Python is there that builds and installs the package, and a Node that runs the one for JavaScript. Where not, the tests $1 are skipped.
-has_python() {
-    "$python" -c 'import numpy.typing, setuptools, wheel, venv, ensurepip' > /dev/null 2>&1 || { skip "$1" "$python has no numpy, setuptools, wheel or venv" && return 1; }
-}
-
-has_node() {
-    node --input-type=module -e 'import.meta.resolve("node:fs")' > /dev/null 2>&1 || { skip "$1" 'there is no Node from 20.6 on' && return 1; }
 }
 
 # Ends the part with the line that counts its tests.
@@ -95,12 +81,6 @@ end_part() {
     echo "$part: $passed passed, $failed failed$([ "$skipped" = 0 ] || echo ", $skipped skipped")"
     [ "$failed" = 0 ]
     exit
-}
-
-# Ends the part, which is skipped for this reason.
-skip_part() {
-    skip "$part" "$1"
-    end_part
 }
 
 # Whether the compiler makes programs with these flags that run here.

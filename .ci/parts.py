@@ -5,9 +5,9 @@ usage: .ci/parts.py test|gate|run
 
 test is what `make test` runs, gate what `make gate` runs, and run is both, for .ci/run. docs/develop/README.md says what each part shows.
 
-A part is a command. What it counts is its last line `[NAME: ]N passed, M failed[, K skipped]`, or what rt counts of a crate's tests; one without such a line,
-or that fails though it counts no failure, counts as one failed. Each tells its processor minutes. The last line adds up the counts, and the status is 0 where
-none failed. Whatever ends this script, all processes that it has started end with it, and its folder goes.
+A part is a command. What it counts is its last line `[NAME: ]N passed, M failed[, K skipped]`, or what rt counts of a crate's tests; without such a line, or if
+it fails though it counts no failure, it counts as one failed. The last line adds up the counts, and the status is 0 where none failed. Whatever ends this script,
+all processes that it has started end with it, and its folder goes.
 """
 import contextlib
 import ctypes
@@ -117,15 +117,16 @@ class Parts:
             print(f"{fault}: {what}", flush=True)
         self.counts.append(counts)
 
-    def beside(self, function, *words):
-        """Runs a function beside what follows. The thread is returned; what stops the function counts as one failed."""
-        def run():
-            try:
-                function(self, *words)
-            except OSError as error:
-                self.add(function.__name__, (0, 1, 0), f"it stopped, {error}")
+    def attempt(self, function, *words):
+        """Runs a function. What stops it counts as one failed."""
+        try:
+            function(self, *words)
+        except OSError as error:
+            self.add(function.__name__, (0, 1, 0), f"it stopped, {error}")
 
-        thread = threading.Thread(target=run, daemon=True)
+    def beside(self, *words):
+        """Runs a function beside what follows, in the thread that is returned."""
+        thread = threading.Thread(target=self.attempt, args=words, daemon=True)
         thread.start()
         return thread
 
@@ -186,10 +187,7 @@ def main():
     sys.stdout.reconfigure(errors="replace")
     parts = Parts()
     try:
-        try:
-            runs[sys.argv[1]](parts)
-        except OSError as error:
-            parts.add(sys.argv[1], (0, 1, 0), f"it stopped, {error}")
+        parts.attempt(runs[sys.argv[1]])
         print(sum_line(parts.counts), flush=True)
         return any(failed for _, failed, _ in parts.counts)
     finally:

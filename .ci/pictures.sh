@@ -2,7 +2,7 @@
 # Draws the pictures of docs/pictures anew and compares them, byte by byte: examples/draw. Beside them, draw.py refuses lines that are no contour, and puts a
 # label into the picture as it is. It takes the program of `make program`, or that of the word $I_SHAPE_TOOL. Where there is none, it is skipped.
 . "$(dirname "$0")/part.sh" || exit 1
-[ -n "${I_SHAPE_TOOL-}" ] || bash scripts/program/build.sh --is-built || skip_part '`make program` builds the program'
+[ -n "${I_SHAPE_TOOL-}" ] || needs pictures '`make program` builds the program' bash scripts/program/build.sh --is-built || end_part
 export I_SHAPE_TOOL=${I_SHAPE_TOOL:-$PWD/crates/i_shape_tool_main/out/i_shape_tool_main}
 
 # All that draw.py prints of the lines $1, by the words from $2 on.

@@ -1,16 +1,14 @@
 #!/usr/bin/env bash
-# Builds the extension of PostgreSQL and tests it in a server of its own: a copy of the installed one, whose data, socket and extensions lie in the folder of
-# this run, and which runs as nobody where root runs this. By pg_regress what the calls answer and refuse, keys, tables and plans; beside that a restore, keys
-# beside Python's, refused allocations, a processor without SSE4.2, and the commands of docs/POSTGIS.md. Before that the reader is fuzzed under the address
-# sanitizer. It takes the library of `make c`. Where that isn't built, or where PostgreSQL 15, its headers or PostGIS aren't there, it is skipped.
+# Builds the extension of PostgreSQL over the library of `make c`, and tests it in a server of its own: a copy of the installed one, whose data, socket and
+# extensions lie in the folder of this run, and which runs as nobody where root runs this.
 . "$(dirname "$0")/part.sh" || exit 1
 config=${PG_CONFIG:-/usr/lib/postgresql/15/bin/pg_config}
 library=$PWD/bindings/c/out
 here=bindings/postgres
 sanitizers=(-fsanitize=address,undefined -fno-sanitize-recover=undefined)
-[ -e "$("$config" --pgxs 2> /dev/null)" ] || skip_part 'there is no server of PostgreSQL 15 with its headers'
-[ -e "$("$config" --sharedir)/extension/postgis.control" ] || skip_part 'there is no PostGIS for PostgreSQL 15'
-bash bindings/c/build.sh --is-built || skip_part '`make c` builds the library that it takes'
+needs postgres 'there is no server of PostgreSQL 15 with its headers' [ -e "$("$config" --pgxs 2> /dev/null)" ] || end_part
+needs postgres 'there is no PostGIS for PostgreSQL 15' [ -e "$("$config" --sharedir)/extension/postgis.control" ] || end_part
+needs postgres '`make c` builds the library that it takes' bash bindings/c/build.sh --is-built || end_part
 
 # Runs what follows as whom the server runs as, which may not be root.
 as_server() { if [ "$(id -u)" = 0 ]; then setpriv --reuid=nobody --regid=nogroup --clear-groups "$@"; else "$@"; fi; }
@@ -45,7 +43,7 @@ ask() { psql -XAtq -v ON_ERROR_STOP=1 "$@" 2>&1; }
 
 # The reader, the writers and the order of forms, over mutated WKB. No block is left, which the sanitizer looks for at the end.
 test_fuzz() {
-    compiles_with "${sanitizers[@]}" || { skip 'mutated WKB' 'the compiler has no address sanitizer that runs here' && return; }
+    needs 'mutated WKB' 'the compiler has no address sanitizer that runs here' compiles_with "${sanitizers[@]}" || return
     "${CC:-cc}" -g -O1 "${sanitizers[@]}" -Iinclude "-I$here" "$here"/tests/fuzz.c "$here"/{wkb,forms}.c "$library/libi_shape.a" -lm -o "$work/fuzz"
     check 'mutated WKB' "$work/fuzz" 1000000
 }
@@ -71,7 +69,7 @@ test_restore() {
 
 # Keys of the package for Python, made of the same polygons.
 test_python_keys() {
-    "$python" -c 'import numpy.typing' 2> /dev/null || { skip "keys beside Python's" "$python has no numpy" && return; }
+    has_python "keys beside Python's" || return
     I_SHAPE_C_DIR=$library PYTHONPATH=bindings/python/src "$python" "$here/tests/keys.py" 20000 > "$work/keys"
     ask -c 'CREATE TABLE python_keys (wkb bytea, oriented bytea, unoriented bytea)' -c "\\copy python_keys FROM '$work/keys'"
     prints "keys beside Python's" '20000|20000|20000|20000' ask -c "SELECT count(*),

@@ -1,7 +1,6 @@
 #!/usr/bin/env bash
 # Builds the wheel of the Python package, installs it into an empty virtual environment and runs its tests there, the examples of its docstrings and of
-# docs/PYTHON.md among them. It takes the library of `make c`, or of the folder I_SHAPE_C_DIR, and Debian's Python, or the one that $PYTHON names. The tests that
-# need distributed, shapely, geopandas, matplotlib, mapbox_earcut, klayout or ogr2ogr are skipped where these aren't there.
+# docs/PYTHON.md among them. It takes the library of `make c`, or of the folder I_SHAPE_C_DIR, and Debian's Python, or the one that $PYTHON names.
 . "$(dirname "$0")/part.sh" || exit 1
 
 install_package() {
@@ -18,7 +17,7 @@ run_tests() {
 }
 
 has_python 'python package' || end_part
-[ -n "${I_SHAPE_C_DIR-}" ] || bash bindings/c/build.sh --is-built || skip_part '`make c` builds the library that it takes'
+[ -n "${I_SHAPE_C_DIR-}" ] || needs 'python package' '`make c` builds the library that it takes' bash bindings/c/build.sh --is-built || end_part
 install_package > "$work/log" 2>&1 || { cat "$work/log" && count 1 'the wheel' && end_part; }
 unset I_SHAPE_C_DIR
 add 'the tests' run_tests

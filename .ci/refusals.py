@@ -2,9 +2,8 @@
 """Refuses the growths of memory of the calls in crates/refusals one by one.
 
 Runs each test with its growth of number N refused, for N = 1, 2, .. up to the first run in which none is. A test prints 'NAME begins' before a call, and behind it
-'NAME done' or 'NAME refused'. growths.txt there lists how many growths a call makes: it passes where it was refused at so many, and done in the last run. It is a
-fault where a run fails, or leaves a block of memory; where a call is done though a growth was refused within it, or refused though none was; and where a call isn't
-listed, or is told of twice.
+'NAME done' or 'NAME refused'. growths.txt there lists how many growths a call makes: it passes where it was refused at so many, and done in the last run. Faults are
+a run that fails or leaves a block of memory, a call that is done though a growth was refused in it, or refused though none was, and one that isn't listed once.
 """
 import collections
 import os
@@ -16,7 +15,6 @@ import tempfile
 TOP = os.path.dirname(os.path.dirname(os.path.realpath(__file__)))
 CRATE = f"{TOP}/crates/refusals"
 PROGRAM = f"{CRATE}/out/refusals_tests"
-MOST = 200
 
 
 def build(library):
@@ -71,7 +69,7 @@ def main():
         build(library)
         tests = subprocess.run([PROGRAM, "--list"], stdout=subprocess.PIPE, text=True, check=True).stdout
         for test in re.findall(r"^(\S+): test$", tests, re.M):
-            for growth in range(1, MOST):
+            for growth in range(1, 200):
                 run = Run(library, test, growth)
                 faults += [f"{test}, growth {growth}: {fault}" for fault in run.faults]
                 refused.update(run.refused)

@@ -9,8 +9,7 @@ void *__libc_realloc(void *memory, size_t size);
 void __libc_free(void *memory);
 
 // How many growths there are up to the one to refuse; 0 where none is left to refuse.
-static long growths_left = 0;
-static long blocks = 0;
+static long growths_left, blocks;
 
 __attribute__((constructor)) static void read_environment(void) {
     const char *number = getenv("REFUSED_GROWTH");

@@ -3,8 +3,8 @@
 # part: docs/SCALING.md. It takes the program of `make program`, or that of the word $I_SHAPE_TOOL. Where there is none, or no parallel, it is skipped.
 . "$(dirname "$0")/part.sh" || exit 1
 program=${I_SHAPE_TOOL:-crates/i_shape_tool_main/out/i_shape_tool_main}
-[ -n "${I_SHAPE_TOOL-}" ] || bash scripts/program/build.sh --is-built || skip_part '`make program` builds the program'
-parallel --version > /dev/null 2>&1 || skip_part 'there is no parallel'
+[ -n "${I_SHAPE_TOOL-}" ] || needs scaling '`make program` builds the program' bash scripts/program/build.sh --is-built || end_part
+has scaling parallel || end_part
 
 # The program on each part of standard input, as many words of parallel as are given first.
 parted() { parallel --will-cite --pipe --keep-order --jobs 4 "${@:1:$#-1}" "$program" "${@: -1}"; }
@@ -22,7 +22,6 @@ for command in despike area canonical compact simplify; do
         parted --block 7k $command < "$work/text" 2>&1 | cmp "$work/one" -
     count $? "the parts of $command"
 done
-# what one run of simplify answers is compared with what others do
 parted -N 1000 simplify < "$work/text" | cmp "$work/one" -
 count $? 'parts of 1000 lines'
 split -n l/4 "$work/text" "$work/part." &&

@@ -1,8 +1,6 @@
 #!/usr/bin/env python3
 """Tries the wrong bodies in crates/NAME/wrong/: the prover must refuse each at the function that it turns.
 
-usage: .ci/wrong.py [--lanes N] [--anew] [--write] [--only WORD..]
-
 docs/develop/README.md says what an edit is. Edits are put into a copy of their crate, at most one for each function, and checked together, over what earlier
 checks kept. An edit passes where the prover leaves a goal of its own function open, and one of these is of the clause that the edit names: the goal
 'returns-clause-NAME', say, or the goal NAME itself. A fault of a function that it calls, or a text that cannot be read, is not enough. Rounds go on until each
@@ -10,11 +8,6 @@ edit is judged. The libraries below a crate whose edits are tried are proved fir
 
 An edit that passed is noted in ~/.cache/raspochre, or below $XDG_CACHE_HOME, by a sum of what it was judged by: the kit, this script, the edit, its crate's line
 in crates.txt, and the code, contracts and proofs of its crate and of those below. While none of these changes, it passes again without a check, in any clone.
-
---lanes N      tries the edits of as many crates at once; as many as there are processors where it isn't given
---anew         tries the edits that are noted too
---write        writes the line 'clause' into each edit that passes and has none: read it, since it only says what was open
---only WORD..  tries the edits of these crates, and those whose names contain one of these words
 """
 import argparse
 import contextlib
@@ -177,10 +170,6 @@ class Notes:
                     with open(self.place(edit), "w", encoding="utf-8") as note:
                         note.write("\n".join(edit.goals))
 
-    def drop(self, edit):
-        with contextlib.suppress(OSError):
-            os.remove(self.place(edit))
-
 
 class Trial:
     """The wrong bodies of one crate, tried in rounds on one copy of it."""
@@ -212,7 +201,8 @@ class Trial:
 
     def judge(self, edit, why_not):
         self.left.remove(edit)
-        self.notes.drop(edit)
+        with contextlib.suppress(OSError):
+            os.remove(self.notes.place(edit))
         tell(edit, why_not)
 
     def refuse(self, edit, goals, when=""):
@@ -278,10 +268,10 @@ class Trial:
 def main():
     processors = len(os.sched_getaffinity(0))
     parser = argparse.ArgumentParser(description=__doc__, formatter_class=argparse.RawDescriptionHelpFormatter)
-    parser.add_argument("--lanes", type=int, default=processors, metavar="N")
-    parser.add_argument("--anew", action="store_true")
-    parser.add_argument("--write", action="store_true")
-    parser.add_argument("--only", nargs="+", default=[], metavar="WORD")
+    parser.add_argument("--lanes", type=int, default=processors, metavar="N", help="try the edits of as many crates at once")
+    parser.add_argument("--anew", action="store_true", help="try the edits that are noted too")
+    parser.add_argument("--write", action="store_true", help="write the line 'clause' into edits that pass and have none: read it, as it only says what was open")
+    parser.add_argument("--only", nargs="+", default=[], metavar="WORD", help="try the edits of these crates, and those with one of these words in their names")
     asked = parser.parse_args()
     root = os.path.dirname(os.path.dirname(os.path.realpath(__file__)))
     os.chdir(root)
@@ -296,7 +286,6 @@ def main():
             tell(edit, "BAD EDIT: crates.txt does not list its crate")
     edits = {crate: [it for it in chosen if it.crate == name] for name, crate in listed.items()}
     trials = [Trial(crate, its, asked.write).sort_out(asked.anew) for crate, its in edits.items() if its]
-    noted = sum(len(it.passed) for it in trials)
     open_ones = sorted((it for it in trials if it.left), key=lambda it: -len(it.left))
     # its first call sets a signal's handler, which only the main thread may
     KIT.guarded()
@@ -305,12 +294,9 @@ def main():
         with ThreadPoolExecutor(asked.lanes) as pool:
             list(pool.map(Trial.run, open_ones))
     passed = sum(len(it.passed) for it in trials)
-    # an edit that was not judged counts as failed
-    failed = len(chosen) - passed
+    failed = len(chosen) - passed  # with those that were not judged
     # notes that no run has used for sixty days go
     subprocess.run(["find", NOTES, "-type", "f", "-mtime", "+60", "-delete"], stderr=subprocess.DEVNULL, check=False)
-    if noted:
-        print(f"{noted} wrong bodies passed in earlier runs on this machine, and nothing that they were judged by has changed")
     if unnamed := sum(not it.clause for it in chosen):
         print(f"{unnamed} wrong bodies name no clause")
     print(f"wrong bodies: {passed} passed, {failed} failed")
