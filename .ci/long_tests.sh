@@ -1,6 +1,5 @@
 #!/usr/bin/env bash
-# Runs the test of the lists of six points of a grid in crates/i_shape_tests over all 46,656 of them; `rt test` runs it over one of eleven. Where the tests
-# aren't built, rt proves them first.
+# Runs the test of the lists of six points of a grid in crates/i_shape_tests over all 46,656 of them; `rt test` runs it over one of eleven.
 . "$(dirname "$0")/part.sh" || exit 1
 program=crates/i_shape_tests/out/i_shape_tests_tests
 test=small_grid::lists_of_six_points_are_cleaned_as_by_plain_loops

@@ -1,6 +1,5 @@
 #!/usr/bin/env bash
-# Draws the pictures of docs/pictures anew and compares them, byte by byte: examples/draw. Beside them, draw.py refuses lines that are no contour, and puts a
-# label into the picture as it is. It takes the program of `make program`, or that of the word $I_SHAPE_TOOL. Where there is none, it is skipped.
+# Draws the pictures of docs/pictures anew and compares them, byte by byte, by the program of `make program`, or that of the word $I_SHAPE_TOOL: examples/draw.
 . "$(dirname "$0")/part.sh" || exit 1
 [ -n "${I_SHAPE_TOOL-}" ] || needs pictures '`make program` builds the program' bash scripts/program/build.sh --is-built || end_part
 export I_SHAPE_TOOL=${I_SHAPE_TOOL:-$PWD/crates/i_shape_tool_main/out/i_shape_tool_main}
