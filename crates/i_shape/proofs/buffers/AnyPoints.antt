@@ -20,24 +20,20 @@ readable_all n (range ∷ ranges) h =
     let ends : nat_le range.end n ≡ true = le-leb range.end n here.1 in
     rw (starts, ends) (ap (λ w. range ∷ w) (readable_all n ranges (All-tail (InOrder n) range ranges h)))
 
--- where its lists are those of paths end to end
-pub LieEndToEnd-from_lists : {P : Type 0} (held : List P) (named : List (Range ℕ)) (paths : List (List P)) →
-    held ≡ concatenated paths → named ≡ end_to_end 0 paths → LieEndToEnd held named paths
-LieEndToEnd-from_lists held named paths points_are ranges_are =
-    record {
-      points = points_are;
-      ranges = ranges_are;
-      readable = rw (points_are, ranges_are) (InOrder_concatenated paths);
-      slices = rw (points_are, ranges_are) (slices_concatenated paths);
-      lent = rw (points_are, ranges_are) (ap (slices (concatenated paths)) (readable_all (length (concatenated paths)) (end_to_end 0 paths) (InOrder_concatenated paths)) ∙ slices_concatenated paths);
-    }
-
 -- where the paths were appended to empty lists, whose length is n
 pub LieEndToEnd-appended : {P : Type 0} {before held : List P} {first named : List (Range ℕ)} {paths : List (List P)} {n : ℕ} →
     held ≡ before ++ concatenated paths → named ≡ first ++ end_to_end n paths → before ≡ [] → first ≡ [] → n ≡ length before → LieEndToEnd held named paths
 LieEndToEnd-appended {P} {before} {held} {first} {named} {paths} {n} points_are ranges_are no_points no_ranges at_n =
     let at_0 : n ≡ 0 = at_n ∙ ap length no_points in
-    LieEndToEnd-from_lists held named paths (points_are ∙ ap (λ w. w ++ concatenated paths) no_points) (rw (ranges_are, no_ranges, at_0) refl)
+    let whole : held ≡ concatenated paths = points_are ∙ ap (λ w. w ++ concatenated paths) no_points in
+    let from_0 : named ≡ end_to_end 0 paths = rw (ranges_are, no_ranges, at_0) refl in
+    record {
+      points = whole;
+      ranges = from_0;
+      readable = rw (whole, from_0) (InOrder_concatenated paths);
+      slices = rw (whole, from_0) (slices_concatenated paths);
+      lent = rw (whole, from_0) (ap (slices (concatenated paths)) (readable_all (length (concatenated paths)) (end_to_end 0 paths) (InOrder_concatenated paths)) ∙ slices_concatenated paths);
+    }
 
 concatenated_one_shape : {P : Type 0} (paths : List (List P)) → concatenated (in_one_shape paths) ≡ paths
 concatenated_one_shape [] = refl

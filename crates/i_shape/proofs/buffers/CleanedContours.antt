@@ -10,7 +10,7 @@ use Rattle.i_shape_core.specs.Point.{Point}
 use Rattle.i_shape_core.specs.IntPoint.{point_of, contour_of}
 use Rattle.i_shape_core.specs.declared.point.IntPoint.{IntPoint}
 use Rattle.i_shape.specs.Flat.{part_of, slices}
-use Rattle.i_shape.proofs.lists.Surviving.{mapped-read, mapped-more}
+use Rattle.i_shape.proofs.lists.Surviving.{same_read, mapped-read, mapped-more}
 
 -- the contour that a range of points names, over whole numbers
 abbrev pub contour_at : {T : Type 0} → (T → ℤ) → List (IntPoint T) → Range ℕ → List Point
@@ -22,17 +22,14 @@ contours_in-map value points ranges = map-map (contour_of value) (part_of points
 
 -- A loop over ranges, at the range of place i.
 module _ {T : Type 0} (value : T → ℤ) (points : List (IntPoint T)) (ranges : List (Range ℕ)) (i : ℕ) (d : Range ℕ) (lt : i < length ranges) where
-  same_read : get_or ranges i d ≡ get_or ranges i (get_or ranges i d)
-  same_read = get_or_default ranges i d (get_or ranges i d) lt
-
   -- what holds of all contours holds of the one that it names
   pub contour-read : (P : List Point → Type 0) → All P (map (contour_of value) (slices points ranges)) → P (contour_at value points (get_or ranges i d))
-  contour-read P all = mapped-read (contour_at value points) P ranges i (get_or ranges i d) lt same_read (rw (contours_in-map value points ranges) at all)
+  contour-read P all = mapped-read (contour_at value points) P ranges i (get_or ranges i d) lt (same_read ranges i d lt) (rw (contours_in-map value points ranges) at all)
 
   -- what holds of the contours before and of this one holds of the contours up to it
   pub contours-more : (P : List Point → Type 0) → All P (map (contour_at value points) (take i ranges)) → P (contour_at value points (get_or ranges i d)) →
       All P (map (contour_at value points) (take (i + 1) ranges))
-  contours-more P before here = mapped-more (contour_at value points) P ranges i (get_or ranges i d) lt same_read before here
+  contours-more P before here = mapped-more (contour_at value points) P ranges i (get_or ranges i d) lt (same_read ranges i d lt) before here
 
 -- once all ranges are read
 pub contours-all : {T : Type 0} (value : T → ℤ) (points : List (IntPoint T)) (ranges : List (Range ℕ)) (i : ℕ) (P : List (List Point) → Type 0) → length ranges ≤ i →
@@ -43,13 +40,3 @@ contours-all value points ranges i P done holds = rw (contours_in-map value poin
 pub map-option_to_list : {X Y : Type 0} (f : X → Y) (a : Option X) → map f (option_to_list a) ≡ option_to_list (option_map f a)
 map-option_to_list f None = refl
 map-option_to_list f (Some x) = refl
-
--- where all points are safe, those of each contour are
-pub safe-slices : {T : Type 0} (value : T → ℤ) (P : Point → Type 0) (points : List (IntPoint T)) (ranges : List (Range ℕ)) → All P (contour_of value points) →
-    All (All P) (map (contour_of value) (slices points ranges))
-safe-slices value P points [] safe = All-nil (All P)
-safe-slices value P points (range ∷ ranges) safe =
-    let part = All-take P (range.end - range.start) (drop range.start (contour_of value points)) (All-drop P range.start (contour_of value points) safe) in
-    let named : take (range.end - range.start) (drop range.start (contour_of value points)) ≡ contour_of value (part_of points range) =
-    ap (take (range.end - range.start)) (drop-map (point_of value) range.start points) ∙ take-map (point_of value) (range.end - range.start) (drop range.start points) in
-    All-cons (All P) (contour_of value (part_of points range)) (map (contour_of value) (slices points ranges)) (rw named at part) (safe-slices value P points ranges safe)

@@ -20,7 +20,7 @@ use Rattle.i_shape.proofs.buffers.CleanedContours.{map-option_to_list}
 use Rattle.i_shape.proofs.buffers.Contours.{HoldsContours-from_lists}
 use Rattle.i_shape.proofs.lists.EndToEnd.{concatenated-append, end_to_end-append, length-end_to_end}
 use Rattle.i_shape.proofs.buffers.Shapes.{HoldsShapes-from_lists}
-use Rattle.i_shape.proofs.lists.Surviving.{mapped-read, mapped-more, survivors-more}
+use Rattle.i_shape.proofs.lists.Surviving.{same_read, mapped-read, mapped-more, survivors-more}
 
 from_zero : (n : ℕ) → n ≡ 0 + n
 from_zero n = omega arith
@@ -91,17 +91,14 @@ named-map value points contour_ranges ranges = map-map (contours_of value) (λ r
 
 -- A loop over shape ranges, at that of place i.
 module _ {T : Type 0} (value : T → ℤ) (points : List (IntPoint T)) (contour_ranges ranges : List (Range ℕ)) (i : ℕ) (d : Range ℕ) (lt : i < length ranges) where
-  same_read : get_or ranges i d ≡ get_or ranges i (get_or ranges i d)
-  same_read = get_or_default ranges i d (get_or ranges i d) lt
-
   -- what holds of all shapes holds of the one that this range names
   pub shape-read : (P : List (List Point) → Type 0) → All P (map (contours_of value) (shapes points contour_ranges ranges)) → P (named_at value points contour_ranges (get_or ranges i d))
-  shape-read P all = mapped-read (named_at value points contour_ranges) P ranges i (get_or ranges i d) lt same_read (rw (named-map value points contour_ranges ranges) at all)
+  shape-read P all = mapped-read (named_at value points contour_ranges) P ranges i (get_or ranges i d) lt (same_read ranges i d lt) (rw (named-map value points contour_ranges ranges) at all)
 
   -- what holds of the shapes before and of this one holds of the shapes up to it
   pub shapes-more : (P : List (List Point) → Type 0) → All P (map (named_at value points contour_ranges) (take i ranges)) → P (named_at value points contour_ranges (get_or ranges i d))
       → All P (map (named_at value points contour_ranges) (take (i + 1) ranges))
-  shapes-more P before here = mapped-more (named_at value points contour_ranges) P ranges i (get_or ranges i d) lt same_read before here
+  shapes-more P before here = mapped-more (named_at value points contour_ranges) P ranges i (get_or ranges i d) lt (same_read ranges i d lt) before here
 
   -- a buffer with the answers of the shapes before has, with one answer more, those of the shapes up to it
   pub clean-more : {Answer : List Point → Option (List Point) → Type 0} (source : List (List (IntPoint T))) (old new : FlatShapesBuffer T) → HoldsShapes old (shapes_in old) → AppendsShapeAnswer Answer value source old new → source ≡ slices points (part_of contour_ranges (get_or ranges i d))
@@ -109,7 +106,7 @@ module _ {T : Type 0} (value : T → ℤ) (points : List (IntPoint T)) (contour_
   clean-more {Answer = Answer} source old new held step same before =
       let here : ShapeClean Answer (named_at value points contour_ranges (get_or ranges i d)) (option_map (contours_of value) step.answer) =
       subst (λ w. ShapeClean Answer (contours_of value w) (option_map (contours_of value) step.answer)) same step.cleaned in
-      rw (named-more value source old new held step) (survivors-more (named_at value points contour_ranges) (ShapeClean Answer) ranges i (get_or ranges i d) (named_shapes value old) (option_map (contours_of value) step.answer) lt same_read before here)
+      rw (named-more value source old new held step) (survivors-more (named_at value points contour_ranges) (ShapeClean Answer) ranges i (get_or ranges i d) (named_shapes value old) (option_map (contours_of value) step.answer) lt (same_read ranges i d lt) before here)
 
 -- once all ranges are read
 pub shapes-all : {T : Type 0} (value : T → ℤ) (points : List (IntPoint T)) (contour_ranges ranges : List (Range ℕ)) (i : ℕ) (P : List (List (List Point)) → Type 0) → length ranges ≤ i
@@ -123,10 +120,6 @@ held-none buffer held = subst (HoldsShapes buffer) (sym held.shapes) held
 -- an empty buffer has the answers of no shapes
 pub clean-none : {T : Type 0} (Answer : List Point → Option (List Point) → Type 0) (value : T → ℤ) (buffer : FlatShapesBuffer T) → HoldsShapes buffer [] → ListClean Answer [] (named_shapes value buffer)
 clean-none Answer value buffer held = ([], tt, ap (map (contours_of value)) held.shapes)
-
--- an error is no answer
-pub err_not_ok : {A E : Type 0} (y : E) (a : A) → Err y ≡ Ok a → ⊥
-err_not_ok y a e = cc
 
 -- What is appended for a shape of contour ranges.
 module _ {T : Type 0} {Answer : List Point → Option (List Point) → Type 0} (value : T → ℤ) (source : List (IntPoint T)) (named : List (Range ℕ)) (old new : FlatShapesBuffer T) where

@@ -71,18 +71,14 @@ last_shape points ranges shape n range count is_range =
     ∙ ap (λ w. slices (points ++ w) (end_to_end (length points) shape)) (sym (append-nil (concatenated shape)))
     ∙ slices-end_to_end points [] shape (length points) refl
 
--- where each contour range and each shape range lies within
-readable_from_within : (n : ℕ) (contour_ranges shape_ranges : List (Range ℕ)) → All (InOrder n) contour_ranges → All (InOrder (length contour_ranges)) shape_ranges →
-    All (IsReadableShape n contour_ranges) shape_ranges
-readable_from_within n contour_ranges shape_ranges contours_within shapes_within =
-    All-weaker (InOrder (length contour_ranges)) (IsReadableShape n contour_ranges)
-    (λ range within forwards. (within.1, All-take (InOrder n) _ _ (All-drop (InOrder n) _ _ contours_within))) shape_ranges shapes_within
-
 -- the shape ranges of shapes end to end can be read
 pub readable_concatenated : {P : Type 0} (list : List (List (List P))) → All (IsReadableShape (length (concatenated (concatenated list))) (end_to_end 0 (concatenated list))) (end_to_end 0 list)
 readable_concatenated list =
-    let fits : 0 + length (concatenated list) ≤ length (end_to_end 0 (concatenated list)) = omega (arith, length-end_to_end 0 (concatenated list)) in
-    readable_from_within _ _ _ (InOrder_concatenated (concatenated list)) (InOrder-end_to_end list 0 _ fits)
+    let ranges = end_to_end 0 (concatenated list) in
+    let fits : 0 + length (concatenated list) ≤ length ranges = omega (arith, length-end_to_end 0 (concatenated list)) in
+    let within = InOrder (length (concatenated (concatenated list))) in
+    All-weaker (InOrder (length ranges)) (IsReadableShape (length (concatenated (concatenated list))) ranges)
+    (λ range inside forwards. (inside.1, All-take within _ _ (All-drop within _ _ (InOrder_concatenated (concatenated list))))) (end_to_end 0 list) (InOrder-end_to_end list 0 _ fits)
 
 -- one more shape keeps the others readable, and is readable
 pub readable-append : {P : Type 0} (points : List P) (ranges shape_ranges : List (Range ℕ)) (shape : List (List P)) (n : ℕ) (range : Range ℕ) →

@@ -36,10 +36,6 @@ left_read : {T : Type 0} (value : T → ℤ) (points : List (IntPoint T)) → sl
 left_read value [] = refl
 left_read value (p ∷ points) = refl
 
-left_none : {X : Type 0} (xs : List X) → length xs ≡ 0 → left_of xs ≡ None
-left_none [] none = refl
-left_none (x ∷ xs) none = absurd (omega (arith, none))
-
 left_some : {X : Type 0} (xs : List X) → 0 < length xs → left_of xs ≡ Some xs
 left_some [] some = absurd (omega (arith, some))
 left_some (x ∷ xs) some = refl

@@ -1,5 +1,0 @@
-use Rattle.std.proofs.Common.{rules}
-use Rattle.i_shape.proofs.flat.buffer.contours.FlatContoursBuffer.as_first_contour.Goals as goal
-
-pub returns : goal.returns
-returns g c = search rules

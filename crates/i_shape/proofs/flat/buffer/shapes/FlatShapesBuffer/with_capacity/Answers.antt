@@ -1,8 +1,0 @@
-use Rattle.std.proofs.Common.{rules}
-use Rattle.i_shape.proofs.flat.buffer.shapes.FlatShapesBuffer.with_capacity.Goals as goal
-
-pub returns-clause-ok : goal.returns-clause-ok
-returns-clause-ok g c = search rules
-
-pub returns-clause-room : goal.returns-clause-room
-returns-clause-room g c = search rules

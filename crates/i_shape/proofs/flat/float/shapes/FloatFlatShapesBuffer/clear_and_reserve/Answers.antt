@@ -1,5 +1,0 @@
-use Rattle.std.proofs.Common.{rules}
-use Rattle.i_shape.proofs.flat.float.shapes.FloatFlatShapesBuffer.clear_and_reserve.Goals as goal
-
-pub returns-in_err-reserve_total-3-clause-err : goal.returns-in_err-reserve_total-3-clause-err
-returns-in_err-reserve_total-3-clause-err g c = search rules

@@ -1,5 +1,0 @@
-use Rattle.std.proofs.Common.{rules}
-use Rattle.i_shape.proofs.flat.float.shapes.FloatFlatShapesBuffer.set_flat.Goals as goal
-
-pub returns-clause-ok : goal.returns-clause-ok
-returns-clause-ok g c = search rules

@@ -1,5 +1,0 @@
-use Rattle.std.proofs.Common.{rules}
-use Rattle.i_shape.proofs.flat.float.shapes.FloatFlatShapesBuffer.with_capacity.Goals as goal
-
-pub returns-clause-room : goal.returns-clause-room
-returns-clause-room g c = search rules

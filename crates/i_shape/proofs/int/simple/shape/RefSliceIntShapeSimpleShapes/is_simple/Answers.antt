@@ -1,5 +1,0 @@
-use Rattle.std.proofs.Common.{rules}
-use Rattle.i_shape.proofs.int.simple.shape.RefSliceIntShapeSimpleShapes.is_simple.Goals as goal
-
-pub returns : goal.returns
-returns g c = search rules
