@@ -30,10 +30,18 @@ pub record HasShapeLists {P : Type 0} (buffer : FloatFlatShapesBuffer P) (held :
 abbrev pub HasListsRoom : {P : Type 0} → FloatFlatContoursBuffer P → ℕ → ℕ → Type 0
 HasListsRoom buffer points contours = (points ≤ vec_capacity buffer.points) × (contours ≤ vec_capacity buffer.ranges)
 
+-- the new buffer has room for all that the old one had room for
+abbrev pub KeepsListsRoom : {P : Type 0} → FloatFlatContoursBuffer P → FloatFlatContoursBuffer P → Type 0
+KeepsListsRoom old new = HasListsRoom new (vec_capacity old.points) (vec_capacity old.ranges)
+
 -- the buffer of shapes has room for at least that many points, contours and shapes in all
 abbrev pub HasGroupsRoom : {P : Type 0} → FloatFlatShapesBuffer P → ℕ → ℕ → ℕ → Type 0
 HasGroupsRoom buffer points contours shapes =
     (points ≤ vec_capacity buffer.points) × (contours ≤ vec_capacity buffer.contour_ranges) × (shapes ≤ vec_capacity buffer.shape_ranges)
+
+-- the new buffer has room for all that the old one had room for
+abbrev pub KeepsGroupsRoom : {P : Type 0} → FloatFlatShapesBuffer P → FloatFlatShapesBuffer P → Type 0
+KeepsGroupsRoom old new = HasGroupsRoom new (vec_capacity old.points) (vec_capacity old.contour_ranges) (vec_capacity old.shape_ranges)
 
 -- the two buffers of shapes have the same points and the same ranges
 abbrev pub SameGroups : {P : Type 0} → FloatFlatShapesBuffer P → FloatFlatShapesBuffer P → Type 0

@@ -5,7 +5,7 @@ ghost use Rattle.std.specs.List.{All};
 ghost use Rattle.std.specs.Iterator.{Drains, IsFinite};
 ghost use Rattle.i_shape_source.specs.Paths.{paths_of_shape, concatenated};
 ghost use Rattle.i_shape.specs.Flat.{InOrder, slices, behind};
-ghost use Rattle.i_shape.specs.FloatBuffers.{HasLists, LieEndToEnd, HasListsRoom};
+ghost use Rattle.i_shape.specs.FloatBuffers.{HasLists, LieEndToEnd, HasListsRoom, KeepsListsRoom};
 
 use super::fill::{append_items, append_paths, append_ranges, checked_path_counts, greatest_end};
 use crate::ShapeError;
@@ -110,6 +110,7 @@ impl<P: Copy> FloatFlatContoursBuffer<P> {
         ensures err { OnErr result (HasLists self.new self.old.points.items self.old.ranges.items) }
         ensures room { OnOk result (HasListsRoom self.new points contours) }
         ensures reserved { HasListsRoom self.old points contours → IsOk result }
+        ensures keeps_room { KeepsListsRoom self.old self.new }
         ensures memory { IsOkUnless result ShapeError.OutOfMemory }
     {
         reserve_total(&mut self.points, points)?;
@@ -130,6 +131,7 @@ impl<P: Copy> FloatFlatContoursBuffer<P> {
             ↔ (usize.MAX < length self.old.points.items + length contour.now) }
         ensures reserved { HasListsRoom self.old (length self.old.points.items + length contour.now)
             (length self.old.ranges.items + 1) → IsOk result }
+        ensures keeps_room { KeepsListsRoom self.old self.new }
     {
         if self.points.len().checked_add(contour.len()).is_none() {
             return Err(ShapeError::TooManyPoints);
@@ -152,6 +154,7 @@ impl<P: Copy> FloatFlatContoursBuffer<P> {
             × HasLists self.new (self.old.points.items ++ items)
             (self.old.ranges.items ++ behind (length self.old.points.items) (length items) ∷ [])) }
         ensures err { OnErr result (HasLists self.new self.old.points.items self.old.ranges.items) }
+        ensures keeps_room { KeepsListsRoom self.old self.new }
         ensures memory { IsOkUnless result ShapeError.OutOfMemory }
     {
         let start = self.points.len();
@@ -168,6 +171,7 @@ impl<P: Copy> FloatFlatContoursBuffer<P> {
         ensures reserved { HasListsRoom self.old (length points.now) (length ranges.now)
             → IsOk result }
         ensures err { OnErr result (HasLists self.new self.old.points.items self.old.ranges.items) }
+        ensures keeps_room { KeepsListsRoom self.old self.new }
         ensures memory { IsOkUnless result ShapeError.OutOfMemory }
     {
         self.clear_and_reserve(points.len(), ranges.len())?;
@@ -193,6 +197,7 @@ impl<P: Copy> FloatFlatContoursBuffer<P> {
         ensures err { OnErr result (HasLists self.new [] []) }
         ensures room { OnOk result
             (All (λ range. range.end ≤ vec_capacity self.new.points) ranges.now) }
+        ensures keeps_room { KeepsListsRoom self.old self.new }
         ensures memory { IsOkUnless result ShapeError.OutOfMemory }
     {
         self.clear();
@@ -225,6 +230,7 @@ impl<P: ShapePoint> FloatFlatContoursBuffer<P> {
             ⊎ (usize.MAX < length (R.paths resource))) }
         ensures reserved { HasListsRoom self.old (length (concatenated (R.paths resource)))
             (length (R.paths resource)) → IsOk result }
+        ensures keeps_room { KeepsListsRoom self.old self.new }
     {
         let counts = checked_path_counts(resource).ok_or(ShapeError::TooManyPoints)?;
         self.clear_and_reserve(counts.points, counts.contours)?;

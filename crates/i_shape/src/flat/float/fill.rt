@@ -22,7 +22,8 @@ pub fn greatest_end(ranges: &[Range<usize>]) -> usize
 /// Appends ranges. The list must have room.
 pub fn append_ranges(list: &mut Vec<Range<usize>>, ranges: &[Range<usize>])
     requires { vec_len list.old + length ranges.now ≤ vec_capacity list.old }
-    ensures { list.new.items ≡ list.old.items ++ ranges.now }
+    ensures items { list.new.items ≡ list.old.items ++ ranges.now }
+    ensures capacity { vec_capacity list.old ≤ vec_capacity list.new }
 {
     for range in ranges {
         list.push_reserved(range.start..range.end);
@@ -87,6 +88,8 @@ pub fn append_paths<'a, P: ShapePoint + 'a, R: ShapeResource<'a, P> + Copy>(
     ensures points { points.new.items ≡ points.old.items ++ concatenated (R.paths resource) }
     ensures ranges { ranges.new.items ≡ ranges.old.items
         ++ end_to_end (vec_len points.old) (R.paths resource) }
+    ensures points_capacity { vec_capacity points.old ≤ vec_capacity points.new }
+    ensures ranges_capacity { vec_capacity ranges.old ≤ vec_capacity ranges.new }
 {
     for path in resource.iter_paths() {
         append_contour(points, ranges, path);

@@ -5,7 +5,7 @@ ghost use Rattle.std.specs.List.{All};
 ghost use Rattle.std.specs.Iterator.{Drains, IsFinite};
 ghost use Rattle.i_shape_source.specs.Paths.{paths_of_shape, shape_lists, concatenated};
 ghost use Rattle.i_shape.specs.Flat.{InOrder, IsReadableShape, slices, shapes, behind};
-ghost use Rattle.i_shape.specs.FloatBuffers.{HasShapeLists, LieEndToEnd, FormOneShape, SameGroups, HasGroupsRoom};
+ghost use Rattle.i_shape.specs.FloatBuffers.{HasShapeLists, LieEndToEnd, FormOneShape, SameGroups, HasGroupsRoom, KeepsGroupsRoom};
 
 use super::fill::{append_items, append_paths, append_ranges, checked_path_counts, greatest_end};
 use crate::ShapeError;
@@ -163,6 +163,7 @@ impl<P: Copy> FloatFlatShapesBuffer<P> {
         ensures err { OnErr result (SameGroups self.old self.new) }
         ensures room { OnOk result (HasGroupsRoom self.new points contours shapes) }
         ensures reserved { HasGroupsRoom self.old points contours shapes → IsOk result }
+        ensures keeps_room { KeepsGroupsRoom self.old self.new }
         ensures memory { IsOkUnless result ShapeError.OutOfMemory }
     {
         reserve_total(&mut self.points, points)?;
@@ -187,6 +188,7 @@ impl<P: Copy> FloatFlatShapesBuffer<P> {
             (length self.old.points.items + length contour.now)
             (length self.old.contour_ranges.items + 1) (length self.old.shape_ranges.items + 1)
             → IsOk result }
+        ensures keeps_room { KeepsGroupsRoom self.old self.new }
     {
         if self.points.len().checked_add(contour.len()).is_none() {
             return Err(ShapeError::TooManyPoints);
@@ -215,6 +217,7 @@ impl<P: Copy> FloatFlatShapesBuffer<P> {
             ∷ []) (self.old.shape_ranges.items ++ behind (length self.old.contour_ranges.items) 1
             ∷ [])) }
         ensures err { OnErr result (SameGroups self.old self.new) }
+        ensures keeps_room { KeepsGroupsRoom self.old self.new }
         ensures memory { IsOkUnless result ShapeError.OutOfMemory }
     {
         let start = self.points.len();
@@ -241,6 +244,7 @@ impl<P: Copy> FloatFlatShapesBuffer<P> {
         ensures err { OnErr result (SameGroups self.old self.new) }
         ensures reserved { HasGroupsRoom self.old (length points.now) (length contour_ranges.now)
             (length shape_ranges.now) → IsOk result }
+        ensures keeps_room { KeepsGroupsRoom self.old self.new }
         ensures memory { IsOkUnless result ShapeError.OutOfMemory }
     {
         self.clear_and_reserve(points.len(), contour_ranges.len(), shape_ranges.len())?;
@@ -268,6 +272,7 @@ impl<P: Copy> FloatFlatShapesBuffer<P> {
         ensures err { OnErr result (HasShapeLists self.new [] [] []) }
         ensures room { OnOk result
             (All (λ range. range.end ≤ vec_capacity self.new.points) contour_ranges.now) }
+        ensures keeps_room { KeepsGroupsRoom self.old self.new }
         ensures memory { IsOkUnless result ShapeError.OutOfMemory }
     {
         self.clear();
@@ -305,6 +310,7 @@ impl<P: ShapePoint> FloatFlatShapesBuffer<P> {
             ⊎ (usize.MAX < length (R.paths resource))) }
         ensures reserved { HasGroupsRoom self.old (length (concatenated (R.paths resource)))
             (length (R.paths resource)) 1 → IsOk result }
+        ensures keeps_room { KeepsGroupsRoom self.old self.new }
     {
         let counts = checked_path_counts(resource).ok_or(ShapeError::TooManyPoints)?;
         if counts.contours == 0 {

@@ -5,5 +5,5 @@ use Rattle.i_shape.proofs.flat.float.fill.append_ranges.Goals as goal
 pub loop-range-preserved : goal.loop-range-preserved
 loop-range-preserved c = grind (arith, common_steps)
 
-pub returns : goal.returns
-returns c = grind (arith, common_steps)
+pub returns-clause-items : goal.returns-clause-items
+returns-clause-items c = grind (arith, common_steps)
