@@ -2,3 +2,4 @@
 pub mod Contours
 pub mod Spikes
 pub mod Left
+pub mod Longest

@@ -1,6 +1,6 @@
 -- What steps of cleaning in place look for and leave. Private functions alone speak of it.
-use Rattle.std.specs.Prelude.{◌≤◌, Bool, true, false, ℕ, List, [], ◌∷◌, Option, Some, None, length, map, vec_capacity, if◌then◌else◌}
-use Rattle.std.specs.List.{All, AllZip, filter}
+use Rattle.std.specs.Prelude.{◌≡◌, ◌≤◌, Bool, true, false, ℕ, List, [], ◌∷◌, Option, MatchOption, length, map, max, vec_capacity, if◌then◌else◌}
+use Rattle.std.specs.List.{All, AllZip, Contains, filter}
 use Rattle.i_shape_core.specs.Point.{Point}
 use Rattle.i_shape_core.specs.Written.{slot}
 use Rattle.i_shape.specs.declared.int.cleaning.in_place.InPlaceWork.{InPlaceWork}
@@ -13,26 +13,29 @@ IsLeftOf Answer c d = Answer c (slot d)
 abbrev pub AreLeftOf : (List Point → Option (List Point) → Type 0) → List (List Point) → List (List Point) → Type 0
 AreLeftOf Answer shape left = AllZip (IsLeftOf Answer) shape left
 
--- a contour that doesn't pass has at most n points
+-- a contour that isn't clean has at most n points
 abbrev pub IsWithin : (List Point → Type 0) → ℕ → List Point → Type 0
-IsWithin Passes n c = (Passes c → ⊥) → length c ≤ n
+IsWithin Clean n c = (Clean c → ⊥) → length c ≤ n
 
--- no contour of the shape that doesn't pass has more than n points
-abbrev pub AreWithin : (List Point → Type 0) → ℕ → List (List Point) → Type 0
-AreWithin Passes n shape = All (IsWithin Passes n) shape
+-- the longest of the contours that aren't clean has n points
+pub record IsLongestUnclean (Clean : List Point → Type 0) (contours : List (List Point)) (n : ℕ) : Type 0 where
+  pub longest : List Point
+  pub among : Contains contours longest
+  pub unclean : Clean longest → ⊥
+  pub len : length longest ≡ n
+  pub most : All (IsWithin Clean n) contours
 
--- none where each member passes, and otherwise a bound on those that don't
-abbrev pub Bounds : {X : Type 0} → (X → Type 0) → (ℕ → X → Type 0) → List X → Option ℕ → Type 0
-Bounds Passes Within xs None = All Passes xs
-Bounds Passes Within xs (Some n) = (All Passes xs → ⊥) × All (Within n) xs
+-- the number of points of that contour, or none if all are clean
+abbrev pub LongestUnclean : (List Point → Type 0) → List (List Point) → Option ℕ → Type 0
+LongestUnclean Clean contours r = MatchOption r (All Clean contours) (IsLongestUnclean Clean contours)
 
 -- there is room for the contour, if it doesn't pass
 abbrev pub HasRoomFor : {W : Type 0} → (W → ℕ → Type 0) → (List Point → Type 0) → W → List Point → Type 0
 HasRoomFor has_room Passes w c = (Passes c → ⊥) → has_room w (length c)
 
--- contours of so many points can be cleaned in place without more memory
+-- contours of so many points can be cleaned in place without more memory: for fewer than three none is needed
 abbrev pub HasRoom : {I C : Type 0} → (C → ℕ → Type 0) → InPlaceWork I C → ℕ → Type 0
-HasRoom has_room work n = has_room work.cleaner n × (n ≤ vec_capacity work.copy)
+HasRoom has_room work n = has_room work.cleaner n × (n ≤ max 2 (vec_capacity work.copy))
 
 -- whether the contour has a point
 abbrev pub has_points : List Point → Bool

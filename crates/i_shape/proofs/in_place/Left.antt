@@ -16,9 +16,9 @@ use Rattle.i_shape_core.proofs.lists.Survivors.{survivors-none}
 use Rattle.i_shape_source.proofs.SafePaths.{all_parts}
 use Rattle.i_shape.specs.ShapeLists.{IsSafeShape}
 use Rattle.i_shape.specs.ShapeAnswers.{Survivors, ShapeClean, ListClean, EachContour, EachShape, AreKept}
-use Rattle.i_shape.specs.InPlace.{Leaves, CleansShape, CleansList}
+use Rattle.i_shape.specs.InPlace.{Leaves, IsShortOrPasses, CleansShape, CleansList}
 use Rattle.i_shape.specs.declared.int.cleaning.in_place.InPlaceWork.{InPlaceWork}
-use Rattle.i_shape.specs.LeftInPlace.{AreLeftOf, IsWithin, AreWithin, Bounds, HasRoom, HasRoomFor, has_points, keeps_outer, kept_contours, kept_shapes}
+use Rattle.i_shape.specs.LeftInPlace.{AreLeftOf, HasRoom, has_points, keeps_outer, kept_contours, kept_shapes}
 use Rattle.i_shape.proofs.lists.Surviving.{mapped-taken}
 use Rattle.i_shape.proofs.shapes.Kept.{same_kept, shape_keeps, shape_safe, list_keeps}
 
@@ -66,61 +66,11 @@ module _ {X : Type 0} (R : X → X → Type 0) where
       let is : now ≡ s.left = s.rest ∙ ap (λ l. s.left ++ l) (drop_all i before done) ∙ append-nil s.left in
       subst (AllZip R before) (sym is) (subst (λ l. AllZip R l s.left) (take_all i before done) s.each)
 
--- a bound on the members that don't pass, of one member more
-module _ {X : Type 0} (Passes : X → Type 0) (Within : ℕ → X → Type 0) (passes_within : (n : ℕ) (x : X) → Passes x → Within n x) (wider : (m n : ℕ) (x : X) → m ≤ n → Within m x → Within n x) (xs : List X) (x : X) where
-  -- that passes
-  pub bounds_passing : (r : Option ℕ) → Bounds Passes Within xs r → Passes x → Bounds Passes Within (xs ++ x ∷ []) r
-  bounds_passing None b pass = All-push Passes xs x b pass
-  bounds_passing (Some n) b pass = (λ all. b.0 (all_parts Passes xs (x ∷ []) all).0, All-push (Within n) xs x b.1 (passes_within n x pass))
-
-  before_it : (n m : ℕ) (r : Option ℕ) → n ≡ max m (unwrap_or r 0) → Bounds Passes Within xs r → All (Within n) xs
-  before_it n m None is b = All-weaker Passes (Within n) (λ x pass. passes_within n x pass) xs b
-  before_it n m (Some k) is b = All-weaker (Within k) (Within n) (λ x w. wider k n x (omega (arith, is)) w) xs b.1
-
-  -- that doesn't
-  pub bounds_failing : (n m : ℕ) (r : Option ℕ) → n ≡ max m (unwrap_or r 0) → Bounds Passes Within xs r → (Passes x → ⊥) → Within m x → Bounds Passes Within (xs ++ x ∷ []) (Some n)
-  bounds_failing n m r is b fails within = (
-    λ all. fails (All-head Passes x [] (all_parts Passes xs (x ∷ []) all).1),
-    All-push (Within n) xs x (before_it n m r is b) (wider m n x (omega (arith, is)) within),
-  )
-
 -- a list that was written whole over another
 pub written_whole : {A : Type 0} (items old : List A) (n : ℕ) → n ≡ length items → take n (items ++ drop (length items) old) ≡ items
 written_whole items old n same = take-append-le n items (drop (length items) old) (omega (arith, same)) ∙ take_all n items (omega (arith, same))
 
--- the same where a loop reads the members, and a call sees them by f
-module _ {A X : Type 0} (f : A → X) (Passes : X → Type 0) (Within : ℕ → X → Type 0) (passes_within : (n : ℕ) (x : X) → Passes x → Within n x) (wider : (m n : ℕ) (x : X) → m ≤ n → Within m x → Within n x)
-    (xs : List A) (i : ℕ) (x : A) (lt : i < length xs) (read : x ≡ get_or xs i x) (r : Option ℕ) (before : Bounds Passes Within (map f (take i xs)) r) where
-  pub passing_more : Passes (f x) → Bounds Passes Within (map f (take (i + 1) xs)) r
-  passing_more pass = subst (λ l. Bounds Passes Within l r) (sym (mapped-taken f xs i x lt read)) (bounds_passing Passes Within passes_within wider (map f (take i xs)) (f x) r before pass)
-
-  pub failing_more : (n m : ℕ) → n ≡ max m (unwrap_or r 0) → (Passes (f x) → ⊥) → Within m (f x) → Bounds Passes Within (map f (take (i + 1) xs)) (Some n)
-  failing_more n m is fails within = subst (λ l. Bounds Passes Within l (Some n)) (sym (mapped-taken f xs i x lt read)) (bounds_failing Passes Within passes_within wider (map f (take i xs)) (f x) n m r is before fails within)
-
-module _ (Passes : List Point → Type 0) where
-  -- a contour that passes is within any bound, and one within a bound is within a wider one
-  pub contour_within : (n : ℕ) (c : List Point) → Passes c → IsWithin Passes n c
-  contour_within n c pass = λ fails. absurd (fails pass)
-
-  pub contour_wider : (m n : ℕ) (c : List Point) → m ≤ n → IsWithin Passes m c → IsWithin Passes n c
-  contour_wider m n c le within = λ fails. omega (arith, le, within fails)
-
-  -- so are the contours of a shape
-  pub shape_within : (n : ℕ) (shape : List (List Point)) → EachContour Passes shape → AreWithin Passes n shape
-  shape_within n shape all = All-weaker Passes (IsWithin Passes n) (contour_within n) shape all
-
-  pub shape_wider : (m n : ℕ) (shape : List (List Point)) → m ≤ n → AreWithin Passes m shape → AreWithin Passes n shape
-  shape_wider m n shape le within = All-weaker (IsWithin Passes m) (IsWithin Passes n) (λ c w. contour_wider m n c le w) shape within
-
-  -- room for the longest contour that doesn't pass is room for each
-  module _ {W : Type 0} (has_room : W → ℕ → Type 0) (fewer : (w : W) (m n : ℕ) → m ≤ n → has_room w n → has_room w m) (w : W) (n : ℕ) (room : has_room w n) where
-    pub room_for : (shape : List (List Point)) → AreWithin Passes n shape → All (HasRoomFor has_room Passes w) shape
-    room_for shape within = All-weaker (IsWithin Passes n) (HasRoomFor has_room Passes w) (λ c within fails. fewer w (length c) n (within fails) room) shape within
-
-    pub room_for_list : (shapes : List (List (List Point))) → All (AreWithin Passes n) shapes → All (All (HasRoomFor has_room Passes w)) shapes
-    room_for_list shapes within = All-weaker (AreWithin Passes n) (All (HasRoomFor has_room Passes w)) room_for shapes within
-
--- and with room for the copy of a contour there is some for that of a shorter one
+-- with room for the copy of a contour there is some for that of a shorter one
 pub fewer_in_place : {I C : Type 0} (has_room : C → ℕ → Type 0) → ((cleaner : C) (m n : ℕ) → m ≤ n → has_room cleaner n → has_room cleaner m) → (work : InPlaceWork I C) (m n : ℕ) → m ≤ n → HasRoom has_room work n → HasRoom has_room work m
 fewer_in_place has_room fewer work m n le room = (fewer work.cleaner m n le room.0, omega (arith, le, room.1))
 
@@ -168,20 +118,23 @@ module _ (Passes : List Point → Type 0) (Answer : List Point → Option (List 
   shape_cleaned_in_place shape new fails leaves = record {
     cleans = record { passes = λ pass. absurd (fails pass); clean = λ e. absurd cc; left = leaves; refused = λ k e. absurd cc };
     kept = left_keeps shape new leaves.0 leaves.1 leaves.2;
+    short = λ each. refl;
   }
 
   -- where memory is refused they stay
-  pub shape_refused_in_place : (shape : List (List Point)) (e : ShapeError) → (EachContour Passes shape → ⊥) → e ≡ OutOfMemory → CleansShape Passes Answer shape shape (Err e)
-  shape_refused_in_place shape e fails memory = record {
+  pub shape_refused_in_place : (shape : List (List Point)) (e : ShapeError) → (EachContour Passes shape → ⊥) → (EachContour (IsShortOrPasses Passes) shape → ⊥) → e ≡ OutOfMemory → CleansShape Passes Answer shape shape (Err e)
+  shape_refused_in_place shape e fails long memory = record {
     cleans = record { passes = λ pass. absurd (fails pass); clean = λ f. absurd cc; left = tt; refused = λ k f. (same_error e k (Err e) refl f memory, refl) };
     kept = λ some. same_kept shape;
+    short = λ each. absurd (long each);
   }
 
   -- where memory is refused, a list that did not pass stays
-  pub list_refused_in_place : (shapes : List (List (List Point))) (e : ShapeError) → (EachShape Passes shapes → ⊥) → e ≡ OutOfMemory → CleansList Passes Answer shapes shapes (Err e)
-  list_refused_in_place shapes e fails memory = record {
+  pub list_refused_in_place : (shapes : List (List (List Point))) (e : ShapeError) → (EachShape Passes shapes → ⊥) → (EachShape (IsShortOrPasses Passes) shapes → ⊥) → e ≡ OutOfMemory → CleansList Passes Answer shapes shapes (Err e)
+  list_refused_in_place shapes e fails long memory = record {
     cleans = record { passes = λ pass. absurd (fails pass); clean = λ f. absurd cc; left = tt; refused = λ k f. (same_error e k (Err e) refl f memory, refl) };
     kept = tt;
+    short = λ each. absurd (long each);
   }
 
   -- a list that did not pass is cleaned in place, where the cleaned list is left
@@ -189,6 +142,7 @@ module _ (Passes : List Point → Type 0) (Answer : List Point → Option (List 
   list_cleaned_in_place shapes new fails clean = record {
     cleans = record { passes = λ pass. absurd (fails pass); clean = λ e. absurd cc; left = clean; refused = λ k e. absurd cc };
     kept = list_keeps Answer keeps shapes new clean;
+    short = λ each. refl;
   }
 
 zero_told : (n : ℕ) → (n == 0) ≡ true → n ≡ 0

@@ -1,6 +1,6 @@
 //! Cleaning of shapes and shape lists by any cleaner of contours.
 
-ghost use Rattle.std.specs.Prelude.{◌≡◌, ◌↔◌, ◌++◌, List, [], Option, Some, IsTrue, IsOk, OnOk, IsOkUnless};
+ghost use Rattle.std.specs.Prelude.{◌≡◌, ◌↔◌, ◌<◌, ◌++◌, List, [], length, Option, Some, None, IsTrue, IsOk, OnOk, IsOkUnless};
 ghost use Rattle.std.specs.Int.{Width};
 ghost use Rattle.std.specs.List.{All};
 ghost use Rattle.std.specs.Option.{option_to_list};
@@ -9,8 +9,8 @@ ghost use Rattle.i_shape_core.specs.IntPoint.{contour_of, IsSafe, IsSafeContour}
 ghost use Rattle.i_shape_core.specs.Cleaners.{KeptAnswer};
 ghost use Rattle.i_shape_core.proofs.walks.Found.{simple_stays};
 ghost use Rattle.i_shape_core.proofs.answers.Kept.{simple_kept, despike_kept, spikeless_stays};
-ghost use Rattle.i_shape_core.proofs.answers.Cleaners.{simple_safe, simple_points, despike_safe, spikeless_points, canonical_safe, unoriented_safe};
-ghost use Rattle.i_shape.specs.ShapeAnswers.{HasPoints, Survivors, ShapeClean, EachContour, EachShape, CleansShapeTo, CleansListTo};
+ghost use Rattle.i_shape_core.proofs.answers.Cleaners.{simple_safe, simple_short, despike_safe, despike_short, canonical_safe, unoriented_safe};
+ghost use Rattle.i_shape.specs.ShapeAnswers.{Survivors, ShapeClean, EachContour, EachShape, CleansShapeTo, CleansListTo};
 ghost use Rattle.i_shape.specs.ShapeLists.{shape_of, shapes_of, IsSafeShape, IsSafeList};
 ghost use Rattle.i_shape_core.specs.Refusals.{OkUnlessMemory};
 
@@ -42,8 +42,8 @@ pub trait InPlaceCleaner: CleanerLaws {
     /// A result keeps the double area, containment and winding numbers.
     ghost kept: { (c : List Point) (r : Option (List Point)) → Self.answers c r → KeptAnswer c r };
 
-    /// A clean contour has at least one point.
-    ghost clean_points: { (c : List Point) → Self.clean c → HasPoints c };
+    /// A contour of fewer than three points collapses.
+    ghost short: { (c : List Point) → length c < 3 → Self.answers c None };
 }
 
 impl CleanerLaws for ContourSimplifier {
@@ -55,7 +55,7 @@ impl InPlaceCleaner for ContourSimplifier {
 
     ghost kept = { simple_kept };
 
-    ghost clean_points = { simple_points };
+    ghost short = { simple_short };
 }
 
 impl CleanerLaws for SpikeRemover {
@@ -67,7 +67,7 @@ impl InPlaceCleaner for SpikeRemover {
 
     ghost kept = { despike_kept };
 
-    ghost clean_points = { spikeless_points };
+    ghost short = { despike_short };
 }
 
 impl CleanerLaws for Canonicalizer {

@@ -1,5 +1,5 @@
 -- What shapes and lists take of the answers of each cleaner.
-use Rattle.std.proofs.Common.{◌<◌, ◌≤◌, inl, inr, List, length, reverse, Some, sym, subst, arith}
+use Rattle.std.proofs.Common.{◌<◌, ◌≤◌, inl, inr, List, length, reverse, Some, None, sym, subst, arith}
 use Rattle.std.specs.Int.{Width}
 use Rattle.std.specs.List.{All}
 use Rattle.std.proofs.lemmas.List.{length-reverse}
@@ -41,10 +41,10 @@ unoriented_fewer c l one = elim one.one [
   | inr same ↦ subst (λ d. length d ≤ length c) (sym same) (omega (arith, length-reverse c, canonical_fewer (reverse c) one.backwards one.is_backwards))
 ]
 
--- a simple contour has points
-pub simple_points : (c : List Point) → IsSimple c → 0 < length c
-simple_points c s = omega (arith, s.enough)
+-- a contour of fewer than three points collapses
+pub simple_short : (c : List Point) → length c < 3 → SimpleAnswer c None
+simple_short c few e ended = omega (arith, few, reach_shrinks ended.reached)
 
--- a contour without spikes has points
-pub spikeless_points : (c : List Point) → NoSpikes c → 0 < length c
-spikeless_points c s = omega (arith, spikeless_long c s)
+-- so it does where spikes are removed
+pub despike_short : (c : List Point) → length c < 3 → DespikeAnswer c None
+despike_short c few = record { clean = λ s. absurd (omega (arith, few, spikeless_long c s)); cleaned = λ n. simple_short c few }

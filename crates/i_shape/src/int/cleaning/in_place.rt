@@ -1,13 +1,13 @@
 //! Cleaning in place. Memory for the longest contour that needs cleaning is allocated first; after that nothing can
 //! fail.
 
-ghost use Rattle.std.specs.Prelude.{◌≡◌, ℕ, IfOk, IsOkUnless};
+ghost use Rattle.std.specs.Prelude.{◌≡◌, ◌<◌, ℕ, IfOk, IsOk, IsOkUnless};
 ghost use Rattle.std.specs.List.{All, AllZip};
 ghost use Rattle.i_shape_core.specs.IntPoint.{contour_of, IsSafeContour};
+ghost use Rattle.i_shape_source.specs.Paths.{concatenated};
 ghost use Rattle.i_shape.specs.ShapeLists.{shape_of, shapes_of, IsSafeShape, IsSafeList};
-ghost use Rattle.i_shape.specs.ShapeAnswers.{EachContour};
 ghost use Rattle.i_shape.specs.InPlace.{CleansShape, CleansList};
-ghost use Rattle.i_shape.specs.LeftInPlace.{IsLeftOf, AreLeftOf, IsWithin, AreWithin, Bounds, HasRoom, HasRoomFor, keeps_outer, kept_contours, kept_shapes};
+ghost use Rattle.i_shape.specs.LeftInPlace.{IsLeftOf, AreLeftOf, LongestUnclean, HasRoom, HasRoomFor, keeps_outer, kept_contours, kept_shapes};
 
 use crate::int::cleaning::InPlaceCleaner;
 use crate::int::shape::{IntContour, IntShape, IntShapes};
@@ -55,10 +55,10 @@ pub fn clean_list_in_place<I: IntNumber, C: InPlaceCleaner>(
     Ok(true)
 }
 
-/// Returns the length of the longest contour that needs cleaning, or `None` where none does.
+/// Returns the number of points of the longest contour that isn't clean, or `None` if all are clean.
 fn longest_unclean<I: IntNumber, C: ContourCleaner>(shape: &[IntContour<I>]) -> Option<usize>
     requires { IsSafeShape I.width (shape_of I.value shape.now) }
-    ensures { Bounds C.clean (IsWithin C.clean) (shape_of I.value shape.now) result }
+    ensures { LongestUnclean C.clean (shape_of I.value shape.now) result }
 {
     let mut longest = None;
     for contour in shape {
@@ -73,8 +73,7 @@ fn longest_unclean<I: IntNumber, C: ContourCleaner>(shape: &[IntContour<I>]) -> 
 /// Returns the same for all contours of a list.
 fn longest_unclean_of_list<I: IntNumber, C: ContourCleaner>(shapes: &[IntShape<I>]) -> Option<usize>
     requires { IsSafeList I.width (shapes_of I.value shapes.now) }
-    ensures { Bounds (EachContour C.clean) (AreWithin C.clean) (shapes_of I.value shapes.now)
-        result }
+    ensures { LongestUnclean C.clean (concatenated (shapes_of I.value shapes.now)) result }
 {
     let mut longest = None;
     for shape in shapes {
@@ -94,14 +93,19 @@ struct InPlaceWork<I, C> {
 }
 
 impl<I: IntNumber, C: InPlaceCleaner> InPlaceWork<I, C> {
-    /// Allocates memory for contours of up to `points` points. The only error is `OutOfMemory`.
+    /// Allocates memory for contours of up to `points` points, and none below three. The only error is `OutOfMemory`.
     fn with_room(alloc: Global, points: usize) -> Result<InPlaceWork<I, C>, ShapeError>
         ensures room { IfOk result (λ work. HasRoom C.has_room work points) }
+        ensures short { points < 3 → IsOk result }
         ensures memory { IsOkUnless result ShapeError.OutOfMemory }
     {
         let mut cleaner = C::new(alloc);
         cleaner.reserve(points)?;
-        let copy = Vec::with_capacity(alloc, points)?;
+        let copy = if points < 3 {
+            Vec::new(alloc)
+        } else {
+            Vec::with_capacity(alloc, points)?
+        };
         Ok(InPlaceWork { cleaner, copy })
     }
 
@@ -115,6 +119,10 @@ impl<I: IntNumber, C: InPlaceCleaner> InPlaceWork<I, C> {
         ensures keeps_room { (n : ℕ) → HasRoom C.has_room self.old n
             → HasRoom C.has_room self.new n }
     {
+        if contour.len() < 3 {
+            contour.clear();
+            return;
+        }
         if C::is_clean(contour.as_slice()) {
             return;
         }

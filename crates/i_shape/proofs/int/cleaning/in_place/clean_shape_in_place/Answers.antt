@@ -5,10 +5,11 @@ use Rattle.i_shape_core.specs.declared.point.IntPoint.{IntPoint}
 use Rattle.i_shape_core.specs.declared.error.ShapeError.{ShapeError}
 use Rattle.i_shape.specs.ShapeLists.{shape_of, IsSafeShape}
 use Rattle.i_shape.specs.ShapeAnswers.{ShapeClean, EachContour}
-use Rattle.i_shape.specs.InPlace.{Leaves, CleansShape}
-use Rattle.i_shape.specs.LeftInPlace.{Bounds, IsWithin, HasRoom}
+use Rattle.i_shape.specs.InPlace.{Leaves, IsShortOrPasses, CleansShape}
+use Rattle.i_shape.specs.LeftInPlace.{LongestUnclean, HasRoom}
 use Rattle.i_shape.proofs.in_place.Contours.{shape_stays_in_place}
-use Rattle.i_shape.proofs.in_place.Left.{room_for, fewer_in_place, shape_left, shape_cleaned_in_place, shape_refused_in_place, leaves_safe}
+use Rattle.i_shape.proofs.in_place.Left.{fewer_in_place, shape_left, shape_cleaned_in_place, shape_refused_in_place, leaves_safe}
+use Rattle.i_shape.proofs.in_place.Longest.{not_all_clean, short_longest, room_for_each}
 use Rattle.i_shape.proofs.int.cleaning.in_place.clean_shape_in_place.Goals as goal
 
 pub longest_unclean-requires : goal.longest_unclean-requires
@@ -25,18 +26,18 @@ returns-in_default-clause-gives g c =
 pub clean_contours-requires-clause-room : goal.clean_contours-requires-clause-room
 clean_contours-requires-clause-room g c =
     let cleaner = g.C.ContourCleaner in
-    let Told : List (Vec (IntPoint g.row.I.Denot)) → Type 0 = λ w. Bounds cleaner.clean (IsWithin cleaner.clean) (shape_of g.I.IntNumber.value w) (Some c.in-Some.longest) in
+    let Told : List (Vec (IntPoint g.row.I.Denot)) → Type 0 = λ w. LongestUnclean cleaner.clean (shape_of g.I.IntNumber.value w) (Some c.in-Some.longest) in
     let told = subst Told c.as_slice.ensures.value c.in-Some.ensures in
-    room_for cleaner.clean (HasRoom cleaner.has_room) (fewer_in_place cleaner.has_room g.met.C.ContourCleaner.fewer) c.in_ok-work.work c.in-Some.longest c.in_ok-work.ensures.room (shape_of g.I.IntNumber.value c.args.shape.now.items) told.1
+    room_for_each cleaner.clean (shape_of g.I.IntNumber.value c.args.shape.now.items) c.in-Some.longest told (HasRoom cleaner.has_room) (fewer_in_place cleaner.has_room g.met.C.ContourCleaner.fewer) c.in_ok-work.work c.in_ok-work.ensures.room
 
 pub returns-clause-gives : goal.returns-clause-gives
 returns-clause-gives g c =
     let value = g.I.IntNumber.value in
     let cleaner = g.C.ContourCleaner in
     let shape : List (List Point) = shape_of value c.args.shape.now.items in
-    let Told : List (Vec (IntPoint g.row.I.Denot)) → Type 0 = λ w. Bounds cleaner.clean (IsWithin cleaner.clean) (shape_of value w) (Some c.in-Some.longest) in
+    let Told : List (Vec (IntPoint g.row.I.Denot)) → Type 0 = λ w. LongestUnclean cleaner.clean (shape_of value w) (Some c.in-Some.longest) in
     let told = subst Told c.as_slice.ensures.value c.in-Some.ensures in
-    shape_cleaned_in_place cleaner.clean cleaner.answers g.met.C.InPlaceCleaner.kept shape _ told.0
+    shape_cleaned_in_place cleaner.clean cleaner.answers g.met.C.InPlaceCleaner.kept shape _ (not_all_clean cleaner.clean shape c.in-Some.longest told)
     (subst (Leaves (ShapeClean cleaner.answers) shape) (sym c.take_out_collapsed.ensures) (shape_left cleaner.answers shape (shape_of value c.clean_contours.new.shape.items) c.clean_contours.ensures.left))
 
 pub returns-clause-safe : goal.returns-clause-safe
@@ -50,9 +51,10 @@ returns-clause-safe g c =
 pub returns-in_err-work-clause-gives : goal.returns-in_err-work-clause-gives
 returns-in_err-work-clause-gives g c =
     let cleaner = g.C.ContourCleaner in
-    let old = shape_of g.I.IntNumber.value c.args.shape.now.items in
-    let Told : List (Vec (IntPoint g.row.I.Denot)) → Type 0 = λ w. Bounds cleaner.clean (IsWithin cleaner.clean) (shape_of g.I.IntNumber.value w) (Some c.in-Some.longest) in
+    let old : List (List Point) = shape_of g.I.IntNumber.value c.args.shape.now.items in
+    let Told : List (Vec (IntPoint g.row.I.Denot)) → Type 0 = λ w. LongestUnclean cleaner.clean (shape_of g.I.IntNumber.value w) (Some c.in-Some.longest) in
     let told = subst Told c.as_slice.ensures.value c.in-Some.ensures in
     let Gives : Result Bool ShapeError → Type 0 = λ r. CleansShape cleaner.clean cleaner.answers old old r in
     let is : c.from_residual.result ≡ Err c.in_err-work.field-0.0 = search rules in
-    subst Gives (sym is) (shape_refused_in_place cleaner.clean cleaner.answers g.met.C.InPlaceCleaner.kept old _ told.0 c.in_err-work.ensures.memory)
+    let long : EachContour (IsShortOrPasses cleaner.clean) old → ⊥ = λ each. (let refused = c.in_err-work.ensures.short (short_longest cleaner.clean old c.in-Some.longest told each) in absurd (cc)) in
+    subst Gives (sym is) (shape_refused_in_place cleaner.clean cleaner.answers g.met.C.InPlaceCleaner.kept old _ (not_all_clean cleaner.clean old c.in-Some.longest told) long c.in_err-work.ensures.memory)
