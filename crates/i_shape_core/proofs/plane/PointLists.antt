@@ -18,10 +18,6 @@ module _ {A B : Type 0} (point : A → B) (points : List A → List B) (each : (
   pub points-read : (list : List A) (k : ℕ) (a : A) (b : B) → k < length list → get_or (points list) k b ≡ point (get_or list k a)
   points-read list k a b within = ap (λ l. get_or l k b) (each list) ∙ get_or-map point list k a b within
 
-  -- so a point that stands at a place, read as the library's, stands there
-  pub points-at : (list : List A) (k : ℕ) (a : A) → k < length list → a ≡ get_or list k a → point a ≡ get_or (points list) k (point a)
-  points-at list k a within e = ap point e ∙ sym (points-read list k a (point a) within)
-
   -- one more at the end
   pub points-push : (list longer : List A) (a : A) → longer ≡ list ++ a ∷ [] → points longer ≡ points list ++ point a ∷ []
   points-push list longer a e = ap points e ∙ each (list ++ a ∷ []) ∙ map-append point list (a ∷ []) ∙ ap (λ l. l ++ point a ∷ []) (sym (each list))
@@ -38,7 +34,7 @@ module _ {A B : Type 0} (point : A → B) (points : List A → List B) (each : (
 
   -- a point that was read at a place, as the library's
   pub points-item : (list : List A) (k : ℕ) (a : A) (b : B) → b ≡ point a → k < length list → a ≡ get_or list k a → b ≡ get_or (points list) k b
-  points-item list k a b is within e = rw is (points-at list k a within e)
+  points-item list k a b is within e = rw is (ap point e ∙ sym (points-read list k a (point a) within))
 
   -- the place is one of the library's list too
   pub item_read : (list : List A) (k : ℕ) (a : A) (b : B) → b ≡ point a → k < length list → a ≡ get_or list k a → (k < length (points list)) × (b ≡ get_or (points list) k b)
