@@ -43,15 +43,15 @@ pub trait ContourCleaner: Drop {
     /// The cleaner needs no more memory for a contour of that many points.
     ghost has_room: { Self → ℕ → Type 0 };
 
-    /// Contours of fewer points need no memory.
+    /// The cleaner itself needs no memory for contours of fewer points.
     ghost fewest: { ℕ };
 
     /// Returns a cleaner that allocates from `alloc`, but not before a contour needs memory.
     fn new(alloc: Global) -> Self
         ensures no_room { (n : ℕ) → has_room result n → n < fewest };
 
-    /// Makes room for contours of up to `points` points, and allocates nothing below three. It never reduces the room.
-    /// The only error is `OutOfMemory`, which can't occur below three points or if there is room.
+    /// Makes room for contours of up to `points` points, and changes nothing below `fewest`. It never reduces the room.
+    /// The only error is `OutOfMemory`, which can't occur below `fewest` points or if there is room.
     fn reserve(&mut self, points: usize) -> Result<(), ShapeError>
         ensures room { IfOk result (λ _. has_room self.new points) }
         ensures reserved { has_room self.old points → IsOk result }

@@ -33,7 +33,7 @@ fn by_a_new_cleaner(rt: HostRuntime) {
     call!(rt, "ContourDeSpiker::despike_into" => ContourDeSpiker::new(alloc).despike_into(spiked, &mut out));
 }
 
-/// Where the first call is refused, the second one takes the memory that it lacked.
+/// There is no second call where the first is refused: it would take the memory that the first one lacked.
 #[test]
 fn by_a_used_cleaner(rt: HostRuntime) {
     let mut out = SPIKED_AND_TRIANGLE;
