@@ -10,7 +10,6 @@ use Rattle.std.proofs.lemmas.Simd.{map-map}
 use Rattle.i_shape.specs.Point.{Point}
 use Rattle.i_shape.specs.Paths.{concatenated}
 use Rattle.i_shape.specs.ShapeAnswers.{ShapeClean, ListClean, EachShape}
-use Rattle.i_shape.specs.Written.{slot}
 use Rattle.i_shape.proofs.buffers.ShapeRanges.{slice_range-map}
 use Rattle.i_shape_core.proofs.lists.Rings.{rises_to}
 use Rattle.i_shape_core.proofs.lists.Survivors.{survivors-none, survivors-push}
@@ -136,11 +135,6 @@ pub each_part : {P : Type 0} (Q : List P → Type 0) (points : List P) (offsets 
 each_part Q points offsets a b order within each k less =
     let count = length_part offsets a b order within in
     rw (nth_part offsets a b points k (omega (arith, less, count))) (each (a + k) (omega (arith, less, count, within)))
-
--- a contour with points stands for itself
-pub slot_of : (c : List Point) → 0 < length c → slot c ≡ Some c
-slot_of [] some = absurd (omega (arith, some))
-slot_of (p ∷ c) some = refl
 
 -- the contours of polygons, of which those from the first polygon's on are `rings`
 module _ {P : Type 0} (at : P → Point) (points : List P) (contours shapes : List ℕ) (contours_parted : PartsPoints (length points) contours) (shapes_parted : PartsPoints (length contours - 1) shapes) where

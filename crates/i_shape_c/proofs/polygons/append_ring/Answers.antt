@@ -2,10 +2,10 @@ use Rattle.std.proofs.Common.{◌≡◌, ◌<◌, ◌≤◌, ◌+◌, ◌∙◌,
 use Rattle.std.proofs.lemmas.List.{take-append-drop, length-map}
 use Rattle.i_shape.specs.Point.{Point}
 use Rattle.i_shape.specs.IntPoint.{point_of, contour_of}
+use Rattle.i_shape_core.proofs.answers.Written.{slot_some}
 use Rattle.i_shape_c.proofs.Appended.{rings_none, ring_put, put_between}
 use Rattle.i_shape_c.proofs.Batches.{same}
 use Rattle.i_shape_c.proofs.Parts.{nothing_between}
-use Rattle.i_shape_c.proofs.PolygonsLeft.{slot_of}
 use Rattle.i_shape_c.proofs.polygons.append_ring.Goals as goal
 
 pub returns-then-end-counts-clause-left : goal.returns-then-end-counts-clause-left
@@ -38,6 +38,6 @@ returns-clause-left g c =
     let left = rw (read c.args.ring.now, read part) at done.left.cleaned.answer in
     record {
       left = Some part;
-      answer = rw (slot_of (map at part) some) at left;
+      answer = rw (slot_some (map at part) some) at left;
       appended = rw long at (ring_put part old new c.args.out_contours.now c.args.counts put.1 done.len c.requires.contours_room);
     }

@@ -1,5 +1,0 @@
-use Rattle.std.proofs.Common.{rules}
-use Rattle.i_shape_c.proofs.calls.i32.i_shape_area_two_i32.Goals as goal
-
-pub returns-clause-area : goal.returns-clause-area
-returns-clause-area c = search rules
