@@ -6,7 +6,7 @@ config=${PG_CONFIG:-/usr/lib/postgresql/15/bin/pg_config}
 library=$PWD/bindings/c/out
 here=bindings/postgres
 sanitizers=(-fsanitize=address,undefined -fno-sanitize-recover=undefined)
-needs postgres 'there is no server of PostgreSQL 15 with its headers' [ -e "$("$config" --pgxs 2> /dev/null)" ] || end_part
+needs postgres 'there is no server of PostgreSQL 15 with its headers' [ -e "$("$config" --includedir-server 2> /dev/null)/postgres.h" ] || end_part
 needs postgres 'there is no PostGIS for PostgreSQL 15' [ -e "$("$config" --sharedir)/extension/postgis.control" ] || end_part
 needs postgres '`make c` builds the library that it takes' bash bindings/c/build.sh --is-built || end_part
 
