@@ -2,267 +2,196 @@
 
 ghost use Rattle.std.specs.Prelude.{◌<◌};
 
-use crate::claims::{equal, holds};
+use crate::row::Row;
 use crate::texts;
+use i_shape::ShapeError;
 use i_shape::flat::buffer::{FlatContoursBuffer, FlatShapesBuffer};
 use i_shape::int::IntPoint;
 use i_shape::int::safe_range::IntSafeRange;
-use i_shape::int::shape::{IntContour, IntShape, IntShapes};
-use i_shape::{IntNumber, ShapeError};
+use i_shape::int::shape::{IntContour, IntShapes};
 use std::alloc::Global;
 use std::process::Abort;
 use std::test::Fail;
 
 /// A buffer of these points and ranges.
 fn flat(
-    rt: &impl Abort,
-    alloc: Global,
+    row: &Row<'_, impl Abort>,
     points: &str,
     ranges: &str,
 ) -> Result<FlatContoursBuffer<i32>, Fail> {
+    let points = texts::contour(row, points)?;
     Ok(FlatContoursBuffer {
-        points: texts::contour(rt, alloc, points)?,
-        ranges: texts::ranges(alloc, ranges)?,
+        points,
+        ranges: texts::ranges(row.alloc, ranges)?,
     })
 }
 
 /// A buffer of these points, and ranges of contours and of shapes.
 fn flat_shapes(
-    rt: &impl Abort,
-    alloc: Global,
+    row: &Row<'_, impl Abort>,
     points: &str,
     [contours, shapes]: [&str; 2],
 ) -> Result<FlatShapesBuffer<i32>, Fail> {
+    let points = texts::contour(row, points)?;
+    let contour_ranges = texts::ranges(row.alloc, contours)?;
+    let shape_ranges = texts::ranges(row.alloc, shapes)?;
     Ok(FlatShapesBuffer {
-        points: texts::contour(rt, alloc, points)?,
-        contour_ranges: texts::ranges(alloc, contours)?,
-        shape_ranges: texts::ranges(alloc, shapes)?,
+        points,
+        contour_ranges,
+        shape_ranges,
     })
 }
 
 /// The buffer has these points and ranges, and reads as these contours.
 fn has_contours(
-    rt: &impl Abort,
-    alloc: Global,
+    row: &Row<'_, impl Abort>,
     buffer: &FlatContoursBuffer<i32>,
     [points, ranges, contours]: [&str; 3],
 ) -> Result<(), Fail> {
-    holds(
-        rt,
-        *buffer == flat(rt, alloc, points, ranges)?,
-        contours,
-        "points and ranges",
-    );
-    assert!(rt;
-        buffer.can_read_contours(),
-        "{contours}: a range can't be read"
-    );
-    holds(
-        rt,
-        buffer.to_contours()? == texts::shape(rt, alloc, contours)?,
-        contours,
-        "the contours",
-    );
+    row.holds(*buffer == flat(row, points, ranges)?, contours);
+    assert!(row.rt; buffer.can_read_contours(), "a range can't be read");
+    let wanted = texts::shape(row, contours)?;
+    row.holds(buffer.to_contours()? == wanted, contours);
     Ok(())
 }
 
 /// The buffer has these points and ranges, and reads as these shapes.
 fn has_shapes(
-    rt: &impl Abort,
-    alloc: Global,
+    row: &Row<'_, impl Abort>,
     buffer: &FlatShapesBuffer<i32>,
     [points, contours, ranges, shapes]: [&str; 4],
 ) -> Result<(), Fail> {
-    holds(
-        rt,
-        *buffer == flat_shapes(rt, alloc, points, [contours, ranges])?,
-        shapes,
-        "points and ranges",
-    );
-    assert!(rt; buffer.can_read_shapes(), "{shapes}: a range can't be read");
-    holds(
-        rt,
-        buffer.to_shapes()? == texts::shapes(rt, alloc, shapes)?,
-        shapes,
-        "the shapes",
-    );
+    let wanted = flat_shapes(row, points, [contours, ranges])?;
+    row.holds(*buffer == wanted, shapes);
+    assert!(row.rt; buffer.can_read_shapes(), "a range can't be read");
+    row.holds(buffer.to_shapes()? == texts::shapes(row, shapes)?, shapes);
     Ok(())
 }
 
 const TWO_SHAPES: &str = "0 0 1 0 1 1;/5 5 6 5 6 6;7 7 8 7 8 8;/";
 
+const THREE_CONTOURS: &str = "0 0 1 0 1 1;5 5 6 5 6 6;7 7 8 7 8 8;";
+
 const POINTS: &str = "0 0 1 0 1 1 5 5 6 5 6 6 7 7 8 7 8 8";
+
+const RANGES: &str = "0..3 3..6 6..9";
 
 #[test]
 fn shapes_are_set_and_added_one_by_one(rt: HostRuntime) -> Result<(), Fail> {
-    let alloc = rt.alloc();
-    let given = texts::shapes(&rt, alloc, TWO_SHAPES)?;
-    let mut buffer = FlatShapesBuffer::with_capacity(alloc, 4, 4, 4)?;
-    holds(&rt, buffer.is_empty(), "a new buffer of shapes", "empty");
+    let row = Row::new(&rt, rt.alloc(), "two shapes");
+    let given = texts::shapes(&row, TWO_SHAPES)?;
+    let mut buffer = FlatShapesBuffer::with_capacity(row.alloc, 4, 4, 4)?;
+    row.holds(buffer.is_empty(), "a new buffer of shapes");
     buffer.set_with_shapes(given.as_slice())?;
-    has_shapes(
-        &rt,
-        alloc,
-        &buffer,
-        [POINTS, "0..3 3..6 6..9", "0..1 1..3", TWO_SHAPES],
-    )?;
-    let mut one_by_one = FlatShapesBuffer::new(alloc);
+    has_shapes(&row, &buffer, [POINTS, RANGES, "0..1 1..3", TWO_SHAPES])?;
+    let mut one_by_one = FlatShapesBuffer::new(row.alloc);
     for shape in &given {
         one_by_one.add_shape(shape.as_slice())?;
     }
-    holds(
-        &rt,
-        one_by_one == buffer.clone()?,
-        TWO_SHAPES,
-        "added one by one",
-    );
+    row.holds(one_by_one == buffer.clone()?, "added one by one");
     buffer.clear_and_reserve(4, 4, 4)?;
-    has_shapes(&rt, alloc, &buffer, ["", "", "", ""])?;
+    has_shapes(&row, &buffer, ["", "", "", ""])?;
     buffer.add_shape(&[])?;
-    has_shapes(&rt, alloc, &buffer, ["", "", "0..0", "/"])?;
-    let mut contours = FlatContoursBuffer::with_capacity(alloc, 4)?;
+    has_shapes(&row, &buffer, ["", "", "0..0", "/"])?;
+    let mut contours = FlatContoursBuffer::with_capacity(row.alloc, 4)?;
     contours.set_with_shapes(given.as_slice())?;
-    holds(&rt, contours.clone()? == contours, TWO_SHAPES, "a copy");
-    let wanted = "0 0 1 0 1 1;5 5 6 5 6 6;7 7 8 7 8 8;";
-    has_contours(&rt, alloc, &contours, [POINTS, "0..3 3..6 6..9", wanted])?;
+    row.holds(contours.clone()? == contours, "a copy");
+    has_contours(&row, &contours, [POINTS, RANGES, THREE_CONTOURS])?;
     contours.clear_and_reserve(4, 4)?;
-    has_contours(&rt, alloc, &contours, ["", "", ""])
+    has_contours(&row, &contours, ["", "", ""])
 }
 
 #[test]
 fn one_contour_or_shape_is_set_or_added(rt: HostRuntime) -> Result<(), Fail> {
-    let alloc = rt.alloc();
-    let given = texts::contour(&rt, alloc, "1 2 3 4 5 6")?;
-    let mut contours = FlatContoursBuffer::new(alloc);
+    let row = Row::new(&rt, rt.alloc(), "one contour or shape");
+    let mut contours = FlatContoursBuffer::new(row.alloc);
+    let mut shapes = FlatShapesBuffer::new(row.alloc);
+    let three = "1 2 3 4 5 6";
+    let given = texts::contour(&row, three)?;
     contours.set_with_contour(given.as_slice())?;
-    has_contours(
-        &rt,
-        alloc,
-        &contours,
-        ["1 2 3 4 5 6", "0..3", "1 2 3 4 5 6;"],
-    )?;
-    let mut shapes = FlatShapesBuffer::new(alloc);
+    has_contours(&row, &contours, [three, "0..3", "1 2 3 4 5 6;"])?;
     shapes.set_with_contour(given.as_slice())?;
-    has_shapes(
-        &rt,
-        alloc,
-        &shapes,
-        ["1 2 3 4 5 6", "0..3", "0..1", "1 2 3 4 5 6;/"],
-    )?;
+    has_shapes(&row, &shapes, [three, "0..3", "0..1", "1 2 3 4 5 6;/"])?;
     contours.set_with_contour(&[])?;
-    holds(
-        &rt,
-        contours.is_empty() && contours.is_single_contour(),
-        "no point",
-        "single",
-    );
-    has_contours(&rt, alloc, &contours, ["", "0..0", ";"])?;
-    let [points, holed] = [
-        "0 0 9 0 9 9 0 9 3 3 3 6 6 6 6 3",
-        "0 0 9 0 9 9 0 9;3 3 3 6 6 6 6 3;",
-    ];
-    let given = texts::shape(&rt, alloc, holed)?;
+    row.holds(contours.is_empty(), "no point");
+    row.holds(contours.is_single_contour(), "one contour");
+    has_contours(&row, &contours, ["", "0..0", ";"])?;
+    let points = "0 0 9 0 9 9 0 9 3 3 3 6 6 6 6 3";
+    let holed = "0 0 9 0 9 9 0 9;3 3 3 6 6 6 6 3;";
+    let given = texts::shape(&row, holed)?;
     contours.set_with_shape(given.as_slice())?;
-    has_contours(&rt, alloc, &contours, [points, "0..4 4..8", holed])?;
+    has_contours(&row, &contours, [points, "0..4 4..8", holed])?;
     shapes.set_with_shape(given.as_slice())?;
+    let wanted = flat_shapes(&row, points, ["0..4 4..8", "0..2"])?;
+    row.holds(shapes == wanted, "a shape");
     assert!(rt; shapes.can_read_contours());
-    holds(
-        &rt,
-        shapes.to_contours()? == given,
-        holed,
-        "contours of shapes",
-    );
-    let wanted = flat_shapes(&rt, alloc, points, ["0..4 4..8", "0..2"])?;
-    holds(&rt, shapes == wanted, holed, "a shape");
-    let square = texts::contour(&rt, alloc, "0 0 4 0 4 4 0 4")?;
-    let mut contours = FlatContoursBuffer::new(alloc);
-    contours.add_contour(square.as_slice())?;
-    has_contours(
-        &rt,
-        alloc,
-        &contours,
-        ["0 0 4 0 4 4 0 4", "0..4", "0 0 4 0 4 4 0 4;"],
-    )
+    row.holds(shapes.to_contours()? == given, "contours of a shape");
+    let square = "0 0 4 0 4 4 0 4";
+    let mut contours = FlatContoursBuffer::new(row.alloc);
+    contours.add_contour(texts::contour(&row, square)?.as_slice())?;
+    has_contours(&row, &contours, [square, "0..4", "0 0 4 0 4 4 0 4;"])
 }
 
 #[test]
 fn the_first_contour_is_lent(rt: HostRuntime) -> Result<(), Fail> {
-    let alloc = rt.alloc();
-    let whole = flat(&rt, alloc, "1 1 2 2", "")?;
+    let row = Row::new(&rt, rt.alloc(), "the first contour");
+    let whole = flat(&row, "1 1 2 2", "")?;
     assert!(rt; whole.can_read_first());
-    let is_whole = whole.as_first_contour() == whole.points.as_slice();
-    holds(&rt, is_whole, "no ranges", "the first contour");
-    let mut buffer = flat(&rt, alloc, "1 1 2 2 3 3", "1..2 0..3")?;
+    let first = whole.as_first_contour();
+    row.holds(first == whole.points.as_slice(), "no ranges");
+    let mut buffer = flat(&row, "1 1 2 2 3 3", "1..2 0..3")?;
     assert!(rt; buffer.can_read_first());
     let first = buffer.as_first_contour_mut();
     assert_eq!(rt; first.len(), 1);
     first[0] = IntPoint::new(9, 9);
-    let wanted = flat(&rt, alloc, "1 1 9 9 3 3", "1..2 0..3")?;
-    holds(&rt, buffer == wanted, "a changed point", "the buffer");
+    let wanted = flat(&row, "1 1 9 9 3 3", "1..2 0..3")?;
+    row.holds(buffer == wanted, "a changed point");
     Ok(())
 }
 
-/// Points, ranges, whether the first and all of them can be read, and the contours where they can.
-const READABLE: &str = "\
-1 1 2 2 3 3|2..1|no|
-1 1|18446744073709551615..18446744073709551615|no|
-1 1|0..18446744073709551615|no|
-1 1 2 2|0..2 1..3|first|
-1 2 3 4|0..2 1..2 2..2|all|1 2 3 4;3 4;;
-1 2 3 4||all|";
+/// Points, ranges, whether the first can be read, and the contours where all can.
+const READABLE: [(&str, &str, bool, Option<&str>); 6] = [
+    ("1 1 2 2 3 3", "2..1", false, None),
+    (
+        "1 1",
+        "18446744073709551615..18446744073709551615",
+        false,
+        None,
+    ),
+    ("1 1", "0..18446744073709551615", false, None),
+    ("1 1 2 2", "0..2 1..3", true, None),
+    ("1 2 3 4", "0..2 1..2 2..2", true, Some("1 2 3 4;3 4;;")),
+    ("1 2 3 4", "", true, Some("")),
+];
 
-/// The same of a buffer of shapes: the ranges of contours are in order, and those of shapes can be read or not.
-const READABLE_SHAPES: &str = "\
-1 1|0..1|2..1|all|/
-||5..5|all|/
-1 1|0..1|18446744073709551615..0|all|/
-||0..1|no|
-1 1|0..1|0..18446744073709551615|no|
-1 1|0..1|0..2|no|";
+/// Points, ranges of contours and of shapes, and the shapes where all ranges can be read, among them those of shapes that are reversed.
+const READABLE_SHAPES: [(&str, [&str; 2], Option<&str>); 6] = [
+    ("1 1", ["0..1", "2..1"], Some("/")),
+    ("", ["", "5..5"], Some("/")),
+    ("1 1", ["0..1", "18446744073709551615..0"], Some("/")),
+    ("", ["", "0..1"], None),
+    ("1 1", ["0..1", "0..18446744073709551615"], None),
+    ("1 1", ["0..1", "0..2"], None),
+];
 
 #[test]
 fn ranges_can_be_read_or_not(rt: HostRuntime) -> Result<(), Fail> {
-    let alloc = rt.alloc();
-    for row in READABLE.lines() {
-        let columns: Vec<&str> = row.split('|').collect(alloc)?;
-        let [points, ranges, readable, contours] = columns.as_slice() else {
-            return Err(Fail::new("a row has four columns"));
-        };
-        let buffer = flat(&rt, alloc, *points, *ranges)?;
-        equal(
-            &rt,
-            buffer.can_read_first(),
-            *readable != "no",
-            row,
-            "the first",
-        );
-        equal(
-            &rt,
-            buffer.can_read_contours(),
-            *readable == "all",
-            row,
-            "all",
-        );
-        if *readable == "all" {
-            has_contours(&rt, alloc, &buffer, [*points, *ranges, *contours])?;
+    for (points, ranges, reads_first, contours) in READABLE {
+        let row = Row::new(&rt, rt.alloc(), ranges);
+        let buffer = flat(&row, points, ranges)?;
+        row.equal(buffer.can_read_first(), reads_first, "the first");
+        row.equal(buffer.can_read_contours(), contours.is_some(), "all");
+        if let Some(contours) = contours {
+            has_contours(&row, &buffer, [points, ranges, contours])?;
         }
     }
-    for row in READABLE_SHAPES.lines() {
-        let columns: Vec<&str> = row.split('|').collect(alloc)?;
-        let [points, contours, ranges, readable, shapes] = columns.as_slice() else {
-            return Err(Fail::new("a row has five columns"));
-        };
-        let buffer = flat_shapes(&rt, alloc, *points, [*contours, *ranges])?;
-        holds(&rt, buffer.can_read_contours(), row, "the contours");
-        equal(
-            &rt,
-            buffer.can_read_shapes(),
-            *readable == "all",
-            row,
-            "the shape",
-        );
-        if *readable == "all" {
-            has_shapes(&rt, alloc, &buffer, [*points, *contours, *ranges, *shapes])?;
+    for (points, [contours, ranges], shapes) in READABLE_SHAPES {
+        let row = Row::new(&rt, rt.alloc(), ranges);
+        let buffer = flat_shapes(&row, points, [contours, ranges])?;
+        row.holds(buffer.can_read_contours(), "the contours");
+        row.equal(buffer.can_read_shapes(), shapes.is_some(), "the shapes");
+        if let Some(shapes) = shapes {
+            has_shapes(&row, &buffer, [points, contours, ranges, shapes])?;
         }
     }
     Ok(())
@@ -270,123 +199,77 @@ fn ranges_can_be_read_or_not(rt: HostRuntime) -> Result<(), Fail> {
 
 #[test]
 fn too_much_room_is_not_there(rt: HostRuntime) -> Result<(), Fail> {
-    let alloc = rt.alloc();
-    let far = usize::MAX;
-    let made = FlatContoursBuffer::<i32>::with_capacity(alloc, far);
-    holds(
-        &rt,
-        matches!(made, Err(ShapeError::OutOfMemory)),
-        "new",
-        "the answer",
-    );
-    let mut buffer = flat_shapes(&rt, alloc, "1 2", ["0..1", "0..1"])?;
-    let answer = buffer.clear_and_reserve(1, far, 1);
-    holds(
-        &rt,
-        matches!(answer, Err(ShapeError::OutOfMemory)),
-        "reserved",
-        "the answer",
-    );
-    has_shapes(&rt, alloc, &buffer, ["1 2", "0..1", "0..1", "1 2;/"])
+    let row = Row::new(&rt, rt.alloc(), "too much room");
+    let made = FlatContoursBuffer::<i32>::with_capacity(row.alloc, usize::MAX);
+    row.holds(matches!(made, Err(ShapeError::OutOfMemory)), "a new buffer");
+    let mut buffer = flat_shapes(&row, "1 2", ["0..1", "0..1"])?;
+    let answer = buffer.clear_and_reserve(1, usize::MAX, 1);
+    row.holds(matches!(answer, Err(ShapeError::OutOfMemory)), "reserved");
+    has_shapes(&row, &buffer, ["1 2", "0..1", "0..1", "1 2;/"])
 }
 
-/// A generator of numbers, of which each is told by the one before it.
-#[derive(Drop)]
-pub struct Draws {
-    pub seed: u32,
+/// A number below the bound. Each is told by the one before it, which the seed keeps.
+fn draw(seed: &mut u32, bound: u32) -> u32
+    requires { 0 < bound }
+{
+    *seed = seed.wrapping_mul(1103515245).wrapping_add(12345) % 2147483648;
+    *seed / 65536 % bound
 }
 
-impl Draws {
-    pub fn below(&mut self, bound: u32) -> u32
-        requires { 0 < bound }
-        ensures { result < bound }
-    {
-        self.seed = self.seed.wrapping_mul(1103515245).wrapping_add(12345) % 2147483648;
-        self.seed / 65536 % bound
-    }
-
-    fn coordinate(&mut self) -> i32 {
-        (self.below(200) as i32).wrapping_sub(100)
-    }
-}
-
-fn drawn_contour(alloc: Global, draws: &mut Draws) -> Result<IntContour<i32>, ShapeError> {
+fn drawn_contour(alloc: Global, seed: &mut u32) -> Result<IntContour<i32>, ShapeError> {
     let mut contour = Vec::new(alloc);
-    for _ in 0..3 + draws.below(4) {
-        contour.push(IntPoint::new(draws.coordinate(), draws.coordinate()))?;
+    for _ in 0..draw(seed, 4).wrapping_add(3) {
+        let x = (draw(seed, 200) as i32).wrapping_sub(100);
+        contour.push(IntPoint::new(x, (draw(seed, 200) as i32).wrapping_sub(100)))?;
     }
     Ok(contour)
 }
 
-fn drawn_shape(alloc: Global, draws: &mut Draws) -> Result<IntShape<i32>, ShapeError> {
-    let mut shape = Vec::new(alloc);
-    for _ in 0..1 + draws.below(3) {
-        shape.push(drawn_contour(alloc, draws)?)?;
-    }
-    Ok(shape)
-}
-
 #[test]
 fn drawn_shapes_keep_their_number_of_contours(rt: HostRuntime) -> Result<(), Fail> {
-    let alloc = rt.alloc();
-    let mut draws = Draws { seed: 1 };
-    let mut list: IntShapes<i32> = Vec::new(alloc);
-    let mut contours: usize = 0;
+    let row = Row::new(&rt, rt.alloc(), "five drawn shapes");
+    let mut seed = 1;
+    let mut list: IntShapes<i32> = Vec::new(row.alloc);
+    let mut count: usize = 0;
     for _ in 0..5 {
-        let shape = drawn_shape(alloc, &mut draws)?;
-        contours = contours.wrapping_add(shape.len());
+        let mut shape = Vec::new(row.alloc);
+        for _ in 0..draw(&mut seed, 3).wrapping_add(1) {
+            shape.push(drawn_contour(row.alloc, &mut seed)?)?;
+            count = count.wrapping_add(1);
+        }
         list.push(shape)?;
     }
-    let mut flat = FlatContoursBuffer::new(alloc);
-    flat.set_with_shapes(list.as_slice())?;
-    let mut shapes = FlatShapesBuffer::new(alloc);
+    let mut contours = FlatContoursBuffer::new(row.alloc);
+    contours.set_with_shapes(list.as_slice())?;
+    let mut shapes = FlatShapesBuffer::new(row.alloc);
     shapes.set_with_shapes(list.as_slice())?;
-    assert!(rt; flat.can_read_contours() && shapes.can_read_contours());
-    equal(
-        &rt,
-        flat.to_contours()?.len(),
-        contours,
-        "five drawn shapes",
-        "contours",
-    );
-    equal(
-        &rt,
-        shapes.to_contours()?.len(),
-        contours,
-        "five drawn shapes",
-        "contours of shapes",
-    );
+    assert!(rt; contours.can_read_contours() && shapes.can_read_contours());
+    let counts = [contours.to_contours()?.len(), shapes.to_contours()?.len()];
+    row.equal(counts, [count, count], "contours");
     Ok(())
 }
 
 /// Cleans a buffer. The test stops where a range can't be read, or a point isn't safe.
-fn simplify<I: IntNumber>(
-    rt: &impl Abort,
-    buffer: &mut FlatContoursBuffer<I>,
+fn simplify(
+    row: &Row<'_, impl Abort>,
+    buffer: &mut FlatContoursBuffer<i32>,
 ) -> Result<bool, ShapeError> {
-    assert!(rt; buffer.can_read_contours(), "a range can't be read");
-    assert!(rt; buffer.is_in_safe_range(), "a point isn't safe");
+    assert!(row.rt; buffer.can_read_contours(), "a range can't be read");
+    assert!(row.rt; buffer.is_in_safe_range(), "a point isn't safe");
     buffer.simplify_contours()
 }
 
 /// The buffer is cleaned to the other, and it is told whether that changed it. It then stays.
 fn cleans(
-    rt: &impl Abort,
-    name: &str,
+    row: &Row<'_, impl Abort>,
     mut buffer: FlatContoursBuffer<i32>,
     kept: FlatContoursBuffer<i32>,
 ) -> Result<(), Fail> {
     let is_clean = buffer == kept;
-    equal(
-        rt,
-        simplify(rt, &mut buffer)?,
-        !is_clean,
-        name,
-        "what is told",
-    );
-    holds(rt, buffer == kept, name, "what is left");
-    holds(rt, !simplify(rt, &mut buffer)?, name, "a change is told");
-    holds(rt, buffer == kept, name, "what is left, again");
+    row.equal(simplify(row, &mut buffer)?, !is_clean, "what is told");
+    row.holds(buffer == kept, "what is left");
+    row.holds(!simplify(row, &mut buffer)?, "what is told again");
+    row.holds(buffer == kept, "what is left again");
     Ok(())
 }
 
@@ -411,24 +294,24 @@ const CLEANED: [[&str; 4]; 5] = [
 
 #[test]
 fn cleaned_contours_stand_end_to_end(rt: HostRuntime) -> Result<(), Fail> {
-    let alloc = rt.alloc();
     for [points, ranges, kept, kept_ranges] in CLEANED {
-        let wanted = flat(&rt, alloc, kept, kept_ranges)?;
-        cleans(&rt, points, flat(&rt, alloc, points, ranges)?, wanted)?;
+        let row = Row::new(&rt, rt.alloc(), ranges);
+        let kept = flat(&row, kept, kept_ranges)?;
+        cleans(&row, flat(&row, points, ranges)?, kept)?;
     }
     Ok(())
 }
 
 #[test]
 fn a_buffer_of_ten_thousand_contours_is_cleaned(rt: HostRuntime) -> Result<(), Fail> {
-    let alloc = rt.alloc();
-    let given = texts::contour(&rt, alloc, "0 0 1 0 2 0 0 2")?;
-    let kept = texts::contour(&rt, alloc, "0 0 2 0 0 2")?;
-    let mut buffer = FlatContoursBuffer::new(alloc);
-    let mut wanted = FlatContoursBuffer::new(alloc);
+    let row = Row::new(&rt, rt.alloc(), "ten thousand triangles");
+    let given = texts::contour(&row, "0 0 1 0 2 0 0 2")?;
+    let kept = texts::contour(&row, "0 0 2 0 0 2")?;
+    let mut buffer = FlatContoursBuffer::new(row.alloc);
+    let mut wanted = FlatContoursBuffer::new(row.alloc);
     for _ in 0..10_000 {
         buffer.add_contour(given.as_slice())?;
         wanted.add_contour(kept.as_slice())?;
     }
-    cleans(&rt, "ten thousand triangles", buffer, wanted)
+    cleans(&row, buffer, wanted)
 }

@@ -1,27 +1,11 @@
 //! How many pairs of points the search for the least rotation compares.
 
-ghost use Rattle.std.specs.Prelude.{◌<◌, length};
-
 use crate::given::contour;
 use crate::plain::Pair;
+use crate::row::Row;
 use i_shape_core::canonical::least_start_counted;
-use std::alloc::{AllocError, Global};
 use std::cmp::Ordering;
-use std::process::Abort;
 use std::test::Fail;
-
-/// The search answers this start and this number of comparisons.
-fn has_count(
-    rt: &impl Abort,
-    alloc: Global,
-    list: &[Pair],
-    wanted: (usize, u128),
-) -> Result<(), Fail> {
-    let points = contour::<i32>(rt, alloc, list)?;
-    assert!(rt; !points.is_empty());
-    assert_eq!(rt; least_start_counted(points.as_slice()), wanted);
-    Ok(())
-}
 
 /// How the rotations of a list from two places are ordered, and how many pairs of points tell it.
 fn compared(list: &[Pair], one: usize, other: usize) -> (usize, Ordering) {
@@ -62,24 +46,22 @@ fn plain_search(list: &[Pair]) -> (usize, u128) {
     (best, pairs)
 }
 
-/// The list of so many points on a line whose x are the digits of the code to base 3.
-fn list_of(alloc: Global, count: usize, code: usize) -> Result<Vec<Pair>, AllocError> {
-    let mut list = Vec::new(alloc);
-    let mut rest = code;
-    for _ in 0..count {
-        list.push([(rest % 3) as i32, 0])?;
-        rest = rest / 3;
-    }
-    Ok(list)
-}
-
+/// Each list of one to six points on a line whose x are the digits of a code to base 3.
 #[test]
 fn comparisons_of_each_short_list_are_those_of_a_plain_loop(rt: HostRuntime) -> Result<(), Fail> {
-    let alloc = rt.alloc();
     for (count, codes) in [(1, 3), (2, 9), (3, 27), (4, 81), (5, 243), (6, 729)] {
         for code in 0..codes {
-            let list = list_of(alloc, count, code)?;
-            has_count(&rt, alloc, list.as_slice(), plain_search(list.as_slice()))?;
+            let row = Row::new(&rt, rt.alloc(), "a short list");
+            let mut list: Vec<Pair> = Vec::new(row.alloc);
+            let mut rest: usize = code;
+            for _ in 0..count {
+                list.push([(rest % 3) as i32, 0])?;
+                rest = rest / 3;
+            }
+            let points = contour::<i32>(&row, list.as_slice())?;
+            assert!(rt; !points.is_empty());
+            let found = least_start_counted(points.as_slice());
+            row.equal(found, plain_search(list.as_slice()), "the search");
         }
     }
     Ok(())

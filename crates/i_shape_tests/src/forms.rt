@@ -1,13 +1,11 @@
 //! The forms of contours, shapes and lists, and stores by form.
 
-use crate::claims::{equal, holds};
+use crate::row::Row;
 use crate::texts;
 use callers::polygons::PolygonStore;
 use callers::store::{CanonicalStore, Insertion};
 use i_shape::int::canonical::{CanonicalShape, CanonicalShapes};
 use i_shape::int::simple::SimpleContour;
-use std::alloc::Global;
-use std::process::Abort;
 use std::test::Fail;
 
 /// A shape, its form, and its form either way round. The holes of the first are out of order, and its outer contour has a point on an edge.
@@ -29,116 +27,71 @@ const FORMS: [[&str; 3]; 3] = [
 fn forms_of_shapes(rt: HostRuntime) -> Result<(), Fail> {
     let alloc = rt.alloc();
     for [name, form, either] in FORMS {
-        let given = texts::shape(&rt, alloc, name)?;
-        let wanted = texts::shape(&rt, alloc, form)?;
-        let kept = given.as_slice().canonical(alloc)?;
-        holds(
-            &rt,
-            kept.is_some_and(|kept| kept == wanted),
-            name,
-            "the form",
-        );
-        let wanted = texts::shape(&rt, alloc, either)?;
-        let kept = given.as_slice().canonical_unoriented(alloc)?;
-        holds(
-            &rt,
-            kept.is_some_and(|kept| kept == wanted),
-            name,
-            "either way round",
-        );
+        let row = Row::new(&rt, alloc, name);
+        let given = texts::shape(&row, name)?;
+        let kept = given.as_slice().canonical(alloc)?.ok_or("it collapsed")?;
+        row.holds(kept == texts::shape(&row, form)?, "the form");
+        let kept = given
+            .as_slice()
+            .canonical_unoriented(alloc)?
+            .ok_or("it collapsed")?;
+        row.holds(kept == texts::shape(&row, either)?, "either way round");
     }
-    let flat = texts::shape(&rt, alloc, "1 1 2 2 3 3; 2 4 4 2 2 2;")?;
-    let none = flat.as_slice().canonical(alloc)?;
-    holds(
-        &rt,
-        none.is_none(),
-        "an outer contour that collapses",
-        "no form",
-    );
+    let row = Row::new(&rt, alloc, "an outer contour that collapses");
+    let flat = texts::shape(&row, "1 1 2 2 3 3; 2 4 4 2 2 2;")?;
+    row.holds(flat.as_slice().canonical(alloc)?.is_none(), "no form");
     Ok(())
 }
 
 /// Shapes are sorted, and those whose outer contour collapses are left out.
 #[test]
 fn forms_of_lists(rt: HostRuntime) -> Result<(), Fail> {
-    let alloc = rt.alloc();
-    let list = texts::shapes(
-        &rt,
-        alloc,
-        "8 6 6 6 6 8 7 7;/1 1 2 2 3 3; 2 4 4 2 2 2;/2 4 4 2 2 2;//",
-    )?;
-    let wanted = texts::shapes(&rt, alloc, "/2 2 2 4 4 2;/6 6 6 8 8 6;/")?;
-    holds(
-        &rt,
-        list.as_slice().canonical(alloc)? == wanted,
-        "a list",
-        "the form",
-    );
-    let kept = list.as_slice().canonical_unoriented(alloc)?;
-    holds(&rt, kept == wanted, "a list", "the form either way round");
+    let row = Row::new(&rt, rt.alloc(), "a list");
+    let given = "8 6 6 6 6 8 7 7;/1 1 2 2 3 3; 2 4 4 2 2 2;/2 4 4 2 2 2;//";
+    let list = texts::shapes(&row, given)?;
+    let wanted = texts::shapes(&row, "/2 2 2 4 4 2;/6 6 6 8 8 6;/")?;
+    row.holds(list.as_slice().canonical(row.alloc)? == wanted, "the form");
+    let kept = list.as_slice().canonical_unoriented(row.alloc)?;
+    row.holds(kept == wanted, "the form either way round");
     Ok(())
 }
 
 #[test]
 fn the_form_of_a_contour_either_way_round(rt: HostRuntime) -> Result<(), Fail> {
-    let alloc = rt.alloc();
-    let wanted = texts::contour(&rt, alloc, "0 0 0 10 10 10 10 0")?;
     for name in ["10 0 10 10 0 10 0 0 5 0", "10 10 10 0 0 0 0 10"] {
-        let given = texts::contour(&rt, alloc, name)?;
-        let kept = given.as_slice().canonical_unoriented(alloc)?;
-        holds(
-            &rt,
-            kept.is_some_and(|kept| kept == wanted),
-            name,
-            "the form",
-        );
+        let row = Row::new(&rt, rt.alloc(), name);
+        let form = texts::contour(&row, name)?
+            .as_slice()
+            .canonical_unoriented(row.alloc)?;
+        texts::leaves(&row, form, "0 0 0 10 10 10 10 0", "the form")?;
     }
     Ok(())
 }
 
 /// Shapes of one contour, and what becomes of each in a store that was given those above.
 const INSERTED: [(&str, Insertion); 4] = [
-    ("6 0 0 0 2 0 1 0 1 5;", Insertion::New),
-    ("2 0 1 0 1 5 6 0 0 0;", Insertion::Known),
-    ("0 0 0 512 0 1;", Insertion::Collapsed),
-    ("0 0 4 0 4 4 0 4 0 0;", Insertion::New),
+    ("6 0 0 0 2 0 1 0 1 5", Insertion::New),
+    ("2 0 1 0 1 5 6 0 0 0", Insertion::Known),
+    ("0 0 0 512 0 1", Insertion::Collapsed),
+    ("0 0 4 0 4 4 0 4 0 0", Insertion::New),
 ];
 
-/// The polygon becomes that in the store, and is there afterwards unless it collapses.
-fn polygon_is_inserted(
-    rt: &impl Abort,
-    alloc: Global,
-    polygons: &mut PolygonStore<i32>,
-    name: &str,
-    inserted: Insertion,
-) -> Result<(), Fail> {
-    let shape = texts::shape(rt, alloc, name)?;
-    let answer = polygons.insert(shape.as_slice())?;
-    equal(rt, answer, inserted, name, "what became of the polygon");
-    let is_there = polygons.contains(shape.as_slice())?;
-    let wanted = inserted != Insertion::Collapsed;
-    equal(rt, is_there, wanted, name, "whether the polygon is there");
-    Ok(())
-}
-
+/// What is inserted is there afterwards unless it collapses.
 #[test]
 fn joined_contours_are_one_in_a_store(rt: HostRuntime) -> Result<(), Fail> {
-    let alloc = rt.alloc();
-    let mut contours = CanonicalStore::new(alloc);
-    let mut polygons = PolygonStore::new(alloc);
+    let mut contours = CanonicalStore::new(rt.alloc());
+    let mut polygons = PolygonStore::new(rt.alloc());
     for (name, inserted) in INSERTED {
-        let given = texts::contour(&rt, alloc, name.trim_end_matches(';'))?;
-        let answer = contours.insert(given.as_slice())?;
-        equal(&rt, answer, inserted, name, "what became of the contour");
-        let wanted = inserted != Insertion::Collapsed;
-        equal(
-            &rt,
-            contours.contains(given.as_slice())?,
-            wanted,
-            name,
-            "whether it is there",
-        );
-        polygon_is_inserted(&rt, alloc, &mut polygons, name, inserted)?;
+        let row = Row::new(&rt, rt.alloc(), name);
+        let given = texts::contour(&row, name)?;
+        let wanted = (inserted, inserted != Insertion::Collapsed);
+        let given = given.as_slice();
+        let answer = (contours.insert(given)?, contours.contains(given)?);
+        row.equal(answer, wanted, "a contour");
+        let given = texts::shape(&row, name)?;
+        let given = given.as_slice();
+        let answer = (polygons.insert(given)?, polygons.contains(given)?);
+        row.equal(answer, wanted, "a polygon");
     }
     Ok(())
 }

@@ -4,8 +4,8 @@ ghost use Rattle.std.specs.Prelude.{IfSome};
 ghost use Rattle.std.specs.Iterator.{at_most, UpTo};
 ghost use Rattle.std.specs.Iterator.SizeHint.{IsWithinCount};
 
-use crate::claims::{equal, holds};
 use crate::resource::{WholePoint, lends_points};
+use crate::row::Row;
 use crate::texts;
 use i_shape::ShapeError;
 use i_shape::flat::float::{FloatFlatContoursBuffer, FloatFlatShapesBuffer};
@@ -69,62 +69,38 @@ fn paths(alloc: Global, text: &str) -> Result<Vec<Vec<WholePoint>>, Fail> {
 
 /// The buffer has these points and ranges, and lends these paths.
 fn has_contours(
-    rt: &impl Abort,
-    alloc: Global,
+    row: &Row<'_, impl Abort>,
     buffer: &FloatFlatContoursBuffer<WholePoint>,
     [points, ranges, lent]: [&str; 3],
 ) -> Result<(), Fail> {
     let wanted = FloatFlatContoursBuffer {
-        points: whole(alloc, points)?,
-        ranges: texts::ranges(alloc, ranges)?,
+        points: whole(row.alloc, points)?,
+        ranges: texts::ranges(row.alloc, ranges)?,
     };
-    holds(
-        rt,
-        *buffer == wanted && buffer.clone()? == wanted,
-        ranges,
-        "points and ranges",
-    );
-    equal(rt, buffer.is_empty(), points.is_empty(), ranges, "empty");
-    let lent = paths(alloc, lent)?;
-    lends_points(rt, ranges, "contours", buffer, lent.as_slice());
-    lends_points(
-        rt,
-        ranges,
-        "a reference to contours",
-        &buffer,
-        lent.as_slice(),
-    );
+    row.holds(*buffer == wanted && buffer.clone()? == wanted, ranges);
+    row.equal(buffer.is_empty(), points.is_empty(), "empty");
+    let lent = paths(row.alloc, lent)?;
+    lends_points(row, buffer, lent.as_slice());
+    lends_points(row, &buffer, lent.as_slice());
     Ok(())
 }
 
 /// The same of a buffer of shapes.
 fn has_shapes(
-    rt: &impl Abort,
-    alloc: Global,
+    row: &Row<'_, impl Abort>,
     buffer: &FloatFlatShapesBuffer<WholePoint>,
     [points, contours, shapes, lent]: [&str; 4],
 ) -> Result<(), Fail> {
     let wanted = FloatFlatShapesBuffer {
-        points: whole(alloc, points)?,
-        contour_ranges: texts::ranges(alloc, contours)?,
-        shape_ranges: texts::ranges(alloc, shapes)?,
+        points: whole(row.alloc, points)?,
+        contour_ranges: texts::ranges(row.alloc, contours)?,
+        shape_ranges: texts::ranges(row.alloc, shapes)?,
     };
-    holds(
-        rt,
-        *buffer == wanted && buffer.clone()? == wanted,
-        contours,
-        "points and ranges",
-    );
-    equal(rt, buffer.is_empty(), points.is_empty(), contours, "empty");
-    let lent = paths(alloc, lent)?;
-    lends_points(rt, contours, "shapes", buffer, lent.as_slice());
-    lends_points(
-        rt,
-        contours,
-        "a reference to shapes",
-        &buffer,
-        lent.as_slice(),
-    );
+    row.holds(*buffer == wanted && buffer.clone()? == wanted, contours);
+    row.equal(buffer.is_empty(), points.is_empty(), "empty");
+    let lent = paths(row.alloc, lent)?;
+    lends_points(row, buffer, lent.as_slice());
+    lends_points(row, &buffer, lent.as_slice());
     Ok(())
 }
 
@@ -134,110 +110,79 @@ const HALVES: &str = "0 0 4 0 4 4;20 20 22 20 22 22;";
 
 #[test]
 fn lists_are_stored_as_handed_in(rt: HostRuntime) -> Result<(), Fail> {
-    let alloc = rt.alloc();
-    let points = whole(alloc, SIX)?;
-    let mut contours = FloatFlatContoursBuffer::new(alloc);
+    let row = Row::new(&rt, rt.alloc(), "lists");
+    let points = whole(row.alloc, SIX)?;
+    let mut contours = FloatFlatContoursBuffer::new(row.alloc);
     contours.set_flat(points.as_slice(), &[0..3, 3..6])?;
-    has_contours(&rt, alloc, &contours, [SIX, "0..3 3..6", HALVES])?;
+    has_contours(&row, &contours, [SIX, "0..3 3..6", HALVES])?;
     contours.set_with_iter(points.iter().copied(), &[0..3, 3..6])?;
-    has_contours(&rt, alloc, &contours, [SIX, "0..3 3..6", HALVES])?;
+    has_contours(&row, &contours, [SIX, "0..3 3..6", HALVES])?;
     contours.set_flat(&[], &[0..0])?;
-    has_contours(&rt, alloc, &contours, ["", "0..0", ";"])?;
-    let mut shapes = FloatFlatShapesBuffer::new(alloc);
+    has_contours(&row, &contours, ["", "0..0", ";"])?;
+    let mut shapes = FloatFlatShapesBuffer::new(row.alloc);
     shapes.set_flat(points.as_slice(), &[0..3, 3..6], &[0..2])?;
-    has_shapes(&rt, alloc, &shapes, [SIX, "0..3 3..6", "0..2", HALVES])?;
+    has_shapes(&row, &shapes, [SIX, "0..3 3..6", "0..2", HALVES])?;
     shapes.set_with_iter(points.iter().copied(), &[0..3, 3..6], &[0..1, 1..2])?;
-    has_shapes(&rt, alloc, &shapes, [SIX, "0..3 3..6", "0..1 1..2", HALVES])?;
+    has_shapes(&row, &shapes, [SIX, "0..3 3..6", "0..1 1..2", HALVES])?;
     shapes.set_flat(&[], &[0..0], &[])?;
-    has_shapes(&rt, alloc, &shapes, ["", "0..0", "", ";"])
-}
-
-const TWO_PATHS: &str = "0 0 4 0 4 4;2 2 3 2 3 3;";
-
-#[test]
-fn each_path_of_a_resource_is_a_contour(rt: HostRuntime) -> Result<(), Fail> {
-    let alloc = rt.alloc();
-    let [joined, ranges] = ["0 0 4 0 4 4 2 2 3 2 3 3", "0..3 3..6"];
-    let shape = paths(alloc, TWO_PATHS)?;
-    let mut contours = FloatFlatContoursBuffer::new(alloc);
-    contours.set_with_resource(&shape)?;
-    has_contours(&rt, alloc, &contours, [joined, ranges, TWO_PATHS])?;
-    assert!(rt; contours.can_read_contours());
-    holds(
-        &rt,
-        contours.to_contours()? == shape,
-        TWO_PATHS,
-        "read back",
-    );
-    let mut shapes = FloatFlatShapesBuffer::new(alloc);
-    shapes.set_with_resource(&shape)?;
-    has_shapes(&rt, alloc, &shapes, [joined, ranges, "0..2", TWO_PATHS])?;
-    assert!(rt; shapes.can_read_contours() && shapes.can_read_shapes());
-    holds(
-        &rt,
-        shapes.to_contours()? == shape,
-        TWO_PATHS,
-        "read back as contours",
-    );
-    let list = shapes.to_shapes()?;
-    holds(
-        &rt,
-        list.len() == 1 && list[0] == shape,
-        TWO_PATHS,
-        "read back as a shape",
-    );
-    Ok(())
+    has_shapes(&row, &shapes, ["", "0..0", "", ";"])
 }
 
 #[test]
 fn a_resource_takes_the_place_of_what_was_held(rt: HostRuntime) -> Result<(), Fail> {
-    let alloc = rt.alloc();
-    let mut shapes = FloatFlatShapesBuffer::new(alloc);
+    let row = Row::new(&rt, rt.alloc(), "resources");
+    let [joined, listed] = ["0 0 4 0 4 4 2 2 3 2 3 3", "0 0 4 0 4 4;2 2 3 2 3 3;"];
+    let shape = paths(row.alloc, listed)?;
+    let mut contours = FloatFlatContoursBuffer::new(row.alloc);
+    contours.set_with_resource(&shape)?;
+    has_contours(&row, &contours, [joined, "0..3 3..6", listed])?;
+    assert!(rt; contours.can_read_contours());
+    row.holds(contours.to_contours()? == shape, "read back");
+    let mut shapes = FloatFlatShapesBuffer::new(row.alloc);
     shapes.add_contour(&[WholePoint { x: 1, y: 1 }])?;
+    shapes.set_with_resource(&shape)?;
+    has_shapes(&row, &shapes, [joined, "0..3 3..6", "0..2", listed])?;
+    assert!(rt; shapes.can_read_contours() && shapes.can_read_shapes());
+    row.holds(shapes.to_contours()? == shape, "read back as contours");
+    let list = shapes.to_shapes()?;
+    row.holds(list.len() == 1 && list[0] == shape, "read back as a shape");
     let [joined, listed] = ["0 0 4 0 4 4 2 2 3 2", "0 0 4 0 4 4;2 2 3 2;"];
-    shapes.set_with_resource(&paths(alloc, listed)?)?;
-    has_shapes(&rt, alloc, &shapes, [joined, "0..3 3..5", "0..2", listed])?;
+    shapes.set_with_resource(&paths(row.alloc, listed)?)?;
+    has_shapes(&row, &shapes, [joined, "0..3 3..5", "0..2", listed])?;
     let no_paths: [Vec<WholePoint>; 0] = [];
     shapes.set_with_resource(&no_paths)?;
-    has_shapes(&rt, alloc, &shapes, ["", "", "", ""])?;
+    has_shapes(&row, &shapes, ["", "", "", ""])?;
     let no_points: [WholePoint; 0] = [];
     shapes.set_with_resource(&no_points)?;
-    has_shapes(&rt, alloc, &shapes, ["", "0..0", "0..1", ";"])
+    has_shapes(&row, &shapes, ["", "0..0", "0..1", ";"])
 }
 
 #[test]
 fn contours_are_added_at_the_end(rt: HostRuntime) -> Result<(), Fail> {
-    let alloc = rt.alloc();
+    let row = Row::new(&rt, rt.alloc(), "contours one by one");
     let [joined, listed] = ["0 0 4 0 4 4 2 2 3 2", "0 0 4 0 4 4;2 2 3 2;"];
-    let [three, two] = [whole(alloc, "0 0 4 0 4 4")?, whole(alloc, "2 2 3 2")?];
-    let mut contours = FloatFlatContoursBuffer::with_capacity(alloc, 4, 4)?;
+    let [three, two] = [
+        whole(row.alloc, "0 0 4 0 4 4")?,
+        whole(row.alloc, "2 2 3 2")?,
+    ];
+    let mut contours = FloatFlatContoursBuffer::with_capacity(row.alloc, 4, 4)?;
     contours.add_contour(three.as_slice())?;
     contours.add_contour_iter(two.iter().copied())?;
-    has_contours(&rt, alloc, &contours, [joined, "0..3 3..5", listed])?;
+    has_contours(&row, &contours, [joined, "0..3 3..5", listed])?;
     contours.clear_and_reserve(4, 4)?;
-    has_contours(&rt, alloc, &contours, ["", "", ""])?;
+    has_contours(&row, &contours, ["", "", ""])?;
     contours.add_contour(two.as_slice())?;
     contours.add_contour_iter(items(0, 0, None))?;
-    has_contours(&rt, alloc, &contours, ["2 2 3 2", "0..2 2..2", "2 2 3 2;;"])?;
-    let mut shapes = FloatFlatShapesBuffer::with_capacity(alloc, 4, 4, 4)?;
+    has_contours(&row, &contours, ["2 2 3 2", "0..2 2..2", "2 2 3 2;;"])?;
+    let mut shapes = FloatFlatShapesBuffer::with_capacity(row.alloc, 4, 4, 4)?;
     shapes.add_contour(three.as_slice())?;
     shapes.add_contour_iter(two.iter().copied())?;
-    has_shapes(
-        &rt,
-        alloc,
-        &shapes,
-        [joined, "0..3 3..5", "0..1 1..2", listed],
-    )?;
+    has_shapes(&row, &shapes, [joined, "0..3 3..5", "0..1 1..2", listed])?;
     shapes.clear_and_reserve(4, 4, 4)?;
-    has_shapes(&rt, alloc, &shapes, ["", "", "", ""])?;
+    has_shapes(&row, &shapes, ["", "", "", ""])?;
     shapes.add_contour(three.as_slice())?;
     shapes.add_contour(two.as_slice())?;
-    has_shapes(
-        &rt,
-        alloc,
-        &shapes,
-        [joined, "0..3 3..5", "0..1 1..2", listed],
-    )
+    has_shapes(&row, &shapes, [joined, "0..3 3..5", "0..1 1..2", listed])
 }
 
 /// Ranges of two points, whether each can be read, and the paths that are lent: those of the others are passed over.
@@ -253,79 +198,46 @@ const RANGES: [(&str, bool, &str); 3] = [
 
 #[test]
 fn bad_ranges_are_passed_over(rt: HostRuntime) -> Result<(), Fail> {
-    let alloc = rt.alloc();
-    let points = whole(alloc, "1 2 3 4")?;
-    for (text, readable, lent) in RANGES {
-        let ranges = texts::ranges(alloc, text)?;
-        let mut contours = FloatFlatContoursBuffer::new(alloc);
+    for (name, readable, lent) in RANGES {
+        let row = Row::new(&rt, rt.alloc(), name);
+        let points = whole(row.alloc, "1 2 3 4")?;
+        let ranges = texts::ranges(row.alloc, name)?;
+        let mut contours = FloatFlatContoursBuffer::new(row.alloc);
         contours.set_flat(points.as_slice(), ranges.as_slice())?;
-        equal(
-            &rt,
-            contours.can_read_contours(),
-            readable,
-            text,
-            "contours",
-        );
-        has_contours(&rt, alloc, &contours, ["1 2 3 4", text, lent])?;
-        let mut shapes = FloatFlatShapesBuffer::new(alloc);
+        row.equal(contours.can_read_contours(), readable, "contours");
+        has_contours(&row, &contours, ["1 2 3 4", name, lent])?;
+        let mut shapes = FloatFlatShapesBuffer::new(row.alloc);
         shapes.set_flat(points.as_slice(), ranges.as_slice(), &[])?;
-        equal(&rt, shapes.can_read_contours(), readable, text, "shapes");
-        has_shapes(&rt, alloc, &shapes, ["1 2 3 4", text, "", lent])?;
+        row.equal(shapes.can_read_contours(), readable, "shapes");
+        has_shapes(&row, &shapes, ["1 2 3 4", name, "", lent])?;
+        let mut walk = (&contours).iter_paths();
+        walk.next();
+        let left = lent.split_terminator(";").skip(1).count();
+        row.equal(walk.count(), left, "paths after one");
     }
     Ok(())
 }
 
-#[test]
-fn count_is_the_number_of_readable_paths_left(rt: HostRuntime) -> Result<(), Fail> {
-    let points = [WholePoint { x: 1, y: 2 }, WholePoint { x: 3, y: 4 }];
-    let mut contours = FloatFlatContoursBuffer::new(rt.alloc());
-    contours.set_flat(&points, &[5..6, 0..1, 2..1, 1..2, 0..2, 0..3])?;
-    let mut walk = (&contours).iter_paths();
-    walk.next();
-    equal(&rt, walk.count(), 2, "contours", "paths after one");
-    Ok(())
-}
-
+/// A hint or a range that is too far is refused, and leaves the buffer empty.
 #[test]
 fn size_hints_need_not_be_exact(rt: HostRuntime) -> Result<(), Fail> {
-    let alloc = rt.alloc();
-    let mut contours = FloatFlatContoursBuffer::new(alloc);
-    contours.set_with_iter(items(3, 1, Some(10)), &[0..3])?;
-    has_contours(
-        &rt,
-        alloc,
-        &contours,
-        ["7 7 7 7 7 7", "0..3", "7 7 7 7 7 7;"],
-    )?;
-    contours.set_with_iter(items(5, 0, None), &[])?;
-    has_contours(&rt, alloc, &contours, ["7 7 7 7 7 7 7 7 7 7", "", ""])?;
+    let row = Row::new(&rt, rt.alloc(), "size hints");
     let far = usize::MAX;
-    let range = texts::ranges(alloc, "0..18446744073709551615")?;
-    let answer = contours.set_with_iter(items(2, 2, Some(2)), range.as_slice());
-    holds(
-        &rt,
-        matches!(answer, Err(ShapeError::OutOfMemory)),
-        "a far range",
-        "refused",
-    );
-    has_contours(&rt, alloc, &contours, ["", "", ""])?;
+    let mut contours = FloatFlatContoursBuffer::new(row.alloc);
+    contours.set_with_iter(items(3, 1, Some(10)), &[0..3])?;
+    has_contours(&row, &contours, ["7 7 7 7 7 7", "0..3", "7 7 7 7 7 7;"])?;
+    contours.set_with_iter(items(5, 0, None), &[])?;
+    has_contours(&row, &contours, ["7 7 7 7 7 7 7 7 7 7", "", ""])?;
+    let answer = contours.set_with_iter(items(2, 2, Some(2)), &[0..far]);
+    row.holds(matches!(answer, Err(ShapeError::OutOfMemory)), "too far");
+    has_contours(&row, &contours, ["", "", ""])?;
     contours.add_contour(&[WholePoint { x: 1, y: 1 }])?;
     let answer = contours.set_with_iter(items(2, 0, Some(far)), &[]);
-    holds(
-        &rt,
-        matches!(answer, Err(ShapeError::OutOfMemory)),
-        "a far hint",
-        "refused",
-    );
-    has_contours(&rt, alloc, &contours, ["", "", ""])?;
-    let mut shapes = FloatFlatShapesBuffer::new(alloc);
+    row.holds(matches!(answer, Err(ShapeError::OutOfMemory)), "a far hint");
+    has_contours(&row, &contours, ["", "", ""])?;
+    let mut shapes = FloatFlatShapesBuffer::new(row.alloc);
     shapes.add_contour(&[WholePoint { x: 1, y: 1 }])?;
     let answer = shapes.set_with_iter(items(2, 0, Some(far)), &[], &[]);
-    holds(
-        &rt,
-        matches!(answer, Err(ShapeError::OutOfMemory)),
-        "a far hint",
-        "refused for shapes",
-    );
-    has_shapes(&rt, alloc, &shapes, ["", "", "", ""])
+    row.holds(matches!(answer, Err(ShapeError::OutOfMemory)), "far shapes");
+    has_shapes(&row, &shapes, ["", "", "", ""])
 }

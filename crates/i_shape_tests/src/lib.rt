@@ -8,8 +8,6 @@ mod buffer;
 #[cfg(test)]
 mod calling;
 #[cfg(test)]
-mod claims;
-#[cfg(test)]
 mod cleaners;
 #[cfg(test)]
 mod comparisons;
@@ -33,6 +31,8 @@ mod plain;
 mod probe;
 #[cfg(test)]
 mod resource;
+#[cfg(test)]
+mod row;
 #[cfg(test)]
 mod shapes;
 #[cfg(test)]

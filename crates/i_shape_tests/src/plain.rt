@@ -41,59 +41,25 @@ fn is_back(a: Pair, b: Pair, c: Pair) -> bool {
             <= 0
 }
 
-fn is_zero_at(list: &[Pair], place: usize) -> bool
+/// Whether the vertex at a place is a zero turn, and whether it turns back or stands still.
+fn turn_at(list: &[Pair], place: usize) -> (bool, bool)
     requires { place < length list.now }
 {
-    let count = list.len();
-    is_zero_turn(
-        list[before(count, place)],
-        list[place],
-        list[after(count, place)],
-    )
-}
-
-fn is_back_at(list: &[Pair], place: usize) -> bool
-    requires { place < length list.now }
-{
-    let count = list.len();
-    is_back(
-        list[before(count, place)],
-        list[place],
-        list[after(count, place)],
-    )
+    let [a, c] = [
+        list[before(list.len(), place)],
+        list[after(list.len(), place)],
+    ];
+    (is_zero_turn(a, list[place], c), is_back(a, list[place], c))
 }
 
 /// Whether some vertex of the list turns back or stands still, the closing edge included.
 pub fn has_back_vertex(list: &[Pair]) -> bool {
     for place in 0..list.len() {
-        if is_back_at(list, place) {
+        if turn_at(list, place).1 {
             return true;
         }
     }
     false
-}
-
-fn first_zero_turn(list: &[Pair]) -> Option<usize>
-    ensures { IfSome result (λ place. place < length list.now) }
-{
-    for place in 0..list.len() {
-        if is_zero_at(list, place) {
-            return Some(place);
-        }
-    }
-    None
-}
-
-fn last_zero_turn(list: &[Pair]) -> Option<usize>
-    ensures { IfSome result (λ place. place < length list.now) }
-{
-    for behind in 0..list.len() {
-        let place = list.len() - 1 - behind;
-        if is_zero_at(list, place) {
-            return Some(place);
-        }
-    }
-    None
 }
 
 /// Which of the zero turns goes first.
@@ -103,18 +69,26 @@ pub enum Order {
     Last,
 }
 
-/// What is left where zero turns are deleted one by one, in this order, until none is left, or fewer than three points are.
+fn zero_turn(list: &[Pair], order: Order) -> Option<usize>
+    ensures { IfSome result (λ place. place < length list.now) }
+{
+    for step in 0..list.len() {
+        let place = match order {
+            Order::First => step,
+            Order::Last => list.len() - 1 - step,
+        };
+        if turn_at(list, place).0 {
+            return Some(place);
+        }
+    }
+    None
+}
+
+/// What is left where zero turns are deleted one by one, in this order, until none is left: nothing where it collapses.
 pub fn deleted(alloc: Global, list: &[Pair], order: Order) -> Result<Vec<Pair>, AllocError> {
     let mut left = Vec::from_slice(alloc, list)?;
     for _ in 0..list.len() {
-        let found = match order {
-            Order::First => first_zero_turn(left.as_slice()),
-            Order::Last => last_zero_turn(left.as_slice()),
-        };
-        if left.len() < 3 {
-            return Ok(left);
-        }
-        if let Some(place) = found {
+        if let Some(place) = zero_turn(left.as_slice(), order) {
             left.remove(place);
         }
     }
@@ -126,20 +100,15 @@ pub fn is_rotation(one: &[Pair], other: &[Pair]) -> bool {
     if one.len() != other.len() {
         return false;
     }
-    if one.is_empty() {
-        return true;
-    }
     for start in 0..one.len() {
-        if one[start..] == other[..one.len() - start]
-            && one[..start] == other[one.len() - start..]
-        {
+        if other.starts_with(&one[start..]) && other.ends_with(&one[..start]) {
             return true;
         }
     }
-    false
+    one.is_empty()
 }
 
-/// The walk that keeps points on a stack, and then takes zero turns from both of its ends: what it leaves, and its visits.
+/// The walk that keeps points on a stack, and then takes zero turns from both of its ends: what it leaves, nothing where it collapses, and its visits.
 pub fn stack_walk(alloc: Global, list: &[Pair]) -> Result<(Vec<Pair>, u128), AllocError> {
     let mut visits: u128 = 0;
     let mut stack: Vec<Pair> = Vec::new(alloc);
@@ -173,11 +142,14 @@ pub fn stack_walk(alloc: Global, list: &[Pair]) -> Result<(Vec<Pair>, u128), All
         }
         stack.pop();
     }
+    if stack.len() < 3 {
+        stack.clear();
+    }
     Ok((stack, visits))
 }
 
 /// The walk round the ring that removes back vertices, with the number of those, from its place on, that are untested: what it leaves,
-/// and its visits.
+/// nothing where it collapses, and its visits.
 pub fn ring_walk(alloc: Global, list: &[Pair]) -> Result<(Vec<Pair>, u128), AllocError> {
     let mut ring = Vec::from_slice(alloc, list)?;
     let mut place = 0;
@@ -189,7 +161,7 @@ pub fn ring_walk(alloc: Global, list: &[Pair]) -> Result<(Vec<Pair>, u128), Allo
             break;
         }
         visits = visits.wrapping_add(1);
-        if is_back_at(ring.as_slice(), place) {
+        if turn_at(ring.as_slice(), place).1 {
             ring.remove(place);
             untested = untested.max(2).min(count - 1);
             place = if place == 0 { count - 2 } else { place - 1 };
@@ -197,6 +169,9 @@ pub fn ring_walk(alloc: Global, list: &[Pair]) -> Result<(Vec<Pair>, u128), Allo
             untested = untested - 1;
             place = after(count, place);
         }
+    }
+    if ring.len() < 3 {
+        ring.clear();
     }
     Ok((ring, visits))
 }

@@ -8,6 +8,7 @@ ghost use Rattle.i_shape.specs.IntPoint.{contour_of, IsSafe};
 ghost use Rattle.i_shape.specs.ShapeLists.{shape_of, shapes_of, IsSafeShape, IsSafeList};
 
 use crate::given;
+use crate::row::Row;
 use i_shape::int::shape::{IntContour, IntShape, IntShapes};
 use std::alloc::Global;
 use std::ops::Range;
@@ -29,31 +30,31 @@ pub fn points(alloc: Global, text: &str) -> Result<Vec<[i32; 2]>, Fail> {
 }
 
 /// The contour of these points. The test stops where one isn't safe.
-pub fn contour(rt: &impl Abort, alloc: Global, text: &str) -> Result<IntContour<i32>, Fail>
+pub fn contour(row: &Row<'_, impl Abort>, text: &str) -> Result<IntContour<i32>, Fail>
     ensures { IfOk result (λ c. All (IsSafe w32) (contour_of (λ z. z) c.items)) }
 {
-    let points = points(alloc, text)?;
-    Ok(given::contour(rt, alloc, points.as_slice())?)
+    let points = points(row.alloc, text)?;
+    Ok(given::contour(row, points.as_slice())?)
 }
 
 /// The shape of these contours. The test stops where a point isn't safe.
-pub fn shape(rt: &impl Abort, alloc: Global, text: &str) -> Result<IntShape<i32>, Fail>
+pub fn shape(row: &Row<'_, impl Abort>, text: &str) -> Result<IntShape<i32>, Fail>
     ensures { IfOk result (λ s. IsSafeShape w32 (shape_of (λ z. z) s.items)) }
 {
-    let mut shape = Vec::new(alloc);
+    let mut shape = Vec::new(row.alloc);
     for points in text.split_terminator(';') {
-        shape.push(contour(rt, alloc, points)?)?;
+        shape.push(contour(row, points)?)?;
     }
     Ok(shape)
 }
 
 /// The list of these shapes. The test stops where a point isn't safe.
-pub fn shapes(rt: &impl Abort, alloc: Global, text: &str) -> Result<IntShapes<i32>, Fail>
+pub fn shapes(row: &Row<'_, impl Abort>, text: &str) -> Result<IntShapes<i32>, Fail>
     ensures { IfOk result (λ s. IsSafeList w32 (shapes_of (λ z. z) s.items)) }
 {
-    let mut shapes = Vec::new(alloc);
+    let mut shapes = Vec::new(row.alloc);
     for contours in text.split_terminator('/') {
-        shapes.push(shape(rt, alloc, contours)?)?;
+        shapes.push(shape(row, contours)?)?;
     }
     Ok(shapes)
 }
@@ -66,4 +67,16 @@ pub fn ranges(alloc: Global, text: &str) -> Result<Vec<Range<usize>>, Fail> {
         ranges.push(start.parse::<usize>()?..end.parse::<usize>()?)?;
     }
     Ok(ranges)
+}
+
+/// A contour is left as the text has it, where an empty text stands for no contour.
+pub fn leaves(
+    row: &Row<'_, impl Abort>,
+    left: Option<IntContour<i32>>,
+    wanted: &str,
+    what: &str,
+) -> Result<(), Fail> {
+    let left = left.unwrap_or(Vec::new(row.alloc));
+    row.holds(left == contour(row, wanted)?, what);
+    Ok(())
 }

@@ -1,14 +1,13 @@
 //! Worked contours of 32 bits, and what each call answers of them.
 
-use crate::claims::{equal, holds};
-use crate::given::{Ring, contour, hostile_rings, pairs, rings, thousands};
-use crate::plain::{has_back_vertex, is_rotation};
+use crate::given::{contour, pairs, reversed, rotated};
+use crate::plain::{Pair, has_back_vertex, is_rotation};
+use crate::row::Row;
 use crate::texts;
 use i_shape::int::IntPoint;
 use i_shape::int::area::{Area, IteratorArea, UnsafeArea};
 use i_shape::int::despike::{DeSpike, DeSpikeContour};
 use i_shape::int::path::ContourExtension;
-use i_shape::int::shape::IntContour;
 use i_shape::int::simple::{ContourSimplifier, SimpleContour, Simplify};
 use i_shape_core::area::area_of;
 use std::alloc::Global;
@@ -53,339 +52,214 @@ a slanted edge there and back|-16383 -16383 16383 16383 16383 -16383 0 0|-536805
 two ways there and back|-10 -10 -10 10 10 10 -10 10 -10 -10 10 -10|0||5||7|spikes|";
 
 /// The double area of the contour is `two`, and the area half of it towards zero, as a slice and as an iterator.
-pub fn has_area(rt: &impl Abort, name: &str, points: &[IntPoint<i32>], two: i64) {
-    assert!(rt; !points.is_empty(), "{name}: no point");
-    equal(rt, points.area_two(), two, name, "double area");
-    equal(rt, points.area(), two / 2, name, "area");
-    equal(rt, area_of(points), two, name, "double area, by area_of");
-    let sums = [
+pub fn has_area(row: &Row<'_, impl Abort>, points: &[IntPoint<i32>], two: i64) {
+    assert!(row.rt; !points.is_empty(), "no point");
+    let walked = points.iter().copied();
+    let by_walks = [
+        IteratorArea::area_two(walked),
         points.iter().copied().unsafe_area(),
-        IteratorArea::area_two(points.iter().copied()),
     ];
-    equal(rt, sums, [two, two], name, "double areas of iterators");
-    equal(
-        rt,
-        IteratorArea::area(points.iter().copied()),
-        two / 2,
-        name,
-        "area of an iterator",
-    );
-    equal(
-        rt,
-        points.is_clockwise_ordered(),
-        two <= 0,
-        name,
-        "clockwise",
-    );
+    row.equal(by_walks, [two, two], "double areas of iterators");
+    let by_slices = [points.area_two(), area_of(points)];
+    row.equal(by_slices, [two, two], "double areas");
+    let areas = [points.area(), IteratorArea::area(points.iter().copied())];
+    row.equal(areas, [two / 2, two / 2], "areas");
+    row.equal(points.is_clockwise_ordered(), two <= 0, "clockwise");
 }
 
 /// The contour is simple where it is `left`; each call, and the simplifier whatever it has cleaned before, leaves that by so many visits; and so it is in place,
 /// where a second call changes nothing.
 fn is_simplified(
-    rt: &impl Abort,
-    alloc: Global,
+    row: &Row<'_, impl Abort>,
     simplifier: &mut ContourSimplifier,
-    name: &str,
-    [given, left]: [&[[i32; 2]]; 2],
-    wanted_visits: u128,
+    [given, left]: [&str; 2],
+    visits: u128,
 ) -> Result<(), Fail> {
-    let mut cleaned = contour::<i32>(rt, alloc, given)?;
-    let left = contour::<i32>(rt, alloc, left)?;
+    let mut cleaned = texts::contour(row, given)?;
     let points = cleaned.as_slice();
-    let is_clean = !left.is_empty() && cleaned == left;
-    equal(rt, points.is_simple(), is_clean, name, "is_simple");
-    let (counted, visits) = simplifier.simplify_counted(points)?;
-    equal(rt, visits, wanted_visits, name, "visits");
-    for kept in [
-        counted,
-        points.simplified(alloc)?,
-        simplifier.simplify_contour(points)?,
-    ] {
-        holds(
-            rt,
-            kept.unwrap_or(Vec::new(alloc)) == left,
-            name,
-            "what is left",
-        );
-    }
-    equal(
-        rt,
-        cleaned.simplify_contour()?,
-        !is_clean,
-        name,
-        "what is told",
-    );
-    holds(rt, cleaned == left, name, "what is left in place");
-    equal(
-        rt,
-        cleaned.simplify_contour()?,
-        left.is_empty(),
-        name,
-        "what is told again",
-    );
-    holds(rt, cleaned == left, name, "what is left in place again");
-    Ok(())
+    let is_clean = !left.is_empty() && given == left;
+    row.equal(points.is_simple(), is_clean, "is_simple");
+    let (counted, walked) = simplifier.simplify_counted(points)?;
+    row.equal(walked, visits, "visits");
+    texts::leaves(row, counted, left, "simplify_counted")?;
+    texts::leaves(row, points.simplified(row.alloc)?, left, "simplified")?;
+    let kept = simplifier.simplify_contour(points)?;
+    texts::leaves(row, kept, left, "simplify_contour")?;
+    let told = [cleaned.simplify_contour()?, cleaned.simplify_contour()?];
+    row.equal(told, [!is_clean, left.is_empty()], "what is told in place");
+    texts::leaves(row, Some(cleaned), left, "what is left in place")
 }
 
 /// The contour has spikes or none; each call of the despiker leaves `left` by so many visits; and in place `cleaned` is left, where a second call changes nothing.
 fn is_despiked(
-    rt: &impl Abort,
-    alloc: Global,
-    name: &str,
-    [given, left, wanted]: [&[[i32; 2]]; 3],
-    wanted_visits: u128,
+    row: &Row<'_, impl Abort>,
+    [given, left]: [&str; 2],
+    visits: u128,
     has_spikes: bool,
 ) -> Result<(), Fail> {
-    let mut cleaned = contour::<i32>(rt, alloc, given)?;
-    let left = contour::<i32>(rt, alloc, left)?;
-    let wanted = contour::<i32>(rt, alloc, wanted)?;
-    equal(
-        rt,
-        cleaned.has_no_spikes(),
-        !has_spikes,
-        name,
-        "has_no_spikes",
-    );
-    let (counted, visits) = cleaned.despiked_counted(alloc)?;
-    equal(rt, visits, wanted_visits, name, "visits of the despiker");
-    for kept in [counted, cleaned.despiked_contour(alloc)?] {
-        holds(
-            rt,
-            kept.unwrap_or(Vec::new(alloc)) == left,
-            name,
-            "what the despiker leaves",
-        );
-    }
-    equal(
-        rt,
-        cleaned.remove_spikes()?,
-        has_spikes,
-        name,
-        "what is told",
-    );
-    holds(rt, cleaned == wanted, name, "what is left in place");
-    equal(
-        rt,
-        cleaned.remove_spikes()?,
-        wanted.is_empty(),
-        name,
-        "what is told again",
-    );
-    holds(rt, cleaned == wanted, name, "what is left in place again");
-    Ok(())
+    let mut cleaned = texts::contour(row, given)?;
+    row.equal(cleaned.has_no_spikes(), !has_spikes, "has_no_spikes");
+    let (counted, walked) = cleaned.despiked_counted(row.alloc)?;
+    row.equal(walked, visits, "visits of the despiker");
+    texts::leaves(row, counted, left, "despiked_counted")?;
+    let kept = cleaned.despiked_contour(row.alloc)?;
+    texts::leaves(row, kept, left, "despiked_contour")?;
+    let told = [cleaned.remove_spikes()?, cleaned.remove_spikes()?];
+    let left = if has_spikes { left } else { given };
+    row.equal(told, [has_spikes, left.is_empty()], "spikes told in place");
+    texts::leaves(row, Some(cleaned), left, "despiked in place")
 }
 
 /// Both calls give this canonical form.
 fn has_form(
-    rt: &impl Abort,
-    alloc: Global,
+    row: &Row<'_, impl Abort>,
     simplifier: &mut ContourSimplifier,
-    name: &str,
-    [given, form]: [&[[i32; 2]]; 2],
+    [given, form]: [&str; 2],
 ) -> Result<(), Fail> {
-    let given = contour::<i32>(rt, alloc, given)?;
-    let form = contour::<i32>(rt, alloc, form)?;
-    for kept in [
-        given.as_slice().canonical(alloc)?,
-        simplifier.canonical(given.as_slice())?,
-    ] {
-        holds(
-            rt,
-            kept.unwrap_or(Vec::new(alloc)) == form,
-            name,
-            "the canonical form",
-        );
-    }
-    Ok(())
-}
-
-/// The calls answer this row.
-fn is_answered(
-    rt: &impl Abort,
-    alloc: Global,
-    simplifier: &mut ContourSimplifier,
-    row: &str,
-) -> Result<(), Fail> {
-    let columns: Vec<&str> = row.split('|').collect(alloc)?;
-    let [
-        name,
-        given,
-        two,
-        simple,
-        visits,
-        despiked,
-        despiked_visits,
-        spikes,
-        form,
-    ] = columns.as_slice()
-    else {
-        return Err(Fail::new("a row has nine columns"));
-    };
-    let has_spikes = *spikes == "spikes";
-    let given = texts::points(alloc, *given)?;
-    let simple = texts::points(alloc, *simple)?;
-    let despiked = texts::points(alloc, *despiked)?;
-    let form = texts::points(alloc, *form)?;
-    let [given, simple, despiked, form] = [
-        given.as_slice(),
-        simple.as_slice(),
-        despiked.as_slice(),
-        form.as_slice(),
-    ];
-    if !given.is_empty() {
-        has_area(
-            rt,
-            *name,
-            contour::<i32>(rt, alloc, given)?.as_slice(),
-            two.parse::<i64>()?,
-        );
-    }
-    is_simplified(
-        rt,
-        alloc,
-        simplifier,
-        *name,
-        [given, simple],
-        visits.parse::<u128>()?,
-    )?;
-    let in_place = if has_spikes { despiked } else { given };
-    is_despiked(
-        rt,
-        alloc,
-        *name,
-        [given, despiked, in_place],
-        despiked_visits.parse::<u128>()?,
-        has_spikes,
-    )?;
-    has_form(rt, alloc, simplifier, *name, [given, form])
+    let given = texts::contour(row, given)?;
+    let kept = given.as_slice().canonical(row.alloc)?;
+    texts::leaves(row, kept, form, "canonical")?;
+    let kept = simplifier.canonical(given.as_slice())?;
+    texts::leaves(row, kept, form, "the simplifier's canonical")
 }
 
 #[test]
 fn each_call_answers_each_row(rt: HostRuntime) -> Result<(), Fail> {
-    let mut simplifier = ContourSimplifier::new(rt.alloc());
-    for row in ROWS.lines() {
-        is_answered(&rt, rt.alloc(), &mut simplifier, row)?;
+    let alloc = rt.alloc();
+    let mut simplifier = ContourSimplifier::new(alloc);
+    for line in ROWS.lines() {
+        let columns: Vec<&str> = line.split('|').collect(alloc)?;
+        let [
+            name,
+            given,
+            two,
+            simple,
+            visits,
+            despiked,
+            walked,
+            spikes,
+            form,
+        ] = columns.as_slice()
+        else {
+            return Err(Fail::new("a row has nine columns"));
+        };
+        let row = Row::new(&rt, alloc, *name);
+        let points = texts::contour(&row, *given)?;
+        if !points.is_empty() {
+            has_area(&row, points.as_slice(), two.parse::<i64>()?);
+        }
+        let visits = visits.parse::<u128>()?;
+        is_simplified(&row, &mut simplifier, [*given, *simple], visits)?;
+        let walked = walked.parse::<u128>()?;
+        is_despiked(&row, [*given, *despiked], walked, *spikes == "spikes")?;
+        has_form(&row, &mut simplifier, [*given, *form])?;
     }
     Ok(())
 }
 
-/// Points that collapse at once are visited once each, or thrice at most.
+/// A thousand points on a line, and one point a thousand times, are visited once each, or thrice at most.
 #[test]
 fn a_thousand_points_on_a_line_or_at_one_place_collapse(rt: HostRuntime) -> Result<(), Fail> {
-    let alloc = rt.alloc();
-    let name = "a thousand points";
-    for list in &thousands(alloc)? {
-        let given = contour::<i32>(&rt, alloc, list.as_slice())?;
-        let (kept, visits) = ContourSimplifier::new(alloc).simplify_counted(given.as_slice())?;
-        let (despiked, despiked_visits) = given.despiked_counted(alloc)?;
-        holds(
-            &rt,
-            kept.is_none() && despiked.is_none(),
-            name,
-            "it collapses",
-        );
-        for visits in [visits, despiked_visits] {
-            holds(&rt, 998 <= visits && visits <= 3000, name, "visits");
+    let row = Row::new(&rt, rt.alloc(), "a thousand points");
+    let place = IntPoint::new(5, 5);
+    assert!(rt; place.is_in_safe_range());
+    for is_line in [true, false] {
+        let mut points = Vec::new(row.alloc);
+        for x in 0..1000_i32 {
+            points.push(if is_line { [x, 0] } else { [5, 5] })?;
         }
-        has_area(&rt, name, given.as_slice(), 0);
-        let place = IntPoint::new(5, 5);
-        assert!(rt; place.is_in_safe_range());
-        holds(
-            &rt,
-            !given.as_slice().contains_point(place),
-            name,
-            "contains a point",
-        );
+        let given = contour::<i32>(&row, points.as_slice())?;
+        let (kept, visits) = ContourSimplifier::new(row.alloc).simplify_counted(given.as_slice())?;
+        let (despiked, walked) = given.despiked_counted(row.alloc)?;
+        row.holds(kept.is_none() && despiked.is_none(), "it collapses");
+        row.holds(998 <= visits && visits <= 3000, "visits");
+        row.holds(998 <= walked && walked <= 3000, "visits of the despiker");
+        has_area(&row, given.as_slice(), 0);
+        row.holds(!given.as_slice().contains_point(place), "contains a point");
     }
     Ok(())
 }
 
-/// The contour leaves the ring by both cleaners, and the ring's least rotation is its form.
-fn leaves_ring(
-    rt: &impl Abort,
-    alloc: Global,
-    simplifier: &mut ContourSimplifier,
-    (name, list, ring): &Ring,
-) -> Result<(), Fail> {
-    let given = contour::<i32>(rt, alloc, list.as_slice())?;
-    let kept = simplifier
-        .simplify_contour(given.as_slice())?
+/// Contours with repeated points, reversals and spikes, among them one whose despiked form depends on where it starts; the ring that is left of each without
+/// zero turns, from its least start, which is one point of it alone; and whether the despiker leaves no more, from any start.
+const HOSTILE: [(&str, &str, bool); 7] = [
+    (
+        "0 0 0 1024 0 1024 512 1024 1024 1024 1024 1024 1024 0",
+        "0 0 0 1024 1024 1024 1024 0",
+        false,
+    ),
+    ("6 0 0 0 2 0 1 0 1 5", "1 0 1 5 6 0", false),
+    ("0 0 4 0 4 4 0 4 0 0", "0 0 4 0 4 4 0 4", false),
+    ("0 0 1 0 1 0 2 0 2 2 0 2 0 0", "0 0 2 0 2 2 0 2", false),
+    ("0 0 8 0 4 0 6 0 6 4 0 4", "0 0 6 0 6 4 0 4", false),
+    ("0 0 10 0 2 0 8 0 4 0 6 0 6 6 0 6", "0 0 6 0 6 6 0 6", false),
+    ("0 0 4 0 4 0 2 0 2 2 0 2", "0 0 2 0 2 2 0 2", true),
+];
+
+/// Whether the points are the ring from some start.
+fn is_turned(alloc: Global, points: &[IntPoint<i32>], ring: &[Pair]) -> Result<bool, Fail> {
+    Ok(is_rotation(pairs(alloc, points)?.as_slice(), ring))
+}
+
+/// The contour leaves the ring by both cleaners, and has it as its form.
+fn leaves_ring(row: &Row<'_, impl Abort>, list: &[Pair], ring: &[Pair]) -> Result<Vec<Pair>, Fail> {
+    let given = contour::<i32>(row, list)?;
+    let kept = given
+        .as_slice()
+        .simplified(row.alloc)?
         .ok_or("it collapsed")?;
-    let kept = pairs(alloc, kept.as_slice())?;
-    holds(
-        rt,
-        is_rotation(kept.as_slice(), ring.as_slice()),
-        *name,
-        "the ring",
-    );
-    let despiked = given.despiked_contour(alloc)?.ok_or("it collapsed")?;
-    let survivors = pairs(alloc, despiked.as_slice())?;
-    holds(
-        rt,
-        !has_back_vertex(survivors.as_slice()),
-        *name,
-        "no back vertex",
-    );
+    row.holds(is_turned(row.alloc, kept.as_slice(), ring)?, "the ring");
+    let form = given
+        .as_slice()
+        .canonical(row.alloc)?
+        .ok_or("it collapsed")?;
+    let form = pairs(row.alloc, form.as_slice())?;
+    row.holds(form.as_slice() == ring, "the form");
+    let despiked = given.despiked_contour(row.alloc)?.ok_or("it collapsed")?;
     let left = despiked
         .as_slice()
-        .simplified(alloc)?
+        .simplified(row.alloc)?
         .ok_or("it collapsed")?;
-    let left = pairs(alloc, left.as_slice())?;
-    holds(
-        rt,
-        is_rotation(left.as_slice(), ring.as_slice()),
-        *name,
+    row.holds(
+        is_turned(row.alloc, left.as_slice(), ring)?,
         "the despiker's ring",
     );
-    has_form(
-        rt,
-        alloc,
-        simplifier,
-        *name,
-        [list.as_slice(), ring.as_slice()],
-    )
+    let survivors = pairs(row.alloc, despiked.as_slice())?;
+    row.holds(!has_back_vertex(survivors.as_slice()), "a spike is left");
+    Ok(survivors)
+}
+
+/// In place the contour loses spikes, and then has none, and the ring is left.
+fn loses_spikes(row: &Row<'_, impl Abort>, list: &[Pair], ring: &[Pair]) -> Result<(), Fail> {
+    let mut given = contour::<i32>(row, list)?;
+    row.holds(!given.has_no_spikes(), "has_no_spikes");
+    let told = [given.remove_spikes()?, given.remove_spikes()?];
+    row.equal(told, [true, false], "what is told of spikes");
+    row.holds(is_turned(row.alloc, given.as_slice(), ring)?, "in place");
+    Ok(())
 }
 
 #[test]
 fn every_start_and_direction_leaves_the_same_ring(rt: HostRuntime) -> Result<(), Fail> {
-    let mut simplifier = ContourSimplifier::new(rt.alloc());
-    for ring in &hostile_rings(rt.alloc())? {
-        leaves_ring(&rt, rt.alloc(), &mut simplifier, ring)?;
-    }
-    Ok(())
-}
-
-/// The contour loses its spike, in place as in a copy, and what is left is the ring.
-fn loses_its_spike(rt: &impl Abort, alloc: Global, (name, list, ring): &Ring) -> Result<(), Fail> {
-    let mut given: IntContour<i32> = contour(rt, alloc, list.as_slice())?;
-    holds(rt, !given.has_no_spikes(), *name, "has_no_spikes");
-    let kept = given.despiked_contour(alloc)?.ok_or("it collapsed")?;
-    let points = pairs(alloc, kept.as_slice())?;
-    holds(
-        rt,
-        is_rotation(points.as_slice(), ring.as_slice()),
-        *name,
-        "the ring",
-    );
-    holds(
-        rt,
-        given.remove_spikes()? && given == kept,
-        *name,
-        "in place",
-    );
-    holds(
-        rt,
-        !given.remove_spikes()? && given == kept,
-        *name,
-        "in place again",
-    );
-    Ok(())
-}
-
-#[test]
-fn each_start_and_direction_loses_the_spike(rt: HostRuntime) -> Result<(), Fail> {
-    for ring in &rings(rt.alloc(), "0 0 4 0 4 0 2 0 2 2 0 2", "0 0 2 0 2 2 0 2")? {
-        loses_its_spike(&rt, rt.alloc(), ring)?;
+    let alloc = rt.alloc();
+    for (name, ring, is_spiked) in HOSTILE {
+        let row = Row::new(&rt, alloc, name);
+        let list = texts::points(alloc, name)?;
+        let ring = texts::points(alloc, ring)?;
+        let back = rotated(alloc, ring.as_slice(), 1.min(ring.len()))?;
+        let back = reversed(alloc, back.as_slice())?;
+        for start in 0..list.len() {
+            let list = rotated(alloc, list.as_slice(), start)?;
+            let turned = reversed(alloc, list.as_slice())?;
+            for (list, ring) in [(list, &ring), (turned, &back)] {
+                let (list, ring) = (list.as_slice(), ring.as_slice());
+                let despiked = leaves_ring(&row, list, ring)?;
+                if is_spiked {
+                    row.holds(is_rotation(despiked.as_slice(), ring), "despiked");
+                    loses_spikes(&row, list, ring)?;
+                }
+            }
+        }
     }
     Ok(())
 }

@@ -1,12 +1,10 @@
 //! Streams that fail.
 
-use crate::claims::equal;
-use crate::tool::given::words;
-use i_shape_tool::serve;
+use crate::row::Row;
+use crate::tool::given::status_of;
 use std::alloc::Global;
 use std::io;
-use std::io::{Read, Write};
-use std::process::Abort;
+use std::io::{ErrorKind, Read, Write};
 use std::test::Fail;
 
 const FAILED: &str = "input or output failed\n";
@@ -17,7 +15,7 @@ const USAGE: &str = "usage: i_shape_tool simplify|despike|area|canonical|compact
 #[derive(Drop)]
 struct BrokenReader {
     left: usize,
-    kind: io::ErrorKind,
+    kind: ErrorKind,
 }
 
 impl Read for BrokenReader {
@@ -38,10 +36,17 @@ struct BrokenWriter {
     kept: Vec<u8>,
 }
 
+impl BrokenWriter {
+    fn new(alloc: Global, room: usize) -> BrokenWriter {
+        let kept = Vec::new(alloc);
+        BrokenWriter { room, kept }
+    }
+}
+
 impl Write for BrokenWriter {
     fn write(&mut self, buf: &[u8]) -> io::Result<usize> {
         if self.room == 0 {
-            return Err(io::Error::from(io::ErrorKind::BrokenPipe));
+            return Err(io::Error::from(ErrorKind::BrokenPipe));
         }
         let Some(first) = buf.first() else {
             return Ok(0);
@@ -53,132 +58,76 @@ impl Write for BrokenWriter {
 
     fn flush(&mut self) -> io::Result<()> {
         if self.room == 0 {
-            return Err(io::Error::from(io::ErrorKind::BrokenPipe));
+            return Err(io::Error::from(ErrorKind::BrokenPipe));
         }
         Ok(())
     }
 }
 
-/// With this reader the program ends with this status and tells this, without an output.
-fn reads(
-    rt: &impl Abort,
-    alloc: Global,
-    name: &str,
-    (word, mut input): (&str, BrokenReader),
-    (wanted, told): (u8, &str),
-) -> Result<(), Fail> {
-    let words = words(alloc, &[word])?;
-    let mut output = Vec::new(alloc);
-    let mut errors = Vec::new(alloc);
-    let status = serve(
-        alloc,
-        words.as_slice(),
-        &mut input,
-        &mut output,
-        &mut errors,
-    );
-    equal(rt, status, wanted, name, "the status");
-    equal(rt, output.as_slice(), b"".as_slice(), name, "the output");
-    equal(rt, errors.as_slice(), told.as_bytes(), name, "what is told");
-    Ok(())
-}
+/// A word, how many lines are read, how the next read fails, the status, and what is told. Words are judged before input.
+const READS: [(&str, usize, ErrorKind, u8, &str); 6] = [
+    ("simplify", 0, ErrorKind::BrokenPipe, 4, FAILED),
+    ("simplify", 1, ErrorKind::BrokenPipe, 4, FAILED),
+    ("simplify", 2, ErrorKind::BrokenPipe, 4, FAILED),
+    ("simplify", 0, ErrorKind::OutOfMemory, 4, FAILED),
+    ("simplify", 1, ErrorKind::OutOfMemory, 4, FAILED),
+    ("simplified", 0, ErrorKind::BrokenPipe, 2, USAGE),
+];
 
 #[test]
 fn a_read_fails(rt: HostRuntime) -> Result<(), Fail> {
-    let alloc = rt.alloc();
-    let fails = |left| BrokenReader {
-        left,
-        kind: io::ErrorKind::BrokenPipe,
-    };
-    let is_refused = |left| BrokenReader {
-        left,
-        kind: io::ErrorKind::OutOfMemory,
-    };
-    let failed = (4, FAILED);
-    reads(&rt, alloc, "at once", ("simplify", fails(0)), failed)?;
-    reads(&rt, alloc, "after a line", ("simplify", fails(1)), failed)?;
-    reads(&rt, alloc, "after two", ("simplify", fails(2)), failed)?;
-    reads(&rt, alloc, "no memory", ("simplify", is_refused(0)), failed)?;
-    reads(
-        &rt,
-        alloc,
-        "no memory for more",
-        ("simplify", is_refused(1)),
-        failed,
-    )?;
-    let name = "words are judged before input";
-    reads(&rt, alloc, name, ("simplified", fails(0)), (2, USAGE))
-}
-
-/// With a writer of so much room, the answer to an empty line ends with this status, and this is told. The writer holds as much of
-/// the answer as it has room for, and nothing else.
-fn writes(
-    rt: &impl Abort,
-    alloc: Global,
-    name: &str,
-    room: usize,
-    (wanted, told): (u8, &str),
-) -> Result<(), Fail> {
-    let words = words(alloc, &["simplify"])?;
-    let mut input = b"\n".as_slice();
-    let mut output = BrokenWriter {
-        room,
-        kept: Vec::new(alloc),
-    };
-    let mut errors = Vec::new(alloc);
-    let status = serve(
-        alloc,
-        words.as_slice(),
-        &mut input,
-        &mut output,
-        &mut errors,
-    );
-    let answer = b"none\n".as_slice();
-    let kept = &answer[..room.min(5)];
-    equal(rt, status, wanted, name, "the status");
-    equal(rt, output.kept.as_slice(), kept, name, "the output");
-    equal(rt, errors.as_slice(), told.as_bytes(), name, "what is told");
-    Ok(())
-}
-
-#[test]
-fn a_write_or_flush_fails(rt: HostRuntime) -> Result<(), Fail> {
-    let alloc = rt.alloc();
-    writes(&rt, alloc, "no room", 0, (4, FAILED))?;
-    writes(&rt, alloc, "room for a byte", 1, (4, FAILED))?;
-    writes(&rt, alloc, "room for a word", 4, (4, FAILED))?;
-    writes(&rt, alloc, "room for a line", 5, (4, FAILED))?;
-    writes(&rt, alloc, "room beyond a line", 6, (0, ""))
-}
-
-/// With little room for what is told, a text ends with this status, without an output.
-fn tells(rt: &impl Abort, alloc: Global, word: &str, text: &str, wanted: u8) -> Result<(), Fail> {
-    let words = words(alloc, &[word])?;
-    for room in [0, 3] {
-        let mut input = text.as_bytes();
-        let mut output = Vec::new(alloc);
-        let mut errors = BrokenWriter {
-            room,
-            kept: Vec::new(alloc),
-        };
-        let status = serve(
-            alloc,
-            words.as_slice(),
-            &mut input,
-            &mut output,
-            &mut errors,
-        );
-        equal(rt, status, wanted, text, "the status");
-        equal(rt, output.as_slice(), b"".as_slice(), text, "the output");
+    for (word, left, kind, status, told) in READS {
+        let row = Row::new(&rt, rt.alloc(), word);
+        let mut input = BrokenReader { left, kind };
+        let (mut output, mut errors) = (Vec::new(row.alloc), Vec::new(row.alloc));
+        let ended = status_of(&row, &[word], &mut input, &mut output, &mut errors)?;
+        row.equal((ended, output.len()), (status, 0), "the status");
+        row.equal(errors.as_slice(), told.as_bytes(), "what is told");
     }
     Ok(())
 }
 
+/// The writer holds as much of the answer as it has room for, and nothing else.
+#[test]
+fn a_write_or_flush_fails(rt: HostRuntime) -> Result<(), Fail> {
+    for (room, kept, status, told) in [
+        (0, "", 4, FAILED),
+        (1, "n", 4, FAILED),
+        (4, "none", 4, FAILED),
+        (5, "none\n", 4, FAILED),
+        (6, "none\n", 0, ""),
+    ] {
+        let row = Row::new(&rt, rt.alloc(), kept);
+        let mut output = BrokenWriter::new(row.alloc, room);
+        let mut errors = Vec::new(row.alloc);
+        let mut input = b"\n".as_slice();
+        let ended = status_of(&row, &["simplify"], &mut input, &mut output, &mut errors)?;
+        row.equal(ended, status, "the status");
+        row.equal(output.kept.as_slice(), kept.as_bytes(), "the output");
+        row.equal(errors.as_slice(), told.as_bytes(), "what is told");
+    }
+    Ok(())
+}
+
+/// With little room for what is told, and none, a word and a text end with this status.
+const TOLD: [(&str, &str, u8); 4] = [
+    ("simplify", "", 0),
+    ("simplify", "x", 1),
+    ("simplify", "0 1073741824", 1),
+    ("simplifies", "", 2),
+];
+
 #[test]
 fn a_line_that_standard_error_does_not_take_changes_no_status(rt: HostRuntime) -> Result<(), Fail> {
-    let alloc = rt.alloc();
-    tells(&rt, alloc, "simplify", "", 0)?;
-    tells(&rt, alloc, "simplify", "x", 1)?;
-    tells(&rt, alloc, "simplify", "0 1073741824", 1)?;
-    tells(&rt, alloc, "simplifies", "", 2)
+    for (word, text, status) in TOLD {
+        for room in [0, 3] {
+            let row = Row::new(&rt, rt.alloc(), text);
+            let mut output = Vec::new(row.alloc);
+            let mut errors = BrokenWriter::new(row.alloc, room);
+            let mut input = text.as_bytes();
+            let ended = status_of(&row, &[word], &mut input, &mut output, &mut errors)?;
+            row.equal((ended, output.len()), (status, 0), "the status");
+        }
+    }
+    Ok(())
 }

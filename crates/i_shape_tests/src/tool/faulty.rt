@@ -1,72 +1,65 @@
 //! Texts and words that aren't answered.
 
-use crate::claims::equal;
+use crate::row::Row;
 use crate::tool::given::serves;
 use i_shape_tool::{Command, Complaint, ToolFault, run};
-use std::alloc::Global;
 use std::process::Abort;
 use std::test::Fail;
 
-/// Each of these commands tells this of a line.
-fn is_told(
-    rt: &impl Abort,
-    alloc: Global,
-    commands: &[&str],
-    line: &str,
-    told: &str,
-) -> Result<(), Fail> {
+/// Each of these commands tells this of the line that is the row's name.
+fn tell(row: &Row<'_, impl Abort>, commands: &[&str], told: &str) -> Result<(), Fail> {
     for command in commands {
-        let words = [*command];
-        let asked = (words.as_slice(), line.as_bytes());
-        serves(rt, alloc, line, asked, (1, "", told))?;
+        serves(row, (&[*command], row.name.as_bytes()), (1, "", told))?;
     }
     Ok(())
 }
 
-const ALL: [&str; 5] = ["simplify", "despike", "area", "canonical", "compact"];
+const COMMANDS: [&str; 5] = ["simplify", "despike", "canonical", "compact", "area"];
 
+/// Lines that are no contours.
+const FAULTY: [&str; 22] = [
+    " 1 2",
+    "1 2 ",
+    "1  2",
+    "1 2\r",
+    "0 0 4 0 4 4\r\n",
+    "\r\n",
+    "1",
+    "-",
+    "--1 2",
+    "1,2",
+    "1.0 2",
+    "1 2 3",
+    "1\t2",
+    "+ 1",
+    "0x1 2",
+    "\u{661} 2",
+    "2147483648 0",
+    "0 -2147483649",
+    "18446744073709551617 0",
+    "1 2\u{0}",
+    "/ 2",
+    "1 :",
+];
+
+/// Contours with a point that isn't safe.
+const FAR: [&str; 4] = [
+    "1073741824 0 0 0 0 1",
+    "0 0 0 -1073741824 0 1",
+    "0 0 0 1 2147483647 0",
+    "-2147483648 0",
+];
+
+/// Each command tells a line that is no contour, and each but the last, `area`, a point that isn't safe.
 #[test]
 fn a_faulty_line_is_told(rt: HostRuntime) -> Result<(), Fail> {
-    for line in [
-        " 1 2",
-        "1 2 ",
-        "1  2",
-        "1 2\r",
-        "0 0 4 0 4 4\r\n",
-        "\r\n",
-        "1",
-        "-",
-        "--1 2",
-        "1,2",
-        "1.0 2",
-        "1 2 3",
-        "1\t2",
-        "+ 1",
-        "0x1 2",
-        "\u{661} 2",
-        "2147483648 0",
-        "0 -2147483649",
-        "18446744073709551617 0",
-        "1 2\u{0}",
-        "/ 2",
-        "1 :",
-    ] {
-        is_told(&rt, rt.alloc(), &ALL, line, "line 1: not a contour\n")?;
+    for line in FAULTY {
+        let row = Row::new(&rt, rt.alloc(), line);
+        tell(&row, &COMMANDS, "line 1: not a contour\n")?;
     }
-    Ok(())
-}
-
-const CLEANERS: [&str; 4] = ["simplify", "despike", "canonical", "compact"];
-
-#[test]
-fn a_point_that_is_not_safe_is_told(rt: HostRuntime) -> Result<(), Fail> {
-    for line in [
-        "1073741824 0 0 0 0 1",
-        "0 0 0 -1073741824 0 1",
-        "0 0 0 1 2147483647 0",
-        "-2147483648 0",
-    ] {
-        is_told(&rt, rt.alloc(), &CLEANERS, line, "line 1: out of range\n")?;
+    for line in FAR {
+        let row = Row::new(&rt, rt.alloc(), line);
+        tell(&row, &COMMANDS[..4], "line 1: out of range\n")?;
     }
     Ok(())
 }
@@ -99,45 +92,38 @@ fn the_first_fault_is_told(rt: HostRuntime) {
             Err(ToolFault::NotAContour(line)) => (CONTOUR, line),
             _ => ("", 0),
         };
-        equal(&rt, got, fault, text, "the fault");
+        Row::new(&rt, rt.alloc(), text).equal(got, fault, "the fault");
     }
 }
 
 const USAGE: &str = "usage: i_shape_tool simplify|despike|area|canonical|compact\n";
 
-#[test]
-fn other_words_are_told_the_usage(rt: HostRuntime) -> Result<(), Fail> {
-    let none: [&str; 0] = [];
-    for (name, words) in [
-        ("no words", none.as_slice()),
-        ("a word twice", &["simplify", "simplify"]),
-        ("an empty word after one", &["simplify", ""]),
-        ("a capital", &["Simplify"]),
-        ("an option", &["--help"]),
-        ("an empty word", &[""]),
-    ] {
-        let input = b"x".as_slice();
-        serves(&rt, rt.alloc(), name, (words, input), (2, "", USAGE))?;
-    }
-    Ok(())
-}
+const NOT_UTF8: &str = "input is not UTF-8\n";
+
+/// Words, input, and the status and what is told: a fault leaves no output, also after an answer, and other words than one command are told the usage.
+const REFUSED: [(&[&str], &[u8], u8, &str); 10] = [
+    (&[], b"x", 2, USAGE),
+    (&["simplify", "simplify"], b"x", 2, USAGE),
+    (&["simplify", ""], b"x", 2, USAGE),
+    (&["Simplify"], b"x", 2, USAGE),
+    (&["--help"], b"x", 2, USAGE),
+    (&[""], b"x", 2, USAGE),
+    (&["simplify"], b"0 0\n\xff\n", 1, NOT_UTF8),
+    (&["simplify"], b"x\n\xc3", 1, NOT_UTF8),
+    (&["simplify"], b"\xed\xa0\x80", 1, NOT_UTF8),
+    (
+        &["simplify"],
+        b"0 0 4 0 4 4\n\n1 2 3\n",
+        1,
+        "line 3: not a contour\n",
+    ),
+];
 
 #[test]
-fn a_fault_of_the_input_leaves_no_output(rt: HostRuntime) -> Result<(), Fail> {
-    let told = "input is not UTF-8\n";
-    for (name, input, told) in [
-        ("a byte that never is", b"0 0\n\xff\n".as_slice(), told),
-        ("a character that does not end", b"x\n\xc3", told),
-        ("half of a pair", b"\xed\xa0\x80", told),
-        (
-            "a fault after an answer",
-            b"0 0 4 0 4 4\n\n1 2 3\n",
-            "line 3: not a contour\n",
-        ),
-    ] {
-        let words = ["simplify"];
-        let asked = (words.as_slice(), input);
-        serves(&rt, rt.alloc(), name, asked, (1, "", told))?;
+fn a_fault_of_words_or_input_leaves_no_output(rt: HostRuntime) -> Result<(), Fail> {
+    for (words, input, status, told) in REFUSED {
+        let row = Row::new(&rt, rt.alloc(), told);
+        serves(&row, (words, input), (status, "", told))?;
     }
     Ok(())
 }
@@ -169,8 +155,8 @@ fn each_complaint_has_its_line_and_status(rt: HostRuntime) -> Result<(), Fail> {
     for (complaint, told, status) in COMPLAINTS {
         let mut errors = Vec::new(rt.alloc());
         complaint.tell(&mut errors)?;
-        equal(&rt, errors.as_slice(), told.as_bytes(), told, "the line");
-        equal(&rt, complaint.status(), status, told, "the status");
+        let answer = (errors.as_slice(), complaint.status());
+        Row::new(&rt, rt.alloc(), told).equal(answer, (told.as_bytes(), status), "a complaint");
     }
     Ok(())
 }

@@ -1,72 +1,41 @@
 //! One run of the program in memory.
 
-use crate::claims::equal;
+use crate::row::Row;
 use i_shape_tool::serve;
-use std::alloc::{AllocError, Global};
+use std::alloc::AllocError;
+use std::io::{Read, Write};
 use std::process::Abort;
 use std::test::Fail;
 
-/// What a run of the program left: of its input so many bytes.
-#[derive(Drop)]
-pub struct Left {
-    pub status: u8,
-    pub unread: usize,
-    pub output: Vec<u8>,
-    pub errors: Vec<u8>,
-}
-
-pub fn words(alloc: Global, texts: &[&str]) -> Result<Vec<String>, AllocError> {
-    let mut words = Vec::new(alloc);
+/// The status of a run with these words.
+pub fn status_of<R: Read, W: Write, E: Write>(
+    row: &Row<'_, impl Abort>,
+    texts: &[&str],
+    input: &mut R,
+    output: &mut W,
+    errors: &mut E,
+) -> Result<u8, AllocError> {
+    let mut words = Vec::new(row.alloc);
     for text in texts {
-        words.push(String::from_str(alloc, *text)?)?;
+        words.push(String::from_str(row.alloc, *text)?)?;
     }
-    Ok(words)
-}
-
-pub fn serve_bytes(alloc: Global, texts: &[&str], mut input: &[u8]) -> Result<Left, AllocError> {
-    let words = words(alloc, texts)?;
-    let mut output = Vec::new(alloc);
-    let mut errors = Vec::new(alloc);
-    let status = serve(
-        alloc,
-        words.as_slice(),
-        &mut input,
-        &mut output,
-        &mut errors,
-    );
-    Ok(Left {
-        status,
-        unread: input.len(),
-        output,
-        errors,
-    })
+    Ok(serve(row.alloc, words.as_slice(), input, output, errors))
 }
 
 /// A run with these words and this input leaves this. Words that name no command leave the input unread, and all others nothing of it.
 pub fn serves(
-    rt: &impl Abort,
-    alloc: Global,
-    name: &str,
+    row: &Row<'_, impl Abort>,
     (words, input): (&[&str], &[u8]),
-    (status, output, errors): (u8, &str, &str),
+    (status, output, told): (u8, &str, &str),
 ) -> Result<(), Fail> {
-    let left = serve_bytes(alloc, words, input)?;
-    equal(rt, left.status, status, name, "the status");
+    let mut rest = input;
+    let mut printed = Vec::new(row.alloc);
+    let mut errors = Vec::new(row.alloc);
+    let ended = status_of(row, words, &mut rest, &mut printed, &mut errors)?;
     let unread = if status == 2 { input.len() } else { 0 };
-    equal(rt, left.unread, unread, name, "what is left of the input");
-    equal(
-        rt,
-        left.output.as_slice(),
-        output.as_bytes(),
-        name,
-        "the output",
-    );
-    equal(
-        rt,
-        left.errors.as_slice(),
-        errors.as_bytes(),
-        name,
-        "what is told",
-    );
+    row.equal(ended, status, "the status");
+    row.equal(rest.len(), unread, "the unread input");
+    row.equal(printed.as_slice(), output.as_bytes(), "the output");
+    row.equal(errors.as_slice(), told.as_bytes(), "what is told");
     Ok(())
 }
