@@ -211,6 +211,7 @@ fn too_much_room_is_not_there(rt: HostRuntime) -> Result<(), Fail> {
 /// A number below the bound. Each is told by the one before it, which the seed keeps.
 fn draw(seed: &mut u32, bound: u32) -> u32
     requires { 0 < bound }
+    ensures { result < bound }
 {
     *seed = seed.wrapping_mul(1103515245).wrapping_add(12345) % 2147483648;
     *seed / 65536 % bound
