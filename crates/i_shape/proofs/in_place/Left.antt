@@ -1,9 +1,9 @@
 -- What is left where each contour is cleaned in its place, and then the collapsed ones are taken out.
-use Rattle.std.proofs.Common.{◌≡◌, ℕ, ℤ, ◌+◌, ◌<◌, ◌≤◌, ◌==◌, Bool, not, cond, true, false, max, Result, Ok, Err, List, [], ◌∷◌, ◌++◌, length, set, get_or, take, drop, map, refl, sym, ap, ◌∙◌, subst, arith, append_assoc, append-nil, Option, Some, None, unwrap_or}
+use Rattle.std.proofs.Common.{◌≡◌, ℕ, ℤ, ◌+◌, ◌<◌, ◌≤◌, ◌==◌, Bool, not, cond, true, false, Result, Ok, Err, List, [], ◌∷◌, ◌++◌, length, set, get_or, take, drop, map, refl, sym, ap, ◌∙◌, subst, arith, append_assoc, append-nil, Option, Some, None, unwrap_or}
 use Rattle.std.specs.Int.{Width}
 use Rattle.std.specs.List.{All, AllZip, filter}
 use Rattle.std.proofs.lemmas.List.{set_at, get_or_at, drop_more, take_more, take_all, drop_all, length-take-le, take-append-le, get_or-map, map-set}
-use Rattle.std.proofs.lemmas.List.Elements.{All-nil, All-head, All-push, All-weaker}
+use Rattle.std.proofs.lemmas.List.Elements.{All-nil}
 use Rattle.std.proofs.lemmas.Slice.Zip.{all_zipped_more, AllZip-long}
 use Rattle.std.proofs.lemmas.Bool.Decides.{Decides-eqb}
 use Rattle.i_shape_core.specs.Point.{Point}
@@ -13,13 +13,11 @@ use Rattle.i_shape_core.specs.Cleaners.{KeptAnswer}
 use Rattle.i_shape_core.specs.declared.error.ShapeError.{ShapeError}
 use Rattle.i_shape_core.specs.declared.error.ShapeError.TheVariants.{OutOfMemory}
 use Rattle.i_shape_core.proofs.lists.Survivors.{survivors-none}
-use Rattle.i_shape_source.proofs.SafePaths.{all_parts}
 use Rattle.i_shape.specs.ShapeLists.{IsSafeShape}
 use Rattle.i_shape.specs.ShapeAnswers.{Survivors, ShapeClean, ListClean, EachContour, EachShape, AreKept}
 use Rattle.i_shape.specs.InPlace.{Leaves, IsShortOrPasses, CleansShape, CleansList}
 use Rattle.i_shape.specs.declared.int.cleaning.in_place.InPlaceWork.{InPlaceWork}
 use Rattle.i_shape.specs.LeftInPlace.{AreLeftOf, HasRoom, has_points, keeps_outer, kept_contours, kept_shapes}
-use Rattle.i_shape.proofs.lists.Surviving.{mapped-taken}
 use Rattle.i_shape.proofs.shapes.Kept.{same_kept, shape_keeps, shape_safe, list_keeps}
 
 -- a loop over a list has changed the first i members
