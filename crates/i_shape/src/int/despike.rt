@@ -1,6 +1,6 @@
 //! Removal of spikes. At the tip of a spike the contour turns back on itself.
 
-ghost use Rattle.std.specs.Prelude.{Bool, Result};
+ghost use Rattle.std.specs.Prelude.{◌≡◌, Bool, true, Result, Ok};
 ghost use Rattle.i_shape_core.specs.IntPoint.{contour_of, IsSafeContour};
 ghost use Rattle.i_shape_core.specs.declared.error.ShapeError.{ShapeError};
 ghost use Rattle.i_shape.specs.InPlace.{DespikesContour};
@@ -28,6 +28,7 @@ pub trait DeSpike {
     fn remove_spikes(&mut self) -> Result<bool, ShapeError>
         requires { can_despike self.old }
         ensures gives { despike_gives self.old result self.new }
+        ensures unchanged { (result ≡ Ok true → ⊥) → self.new ≡ self.old }
         ensures safe { can_despike self.new };
 }
 

@@ -1,7 +1,7 @@
 //! Removal of zero turns. A zero turn is a degenerate vertex: its two edges lie on one line, or one of them has no
 //! length.
 
-ghost use Rattle.std.specs.Prelude.{Bool, Result};
+ghost use Rattle.std.specs.Prelude.{◌≡◌, Bool, true, Result, Ok};
 ghost use Rattle.i_shape_core.specs.IntPoint.{contour_of, IsSafeContour};
 ghost use Rattle.i_shape_core.specs.Contour.{IsSimple};
 ghost use Rattle.i_shape_core.specs.Cleaners.{SimpleAnswer};
@@ -32,6 +32,7 @@ pub trait Simplify {
     fn simplify_contour(&mut self) -> Result<bool, ShapeError>
         requires { can_simplify self.old }
         ensures gives { simplify_gives self.old result self.new }
+        ensures unchanged { (result ≡ Ok true → ⊥) → self.new ≡ self.old }
         ensures safe { can_simplify self.new };
 }
 

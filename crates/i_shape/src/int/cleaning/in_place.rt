@@ -1,7 +1,7 @@
 //! Cleaning in place. Memory for the longest contour that needs cleaning is allocated first; after that nothing can
 //! fail.
 
-ghost use Rattle.std.specs.Prelude.{◌≡◌, ◌<◌, ℕ, IfOk, IsOk, IsOkUnless};
+ghost use Rattle.std.specs.Prelude.{◌≡◌, ◌<◌, ℕ, true, Ok, IfOk, IsOk, IsOkUnless};
 ghost use Rattle.std.specs.List.{All, AllZip};
 ghost use Rattle.i_shape_core.specs.IntPoint.{contour_of, IsSafeContour};
 ghost use Rattle.i_shape_source.specs.Paths.{concatenated};
@@ -25,6 +25,7 @@ pub fn clean_shape_in_place<I: IntNumber, C: InPlaceCleaner>(
     requires { IsSafeShape I.width (shape_of I.value shape.old.items) }
     ensures gives { CleansShape C.clean C.answers (shape_of I.value shape.old.items)
         (shape_of I.value shape.new.items) result }
+    ensures unchanged { (result ≡ Ok true → ⊥) → shape.new ≡ shape.old }
     ensures safe { IsSafeShape I.width (shape_of I.value shape.new.items) }
 {
     let Some(longest) = longest_unclean::<I, C>(shape.as_slice()) else {
@@ -44,6 +45,7 @@ pub fn clean_list_in_place<I: IntNumber, C: InPlaceCleaner>(
     requires { IsSafeList I.width (shapes_of I.value shapes.old.items) }
     ensures gives { CleansList C.clean C.answers (shapes_of I.value shapes.old.items)
         (shapes_of I.value shapes.new.items) result }
+    ensures unchanged { (result ≡ Ok true → ⊥) → shapes.new ≡ shapes.old }
     ensures safe { IsSafeList I.width (shapes_of I.value shapes.new.items) }
 {
     let Some(longest) = longest_unclean_of_list::<I, C>(shapes.as_slice()) else {
