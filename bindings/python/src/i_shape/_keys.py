@@ -12,7 +12,7 @@ import numpy as np
 import numpy.typing as npt
 
 from ._library import Array
-from ._polygons import Given, given_polygons
+from ._polygons import Given, given_polygons, which_left
 from ._rings import Rings, canonical_cleaner, canonical_rings, clean_rings
 
 Int = TypeVar("Int", np.int16, np.int32, np.int64)
@@ -70,32 +70,23 @@ def _sort_holes(forms: Rings, rings: Array, firsts: Array,
 
 def _keys_of_forms(forms: Rings, parts: Array) -> list[bytes]:
     """The keys of polygons whose rings have these forms."""
-    is_left = np.diff(forms.offsets) > 0
-    has_rings = parts[1:] > parts[:-1]
-    collapses = np.zeros(len(has_rings), np.bool_)
-    collapses[has_rings] = ~is_left[parts[:-1][has_rings]]
-    polygon_of = np.repeat(np.arange(len(has_rings)), np.diff(parts))
-    is_left &= ~collapses[polygon_of]
-    rings, polygon_of = np.flatnonzero(is_left), polygon_of[is_left]
-    counts = np.bincount(polygon_of, minlength=len(has_rings))
-    _sort_holes(forms, rings, np.cumsum(counts) - counts, counts)
+    rings, polygons, firsts = which_left(forms.offsets, parts)
+    counts = np.diff(firsts)
+    _sort_holes(forms, rings, firsts[:-1], counts)
     points, offsets = _picked(*forms, rings)
-    # Before each polygon that doesn't collapse its word, and before each
-    # ring one.
-    words_before = np.cumsum(~collapses)
-    ring_words = (words_before[polygon_of] + np.arange(len(rings))
-                  + 2 * offsets[:-1])
-    ends = np.zeros(len(has_rings) + 1, np.int64)
-    rings_before = np.cumsum(counts)
-    ends[1:] = words_before + rings_before + 2 * offsets[rings_before]
-    words = np.empty(int(ends[-1]), _WORD)
+    # Before each polygon that is left stands its word, and before each ring
+    # one.
+    starts = np.arange(len(firsts)) + firsts + 2 * offsets[firsts]
+    ring_words = (np.repeat(np.arange(1, len(firsts)), counts)
+                  + np.arange(len(rings)) + 2 * offsets[:-1])
+    words = np.empty(int(starts[-1]), _WORD)
     is_point = np.ones(len(words), np.bool_)
-    polygon_words = ends[:-1][~collapses]
-    is_point[polygon_words] = is_point[ring_words] = False
-    words[polygon_words] = counts[~collapses] + _OF_POLYGON
+    is_point[starts[:-1]] = is_point[ring_words] = False
+    words[starts[:-1]] = counts + _OF_POLYGON
     words[ring_words] = np.diff(offsets)
     words[is_point] = points.ravel()
-    return _cut(words, ends)
+    return _cut(words, starts[np.searchsorted(polygons,
+                                              np.arange(len(parts)))])
 
 
 def _keys_of_polygons(given: Given, oriented: bool,

@@ -142,6 +142,9 @@ def _calls(bits: int, number: Any, area: Any) -> Calls:
 _first_bad_offset = _call("i_shape_first_bad_offset", ctypes.c_size_t,
                           ctypes.c_size_t, ctypes.c_void_p, ctypes.c_size_t)
 
+COMPACT_SHAPES = _call("i_shape_compact_shapes", ctypes.c_ssize_t,
+                       *(ctypes.c_void_p, ctypes.c_size_t) * 5)
+
 # By the size of a coordinate in bytes.
 CALLS = {
     2: _calls(16, ctypes.c_int16, ctypes.c_int32),

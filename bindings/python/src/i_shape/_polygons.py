@@ -1,6 +1,7 @@
 """Polygons: rings with offsets of their own.
 
-The library cleans them whole, by one call for each thread.
+The library cleans their rings, and tells which of these and of the polygons
+are left.
 """
 
 from __future__ import annotations
@@ -10,10 +11,10 @@ from typing import Any, Iterator, NamedTuple, Tuple, TypeVar
 import numpy as np
 import numpy.typing as npt
 
-from ._library import (CALLS, Array, address, as_offsets, as_parts, as_points,
-                       as_threads, check_offsets, run_parts)
-from ._rings import (canonical_cleaner, clean_rings, equal_cuts,
-                     raise_codes)
+from ._library import (CALLS, COMPACT_SHAPES, Array, address, as_offsets,
+                       as_parts, as_points, as_threads, check_offsets,
+                       run_parts)
+from ._rings import Rings, canonical_cleaner, clean_rings, raise_codes
 
 Int = TypeVar("Int", np.int16, np.int32, np.int64)
 
@@ -66,14 +67,6 @@ def given_polygons(points: Any, ring_offsets: Any,
     return Given(points, rings[start:end + 1], parts - start, start)
 
 
-def _part(given: Given, start: int, end: int) -> Given:
-    """The polygons from one place to another."""
-    parts = given.parts[start:end + 1]
-    first, last = int(parts[0]), int(parts[-1])
-    return Given(given.points, given.rings[first:last + 1], parts - first,
-                  given.before + first)
-
-
 def _words(*arrays: Array) -> Iterator[int]:
     """Of each array what a call takes: its address and its length."""
     for array in arrays:
@@ -85,62 +78,67 @@ def _shrink(array: Array, length: int) -> None:
     array.resize((length, *array.shape[1:]), refcheck=False)
 
 
-def _shrink_polygons(polygons: Polygons, count: int) -> Polygons:
-    """The arrays of an answer, which has so many polygons, at their length."""
-    points, rings, parts = polygons
-    _shrink(parts, count + 1)
-    _shrink(rings, int(parts[-1]) + 1)
-    _shrink(points, int(rings[-1]))
-    return polygons
+class Left(NamedTuple):
+    """What is left of polygons of which some rings are empty.
 
-
-def _clean_part(cleaner: str, given: Given) -> tuple[int, Polygons]:
-    """Clean the polygons by one call of the library.
-
-    It answers how many are left, or a code, and their arrays.
+    These are the indices of the rings and of the polygons, and the offsets
+    that divide these rings among these polygons.
     """
-    first, last = int(given.rings[0]), int(given.rings[-1])
-    points, rings = given.points[first:last], given.rings
-    if first:
-        rings = rings - first
-    out = Polygons(np.empty_like(points), np.empty_like(rings),
-                   np.empty_like(given.parts))
-    count: int = CALLS[points.itemsize].polygons[cleaner](
-        *_words(points, rings, given.parts, *out))
-    return count, _shrink_polygons(out, count) if count >= 0 else out
+
+    rings: Array
+    polygons: Array
+    offsets: Array
 
 
-def _end_to_end(answers: list[Polygons]) -> Polygons:
-    """The polygons of some answers."""
-    if len(answers) == 1:
-        return answers[0]
-    points, rings, parts = zip(*answers)
-    ring_starts = np.cumsum([0, *map(len, points)])
-    part_starts = np.cumsum([0, *(len(each) - 1 for each in rings)])
-    zero = np.zeros(1, np.int64)
-    return Polygons(
-        np.concatenate(points),
-        np.concatenate([zero, *(each[1:] + start for each, start
-                                in zip(rings, ring_starts.tolist()))]),
-        np.concatenate([zero, *(each[1:] + start for each, start
-                                in zip(parts, part_starts.tolist()))]))
+def which_left(ring_offsets: Array, polygon_offsets: Array) -> Left:
+    """What is left of polygons whose rings that collapsed are empty."""
+    left = Left(np.empty(len(ring_offsets) - 1, np.int64),
+                np.empty(len(polygon_offsets) - 1, np.int64),
+                np.empty(len(polygon_offsets), np.int64))
+    count = COMPACT_SHAPES(*_words(ring_offsets, polygon_offsets, *left))
+    _shrink(left.polygons, count)
+    _shrink(left.offsets, count + 1)
+    _shrink(left.rings, int(left.offsets[-1]))
+    return left
 
 
-def _clean_polygons(cleaner: str, given: Given, parts: int) -> Polygons:
-    """Clean the polygons, parted among so many threads."""
-    rings = given.rings
-    check_offsets(rings, len(given.points), "ring_offsets",
+def left_polygons(rings: Rings, left: Left) -> Polygons:
+    """The polygons that are left of rings, of which each polygon has some."""
+    if len(left.rings) == len(rings.offsets) - 1:
+        return Polygons(*rings, left.offsets)
+    sizes = np.diff(rings.offsets)
+    ends = np.zeros(len(left.rings) + 1, np.int64)
+    np.cumsum(sizes[left.rings], out=ends[1:])
+    points = rings.points
+    if ends[-1] < len(points):
+        stay = np.zeros(len(sizes), np.bool_)
+        stay[left.rings] = True
+        points = points.compress(np.repeat(stay, sizes), axis=0)
+    return Polygons(points, ends, left.offsets)
+
+
+def _clean_rings(cleaner: str, given: Given, threads: Any) -> Polygons:
+    """Clean each ring, and leave out what collapses."""
+    rings = clean_rings(cleaner, given.points, given.rings, threads,
+                        "ring_offsets", given.before)
+    return left_polygons(rings, which_left(rings.offsets, given.parts))
+
+
+def _clean_whole(cleaner: str, given: Given) -> Polygons:
+    """Clean the polygons by one call of the library."""
+    check_offsets(given.rings, len(given.points), "ring_offsets",
                   before=given.before)
-    cuts = [0, len(given.parts) - 1]
-    if parts > 1:
-        cuts = equal_cuts(rings[given.parts], parts)
-    answers = run_parts(
-        lambda part: _clean_part(cleaner,
-                                 _part(given, cuts[part], cuts[part + 1])),
-        len(cuts) - 1)
-    raise_codes([left for left, _ in answers], given.points, rings,
-                given.before)
-    return _end_to_end([polygons for _, polygons in answers])
+    first, last = int(given.rings[0]), int(given.rings[-1])
+    points, rings = given.points[first:last], given.rings - first
+    left = Polygons(np.empty_like(points), np.empty_like(rings),
+                    np.empty_like(given.parts))
+    count: int = CALLS[points.itemsize].polygons[cleaner](
+        *_words(points, rings, given.parts, *left))
+    raise_codes([count], given.points, given.rings, given.before)
+    _shrink(left.polygon_offsets, count + 1)
+    _shrink(left.ring_offsets, int(left.polygon_offsets[-1]) + 1)
+    _shrink(left.points, int(left.ring_offsets[-1]))
+    return left
 
 
 def simplify_polygons(points: npt.NDArray[Int], ring_offsets: npt.ArrayLike,
@@ -151,8 +149,8 @@ def simplify_polygons(points: npt.NDArray[Int], ring_offsets: npt.ArrayLike,
     A polygon whose outer ring collapses is left out, and so are holes that
     collapse. A polygon without rings stays as it is.
 
-    The answer is that of a proved call, or of one for each thread, end to
-    end.
+    The answer is that of a proved call; where threads share the work, of two,
+    one after the other: each ring is cleaned, and what collapses is left out.
 
     Parameters
     ----------
@@ -194,8 +192,9 @@ def simplify_polygons(points: npt.NDArray[Int], ring_offsets: npt.ArrayLike,
     ([0, 4, 7], [0, 2])
     """
     given = given_polygons(points, ring_offsets, polygon_offsets)
-    parts = as_parts(threads, len(given.parts) - 1)
-    return _clean_polygons("simplify", given, parts)
+    if as_parts(threads, len(given.parts) - 1) == 1:
+        return _clean_whole("simplify", given)
+    return _clean_rings("simplify", given, threads)
 
 
 def despike_polygons(points: npt.NDArray[Int], ring_offsets: npt.ArrayLike,
@@ -207,9 +206,6 @@ def despike_polygons(points: npt.NDArray[Int], ring_offsets: npt.ArrayLike,
     answers it: without repeated points and spikes, and with vertices that
     lie on an edge. :func:`i_shape.io.despike_features` does the same to the
     polygons of features.
-
-    The answer is that of two proved calls, one after the other: each ring
-    is cleaned, and what collapses is left out.
 
     Parameters
     ----------
@@ -242,14 +238,10 @@ def despike_polygons(points: npt.NDArray[Int], ring_offsets: npt.ArrayLike,
     >>> left.ring_offsets.tolist(), left.polygon_offsets.tolist()
     ([0, 4], [0, 1])
     """
-    given = given_polygons(points, ring_offsets, polygon_offsets)
-    parts = as_parts(threads, len(given.parts) - 1)
     # The call on polygons leaves a ring without spikes as it is, also with
-    # points that repeat. None of these rings has any.
-    rings = clean_rings("despike", given.points, given.rings, threads,
-                        "ring_offsets", given.before)
-    return _clean_polygons("despike", given._replace(
-        points=rings.points, rings=rings.offsets), parts)
+    # points that repeat.
+    given = given_polygons(points, ring_offsets, polygon_offsets)
+    return _clean_rings("despike", given, threads)
 
 
 def canonical_polygons(points: npt.NDArray[Int], ring_offsets: npt.ArrayLike,
@@ -307,7 +299,7 @@ def canonical_polygons(points: npt.NDArray[Int], ring_offsets: npt.ArrayLike,
     """
     given = given_polygons(points, ring_offsets, polygon_offsets)
     as_threads(threads)
-    return _clean_polygons(canonical_cleaner(oriented), given, 1)
+    return _clean_whole(canonical_cleaner(oriented), given)
 
 
 def same_polygons(a: Triple, b: Triple, *, oriented: bool = True,

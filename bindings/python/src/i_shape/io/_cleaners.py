@@ -9,7 +9,8 @@ import numpy.typing as npt
 
 from .._keys import canonical_keys
 from .._library import Array
-from .._polygons import Polygons, canonical_polygons
+from .._polygons import (Polygons, canonical_polygons, left_polygons,
+                         which_left)
 from .._rings import Rings, canonical_rings, despike_rings, simplify_rings
 from ._features import Features, as_features
 
@@ -27,29 +28,17 @@ def _ends(counts: Array) -> Array:
     return np.concatenate([np.zeros(1, np.int64), np.cumsum(counts)])
 
 
-def _left(features: Features, rings: Rings) -> Features:
-    """The features without the rings that are empty, and their polygons."""
-    parts = features.polygons.polygon_offsets
-    lengths, ring_counts = np.diff(rings.offsets), np.diff(parts)
-    stay = lengths > 0
-    polygons_stay = np.ones(len(ring_counts), np.bool_)
-    has_rings = ring_counts > 0
-    polygons_stay[has_rings] = stay[parts[:-1][has_rings]]
-    stay &= np.repeat(polygons_stay, ring_counts)
-    left_rings, left_polygons = _ends(stay), _ends(polygons_stay)
-    return features._replace(
-        polygons=Polygons(rings.points[np.repeat(stay, lengths)],
-                          _ends(lengths[stay]),
-                          _ends(np.diff(left_rings[parts])[polygons_stay])),
-        feature_offsets=left_polygons[features.feature_offsets])
-
-
 def clean(features: Features, cleaner: Cleaner, threads: int = 1) -> Cleaned:
     """Clean the rings, and leave out what collapses."""
     features = as_features(features)
     points, ends, parts = features.polygons
     rings = cleaner(points, ends, threads=threads)
-    return Cleaned(_left(features, rings), np.diff(rings.offsets) == 0)
+    left = which_left(rings.offsets, parts)
+    return Cleaned(
+        Features(left_polygons(rings, left),
+                 np.searchsorted(left.polygons, features.feature_offsets),
+                 features.are_multi),
+        np.diff(rings.offsets) == 0)
 
 
 def in_order(features: Features, oriented: bool = True) -> Features:

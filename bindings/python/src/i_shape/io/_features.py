@@ -160,9 +160,9 @@ class Features(NamedTuple):
 def as_finite(features: Features) -> Features:
     """The features, or an error that names the first infinite point."""
     points = features.polygons.points
-    finite = np.isfinite(points).all(axis=1)
+    finite = np.isfinite(points)
     if not finite.all():
-        row = int(finite.argmin())
+        row = int(finite.all(axis=1).argmin())
         x, y = points[row].tolist()
         raise FeatureError(f"the point is ({x}, {y}), and not finite",
                            *features.place(row))
