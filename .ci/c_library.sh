@@ -8,23 +8,28 @@ c=("${CC:-cc}" -std=c11)
 
 # The names that the libraries export are those that the header declares.
 test_names() {
-    check 'the names of the shared library' diff <(nm -D --defined-only "$library/libi_shape.so" | cut -d ' ' -f 2- | sort) <(declared | sed 's/^/T /')
+    declared > "$work/declared" && [ -s "$work/declared" ] || count 1 'the names of the header'
+    check 'the names of the shared library' diff <(nm -D --defined-only "$library/libi_shape.so" | cut -d ' ' -f 2- | sort) <(sed 's/^/T /' "$work/declared")
     has 'the names of the archive' rt || return
     "$(dirname "$(rt doc)")/toolchain/bin/llvm-ar" p "$archive" > "$work/all.o"
-    check 'the names of the archive' diff <(nm -g --defined-only "$work/all.o" | sed -nE 's/^.* T (.*)$/\1/p' | sort) <(declared)
+    check 'the names of the archive' diff <(nm -g --defined-only "$work/all.o" | sed -nE 's/^.* T (.*)$/\1/p' | sort) "$work/declared"
 }
 
-# `make c` over what is built. A killed build for another processor has left the archive of the default, and another in its place.
+# A killed build for another processor has left the archive of the default in the folder $1, and another in its place, which the next build mends.
+restores_default() {
+    mkdir -p "$1" && cp -p "$archive" "$1/default.a" && cp -p "$archive" "$work/default.a" && rm "$archive" && echo another > "$archive" &&
+        bash bindings/c/build.sh && cmp "$archive" "$work/default.a"
+}
+
+# `make c` over what is built.
 test_build() {
     local left=$library/killed
     check 'what is built, while another build runs' flock "$library/build.lock" timeout 60 bash bindings/c/build.sh
     prints 'TARGET and CPU of the environment' "$(make -s -n c)" env TARGET=another CPU=another make -s -n c
-    mv "$library/libi_shape.so" "$work" && ! bash bindings/c/build.sh --is-built
-    count $? 'a library that is gone'
+    mv "$library/libi_shape.so" "$work"
+    check 'a library that is gone' fails bash bindings/c/build.sh --is-built
     mv "$work/libi_shape.so" "$library"
-    mkdir -p "$left" && cp -p "$archive" "$left/default.a" && cp -p "$archive" "$work/default.a" && rm "$archive" && echo another > "$archive" &&
-        bash bindings/c/build.sh > "$work/log" 2>&1
-    check 'what a killed build has left' cmp "$archive" "$work/default.a"
+    check 'what a killed build has left' restores_default "$left"
     [ ! -e "$left/default.a" ] || mv "$left/default.a" "$archive"
     rmdir "$left"
 }
@@ -115,7 +120,7 @@ in_crate() { (cd bindings/rust && "$@"); }
 test_rust() {
     local words
     export CARGO_NET_OFFLINE=true CARGO_TARGET_DIR=$work/target RUSTDOCFLAGS='-D warnings'
-    needs 'the crate for Rust' 'there is no cargo from 1.85 on' in_crate cargo metadata --no-deps --format-version 1 || return
+    needs 'the crate for Rust' 'there is no cargo from 1.85 on' bash -c '[[ $(cargo --version) =~ ^cargo\ 1\.([0-9]+) ]] && [ "${BASH_REMATCH[1]}" -ge 85 ]' || return
     add 'the crate for Rust' in_crate test_crate
     prints 'examples/clean.rs' "$(shown docs/C.md examples/clean.c)" in_crate cargo run --locked --quiet --example clean
     for words in 'doc --no-deps --locked --quiet' 'clippy --all-targets --locked --quiet -- -D warnings' 'fmt --check'; do

@@ -29,6 +29,6 @@ done
 add 'the tests by Node' test_by_node
 has 'the types' tsc && check 'the types' tsc --noEmit --strict --target es2022 --lib es2022,dom --module node16 --moduleResolution node16 $package/test/types.ts
 has 'the steps that retarget the module' rt && add 'the tests of retarget.py' python3 bindings/module/test_retarget.py wasm
-has "the object file of the kit's own lowering" rt && [ "$only_built" != --if-built ] &&
+needs "the object file of the kit's own lowering" 'it is built anew' [ "$only_built" != --if-built ] &&
     check "the object file of the kit's own lowering" sh $package/wasm/same_object.sh "$PWD"
 end_part

@@ -30,8 +30,9 @@ PAGES = ["README.md", "CHANGELOG.md", "docs/*.md", "docs/develop/*.md", "example
 RUST = ["crates/*/src/**/*.rt", "bindings/rust/**/*.rs", "examples/**/*.rs", "bench/**/*.rs"]
 C = ["bindings/c/*.c", "bindings/c/*.cpp", "bindings/c/*.h", "examples/**/*.c", "bench/**/*.c", "include/*.h", "include/*.hpp"]
 JAVASCRIPT = ["bindings/js/*.js", "examples/*.mjs"]
-# What shows that something is there, where it isn't a program that has a version, and what is said where it isn't there.
+# What shows that something is there, and what is said where it isn't.
 NEEDED = {
+    **{name: (f"{name} --version", f"there is no {name}") for name in ("rt", "parallel", "pkg-config")},
     # what the three libraries have kept of their proofs, or the C library that was built from it, is newer than they are
     "proof": ("""rt version && test -d crates/i_shape/out/rlib && test -z "$(find crates/i_shape_core crates/i_shape_source crates/i_shape \\
         -name out -prune -o \\( -name '*.rt' -o -name '*.antt' \\) \\
@@ -138,8 +139,7 @@ def fault_of_c(text):
 @functools.lru_cache
 def is_at_hand(needed):
     """Whether what a block needs is there."""
-    shown, _ = NEEDED.get(needed, (f"{needed} --version", None))
-    return subprocess.run(["sh", "-c", shown], cwd=TOP, capture_output=True, check=False).returncode == 0
+    return subprocess.run(["sh", "-c", NEEDED[needed][0]], cwd=TOP, capture_output=True, check=False).returncode == 0
 
 
 def top_names():
@@ -247,7 +247,7 @@ def main():
         else:
             passed += 1
     for name, places in skipped.items():
-        print(f"skipped: {NEEDED[name][1] if name in NEEDED else f'there is no {name}'}: {'; '.join(places)}")
+        print(f"skipped: {NEEDED[name][1]}: {'; '.join(places)}")
     print(f"pages: {parts.sum_line([(passed, failed, len(skipped))])}")
     return failed > 0
 

@@ -28,21 +28,22 @@ check() {
     count "$status" "$1"
 }
 
-# Counts the test $1: the words from $3 on print $2.
+fails() { ! "$@"; }
+
+# Counts the test $1: the words from $3 on succeed, and print $2.
 prints() {
     local printed
-    printed=$("${@:3}")
-    [ -n "$2" ] && [ "$printed" = "$2" ] || { echo "$1 prints: $printed" && false; }
+    printed=$("${@:3}") && [ -n "$2" ] && [ "$printed" = "$2" ] || { echo "$1 prints: $printed" && false; }
     count $? "$1"
 }
 
-# Adds up what the tests $1, the words from $2 on, count in their last line. Without such a line, or if they fail and count none, one failure is counted.
+# Adds up what the tests $1, the words from $2 on, count in their last line. If they count nothing, or fail and count no failure, one failure is counted.
 add() {
     local its_passed its_failed its_skipped status
     "${@:2}" > "$work/log" 2>&1
     status=$?
     read -r its_passed its_failed its_skipped <<< "$(sed -nE 's/^([a-z. ]+: )?([0-9]+) passed, ([0-9]+) failed(, ([0-9]+) skipped)?$/\2 \3 \5/p' "$work/log" | tail -n 1)"
-    if [ -z "$its_passed" ] || { [ "$status" != 0 ] && [ "$its_failed" = 0 ]; }; then
+    if [ $((its_passed + its_failed + its_skipped)) = 0 ] || { [ "$status" != 0 ] && [ "$its_failed" = 0 ]; }; then
         echo "$1: it ended with status $status"
         its_failed=1
     fi
@@ -86,7 +87,7 @@ end_part() {
 # Whether the compiler makes programs with these flags that run here.
 compiles_with() { { echo 'int main(void) { return 0; }' | "${CC:-cc}" -x c "$@" -o "$work/probe" - && "$work/probe"; } > /dev/null 2>&1; }
 
-compile_and_run() { "$@" -O1 -g "${warnings[@]}" -Iinclude -pthread -o "$work/tests" && "${runner[@]}" "$work/tests"; }
+compile_and_run() { "$1" -O1 -g "${warnings[@]}" -Iinclude -pthread -o "$work/tests" "${@:2}" && "${runner[@]}" "$work/tests"; }
 
 # Compiles the tests $1 of the C library by the words from $2 on, and runs them by the words of the array runner.
 test_as() {

@@ -9,8 +9,8 @@ drawn() { printf "$1" | "$python" examples/draw/draw.py --program "$I_SHAPE_TOOL
 
 mkdir "$work/drawn" && examples/draw/draw_all.sh "$work/drawn" && diff -qr docs/pictures "$work/drawn"
 count $? 'the pictures: `make pictures` draws them anew'
-prints 'a line of five words' 'draw.py: a line has an odd number of words' drawn '0 0 4 0 4\n'
-prints 'an empty line' 'draw.py: a line has no point' drawn '0 0 4 0 4 4\n\n'
+prints 'a line of five words' 'draw.py: a line has an odd number of words' fails drawn '0 0 4 0 4\n'
+prints 'an empty line' 'draw.py: a line has no point' fails drawn '0 0 4 0 4 4\n\n'
 drawn '0 0 4 0 4 4\n' --label 'a < b & c' | grep -q '>a &lt; b &amp; c</text>'
 count $? 'a label'
 end_part

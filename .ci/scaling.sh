@@ -1,7 +1,7 @@
 #!/usr/bin/env bash
 # Tests that a text that `parallel` or `split` has parted gets the very answer of one run, for each command of the program, and what becomes of a fault in a
 # part: docs/SCALING.md. It takes the program of `make program`, or that of the word $I_SHAPE_TOOL. Where there is none, or no parallel, it is skipped.
-. "$(dirname "$0")/part.sh" || exit 1
+. "$(dirname "$0")/part.sh" && set -o pipefail || exit 1
 program=${I_SHAPE_TOOL:-crates/i_shape_tool_main/out/i_shape_tool_main}
 [ -n "${I_SHAPE_TOOL-}" ] || needs scaling '`make program` builds the program' bash scripts/program/build.sh --is-built || end_part
 has scaling parallel || end_part
@@ -18,8 +18,7 @@ for _ in range(20000):
 print("0 0 4 0 4 4", end="")
 PROGRAM
 for command in despike area canonical compact simplify; do
-    "$program" $command < "$work/text" > "$work/one" && [ -s "$work/one" ] &&
-        parted --block 7k $command < "$work/text" 2>&1 | cmp "$work/one" -
+    "$program" $command < "$work/text" > "$work/one" && [ -s "$work/one" ] && parted --block 7k $command < "$work/text" 2>&1 | cmp "$work/one" -
     count $? "the parts of $command"
 done
 parted -N 1000 simplify < "$work/text" | cmp "$work/one" -

@@ -61,12 +61,13 @@ class PartsTest(Case):
         write(f"{self.room}/.ci/part.sh", pages.read(f"{TOP}/.ci/part.sh"))
         write(f"{self.room}/.ci/a_part.sh", """. "$(dirname "$0")/part.sh"
 check right true && check wrong false && prints right 1 echo 1 && prints wrong 1 echo 2 && prints nothing '' true
+prints right 1 fails sh -c 'echo 1; exit 1' && prints wrong 1 sh -c 'echo 1; exit 1'
 add right echo 'its tests: 10 passed, 0 failed, 2 skipped'
-for run in 'echo 1 passed, 1 failed' 'echo 1 passed, 0 failed; exit 1' 'echo 1; exit 0' 'kill -9 $$'; do add wrong sh -c "$run"; done
+for run in 'echo 0 passed, 0 failed' 'echo 1 passed, 1 failed' 'echo 1 passed, 0 failed; exit 1' 'echo 1; exit 0' 'kill -9 $$'; do add wrong sh -c "$run"; done
 has tests no-such-program || has_built tests no-such-script || end_part
 """)
         ran = self.run_in("/", "bash", f"{self.room}/.ci/a_part.sh", "--if-built")
-        self.assertEqual((ran.returncode, ran.stdout.splitlines()[-1]), (1, "a part: 14 passed, 7 failed, 4 skipped"))
+        self.assertEqual((ran.returncode, ran.stdout.splitlines()[-1]), (1, "a part: 15 passed, 9 failed, 4 skipped"))
 
     def test_runs(self):
         """A part beside another, one that fails, one that leaves a process behind, and one that doesn't start."""

@@ -90,7 +90,7 @@ class Edit:
         """Whether each old text lies in the function itself, so that it can turn no other. A constant can, where others read it."""
         for path, old, _ in self.pairs:
             above = read(f"{folder}/{path}").partition(old)[0] + old
-            items = re.findall(r'^ *(?:[\w()"]+ )*(fn|const|static|struct|enum|type|trait|impl|mod|macro_rules!|use)\b ?(\w*)', above, re.M)
+            items = re.findall(r'^ *(?:[\w()"]+ )*(fn|ghost|const|static|struct|enum|type|trait|impl|mod|macro_rules!|use)\b ?(\w*)', above, re.M)
             if items[-1:] != [("fn", self.function.rpartition("::")[2])]:
                 return False
         return True
