@@ -21,7 +21,6 @@ restores_default() {
         bash bindings/c/build.sh && cmp "$archive" "$work/default.a"
 }
 
-# `make c` over what is built.
 test_build() {
     local left=$library/killed
     check 'what is built, while another build runs' flock "$library/build.lock" timeout 60 bash bindings/c/build.sh

@@ -228,17 +228,14 @@ done
 count $? 'SHA256SUMS'
 bash scripts/dist.sh "$work/again" "${parts[0]}" > "$work/log" 2>&1 && cmp "$work/dist/SHA256SUMS" "$work/again/SHA256SUMS"
 count $? 'SHA256SUMS, after one part is packed again'
-
 # without the folders that hold the kit
 PATH=$(tr : '\n' <<< "$PATH" | while read -r folder; do [ -x "$folder/rt" ] || [ -x "$folder/rattle" ] || echo "$folder"; done | paste -sd :)
 ! command -v rt > /dev/null
 count $? 'there is no rt on the path'
 is_packed linux-x86_64 && test_x86_64
 is_packed linux-aarch64 && test_aarch64
-for machine in x86_64 aarch64; do
-    is_packed "wheel-$machine" && test_wheel "$machine"
-done
-is_packed wheel-x86_64 && test_installed
+is_packed wheel-aarch64 && test_wheel aarch64
+is_packed wheel-x86_64 && test_wheel x86_64 && test_installed
 is_packed program-x86_64 && test_program x86_64 "${old_processor[@]}"
 is_packed program-aarch64 && test_program aarch64 "${aarch64[@]}"
 is_packed javascript && test_javascript

@@ -27,8 +27,7 @@ test_aarch64() {
     test_archive 'aarch64' $library/libi_shape.a "${c[@]}"
     test_as 'aarch64, shared' "${c[@]}" $tests $library/libi_shape.so
     test_as 'aarch64, static' "${c[@]}" -static $tests $library/libi_shape.a
-    has 'aarch64, C++17' aarch64-linux-gnu-g++ || return
-    test_as 'aarch64, C++17' aarch64-linux-gnu-g++ -std=c++17 -x c++ $tests -x none $library/libi_shape.a
+    has 'aarch64, C++17' aarch64-linux-gnu-g++ && test_as 'aarch64, C++17' aarch64-linux-gnu-g++ -std=c++17 -x c++ $tests -x none $library/libi_shape.a
 }
 
 # On a processor that lacks the SSE4.2 of x86-64-v2, so that the default library is no good there.

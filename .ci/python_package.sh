@@ -8,7 +8,6 @@ install_package() {
         "$work/environment/bin/python" -m pip install --isolated --no-index --no-deps bindings/python/out/*.whl
 }
 
-# Of tests that pass it prints what isn't tested, and the count.
 run_tests() {
     "$work/environment/bin/python" bindings/python/tests > "$work/told" 2>&1
     local status=$?
