@@ -44,15 +44,17 @@ enum {
  * offsets it is 0 too, and calls return I_SHAPE_BAD_OFFSETS. For shapes[], count is contour_offset_count - 1. */
 size_t i_shape_first_bad_offset(size_t count, const size_t *offsets, size_t offset_count);
 
-/* Which polygons and contours are left where contours that collapse are empty, as i_shape_simplify_contours_iW leaves
- * them; contours[] and shapes[] are those of i_shape_simplify_shapes_iW, over any number of points. A polygon is left
- * if its outer contour has points or it has no contours. The call returns the number n of these, and writes from the
- * front of each array: out_shapes, the n indices of these polygons; out_contours, the indices of those of their
- * contours that have points, end to end; out_offsets, n + 1 offsets from 0 on, which divide these indices among these
- * polygons. I_SHAPE_BAD_OFFSETS: there is no offset, an offset is below the one before it, or one of shapes[] above
- * contour_offset_count - 1. I_SHAPE_NO_ROOM: contour_room is below the number of contours, shape_room below that of
- * polygons, or offset_room not above it. The rest of the arrays is as it was, and after a code all of them. It takes no
- * memory. */
+/* Which polygons and contours are left after a call such as i_shape_simplify_contours_iW, which leaves contours that
+ * collapse empty: contours[] is the out_offsets of that call, and shapes[] divides these contours into polygons, as for
+ * i_shape_simplify_shapes_iW. No points are given, so contours[] may end anywhere. A polygon is left if its outer
+ * contour has points, or if it has no contours.
+ *
+ * It returns the number n of polygons left, and writes to the front of each array: their n indices to out_shapes; the
+ * indices of their contours that have points, end to end, to out_contours; and to out_offsets n + 1 offsets, from 0 on,
+ * which divide these contours among these polygons. Behind these, and after a code, the arrays are as they were.
+ * I_SHAPE_BAD_OFFSETS: contour_offset_count or shape_offset_count is 0, an offset is below the one before it, or one of
+ * shapes[] is above the number of contours. I_SHAPE_NO_ROOM: contour_room is below the number of contours, shape_room
+ * below the number of polygons, or offset_room below shape_offset_count. It takes no memory. */
 ptrdiff_t i_shape_compact_shapes(const size_t *contours, size_t contour_offset_count, const size_t *shapes, size_t shape_offset_count, size_t *out_contours, size_t contour_room, size_t *out_shapes, size_t shape_room, size_t *out_offsets, size_t offset_room);
 
 /* What i_shape_winding_iW returns if a point isn't safe: below every winding number, which may be below 0 itself. */

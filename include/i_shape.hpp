@@ -26,7 +26,7 @@ namespace i_shape {
 
 enum class Code : std::int32_t {
     unsafe = I_SHAPE_UNSAFE,           /* a point that the call reads isn't safe */
-    bad_offsets = I_SHAPE_BAD_OFFSETS, /* the offsets don't part the points, or the contours */
+    bad_offsets = I_SHAPE_BAD_OFFSETS, /* the offsets don't divide the points, or the contours */
     no_memory = I_SHAPE_NO_MEMORY,     /* an allocation failed */
     no_room = I_SHAPE_NO_ROOM,         /* the array of the answer is too short */
     unfit [[deprecated("its name is bad_offsets, and no_room is another code")]] = bad_offsets
@@ -57,7 +57,7 @@ private:
     static const char *words_of(Code code) noexcept {
         switch (code) {
         case Code::unsafe: return "a point isn't in the safe range";
-        case Code::bad_offsets: return "the offsets don't part the points, or the contours";
+        case Code::bad_offsets: return "the offsets don't divide the points, or the contours";
         case Code::no_room: return "the array of the answer is too short";
         case Code::no_memory: break;
         }
@@ -251,7 +251,7 @@ std::optional<std::size_t> first_unsafe(const Points &points, std::size_t first,
     return place < end ? std::optional(place) : std::nullopt;
 }
 
-/* The error of offsets that don't part so many items; nothing where they do. */
+/* The error of offsets that don't divide so many items; nothing where they do. */
 inline std::optional<Error> bad_offsets(Array array, Offsets offsets, std::size_t count) noexcept {
     if (offsets.size() == 0) return Error(Code::bad_offsets, array);
     const std::size_t place = i_shape_first_bad_offset(count, read_offsets(offsets), offsets.size());
@@ -479,8 +479,9 @@ Shapes<PointOf<Points>> canonical_unoriented_shapes(const Points &points, const 
     return detail::clean_shapes(detail::CallsOf<Points>::canonical_unoriented_shapes, points, contours, shapes);
 }
 
-/* What is left of polygons whose contours that collapse are empty, as those that simplify_contours returns: a polygon is
- * left where its outer contour has points or it has no contours, and so are those of its contours that have points. */
+/* Which polygons and contours are left after a call such as simplify_contours, which leaves contours that collapse empty:
+ * a polygon is left where its outer contour has points, or where it has no contours, and a contour of it where it has
+ * points. Throws Code::bad_offsets, of Array::offsets or Array::shapes. */
 template <class Offsets, class ShapeOffsets>
 Indices compact_shapes(const Offsets &contours, const ShapeOffsets &shapes) {
     const auto all_contours = detail::as_offsets(contours);
@@ -494,6 +495,7 @@ Indices compact_shapes(const Offsets &contours, const ShapeOffsets &shapes) {
     const std::ptrdiff_t answer = i_shape_compact_shapes(detail::read_offsets(all_contours), all_contours.size(), detail::read_offsets(all_shapes), all_shapes.size(),
                                                          detail::address<std::size_t>(left.contours.data()), left.contours.size(),
                                                          detail::address<std::size_t>(left.shapes.data()), left.shapes.size(), left.offsets.data(), left.offsets.size());
+    if (answer < 0) throw Error(static_cast<Code>(answer));
     const std::size_t count = static_cast<std::size_t>(answer);
     left.shapes.resize(count);
     left.offsets.resize(count + 1);
@@ -587,7 +589,7 @@ std::optional<AreaOf<Points>> area_two(const Points &points) noexcept {
 
 /* Tests of many contours: a byte for each, 1 or 0, since items of a vector of bool have no address. All but
  * is_safe_contours throw Code::unsafe where a point isn't safe, and each throws Code::bad_offsets where the offsets don't
- * part the points. */
+ * divide the points. */
 
 template <class Points, class Offsets>
 std::vector<std::uint8_t> is_simple_contours(const Points &points, const Offsets &offsets) {

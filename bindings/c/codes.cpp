@@ -12,7 +12,7 @@ static void clean(const std::vector<Vertex> &points, const std::vector<std::size
     } catch (const i_shape::Error &error) {
         switch (error.code()) {
         case i_shape::Code::unsafe: std::cout << "point " << *error.place() << " is out of the safe range: scale down, or take 32 bits\n"; break;
-        case i_shape::Code::bad_offsets: std::cout << "the offsets don't part the points\n"; break;
+        case i_shape::Code::bad_offsets: std::cout << "the offsets don't divide the points\n"; break;
         case i_shape::Code::no_room: std::cout << "there is no room for the answer\n"; break;
         case i_shape::Code::no_memory: std::cout << "there is no memory for it\n"; break;
         }

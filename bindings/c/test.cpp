@@ -169,7 +169,7 @@ private:
     static const char *words_of(i_shape::Code code) {
         switch (code) {
         case i_shape::Code::unsafe: return "a point isn't in the safe range";
-        case i_shape::Code::bad_offsets: return "the offsets don't part the points";
+        case i_shape::Code::bad_offsets: return "the offsets don't divide the points";
         case i_shape::Code::no_room: return "the array of the answer is too short";
         case i_shape::Code::no_memory: break;
         }
