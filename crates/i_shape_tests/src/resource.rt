@@ -313,6 +313,10 @@ fn integer_buffers_lend_each_range(rt: HostRuntime) -> Result<(), Fail> {
     walk.next();
     row.equal(walk.len(), 2, "a walk after a path");
     row.equal(walk.count(), 2, "a walk after a path, counted");
+    let mut walk = (&shapes).iter_paths();
+    row.equal(walk.len(), 3, "a walk of shapes");
+    walk.next();
+    row.equal(walk.count(), 2, "a walk of shapes after a path");
     Ok(())
 }
 
@@ -362,12 +366,20 @@ macro_rules! count_each {
     };
 }
 
+fn counts_paths_left<I: IntNumber>(
+    row: &Row<'_, impl Abort>,
+    path: &[IntPoint<I>],
+) -> Result<(), Fail> {
+    count_each!(row, path);
+    Ok(())
+}
+
 #[test]
 fn paths_left_are_counted(rt: HostRuntime) -> Result<(), Fail> {
-    let row = Row::new(&rt, rt.alloc(), "whole numbers");
-    let points = [IntPoint::new(7i32, 1)];
-    let path = points.as_slice();
-    count_each!(row, path);
+    let row = &Row::new(&rt, rt.alloc(), "whole numbers");
+    counts_paths_left(row, &[IntPoint::new(7i16, 1)])?;
+    counts_paths_left(row, &[IntPoint::new(7i32, 1)])?;
+    counts_paths_left(row, &[IntPoint::new(7i64, 1)])?;
     let row = Row::new(&rt, rt.alloc(), "points of the tests' own");
     let points = [WholePoint { x: 7, y: 1 }];
     let path = points.as_slice();
