@@ -8,8 +8,9 @@ use i_shape::int::area::{Area, IteratorArea, UnsafeArea};
 use i_shape::int::count::PointsCount;
 use i_shape::int::despike::DeSpikeContour;
 use i_shape::int::path::ContourExtension;
+use i_shape::int::shape::IntShape;
 use i_shape::int::simple::SimpleContour;
-use i_shape::{IntNumber, int_path, int_shape, int_shapes};
+use i_shape::{IntNumber, int_path, int_shape};
 use std::process::Abort;
 use std::test::Fail;
 
@@ -58,7 +59,11 @@ fn contours_are_added_up_before_they_are_halved(rt: HostRuntime) -> Result<(), F
     let shape = int_shape![row.alloc; [[0, 0], [1, 0], [0, 1]], [[0, 0], [1, 0], [0, 1]]]?;
     let shape = shape.as_slice();
     row.equal([shape.area_two(), shape.area()], [2_i64, 1], "a shape");
-    let list = int_shapes![row.alloc; [[[0, 0], [1, 0], [0, 1]]], [[[0, 0], [1, 0], [0, 1]]]]?;
+    let [one, other] = [
+        int_path![row.alloc; [0, 0], [1, 0], [0, 1]]?,
+        int_path![row.alloc; [0, 0], [1, 0], [0, 1]]?,
+    ];
+    let list: [IntShape<i32>; 2] = [vec![in row.alloc; one]?, vec![in row.alloc; other]?];
     let list = list.as_slice();
     row.equal([list.area_two(), list.area()], [2_i64, 1], "a list");
     row.equal(list.points_count(), 6, "points of a list");

@@ -243,22 +243,31 @@ fn are_safe<I: IntNumber>(
     Ok(())
 }
 
+/// The point isn't safe, and nor are the corners with it.
+fn is_far<I: IntNumber>(
+    row: &Row<'_, impl Abort>,
+    corners: &[IntPoint<I>],
+    far: IntPoint<I>,
+) -> Result<(), Fail> {
+    row.holds(!far.is_in_safe_range(), "a point beyond the corners");
+    let mut points = corners.to_vec(row.alloc)?;
+    points.push(far)?;
+    are_safe(row, points.as_slice(), false)
+}
+
 /// The corners of a width are safe, and no longer with a point beyond them, whichever coordinate it is.
 fn safe_range_ends_at<I: IntNumber>(
     row: &Row<'_, impl Abort>,
-    [low, high]: [I; 2],
+    corners: &[IntPoint<I>],
     beyond: &[I],
 ) -> Result<(), Fail> {
-    let (low, high) = (IntPoint::new(low, low), IntPoint::new(high, high));
-    row.holds(low.is_in_safe_range(), "the low corner");
-    row.holds(high.is_in_safe_range(), "the high corner");
-    are_safe(row, &[low, high], true)?;
+    for corner in corners {
+        row.holds(corner.is_in_safe_range(), "a corner");
+    }
+    are_safe(row, corners, true)?;
     for far in beyond {
-        let (right, up) = (IntPoint::new(*far, I::ZERO), IntPoint::new(I::ZERO, *far));
-        row.holds(!right.is_in_safe_range(), "a far x");
-        row.holds(!up.is_in_safe_range(), "a far y");
-        are_safe(row, &[low, high, right], false)?;
-        are_safe(row, &[low, high, up], false)?;
+        is_far(row, corners, IntPoint::new(*far, I::ZERO))?;
+        is_far(row, corners, IntPoint::new(I::ZERO, *far))?;
     }
     Ok(())
 }
@@ -267,11 +276,23 @@ fn safe_range_ends_at<I: IntNumber>(
 fn safe_range_ends_at_a_quarter_of_each_width(rt: HostRuntime) -> Result<(), Fail> {
     let row = Row::new(&rt, rt.alloc(), "the safe range");
     let m = 16383i16;
-    safe_range_ends_at(&row, [-m, m], &[m + 1, -m - 1, i16::MAX, i16::MIN])?;
+    safe_range_ends_at(
+        &row,
+        &[IntPoint::new(-m, -m), IntPoint::new(m, m)],
+        &[m + 1, -m - 1, i16::MAX, i16::MIN],
+    )?;
     let m = 1073741823i32;
-    safe_range_ends_at(&row, [-m, m], &[m + 1, -m - 1, i32::MAX, i32::MIN])?;
+    safe_range_ends_at(
+        &row,
+        &[IntPoint::new(-m, -m), IntPoint::new(m, m)],
+        &[m + 1, -m - 1, i32::MAX, i32::MIN],
+    )?;
     let m = 4611686018427387903i64;
-    safe_range_ends_at(&row, [-m, m], &[m + 1, -m - 1, i64::MAX, i64::MIN])
+    safe_range_ends_at(
+        &row,
+        &[IntPoint::new(-m, -m), IntPoint::new(m, m)],
+        &[m + 1, -m - 1, i64::MAX, i64::MIN],
+    )
 }
 
 #[test]
