@@ -102,9 +102,15 @@ fn wraps<I: IntNumber>(
     once: [I::Wide; 2],
     twice: [I::Wide; 2],
 ) -> Result<(), Fail> {
-    let [a, b, c, d] = [[low, low], [high, low], [high, high], [low, high]];
-    winds(row, (1, &[a, b, c, d]), once)?;
-    winds(row, (2, &[a, b, c, d, a, b, c, d]), twice)
+    let mut square = Vec::new(row.alloc);
+    square.push([low, low])?;
+    square.push([high, low])?;
+    square.push([high, high])?;
+    square.push([low, high])?;
+    winds(row, (1, square.as_slice()), once)?;
+    let again = Vec::from_slice(row.alloc, square.as_slice())?;
+    square.extend_from_slice(again.as_slice())?;
+    winds(row, (2, square.as_slice()), twice)
 }
 
 #[test]

@@ -102,18 +102,29 @@ const PLACES: [(&str, [i32; 2], bool, isize); 17] = [
     ("0 8 -5 -7 8 2 -8 2 5 -7", [0, 6], true, 1),
 ];
 
+/// Whether the contour contains the point, and how often it winds about it.
+fn is_told(
+    row: &Row<'_, impl Abort>,
+    list: &str,
+    [x, y]: [i32; 2],
+    wanted: (bool, isize),
+) -> Result<(), Fail> {
+    let given = texts::contour(row, list)?;
+    let point = IntPoint::new(x, y);
+    assert!(row.rt; point.is_in_safe_range());
+    let is_inside = given.as_slice().contains_point(point);
+    let times = given.as_slice().winding_number(point);
+    row.equal((is_inside, times), wanted, "contains, and winds");
+    Ok(())
+}
+
 #[test]
 fn contains_the_points_with_an_odd_number_of_edges_to_the_right(
     rt: HostRuntime,
 ) -> Result<(), Fail> {
-    for (list, [x, y], is_inside, times) in PLACES {
+    for (list, point, is_inside, times) in PLACES {
         let row = Row::new(&rt, rt.alloc(), list);
-        let given = texts::contour(&row, list)?;
-        let given = given.as_slice();
-        let point = IntPoint::new(x, y);
-        assert!(rt; point.is_in_safe_range());
-        row.equal(given.contains_point(point), is_inside, "contains");
-        row.equal(given.winding_number(point), times, "winds");
+        is_told(&row, list, point, (is_inside, times))?;
     }
     Ok(())
 }

@@ -6,6 +6,7 @@ use callers::polygons::PolygonStore;
 use callers::store::{CanonicalStore, Insertion};
 use i_shape::int::canonical::{CanonicalShape, CanonicalShapes};
 use i_shape::int::simple::SimpleContour;
+use std::process::Abort;
 use std::test::Fail;
 
 /// A shape, its form, and its form either way round. The holes of the first are out of order, and its outer contour has a point on an edge.
@@ -76,22 +77,42 @@ const INSERTED: [(&str, Insertion); 4] = [
     ("0 0 4 0 4 4 0 4 0 0", Insertion::New),
 ];
 
-/// What is inserted is there afterwards unless it collapses.
+/// The contour becomes that in the store, and is there afterwards unless it collapses.
+fn contour_is_inserted(
+    row: &Row<'_, impl Abort>,
+    contours: &mut CanonicalStore<i32>,
+    inserted: Insertion,
+) -> Result<(), Fail> {
+    let contour = texts::contour(row, row.name)?;
+    let answer = contours.insert(contour.as_slice())?;
+    row.equal(answer, inserted, "what became of the contour");
+    let is_there = contours.contains(contour.as_slice())?;
+    row.equal(is_there, inserted != Insertion::Collapsed, "its place");
+    Ok(())
+}
+
+/// The same of a polygon.
+fn polygon_is_inserted(
+    row: &Row<'_, impl Abort>,
+    polygons: &mut PolygonStore<i32>,
+    inserted: Insertion,
+) -> Result<(), Fail> {
+    let shape = texts::shape(row, row.name)?;
+    let answer = polygons.insert(shape.as_slice())?;
+    row.equal(answer, inserted, "what became of the polygon");
+    let is_there = polygons.contains(shape.as_slice())?;
+    row.equal(is_there, inserted != Insertion::Collapsed, "its place");
+    Ok(())
+}
+
 #[test]
 fn joined_contours_are_one_in_a_store(rt: HostRuntime) -> Result<(), Fail> {
     let mut contours = CanonicalStore::new(rt.alloc());
     let mut polygons = PolygonStore::new(rt.alloc());
     for (name, inserted) in INSERTED {
         let row = Row::new(&rt, rt.alloc(), name);
-        let given = texts::contour(&row, name)?;
-        let wanted = (inserted, inserted != Insertion::Collapsed);
-        let given = given.as_slice();
-        let answer = (contours.insert(given)?, contours.contains(given)?);
-        row.equal(answer, wanted, "a contour");
-        let given = texts::shape(&row, name)?;
-        let given = given.as_slice();
-        let answer = (polygons.insert(given)?, polygons.contains(given)?);
-        row.equal(answer, wanted, "a polygon");
+        contour_is_inserted(&row, &mut contours, inserted)?;
+        polygon_is_inserted(&row, &mut polygons, inserted)?;
     }
     Ok(())
 }

@@ -9,30 +9,38 @@ use i_shape_tool::{clean_through_buffer, despike_through_buffer};
 use std::process::Abort;
 use std::test::Fail;
 
-/// Without zero turns `simple` is left of the list, and without spikes `blunt`; and it is told in place whether that changed it.
-fn list_is_cleaned(
+/// Without zero turns `left` is left of the list, and it is told in place whether that changed it.
+fn list_is_simplified(
     row: &Row<'_, impl Abort>,
     given: &str,
-    simple: &IntShapes<i32>,
-    blunt: &IntShapes<i32>,
+    left: &IntShapes<i32>,
 ) -> Result<(), Fail> {
     let mut list = texts::shapes(row, given)?;
-    let shapes = list.as_slice();
-    row.equal(shapes.is_simple(), list == *simple, "simple");
-    row.holds(shapes.simplified(row.alloc)? == *simple, "simplified");
-    let kept = clean_through_buffer(row.alloc, shapes)?;
-    row.holds(kept == *simple, "simplified through a buffer");
-    row.equal(list.has_no_spikes(), list == *blunt, "no spikes");
-    row.holds(list.despiked_shapes(row.alloc)? == *blunt, "despiked");
-    let kept = despike_through_buffer(row.alloc, shapes)?;
-    row.holds(kept == *blunt, "despiked through a buffer");
-    let is_clean = list == *simple;
-    row.holds(list.simplify_contour()? != is_clean, "what is told");
-    row.holds(list == *simple, "simplified in place");
+    let is_clean = list == *left;
+    row.equal(list.as_slice().is_simple(), is_clean, "simple");
+    let kept = list.as_slice().simplified(row.alloc)?;
+    row.holds(kept == *left, "simplified");
+    let kept = clean_through_buffer(row.alloc, list.as_slice())?;
+    row.holds(kept == *left, "simplified through a buffer");
+    row.equal(list.simplify_contour()?, !is_clean, "what is told");
+    row.holds(list == *left, "simplified in place");
+    Ok(())
+}
+
+/// The same without spikes.
+fn list_is_despiked(
+    row: &Row<'_, impl Abort>,
+    given: &str,
+    left: &IntShapes<i32>,
+) -> Result<(), Fail> {
     let mut list = texts::shapes(row, given)?;
-    let is_clean = list == *blunt;
-    row.holds(list.remove_spikes()? != is_clean, "spikes told");
-    row.holds(list == *blunt, "despiked in place");
+    let is_clean = list == *left;
+    row.equal(list.has_no_spikes(), is_clean, "no spikes");
+    row.holds(list.despiked_shapes(row.alloc)? == *left, "despiked");
+    let kept = despike_through_buffer(row.alloc, list.as_slice())?;
+    row.holds(kept == *left, "despiked through a buffer");
+    row.equal(list.remove_spikes()?, !is_clean, "spikes told");
+    row.holds(list == *left, "despiked in place");
     Ok(())
 }
 
@@ -67,7 +75,8 @@ fn shape_is_cleaned(
 /// All calls clean the list so, and those of a shape, where it has one.
 fn is_cleaned(row: &Row<'_, impl Abort>, [given, simple, blunt]: [&str; 3]) -> Result<(), Fail> {
     let (simple, blunt) = (texts::shapes(row, simple)?, texts::shapes(row, blunt)?);
-    list_is_cleaned(row, given, &simple, &blunt)?;
+    list_is_simplified(row, given, &simple)?;
+    list_is_despiked(row, given, &blunt)?;
     match given.strip_suffix('/') {
         Some(shape) if !shape.contains('/') => shape_is_cleaned(row, shape, &simple, &blunt),
         _ => Ok(()),

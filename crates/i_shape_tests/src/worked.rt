@@ -81,10 +81,13 @@ fn is_simplified(
     row.equal(points.is_simple(), is_clean, "is_simple");
     let (counted, walked) = simplifier.simplify_counted(points)?;
     row.equal(walked, visits, "visits");
-    texts::leaves(row, counted, left, "simplify_counted")?;
-    texts::leaves(row, points.simplified(row.alloc)?, left, "simplified")?;
-    let kept = simplifier.simplify_contour(points)?;
-    texts::leaves(row, kept, left, "simplify_contour")?;
+    for kept in [
+        counted,
+        points.simplified(row.alloc)?,
+        simplifier.simplify_contour(points)?,
+    ] {
+        texts::leaves(row, kept, left, "what is left")?;
+    }
     let told = [cleaned.simplify_contour()?, cleaned.simplify_contour()?];
     row.equal(told, [!is_clean, left.is_empty()], "what is told in place");
     texts::leaves(row, Some(cleaned), left, "what is left in place")
