@@ -67,27 +67,29 @@ pub fn has_area(row: &Row<'_, impl Abort>, points: &[IntPoint<i32>], two: i64) {
     row.equal(points.is_clockwise_ordered(), two <= 0, "clockwise");
 }
 
-/// The contour is simple where it is `left`; each call, and the simplifier whatever it has cleaned before, leaves that by so many visits; and so it is in place,
-/// where a second call changes nothing.
+/// The contour is simple where it is `left`, and each call, and the simplifier whatever it has cleaned before, leaves that by so many visits.
 fn is_simplified(
     row: &Row<'_, impl Abort>,
     simplifier: &mut ContourSimplifier,
     [given, left]: [&str; 2],
     visits: u128,
 ) -> Result<(), Fail> {
-    let mut cleaned = texts::contour(row, given)?;
-    let points = cleaned.as_slice();
+    let contour = texts::contour(row, given)?;
     let is_clean = !left.is_empty() && given == left;
-    row.equal(points.is_simple(), is_clean, "is_simple");
-    let (counted, walked) = simplifier.simplify_counted(points)?;
+    row.equal(contour.as_slice().is_simple(), is_clean, "is_simple");
+    let kept = contour.as_slice().simplified(row.alloc)?;
+    texts::leaves(row, kept, left, "simplified")?;
+    let (kept, walked) = simplifier.simplify_counted(contour.as_slice())?;
     row.equal(walked, visits, "visits");
-    for kept in [
-        counted,
-        points.simplified(row.alloc)?,
-        simplifier.simplify_contour(points)?,
-    ] {
-        texts::leaves(row, kept, left, "what is left")?;
-    }
+    texts::leaves(row, kept, left, "simplify_counted")?;
+    let kept = simplifier.simplify_contour(contour.as_slice())?;
+    texts::leaves(row, kept, left, "simplify_contour")
+}
+
+/// In place it becomes that too, where a second call changes nothing.
+fn is_simplified_in_place(row: &Row<'_, impl Abort>, [given, left]: [&str; 2]) -> Result<(), Fail> {
+    let mut cleaned = texts::contour(row, given)?;
+    let is_clean = !left.is_empty() && given == left;
     let told = [cleaned.simplify_contour()?, cleaned.simplify_contour()?];
     row.equal(told, [!is_clean, left.is_empty()], "what is told in place");
     texts::leaves(row, Some(cleaned), left, "what is left in place")
@@ -153,6 +155,7 @@ fn each_call_answers_each_row(rt: HostRuntime) -> Result<(), Fail> {
         }
         let visits = visits.parse::<u128>()?;
         is_simplified(&row, &mut simplifier, [*given, *simple], visits)?;
+        is_simplified_in_place(&row, [*given, *simple])?;
         let walked = walked.parse::<u128>()?;
         is_despiked(&row, [*given, *despiked], walked, *spikes == "spikes")?;
         has_form(&row, &mut simplifier, [*given, *form])?;
