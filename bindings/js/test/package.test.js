@@ -36,7 +36,7 @@ test("docs/DATA.md has each call of C and of this package", async () => {
     const [, page] = readFileSync(new URL("../../../docs/DATA.md", import.meta.url), "utf8").split("\n## Calls\n");
     const column = (place) => [...page.matchAll(/^\| (?!result).*`.*$/gm)].flatMap(([row]) => [...row.split("|")[place].matchAll(/`(\w+)`/g)].map(([, name]) => name));
     const header = readFileSync(new URL("../../../include/i_shape.h", import.meta.url), "utf8");
-    assert.deepEqual([...new Set(column(2))].sort(), [...header.matchAll(/^[a-z].* i_shape_(\w+?)(?:_i32)?\((?:const i_shape_point_i32|void|size_t)/gm)].map(([, name]) => name).sort());
+    assert.deepEqual([...new Set(column(2))].sort(), [...header.matchAll(/^[a-z].* i_shape_(\w+?)(?:_i32)?\((?:const (?:i_shape_point_i32|size_t)|void|size_t)/gm)].map(([, name]) => name).sort());
     const shapes = await load();
     const names = Object.getOwnPropertyNames(Object.getPrototypeOf(shapes)).filter((name) => !["constructor", "memoryBytes", "heldBytes", "despikePolygons"].includes(name));
     assert.deepEqual(column(4).sort(), [...names, "fromGeoJson", "toGeoJson"].sort());
