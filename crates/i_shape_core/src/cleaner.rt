@@ -134,6 +134,7 @@ pub trait ContourCleaner: Drop {
             (λ list. contour_of P.Coordinate.value (P.points list))
             contour.now out.old out.new result }
         ensures len { length out.new ≡ length out.old }
+        ensures short { length contour.now < 3 → result ≡ 0 }
         ensures keeps_room { (n : ℕ) → has_room self.old n → has_room self.new n }
     {
         if Self::is_clean(contour) {

@@ -1,7 +1,7 @@
 //! A test of a contour for turns that a cleaner removes.
 
 ghost use Rattle.std.specs.Prelude.{◌↔◌, ℕ, ◌<◌, ◌≤◌, length, IsTrue};
-ghost use Rattle.i_shape_core.specs.Contour.{IsRemovable, Test, point_at};
+ghost use Rattle.i_shape_core.specs.Contour.{IsRemovable, IsSimple, Test, point_at};
 ghost use Rattle.i_shape_core.specs.IntPoint.{contour_of, IsSafeContour};
 ghost use Rattle.i_shape_core.specs.Point.{Point, IsBack, IsZeroTurn};
 
@@ -77,4 +77,13 @@ pub(crate) fn has_none<P: ContourPoint, T: TurnTest>(points: &[P]) -> bool
         }
     }
     true
+}
+
+/// Returns whether there are at least three points and no zero turn, the closing edge included. Makes one pass and allocates nothing.
+pub fn is_simple<P: ContourPoint>(contour: &[P]) -> bool
+    requires { IsSafeContour P.Coordinate.width
+        (contour_of P.Coordinate.value (P.points contour.now)) }
+    ensures { IsTrue result ↔ IsSimple (contour_of P.Coordinate.value (P.points contour.now)) }
+{
+    has_none::<P, ZeroTurn>(contour)
 }

@@ -11,8 +11,8 @@ ghost use Rattle.i_shape_core.specs.Written.{CleansTo, CleansInOrder};
 
 use crate::error::ShapeError;
 use crate::number::IntNumber;
-use crate::point::{ContourPoint, IntContour, IntPoint};
-use crate::scan::{ZeroTurn, has_none};
+use crate::point::{IntContour, IntPoint};
+pub use crate::scan::is_simple;
 use crate::simplifier::ContourSimplifier;
 use std::alloc::Global;
 
@@ -82,13 +82,4 @@ impl<I: IntNumber> SimpleContour<I> for &[IntPoint<I>] {
     fn canonical_unoriented(&self, alloc: Global) -> Result<Option<IntContour<I>>, ShapeError> {
         ContourSimplifier::new(alloc).canonical_unoriented(*self)
     }
-}
-
-/// Returns whether there are at least three points and no zero turn, the closing edge included. Makes one pass and allocates nothing.
-pub fn is_simple<P: ContourPoint>(contour: &[P]) -> bool
-    requires { IsSafeContour P.Coordinate.width
-        (contour_of P.Coordinate.value (P.points contour.now)) }
-    ensures { IsTrue result ↔ IsSimple (contour_of P.Coordinate.value (P.points contour.now)) }
-{
-    has_none::<P, ZeroTurn>(contour)
 }

@@ -16,7 +16,7 @@ use crate::error::ShapeError;
 use crate::number::IntNumber;
 use crate::point::{ContourPoint, IntContour, IntPoint};
 use crate::probe::Probe;
-use crate::simple::is_simple;
+use crate::scan::is_simple;
 use crate::turn::Turn;
 use crate::write::{write_at, write_whole};
 use std::alloc::Global;
