@@ -50,6 +50,7 @@ impl<'a, I: IntNumber + 'a> IntResourceMember<'a, I> for IntPoint<I> {
 
     ghost begins = { λ points iter. iter ≡ points ∷ [] };
 
+    #[tactic(auto, using(crate::proofs::SafePaths::safe_path))]
     fn lend(members: &'a [IntPoint<I>]) -> ContourResourceIterator<'a, IntPoint<I>> {
         ContourResourceIterator::with_slice(members)
     }
@@ -64,6 +65,7 @@ impl<'a, I: IntNumber + 'a> IntResourceMember<'a, I> for Vec<IntPoint<I>> {
 
     ghost begins = { λ shape iter. iter ≡ paths_of_shape shape };
 
+    #[tactic(auto, using(crate::proofs::SafePaths::safe_shape))]
     fn lend(members: &'a [Vec<IntPoint<I>>]) -> ShapeResourceIterator<'a, IntPoint<I>> {
         ShapeResourceIterator::with_slice(members)
     }
@@ -92,6 +94,7 @@ impl<'a, I: IntNumber + 'a> IntResourceMember<'a, I> for Vec<Vec<IntPoint<I>>> {
 
     ghost begins = { λ shapes iter. iter ≡ paths_of_shapes shapes };
 
+    #[tactic(auto, using(crate::proofs::SafePaths::safe_list))]
     fn lend(members: &'a [Vec<Vec<IntPoint<I>>>]) -> ShapesResourceIterator<'a, IntPoint<I>> {
         ShapesResourceIterator::with_slice(members)
     }

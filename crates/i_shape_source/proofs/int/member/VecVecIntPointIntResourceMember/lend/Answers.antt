@@ -1,6 +1,0 @@
-use Rattle.std.proofs.Common.{rules}
-use Rattle.i_shape_source.proofs.SafePaths.{safe_list}
-use Rattle.i_shape_source.proofs.int.member.VecVecIntPointIntResourceMember.lend.Goals as goal
-
-pub returns-clause-safe : goal.returns-clause-safe
-returns-clause-safe g c = safe_list g.I.IntNumber.width g.I.IntNumber.value c.args.members.now
