@@ -1,7 +1,7 @@
 #!/usr/bin/env python3
 """Cleans the coastlines of the world in worker processes of Dask.
 
-The rings are parted by their offsets, each worker cleans a part by one batch
+The rings are divided by their offsets, each worker cleans a part by one batch
 call, and the parts that come back are joined: the arrays of one call on all
 the rings, byte by byte. It needs distributed (Debian's python3-distributed),
 and the data that coastlines.py tells of.

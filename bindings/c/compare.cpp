@@ -151,7 +151,7 @@ private:
         return static_cast<Coordinate>(line * (is_wide_ ? static_cast<Coordinate>(static_cast<std::size_t>(unsafe - 1) / lines_) : 1));
     }
 
-    /* Offsets that part so many items, or now and then don't. */
+    /* Offsets that divide so many items, or now and then don't. */
     std::vector<std::size_t> offsets(std::size_t items) {
         std::vector<std::size_t> made = {0};
         while (made.back() < items) made.push_back(made.back() + 1 + random_.below(items - made.back()));

@@ -23,7 +23,7 @@ export class UnsafePointError extends IShapeError {
     }
 }
 
-/** The offsets do not part the points, or the rings. */
+/** The offsets do not divide the points, or the rings. */
 export class OffsetsError extends IShapeError {
     /** @param {number} [place] that of an offset, as i_shape.d.ts says; undefined if there is none */
     constructor(message, place) {

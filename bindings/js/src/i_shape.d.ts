@@ -93,7 +93,7 @@ export function toGeoJson(polygons: Polygons<Points>, options?: { step?: number 
  * The calls. A contour is read as a cycle: the last point isn't the first one again. No call changes what it is given,
  * and each array of an answer is a new one. A call throws a `TypeError` where an array or a number is of another type or
  * a number isn't whole, a `RangeError` where points have an x without a y or there is no such fill rule, an `OutOfMemoryError` where an allocation in the
- * module's memory fails, an `OffsetsError` where offsets don't part the points or the rings, and an `UnsafePointError` where
+ * module's memory fails, an `OffsetsError` where offsets don't divide the points or the rings, and an `UnsafePointError` where
  * a point that it reads isn't safe; `isSafe`, `isSafeRings`, `areaTwo`, `areaTwoRings` and `areaTwoPolygons` take any points.
  */
 export interface IShape {

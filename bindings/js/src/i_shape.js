@@ -290,13 +290,13 @@ class IShape {
         return new UnsafePointError(`${where} is (${points[2 * place]}, ${points[2 * place + 1]}), ${outside(kind)}`, place, ring);
     }
 
-    /** Throws where offsets of rings don't part the points, or those of polygons the rings. */
+    /** Throws where offsets of rings don't divide the points, or those of polygons the rings. */
     #checkOffsets({ points, offsets: [rings, polygons], offsetAddresses: [ringAddress, polygonAddress] }) {
         this.#checkParting(rings, ringAddress, lengthOf(points) / 2, polygons ? "ringOffsets" : "offsets");
         if (polygons) this.#checkParting(polygons, polygonAddress, rings.length - 1, "polygonOffsets");
     }
 
-    /** Throws where offsets at an address don't part so many items. */
+    /** Throws where offsets at an address don't divide so many items. */
     #checkParting(offsets, address, count, name) {
         if (!offsets.length) throw new OffsetsError(`there are no ${name}`);
         const place = Number(this.#exports.i_shape_first_bad_offset(BigInt(count), address, BigInt(offsets.length)));

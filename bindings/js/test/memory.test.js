@@ -37,7 +37,7 @@ const OWN_PROPERTIES = {
     "a type": { [Symbol.toStringTag]: { value: "Int32Array" } },
 };
 
-/** Calls on a contour, on rings and on polygons with an unsafe point, and with offsets that part nothing. */
+/** Calls on a contour, on rings and on polygons with an unsafe point, and with offsets that divide nothing. */
 function wrongCallsOf(shapes, { Points, limit, points }) {
     const wrong = Points.of(limit, limit);
     return {

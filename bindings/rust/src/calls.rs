@@ -353,7 +353,7 @@ pub fn library_version() -> (u32, u32, u32) {
     (version >> 16, version >> 8 & 0xff, version & 0xff)
 }
 
-/// The place of the first offset that doesn't part so many items, `None` where each does.
+/// The place of the first offset that doesn't divide so many items, `None` where each does.
 pub(crate) fn first_bad_offset(offsets: &[usize], count: usize) -> Option<usize> {
     // SAFETY: the pointer and the count are those of one slice.
     let place = unsafe { i_shape_first_bad_offset(count, offsets.as_ptr(), offsets.len()) };
@@ -378,7 +378,7 @@ fn number<I: Calls>(answer: isize, points: &[IntPoint<I>]) -> Result<usize, Erro
     })
 }
 
-/// Reads the answer of a call on the points that the offsets part.
+/// Reads the answer of a call on the points that the offsets divide.
 fn number_of_many<I: Calls>(
     answer: isize,
     points: &[IntPoint<I>],

@@ -14,11 +14,11 @@ pub enum Error {
     /// A point that the call is asked about lies outside that range: the first such one, by its
     /// place among these.
     UnsafeAbout(usize),
-    /// Offsets of contours don't part the points, or can't be made. This is the place of the first
-    /// that is below the one before it, above the number of points, or can't be made, and `None`
-    /// where there is no offset. It is tested before the points are.
+    /// Offsets of contours don't divide the points, or can't be made. This is the place of the
+    /// first that is below the one before it, above the number of points, or can't be made, and
+    /// `None` where there is no offset. It is tested before the points are.
     BadOffsets(Option<usize>),
-    /// Offsets of shapes don't part the contours: the same as for those of contours.
+    /// Offsets of shapes don't divide the contours: the same as for those of contours.
     BadShapeOffsets(Option<usize>),
     /// A slice that the call writes is too short. It is tested before the points are.
     NoRoom,
@@ -41,13 +41,13 @@ impl fmt::Display for Error {
                 )
             }
             Error::BadOffsets(Some(place)) => {
-                write!(formatter, "offset {place} doesn't part the points")
+                write!(formatter, "offset {place} doesn't divide the points")
             }
             Error::BadOffsets(None) => formatter.write_str("there is no offset"),
             Error::BadShapeOffsets(Some(place)) => {
                 write!(
                     formatter,
-                    "offset {place} of shapes doesn't part the contours"
+                    "offset {place} of shapes doesn't divide the contours"
                 )
             }
             Error::BadShapeOffsets(None) => formatter.write_str("there is no offset of shapes"),

@@ -32,7 +32,7 @@ class UnsafePointError(ValueError):
 
 
 class OffsetsError(ValueError):
-    """The offsets do not part the points, or the rings.
+    """The offsets do not divide the points, or the rings.
 
     There is no offset, or one is below 0, below the one before it, or
     above the number of points (of rings, for polygons; of polygons, for

@@ -298,7 +298,7 @@ def raise_code(code: int, points: Array) -> NoReturn:
 
 def check_offsets(offsets: Array, limit: int, name: str = "offsets",
                   of: str = "points", before: int = 0) -> None:
-    """Raise an error for the first offset that doesn't part so many items.
+    """Raise an error for the first offset that doesn't divide so many items.
 
     The first of the offsets stands at the place ``before``.
     """

@@ -176,7 +176,7 @@ def simplify_polygons(points: npt.NDArray[Int], ring_offsets: npt.ArrayLike,
     ------
     OffsetsError
         As :func:`simplify_rings` does, and where ``polygon_offsets`` don't
-        part the rings. Offsets of rings that no polygon has are not tested.
+        divide the rings. Offsets of rings that no polygon has are not tested.
     UnsafePointError, TypeError, ValueError, MemoryError
         As :func:`simplify_rings` does.
 

@@ -49,7 +49,7 @@ def _clean_part(call: Any, points: Array, offsets: Array,
 
 
 def equal_cuts(offsets: Array, parts: int) -> list[int]:
-    """Where to part the rings: about equal sums of points and rings."""
+    """Where to divide the rings: about equal sums of points and rings."""
     work = offsets + np.arange(len(offsets))
     whole = int(work[-1]) - int(work[0])
     goals = [int(work[0]) + whole * part // parts for part in range(1, parts)]

@@ -145,7 +145,7 @@ def winding_numbers(contours: Contours[Int], about: npt.NDArray[Int], *,
         or a point of a contour (they tell which; ``ring`` is 0 where one
         contour is given).
     OffsetsError
-        The offsets of the rings don't part their points.
+        The offsets of the rings don't divide their points.
     TypeError
         As :func:`simplify` does, and where ``about`` has another dtype.
     ValueError

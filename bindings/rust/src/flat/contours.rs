@@ -88,15 +88,16 @@ macro_rules! cleaners {
 }
 
 impl<'a, I: IntNumber> Contours<'a, I> {
-    /// The contours that the offsets part the points into. Points outside the offsets aren't read.
-    /// [`Error::BadOffsets`] where the offsets aren't [fit](super::offsets::are_fit) for the points.
+    /// The contours that the offsets divide the points into. Points outside the offsets aren't
+    /// read. [`Error::BadOffsets`] where the offsets aren't [fit](super::offsets::are_fit) for the
+    /// points.
     pub fn try_new(points: &'a [IntPoint<I>], offsets: &'a [usize]) -> Result<Self, Error> {
         try_fit(offsets, points.len()).map_err(Error::BadOffsets)?;
         let points = &points[..offsets[offsets.len() - 1]];
         Ok(Contours { points, offsets })
     }
 
-    /// The contours that the offsets part the points into.
+    /// The contours that the offsets divide the points into.
     ///
     /// # Panics
     ///

@@ -7,13 +7,13 @@ use crate::memory::{try_reserve, with_room};
 use std::borrow::Cow;
 use std::ops::Range;
 
-/// Whether the offsets part a list of `count` items: there is one, none is below the one before it,
-/// and the last is at most `count`. The first may be above 0.
+/// Whether the offsets divide a list of `count` items: there is one, none is below the one before
+/// it, and the last is at most `count`. The first may be above 0.
 pub fn are_fit(offsets: &[usize], count: usize) -> bool {
     try_fit(offsets, count).is_ok()
 }
 
-/// The place of the first offset that doesn't part a list of `count` items, `None` where there is
+/// The place of the first offset that doesn't divide a list of `count` items, `None` where there is
 /// no offset.
 pub(super) fn try_fit(offsets: &[usize], count: usize) -> Result<(), Option<usize>> {
     match first_bad_offset(offsets, count) {

@@ -116,9 +116,10 @@ macro_rules! cleaners {
 }
 
 impl<'a, I: IntNumber> Shapes<'a, I> {
-    /// The polygons that the offsets `shapes` part the contours into, which the offsets `contours`
-    /// part the points into. What lies outside the offsets isn't read. [`Error::BadOffsets`] or
-    /// [`Error::BadShapeOffsets`] where these aren't [fit](super::offsets::are_fit).
+    /// The polygons that the offsets `shapes` divide the contours into, which the offsets
+    /// `contours` divide the points into. What lies outside the offsets isn't read.
+    /// [`Error::BadOffsets`] or [`Error::BadShapeOffsets`] where these aren't
+    /// [fit](super::offsets::are_fit).
     pub fn try_new(
         points: &'a [IntPoint<I>],
         contours: &'a [usize],
@@ -134,7 +135,7 @@ impl<'a, I: IntNumber> Shapes<'a, I> {
         })
     }
 
-    /// The polygons that the offsets part the points into.
+    /// The polygons that the offsets divide the points into.
     ///
     /// # Panics
     ///

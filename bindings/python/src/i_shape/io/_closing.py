@@ -36,7 +36,7 @@ def open_rings(points: npt.ArrayLike, offsets: npt.ArrayLike) -> Rings:
     Raises
     ------
     OffsetsError
-        The offsets don't part the points.
+        The offsets don't divide the points.
     TypeError, ValueError
         An array has another dtype or shape.
 

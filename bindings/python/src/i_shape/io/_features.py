@@ -185,7 +185,7 @@ def as_plane_points(points: Any) -> Array:
 
 
 def _parting(offsets: Any, limit: int, name: str, of: str) -> Array:
-    """Offsets that part so many items."""
+    """Offsets that divide so many items."""
     found = as_offsets(offsets, name)
     check_offsets(found, limit, name, of)
     return found
@@ -242,7 +242,7 @@ def features_of(polygons: Triple) -> Features:
     Raises
     ------
     OffsetsError
-        The offsets don't part the points, or the rings.
+        The offsets don't divide the points, or the rings.
     FeatureError
         A coordinate isn't finite.
     TypeError, ValueError
