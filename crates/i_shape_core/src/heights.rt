@@ -16,7 +16,7 @@ use crate::triangle::Triangle;
 use std::alloc::{AllocError, Global};
 
 /// A point to find the winding number about, and its place in the caller's list.
-#[derive(Clone, Copy)]
+#[derive(Drop)]
 pub struct Asked<I> {
     pub point: IntPoint<I>,
     pub place: usize,
