@@ -2,7 +2,7 @@
 
 ghost use Rattle.std.specs.Prelude.{◌≡◌, ◌+◌, ◌<◌, ◌≤◌, ◌++◌, ◌∷◌, ◌↔◌, ◌⊎◌, [], List, length, vec_capacity, IfOk, OnOk, OnErr, IsOkUnless, IsErrOf, IsTrue, IsOk};
 ghost use Rattle.std.specs.List.{All};
-ghost use Rattle.std.specs.Iterator.{Drains, IsFinite};
+ghost use Rattle.std.specs.Iterator.{Drains, IsFinite, size};
 ghost use Rattle.i_shape_source.specs.Paths.{paths_of_shape, concatenated};
 ghost use Rattle.i_shape.specs.Flat.{InOrder, slices, behind};
 ghost use Rattle.i_shape.specs.FloatBuffers.{HasLists, LieEndToEnd, HasListsRoom, KeepsListsRoom};
@@ -154,6 +154,9 @@ impl<P: Copy> FloatFlatContoursBuffer<P> {
             × HasLists self.new (self.old.points.items ++ items)
             (self.old.ranges.items ++ behind (length self.old.points.items) (length items) ∷ [])) }
         ensures err { OnErr result (HasLists self.new self.old.points.items self.old.ranges.items) }
+        ensures reserved { HasListsRoom self.old
+            (length self.old.points.items + size (I.remaining iter))
+            (length self.old.ranges.items + 1) → IsOk result }
         ensures keeps_room { KeepsListsRoom self.old self.new }
         ensures memory { IsOkUnless result ShapeError.OutOfMemory }
     {

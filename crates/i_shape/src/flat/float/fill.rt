@@ -1,8 +1,8 @@
 //! Functions that fill the lists of a flat buffer over points of any type.
 
-ghost use Rattle.std.specs.Prelude.{◌≡◌, ◌+◌, ◌<◌, ◌≤◌, ◌++◌, ◌⊎◌, List, length, map, vec_len, vec_capacity, OnOk, OnErr, IsOkUnless, MatchOption};
+ghost use Rattle.std.specs.Prelude.{◌≡◌, ◌+◌, ◌<◌, ◌≤◌, ◌++◌, ◌⊎◌, List, length, map, vec_len, vec_capacity, OnOk, OnErr, IsOk, IsOkUnless, MatchOption};
 ghost use Rattle.std.specs.List.{All, Contains};
-ghost use Rattle.std.specs.Iterator.{Drains, IsFinite};
+ghost use Rattle.std.specs.Iterator.{Drains, IsFinite, size};
 ghost use Rattle.i_shape_source.specs.Paths.{concatenated};
 ghost use Rattle.i_shape.specs.Flat.{end_to_end};
 
@@ -41,6 +41,8 @@ pub fn append_items<P: Copy, I: Iterator<Item = P> + Drop>(
         × (points.new.items ≡ points.old.items ++ items)) }
     ensures err { OnErr result (points.new.items ≡ points.old.items) }
     ensures room { vec_capacity points.old ≤ vec_capacity points.new }
+    ensures reserved { vec_len points.old + size (I.remaining iter) ≤ vec_capacity points.old
+        → IsOk result }
     ensures memory { IsOkUnless result ShapeError.OutOfMemory }
 {
     points.reserve(iter.size_hint().0)?;

@@ -2,7 +2,7 @@
 
 ghost use Rattle.std.specs.Prelude.{◌≡◌, ◌+◌, ◌<◌, ◌≤◌, ◌++◌, ◌∷◌, ◌↔◌, ◌⊎◌, [], List, length, vec_capacity, IfOk, OnOk, OnErr, IsOk, IsOkUnless, IsErrOf, IsTrue};
 ghost use Rattle.std.specs.List.{All};
-ghost use Rattle.std.specs.Iterator.{Drains, IsFinite};
+ghost use Rattle.std.specs.Iterator.{Drains, IsFinite, size};
 ghost use Rattle.i_shape_source.specs.Paths.{paths_of_shape, shape_lists, concatenated};
 ghost use Rattle.i_shape.specs.Flat.{InOrder, IsReadableShape, slices, shapes, behind};
 ghost use Rattle.i_shape.specs.FloatBuffers.{HasShapeLists, LieEndToEnd, FormOneShape, SameGroups, HasGroupsRoom, KeepsGroupsRoom};
@@ -217,6 +217,10 @@ impl<P: Copy> FloatFlatShapesBuffer<P> {
             ∷ []) (self.old.shape_ranges.items ++ behind (length self.old.contour_ranges.items) 1
             ∷ [])) }
         ensures err { OnErr result (SameGroups self.old self.new) }
+        ensures reserved { HasGroupsRoom self.old
+            (length self.old.points.items + size (I.remaining iter))
+            (length self.old.contour_ranges.items + 1) (length self.old.shape_ranges.items + 1)
+            → IsOk result }
         ensures keeps_room { KeepsGroupsRoom self.old self.new }
         ensures memory { IsOkUnless result ShapeError.OutOfMemory }
     {

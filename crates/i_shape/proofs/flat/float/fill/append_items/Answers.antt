@@ -7,3 +7,6 @@ returns-then-is_err-clause-err g c = grind (arith, common_steps)
 
 pub loop-item-preserved : goal.loop-item-preserved
 loop-item-preserved g c = grind (arith, common_steps)
+
+pub returns-then-is_err-clause-reserved : goal.returns-then-is_err-clause-reserved
+returns-then-is_err-clause-reserved g c = grind (arith, common_steps)
