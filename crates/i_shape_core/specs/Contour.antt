@@ -1,6 +1,5 @@
 -- A contour is a list of points read as a cycle. What can be left of it if points that pass a test are removed one by one.
-use Rattle.std.specs.Prelude.{◌≡◌, ℕ, ◌+◌, ◌-◌, ◌%◌, ◌<◌, ◌≤◌, List, ◌++◌, length, get_or, reverse, ◌⊎◌, [], ◌∷◌}
-use Rattle.std.specs.List.{remove}
+use Rattle.std.specs.Prelude.{◌≡◌, ℕ, ◌+◌, ◌-◌, ◌%◌, ◌<◌, ◌≤◌, List, ◌++◌, length, get_or, reverse, ◌⊎◌, [], ◌∷◌, remove}
 use Rattle.i_shape_core.specs.Point.{Point, origin, IsZeroTurn}
 
 -- the point at place k, or the origin if there is none

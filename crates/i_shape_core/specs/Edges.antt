@@ -1,6 +1,5 @@
 -- The edges of a contour, and what they determine: twice its area, and which points lie inside.
-use Rattle.std.specs.Prelude.{◌≡◌, ◌%◌, ℤ, pos, ◌+ℤ◌, ◌-ℤ◌, ◌*ℤ◌, List, [], ◌∷◌, Bool, int_lt, cond, false}
-use Rattle.std.specs.List.{count_by}
+use Rattle.std.specs.Prelude.{◌≡◌, ◌%◌, ℤ, pos, ◌+ℤ◌, ◌-ℤ◌, ◌*ℤ◌, List, [], ◌∷◌, Bool, int_lt, cond, false, count_by}
 use Rattle.i_shape_core.specs.Point.{Point, cross}
 
 -- a segment from one point to another

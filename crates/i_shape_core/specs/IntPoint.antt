@@ -1,8 +1,7 @@
 -- Points of the program, as points over unbounded integers.
-use Rattle.std.specs.Prelude.{ℤ, List, map, Option, option_map}
+use Rattle.std.specs.Prelude.{ℤ, List, map, Option, option_map, All}
 use Rattle.std.specs.Global.{Vec}
 use Rattle.std.specs.Int.{Width}
-use Rattle.std.specs.List.{All}
 use Rattle.i_shape_core.specs.Point.{Point}
 pub use Rattle.i_shape_core.specs.SafeCoordinates.{IsSafeCoordinate}
 use Rattle.i_shape_core.specs.declared.point.IntPoint.{IntPoint}

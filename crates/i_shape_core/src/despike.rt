@@ -69,10 +69,12 @@ impl<I: IntNumber> DeSpikeContour<I> for &[IntPoint<I>] {
         has_no_spikes(*self)
     }
 
+    #[tactic(auto, using(crate::proofs::plane::Contours::counted))]
     fn despiked_contour(&self, alloc: Global) -> Result<Option<IntContour<I>>, ShapeError> {
         ContourDeSpiker::new(alloc).despike_contour(*self)
     }
 
+    #[tactic(auto, using(crate::proofs::plane::Contours::counted))]
     fn despiked_counted(&self, alloc: Global) -> Result<(Option<IntContour<I>>, u128), ShapeError> {
         ContourDeSpiker::new(alloc).despike_counted(*self)
     }

@@ -119,6 +119,7 @@ fn turn_of_fall<I: IntNumber>(point: IntPoint<I>, start: IntPoint<I>, end: IntPo
 
 /// Returns the sum of a total and what an edge adds to it, wrapped to 64 bits.
 #[inline(always)]
+#[tactic(auto, using(std::proofs::lemmas::Int::wrapping_add_is))]
 fn plus(total: isize, turn: isize) -> isize
     ensures { result ≡ int_wrap w64 (total +ℤ turn) }
 {

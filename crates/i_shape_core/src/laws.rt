@@ -23,6 +23,7 @@ use crate::number::IntNumber;
 use crate::point::IntPoint;
 
 /// Two ends of a contour have both collapsed, or neither has and they are rotations of each other.
+#[tactic(auto, using(crate::proofs::removal::ZeroTurns::one_end))]
 pub fn one_end<I: IntNumber>(_c: &[IntPoint<I>])
     ensures { OneEnd (contour_of I.value _c.now) }
 {}
@@ -33,27 +34,32 @@ pub fn rotated<I: IntNumber>(_c: &[IntPoint<I>], _d: &[IntPoint<I>])
 {}
 
 /// The ends of a contour reversed are its ends reversed, up to rotation.
+#[tactic(auto, using(crate::proofs::removal::ZeroTurns::reversed_ends))]
 pub fn reversed<I: IntNumber>(_c: &[IntPoint<I>])
     ensures { ReversedEnds (contour_of I.value _c.now) }
 {}
 
 /// An end is its own only end, and a simple contour reaches only itself.
+#[tactic(auto, using(crate::proofs::removal::ZeroTurns::end_of_end))]
 pub fn twice<I: IntNumber>(_c: &[IntPoint<I>])
     ensures { Twice (contour_of I.value _c.now) }
 {}
 
 /// What is left if only back vertices (spikes and repeated points) are removed has collapsed exactly where the ends of the contour have.
 /// Otherwise it has their ends, up to rotation.
+#[tactic(auto, using(crate::proofs::removal::ZeroTurns::ends_agree))]
 pub fn agreed<I: IntNumber>(_c: &[IntPoint<I>])
     ensures { Agreed (contour_of I.value _c.now) }
 {}
 
 /// Removing zero turns keeps the double area.
+#[tactic(auto, using(crate::proofs::measure::Edges::area_kept))]
 pub fn area_kept<I: IntNumber>(_c: &[IntPoint<I>], _d: &[IntPoint<I>])
     ensures { AreaKept (contour_of I.value _c.now) (contour_of I.value _d.now) }
 {}
 
 /// Removing zero turns keeps which points are inside.
+#[tactic(auto, using(crate::proofs::measure::Inside::inside_laws))]
 pub fn inside_kept<I: IntNumber>(_c: &[IntPoint<I>], _d: &[IntPoint<I>])
     ensures { InsideKept (contour_of I.value _c.now) (contour_of I.value _d.now) }
 {}

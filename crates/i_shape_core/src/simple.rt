@@ -71,10 +71,12 @@ impl<I: IntNumber> SimpleContour<I> for &[IntPoint<I>] {
         is_simple(*self)
     }
 
+    #[tactic(auto, using(crate::proofs::plane::Contours::counted))]
     fn simplified(&self, alloc: Global) -> Result<Option<IntContour<I>>, ShapeError> {
         ContourSimplifier::new(alloc).simplify_contour(*self)
     }
 
+    #[tactic(auto, using(crate::proofs::plane::Contours::counted))]
     fn canonical(&self, alloc: Global) -> Result<Option<IntContour<I>>, ShapeError> {
         ContourSimplifier::new(alloc).canonical(*self)
     }

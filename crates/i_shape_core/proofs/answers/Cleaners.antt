@@ -1,12 +1,9 @@
 -- What shapes and lists take of the answers of each cleaner.
-use Rattle.std.proofs.Common.{◌<◌, ◌≤◌, inl, inr, List, length, reverse, Some, None, sym, subst, arith}
+use Rattle.std.proofs.Common.{◌<◌, ◌≤◌, inl, inr, List, length, reverse, Some, None, sym, subst, arith, All}
 use Rattle.std.specs.Int.{Width}
-use Rattle.std.specs.List.{All}
 use Rattle.std.proofs.lemmas.List.{length-reverse}
 use Rattle.i_shape_core.specs.Point.{Point}
 use Rattle.i_shape_core.specs.IntPoint.{IsSafe}
-use Rattle.i_shape_core.specs.Contour.{IsSimple}
-use Rattle.i_shape_core.specs.Convex.{NoSpikes}
 use Rattle.i_shape_core.specs.Cleaners.{SimpleAnswer, DespikeAnswer}
 use Rattle.i_shape_core.specs.Canonical.{CanonicalAnswer, UnorientedAnswer}
 use Rattle.i_shape_core.proofs.removal.Ends.{reach_shrinks}

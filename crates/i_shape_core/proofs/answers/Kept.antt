@@ -1,6 +1,5 @@
 -- What an answer of a cleaner keeps of its contour, whatever gave it.
-use Rattle.std.proofs.Common.{◌≡◌, ℕ, zero, suc, ◌<◌, ◌≤◌, ◌⊎◌, List, [], length, Option, Some, None, Bool, true, false, inl, inr, refl, sym, ◌∙◌, subst, arith, eq-or-lt_of_le, le_of_suc-le-suc}
-use Rattle.std.specs.List.{All}
+use Rattle.std.proofs.Common.{◌≡◌, ℕ, zero, suc, ◌<◌, ◌≤◌, ◌⊎◌, List, [], length, Option, Some, None, Bool, true, false, inl, inr, refl, sym, ◌∙◌, subst, arith, eq-or-lt_of_le, le_of_suc-le-suc, All}
 use Rattle.std.proofs.lemmas.Bool.{cases_lt}
 use native.Mathlib.Decide.{dec_le, dec_lt}
 use Rattle.i_shape_core.specs.Point.{Point, IsBack, IsZeroTurn}

@@ -1,11 +1,7 @@
 -- What a cleaner writes into a list of a caller's.
-use Rattle.std.proofs.Common.{◌≡◌, ℕ, ◌<◌, false, true, List, [], ◌∷◌, length, take, drop, Option, Some, None, refl, arith, ◌≤◌, ◌++◌, ◌∙◌, ◌⊎◌, inl, inr, ap, reverse, Ok, Err, option_map}
+use Rattle.std.proofs.Common.{◌≡◌, ℕ, ◌<◌, false, true, List, [], ◌∷◌, length, take, drop, Option, Some, None, refl, arith, ◌≤◌, ◌++◌, ◌∙◌, ◌⊎◌, inl, inr, ap, reverse, Ok, Err, option_map, All, IfOk, IsOk, IsOkUnless, Result, length-take-le}
 use Rattle.std.specs.Int.{Width}
-use Rattle.std.specs.List.{All}
-use Rattle.std.specs.Result.{IfOk, IsOk, IsOkUnless}
-use Rattle.std.specs.declared.result.Result.{Result}
 use Rattle.std.proofs.lemmas.Bool.{cases_lt}
-use Rattle.std.proofs.lemmas.List.{length-take-le}
 use Rattle.i_shape_core.specs.Point.{Point}
 use Rattle.i_shape_core.specs.IntPoint.{IsSafe}
 use Rattle.i_shape_core.specs.Contour.{Test, Rotation, Sublist, RotatedSublist, SublistEitherWay}

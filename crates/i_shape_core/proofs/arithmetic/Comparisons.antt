@@ -1,8 +1,6 @@
 -- What comparisons of numbers of a bound tell, as tests of whole numbers.
-use Rattle.std.proofs.Common.{◌≡◌, ◌↔◌, ℤ, pos, ◌<ℤ◌, ◌≤ℤ◌, int_lt, Bool, true, false, cond, IsTrue, Option, Some, rules, refl, sym, ap, subst, ◌∙◌, arith}
+use Rattle.std.proofs.Common.{◌≡◌, ◌↔◌, ℤ, pos, ◌<ℤ◌, ◌≤ℤ◌, int_lt, Bool, true, false, cond, IsTrue, Option, Some, rules, refl, sym, ap, subst, ◌∙◌, arith, Ordering, Less, Equal, Greater}
 use Rattle.std.specs.Ordering.{int_cmp, is_gt, is_le, is_some_and}
-use Rattle.std.specs.declared.cmp.Ordering.{Ordering}
-use Rattle.std.specs.declared.cmp.Ordering.TheVariants.{Less, Equal, Greater}
 use Rattle.std.proofs.lemmas.Int.{ints}
 
 gt-cases : (x y : ℤ) (s t : Bool) → int_lt x y ≡ s → int_lt y x ≡ t → is_gt (cond s Less (cond t Greater Equal)) ≡ t

@@ -1,9 +1,7 @@
 -- What comparisons of numbers tell, and the bounds of the safe range.
-use Rattle.std.proofs.Common.{◌≡◌, ◌↔◌, ℕ, suc, ◌+◌, ◌-◌, ◌*◌, ◌/◌, ◌^◌, ◌<◌, ◌≤◌, ℤ, pos, negsuc, ◌-ℤ◌, ◌<ℤ◌, neg_ℤ, FitsSigned, Bool, ◌&&◌, IsTrue, Option, Some, rules, ap, sym, subst, subst₂, ◌∙◌, arith, int_div}
+use Rattle.std.proofs.Common.{◌≡◌, ◌↔◌, ℕ, suc, ◌+◌, ◌-◌, ◌*◌, ◌/◌, ◌^◌, ◌<◌, ◌≤◌, ℤ, pos, negsuc, ◌-ℤ◌, ◌<ℤ◌, neg_ℤ, FitsSigned, Bool, ◌&&◌, IsTrue, Option, Some, rules, ap, sym, subst, subst₂, ◌∙◌, arith, int_div, Ordering, pow-add, pow_pos}
 use Rattle.std.specs.Ordering.{int_cmp, is_lt, is_some_and}
-use Rattle.std.specs.declared.cmp.Ordering.{Ordering}
 use Rattle.std.proofs.Math.Nat.{mul-div_cancel_left, mul-le-mul_left, mul-le-mul_right}
-use Rattle.std.proofs.lemmas.Nat.{pow-add, pow_pos}
 use Rattle.std.proofs.lemmas.Bool.Decides.{Decides-and}
 use Rattle.std.proofs.lemmas.Int.{ints, int_wrap_fits}
 use Rattle.std.specs.Int.{Width, int_wrap}

@@ -1,7 +1,6 @@
 -- Four turns by the lanes of vectors.
-use Rattle.std.proofs.Common.{◌≡◌, ◌↔◌, ◌⊎◌, ◌∙◌, ◌+◌, ◌*◌, ◌%◌, ◌≤◌, ◌^◌, ◌-◌, ℕ, ℤ, ◌*ℤ◌, ◌-ℤ◌, ◌<ℤ◌, neg_ℤ, pos, [], ◌∷◌, Bool, true, false, cond, not, nat_eq, of_z, to_z, IsTrue, FitsSigned, refl, ap, sym, inl, inr, rules, arith}
+use Rattle.std.proofs.Common.{◌≡◌, ◌↔◌, ◌⊎◌, ◌∙◌, ◌+◌, ◌*◌, ◌%◌, ◌≤◌, ◌^◌, ◌-◌, ℕ, ℤ, ◌*ℤ◌, ◌-ℤ◌, ◌<ℤ◌, neg_ℤ, pos, [], ◌∷◌, Bool, true, false, cond, not, nat_eq, of_z, to_z, IsTrue, FitsSigned, refl, ap, sym, inl, inr, rules, arith, pow-add}
 use Rattle.std.proofs.lemmas.Int.{to_z-of_z, ints}
-use Rattle.std.proofs.lemmas.Nat.{pow-add}
 use Rattle.std.specs.Int.{Width, int_wrap}
 use Rattle.i_shape_core.specs.FourTurns.{HasZeroTurnFrom}
 use Rattle.i_shape_core.specs.IntPoint.{IsSafe, IsSafeContour, IsSafeCoordinate}

@@ -1,8 +1,7 @@
 -- Polynomial identities over ℤ, by computation. A `Term` is a polynomial as it is written, and `normal` brings it into a sum of
 -- monomials with numbers before them, in which no monomial stands twice. Where that sum is empty, the term is 0 at all values.
-use Rattle.std.proofs.Common.{T, ◌≡◌, ℕ, zero, suc, Bool, true, false, cond, eqb, ltb, List, [], ◌∷◌, get_or, ℤ, pos, negsuc, ◌+ℤ◌, ◌*ℤ◌, neg_ℤ, ap, refl, sym, subst, ◌∙◌, arith}
+use Rattle.std.proofs.Common.{T, ◌≡◌, ℕ, zero, suc, Bool, true, false, cond, eqb, ltb, List, [], ◌∷◌, get_or, ℤ, pos, negsuc, ◌+ℤ◌, ◌*ℤ◌, neg_ℤ, ap, refl, sym, subst, ◌∙◌, arith, eqb→eq}
 use Rattle.std.proofs.lemmas.Int.{ints}
-use lib.Dec.{eqb→eq}
 use Rattle.std.proofs.Math.IntN.{+ℤ_idl, +ℤ_assoc, *ℤ_comm, zero-*ℤ}
 use Rattle.i_shape_core.proofs.arithmetic.WholeNumbers.{add-mul, mul-add, mul_assoc, one-mul, equal_of_difference, add_swap}
 

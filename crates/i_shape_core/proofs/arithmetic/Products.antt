@@ -1,8 +1,6 @@
 -- How large the products of coordinates get, and that the wider type has room for them.
-use Rattle.std.proofs.Common.{◌≡◌, ℕ, suc, ◌+◌, ◌*◌, ◌-◌, ◌^◌, ◌<◌, ◌≤◌, ℤ, pos, negsuc, ◌+ℤ◌, ◌-ℤ◌, ◌*ℤ◌, ◌≤ℤ◌, ◌<ℤ◌, neg_ℤ, FitsSigned, to_z, of_z, Bool, IsTrue, ◌↔◌, ap, sym, subst, ◌∙◌, arith, inl, inr}
-use Rattle.std.proofs.Math.Nat.{mul-le-mul}
+use Rattle.std.proofs.Common.{◌≡◌, ℕ, suc, ◌+◌, ◌*◌, ◌-◌, ◌^◌, ◌<◌, ◌≤◌, ℤ, pos, negsuc, ◌+ℤ◌, ◌-ℤ◌, ◌*ℤ◌, ◌≤ℤ◌, ◌<ℤ◌, neg_ℤ, FitsSigned, to_z, of_z, Bool, IsTrue, ◌↔◌, ap, sym, subst, ◌∙◌, arith, inl, inr, mul-le-mul, pow-add, pow_pos}
 use Rattle.std.proofs.lemmas.Bool.{cases_lt}
-use Rattle.std.proofs.lemmas.Nat.{pow-add, pow_pos}
 use Rattle.std.proofs.lemmas.Int.{ints, int_wrap_fits, by_lt_z, to_z-of_z}
 use Rattle.std.specs.Int.{Width, int_wrap}
 use Rattle.i_shape_core.specs.Widths.{hbits}

@@ -1,7 +1,6 @@
 -- The walk that tells how a contour bends.
-use Rattle.std.proofs.Common.{◌≡◌, ◌≢◌, ℕ, ◌+◌, ◌-◌, ◌<◌, ◌≤◌, ◌<ℤ◌, ◌≤ℤ◌, List, [], ◌∷◌, length, drop, get_or, Some, None, ℤ, pos, refl, sym, ap, subst, ◌∙◌, arith, ◌⊎◌, inl, inr, ◌↔◌, Bool, true, false, IsTrue, T}
+use Rattle.std.proofs.Common.{◌≡◌, ◌≢◌, ℕ, ◌+◌, ◌-◌, ◌<◌, ◌≤◌, ◌<ℤ◌, ◌≤ℤ◌, List, [], ◌∷◌, length, drop, get_or, Some, None, ℤ, pos, refl, sym, ap, subst, ◌∙◌, arith, ◌⊎◌, inl, inr, ◌↔◌, Bool, true, false, IsTrue, T, leb, leb→le, le→leb}
 use Rattle.std.proofs.lemmas.Int.{ints}
-use lib.Dec.{leb, leb→le, le→leb}
 use Rattle.i_shape_core.specs.Point.{Point, origin, vector, cross, dot, cross_of, dot_of}
 use Rattle.i_shape_core.specs.Contour.{Test, point_at}
 use Rattle.i_shape_core.specs.Convex.{is_same, last_of, dedup, Bulges, Convex}

@@ -1,6 +1,5 @@
 -- The definitions at the empty list, at one, two and three points, at repeated points, and at the limits of the safe range.
-use Rattle.std.proofs.Common.{◌≡◌, ◌<◌, ℕ, zero, suc, List, [], ◌∷◌, length, pos, negsuc, refl, lit≤, lit<, inl, inr, arith}
-use Rattle.std.specs.Int.{w16, w32}
+use Rattle.std.proofs.Common.{◌≡◌, ◌<◌, ℕ, zero, suc, List, [], ◌∷◌, length, pos, negsuc, refl, lit≤, lit<, inl, inr, arith, w16, w32}
 use Rattle.i_shape_core.specs.Point.{Point, cross, dot, IsZeroTurn}
 use Rattle.i_shape_core.specs.Contour.{place_before, place_after, IsRemovable, Step, stay, End, IsSimple}
 use Rattle.i_shape_core.specs.Edges.{shoelace, area_of_edge, Inside, is_right}

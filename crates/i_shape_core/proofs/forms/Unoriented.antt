@@ -1,7 +1,6 @@
 -- The forms of contours, canonical and unoriented: where two are one, that there is one, that it is its own form, and what it keeps.
-use Rattle.std.proofs.Common.{◌≡◌, ◌↔◌, ◌⊎◌, ◌<◌, ◌≤◌, inl, inr, List, length, reverse, Option, Some, None, refl, sym, ap, ◌∙◌, subst, arith}
+use Rattle.std.proofs.Common.{◌≡◌, ◌↔◌, ◌⊎◌, ◌<◌, ◌≤◌, inl, inr, List, length, reverse, Option, Some, None, refl, sym, ap, ◌∙◌, subst, arith, All}
 use Rattle.std.proofs.lemmas.List.{reverse-reverse, length-reverse}
-use Rattle.std.specs.List.{All}
 use Rattle.std.proofs.lemmas.List.Sorted.{All-permutation, IsPermutation-reverse}
 use native.Mathlib.Decide.{dec_le}
 use Rattle.i_shape_core.specs.Point.{Point, IsZeroTurn}

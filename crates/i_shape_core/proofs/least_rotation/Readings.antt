@@ -1,10 +1,7 @@
 -- What the search reads.
-use Rattle.std.proofs.Common.{Fits, not, false, ◌≡◌, ◌⊎◌, ℕ, ◌+◌, ◌-◌, ◌<◌, ◌≤◌, ℤ, List, ◌++◌, take, drop, get_or, length, inl, inr, refl, sym, ap, subst, subst₂, ◌∙◌, arith}
-use Rattle.std.specs.Bool.{◌==◌}
+use Rattle.std.proofs.Common.{Fits, not, false, ◌≡◌, ◌⊎◌, ℕ, ◌+◌, ◌-◌, ◌<◌, ◌≤◌, ℤ, List, ◌++◌, take, drop, get_or, length, inl, inr, refl, sym, ap, subst, subst₂, ◌∙◌, arith, ◌==◌, Ordering, Less, Equal, Greater}
 use Rattle.std.specs.Int.{w128}
 use Rattle.std.specs.Ordering.{MatchOrdering, ordering_index}
-use Rattle.std.specs.declared.cmp.Ordering.{Ordering}
-use Rattle.std.specs.declared.cmp.Ordering.TheVariants.{Less, Equal, Greater}
 use Rattle.std.proofs.lemmas.Bool.{cases_lt}
 use Rattle.std.specs.Global.{Vec}
 use Rattle.std.specs.Vec.{with_items}

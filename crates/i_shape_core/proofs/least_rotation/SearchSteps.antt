@@ -1,8 +1,6 @@
 -- One step of the search for the least rotation, as its comparer tells it: a rival is met, and two starts are compared.
-use Rattle.std.proofs.Common.{◌≡◌, ℕ, Fits, w64, ◌+◌, ◌-◌, ◌*◌, ◌<◌, ◌≤◌, min, max, ℤ, List, length, ap, subst, sym, arith}
+use Rattle.std.proofs.Common.{◌≡◌, ℕ, Fits, w64, ◌+◌, ◌-◌, ◌*◌, ◌<◌, ◌≤◌, min, max, ℤ, List, length, ap, subst, sym, arith, Ordering, Less, Equal, Greater}
 use Rattle.std.specs.Ordering.{MatchOrdering}
-use Rattle.std.specs.declared.cmp.Ordering.{Ordering}
-use Rattle.std.specs.declared.cmp.Ordering.TheVariants.{Less, Equal, Greater}
 use Rattle.i_shape_core.specs.Point.{Point}
 use Rattle.i_shape_core.specs.Contour.{point_at}
 use Rattle.i_shape_core.specs.IntPoint.{contour_of}

@@ -1,9 +1,7 @@
 -- Rings in one array of points, parted by offsets, and parts of lists that are written place by place.
-use Rattle.std.proofs.Common.{◌≡◌, ℕ, ◌+◌, ◌-◌, ◌≤◌, ◌<◌, ◌++◌, suc, zero, List, [], length, take, drop, set, slice_range, refl, ap, sym, subst, ◌∙◌, arith, ◌⊎◌, inl, inr, ◌↔◌, Bool, true, false, not, Option, Some, None, is_some, max, eq-or-lt_of_le}
+use Rattle.std.proofs.Common.{◌≡◌, ℕ, ◌+◌, ◌-◌, ◌≤◌, ◌<◌, ◌++◌, suc, zero, List, [], length, take, drop, set, slice_range, refl, ap, sym, subst, ◌∙◌, arith, ◌⊎◌, inl, inr, ◌↔◌, Bool, true, false, not, Option, Some, None, is_some, max, eq-or-lt_of_le, IsTrue, unwrap_or}
 use Rattle.std.proofs.lemmas.List.{take_rest, drop_all, length-drop, append-nil, length-take-le, drop-drop, drop-set-lt, take-take, drop-take, get_or-set_same, get_or-set_other}
 use Rattle.std.proofs.Math.Seq.{drop-append_seam}
-use Rattle.std.specs.Prelude.{IsTrue}
-use Rattle.std.specs.Option.{unwrap_or}
 use Rattle.std.proofs.lemmas.Bool.{cases_lt}
 use Rattle.i_shape_core.specs.Point.{Point}
 use Rattle.i_shape_core.specs.Rings.{offset, nth_ring, AreRising, AreCleanRings, LongestUnclean, HaveRoom, AreShortOrClean, AreCleanedRings}

@@ -1,9 +1,8 @@
 -- Twice the area as a walk sums it that starts at the first point, and wraps each sum.
-use Rattle.std.proofs.Common.{◌≡◌, List, [], ◌∷◌, ◌++◌, ℤ, pos, ◌+ℤ◌, ◌<ℤ◌, FitsSigned, int_div, refl, sym, ap, subst, ◌∙◌, arith}
+use Rattle.std.proofs.Common.{◌≡◌, List, [], ◌∷◌, ◌++◌, ℤ, pos, ◌+ℤ◌, ◌<ℤ◌, FitsSigned, int_div, refl, sym, ap, subst, ◌∙◌, arith, pow_pos}
 use Rattle.std.specs.Int.{Width, int_wrap}
 use Rattle.std.proofs.lemmas.Int.{ints, int_wrap-add_left, int_wrap_fits, SFits-int_wrap, quot_fits}
 use Rattle.std.proofs.lemmas.List.{map-append}
-use Rattle.std.proofs.lemmas.Nat.{pow_pos}
 use Rattle.i_shape_core.specs.Widths.{hbits}
 use Rattle.i_shape_core.specs.Point.{Point, cross_of}
 use Rattle.i_shape_core.specs.IntPoint.{point_of, contour_of}

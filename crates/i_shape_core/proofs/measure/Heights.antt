@@ -1,18 +1,14 @@
 -- Points in the order of their heights, and what is added to their totals by an edge.
-use Rattle.std.proofs.Common.{negsuc, cond, [], ◌∷◌, ◌++◌, suc, ◌^◌, take, length-take, length-drop, length-append, zero, rules, replicate, ◌≡◌, ℕ, ◌+◌, ◌-◌, ◌<◌, ◌≤◌, List, length, get_or, set, map, drop, ℤ, pos, ◌+ℤ◌, ◌≤ℤ◌, int_lt, w64, to_z, of_z, FitsSigned, refl, sym, ap, ap₂, subst, ◌∙◌, arith, inl, inr, Bool, true, false}
+use Rattle.std.proofs.Common.{negsuc, cond, [], ◌∷◌, ◌++◌, suc, ◌^◌, take, length-take, length-drop, length-append, zero, rules, replicate, ◌≡◌, ℕ, ◌+◌, ◌-◌, ◌<◌, ◌≤◌, List, length, get_or, set, map, drop, ℤ, pos, ◌+ℤ◌, ◌≤ℤ◌, int_lt, w64, to_z, of_z, FitsSigned, refl, sym, ap, ap₂, subst, ◌∙◌, arith, inl, inr, Bool, true, false, IsPermutation, IsSortedByKey, IsSortedBy, int_cmp, is_lt, Ordering, All, Contains}
 use Rattle.std.proofs.lemmas.Int.{ints, to_z-of_z, int_wrap_fits, SFits-int_wrap, int_wrap-add_same}
 use Rattle.std.proofs.lemmas.Bool.{cases_lt, cases_eq}
 use Rattle.std.proofs.lemmas.List.{get_or-map, length-map, get_or-set_same, get_or-set_other, get_or_default, take_more, same_lists, get_or_append_left, get_or-append_right, get_or-drop, get_or-replicate, get_or_past, length-replicate}
 use Rattle.std.proofs.lemmas.List.Elements.{All-get_or, Contains-get_or}
 use Rattle.std.proofs.lemmas.List.Sorted.{All-permutation, Contains-permutation, IsPermutation-map, sorted_far, ranks_by}
 use Rattle.std.proofs.lemmas.Cmp.{int_cmp_total}
-use Rattle.std.specs.List.Sorted.{IsPermutation, IsSortedByKey, IsSortedBy}
-use Rattle.std.specs.Ordering.{int_cmp, is_lt}
-use Rattle.std.specs.declared.cmp.Ordering.{Ordering}
 use Rattle.std.proofs.Math.IntN.{+ℤ_idl}
 use Rattle.i_shape_core.proofs.arithmetic.Products.{reach-fits}
 use Rattle.std.specs.Int.{Width, int_wrap}
-use Rattle.std.specs.List.{All, Contains}
 use Rattle.i_shape_core.specs.Point.{Point, origin, cross}
 use Rattle.i_shape_core.specs.Contour.{point_at}
 use Rattle.i_shape_core.specs.Edges.{is_above}
@@ -60,26 +56,14 @@ fall_adds p a b r e f h = let passed = right_when p a b true false e f in rw (h,
 
 -- what lies above a point does so when it is lifted
 pub lifted : (p a b : Point) → a.y ≤ℤ b.y → is_above p a ≡ true → is_above p b ≡ true
-lifted p a b up h = go (int_lt p.y b.y) refl
-  where
-    go : (t : Bool) → int_lt p.y b.y ≡ t → is_above p b ≡ true
-    go true e = e
-    go false e = absurd (omega (arith, ints))
+lifted p a b up h = grind (arith, ints)
 
 -- a point that does not lie above p does not lie above one above p
 pub still_below : (p q a : Point) → p.y ≤ℤ q.y → is_above p a ≡ false → is_above q a ≡ false
-still_below p q a up h = go (int_lt q.y a.y) refl
-  where
-    go : (t : Bool) → int_lt q.y a.y ≡ t → is_above q a ≡ false
-    go false e = e
-    go true e = absurd (omega (arith, ints))
+still_below p q a up h = grind (arith, ints)
 
 pub still_above : (p q a : Point) → p.y ≤ℤ q.y → is_above q a ≡ true → is_above p a ≡ true
-still_above p q a up h = go (int_lt p.y a.y) refl
-  where
-    go : (t : Bool) → int_lt p.y a.y ≡ t → is_above p a ≡ true
-    go true e = e
-    go false e = absurd (omega (arith, ints))
+still_above p q a up h = search (rules, ints)
 
 -- ---- totals
 abbrev pub IsSum : (ps : List Point) → (Point → ℤ) → List ℤ → List ℤ → ℕ → Type 0
@@ -159,11 +143,7 @@ risen ps a b from k before now later here done left above = record {
 -- ---- a fall
 -- what does not lie above a point doesn't either when it is lowered
 pub lowered : (p a b : Point) → b.y ≤ℤ a.y → is_above p a ≡ false → is_above p b ≡ false
-lowered p a b down h = go (int_lt p.y b.y) refl
-  where
-    go : (t : Bool) → int_lt p.y b.y ≡ t → is_above p b ≡ false
-    go false e = e
-    go true e = absurd (omega (arith, ints))
+lowered p a b down h = search rules
 
 pub fall-first : (ps : List Point) (a b : Point) (k : ℕ) (totals : List ℤ) → b.y ≤ℤ a.y → IsPlaceOf ps a k → (j : ℕ) → k ≤ j → j < length ps → IsSum ps (λ p. winding_of_edge p (edge a b)) totals totals j
 fall-first ps a b k totals down here j h within =

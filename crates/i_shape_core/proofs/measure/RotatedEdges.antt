@@ -1,6 +1,5 @@
 -- Rotations have the same edges, so the same sums over them, and as many to the right of a point.
-use Rattle.std.proofs.Common.{◌≡◌, List, [], ◌∷◌, ◌++◌, ℤ, pos, ◌+ℤ◌, sym, ap, ◌∙◌, arith, append-nil}
-use Rattle.std.specs.List.{count_by}
+use Rattle.std.proofs.Common.{◌≡◌, List, [], ◌∷◌, ◌++◌, ℤ, pos, ◌+ℤ◌, sym, ap, ◌∙◌, arith, append-nil, count_by}
 use Rattle.std.proofs.lemmas.Int.{ints}
 use Rattle.i_shape_core.specs.Point.{Point}
 use Rattle.i_shape_core.specs.Contour.{Rotation}

@@ -1,11 +1,9 @@
 -- Reading a contour of the program's points as a contour of points.
-use Rattle.std.proofs.Common.{◌≡◌, ◌↔◌, Bool, false, IsTrue, ℕ, suc, Some, slice_get, map, take, ◌++◌, ◌+◌, ◌<◌, ◌≤◌, ℤ, List, [], ◌∷◌, length, drop, get_or, ap, subst, sym, ◌∙◌, refl, arith, add-one, ◌&&◌, Decides}
-use Rattle.std.proofs.Math.Seq.{drop-cons, take-suc}
+use Rattle.std.proofs.Common.{◌≡◌, ◌↔◌, Bool, false, IsTrue, ℕ, suc, Some, slice_get, map, take, ◌++◌, ◌+◌, ◌<◌, ◌≤◌, ℤ, List, [], ◌∷◌, length, drop, get_or, ap, subst, sym, ◌∙◌, refl, arith, add-one, ◌&&◌, Decides, drop-cons, take-suc, All}
 use Rattle.std.proofs.lemmas.List.{get_or-map, length-map, map-append, drop_all}
 use Rattle.std.proofs.lemmas.Bool.Decides.{Decides-and, Decides-like}
 use Rattle.std.proofs.lemmas.Option.{slice_get-get_or, slice_get_within, get_or_from_slice_get}
 use Rattle.std.proofs.lemmas.List.Elements.{All-get_or}
-use Rattle.std.specs.List.{All}
 use Rattle.std.specs.Int.{Width}
 use Rattle.i_shape_core.specs.Contour.{point_at}
 use Rattle.i_shape_core.specs.IntPoint.{point_of, contour_of, IsSafe}
@@ -21,6 +19,9 @@ read-point value xs k p within read =
 -- a contour has as many points as the program's list
 pub length-contour : {I : Type 0} (value : I → ℤ) (xs : List (IntPoint I)) → length (contour_of value xs) ≡ length xs
 length-contour value xs = length-map xs (point_of value)
+
+-- for the tactics of functions
+pub ruleset counted = (length-contour)
 
 -- each point of a safe list is safe
 pub safe-at : {I : Type 0} (w : Width) (value : I → ℤ) (xs : List (IntPoint I)) (k : ℕ) (d : IntPoint I) → All (IsSafe w) (contour_of value xs)

@@ -1,7 +1,8 @@
 -- Lists of a caller's points, read as lists of the library's.
-use Rattle.std.proofs.Common.{◌≡◌, ◌∙◌, ℕ, ◌<◌, ◌-◌, List, [], ◌∷◌, ◌++◌, map, take, drop, length, get_or, slice_get, reverse, Bool, true, false, cond, Some, option_map, refl, sym, ap, arith}
-use Rattle.std.specs.List.{find}
+use Rattle.std.proofs.Common.{◌≡◌, ℤ, ◌∙◌, ℕ, ◌<◌, ◌-◌, List, [], ◌∷◌, ◌++◌, map, take, drop, length, get_or, slice_get, reverse, Bool, true, false, cond, Some, option_map, refl, sym, ap, arith, find}
 use Rattle.std.proofs.lemmas.Option.{slice_get-map}
+use Rattle.i_shape_core.specs.IntPoint.{point_of, contour_of}
+use Rattle.i_shape_core.specs.declared.point.IntPoint.{IntPoint}
 use Rattle.std.proofs.lemmas.Simd.{map-map}
 use Rattle.std.proofs.lemmas.List.{get_or-map, length-map, map-append, take-map, drop-map, reverse-append}
 
@@ -67,3 +68,8 @@ module _ {A B : Type 0} (point : A → B) (points : List A → List B) (each : (
   -- the same list, read backwards
   pub points-reversed : (list back : List A) → back ≡ reverse list → points back ≡ reverse (points list)
   points-reversed list back e = ap points e ∙ each (reverse list) ∙ map-reversed point list ∙ ap reverse (sym (each list))
+
+-- a contour that is read from a list of a caller's points has as many points
+pub read-length : {A I : Type 0} (value : I → ℤ) (point : A → IntPoint I) (points : List A → List (IntPoint I)) (each : (list : List A) → points list ≡ map point list) (list : List A)
+    → length (contour_of value (points list)) ≡ length list
+read-length value point points each list = length-map (points list) (point_of value) ∙ points-length point points each list

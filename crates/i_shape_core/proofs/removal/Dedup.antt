@@ -1,6 +1,5 @@
 -- A contour without its repeated points has none.
-use Rattle.std.proofs.Common.{◌≡◌, ◌≢◌, ℕ, zero, suc, ◌-◌, ◌<◌, ◌≤◌, List, [], ◌∷◌, ◌++◌, length, get_or, refl, sym, ap, subst, ◌∙◌, arith, Bool, true, false, cond, ◌&&◌, length-append}
-use Rattle.std.specs.Ordering.{int_eq}
+use Rattle.std.proofs.Common.{◌≡◌, ◌≢◌, ℕ, zero, suc, ◌-◌, ◌<◌, ◌≤◌, List, [], ◌∷◌, ◌++◌, length, get_or, refl, sym, ap, subst, ◌∙◌, arith, Bool, true, false, cond, ◌&&◌, length-append, int_eq}
 use Rattle.std.specs.Cmp.{signed_Decides}
 use Rattle.i_shape_core.specs.Point.{Point, origin}
 use Rattle.i_shape_core.specs.Contour.{point_at, place_before, place_after}

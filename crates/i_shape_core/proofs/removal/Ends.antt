@@ -1,6 +1,5 @@
 -- Each contour has an end, and one alone up to rotation.
-use Rattle.std.proofs.Common.{◌≡◌, ℕ, zero, suc, ◌<◌, ◌≤◌, ◌⊎◌, List, length, inl, inr, refl, sym, ap, subst, arith, remove, length-append, length-drop, length-take, take, drop, eq-or-lt_of_le, le_of_suc-le-suc}
-use Rattle.std.specs.List.{All}
+use Rattle.std.proofs.Common.{◌≡◌, ℕ, zero, suc, ◌<◌, ◌≤◌, ◌⊎◌, List, length, inl, inr, refl, sym, ap, subst, arith, remove, length-append, length-drop, length-take, take, drop, eq-or-lt_of_le, le_of_suc-le-suc, All}
 use Rattle.std.proofs.lemmas.List.Elements.{All-append, All-take, All-drop}
 use native.Mathlib.Decide.{dec_le, dec_lt}
 use Rattle.i_shape_core.specs.Point.{Point}

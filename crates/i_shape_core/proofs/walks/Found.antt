@@ -1,11 +1,7 @@
 -- What a walk finds, and the answer that it gives.
-use Rattle.std.proofs.Common.{◌≡◌, ℕ, ◌%◌, ◌<◌, ◌≤◌, List, [], ◌∷◌, length, Option, Some, None, option_map, sym, ◌∙◌, pos, refl, arith, ◌⊎◌, inl, inr, ap}
-use Rattle.std.specs.List.{All, count_by}
-use Rattle.std.specs.Option.{IfSome}
+use Rattle.std.proofs.Common.{◌≡◌, ℕ, ◌%◌, ◌<◌, ◌≤◌, List, [], ◌∷◌, length, Option, Some, None, option_map, sym, ◌∙◌, pos, refl, arith, ◌⊎◌, inl, inr, ap, All, count_by, IfSome, IfOk, Result}
 use Rattle.std.proofs.lemmas.Bool.{cases_lt}
 use Rattle.std.proofs.lemmas.Result.{IfOk-weaker}
-use Rattle.std.specs.Result.{IfOk}
-use Rattle.std.specs.declared.result.Result.{Result}
 use Rattle.i_shape_core.specs.Point.{Point, IsZeroTurn, IsBack}
 use Rattle.i_shape_core.specs.Contour.{Test, Rotation, Reach, stay, End, IsCollapsed, IsSimple, Sublist}
 use Rattle.i_shape_core.specs.Walks.{WalkAnswer}

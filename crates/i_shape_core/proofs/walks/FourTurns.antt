@@ -1,9 +1,8 @@
 -- Turns that are tested together, and a contour without zero turns by all its turns.
-use Rattle.std.proofs.Common.{[], ◌∷◌, map, ◌≡◌, ℕ, ℤ, ◌+◌, ◌<◌, ◌≤◌, List, length, get_or, inl, inr, arith}
+use Rattle.std.proofs.Common.{[], ◌∷◌, map, ◌≡◌, ℕ, ℤ, ◌+◌, ◌<◌, ◌≤◌, List, length, get_or, inl, inr, arith, All}
 use Rattle.std.proofs.lemmas.Bool.{cases_lt}
 use Rattle.std.proofs.lemmas.List.Elements.{All-from_recursion}
 use Rattle.std.specs.Int.{Width}
-use Rattle.std.specs.List.{All}
 use Rattle.i_shape_core.specs.Contour.{point_at}
 use Rattle.i_shape_core.specs.FourTurns.{HasZeroTurnFrom, IsTurning}
 use Rattle.i_shape_core.specs.IntPoint.{point_of, contour_of, IsSafe}

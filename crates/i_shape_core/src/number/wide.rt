@@ -1,4 +1,5 @@
 //! The wide integer types of the language: each call is the type's own.
+#![tactic(auto, using(std::proofs::lemmas::Int::wrapping_add_is, std::proofs::lemmas::Int::wrapping_sub_is))]
 
 ghost use Rattle.std.specs.Prelude.{pos, refl};
 ghost use Rattle.std.specs.Int.{w32, w64, w128};

@@ -1,5 +1,4 @@
-use Rattle.std.proofs.Common.{sym, take, drop, ap, length, arith}
-use Rattle.std.proofs.lemmas.List.{take-append-drop, length-append, length-take, length-drop}
+use Rattle.std.proofs.Common.{sym, take, drop, ap, length, arith, take-append-drop, length-append, length-take, length-drop}
 use Rattle.i_shape_core.proofs.plane.PointLists.{points-rotated}
 use Rattle.i_shape_core.proofs.least_rotation.Readings.{contour-started}
 use Rattle.i_shape_core.proofs.canonical.rotate_to_least.Goals as goal

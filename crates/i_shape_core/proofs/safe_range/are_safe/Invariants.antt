@@ -1,5 +1,4 @@
-use Rattle.std.proofs.Common.{◌↔◌, IsTrue, take}
-use Rattle.std.specs.List.{All}
+use Rattle.std.proofs.Common.{◌↔◌, IsTrue, take, All}
 use Rattle.i_shape_core.specs.IntPoint.{point_of, IsSafe}
 use Rattle.i_shape_core.proofs.safe_range.are_safe.Given as goal
 

@@ -1,9 +1,9 @@
-use Rattle.std.proofs.Common.{◌<◌, ◌≤◌, ◌+◌, ◌-◌, ◌↔◌, ◌∙◌, ℕ, List, length, false, IsTrue, inl, inr, refl, arith}
+use Rattle.std.proofs.Common.{◌<◌, ◌≤◌, ◌+◌, ◌-◌, ◌↔◌, ℕ, List, length, false, IsTrue, inl, inr, refl, arith}
 use Rattle.i_shape_core.specs.Point.{Point}
 use Rattle.i_shape_core.specs.Contour.{IsRemovable, Test, point_at}
 use Rattle.i_shape_core.specs.IntPoint.{contour_of}
 use Rattle.i_shape_core.proofs.plane.Contours.{length-contour}
-use Rattle.i_shape_core.proofs.plane.PointLists.{points-length}
+use Rattle.i_shape_core.proofs.plane.PointLists.{points-length, read-length}
 use Rattle.i_shape_core.proofs.removal.Places.{Follows}
 use Rattle.i_shape_core.proofs.lists.FirstPlaces.{removable_between, one_more, none_removable}
 use Rattle.i_shape_core.proofs.walks.StackReads.{fails_by_test}
@@ -24,7 +24,7 @@ returns-then-is_at g c =
     let points = g.P.ContourPoint.points c.args.points.now in
     let value = g.P.Coordinate.IntNumber.value in
     let whole = contour_of value points in
-    let all = length-contour value points ∙ points-length g.P.ContourPoint.point g.P.ContourPoint.points g.P.ContourPoint.each c.args.points.now in
+    let all = read-length value g.P.ContourPoint.point g.P.ContourPoint.points g.P.ContourPoint.each c.args.points.now in
     let last : ℕ = length c.args.points.now - 1 in
     spoiled g.T.TurnTest.test whole last 0 1 (omega (arith, all, c.if-points-lt3.false)) (omega (arith, all, c.if-points-lt3.false)) (inr (omega (arith, all, c.if-points-lt3.false), refl)) (inl (omega (arith, all, c.if-points-lt3.false), refl))
     (c.is_at.ensures.0 c.if-is_at.true)
@@ -34,7 +34,7 @@ returns-then-is_at-2 g c =
     let points = g.P.ContourPoint.points c.args.points.now in
     let value = g.P.Coordinate.IntNumber.value in
     let whole = contour_of value points in
-    let all = length-contour value points ∙ points-length g.P.ContourPoint.point g.P.ContourPoint.points g.P.ContourPoint.each c.args.points.now in
+    let all = read-length value g.P.ContourPoint.point g.P.ContourPoint.points g.P.ContourPoint.each c.args.points.now in
     let last : ℕ = length c.args.points.now - 1 in
     spoiled g.T.TurnTest.test whole (last - 1) last 0 (omega (arith, all, c.if-points-lt3.false)) (omega (arith, all, c.if-points-lt3.false)) (inl (omega (arith, all, c.if-points-lt3.false), omega (arith, c.if-points-lt3.false)))
     (inr (omega (arith, all, c.if-points-lt3.false), refl)) (c.is_at-2.ensures.0 c.if-is_at-2.true)
@@ -44,7 +44,7 @@ returns-then-is_at-3 g c =
     let points = g.P.ContourPoint.points c.args.points.now in
     let value = g.P.Coordinate.IntNumber.value in
     let whole = contour_of value points in
-    let all = length-contour value points ∙ points-length g.P.ContourPoint.point g.P.ContourPoint.points g.P.ContourPoint.each c.args.points.now in
+    let all = read-length value g.P.ContourPoint.point g.P.ContourPoint.points g.P.ContourPoint.each c.args.points.now in
     let last : ℕ = length c.args.points.now - 1 in
     let place : ℕ = c.loop-place.place in
     spoiled g.T.TurnTest.test whole place (place + 1) (place + 2) (omega (arith, all, c.loop-place-test.true)) (omega (arith, all, c.loop-place-test.true)) (inl (omega (arith, all, c.loop-place-test.true), refl))
@@ -63,7 +63,7 @@ returns g c =
     let points = g.P.ContourPoint.points c.args.points.now in
     let value = g.P.Coordinate.IntNumber.value in
     let whole = contour_of value points in
-    let all = length-contour value points ∙ points-length g.P.ContourPoint.point g.P.ContourPoint.points g.P.ContourPoint.each c.args.points.now in
+    let all = read-length value g.P.ContourPoint.point g.P.ContourPoint.points g.P.ContourPoint.each c.args.points.now in
     let last : ℕ = length c.args.points.now - 1 in (
       λ t. (
         omega (arith, all, c.if-points-lt3.false),

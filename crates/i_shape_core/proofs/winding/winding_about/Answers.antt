@@ -1,10 +1,9 @@
-use Rattle.std.proofs.Common.{◌≡◌, ◌+ℤ◌, ◌^◌, ◌<◌, FitsSigned, length, w64, to_z, of_z, sym, subst₂, ◌∙◌, arith, rules}
+use Rattle.std.proofs.Common.{◌≡◌, ◌+ℤ◌, ◌^◌, ◌<◌, FitsSigned, length, w64, to_z, of_z, sym, subst₂, arith, rules}
 use Rattle.std.proofs.lemmas.Int.{to_z-of_z}
 use Rattle.std.proofs.Math.IntN.{+ℤ_idl}
 use Rattle.i_shape_core.specs.IntPoint.{point_of, contour_of}
 use Rattle.i_shape_core.specs.Winding.{level, IsWithinHalf}
-use Rattle.i_shape_core.proofs.plane.Contours.{length-contour}
-use Rattle.i_shape_core.proofs.plane.PointLists.{points-length, item_read, last_read}
+use Rattle.i_shape_core.proofs.plane.PointLists.{points-length, item_read, last_read, read-length}
 use Rattle.i_shape_core.proofs.plane.SafeParts.{item_safe}
 use Rattle.i_shape_core.proofs.measure.WindingWalk.{winding_half, near_first, near_step, no_points, walk_edge, walk_over, total_fits, total_added}
 use Rattle.i_shape_core.proofs.winding.winding_about.Goals as goal
@@ -78,11 +77,11 @@ returns-clause-answer g c =
 pub returns-in_default-clause-half : goal.returns-in_default-clause-half
 returns-in_default-clause-half g c =
     let contour = contour_of g.P.Coordinate.IntNumber.value (g.P.ContourPoint.points c.args.contour.now) in
-    let count = length-contour g.P.Coordinate.IntNumber.value (g.P.ContourPoint.points c.args.contour.now) ∙ points-length g.P.ContourPoint.point g.P.ContourPoint.points g.P.ContourPoint.each c.args.contour.now in
+    let count = read-length g.P.Coordinate.IntNumber.value g.P.ContourPoint.point g.P.ContourPoint.points g.P.ContourPoint.each c.args.contour.now in
     subst₂ IsWithinHalf count (sym (returns-in_default-clause-answer g c)) (winding_half contour (point_of g.P.Coordinate.IntNumber.value c.args.point))
 
 pub returns-clause-half : goal.returns-clause-half
 returns-clause-half g c =
     let contour = contour_of g.P.Coordinate.IntNumber.value (g.P.ContourPoint.points c.args.contour.now) in
-    let count = length-contour g.P.Coordinate.IntNumber.value (g.P.ContourPoint.points c.args.contour.now) ∙ points-length g.P.ContourPoint.point g.P.ContourPoint.points g.P.ContourPoint.each c.args.contour.now in
+    let count = read-length g.P.Coordinate.IntNumber.value g.P.ContourPoint.point g.P.ContourPoint.points g.P.ContourPoint.each c.args.contour.now in
     subst₂ IsWithinHalf count (sym (returns-clause-answer g c)) (winding_half contour (point_of g.P.Coordinate.IntNumber.value c.args.point))

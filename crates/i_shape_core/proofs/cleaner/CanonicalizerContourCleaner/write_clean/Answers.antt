@@ -1,9 +1,7 @@
-use Rattle.std.proofs.Common.{◌∙◌, ◌≤◌, List, length, Some, arith}
-use Rattle.std.proofs.lemmas.List.{length-take-le}
+use Rattle.std.proofs.Common.{List, ◌≤◌, length, Some, arith, length-take-le}
 use Rattle.i_shape_core.specs.IntPoint.{contour_of}
 use Rattle.i_shape_core.specs.Cleaners.{SimpleAnswer, KeptAnswer}
-use Rattle.i_shape_core.proofs.plane.Contours.{length-contour}
-use Rattle.i_shape_core.proofs.plane.PointLists.{points-length}
+use Rattle.i_shape_core.proofs.plane.PointLists.{read-length}
 use Rattle.i_shape_core.proofs.walks.Found.{simple_stays}
 use Rattle.i_shape_core.proofs.answers.Kept.{simple_kept}
 use Rattle.i_shape_core.proofs.answers.Written.{whole_written, canonical_written}
@@ -11,25 +9,18 @@ use Rattle.i_shape_core.proofs.cleaner.CanonicalizerContourCleaner.write_clean.G
 
 pub rotate_to_least-requires : goal.rotate_to_least-requires
 rotate_to_least-requires g c =
-    let value = g.P.Coordinate.IntNumber.value in
-    let points = g.P.ContourPoint.points c.args.contour.now in
     let within : c.write_whole-count.result ≤ length c.write_whole-count.new.out = omega (arith, c.write_whole-count.ensures.count, c.write_whole-count.ensures.len, c.requires.room) in
-    omega (arith, length-take-le c.write_whole-count.result c.write_whole-count.new.out within, length-contour value points, points-length g.P.ContourPoint.point g.P.ContourPoint.points g.P.ContourPoint.each c.args.contour.now, c.requires.clean.enough, c.write_whole-count.ensures.count)
+    omega (arith, length-take-le c.write_whole-count.result c.write_whole-count.new.out within, read-length g.P.Coordinate.IntNumber.value g.P.ContourPoint.point g.P.ContourPoint.points g.P.ContourPoint.each c.args.contour.now, c.requires.clean.enough, c.write_whole-count.ensures.count)
 
 pub returns-clause-written : goal.returns-clause-written
 returns-clause-written g c =
-    let value = g.P.Coordinate.IntNumber.value in
-    let read = λ (list : List g.row.P.Denot). contour_of value (g.P.ContourPoint.points list) in
-    let counts = λ (list : List g.row.P.Denot). length-contour value (g.P.ContourPoint.points list) ∙ points-length g.P.ContourPoint.point g.P.ContourPoint.points g.P.ContourPoint.each list in
-    let given = read c.args.contour.now in
-    let whole = whole_written g.P.Coordinate.IntNumber.width read SimpleAnswer KeptAnswer c.args.contour.now c.args.out.now c.write_whole-count.new.out c.write_whole-count.result c.write_whole-count.ensures.count c.write_whole-count.ensures.items
+    let counts = read-length g.P.Coordinate.IntNumber.value g.P.ContourPoint.point g.P.ContourPoint.points g.P.ContourPoint.each in
+    let given = contour_of g.P.Coordinate.IntNumber.value (g.P.ContourPoint.points c.args.contour.now) in
+    let whole = whole_written g.P.Coordinate.IntNumber.width (λ (list : List g.row.P.Denot). contour_of g.P.Coordinate.IntNumber.value (g.P.ContourPoint.points list)) SimpleAnswer KeptAnswer c.args.contour.now c.args.out.now c.write_whole-count.new.out c.write_whole-count.result c.write_whole-count.ensures.count c.write_whole-count.ensures.items
     c.write_whole-count.ensures.rest (omega (arith, c.requires.clean.enough)) (simple_stays given c.requires.clean) (simple_kept given (Some given) (simple_stays given c.requires.clean)) c.requires.points_safe in
-    canonical_written g.P.Coordinate.IntNumber.width read counts c.args.contour.now c.args.out.now c.write_whole-count.new.out c.rotate_to_least.new.contour c.write_whole-count.result
+    canonical_written g.P.Coordinate.IntNumber.width _ counts c.args.contour.now c.args.out.now c.write_whole-count.new.out c.rotate_to_least.new.contour c.write_whole-count.result
     (omega (arith, counts c.args.contour.now, c.requires.clean.enough, c.write_whole-count.ensures.count)) (omega (arith, c.write_whole-count.ensures.count, c.requires.room, c.write_whole-count.ensures.len))
     whole c.rotate_to_least.ensures.len c.rotate_to_least.ensures.least c.rotate_to_least.ensures.rotated
 
 pub returns-clause-enough : goal.returns-clause-enough
-returns-clause-enough g c =
-    let value = g.P.Coordinate.IntNumber.value in
-    let points = g.P.ContourPoint.points c.args.contour.now in
-    omega (arith, length-contour value points, points-length g.P.ContourPoint.point g.P.ContourPoint.points g.P.ContourPoint.each c.args.contour.now, c.requires.clean.enough)
+returns-clause-enough g c = omega (arith, read-length g.P.Coordinate.IntNumber.value g.P.ContourPoint.point g.P.ContourPoint.points g.P.ContourPoint.each c.args.contour.now, c.requires.clean.enough)

@@ -1,22 +1,16 @@
-use Rattle.std.proofs.Common.{List, arith}
+use Rattle.std.proofs.Common.{arith}
 use Rattle.i_shape_core.specs.IntPoint.{contour_of}
 use Rattle.i_shape_core.specs.Cleaners.{SpikelessAnswer, KeptAnswer}
-use Rattle.i_shape_core.proofs.plane.Contours.{length-contour}
-use Rattle.i_shape_core.proofs.plane.PointLists.{points-length}
+use Rattle.i_shape_core.proofs.plane.PointLists.{read-length}
 use Rattle.i_shape_core.proofs.answers.Kept.{keeps_itself}
 use Rattle.i_shape_core.proofs.answers.Written.{whole_written}
 use Rattle.i_shape_core.proofs.cleaner.ContourDeSpikerContourCleaner.write_clean.Goals as goal
 
 pub returns-clause-written : goal.returns-clause-written
 returns-clause-written g c =
-    let value = g.P.Coordinate.IntNumber.value in
-    let read = λ (list : List g.row.P.Denot). contour_of value (g.P.ContourPoint.points list) in
-    let given = read c.args.contour.now in
-    whole_written g.P.Coordinate.IntNumber.width read SpikelessAnswer KeptAnswer c.args.contour.now c.args.out.now c.write_whole.new.out c.write_whole.result c.write_whole.ensures.count c.write_whole.ensures.items c.write_whole.ensures.rest
+    let given = contour_of g.P.Coordinate.IntNumber.value (g.P.ContourPoint.points c.args.contour.now) in
+    whole_written g.P.Coordinate.IntNumber.width _ SpikelessAnswer KeptAnswer c.args.contour.now c.args.out.now c.write_whole.new.out c.write_whole.result c.write_whole.ensures.count c.write_whole.ensures.items c.write_whole.ensures.rest
     (omega (arith, c.requires.clean.enough)) c.requires.clean (keeps_itself given) c.requires.points_safe
 
 pub returns-clause-enough : goal.returns-clause-enough
-returns-clause-enough g c =
-    let value = g.P.Coordinate.IntNumber.value in
-    let points = g.P.ContourPoint.points c.args.contour.now in
-    omega (arith, length-contour value points, points-length g.P.ContourPoint.point g.P.ContourPoint.points g.P.ContourPoint.each c.args.contour.now, c.requires.clean.enough)
+returns-clause-enough g c = omega (arith, read-length g.P.Coordinate.IntNumber.value g.P.ContourPoint.point g.P.ContourPoint.points g.P.ContourPoint.each c.args.contour.now, c.requires.clean.enough)

@@ -1,4 +1,4 @@
-use Rattle.std.proofs.Common.{◌≡◌, ◌∙◌, None, Some, option_map, arith}
+use Rattle.std.proofs.Common.{◌≡◌, ◌∙◌, None, Some, option_map, arith, IfOk}
 use Rattle.std.proofs.lemmas.Result.{IfOk-weaker}
 use Rattle.i_shape_core.specs.Point.{IsBack}
 use Rattle.i_shape_core.specs.IntPoint.{contour_of, answered}
@@ -8,7 +8,6 @@ use Rattle.std.specs.Global.{Vec}
 use Rattle.i_shape_core.proofs.plane.Contours.{length-contour}
 use Rattle.i_shape_core.proofs.walks.Found.{spikeless_answer, kept_spikeless, short_answer, visits_answer, walk_kept}
 use Rattle.i_shape_core.proofs.answers.Written.{walked, unless_memory}
-use Rattle.std.specs.Result.{IfOk}
 use Rattle.i_shape_core.specs.Walks.{WalkAnswer}
 use Rattle.i_shape_core.proofs.lists.FirstPlaces.{none_found, first_collapses}
 use Rattle.i_shape_core.proofs.walks.RingStates.{StartsAt, starting_size, starting_removes}

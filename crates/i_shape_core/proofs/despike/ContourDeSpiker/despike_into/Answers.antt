@@ -1,9 +1,8 @@
-use Rattle.std.proofs.Common.{◌∙◌, ◌<◌, ◌≡◌, false, true, rules, refl, List, length, arith}
+use Rattle.std.proofs.Common.{◌<◌, ◌≡◌, false, true, rules, refl, length, arith}
 use Rattle.std.proofs.lemmas.Result.{err_from_is_err_and}
 use Rattle.i_shape_core.specs.IntPoint.{contour_of}
 use Rattle.i_shape_core.specs.Cleaners.{SpikelessAnswer, KeptAnswer}
-use Rattle.i_shape_core.proofs.plane.Contours.{length-contour}
-use Rattle.i_shape_core.proofs.plane.PointLists.{points-length}
+use Rattle.i_shape_core.proofs.plane.PointLists.{read-length}
 use Rattle.i_shape_core.proofs.walks.StackReads.{fails_by_test}
 use Rattle.i_shape_core.proofs.answers.Kept.{keeps_itself}
 use Rattle.i_shape_core.proofs.answers.Written.{whole_written, into, into_refused, not_few}
@@ -11,14 +10,12 @@ use Rattle.i_shape_core.proofs.despike.ContourDeSpiker.despike_into.Goals as goa
 
 pub returns-then-is_despiked : goal.returns-then-is_despiked
 returns-then-is_despiked g c =
-    let value = g.P.Coordinate.IntNumber.value in
-    let read = λ (list : List g.row.P.Denot). contour_of value (g.P.ContourPoint.points list) in
-    let counts = λ (list : List g.row.P.Denot). length-contour value (g.P.ContourPoint.points list) ∙ points-length g.P.ContourPoint.point g.P.ContourPoint.points g.P.ContourPoint.each list in
-    let whole = read c.args.contour.now in
+    let counts = read-length g.P.Coordinate.IntNumber.value g.P.ContourPoint.point g.P.ContourPoint.points g.P.ContourPoint.each in
+    let whole = contour_of g.P.Coordinate.IntNumber.value (g.P.ContourPoint.points c.args.contour.now) in
     let despiked = c.is_despiked.ensures.0 c.if-is_despiked.true in
     record {
       answer = into (λ m had. had) c.write_whole.result
-          (whole_written g.P.Coordinate.IntNumber.width read SpikelessAnswer KeptAnswer c.args.contour.now c.args.out.now c.write_whole.new.out c.write_whole.result c.write_whole.ensures.count c.write_whole.ensures.items c.write_whole.ensures.rest
+          (whole_written g.P.Coordinate.IntNumber.width _ SpikelessAnswer KeptAnswer c.args.contour.now c.args.out.now c.write_whole.new.out c.write_whole.result c.write_whole.ensures.count c.write_whole.ensures.items c.write_whole.ensures.rest
           (omega (arith, despiked.enough)) despiked (keeps_itself whole) c.requires.points_safe)
           c.write_whole.ensures.len (λ few. absurd (omega (arith, few, counts c.args.contour.now, despiked.enough))) (λ unclean. absurd (unclean despiked));
     }

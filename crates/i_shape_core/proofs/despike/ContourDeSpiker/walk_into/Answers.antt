@@ -1,12 +1,12 @@
-use Rattle.std.proofs.Common.{◌≡◌, ◌∙◌, List, length, map, sym, arith}
+use Rattle.std.proofs.Common.{◌≡◌, ◌∙◌, length, map, sym, arith}
 use Rattle.std.proofs.lemmas.List.{length-map}
 use Rattle.i_shape_core.specs.Point.{IsBack}
 use Rattle.i_shape_core.specs.Contour.{point_at}
 use Rattle.i_shape_core.specs.IntPoint.{contour_of}
 use Rattle.i_shape_core.specs.Cleaners.{SpikelessAnswer}
 use Rattle.i_shape_core.specs.Walks.{Finds}
-use Rattle.i_shape_core.proofs.plane.Contours.{length-contour, kept-contour}
-use Rattle.i_shape_core.proofs.plane.PointLists.{points-length, points-at-places}
+use Rattle.i_shape_core.proofs.plane.Contours.{kept-contour}
+use Rattle.i_shape_core.proofs.plane.PointLists.{points-length, points-at-places, read-length}
 use Rattle.i_shape_core.proofs.removal.Ends.{reach_shrinks}
 use Rattle.i_shape_core.proofs.walks.Found.{spikeless_answer, kept_spikeless}
 use Rattle.i_shape_core.proofs.walks.RingStates.{first_state}
@@ -17,28 +17,24 @@ use Rattle.i_shape_core.proofs.despike.ContourDeSpiker.walk_into.Goals as goal
 
 pub returns-then-contour-lt4-clause-written : goal.returns-then-contour-lt4-clause-written
 returns-then-contour-lt4-clause-written g c =
-    let value = g.P.Coordinate.IntNumber.value in
-    let read = λ (list : List g.row.P.Denot). contour_of value (g.P.ContourPoint.points list) in
-    let counts = λ (list : List g.row.P.Denot). length-contour value (g.P.ContourPoint.points list) ∙ points-length g.P.ContourPoint.point g.P.ContourPoint.points g.P.ContourPoint.each list in
-    let whole = read c.args.contour.now in
+    let counts = read-length g.P.Coordinate.IntNumber.value g.P.ContourPoint.point g.P.ContourPoint.points g.P.ContourPoint.each in
+    let whole = contour_of g.P.Coordinate.IntNumber.value (g.P.ContourPoint.points c.args.contour.now) in
     let collapsed = few_collapse whole (omega (arith, counts c.args.contour.now, c.if-contour-lt4.true)) c.requires.unclean in
-    collapse_written g.P.Coordinate.IntNumber.width read counts c.args.contour.now c.args.out.now SpikelessAnswer collapsed (collapsed_flat whole collapsed)
+    collapse_written g.P.Coordinate.IntNumber.width _ counts c.args.contour.now c.args.out.now SpikelessAnswer collapsed (collapsed_flat whole collapsed)
 
 pub walk-probe-requires-clause-state : goal.walk-probe-requires-clause-state
 walk-probe-requires-clause-state g c =
     let points = g.P.ContourPoint.points c.args.contour.now in
     let whole = contour_of g.P.Coordinate.IntNumber.value points in
-    let long : length whole ≡ length c.args.contour.now = length-contour g.P.Coordinate.IntNumber.value points ∙ points-length g.P.ContourPoint.point g.P.ContourPoint.points g.P.ContourPoint.each c.args.contour.now in
+    let long : length whole ≡ length c.args.contour.now = read-length g.P.Coordinate.IntNumber.value g.P.ContourPoint.point g.P.ContourPoint.points g.P.ContourPoint.each c.args.contour.now in
     rw (c.new.ensures.contour, c.new.ensures.visits) (first_state whole c.ring_at-ring.result _ (omega (arith, long, c.if-contour-lt4.false)) (rw (← long) at c.ring_at-ring.ensures))
 
 pub returns-then-not-uncollapsed-clause-written : goal.returns-then-not-uncollapsed-clause-written
 returns-then-not-uncollapsed-clause-written g c =
-    let value = g.P.Coordinate.IntNumber.value in
-    let read = λ (list : List g.row.P.Denot). contour_of value (g.P.ContourPoint.points list) in
-    let counts = λ (list : List g.row.P.Denot). length-contour value (g.P.ContourPoint.points list) ∙ points-length g.P.ContourPoint.point g.P.ContourPoint.points g.P.ContourPoint.each list in
-    let whole = read c.args.contour.now in
+    let counts = read-length g.P.Coordinate.IntNumber.value g.P.ContourPoint.point g.P.ContourPoint.points g.P.ContourPoint.each in
+    let whole = contour_of g.P.Coordinate.IntNumber.value (g.P.ContourPoint.points c.args.contour.now) in
     let first : c.new.result.contour ≡ g.P.ContourPoint.points c.args.contour.now = c.new.ensures.contour in
-    nothing_written g.P.Coordinate.IntNumber.width read counts c.args.contour.now c.args.out.now IsBack SpikelessAnswer (spikeless_answer whole) (kept_spikeless whole)
+    nothing_written g.P.Coordinate.IntNumber.width _ counts c.args.contour.now c.args.out.now IsBack SpikelessAnswer (spikeless_answer whole) (kept_spikeless whole)
     c.walk-probe.result.0.visits (rw first at (c.walk-probe.ensures.falls c.if-not-uncollapsed.true))
 
 pub write_at-requires-clause-below : goal.write_at-requires-clause-below
@@ -48,25 +44,21 @@ write_at-requires-clause-below g c =
 
 pub write_at-requires-clause-room : goal.write_at-requires-clause-room
 write_at-requires-clause-room g c =
-    let value = g.P.Coordinate.IntNumber.value in
-    let read = λ (list : List g.row.P.Denot). contour_of value (g.P.ContourPoint.points list) in
-    let counts = λ (list : List g.row.P.Denot). length-contour value (g.P.ContourPoint.points list) ∙ points-length g.P.ContourPoint.point g.P.ContourPoint.points g.P.ContourPoint.each list in
-    let whole = read c.args.contour.now in
+    let counts = read-length g.P.Coordinate.IntNumber.value g.P.ContourPoint.point g.P.ContourPoint.points g.P.ContourPoint.each in
+    let whole = contour_of g.P.Coordinate.IntNumber.value (g.P.ContourPoint.points c.args.contour.now) in
     let first : c.new.result.contour ≡ g.P.ContourPoint.points c.args.contour.now = c.new.ensures.contour in
     let found : Finds IsBack whole (map (point_at whole) c.as_slice.result.now) c.walk-probe.result.0.visits = rw (first, ← c.as_slice.ensures.value) at (c.walk-probe.ensures.uncollapsed c.if-not-uncollapsed.false) in
     omega (arith, c.requires.room, reach_shrinks found.ended.reached, length-map c.as_slice.result.now (point_at whole), counts c.args.contour.now)
 
 pub returns-clause-written : goal.returns-clause-written
 returns-clause-written g c =
-    let value = g.P.Coordinate.IntNumber.value in
-    let read = λ (list : List g.row.P.Denot). contour_of value (g.P.ContourPoint.points list) in
-    let counts = λ (list : List g.row.P.Denot). length-contour value (g.P.ContourPoint.points list) ∙ points-length g.P.ContourPoint.point g.P.ContourPoint.points g.P.ContourPoint.each list in
-    let whole = read c.args.contour.now in
+    let counts = read-length g.P.Coordinate.IntNumber.value g.P.ContourPoint.point g.P.ContourPoint.points g.P.ContourPoint.each in
+    let whole = contour_of g.P.Coordinate.IntNumber.value (g.P.ContourPoint.points c.args.contour.now) in
     let first : c.new.result.contour ≡ g.P.ContourPoint.points c.args.contour.now = c.new.ensures.contour in
     let found : Finds IsBack whole (map (point_at whole) c.as_slice.result.now) c.walk-probe.result.0.visits = rw (first, ← c.as_slice.ensures.value) at (c.walk-probe.ensures.uncollapsed c.if-not-uncollapsed.false) in
     let items = c.write_at.ensures.items in
-    points_written g.P.Coordinate.IntNumber.width read counts c.args.contour.now c.args.out.now IsBack SpikelessAnswer (spikeless_answer whole) (kept_spikeless whole)
+    points_written g.P.Coordinate.IntNumber.width _ counts c.args.contour.now c.args.out.now IsBack SpikelessAnswer (spikeless_answer whole) (kept_spikeless whole)
     c.write_at.new.out c.write_at.result (map (point_at whole) c.as_slice.result.now) c.walk-probe.result.0.visits c.requires.points_safe
     (picked_at c.args.contour.now _ c.as_slice.result.now (rw (first, points-length g.P.ContourPoint.point g.P.ContourPoint.points g.P.ContourPoint.each c.args.contour.now, ← c.as_slice.ensures.value) at (c.walk-probe.ensures.rising c.if-not-uncollapsed.false)) items)
-    (kept-contour value (g.P.ContourPoint.points c.args.contour.now) _ c.as_slice.result.now (points-at-places g.P.ContourPoint.point g.P.ContourPoint.points g.P.ContourPoint.each c.args.contour.now _ c.as_slice.result.now items))
+    (kept-contour g.P.Coordinate.IntNumber.value (g.P.ContourPoint.points c.args.contour.now) _ c.as_slice.result.now (points-at-places g.P.ContourPoint.point g.P.ContourPoint.points g.P.ContourPoint.each c.args.contour.now _ c.as_slice.result.now items))
     (c.write_at.ensures.count ∙ sym (length-map c.as_slice.result.now (point_at whole))) c.write_at.ensures.rest found

@@ -1,9 +1,8 @@
-use Rattle.std.proofs.Common.{◌∙◌, ◌<◌, ◌≡◌, false, true, rules, refl, Some, List, length, arith}
+use Rattle.std.proofs.Common.{◌<◌, ◌≡◌, false, true, rules, refl, Some, length, arith}
 use Rattle.std.proofs.lemmas.Result.{err_from_is_err_and}
 use Rattle.i_shape_core.specs.IntPoint.{contour_of}
 use Rattle.i_shape_core.specs.Cleaners.{SimpleAnswer, KeptAnswer}
-use Rattle.i_shape_core.proofs.plane.Contours.{length-contour}
-use Rattle.i_shape_core.proofs.plane.PointLists.{points-length}
+use Rattle.i_shape_core.proofs.plane.PointLists.{read-length}
 use Rattle.i_shape_core.proofs.walks.Found.{simple_stays}
 use Rattle.i_shape_core.proofs.walks.StackReads.{fails_by_test}
 use Rattle.i_shape_core.proofs.answers.Kept.{simple_kept}
@@ -12,14 +11,12 @@ use Rattle.i_shape_core.proofs.simplifier.ContourSimplifier.simplify_into.Goals 
 
 pub returns-then-is_simple : goal.returns-then-is_simple
 returns-then-is_simple g c =
-    let value = g.P.Coordinate.IntNumber.value in
-    let read = λ (list : List g.row.P.Denot). contour_of value (g.P.ContourPoint.points list) in
-    let counts = λ (list : List g.row.P.Denot). length-contour value (g.P.ContourPoint.points list) ∙ points-length g.P.ContourPoint.point g.P.ContourPoint.points g.P.ContourPoint.each list in
-    let whole = read c.args.contour.now in
+    let counts = read-length g.P.Coordinate.IntNumber.value g.P.ContourPoint.point g.P.ContourPoint.points g.P.ContourPoint.each in
+    let whole = contour_of g.P.Coordinate.IntNumber.value (g.P.ContourPoint.points c.args.contour.now) in
     let simple = c.is_simple.ensures.0 c.if-is_simple.true in
     record {
       answer = into (λ m had. had) c.write_whole.result
-          (whole_written g.P.Coordinate.IntNumber.width read SimpleAnswer KeptAnswer c.args.contour.now c.args.out.now c.write_whole.new.out c.write_whole.result c.write_whole.ensures.count c.write_whole.ensures.items c.write_whole.ensures.rest
+          (whole_written g.P.Coordinate.IntNumber.width _ SimpleAnswer KeptAnswer c.args.contour.now c.args.out.now c.write_whole.new.out c.write_whole.result c.write_whole.ensures.count c.write_whole.ensures.items c.write_whole.ensures.rest
           (omega (arith, simple.enough)) (simple_stays whole simple) (simple_kept whole (Some whole) (simple_stays whole simple)) c.requires.points_safe)
           c.write_whole.ensures.len (λ few. absurd (omega (arith, few, counts c.args.contour.now, simple.enough))) (λ unclean. absurd (unclean simple));
     }

@@ -1,12 +1,12 @@
-use Rattle.std.proofs.Common.{◌≡◌, ◌∙◌, List, [], map, length, ap, sym, refl, arith}
+use Rattle.std.proofs.Common.{◌≡◌, ◌∙◌, [], map, length, ap, sym, refl, arith}
 use Rattle.std.proofs.lemmas.List.{length-map}
 use Rattle.i_shape_core.specs.Point.{IsZeroTurn}
 use Rattle.i_shape_core.specs.Contour.{point_at}
 use Rattle.i_shape_core.specs.IntPoint.{contour_of}
 use Rattle.i_shape_core.specs.Cleaners.{SimpleAnswer}
 use Rattle.i_shape_core.specs.Walks.{Finds}
-use Rattle.i_shape_core.proofs.plane.Contours.{length-contour, kept-contour}
-use Rattle.i_shape_core.proofs.plane.PointLists.{points-length, points-at-places}
+use Rattle.i_shape_core.proofs.plane.Contours.{kept-contour}
+use Rattle.i_shape_core.proofs.plane.PointLists.{points-length, points-at-places, read-length}
 use Rattle.i_shape_core.proofs.removal.Ends.{reach_shrinks}
 use Rattle.i_shape_core.proofs.walks.Found.{simple_answer, kept_answer, short_answer}
 use Rattle.i_shape_core.proofs.walks.Stack.{stacked-start}
@@ -16,11 +16,9 @@ use Rattle.i_shape_core.proofs.simplifier.ContourSimplifier.walk_into.Goals as g
 
 pub returns-then-contour-lt3-clause-written : goal.returns-then-contour-lt3-clause-written
 returns-then-contour-lt3-clause-written g c =
-    let value = g.P.Coordinate.IntNumber.value in
-    let read = λ (list : List g.row.P.Denot). contour_of value (g.P.ContourPoint.points list) in
-    let counts = λ (list : List g.row.P.Denot). length-contour value (g.P.ContourPoint.points list) ∙ points-length g.P.ContourPoint.point g.P.ContourPoint.points g.P.ContourPoint.each list in
-    let whole = read c.args.contour.now in
-    nothing_written g.P.Coordinate.IntNumber.width read counts c.args.contour.now c.args.out.now IsZeroTurn SimpleAnswer (simple_answer whole) (kept_answer whole) 0
+    let counts = read-length g.P.Coordinate.IntNumber.value g.P.ContourPoint.point g.P.ContourPoint.points g.P.ContourPoint.each in
+    let whole = contour_of g.P.Coordinate.IntNumber.value (g.P.ContourPoint.points c.args.contour.now) in
+    nothing_written g.P.Coordinate.IntNumber.width _ counts c.args.contour.now c.args.out.now IsZeroTurn SimpleAnswer (simple_answer whole) (kept_answer whole) 0
     (short_answer IsZeroTurn whole (omega (arith, counts c.args.contour.now, c.if-contour-lt3.true)))
 
 pub stack_places-probe-requires-clause-start : goal.stack_places-probe-requires-clause-start
@@ -37,12 +35,10 @@ stack_places-probe-requires-clause-room g c =
 
 pub returns-in_default-clause-written : goal.returns-in_default-clause-written
 returns-in_default-clause-written g c =
-    let value = g.P.Coordinate.IntNumber.value in
-    let read = λ (list : List g.row.P.Denot). contour_of value (g.P.ContourPoint.points list) in
-    let counts = λ (list : List g.row.P.Denot). length-contour value (g.P.ContourPoint.points list) ∙ points-length g.P.ContourPoint.point g.P.ContourPoint.points g.P.ContourPoint.each list in
-    let whole = read c.args.contour.now in
+    let counts = read-length g.P.Coordinate.IntNumber.value g.P.ContourPoint.point g.P.ContourPoint.points g.P.ContourPoint.each in
+    let whole = contour_of g.P.Coordinate.IntNumber.value (g.P.ContourPoint.points c.args.contour.now) in
     let first : c.stack_places-probe.result.contour ≡ g.P.ContourPoint.points c.args.contour.now = c.stack_places-probe.ensures.contour ∙ c.new.ensures.contour in
-    nothing_written g.P.Coordinate.IntNumber.width read counts c.args.contour.now c.args.out.now IsZeroTurn SimpleAnswer (simple_answer whole) (kept_answer whole)
+    nothing_written g.P.Coordinate.IntNumber.width _ counts c.args.contour.now c.args.out.now IsZeroTurn SimpleAnswer (simple_answer whole) (kept_answer whole)
     c.close-probe.result.0.visits (rw (first, c.in_default.is) at c.close-probe.ensures.answer)
 
 pub write_at-requires-clause-below : goal.write_at-requires-clause-below
@@ -52,25 +48,21 @@ write_at-requires-clause-below g c =
 
 pub write_at-requires-clause-room : goal.write_at-requires-clause-room
 write_at-requires-clause-room g c =
-    let value = g.P.Coordinate.IntNumber.value in
-    let read = λ (list : List g.row.P.Denot). contour_of value (g.P.ContourPoint.points list) in
-    let counts = λ (list : List g.row.P.Denot). length-contour value (g.P.ContourPoint.points list) ∙ points-length g.P.ContourPoint.point g.P.ContourPoint.points g.P.ContourPoint.each list in
-    let whole = read c.args.contour.now in
+    let counts = read-length g.P.Coordinate.IntNumber.value g.P.ContourPoint.point g.P.ContourPoint.points g.P.ContourPoint.each in
+    let whole = contour_of g.P.Coordinate.IntNumber.value (g.P.ContourPoint.points c.args.contour.now) in
     let first : c.stack_places-probe.result.contour ≡ g.P.ContourPoint.points c.args.contour.now = c.stack_places-probe.ensures.contour ∙ c.new.ensures.contour in
     let found : Finds IsZeroTurn whole (map (point_at whole) c.in-Some.places.now) c.close-probe.result.0.visits = rw (first, c.in-Some.is) at c.close-probe.ensures.answer in
     omega (arith, c.requires.room, reach_shrinks found.ended.reached, length-map c.in-Some.places.now (point_at whole), counts c.args.contour.now)
 
 pub returns-clause-written : goal.returns-clause-written
 returns-clause-written g c =
-    let value = g.P.Coordinate.IntNumber.value in
-    let read = λ (list : List g.row.P.Denot). contour_of value (g.P.ContourPoint.points list) in
-    let counts = λ (list : List g.row.P.Denot). length-contour value (g.P.ContourPoint.points list) ∙ points-length g.P.ContourPoint.point g.P.ContourPoint.points g.P.ContourPoint.each list in
-    let whole = read c.args.contour.now in
+    let counts = read-length g.P.Coordinate.IntNumber.value g.P.ContourPoint.point g.P.ContourPoint.points g.P.ContourPoint.each in
+    let whole = contour_of g.P.Coordinate.IntNumber.value (g.P.ContourPoint.points c.args.contour.now) in
     let first : c.stack_places-probe.result.contour ≡ g.P.ContourPoint.points c.args.contour.now = c.stack_places-probe.ensures.contour ∙ c.new.ensures.contour in
     let found : Finds IsZeroTurn whole (map (point_at whole) c.in-Some.places.now) c.close-probe.result.0.visits = rw (first, c.in-Some.is) at c.close-probe.ensures.answer in
     let items = c.write_at.ensures.items in
-    points_written g.P.Coordinate.IntNumber.width read counts c.args.contour.now c.args.out.now IsZeroTurn SimpleAnswer (simple_answer whole) (kept_answer whole)
+    points_written g.P.Coordinate.IntNumber.width _ counts c.args.contour.now c.args.out.now IsZeroTurn SimpleAnswer (simple_answer whole) (kept_answer whole)
     c.write_at.new.out c.write_at.result (map (point_at whole) c.in-Some.places.now) c.close-probe.result.0.visits c.requires.points_safe
     (picked_at c.args.contour.now _ c.in-Some.places.now (rw (first, points-length g.P.ContourPoint.point g.P.ContourPoint.points g.P.ContourPoint.each c.args.contour.now, c.in-Some.is) at c.close-probe.ensures.rising) items)
-    (kept-contour value (g.P.ContourPoint.points c.args.contour.now) _ c.in-Some.places.now (points-at-places g.P.ContourPoint.point g.P.ContourPoint.points g.P.ContourPoint.each c.args.contour.now _ c.in-Some.places.now items))
+    (kept-contour g.P.Coordinate.IntNumber.value (g.P.ContourPoint.points c.args.contour.now) _ c.in-Some.places.now (points-at-places g.P.ContourPoint.point g.P.ContourPoint.points g.P.ContourPoint.each c.args.contour.now _ c.in-Some.places.now items))
     (c.write_at.ensures.count ∙ sym (length-map c.in-Some.places.now (point_at whole))) c.write_at.ensures.rest found

@@ -1,5 +1,4 @@
-use Rattle.std.proofs.Common.{refl, lit≤}
-use Rattle.std.specs.Int.{w16}
+use Rattle.std.proofs.Common.{refl, lit≤, w16}
 use Rattle.i_shape_core.specs.IntPoint.{point_of}
 use Rattle.i_shape_core.proofs.arithmetic.Lanes.{vectors_of_lanes}
 use Rattle.i_shape_core.proofs.zero_turns.lanes.vectors_of_i16.Goals as goal

@@ -1,5 +1,4 @@
-use Rattle.std.proofs.Common.{refl, lit≤}
-use Rattle.std.specs.Int.{w32}
+use Rattle.std.proofs.Common.{refl, lit≤, w32}
 use Rattle.i_shape_core.specs.IntPoint.{point_of}
 use Rattle.i_shape_core.proofs.arithmetic.Lanes.{vectors_of_lanes}
 use Rattle.i_shape_core.proofs.zero_turns.lanes.vectors_of_i32.Goals as goal

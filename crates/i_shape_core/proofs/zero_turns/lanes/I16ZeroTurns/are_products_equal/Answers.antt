@@ -1,5 +1,4 @@
-use Rattle.std.proofs.Common.{refl}
-use Rattle.std.specs.Int.{w16, w32}
+use Rattle.std.proofs.Common.{refl, w16, w32}
 use Rattle.i_shape_core.proofs.arithmetic.Products.{products-told}
 use Rattle.i_shape_core.proofs.zero_turns.lanes.I16ZeroTurns.are_products_equal.Goals as goal
 

@@ -1,5 +1,4 @@
-use Rattle.std.proofs.Common.{refl, lit≤, arith}
-use Rattle.std.specs.Int.{w32, w64}
+use Rattle.std.proofs.Common.{refl, lit≤, arith, w32, w64}
 use Rattle.i_shape_core.specs.IntPoint.{point_of}
 use Rattle.i_shape_core.specs.Point.{origin}
 use Rattle.i_shape_core.proofs.arithmetic.Lanes.{four_told}

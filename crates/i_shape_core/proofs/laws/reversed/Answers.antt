@@ -1,6 +1,0 @@
-use Rattle.i_shape_core.specs.IntPoint.{contour_of}
-use Rattle.i_shape_core.proofs.removal.ZeroTurns as lemmas
-use Rattle.i_shape_core.proofs.laws.reversed.Goals as goal
-
-pub returns : goal.returns
-returns g c = lemmas.reversed_ends (contour_of g.I.IntNumber.value c.args._c.now)
