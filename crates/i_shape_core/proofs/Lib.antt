@@ -1,3 +1,5 @@
+-- the words of contours that most proofs name
+pub mod Common
 -- numbers
 pub mod arithmetic
 -- points of the plane, and contours of the program's points

@@ -2,10 +2,7 @@
 use Rattle.std.proofs.Common.{◌<◌, ◌≤◌, inl, inr, List, length, reverse, Some, None, sym, subst, arith, All}
 use Rattle.std.specs.Int.{Width}
 use Rattle.std.proofs.lemmas.List.{length-reverse}
-use Rattle.i_shape_core.specs.Point.{Point}
-use Rattle.i_shape_core.specs.IntPoint.{IsSafe}
-use Rattle.i_shape_core.specs.Cleaners.{SimpleAnswer, DespikeAnswer}
-use Rattle.i_shape_core.specs.Canonical.{CanonicalAnswer, UnorientedAnswer}
+use Rattle.i_shape_core.proofs.Common.{Point, IsSafe, SimpleAnswer, DespikeAnswer, CanonicalAnswer, UnorientedAnswer}
 use Rattle.i_shape_core.proofs.removal.Ends.{reach_shrinks}
 use Rattle.i_shape_core.proofs.removal.Rotations.{rotation_length}
 use Rattle.i_shape_core.proofs.answers.Kept.{spikeless_long, simple_left, despike_left}

@@ -2,10 +2,8 @@
 use Rattle.std.proofs.Common.{◌≡◌, ℕ, zero, suc, ◌<◌, ◌≤◌, ◌⊎◌, List, [], length, Option, Some, None, Bool, true, false, inl, inr, refl, sym, ◌∙◌, subst, arith, eq-or-lt_of_le, le_of_suc-le-suc, All}
 use Rattle.std.proofs.lemmas.Bool.{cases_lt}
 use native.Mathlib.Decide.{dec_le, dec_lt}
-use Rattle.i_shape_core.specs.Point.{Point, IsBack, IsZeroTurn}
-use Rattle.i_shape_core.specs.Contour.{IsRemovable, Reach, stay, step, point_at, place_before, place_after}
+use Rattle.i_shape_core.proofs.Common.{Point, IsBack, IsZeroTurn, IsRemovable, Reach, stay, step, point_at, place_before, place_after, SimpleAnswer, SpikelessAnswer, DespikeAnswer, IsDespikedAlready, EachEndCollapses, KeptAnswer, IsKept, IsFlat}
 use Rattle.i_shape_core.specs.Convex.{dedup, cross_at, is_reversal, IsReversal, NoSpikes}
-use Rattle.i_shape_core.specs.Cleaners.{SimpleAnswer, SpikelessAnswer, DespikeAnswer, IsDespikedAlready, EachEndCollapses, KeptAnswer, IsKept, IsFlat}
 use Rattle.i_shape_core.proofs.removal.Ends.{has_end, all_left, reach_by_weaker, reach_shrinks, step_length}
 use Rattle.i_shape_core.proofs.lists.FirstPlaces.{none_found}
 use Rattle.i_shape_core.proofs.removal.Repeats.{dedup_leads}

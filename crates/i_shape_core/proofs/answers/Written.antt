@@ -2,13 +2,7 @@
 use Rattle.std.proofs.Common.{◌≡◌, ℕ, ◌<◌, false, true, List, [], ◌∷◌, length, take, drop, Option, Some, None, refl, arith, ◌≤◌, ◌++◌, ◌∙◌, ◌⊎◌, inl, inr, ap, reverse, Ok, Err, option_map, All, IfOk, IsOk, IsOkUnless, Result, length-take-le}
 use Rattle.std.specs.Int.{Width}
 use Rattle.std.proofs.lemmas.Bool.{cases_lt}
-use Rattle.i_shape_core.specs.Point.{Point}
-use Rattle.i_shape_core.specs.IntPoint.{IsSafe}
-use Rattle.i_shape_core.specs.Contour.{Test, Rotation, Sublist, RotatedSublist, SublistEitherWay}
-use Rattle.i_shape_core.specs.Cleaners.{SimpleAnswer, SpikelessAnswer, DespikeAnswer, IsFlat, KeptAnswer}
-use Rattle.i_shape_core.specs.Convex.{NoSpikes}
-use Rattle.i_shape_core.specs.Canonical.{IsCanonical, CanonicalAnswer, UnorientedAnswer, KeptEitherWay, IsLeast, IsLesserWay}
-use Rattle.i_shape_core.specs.Walks.{WalkAnswer}
+use Rattle.i_shape_core.proofs.Common.{Point, IsSafe, Test, Rotation, Sublist, RotatedSublist, SublistEitherWay, SimpleAnswer, SpikelessAnswer, DespikeAnswer, IsFlat, KeptAnswer, NoSpikes, IsCanonical, CanonicalAnswer, UnorientedAnswer, KeptEitherWay, IsLeast, IsLesserWay, WalkAnswer}
 use Rattle.i_shape_core.specs.Refusals.{OkUnlessMemory}
 use Rattle.i_shape_core.specs.Written.{slot, IsCleanedInOrder, IsWritten, CleansInto}
 use Rattle.i_shape_core.specs.declared.error.ShapeError.{ShapeError}

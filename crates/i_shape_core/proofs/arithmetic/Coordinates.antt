@@ -6,8 +6,7 @@ use Rattle.std.proofs.lemmas.Bool.Decides.{Decides-and}
 use Rattle.std.proofs.lemmas.Int.{ints, int_wrap_fits}
 use Rattle.std.specs.Int.{Width, int_wrap}
 use Rattle.i_shape_core.specs.Widths.{bits, hbits}
-use Rattle.i_shape_core.specs.IntPoint.{IsSafeCoordinate, IsSafe}
-use Rattle.i_shape_core.specs.Point.{Point, vector}
+use Rattle.i_shape_core.proofs.Common.{IsSafeCoordinate, IsSafe, Point, vector}
 use Rattle.i_shape_core.proofs.arithmetic.Products.{InReach, reach-fits}
 
 lt-cases : (x y : ℤ) → IsTrue (is_lt (int_cmp x y)) ↔ (x <ℤ y)

@@ -1,7 +1,6 @@
 -- The turns of a contour, as a walk meets them that starts with its last two points.
 use Rattle.std.proofs.Common.{◌≡◌, ◌≢◌, ℕ, zero, suc, ◌+◌, ◌-◌, ◌<◌, ◌≤◌, List, [], ◌∷◌, length, get_or, refl, sym, ap, subst, subst₂, ◌∙◌, arith, ◌⊎◌, inl, inr, ◌↔◌, Bool, true, false, cond, ◌++◌, append_assoc, length-append, add-one}
-use Rattle.i_shape_core.specs.Point.{Point, origin}
-use Rattle.i_shape_core.specs.Contour.{Test, point_at, place_before, place_after, IsRemovable}
+use Rattle.i_shape_core.proofs.Common.{Point, origin, Test, point_at, place_before, place_after, IsRemovable}
 use Rattle.i_shape_core.specs.Convex.{is_same, changes_after, last_of, dedup, Bulges}
 use Rattle.i_shape_core.proofs.removal.Places.{Follows, after_is, before_is, after_from, before_within, after_within}
 use Rattle.i_shape_core.proofs.convex.Laws.{Has, IsLeft, IsRight, IsReversed, plain_from_bulges, bulges_from_plain}

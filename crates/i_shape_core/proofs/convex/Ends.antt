@@ -1,7 +1,6 @@
 -- What the ends of a contour without spikes have in common with it.
 use Rattle.std.proofs.Common.{◌≡◌, ℕ, ◌≤◌, List, length, pos, ◌<ℤ◌, sym, ap, subst, arith, ◌⊎◌, inl, inr, ◌↔◌}
-use Rattle.i_shape_core.specs.Point.{Point, cross, dot, IsZeroTurn, IsBack}
-use Rattle.i_shape_core.specs.Contour.{point_at, place_before, place_after, IsRemovable, End}
+use Rattle.i_shape_core.proofs.Common.{Point, cross, dot, IsZeroTurn, IsBack, point_at, place_before, place_after, IsRemovable, End}
 use Rattle.i_shape_core.specs.Convex.{dedup, cross_at, IsReversal, NoSpikes, BendsOneWay, Bulges, Convex}
 use Rattle.i_shape_core.proofs.plane.Back.{back_cases, cross_same-first}
 use Rattle.i_shape_core.proofs.removal.WithoutBack.{HasNoBack, no_back_kept}

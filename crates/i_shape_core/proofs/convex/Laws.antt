@@ -2,8 +2,7 @@
 use Rattle.std.proofs.Common.{◌≡◌, ℕ, ◌<◌, ◌≤◌, List, [], ◌∷◌, ◌++◌, length, reverse, remove, ℤ, pos, neg_ℤ, ◌<ℤ◌, refl, sym, ap, subst, ◌∙◌, arith, ◌⊎◌, inl, inr, ◌↔◌, Bool, true, cond}
 use Rattle.std.proofs.lemmas.Int.{ints}
 use Rattle.std.proofs.lemmas.List.{length-reverse, reverse-reverse}
-use Rattle.i_shape_core.specs.Point.{Point, origin, cross, dot, IsZeroTurn}
-use Rattle.i_shape_core.specs.Contour.{Test, IsRemovable, Step, End, Rotation, SameEnd, collapsed, rotated}
+use Rattle.i_shape_core.proofs.Common.{Point, origin, cross, dot, IsZeroTurn, Test, IsRemovable, Step, End, Rotation, SameEnd, collapsed, rotated}
 use Rattle.i_shape_core.specs.Convex.{is_same, changes_after, last_of, dedup, cross_at, NoSpikes, Bulges, Convex}
 use Rattle.i_shape_core.proofs.plane.CrossProducts.{cross_reversed, zero_reversed, dot_reversed}
 use Rattle.i_shape_core.proofs.removal.Steps.{cycle_step_of_step, step_of_cycle_step, step_of_rotated}

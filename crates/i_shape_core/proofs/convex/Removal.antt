@@ -2,8 +2,7 @@
 use Rattle.std.proofs.Common.{◌≡◌, ◌≢◌, ℕ, ◌+◌, ◌-◌, ◌<◌, List, length, remove, ℤ, pos, ◌+ℤ◌, ◌*ℤ◌, neg_ℤ, ◌≤ℤ◌, ◌<ℤ◌, int_lt, T, refl, sym, ap, subst, ◌∙◌, arith, ◌⊎◌, inl, inr, ◌↔◌}
 use Rattle.std.proofs.lemmas.Int.{ints}
 use Rattle.std.proofs.lemmas.List.Edits.{length-remove}
-use Rattle.i_shape_core.specs.Point.{Point, cross, dot, IsZeroTurn}
-use Rattle.i_shape_core.specs.Contour.{point_at, place_before, place_after, IsRemovable, Step, Reach, stay, step}
+use Rattle.i_shape_core.proofs.Common.{Point, cross, dot, IsZeroTurn, point_at, place_before, place_after, IsRemovable, Step, Reach, stay, step}
 use Rattle.i_shape_core.specs.Convex.{cross_at, BendsOneWay}
 use Rattle.i_shape_core.proofs.plane.CrossProducts.{cross_reversed, zero_reversed, dot_reversed}
 use Rattle.i_shape_core.proofs.arithmetic.WholeNumbers.{Alike, alike_same, alike_scaled, sum_above, drop_last, below_negated, above_negated, zero_not_above, zero_not_below}

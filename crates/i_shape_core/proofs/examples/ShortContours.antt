@@ -1,11 +1,9 @@
 -- The definitions at the empty list, at one, two and three points, at repeated points, and at the limits of the safe range.
 use Rattle.std.proofs.Common.{◌≡◌, ◌<◌, ℕ, zero, suc, List, [], ◌∷◌, length, pos, negsuc, refl, lit≤, lit<, inl, inr, arith, w16, w32}
 use Rattle.i_shape_core.specs.Point.{Point, cross, dot, IsZeroTurn}
-use Rattle.i_shape_core.specs.Contour.{place_before, place_after, IsRemovable, Step, stay, End, IsSimple}
+use Rattle.i_shape_core.proofs.Common.{place_before, place_after, IsRemovable, Step, stay, End, IsSimple, IsSafeCoordinate, IsBefore, IsAtMost, started_at}
 use Rattle.i_shape_core.specs.Edges.{shoelace, area_of_edge, Inside, is_right}
 use Rattle.i_shape_core.specs.Convex.{dedup, is_same, cross_at, IsReversal, NoSpikes, Convex}
-use Rattle.i_shape_core.specs.IntPoint.{IsSafeCoordinate}
-use Rattle.i_shape_core.specs.Canonical.{IsBefore, IsAtMost, started_at}
 use Rattle.i_shape_core.proofs.examples.Definitions.{at}
 
 p : Point

@@ -2,12 +2,8 @@
 use Rattle.std.proofs.Common.{◌≡◌, ℕ, ◌%◌, ◌≤◌, ◌↔◌, List, [], ◌∷◌, ◌++◌, length, map, reverse, ℤ, pos, neg_ℤ, Bool, true, false, cond, int_lt, count_by, refl, sym, ap, ◌∙◌, subst, arith}
 use Rattle.std.proofs.lemmas.Int.{ints}
 use Rattle.std.proofs.lemmas.List.{reverse-append, reverse-reverse, length-reverse, map-append}
-use Rattle.i_shape_core.specs.Point.{Point, cross, IsZeroTurn}
-use Rattle.i_shape_core.specs.IntPoint.{point_of, contour_of}
-use Rattle.i_shape_core.specs.declared.point.IntPoint.{IntPoint}
-use Rattle.i_shape_core.specs.Contour.{Step, Rotation}
+use Rattle.i_shape_core.proofs.Common.{Point, cross, IsZeroTurn, point_of, contour_of, IntPoint, Step, Rotation, IsLeast, IsCanonical, by_rotation, by_removal, by_insertion, Joined, alone, link}
 use Rattle.i_shape_core.specs.Edges.{Edge, edges_between, edges, sum_of, area_of_edge, shoelace, is_above, is_right, Inside}
-use Rattle.i_shape_core.specs.Canonical.{IsLeast, IsCanonical, by_rotation, by_removal, by_insertion, Joined, alone, link}
 use Rattle.i_shape_core.proofs.arithmetic.WholeNumbers.{pos_injective}
 use Rattle.i_shape_core.proofs.arithmetic.Polynomials.{variable, plus, times, minus, by_polynomials}
 use Rattle.i_shape_core.proofs.measure.Edges.{sum_alike}

@@ -1,8 +1,6 @@
 -- Joined contours have one canonical form.
 use Rattle.std.proofs.Common.{◌≡◌, ◌≤◌, List, length, sym, subst, arith}
-use Rattle.i_shape_core.specs.Point.{Point, IsZeroTurn}
-use Rattle.i_shape_core.specs.Contour.{Test, Reach, stay, step, End, Rotation, SameEnd, collapsed, rotated}
-use Rattle.i_shape_core.specs.Canonical.{IsLink, by_rotation, by_removal, by_insertion, Joined, alone, link, IsLeast, CanonicalJoined}
+use Rattle.i_shape_core.proofs.Common.{Point, IsZeroTurn, Test, Reach, stay, step, End, Rotation, SameEnd, collapsed, rotated, IsLink, by_rotation, by_removal, by_insertion, Joined, alone, link, IsLeast, CanonicalJoined}
 use Rattle.i_shape_core.proofs.removal.Tests.{Slides, Decided}
 use Rattle.i_shape_core.proofs.removal.Rotations.{rotation_sym, rotation_trans, rotation_length}
 use Rattle.i_shape_core.proofs.removal.Ends.{ends_alike, one_end, has_end, end_of_step, same_end_trans, reach_shrinks, step_length}

@@ -4,10 +4,7 @@ use Rattle.std.specs.Cmp.{IsTotalOrder}
 use Rattle.std.specs.Cmp.Lexicographic.{slice_cmp}
 use Rattle.std.specs.Ordering.{MatchOrdering, ordering_then, is_lt, int_cmp}
 use Rattle.std.proofs.lemmas.Cmp.{int_ranked, then_total, on_total}
-use Rattle.i_shape_core.specs.Point.{Point}
-use Rattle.i_shape_core.specs.IntPoint.{point_of}
-use Rattle.i_shape_core.specs.declared.point.IntPoint.{IntPoint}
-use Rattle.i_shape_core.specs.Canonical.{IsBefore, IsAtMost}
+use Rattle.i_shape_core.proofs.Common.{Point, point_of, IntPoint, IsBefore, IsAtMost}
 use Rattle.i_shape_core.proofs.least_rotation.Order.{at_most_refl, before_clash}
 
 -- what a comparison tells, where before is a strict order

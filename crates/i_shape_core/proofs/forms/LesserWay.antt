@@ -2,9 +2,7 @@
 use Rattle.std.proofs.Common.{◌≡◌, ◌⊎◌, ℕ, zero, suc, ◌+◌, ◌-◌, ◌<◌, ◌≤◌, List, [], ◌∷◌, length, reverse, inl, inr, refl, sym, ap, subst, subst₂, ◌∙◌, arith}
 use Rattle.std.proofs.lemmas.Bool.{cases_lt}
 use Rattle.std.proofs.lemmas.List.{reverse-reverse, length-reverse, get_or-reverse, ext_get_or}
-use Rattle.i_shape_core.specs.Point.{Point, origin}
-use Rattle.i_shape_core.specs.Contour.{point_at}
-use Rattle.i_shape_core.specs.Canonical.{IsBefore, IsAtMost, IsLeast, IsLesserWay, started_at}
+use Rattle.i_shape_core.proofs.Common.{Point, origin, point_at, IsBefore, IsAtMost, IsLeast, IsLesserWay, started_at}
 use Rattle.i_shape_core.proofs.least_rotation.Order.{at_most_refl, at_most_total}
 use Rattle.i_shape_core.proofs.least_rotation.Starts.{greater_at}
 use Rattle.i_shape_core.proofs.least_rotation.Readings.{IsStep}

@@ -3,10 +3,7 @@ use Rattle.std.proofs.Common.{◌≡◌, ◌↔◌, ◌⊎◌, ◌<◌, ◌≤�
 use Rattle.std.proofs.lemmas.List.{reverse-reverse, length-reverse}
 use Rattle.std.proofs.lemmas.List.Sorted.{All-permutation, IsPermutation-reverse}
 use native.Mathlib.Decide.{dec_le}
-use Rattle.i_shape_core.specs.Point.{Point, IsZeroTurn}
-use Rattle.i_shape_core.specs.Contour.{End, stay}
-use Rattle.i_shape_core.specs.Cleaners.{EachEndCollapses, IsKept, KeptAnswer}
-use Rattle.i_shape_core.specs.Canonical.{IsAtMost, IsLeast, IsCanonical, CanonicalAnswer, Joined, started_at, IsUnoriented, IsLesserWay, UnorientedAnswer, IsKeptBackwards, IsKeptEitherWay, KeptEitherWay, JoinedEitherWay}
+use Rattle.i_shape_core.proofs.Common.{Point, IsZeroTurn, End, stay, EachEndCollapses, IsKept, KeptAnswer, IsAtMost, IsLeast, IsCanonical, CanonicalAnswer, Joined, started_at, IsUnoriented, IsLesserWay, UnorientedAnswer, IsKeptBackwards, IsKeptEitherWay, KeptEitherWay, JoinedEitherWay}
 use Rattle.i_shape_core.proofs.least_rotation.Order.{at_most_refl, at_most_total, at_most_antisym}
 use Rattle.i_shape_core.proofs.removal.Ends.{has_end, no_step, all_left}
 use Rattle.i_shape_core.proofs.removal.ZeroTurns.{zero_turn_decided, every_order}

@@ -1,8 +1,7 @@
 -- The order of points and of lists of points.
 use Rattle.std.proofs.Common.{◌≡◌, ◌⊎◌, List, [], ◌∷◌, ℤ, ◌<ℤ◌, ◌≤ℤ◌, inl, inr, refl, sym, ◌∙◌, subst, arith}
 use Rattle.std.proofs.lemmas.Int.{ints, by_lt_z}
-use Rattle.i_shape_core.specs.Point.{Point}
-use Rattle.i_shape_core.specs.Canonical.{IsBefore, IsAtMost}
+use Rattle.i_shape_core.proofs.Common.{Point, IsBefore, IsAtMost}
 use Rattle.i_shape_core.proofs.plane.CrossProducts.{same_point}
 
 -- one point comes before the other, or they are equal

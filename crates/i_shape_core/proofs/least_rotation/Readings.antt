@@ -6,12 +6,7 @@ use Rattle.std.proofs.lemmas.Bool.{cases_lt}
 use Rattle.std.specs.Global.{Vec}
 use Rattle.std.specs.Vec.{with_items}
 use Rattle.std.proofs.lemmas.List.{with_items_is}
-use Rattle.i_shape_core.specs.Point.{Point}
-use Rattle.i_shape_core.specs.Contour.{point_at}
-use Rattle.i_shape_core.specs.Walks.{point_round, Agree, Precedes, IsOrder}
-use Rattle.i_shape_core.specs.Canonical.{IsBefore, IsLeast, IsLesserWay, started_at}
-use Rattle.i_shape_core.specs.IntPoint.{point_of, contour_of}
-use Rattle.i_shape_core.specs.declared.point.IntPoint.{IntPoint}
+use Rattle.i_shape_core.proofs.Common.{Point, point_at, point_round, Agree, Precedes, IsOrder, IsBefore, IsLeast, IsLesserWay, started_at, point_of, contour_of, IntPoint}
 use Rattle.i_shape_core.proofs.plane.Contours.{read-point}
 use Rattle.i_shape_core.proofs.plane.PointLists.{map-rotated}
 use Rattle.i_shape_core.proofs.least_rotation.Rounds.{round-first, round-place}

@@ -2,10 +2,7 @@
 use Rattle.std.proofs.Common.{◌≡◌, ◌⊎◌, ℕ, ◌+◌, ◌-◌, ◌<◌, ◌≤◌, List, length, take, drop, get_or, inl, inr, refl, sym, ap, ◌∙◌, arith, add-zero, length-append, length-take, length-drop}
 use Rattle.std.proofs.lemmas.List.{get_or_append_left, get_or-append_right, get_or-take, get_or-drop, ext_get_or}
 use Rattle.std.proofs.lemmas.Bool.{cases_lt}
-use Rattle.i_shape_core.specs.Point.{Point, origin}
-use Rattle.i_shape_core.specs.Contour.{point_at}
-use Rattle.i_shape_core.specs.Walks.{point_round}
-use Rattle.i_shape_core.specs.Canonical.{started_at}
+use Rattle.i_shape_core.proofs.Common.{Point, origin, point_at, point_round, started_at}
 
 -- in the first round a place is its own
 pub round-low : (c : List Point) (e : ℕ) → e < length c → point_round c e ≡ get_or c e origin

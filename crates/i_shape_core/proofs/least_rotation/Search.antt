@@ -1,10 +1,7 @@
 -- The search for the start of the least rotation.
 use Rattle.std.proofs.Common.{◌≡◌, ◌⊎◌, ℕ, suc, zero, ◌+◌, ◌-◌, ◌<◌, ◌≤◌, max, List, length, inl, inr, refl, sym, ap, subst, subst₂, ◌∙◌, arith}
 use Rattle.std.proofs.lemmas.Bool.{cases_lt}
-use Rattle.i_shape_core.specs.Point.{Point}
-use Rattle.i_shape_core.specs.Contour.{point_at}
-use Rattle.i_shape_core.specs.Walks.{point_round, Agree, Precedes, AreAfter}
-use Rattle.i_shape_core.specs.Canonical.{IsBefore, IsLeast, started_at}
+use Rattle.i_shape_core.proofs.Common.{Point, point_at, point_round, Agree, Precedes, AreAfter, IsBefore, IsLeast, started_at}
 use Rattle.i_shape_core.proofs.least_rotation.Rounds.{same-started, round-back, round-first}
 use Rattle.i_shape_core.proofs.least_rotation.Starts.{StartsLeast, has_least_start, beaten_not_least}
 

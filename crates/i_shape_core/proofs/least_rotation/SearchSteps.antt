@@ -1,12 +1,7 @@
 -- One step of the search for the least rotation, as its comparer tells it: a rival is met, and two starts are compared.
 use Rattle.std.proofs.Common.{◌≡◌, ℕ, Fits, w64, ◌+◌, ◌-◌, ◌*◌, ◌<◌, ◌≤◌, min, max, ℤ, List, length, ap, subst, sym, arith, Ordering, Less, Equal, Greater}
 use Rattle.std.specs.Ordering.{MatchOrdering}
-use Rattle.i_shape_core.specs.Point.{Point}
-use Rattle.i_shape_core.specs.Contour.{point_at}
-use Rattle.i_shape_core.specs.IntPoint.{contour_of}
-use Rattle.i_shape_core.specs.Walks.{Agree, Precedes, AreAfter}
-use Rattle.i_shape_core.specs.Canonical.{IsLeast, started_at}
-use Rattle.i_shape_core.specs.declared.point.IntPoint.{IntPoint}
+use Rattle.i_shape_core.proofs.Common.{Point, point_at, contour_of, Agree, Precedes, AreAfter, IsLeast, started_at, IntPoint}
 use Rattle.i_shape_core.proofs.least_rotation.Search.{IsSearch, search_after, search_less, search_round}
 
 -- how `compare_starts` orders the starts k and r of c, of n points, after m pairs

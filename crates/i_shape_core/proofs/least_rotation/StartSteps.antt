@@ -1,12 +1,7 @@
 -- One step of the comparison of two starts, as its comparer tells it: a first pair, and then runs of pairs that agree.
 use Rattle.std.proofs.Common.{◌≡◌, ℕ, Bool, true, false, not, ◌+◌, ◌-◌, ◌<◌, ◌≤◌, min, max, ℤ, List, length, ap, subst, sym, ◌∙◌, arith, ◌==◌, Ordering, Less, Equal, Greater}
 use Rattle.std.specs.Ordering.{MatchOrdering, ordering_index}
-use Rattle.i_shape_core.specs.Point.{Point}
-use Rattle.i_shape_core.specs.Contour.{point_at}
-use Rattle.i_shape_core.specs.IntPoint.{contour_of}
-use Rattle.i_shape_core.specs.Walks.{Agree, Precedes, IsOrder}
-use Rattle.i_shape_core.specs.Canonical.{IsBefore}
-use Rattle.i_shape_core.specs.declared.point.IntPoint.{IntPoint}
+use Rattle.i_shape_core.proofs.Common.{Point, point_at, contour_of, Agree, Precedes, IsOrder, IsBefore, IntPoint}
 use Rattle.i_shape_core.proofs.plane.Contours.{length-contour}
 use Rattle.i_shape_core.proofs.least_rotation.Readings.{IsStep, RunsAgree, first-agrees, first-tells, agree-on, precedes-on}
 

@@ -2,10 +2,7 @@
 use Rattle.std.proofs.Common.{◌≡◌, ◌⊎◌, ℕ, suc, zero, ◌+◌, ◌-◌, ◌<◌, ◌≤◌, List, [], ◌∷◌, ◌++◌, length, take, drop, get_or, inl, inr, refl, sym, ap, subst, ◌∙◌, arith, take_at, drop_at, length-append, take-append-drop, eq-or-lt_of_le, le_of_suc-le-suc, append-nil}
 use Rattle.std.proofs.lemmas.List.{take_all, drop_all}
 use Rattle.std.proofs.lemmas.Bool.{cases_lt}
-use Rattle.i_shape_core.specs.Point.{Point, origin}
-use Rattle.i_shape_core.specs.Contour.{Rotation}
-use Rattle.i_shape_core.specs.Canonical.{IsBefore, IsAtMost, IsLeast, started_at}
-use Rattle.i_shape_core.specs.Walks.{point_round}
+use Rattle.i_shape_core.proofs.Common.{Point, origin, Rotation, IsBefore, IsAtMost, IsLeast, started_at, point_round}
 use Rattle.i_shape_core.proofs.least_rotation.Order.{before_clash, at_most_refl, at_most_total, at_most_trans}
 use Rattle.i_shape_core.proofs.least_rotation.Rounds.{length-started, started-round, start_at}
 

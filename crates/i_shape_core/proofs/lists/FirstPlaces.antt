@@ -2,9 +2,7 @@
 use Rattle.std.proofs.Common.{◌≡◌, ℕ, ◌+◌, ◌-◌, ◌<◌, ◌≤◌, List, length, sym, subst, subst₂, refl, arith, inl, inr, eq-or-lt_of_le, remove}
 use Rattle.std.proofs.lemmas.List.Edits.{length-remove}
 use Rattle.std.proofs.lemmas.Bool.{cases_lt}
-use Rattle.i_shape_core.specs.Point.{Point}
-use Rattle.i_shape_core.specs.Contour.{Test, IsRemovable, stay, step, point_at}
-use Rattle.i_shape_core.specs.Walks.{Finds, Falls, IsFirst}
+use Rattle.i_shape_core.proofs.Common.{Point, Test, IsRemovable, stay, step, point_at, Finds, Falls, IsFirst}
 use Rattle.i_shape_core.proofs.removal.Places.{Follows, before_from, after_from}
 
 -- a place that passes between the places around it is removable

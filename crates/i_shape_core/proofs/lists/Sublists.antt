@@ -1,7 +1,6 @@
 -- What removals leave is a sublist.
 use Rattle.std.proofs.Common.{ℕ, zero, suc, List, [], ◌∷◌, inl, inr, refl, sym, subst, remove}
-use Rattle.i_shape_core.specs.Point.{Point}
-use Rattle.i_shape_core.specs.Contour.{Test, Reach, stay, step, Sublist}
+use Rattle.i_shape_core.proofs.Common.{Point, Test, Reach, stay, step, Sublist}
 
 -- a list is its own sublist, and sublists of sublists are sublists
 pub sublist_refl : {A : Type 0} (c : List A) → Sublist c c

@@ -2,10 +2,7 @@
 use Rattle.std.proofs.Common.{◌≡◌, ℕ, zero, suc, ◌<◌, List, [], ◌∷◌, length, get_or, ℤ, pos, ◌+ℤ◌, ◌-ℤ◌, ◌*ℤ◌, sym, ap, ◌∙◌, ◌+◌, arith, add-one}
 use Rattle.std.specs.Int.{Width, int_wrap}
 use Rattle.std.proofs.lemmas.Int.{ints}
-use Rattle.i_shape_core.specs.Point.{Point, cross_of}
-use Rattle.i_shape_core.specs.Contour.{point_at}
-use Rattle.i_shape_core.specs.IntPoint.{point_of, contour_of}
-use Rattle.i_shape_core.specs.declared.point.IntPoint.{IntPoint}
+use Rattle.i_shape_core.proofs.Common.{Point, cross_of, point_at, point_of, contour_of, IntPoint}
 use Rattle.i_shape_core.specs.Edges.{edges_between, sum_of, area_of_edge, shoelace}
 use Rattle.i_shape_core.proofs.plane.Contours.{read-point, length-contour}
 use Rattle.i_shape_core.proofs.measure.AreaWalk.{wrapped-zero, wrapped-more}

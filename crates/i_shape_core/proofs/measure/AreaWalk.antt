@@ -4,11 +4,8 @@ use Rattle.std.specs.Int.{Width, int_wrap}
 use Rattle.std.proofs.lemmas.Int.{ints, int_wrap-add_left, int_wrap_fits, SFits-int_wrap, quot_fits}
 use Rattle.std.proofs.lemmas.List.{map-append}
 use Rattle.i_shape_core.specs.Widths.{hbits}
-use Rattle.i_shape_core.specs.Point.{Point, cross_of}
-use Rattle.i_shape_core.specs.IntPoint.{point_of, contour_of}
-use Rattle.i_shape_core.specs.declared.point.IntPoint.{IntPoint}
+use Rattle.i_shape_core.proofs.Common.{Point, cross_of, point_of, contour_of, IntPoint, last_of}
 use Rattle.i_shape_core.specs.Edges.{Edge, sum_of, area_of_edge, shoelace}
-use Rattle.i_shape_core.specs.Convex.{last_of}
 use Rattle.i_shape_core.proofs.measure.Edges.{sum_push}
 use Rattle.i_shape_core.proofs.plane.CrossProducts.{edge}
 use Rattle.i_shape_core.proofs.removal.Dedup.{last_of_append}

@@ -1,10 +1,7 @@
 -- The walk over a contour that starts from its last point, and asks of each edge whether a point lies on it.
 use Rattle.std.proofs.Common.{◌≡◌, ◌↔◌, ℕ, suc, ◌+◌, ◌-◌, ◌<◌, ◌≤◌, List, length, get_or, Bool, true, false, IsTrue, ℤ, refl, sym, ap, subst, subst₂, ◌∙◌, arith, inl, inr}
 use Rattle.std.proofs.lemmas.Bool.{cases_eq}
-use Rattle.i_shape_core.specs.Point.{Point}
-use Rattle.i_shape_core.specs.IntPoint.{point_of, contour_of}
-use Rattle.i_shape_core.specs.declared.point.IntPoint.{IntPoint}
-use Rattle.i_shape_core.specs.Contour.{point_at, place_before, place_after}
+use Rattle.i_shape_core.proofs.Common.{Point, point_of, contour_of, IntPoint, point_at, place_before, place_after}
 use Rattle.i_shape_core.specs.Boundary.{IsBetween, IsOnEdge}
 use Rattle.i_shape_core.proofs.plane.Contours.{read-point, length-contour}
 use Rattle.i_shape_core.proofs.removal.Places.{before_first, before_later, before_within, before_is, before_from, after_is, after_within, after_from}

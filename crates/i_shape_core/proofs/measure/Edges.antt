@@ -2,8 +2,7 @@
 use Rattle.std.proofs.Common.{◌≡◌, ℕ, zero, suc, ◌<◌, ◌≤◌, List, [], ◌∷◌, ◌++◌, length, get_or, remove, ℤ, pos, ◌+ℤ◌, refl, sym, ap, ◌∙◌, arith, inl, inr, eq-or-lt_of_le}
 use Rattle.std.proofs.lemmas.List.{get_or_default, get_or_past}
 use Rattle.std.proofs.lemmas.Int.{ints}
-use Rattle.i_shape_core.specs.Point.{Point, origin, IsZeroTurn}
-use Rattle.i_shape_core.specs.Contour.{point_at, place_before, place_after, Step, Reach, stay, step}
+use Rattle.i_shape_core.proofs.Common.{Point, origin, IsZeroTurn, point_at, place_before, place_after, Step, Reach, stay, step}
 use Rattle.i_shape_core.specs.Edges.{Edge, edges_between, edges, sum_of, area_of_edge, shoelace}
 use Rattle.i_shape_core.proofs.removal.Places.{before_first, before_later, after_earlier, after_last}
 use Rattle.i_shape_core.proofs.plane.CrossProducts.{edge, area_of_two}

@@ -9,14 +9,10 @@ use Rattle.std.proofs.lemmas.Cmp.{int_cmp_total}
 use Rattle.std.proofs.Math.IntN.{+ℤ_idl}
 use Rattle.i_shape_core.proofs.arithmetic.Products.{reach-fits}
 use Rattle.std.specs.Int.{Width, int_wrap}
-use Rattle.i_shape_core.specs.Point.{Point, origin, cross}
-use Rattle.i_shape_core.specs.Contour.{point_at}
-use Rattle.i_shape_core.specs.Edges.{is_above}
+use Rattle.i_shape_core.proofs.Common.{Point, origin, cross, point_at, is_above, point_of, contour_of, IsSafe, IntPoint}
 use Rattle.i_shape_core.specs.Winding.{winding, winding_of_edge}
-use Rattle.i_shape_core.specs.IntPoint.{point_of, contour_of, IsSafe}
 use Rattle.i_shape_core.specs.Heights.{asked_points, IsRising, IsPlaceOf, IsAdded, AllFit, asks}
 use Rattle.i_shape_core.specs.declared.heights.Asked.{Asked}
-use Rattle.i_shape_core.specs.declared.point.IntPoint.{IntPoint}
 use Rattle.i_shape_core.specs.Blocks.{winding_over}
 use Rattle.i_shape_core.proofs.plane.Contours.{rest-read, rest-none}
 use Rattle.i_shape_core.proofs.plane.CrossProducts.{edge}

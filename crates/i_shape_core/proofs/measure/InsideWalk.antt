@@ -1,12 +1,9 @@
 -- The walk over a contour that starts from its last point, and counts the edges that pass a point on its right.
 use Rattle.std.proofs.Common.{◌≡◌, ℕ, suc, ◌+◌, ◌%◌, ◌<◌, ◌≤◌, List, [], ◌∷◌, ◌++◌, length, drop, get_or, ℤ, pos, int_lt, refl, sym, ap, subst, ◌∙◌, arith, ◌↔◌, Bool, true, false, not, cond, count_by, IsTrue, ◌-◌}
-use Rattle.i_shape_core.specs.IntPoint.{point_of, contour_of}
-use Rattle.i_shape_core.specs.declared.point.IntPoint.{IntPoint}
+use Rattle.i_shape_core.proofs.Common.{point_of, contour_of, IntPoint, Point, origin, cross, last_of}
 use Rattle.std.proofs.lemmas.List.Sums.{sum_by-cons, sum_by_push}
 use mathlib.Core.Bool.{beq}
-use Rattle.i_shape_core.specs.Point.{Point, origin, cross}
 use Rattle.i_shape_core.specs.Edges.{Edge, edges_between, edges, is_right, Inside}
-use Rattle.i_shape_core.specs.Convex.{last_of}
 use Rattle.i_shape_core.specs.Blocks.{inside_after, path_over}
 use Rattle.i_shape_core.proofs.plane.Contours.{rest-read}
 use Rattle.i_shape_core.proofs.plane.CrossProducts.{edge}

@@ -1,8 +1,7 @@
 -- How often a contour winds about a point of rational coordinates, where zero turns are taken out, from another start, and backwards.
 use Rattle.std.proofs.Common.{◌≡◌, ℤ, pos, neg_ℤ, List, [], ◌∷◌, ◌++◌, map, reverse, refl, sym, ap, ◌∙◌, arith}
 use Rattle.std.proofs.lemmas.List.{length-map, map-append, reverse-append}
-use Rattle.i_shape_core.specs.Point.{Point, IsZeroTurn}
-use Rattle.i_shape_core.specs.Contour.{Reach, Rotation, IsCollapsed}
+use Rattle.i_shape_core.proofs.Common.{Point, IsZeroTurn, Reach, Rotation, IsCollapsed}
 use Rattle.i_shape_core.specs.Winding.{winding, winding_of_edge}
 use Rattle.i_shape_core.specs.Moves.{moved_point, moved, scaling}
 use Rattle.i_shape_core.proofs.measure.RotatedEdges.{same_sum}

@@ -1,9 +1,7 @@
 -- Rotations have the same edges, so the same sums over them, and as many to the right of a point.
 use Rattle.std.proofs.Common.{◌≡◌, List, [], ◌∷◌, ◌++◌, ℤ, pos, ◌+ℤ◌, sym, ap, ◌∙◌, arith, append-nil, count_by}
 use Rattle.std.proofs.lemmas.Int.{ints}
-use Rattle.i_shape_core.specs.Point.{Point}
-use Rattle.i_shape_core.specs.Contour.{Rotation}
-use Rattle.i_shape_core.specs.Edges.{Edge, edges_between, edges, sum_of, is_right}
+use Rattle.i_shape_core.proofs.Common.{Point, Rotation, Edge, edges_between, edges, sum_of, is_right}
 use Rattle.i_shape_core.proofs.arithmetic.WholeNumbers.{pos_injective}
 use Rattle.i_shape_core.proofs.measure.Inside.{bit_of_edge, count_as_sum}
 

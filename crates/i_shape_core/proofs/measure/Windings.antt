@@ -2,9 +2,7 @@
 use Rattle.std.proofs.Common.{◌≡◌, ◌<◌, List, [], ◌∷◌, ◌++◌, length, reverse, ℤ, pos, ◌+ℤ◌, ◌-ℤ◌, neg_ℤ, refl, sym, ap, ◌∙◌, arith, Bool, true, false, cond, int_lt}
 use Rattle.std.proofs.lemmas.Int.{ints}
 use Rattle.std.proofs.lemmas.List.{reverse-append}
-use Rattle.i_shape_core.specs.Point.{Point, cross, IsZeroTurn}
-use Rattle.i_shape_core.specs.Contour.{Step, Reach, stay, step, Rotation}
-use Rattle.i_shape_core.specs.Edges.{edges_between, edges, sum_of}
+use Rattle.i_shape_core.proofs.Common.{Point, cross, IsZeroTurn, Step, Reach, stay, step, Rotation, edges_between, edges, sum_of}
 use Rattle.i_shape_core.proofs.plane.CrossProducts.{edge, triangle_identity}
 use Rattle.i_shape_core.proofs.measure.Edges.{sum_without}
 use Rattle.i_shape_core.proofs.measure.Inside.{right_when, right_low, right_high, above_by_test, not_above}

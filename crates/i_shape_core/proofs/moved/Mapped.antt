@@ -1,8 +1,7 @@
 -- Removals from a contour of which each point is mapped.
 use Rattle.std.proofs.Common.{◌≡◌, ℕ, zero, suc, ◌<◌, List, [], ◌∷◌, length, map, remove, refl, sym, ap, subst, ◌∙◌, arith}
 use Rattle.std.proofs.lemmas.List.{get_or-map, length-map, map-append}
-use Rattle.i_shape_core.specs.Point.{Point, origin}
-use Rattle.i_shape_core.specs.Contour.{Test, point_at, place_before, place_after, IsRemovable, Step, Reach, stay, step, Rotation}
+use Rattle.i_shape_core.proofs.Common.{Point, origin, Test, point_at, place_before, place_after, IsRemovable, Step, Reach, stay, step, Rotation}
 use Rattle.i_shape_core.proofs.removal.Places.{before_within, after_within}
 
 -- where three points pass P, the points that they are mapped to pass Q

@@ -5,10 +5,7 @@ use Rattle.std.proofs.lemmas.Bool.Decides.{Decides-and, Decides-like}
 use Rattle.std.proofs.lemmas.Option.{slice_get-get_or, slice_get_within, get_or_from_slice_get}
 use Rattle.std.proofs.lemmas.List.Elements.{All-get_or}
 use Rattle.std.specs.Int.{Width}
-use Rattle.i_shape_core.specs.Contour.{point_at}
-use Rattle.i_shape_core.specs.IntPoint.{point_of, contour_of, IsSafe}
-use Rattle.i_shape_core.specs.Point.{origin}
-use Rattle.i_shape_core.specs.declared.point.IntPoint.{IntPoint}
+use Rattle.i_shape_core.proofs.Common.{point_at, point_of, contour_of, IsSafe, origin, IntPoint}
 
 -- what reading place k of a slice gives
 pub read-point : {I : Type 0} (value : I → ℤ) (xs : List (IntPoint I)) (k : ℕ) (p : IntPoint I) → k < length xs → p ≡ get_or xs k p

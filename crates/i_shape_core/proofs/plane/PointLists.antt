@@ -1,8 +1,7 @@
 -- Lists of a caller's points, read as lists of the library's.
 use Rattle.std.proofs.Common.{◌≡◌, ℤ, ◌∙◌, ℕ, ◌<◌, ◌-◌, List, [], ◌∷◌, ◌++◌, map, take, drop, length, get_or, slice_get, reverse, Bool, true, false, cond, Some, option_map, refl, sym, ap, arith, find}
 use Rattle.std.proofs.lemmas.Option.{slice_get-map}
-use Rattle.i_shape_core.specs.IntPoint.{point_of, contour_of}
-use Rattle.i_shape_core.specs.declared.point.IntPoint.{IntPoint}
+use Rattle.i_shape_core.proofs.Common.{point_of, contour_of, IntPoint}
 use Rattle.std.proofs.lemmas.Simd.{map-map}
 use Rattle.std.proofs.lemmas.List.{get_or-map, length-map, map-append, take-map, drop-map, reverse-append}
 

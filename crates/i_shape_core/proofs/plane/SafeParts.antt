@@ -1,8 +1,7 @@
 -- Parts of a safe list.
 use Rattle.std.proofs.Common.{◌≡◌, ◌<◌, ℕ, ℤ, List, map, length, get_or, arith, All}
 use Rattle.std.specs.Int.{Width}
-use Rattle.i_shape_core.specs.IntPoint.{point_of, contour_of, IsSafe}
-use Rattle.i_shape_core.specs.declared.point.IntPoint.{IntPoint}
+use Rattle.i_shape_core.proofs.Common.{point_of, contour_of, IsSafe, IntPoint}
 use Rattle.i_shape_core.proofs.plane.Contours.{read-safe}
 use Rattle.i_shape_core.proofs.plane.PointLists.{points-length, points-item}
 

@@ -1,7 +1,6 @@
 -- Points that turn back are removed first: the ends stay the same, and what is left never collapses.
 use Rattle.std.proofs.Common.{◌≡◌, ℕ, ◌≤◌, List, [], ◌∷◌, ◌++◌, length, refl, sym, ap, subst, arith, append-nil, length-append, remove}
-use Rattle.i_shape_core.specs.Point.{Point}
-use Rattle.i_shape_core.specs.Contour.{Test, IsRemovable, Reach, stay, step, End, Rotation}
+use Rattle.i_shape_core.proofs.Common.{Point, Test, IsRemovable, Reach, stay, step, End, Rotation}
 use Rattle.i_shape_core.proofs.removal.Tests.{Straightens}
 use Rattle.i_shape_core.proofs.removal.Rotations.{rotation_refl, rotation_sym, rotation_trans, rotation_length, cut_from_rotation}
 use Rattle.i_shape_core.proofs.removal.Steps.{first, last, last-append, last-push, last_over, CycleStep, cycle_step_of_step, cycle_step_of_rotated, step_of_cycle_step}

@@ -1,7 +1,6 @@
 -- Two steps from one cycle meet again.
 use Rattle.std.proofs.Common.{◌≡◌, ◌<◌, ◌≤◌, ◌⊎◌, List, [], ◌∷◌, ◌++◌, length, inl, inr, refl, sym, ap, subst, arith, append-nil, length-append}
-use Rattle.i_shape_core.specs.Point.{Point}
-use Rattle.i_shape_core.specs.Contour.{Test, Rotation, IsCollapsed}
+use Rattle.i_shape_core.proofs.Common.{Point, Test, Rotation, IsCollapsed}
 use Rattle.i_shape_core.proofs.removal.Tests.{Slides}
 use Rattle.i_shape_core.proofs.removal.Rotations.{rotation_refl, rotation_sym, rotation_trans, rotation_length}
 use Rattle.i_shape_core.proofs.removal.Steps.{first, last, last-append, last-push, last_over, CycleStep, cycle_step_of_rotated}

@@ -1,8 +1,7 @@
 -- A contour without its repeated points has none.
 use Rattle.std.proofs.Common.{◌≡◌, ◌≢◌, ℕ, zero, suc, ◌-◌, ◌<◌, ◌≤◌, List, [], ◌∷◌, ◌++◌, length, get_or, refl, sym, ap, subst, ◌∙◌, arith, Bool, true, false, cond, ◌&&◌, length-append, int_eq}
 use Rattle.std.specs.Cmp.{signed_Decides}
-use Rattle.i_shape_core.specs.Point.{Point, origin}
-use Rattle.i_shape_core.specs.Contour.{point_at, place_before, place_after}
+use Rattle.i_shape_core.proofs.Common.{Point, origin, point_at, place_before, place_after}
 use Rattle.i_shape_core.specs.Convex.{is_same, changes_after, last_of, dedup}
 use Rattle.i_shape_core.proofs.plane.CrossProducts.{same_point}
 use Rattle.i_shape_core.proofs.removal.Places.{before_first, before_later, before_from, after_is, after_within}

@@ -2,8 +2,7 @@
 use Rattle.std.proofs.Common.{◌≡◌, ℕ, zero, suc, ◌<◌, ◌≤◌, ◌⊎◌, List, length, inl, inr, refl, sym, ap, subst, arith, remove, length-append, length-drop, length-take, take, drop, eq-or-lt_of_le, le_of_suc-le-suc, All}
 use Rattle.std.proofs.lemmas.List.Elements.{All-append, All-take, All-drop}
 use native.Mathlib.Decide.{dec_le, dec_lt}
-use Rattle.i_shape_core.specs.Point.{Point}
-use Rattle.i_shape_core.specs.Contour.{Test, IsRemovable, Step, Reach, stay, step, End, Rotation, SameEnd, collapsed, rotated, point_at, place_before, place_after}
+use Rattle.i_shape_core.proofs.Common.{Point, Test, IsRemovable, Step, Reach, stay, step, End, Rotation, SameEnd, collapsed, rotated, point_at, place_before, place_after}
 use Rattle.i_shape_core.proofs.removal.Tests.{Slides, Decided}
 use Rattle.i_shape_core.proofs.removal.Rotations.{rotation_refl, rotation_sym, rotation_trans, rotation_length}
 use Rattle.i_shape_core.proofs.removal.Steps.{cycle_step_of_step, cycle_step_of_rotated, step_of_cycle_step, step_of_rotated}

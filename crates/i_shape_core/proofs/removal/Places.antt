@@ -3,8 +3,7 @@ use Rattle.std.proofs.Common.{◌≡◌, ℕ, zero, suc, ◌+◌, ◌-◌, ◌%�
 use Rattle.std.proofs.Math.Nat.{mod-eq_of_lt, add-mod_right, mod_self}
 use Rattle.std.proofs.lemmas.Bool.{cases_lt}
 use Rattle.std.proofs.lemmas.List.Edits.{get_or-remove_below, get_or-remove_above}
-use Rattle.i_shape_core.specs.Point.{Point, origin}
-use Rattle.i_shape_core.specs.Contour.{point_at, place_before, place_after}
+use Rattle.i_shape_core.proofs.Common.{Point, origin, point_at, place_before, place_after}
 
 -- before the first place stands the last
 pub before_first : (n : ℕ) → 0 < n → place_before n 0 ≡ n - 1

@@ -1,8 +1,7 @@
 -- A contour without repeated points is an end of the removal of points that equal a neighbour. So the theory of ends says how it changes with the start and the direction of the contour.
 use Rattle.std.proofs.Common.{◌≡◌, ℕ, ◌<◌, ◌≤◌, List, [], ◌∷◌, ◌++◌, length, reverse, refl, sym, ap, subst, ◌∙◌, arith, ◌⊎◌, inl, inr, Bool, true, false, cond, append_assoc, length-append}
 use native.Mathlib.Decide.{dec_le}
-use Rattle.i_shape_core.specs.Point.{Point, origin, IsZeroTurn}
-use Rattle.i_shape_core.specs.Contour.{Test, point_at, place_before, place_after, IsRemovable, Step, Reach, stay, step, End, Rotation, SameEnd, collapsed, rotated}
+use Rattle.i_shape_core.proofs.Common.{Point, origin, IsZeroTurn, Test, point_at, place_before, place_after, IsRemovable, Step, Reach, stay, step, End, Rotation, SameEnd, collapsed, rotated}
 use Rattle.i_shape_core.proofs.removal.Tests.{Decided, Slides, BothWays}
 use Rattle.i_shape_core.specs.Convex.{is_same, changes_after, last_of, dedup}
 use Rattle.i_shape_core.proofs.removal.Dedup.{same_yes, same_no, dedup_fewer, last_of_append, last_again, before_part, dedup_apart, apart_places, next_differs}

@@ -1,8 +1,7 @@
 -- A contour read backwards has the ends of the contour, read backwards.
 use Rattle.std.proofs.Common.{◌≡◌, ℕ, ◌-◌, ◌<◌, List, [], ◌∷◌, length, reverse, get_or, refl, sym, ap, ◌∙◌, subst, subst₂, arith, remove}
 use Rattle.std.proofs.lemmas.List.{reverse-append, reverse-reverse, length-reverse, get_or-reverse}
-use Rattle.i_shape_core.specs.Point.{Point, origin}
-use Rattle.i_shape_core.specs.Contour.{Test, IsRemovable, Step, Reach, stay, step, End, Rotation, SameEnd}
+use Rattle.i_shape_core.proofs.Common.{Point, origin, Test, IsRemovable, Step, Reach, stay, step, End, Rotation, SameEnd}
 use Rattle.i_shape_core.proofs.removal.Tests.{Slides, Decided, BothWays}
 use Rattle.i_shape_core.proofs.removal.Rotations.{rotation_refl, rotation_sym, rotation_trans}
 use Rattle.i_shape_core.proofs.removal.Steps.{first, last, CycleStep, cycle_step_of_step, cycle_step_of_rotated, step_of_cycle_step}

@@ -1,8 +1,7 @@
 -- Being a rotation is an equivalence.
 use Rattle.std.proofs.Common.{◌≡◌, List, [], ◌∷◌, ◌++◌, length, inl, inr, refl, sym, ap, subst, ◌∙◌, arith, append_assoc, append-nil, length-append, take_at, drop_at, All}
 use Rattle.std.proofs.lemmas.List.Elements.{All-append, All-take, All-drop}
-use Rattle.i_shape_core.specs.Point.{Point}
-use Rattle.i_shape_core.specs.Contour.{Rotation}
+use Rattle.i_shape_core.proofs.Common.{Point, Rotation}
 use Rattle.i_shape_core.proofs.lists.Appended.{two_seams, Seams}
 
 -- each list is a rotation of itself

@@ -2,8 +2,7 @@
 use Rattle.std.proofs.Common.{◌≡◌, ℕ, suc, ◌+◌, ◌-◌, ◌<◌, ◌≤◌, List, [], ◌∷◌, ◌++◌, length, get_or, take, drop, refl, sym, ap, ◌∙◌, subst, arith, append_assoc, append-nil, length-append, get_or-append-add, take_at, drop_at, length-take-le, subst₂, remove}
 use Rattle.std.proofs.lemmas.List.{get_or_append_left, get_or_at}
 use lib.Seq.{split_at}
-use Rattle.i_shape_core.specs.Point.{Point, origin}
-use Rattle.i_shape_core.specs.Contour.{point_at, place_before, place_after, Test, IsRemovable, Step, Rotation}
+use Rattle.i_shape_core.proofs.Common.{Point, origin, point_at, place_before, place_after, Test, IsRemovable, Step, Rotation}
 use Rattle.i_shape_core.proofs.removal.Places.{before_first, before_later, after_earlier, after_last}
 use Rattle.i_shape_core.proofs.removal.Rotations.{rotation_sym, rotation_trans, Cut, cut_from_rotation, rotation_from_cut}
 

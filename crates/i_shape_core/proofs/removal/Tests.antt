@@ -1,7 +1,6 @@
 -- What the theory of removals asks of a test of three points.
 use Rattle.std.specs.Prelude.{◌≡◌, ◌⊎◌}
-use Rattle.i_shape_core.specs.Point.{Point}
-use Rattle.i_shape_core.specs.Contour.{Test}
+use Rattle.i_shape_core.proofs.Common.{Point, Test}
 
 -- with the one of two neighbours p and q that is left when the other is removed, the other's test holds still; or they are one point
 abbrev pub Slides : Test → Type 0

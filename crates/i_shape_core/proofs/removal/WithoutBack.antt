@@ -1,7 +1,6 @@
 -- A contour without back points keeps at least three points, and none that go back, whatever zero turns are taken out.
 use Rattle.std.proofs.Common.{◌≡◌, ℕ, ◌<◌, ◌≤◌, List, length, pos, ◌≤ℤ◌, ◌<ℤ◌, ◌⊎◌, inl, inr}
-use Rattle.i_shape_core.specs.Point.{Point, cross, dot, IsZeroTurn, IsBack}
-use Rattle.i_shape_core.specs.Contour.{point_at, IsRemovable, Step, Reach, stay, step}
+use Rattle.i_shape_core.proofs.Common.{Point, cross, dot, IsZeroTurn, IsBack, point_at, IsRemovable, Step, Reach, stay, step}
 use Rattle.i_shape_core.proofs.removal.Tests.{Straightens}
 use Rattle.i_shape_core.proofs.plane.Back.{back_before_straight, back_after_straight, flat_triangle, low_or_above}
 use Rattle.i_shape_core.proofs.removal.Places.{Follows, before_from, after_from}

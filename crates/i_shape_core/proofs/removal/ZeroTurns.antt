@@ -1,8 +1,7 @@
 -- The laws of contours, with what the plane says.
 use Rattle.std.proofs.Common.{◌≡◌, ℕ, ◌<◌, ◌≤◌, List, length, pos, refl, arith}
 use Rattle.std.proofs.Math.IntN.{ℤ_discrete}
-use Rattle.i_shape_core.specs.Point.{Point, cross, IsZeroTurn, IsBack}
-use Rattle.i_shape_core.specs.Contour.{Test, IsRemovable, Reach, stay, step, End, Rotation, SameEnd, collapsed, rotated, IsCollapsed}
+use Rattle.i_shape_core.proofs.Common.{Point, cross, IsZeroTurn, IsBack, Test, IsRemovable, Reach, stay, step, End, Rotation, SameEnd, collapsed, rotated, IsCollapsed}
 use Rattle.i_shape_core.proofs.removal.Tests.{Decided, Slides, BothWays}
 use Rattle.i_shape_core.proofs.plane.CrossProducts.{zero_slides, zero_reversed}
 use native.Mathlib.Decide.{dec_lt}

@@ -2,12 +2,9 @@
 use Rattle.std.proofs.Common.{◌≡◌, ℕ, ◌%◌, ◌<◌, ◌≤◌, List, [], ◌∷◌, length, Option, Some, None, option_map, sym, ◌∙◌, pos, refl, arith, ◌⊎◌, inl, inr, ap, All, count_by, IfSome, IfOk, Result}
 use Rattle.std.proofs.lemmas.Bool.{cases_lt}
 use Rattle.std.proofs.lemmas.Result.{IfOk-weaker}
-use Rattle.i_shape_core.specs.Point.{Point, IsZeroTurn, IsBack}
-use Rattle.i_shape_core.specs.Contour.{Test, Rotation, Reach, stay, End, IsCollapsed, IsSimple, Sublist}
-use Rattle.i_shape_core.specs.Walks.{WalkAnswer}
+use Rattle.i_shape_core.proofs.Common.{Point, IsZeroTurn, IsBack, Test, Rotation, Reach, stay, End, IsCollapsed, IsSimple, Sublist, WalkAnswer, SimpleAnswer, SpikelessAnswer, KeptAnswer, VisitsAnswer, IsKept, IsFlat}
 use Rattle.i_shape_core.specs.Edges.{edges, shoelace, area_of_edge, is_right, Inside}
 use Rattle.i_shape_core.specs.Winding.{winding, winding_of_edge}
-use Rattle.i_shape_core.specs.Cleaners.{SimpleAnswer, SpikelessAnswer, KeptAnswer, VisitsAnswer, IsKept, IsFlat}
 use Rattle.i_shape_core.proofs.removal.ZeroTurns.{every_order, ends_agree}
 use Rattle.i_shape_core.proofs.removal.Ends.{all_left, reach_by_weaker}
 use Rattle.i_shape_core.proofs.lists.Sublists.{sublist_reached}

@@ -3,11 +3,8 @@ use Rattle.std.proofs.Common.{[], ◌∷◌, map, ◌≡◌, ℕ, ℤ, ◌+◌, 
 use Rattle.std.proofs.lemmas.Bool.{cases_lt}
 use Rattle.std.proofs.lemmas.List.Elements.{All-from_recursion}
 use Rattle.std.specs.Int.{Width}
-use Rattle.i_shape_core.specs.Contour.{point_at}
+use Rattle.i_shape_core.proofs.Common.{point_at, point_of, contour_of, IsSafe, Point, IsZeroTurn, IntPoint}
 use Rattle.i_shape_core.specs.FourTurns.{HasZeroTurnFrom, IsTurning}
-use Rattle.i_shape_core.specs.IntPoint.{point_of, contour_of, IsSafe}
-use Rattle.i_shape_core.specs.Point.{Point, IsZeroTurn}
-use Rattle.i_shape_core.specs.declared.point.IntPoint.{IntPoint}
 use Rattle.i_shape_core.proofs.plane.Contours.{read-point, read-safe}
 use Rattle.i_shape_core.proofs.plane.PointLists.{points-length, points-item}
 

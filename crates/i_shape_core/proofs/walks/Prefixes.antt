@@ -2,9 +2,7 @@
 use Rattle.std.proofs.Common.{◌≡◌, ℕ, suc, ◌+◌, ◌-◌, ◌<◌, ◌≤◌, ◌↔◌, List, [], ◌∷◌, ◌++◌, take, drop, length, refl, ap, subst, sym, ◌∙◌, arith, map-id}
 use Rattle.std.specs.List.{range_with_len}
 use Rattle.std.proofs.lemmas.List.FromFn.{length-range_with_len, get_or-range_with_len, take-map-range_with_len}
-use Rattle.i_shape_core.specs.Point.{Point}
-use Rattle.i_shape_core.specs.Contour.{Test, End, point_at}
-use Rattle.i_shape_core.specs.Walks.{IsStacked, IsWalked, stacked_point}
+use Rattle.i_shape_core.proofs.Common.{Point, Test, End, point_at, IsStacked, IsWalked, stacked_point}
 use Rattle.i_shape_core.proofs.walks.Stack.{stacked-start, push-stacked, pop-stacked, drop-first, drop-last, stacked-end}
 use Rattle.i_shape_core.proofs.walks.Gaps.{range_push}
 use Rattle.i_shape_core.proofs.walks.RingStates.{points_of_all}

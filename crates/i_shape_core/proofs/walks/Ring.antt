@@ -3,9 +3,7 @@ use Rattle.std.proofs.Common.{◌≡◌, ℕ, zero, suc, ◌-◌, ◌<◌, ◌�
 use native.Mathlib.Decide.{dec_lt}
 use lib.Seq.{split_at}
 use Rattle.std.proofs.lemmas.List.{drop-append-le, take-append-le}
-use Rattle.i_shape_core.specs.Point.{Point, origin}
-use Rattle.i_shape_core.specs.Contour.{Test, IsRemovable, Step, Reach, stay, step, End, Rotation, point_at, IsCollapsed}
-use Rattle.i_shape_core.specs.Walks.{IsRingWalk, LeadKept, LeadRemoved, from_contour_first}
+use Rattle.i_shape_core.proofs.Common.{Point, origin, Test, IsRemovable, Step, Reach, stay, step, End, Rotation, point_at, IsCollapsed, IsRingWalk, LeadKept, LeadRemoved, from_contour_first}
 use Rattle.i_shape_core.proofs.removal.Steps.{first, last, last-push, last_two, passes_from_removable, removable_from_passes, remove_at_seam, cycle_step_of_step, cycle_step_of_rotated, step_of_cycle_step}
 use Rattle.i_shape_core.proofs.removal.Ends.{reach_trans}
 

@@ -5,9 +5,7 @@ use Rattle.std.proofs.lemmas.List.{get_or-map, map_push, length-map, map-append,
 use Rattle.std.proofs.lemmas.List.Elements.{All-get_or, All-push, All-cons, All-drop, All-take, All-append, All-same}
 use Rattle.std.proofs.lemmas.List.FromFn.{length-range_with_len, get_or-range_with_len, fill_by_all}
 use Rattle.std.specs.List.{All, range_with_len}
-use Rattle.i_shape_core.specs.Point.{Point, origin}
-use Rattle.i_shape_core.specs.Contour.{Test, point_at, IsRemovable}
-use Rattle.i_shape_core.specs.Walks.{Finds, Falls, IsFirst, IsRingWalk, IsRingState, RisingPlaces, PlacedRing, ring_of_all, LeadKept, LeadRemoved, PassesAtPlace, from_contour_first}
+use Rattle.i_shape_core.proofs.Common.{Point, origin, Test, point_at, IsRemovable, Finds, Falls, IsFirst, IsRingWalk, IsRingState, RisingPlaces, PlacedRing, ring_of_all, LeadKept, LeadRemoved, PassesAtPlace, from_contour_first}
 use Rattle.i_shape_core.proofs.removal.Steps.{first, last, passes_from_removable}
 use Rattle.i_shape_core.proofs.walks.Ring.{turned_in_order, kept_in_order, removed_in_order, walk_starts, walk_keeps, walk_removes, walk_collapses, walk_ends}
 use Rattle.i_shape_core.proofs.walks.RisingPlaces.{rising_all, rising_without}

@@ -4,8 +4,7 @@ use Rattle.std.specs.List.{All, range_with_len}
 use Rattle.std.proofs.lemmas.List.Elements.{All-head, All-tail, All-cons}
 use Rattle.std.proofs.lemmas.List.FromFn.{length-range_with_len, get_or-range_with_len, fill_by_all}
 use Rattle.std.proofs.lemmas.List.{length-map}
-use Rattle.i_shape_core.specs.Contour.{Sublist}
-use Rattle.i_shape_core.specs.Walks.{RisingPlaces}
+use Rattle.i_shape_core.proofs.Common.{Sublist, RisingPlaces}
 use Rattle.i_shape_core.proofs.walks.Gaps.{range_push}
 use Rattle.i_shape_core.proofs.lists.Sublists.{sublist_refl, sublist_trans, sublist_none}
 

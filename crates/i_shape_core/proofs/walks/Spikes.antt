@@ -9,11 +9,9 @@ use Rattle.std.specs.Int.{Width}
 use Rattle.std.specs.Option.{option_or}
 use Rattle.std.specs.Cmp.{signed_Decides}
 use Rattle.i_shape_core.specs.Point.{Point, origin, vector, cross, cross_of, dot, dot_of, IsBack}
-use Rattle.i_shape_core.specs.Contour.{Test, point_at, place_before, place_after, IsRemovable}
+use Rattle.i_shape_core.proofs.Common.{Test, point_at, place_before, place_after, IsRemovable, point_of, contour_of, IsSafe, IntPoint}
 use Rattle.i_shape_core.specs.Blocks.{Reverses, GoesBack, last_change}
 use Rattle.i_shape_core.specs.Convex.{is_same, is_reversal, changes_after, last_of, dedup, NoSpikes, IsReversal, cross_at}
-use Rattle.i_shape_core.specs.IntPoint.{point_of, contour_of, IsSafe}
-use Rattle.i_shape_core.specs.declared.point.IntPoint.{IntPoint}
 use Rattle.i_shape_core.proofs.convex.Laws.{Has, IsReversed}
 use Rattle.i_shape_core.proofs.measure.InsideWalk.{last_point}
 use Rattle.i_shape_core.proofs.convex.Around.{Met, Passed, AllSame, met_is, has_met, last_but_one, none_change}

@@ -4,12 +4,10 @@ use Rattle.std.proofs.lemmas.List.{get_or-map, get_or_append_left, get_or-append
 use Rattle.std.proofs.lemmas.List.Edits.{remove-append_left}
 use Rattle.std.proofs.lemmas.List.Elements.{All-take, All-drop, All-push}
 use Rattle.std.proofs.lemmas.Bool.{cases_lt}
-use Rattle.i_shape_core.specs.Point.{Point, origin}
-use Rattle.i_shape_core.specs.Contour.{Reach, Step, IsRemovable, End, point_at, place_before, place_after, stay, step}
+use Rattle.i_shape_core.proofs.Common.{Point, origin, Reach, Step, IsRemovable, End, point_at, place_before, place_after, stay, step, IsStacked, stacked_point, points_left}
 use Rattle.i_shape_core.proofs.removal.Places.{before_first, before_later, after_earlier, after_last}
 use Rattle.i_shape_core.proofs.removal.Ends.{reach_trans}
 use Rattle.i_shape_core.proofs.walks.RisingPlaces.{rising_all, rising_front, rising_rest, rising_push}
-use Rattle.i_shape_core.specs.Walks.{IsStacked, stacked_point, points_left}
 
 -- the test at place k of a contour, between its neighbours on the cycle
 abbrev HoldsAround : (Point → Point → Point → Type 0) → List Point → ℕ → Type 0

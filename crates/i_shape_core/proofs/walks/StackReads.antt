@@ -1,11 +1,7 @@
 -- The steps of the walk, as the code tells them: from reads of the stack and answers of tests.
 use Rattle.std.proofs.Common.{◌≡◌, ◌↔◌, Bool, true, false, IsTrue, ℕ, ◌+◌, ◌-◌, ◌<◌, ◌≤◌, ℤ, List, [], ◌∷◌, ◌++◌, map, take, drop, length, get_or, refl, ap, subst, sym, ◌∙◌, arith}
 use Rattle.std.proofs.lemmas.List.{get_or_read}
-use Rattle.i_shape_core.specs.Point.{IsZeroTurn}
-use Rattle.i_shape_core.specs.IntPoint.{contour_of}
-use Rattle.i_shape_core.specs.Contour.{point_at, End}
-use Rattle.i_shape_core.specs.Walks.{IsStacked, IsSettled, stacked_point}
-use Rattle.i_shape_core.specs.declared.point.IntPoint.{IntPoint}
+use Rattle.i_shape_core.proofs.Common.{IsZeroTurn, contour_of, point_at, End, IsStacked, IsSettled, stacked_point, IntPoint}
 use Rattle.i_shape_core.proofs.plane.Contours.{length-contour}
 use Rattle.i_shape_core.proofs.walks.Stack.{pop-stacked, push-stacked, drop-first, drop-last, stacked-end}
 

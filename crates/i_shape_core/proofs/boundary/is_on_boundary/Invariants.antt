@@ -1,6 +1,5 @@
 use Rattle.std.proofs.Common.{◌≡◌, ◌<◌, length}
-use Rattle.i_shape_core.specs.IntPoint.{point_of, contour_of, IsSafe}
-use Rattle.i_shape_core.specs.Contour.{point_at, place_before}
+use Rattle.i_shape_core.proofs.Common.{point_of, contour_of, IsSafe, point_at, place_before}
 use Rattle.i_shape_core.proofs.measure.BoundaryWalk.{NoneEndsOn}
 use Rattle.i_shape_core.proofs.boundary.is_on_boundary.Given as goal
 

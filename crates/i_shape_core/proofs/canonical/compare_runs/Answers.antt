@@ -1,6 +1,5 @@
 use Rattle.std.proofs.Common.{◌≡◌, ◌+◌, ◌∙◌, arith, below_more}
-use Rattle.i_shape_core.specs.IntPoint.{contour_of}
-use Rattle.i_shape_core.specs.Contour.{point_at}
+use Rattle.i_shape_core.proofs.Common.{contour_of, point_at}
 use Rattle.i_shape_core.proofs.canonical.compare_runs.Goals as goal
 
 pub loop-step-preserved : goal.loop-step-preserved

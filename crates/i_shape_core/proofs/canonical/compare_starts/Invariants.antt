@@ -1,6 +1,5 @@
 use Rattle.std.proofs.Common.{◌≡◌, ◌≤◌, ◌+◌, ◌-◌}
-use Rattle.i_shape_core.specs.IntPoint.{contour_of}
-use Rattle.i_shape_core.specs.Walks.{Agree}
+use Rattle.i_shape_core.proofs.Common.{contour_of, Agree}
 use Rattle.i_shape_core.proofs.canonical.compare_starts.Given as goal
 
 abbrev pub invariant-loop-matched : goal.invariant-loop-matched

@@ -1,6 +1,5 @@
 use Rattle.std.proofs.Common.{◌∙◌, arith}
-use Rattle.i_shape_core.specs.IntPoint.{contour_of}
-use Rattle.i_shape_core.specs.Contour.{point_at}
+use Rattle.i_shape_core.proofs.Common.{contour_of, point_at}
 use Rattle.i_shape_core.proofs.least_rotation.Search.{after-more}
 use Rattle.i_shape_core.proofs.canonical.next_rival.Goals as goal
 

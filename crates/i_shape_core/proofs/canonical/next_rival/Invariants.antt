@@ -1,7 +1,5 @@
 use Rattle.std.proofs.Common.{◌≡◌, ◌+◌}
-use Rattle.i_shape_core.specs.IntPoint.{contour_of}
-use Rattle.i_shape_core.specs.Contour.{point_at}
-use Rattle.i_shape_core.specs.Walks.{AreAfter}
+use Rattle.i_shape_core.proofs.Common.{contour_of, point_at, AreAfter}
 use Rattle.i_shape_core.proofs.canonical.next_rival.Given as goal
 
 abbrev pub invariant-loop-place : goal.invariant-loop-place

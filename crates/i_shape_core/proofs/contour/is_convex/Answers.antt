@@ -1,7 +1,6 @@
 use Rattle.std.proofs.Common.{◌≡◌, ◌≢◌, ◌↔◌, ◌∙◌, sym, ap, inl, inr, IsTrue, false, rules, arith}
 use Rattle.i_shape_core.specs.declared.bend.Bend.TheVariants.{Straight, Reversal}
-use Rattle.i_shape_core.specs.IntPoint.{point_of}
-use Rattle.i_shape_core.specs.Convex.{is_same}
+use Rattle.i_shape_core.proofs.Common.{point_of, is_same}
 use Rattle.i_shape_core.proofs.plane.PointLists.{points-length, item_read, last_read}
 use Rattle.i_shape_core.proofs.arithmetic.Coordinates.{safe_points-apart, safe_vector-above}
 use Rattle.i_shape_core.proofs.plane.SafeParts.{item_safe}

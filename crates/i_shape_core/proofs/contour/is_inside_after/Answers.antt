@@ -1,6 +1,5 @@
 use Rattle.std.proofs.Common.{◌≡◌, ◌∙◌, ap, sym, not, cond, Bool, arith}
-use Rattle.i_shape_core.specs.IntPoint.{point_of}
-use Rattle.i_shape_core.specs.Edges.{is_right}
+use Rattle.i_shape_core.proofs.Common.{point_of, is_right}
 use Rattle.i_shape_core.proofs.plane.Contours.{rest-none}
 use Rattle.i_shape_core.proofs.plane.PointLists.{points-length, item_read}
 use Rattle.i_shape_core.proofs.plane.SafeParts.{item_safe}

@@ -1,6 +1,5 @@
 use Rattle.std.proofs.Common.{◌≡◌, ◌∙◌, ◌-◌, ◌+◌, ◌<◌, ◌≤◌, length, List, ℕ, inl, inr, refl, arith}
-use Rattle.i_shape_core.specs.Point.{Point}
-use Rattle.i_shape_core.specs.IntPoint.{contour_of}
+use Rattle.i_shape_core.proofs.Common.{Point, contour_of}
 use Rattle.i_shape_core.proofs.plane.Contours.{refuted_by_test, length-contour}
 use Rattle.i_shape_core.proofs.removal.Places.{Follows}
 use Rattle.i_shape_core.proofs.lists.FirstPlaces.{removable_between, none_on}

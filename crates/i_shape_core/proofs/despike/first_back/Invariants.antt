@@ -1,7 +1,5 @@
 use Rattle.std.proofs.Common.{◌≡◌, ◌<◌, ℕ}
-use Rattle.i_shape_core.specs.IntPoint.{contour_of}
-use Rattle.i_shape_core.specs.Point.{IsBack}
-use Rattle.i_shape_core.specs.Contour.{IsRemovable}
+use Rattle.i_shape_core.proofs.Common.{contour_of, IsBack, IsRemovable}
 use Rattle.i_shape_core.proofs.despike.first_back.Given as goal
 
 abbrev pub invariant-loop-place : goal.invariant-loop-place

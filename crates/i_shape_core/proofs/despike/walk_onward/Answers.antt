@@ -1,6 +1,5 @@
 use Rattle.std.proofs.Common.{◌≡◌, ◌∙◌, pos, refl, sym, ap, arith}
-use Rattle.i_shape_core.specs.Point.{vector, cross_of, dot_of}
-use Rattle.i_shape_core.specs.IntPoint.{point_of, contour_of}
+use Rattle.i_shape_core.proofs.Common.{vector, cross_of, dot_of, point_of, contour_of}
 use Rattle.i_shape_core.proofs.plane.Contours.{rest-read, rest-none, refuted_by_test}
 use Rattle.i_shape_core.proofs.plane.PointLists.{points-length, item_read}
 use Rattle.i_shape_core.proofs.plane.SafeParts.{item_safe}

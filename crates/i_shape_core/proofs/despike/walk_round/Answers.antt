@@ -1,9 +1,6 @@
 use Rattle.std.proofs.Common.{◌≡◌, ◌∙◌, ◌<◌, ℕ, List, map, length, refl, sym, ap, subst, arith, All}
 use Rattle.std.proofs.lemmas.List.{length-map, length-append, length-drop, length-take}
-use Rattle.i_shape_core.specs.IntPoint.{contour_of}
-use Rattle.i_shape_core.specs.Point.{Point, IsBack}
-use Rattle.i_shape_core.specs.Contour.{point_at}
-use Rattle.i_shape_core.specs.Walks.{Falls, IsRingState, from_contour_first}
+use Rattle.i_shape_core.proofs.Common.{contour_of, Point, IsBack, point_at, Falls, IsRingState, from_contour_first}
 use Rattle.i_shape_core.proofs.plane.Contours.{refuted_by_test, length-contour}
 use Rattle.i_shape_core.proofs.walks.RingStates.{state_keeps, state_removes, state_collapses, state_ends}
 use Rattle.i_shape_core.proofs.despike.walk_round.Goals as goal

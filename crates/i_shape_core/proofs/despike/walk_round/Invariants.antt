@@ -1,7 +1,5 @@
 use Rattle.std.proofs.Common.{◌≡◌, ◌+◌, ◌*◌, length}
-use Rattle.i_shape_core.specs.IntPoint.{contour_of}
-use Rattle.i_shape_core.specs.Point.{IsBack}
-use Rattle.i_shape_core.specs.Walks.{IsRingState}
+use Rattle.i_shape_core.proofs.Common.{contour_of, IsBack, IsRingState}
 use Rattle.i_shape_core.proofs.despike.walk_round.Given as goal
 
 abbrev pub invariant-loop-probe : goal.invariant-loop-probe

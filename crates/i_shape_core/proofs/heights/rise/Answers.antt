@@ -1,9 +1,5 @@
 use Rattle.std.proofs.Common.{rules, ◌≡◌, ◌∙◌, arith, sym, refl, ap, true, false, pos, FitsSigned, w64, get_or}
-use Rattle.i_shape_core.specs.IntPoint.{point_of}
-use Rattle.i_shape_core.specs.Point.{Point}
-use Rattle.i_shape_core.specs.Edges.{is_above}
-use Rattle.i_shape_core.specs.Contour.{point_at}
-use Rattle.i_shape_core.specs.Winding.{winding_of_edge}
+use Rattle.i_shape_core.proofs.Common.{point_of, Point, is_above, point_at, winding_of_edge}
 use Rattle.i_shape_core.specs.Heights.{asked_points}
 use Rattle.i_shape_core.proofs.arithmetic.Comparisons.{gt-tells}
 use Rattle.i_shape_core.proofs.plane.CrossProducts.{edge}

@@ -1,9 +1,6 @@
 use Rattle.std.proofs.Common.{length, ◌-◌, ◌≡◌, ℕ, ◌<◌, ◌≤◌, ◌+ℤ◌, pos, true, get_or, w64}
 use Rattle.std.specs.Int.{int_wrap}
-use Rattle.i_shape_core.specs.IntPoint.{point_of}
-use Rattle.i_shape_core.specs.Contour.{point_at}
-use Rattle.i_shape_core.specs.Edges.{is_above}
-use Rattle.i_shape_core.specs.Winding.{winding_of_edge}
+use Rattle.i_shape_core.proofs.Common.{point_of, point_at, is_above, winding_of_edge}
 use Rattle.i_shape_core.specs.Heights.{asked_points, AllFit}
 use Rattle.i_shape_core.proofs.heights.rise.Given as goal
 

@@ -1,6 +1,5 @@
 use Rattle.std.proofs.Common.{◌∙◌, not, sym, ap, option_map, Some}
-use Rattle.i_shape_core.specs.IntPoint.{point_of}
-use Rattle.i_shape_core.specs.Convex.{is_same}
+use Rattle.i_shape_core.proofs.Common.{point_of, is_same}
 use Rattle.i_shape_core.proofs.plane.PointLists.{points-found}
 use Rattle.i_shape_core.proofs.same.last_other.Goals as goal
 

@@ -1,7 +1,5 @@
 use Rattle.std.proofs.Common.{◌<◌, ◌≤◌, ◌+◌, ◌-◌, ◌↔◌, ℕ, List, length, false, IsTrue, inl, inr, refl, arith}
-use Rattle.i_shape_core.specs.Point.{Point}
-use Rattle.i_shape_core.specs.Contour.{IsRemovable, Test, point_at}
-use Rattle.i_shape_core.specs.IntPoint.{contour_of}
+use Rattle.i_shape_core.proofs.Common.{Point, IsRemovable, Test, point_at, contour_of}
 use Rattle.i_shape_core.proofs.plane.Contours.{length-contour}
 use Rattle.i_shape_core.proofs.plane.PointLists.{points-length, read-length}
 use Rattle.i_shape_core.proofs.removal.Places.{Follows}

@@ -1,6 +1,5 @@
 use Rattle.std.proofs.Common.{ℕ, ◌+◌, ◌<◌}
-use Rattle.i_shape_core.specs.Contour.{point_at}
-use Rattle.i_shape_core.specs.IntPoint.{contour_of}
+use Rattle.i_shape_core.proofs.Common.{point_at, contour_of}
 use Rattle.i_shape_core.proofs.scan.has_none.Given as goal
 
 -- none so far is removed

@@ -1,8 +1,6 @@
 use Rattle.std.proofs.Common.{◌≡◌, arith, refl, subst, ◌∙◌, ℕ}
 use Rattle.std.specs.List.{range_with_len}
-use Rattle.i_shape_core.specs.IntPoint.{contour_of}
-use Rattle.i_shape_core.specs.Point.{IsZeroTurn}
-use Rattle.i_shape_core.specs.Walks.{IsStacked}
+use Rattle.i_shape_core.proofs.Common.{contour_of, IsZeroTurn, IsStacked}
 use Rattle.i_shape_core.proofs.plane.Contours.{length-contour}
 use Rattle.i_shape_core.proofs.walks.StackReads.{fails_by_test}
 use Rattle.i_shape_core.proofs.walks.Prefixes.{prefix_starts, prefix_more}

@@ -1,8 +1,6 @@
 use Rattle.std.proofs.Common.{◌≡◌, ◌+◌}
 use Rattle.std.specs.List.{range_with_len}
-use Rattle.i_shape_core.specs.IntPoint.{contour_of}
-use Rattle.i_shape_core.specs.Point.{IsZeroTurn}
-use Rattle.i_shape_core.specs.Walks.{IsStacked}
+use Rattle.i_shape_core.proofs.Common.{contour_of, IsZeroTurn, IsStacked}
 use Rattle.i_shape_core.proofs.simplifier.clean_prefix.Given as goal
 
 abbrev pub invariant-loop-place : goal.invariant-loop-place

@@ -1,9 +1,6 @@
 use Rattle.std.proofs.Common.{◌≡◌, ◌-◌, ℕ, List, length, arith, refl, ap, ◌∙◌}
 use Rattle.std.proofs.lemmas.List.{length-take, length-drop, length-map, length-append}
-use Rattle.i_shape_core.specs.Walks.{points_left}
-use Rattle.i_shape_core.specs.IntPoint.{contour_of}
-use Rattle.i_shape_core.specs.Contour.{point_at}
-use Rattle.i_shape_core.specs.Point.{Point}
+use Rattle.i_shape_core.proofs.Common.{points_left, contour_of, point_at, Point}
 use Rattle.i_shape_core.proofs.plane.Contours.{length-contour}
 use Rattle.i_shape_core.proofs.walks.StackReads.{place-within, first-read, last-read, end-read}
 use Rattle.i_shape_core.proofs.simplifier.close.Goals as goal

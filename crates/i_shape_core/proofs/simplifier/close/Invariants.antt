@@ -1,7 +1,5 @@
 use Rattle.std.proofs.Common.{◌≡◌, ◌+◌, ◌*◌, ◌≤◌, length}
-use Rattle.i_shape_core.specs.IntPoint.{contour_of}
-use Rattle.i_shape_core.specs.Point.{IsZeroTurn}
-use Rattle.i_shape_core.specs.Walks.{IsStacked}
+use Rattle.i_shape_core.proofs.Common.{contour_of, IsZeroTurn, IsStacked}
 use Rattle.i_shape_core.proofs.simplifier.close.Given as goal
 
 abbrev pub invariant-loop-left : goal.invariant-loop-left

@@ -1,7 +1,5 @@
 use Rattle.std.proofs.Common.{◌≡◌, ◌+◌, vec_len, vec_capacity}
-use Rattle.i_shape_core.specs.IntPoint.{contour_of}
-use Rattle.i_shape_core.specs.Point.{IsZeroTurn}
-use Rattle.i_shape_core.specs.Walks.{IsWalked}
+use Rattle.i_shape_core.proofs.Common.{contour_of, IsZeroTurn, IsWalked}
 use Rattle.i_shape_core.proofs.simplifier.pop_zero_turns.Given as goal
 
 abbrev pub invariant-loop-stack : goal.invariant-loop-stack

@@ -1,7 +1,5 @@
 use Rattle.std.proofs.Common.{◌≡◌, ℕ, length, arith, refl, ap, subst, ◌∙◌}
-use Rattle.i_shape_core.specs.IntPoint.{contour_of}
-use Rattle.i_shape_core.specs.Point.{IsZeroTurn}
-use Rattle.i_shape_core.specs.Walks.{IsWalked}
+use Rattle.i_shape_core.proofs.Common.{contour_of, IsZeroTurn, IsWalked}
 use Rattle.i_shape_core.proofs.plane.Contours.{length-contour}
 use Rattle.i_shape_core.proofs.walks.StackReads.{push-read}
 use Rattle.i_shape_core.proofs.simplifier.stack_places.Goals as goal

@@ -1,7 +1,5 @@
 use Rattle.std.proofs.Common.{◌≡◌, ◌≤◌, length, vec_capacity}
-use Rattle.i_shape_core.specs.IntPoint.{contour_of}
-use Rattle.i_shape_core.specs.Point.{IsZeroTurn}
-use Rattle.i_shape_core.specs.Walks.{IsWalked}
+use Rattle.i_shape_core.proofs.Common.{contour_of, IsZeroTurn, IsWalked}
 use Rattle.i_shape_core.proofs.simplifier.stack_places.Given as goal
 
 abbrev pub invariant-loop-place : goal.invariant-loop-place

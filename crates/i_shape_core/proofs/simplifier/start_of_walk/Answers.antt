@@ -1,8 +1,6 @@
 use Rattle.std.proofs.Common.{◌≡◌, ◌≤◌, ◌<◌, ◌-◌, ℕ, List, length, inl, inr, ap, subst, refl, arith, ◌∙◌}
 use Rattle.std.specs.List.{range_with_len}
-use Rattle.i_shape_core.specs.IntPoint.{contour_of}
-use Rattle.i_shape_core.specs.Point.{Point, IsZeroTurn}
-use Rattle.i_shape_core.specs.Walks.{IsStacked}
+use Rattle.i_shape_core.proofs.Common.{contour_of, Point, IsZeroTurn, IsStacked}
 use Rattle.i_shape_core.proofs.plane.Contours.{length-contour}
 use Rattle.i_shape_core.proofs.lists.FirstPlaces.{removable_between}
 use Rattle.i_shape_core.proofs.walks.StackReads.{holds_by_test, fails_by_test}

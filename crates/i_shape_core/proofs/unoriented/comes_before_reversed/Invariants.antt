@@ -1,6 +1,5 @@
 use Rattle.std.proofs.Common.{◌≡◌, reverse}
-use Rattle.i_shape_core.specs.IntPoint.{contour_of}
-use Rattle.i_shape_core.specs.Canonical.{started_at}
+use Rattle.i_shape_core.proofs.Common.{contour_of, started_at}
 use Rattle.i_shape_core.proofs.forms.LesserWay.{AgreeUpTo}
 use Rattle.i_shape_core.proofs.unoriented.comes_before_reversed.Given as goal
 

@@ -1,8 +1,6 @@
 use Rattle.std.proofs.Common.{◌≡◌, ◌∙◌, List, reverse, refl, ap, sym, subst}
 use Rattle.std.proofs.lemmas.List.{reverse-reverse}
-use Rattle.i_shape_core.specs.Point.{Point}
-use Rattle.i_shape_core.specs.IntPoint.{contour_of}
-use Rattle.i_shape_core.specs.Canonical.{IsAtMost, IsLeast, started_at}
+use Rattle.i_shape_core.proofs.Common.{Point, contour_of, IsAtMost, IsLeast, started_at}
 use Rattle.i_shape_core.proofs.plane.PointLists.{points-rotated, points-reversed}
 use Rattle.i_shape_core.proofs.least_rotation.Readings.{contour-rotated}
 use Rattle.i_shape_core.proofs.forms.Backwards.{contour_reversed}

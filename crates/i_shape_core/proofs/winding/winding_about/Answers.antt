@@ -1,8 +1,7 @@
 use Rattle.std.proofs.Common.{◌≡◌, ◌+ℤ◌, ◌^◌, ◌<◌, FitsSigned, length, w64, to_z, of_z, sym, subst₂, arith, rules}
 use Rattle.std.proofs.lemmas.Int.{to_z-of_z}
 use Rattle.std.proofs.Math.IntN.{+ℤ_idl}
-use Rattle.i_shape_core.specs.IntPoint.{point_of, contour_of}
-use Rattle.i_shape_core.specs.Winding.{level, IsWithinHalf}
+use Rattle.i_shape_core.proofs.Common.{point_of, contour_of, level, IsWithinHalf}
 use Rattle.i_shape_core.proofs.plane.PointLists.{points-length, item_read, last_read, read-length}
 use Rattle.i_shape_core.proofs.plane.SafeParts.{item_safe}
 use Rattle.i_shape_core.proofs.measure.WindingWalk.{winding_half, near_first, near_step, no_points, walk_edge, walk_over, total_fits, total_added}

@@ -1,7 +1,5 @@
 use Rattle.std.proofs.Common.{◌≡◌, ◌+ℤ◌, drop}
-use Rattle.i_shape_core.specs.IntPoint.{point_of, contour_of, IsSafe}
-use Rattle.i_shape_core.specs.Edges.{sum_of}
-use Rattle.i_shape_core.specs.Winding.{level, winding_of_edge}
+use Rattle.i_shape_core.proofs.Common.{point_of, contour_of, IsSafe, sum_of, level, winding_of_edge}
 use Rattle.i_shape_core.specs.Blocks.{path_over}
 use Rattle.i_shape_core.proofs.measure.WindingWalk.{IsNear}
 use Rattle.i_shape_core.proofs.winding.winding_about.Given as goal

@@ -1,6 +1,5 @@
 use Rattle.std.proofs.Common.{◌≡◌, map, take, drop}
-use Rattle.i_shape_core.specs.IntPoint.{contour_of}
-use Rattle.i_shape_core.specs.Winding.{winding}
+use Rattle.i_shape_core.proofs.Common.{contour_of, winding}
 use Rattle.i_shape_core.proofs.winding.windings_about.Given as goal
 
 abbrev pub invariant-loop-place : goal.invariant-loop-place

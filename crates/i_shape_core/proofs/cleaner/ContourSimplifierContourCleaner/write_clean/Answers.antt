@@ -1,6 +1,5 @@
 use Rattle.std.proofs.Common.{Some, arith}
-use Rattle.i_shape_core.specs.IntPoint.{contour_of}
-use Rattle.i_shape_core.specs.Cleaners.{SimpleAnswer, KeptAnswer}
+use Rattle.i_shape_core.proofs.Common.{contour_of, SimpleAnswer, KeptAnswer}
 use Rattle.i_shape_core.proofs.plane.PointLists.{read-length}
 use Rattle.i_shape_core.proofs.walks.Found.{simple_stays}
 use Rattle.i_shape_core.proofs.answers.Kept.{simple_kept}

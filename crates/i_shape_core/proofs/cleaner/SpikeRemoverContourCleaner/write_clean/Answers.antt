@@ -1,6 +1,5 @@
 use Rattle.std.proofs.Common.{arith}
-use Rattle.i_shape_core.specs.IntPoint.{contour_of}
-use Rattle.i_shape_core.specs.Cleaners.{DespikeAnswer, KeptAnswer}
+use Rattle.i_shape_core.proofs.Common.{contour_of, DespikeAnswer, KeptAnswer}
 use Rattle.i_shape_core.proofs.plane.PointLists.{read-length}
 use Rattle.i_shape_core.proofs.answers.Kept.{keeps_itself, spikeless_long, spikeless_stays}
 use Rattle.i_shape_core.proofs.answers.Written.{whole_written}

@@ -1,14 +1,10 @@
 use Rattle.std.proofs.Common.{◌≡◌, ◌∙◌, None, Some, option_map, arith, IfOk}
 use Rattle.std.proofs.lemmas.Result.{IfOk-weaker}
-use Rattle.i_shape_core.specs.Point.{IsBack}
-use Rattle.i_shape_core.specs.IntPoint.{contour_of, answered}
-use Rattle.i_shape_core.specs.Cleaners.{SpikelessAnswer}
-use Rattle.i_shape_core.specs.declared.point.IntPoint.{IntPoint}
+use Rattle.i_shape_core.proofs.Common.{IsBack, contour_of, answered, SpikelessAnswer, IntPoint, WalkAnswer}
 use Rattle.std.specs.Global.{Vec}
 use Rattle.i_shape_core.proofs.plane.Contours.{length-contour}
 use Rattle.i_shape_core.proofs.walks.Found.{spikeless_answer, kept_spikeless, short_answer, visits_answer, walk_kept}
 use Rattle.i_shape_core.proofs.answers.Written.{walked, unless_memory}
-use Rattle.i_shape_core.specs.Walks.{WalkAnswer}
 use Rattle.i_shape_core.proofs.lists.FirstPlaces.{none_found, first_collapses}
 use Rattle.i_shape_core.proofs.walks.RingStates.{StartsAt, starting_size, starting_removes}
 use Rattle.i_shape_core.proofs.walks.RisingPlaces.{rising_below}

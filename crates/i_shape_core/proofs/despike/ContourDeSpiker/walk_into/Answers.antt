@@ -1,10 +1,6 @@
 use Rattle.std.proofs.Common.{◌≡◌, ◌∙◌, length, map, sym, arith}
 use Rattle.std.proofs.lemmas.List.{length-map}
-use Rattle.i_shape_core.specs.Point.{IsBack}
-use Rattle.i_shape_core.specs.Contour.{point_at}
-use Rattle.i_shape_core.specs.IntPoint.{contour_of}
-use Rattle.i_shape_core.specs.Cleaners.{SpikelessAnswer}
-use Rattle.i_shape_core.specs.Walks.{Finds}
+use Rattle.i_shape_core.proofs.Common.{IsBack, point_at, contour_of, SpikelessAnswer, Finds}
 use Rattle.i_shape_core.proofs.plane.Contours.{kept-contour}
 use Rattle.i_shape_core.proofs.plane.PointLists.{points-length, points-at-places, read-length}
 use Rattle.i_shape_core.proofs.removal.Ends.{reach_shrinks}

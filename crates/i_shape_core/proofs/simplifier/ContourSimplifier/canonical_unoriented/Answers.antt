@@ -1,6 +1,5 @@
 use Rattle.std.proofs.Common.{Some, arith}
-use Rattle.i_shape_core.specs.IntPoint.{contour_of, IsSafe}
-use Rattle.i_shape_core.specs.Canonical.{IsCanonical}
+use Rattle.i_shape_core.proofs.Common.{contour_of, IsSafe, IsCanonical}
 use Rattle.i_shape_core.proofs.plane.Contours.{length-contour}
 use Rattle.i_shape_core.proofs.removal.Rotations.{rotation_length}
 use Rattle.i_shape_core.proofs.least_rotation.Readings.{lesser-written}

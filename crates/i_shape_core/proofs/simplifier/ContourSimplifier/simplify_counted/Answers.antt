@@ -2,12 +2,8 @@ use Rattle.std.proofs.Common.{◌≡◌, ◌∙◌, ℕ, ℤ, List, Option, None
 use Rattle.std.specs.Global.{Vec}
 use Rattle.std.specs.Int.{Width}
 use Rattle.std.proofs.lemmas.Result.{IfOk-weaker}
-use Rattle.i_shape_core.specs.Point.{Point, IsZeroTurn}
-use Rattle.i_shape_core.specs.IntPoint.{contour_of, IsSafe}
-use Rattle.i_shape_core.specs.Cleaners.{SimpleAnswer}
+use Rattle.i_shape_core.proofs.Common.{Point, IsZeroTurn, contour_of, IsSafe, SimpleAnswer, WalkAnswer, IntPoint}
 use Rattle.i_shape_core.specs.Written.{CleansInOrder}
-use Rattle.i_shape_core.specs.Walks.{WalkAnswer}
-use Rattle.i_shape_core.specs.declared.point.IntPoint.{IntPoint}
 use Rattle.i_shape_core.proofs.plane.Contours.{length-contour}
 use Rattle.i_shape_core.proofs.walks.Found.{simple_answer, kept_answer, visits_answer, short_answer, walk_kept}
 use Rattle.i_shape_core.proofs.walks.RisingPlaces.{each_rising_below}

@@ -1,7 +1,6 @@
 use Rattle.std.proofs.Common.{◌<◌, ◌≡◌, false, true, rules, refl, Some, length, arith}
 use Rattle.std.proofs.lemmas.Result.{err_from_is_err_and}
-use Rattle.i_shape_core.specs.IntPoint.{contour_of}
-use Rattle.i_shape_core.specs.Cleaners.{SimpleAnswer, KeptAnswer}
+use Rattle.i_shape_core.proofs.Common.{contour_of, SimpleAnswer, KeptAnswer}
 use Rattle.i_shape_core.proofs.plane.PointLists.{read-length}
 use Rattle.i_shape_core.proofs.walks.Found.{simple_stays}
 use Rattle.i_shape_core.proofs.walks.StackReads.{fails_by_test}

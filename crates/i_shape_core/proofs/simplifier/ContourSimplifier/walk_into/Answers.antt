@@ -1,10 +1,6 @@
 use Rattle.std.proofs.Common.{◌≡◌, ◌∙◌, [], map, length, ap, sym, refl, arith}
 use Rattle.std.proofs.lemmas.List.{length-map}
-use Rattle.i_shape_core.specs.Point.{IsZeroTurn}
-use Rattle.i_shape_core.specs.Contour.{point_at}
-use Rattle.i_shape_core.specs.IntPoint.{contour_of}
-use Rattle.i_shape_core.specs.Cleaners.{SimpleAnswer}
-use Rattle.i_shape_core.specs.Walks.{Finds}
+use Rattle.i_shape_core.proofs.Common.{IsZeroTurn, point_at, contour_of, SimpleAnswer, Finds}
 use Rattle.i_shape_core.proofs.plane.Contours.{kept-contour}
 use Rattle.i_shape_core.proofs.plane.PointLists.{points-length, points-at-places, read-length}
 use Rattle.i_shape_core.proofs.removal.Ends.{reach_shrinks}

@@ -1,6 +1,5 @@
 use Rattle.std.proofs.Common.{refl, lit≤, arith, w32, w64}
-use Rattle.i_shape_core.specs.IntPoint.{point_of}
-use Rattle.i_shape_core.specs.Point.{origin}
+use Rattle.i_shape_core.proofs.Common.{point_of, origin}
 use Rattle.i_shape_core.proofs.arithmetic.Lanes.{four_told}
 use Rattle.i_shape_core.proofs.zero_turns.lanes.I32ZeroTurns.has_zero_turn.Goals as goal
 
