@@ -128,20 +128,11 @@ changed_start c = omega arith
 
 -- a repeated point is no change
 pub changed_skip : (c : List Point) (n : ℕ) (p q : Point) (rest : List Point) → is_same p q ≡ true → Changed c n p (q ∷ rest) → Changed c n p rest
-changed_skip c n p q rest e w = ap (λ (xs : List Point). n + length xs) (sym skipped) ∙ w
-  where
-    skipped : changes_after p (q ∷ rest) ≡ changes_after p rest
-    skipped = ap (λ (t : Bool). cond t (changes_after q rest) (q ∷ changes_after q rest)) e ∙ ap (λ (x : Point). changes_after x rest) (sym (same_yes p q e))
+changed_skip c n p q rest e w = subst (λ (x : Point). n + length (changes_after x rest) ≡ length (dedup c)) (sym (same_yes p q e)) (rw e at w)
 
 -- another point is a change more
 pub changed_on : (c : List Point) (n : ℕ) (p q : Point) (rest : List Point) → is_same p q ≡ false → Changed c n p (q ∷ rest) → Changed c (n + 1) q rest
-changed_on c n p q rest e w = one_more n (length (changes_after q rest)) (length (dedup c)) (ap (λ (xs : List Point). n + length xs) (sym kept) ∙ w)
-  where
-    kept : changes_after p (q ∷ rest) ≡ q ∷ changes_after q rest
-    kept = ap (λ (t : Bool). cond t (changes_after q rest) (q ∷ changes_after q rest)) e
-
-    one_more : (n m k : ℕ) → n + suc m ≡ k → n + 1 + m ≡ k
-    one_more n m k e = omega arith
+changed_on c n p q rest e w = let kept : n + suc (length (changes_after q rest)) ≡ length (dedup c) = rw e at w in omega arith
 
 -- after the last point the changes are as many as the points without repeats
 pub changed_end : (c : List Point) (n : ℕ) (p : Point) → Changed c n p [] → n ≡ length (dedup c)
@@ -173,22 +164,11 @@ changes-append q (x ∷ u) t = go (changes-append x u t) (is_same q x)
 -- there is no change over copies of the same point
 pub none_change : (p : Point) (xs : List Point) → AllSame p xs → changes_after p xs ≡ []
 none_change p [] a = refl
-none_change p (x ∷ xs) a = go (is_same p x) (subst (λ (y : Point). is_same p y ≡ true) (sym a.0) (same_self p)) (subst (λ (y : Point). changes_after y xs ≡ []) (sym a.0) (none_change p xs a.1))
-  where
-    go : (b : Bool) → b ≡ true → changes_after x xs ≡ [] → cond b (changes_after x xs) (x ∷ changes_after x xs) ≡ []
-    go true e f = f
-    go false e f = absurd (cc)
+none_change p (x ∷ xs) a = rw (a.0, same_self p) (none_change p xs a.1)
 
 one_change : (o p : Point) (xs : List Point) → 1 ≤ length xs → o ≢ p → AllSame p xs → changes_after o xs ≡ p ∷ []
 one_change o p [] h n a = absurd (omega arith)
-one_change o p (x ∷ xs) h n a = go (is_same o x) (apart_no o x (λ e. n (e ∙ a.0)))
-  where
-    rest : changes_after x xs ≡ []
-    rest = subst (λ (y : Point). changes_after y xs ≡ []) (sym a.0) (none_change p xs a.1)
-
-    go : (b : Bool) → b ≡ false → cond b (changes_after x xs) (x ∷ changes_after x xs) ≡ p ∷ []
-    go true e = absurd (cc)
-    go false e = ap (λ (ys : List Point). x ∷ ys) rest ∙ ap (λ (y : Point). y ∷ []) a.0
+one_change o p (x ∷ xs) h n a = rw (a.0, apart_no o p n, none_change p xs a.1) refl
 
 two_last : (q x : Point) (ys : List Point) → last_of q ys ≢ q → (2 ≤ length (ys ++ x ∷ [])) × (last_of q ys ≡ point_at (ys ++ x ∷ []) (length (ys ++ x ∷ []) - 2))
 two_last q x [] n = absurd (n refl)

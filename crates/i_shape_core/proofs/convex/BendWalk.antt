@@ -1,5 +1,5 @@
 -- The walk that tells how a contour bends.
-use Rattle.std.proofs.Common.{◌≡◌, ◌≢◌, ℕ, ◌+◌, ◌-◌, ◌<◌, ◌≤◌, ◌<ℤ◌, ◌≤ℤ◌, List, [], ◌∷◌, length, drop, get_or, Some, None, ℤ, pos, refl, sym, ap, subst, ◌∙◌, arith, ◌⊎◌, inl, inr, ◌↔◌, Bool, true, false, IsTrue, T, leb, leb→le, le→leb}
+use Rattle.std.proofs.Common.{◌≡◌, ◌≢◌, ℕ, ◌+◌, ◌-◌, ◌<◌, ◌≤◌, ◌<ℤ◌, ◌≤ℤ◌, List, [], ◌∷◌, length, drop, get_or, Some, None, ℤ, pos, refl, sym, ap, subst, ◌∙◌, arith, ◌⊎◌, inl, inr, ◌↔◌, Bool, true, false, IsTrue, T, leb, leb→le, le→leb, cond, int_lt}
 use Rattle.std.proofs.lemmas.Int.{ints}
 use Rattle.i_shape_core.specs.Point.{Point, origin, vector, cross, dot, cross_of, dot_of}
 use Rattle.i_shape_core.proofs.Common.{Test, point_at, point_of, contour_of, IntPoint, IsBend, bend_of_both}
@@ -16,23 +16,19 @@ use Rattle.i_shape_core.proofs.removal.Dedup.{same_yes}
 use Rattle.i_shape_core.proofs.walks.Spikes.{first_behind, Told, told-start, told-on, told-skip, told-met, last_but_one_differs, found_differing, holds_at_start, few_differ}
 
 -- ---- the kinds of bend
-is-left : (o p q : Point) (b : Bend) → IsBend o p q b → (b ≡ Left) ↔ IsLeft o p q
-is-left o p q Straight h = (λ e. absurd (cc), λ l. let z = h.0 in absurd (omega (arith, ints)))
-is-left o p q Left h = (λ e. h, λ l. refl)
-is-left o p q Right h = (λ e. absurd (cc), λ l. absurd (omega (arith, ints)))
-is-left o p q Reversal h = (λ e. absurd (cc), λ l. let z = h.0 in absurd (omega (arith, ints)))
+-- the kind by the two products
+abbrev kind_by : ℤ → ℤ → Bend
+kind_by c d = cond (int_lt (pos 0) c) Left (cond (int_lt c (pos 0)) Right (cond (int_lt d (pos 0)) Reversal Straight))
 
-is-right : (o p q : Point) (b : Bend) → IsBend o p q b → (b ≡ Right) ↔ IsRight o p q
-is-right o p q Straight h = (λ e. absurd (cc), λ l. let z = h.0 in absurd (omega (arith, ints)))
-is-right o p q Left h = (λ e. absurd (cc), λ l. absurd (omega (arith, ints)))
-is-right o p q Right h = (λ e. h, λ l. refl)
-is-right o p q Reversal h = (λ e. absurd (cc), λ l. let z = h.0 in absurd (omega (arith, ints)))
+by_kind : (o p q : Point) (b : Bend) → IsBend o p q b → kind_by (cross o p q) (dot o p q) ≡ b
+by_kind o p q Straight h = grind (arith, ints)
+by_kind o p q Left h = grind (arith, ints)
+by_kind o p q Right h = grind (arith, ints)
+by_kind o p q Reversal h = grind (arith, ints)
 
-is-reversed : (o p q : Point) (b : Bend) → IsBend o p q b → (b ≡ Reversal) ↔ IsReversed o p q
-is-reversed o p q Straight h = (λ e. absurd (cc), λ l. let z = h.1 in let k = l.1 in absurd (omega (arith, ints)))
-is-reversed o p q Left h = (λ e. absurd (cc), λ l. let z = l.0 in absurd (omega (arith, ints)))
-is-reversed o p q Right h = (λ e. absurd (cc), λ l. let z = l.0 in absurd (omega (arith, ints)))
-is-reversed o p q Reversal h = (λ e. h, λ l. refl)
+-- a way bends in one kind
+is-kind : (o p q : Point) (b kind : Bend) → IsBend o p q b → (b ≡ kind) ↔ IsBend o p q kind
+is-kind o p q b kind h = (λ e. subst (IsBend o p q) e h, λ k. sym (by_kind o p q b h) ∙ by_kind o p q kind k)
 
 -- of two bends that join, the one or the other is of a kind where both together are
 joins : (kind s b t : Bend) → kind ≢ Straight → bend_of_both s b ≡ Some t → (t ≡ kind) ↔ ((s ≡ kind) ⊎ (b ≡ kind))
@@ -104,36 +100,32 @@ bulges_met : (c : List Point) → 3 ≤ length (dedup c)
     → Bulges (dedup c) ↔ ((Met IsReversed (first_behind c) (last_of origin c) c → ⊥) × (Met IsLeft (first_behind c) (last_of origin c) c → Met IsRight (first_behind c) (last_of origin c) c → ⊥))
 bulges_met c h = bulges_by_walk c (first_behind c) h (last_but_one_differs c (last_of origin c) (omega arith))
 
+-- the path bends so
+abbrev IsKind : Bend → Test
+IsKind kind o p q = IsBend o p q kind
+
 -- ---- the walk: n points have changed so far, o and p are the last two that differ, `seen` is how it has bent, and the rest is still to come
 pub record Bending (c : List Point) (seen : Bend) (n : ℕ) (o p : Point) (rest : List Point) : Type 0 where
   pub changes : Changed c n p rest
-  pub left : Told IsLeft c (seen ≡ Left) o p rest
-  pub right : Told IsRight c (seen ≡ Right) o p rest
-  pub reversed : Told IsReversed c (seen ≡ Reversal) o p rest
+  pub told : (kind : Bend) → kind ≢ Straight → Told (IsKind kind) c (seen ≡ kind) o p rest
 
 bending_start : (c : List Point) → Bending c Straight 0 (first_behind c) (last_of origin c) c
 bending_start c = record {
   changes = changed_start c;
-  left = told-start IsLeft c (Straight ≡ Left) (λ e. cc);
-  right = told-start IsRight c (Straight ≡ Right) (λ e. cc);
-  reversed = told-start IsReversed c (Straight ≡ Reversal) (λ e. cc);
+  told = λ kind n. told-start (IsKind kind) c (Straight ≡ kind) (λ e. n (sym e));
 }
 
 bending_skip : (c : List Point) (seen : Bend) (n : ℕ) (o p q : Point) (rest : List Point) → is_same p q ≡ true → Bending c seen n o p (q ∷ rest) → Bending c seen n o p rest
 bending_skip c seen n o p q rest e w = record {
   changes = changed_skip c n p q rest e w.changes;
-  left = told-skip IsLeft c (seen ≡ Left) o p q rest e w.left;
-  right = told-skip IsRight c (seen ≡ Right) o p q rest e w.right;
-  reversed = told-skip IsReversed c (seen ≡ Reversal) o p q rest e w.reversed;
+  told = λ kind n. told-skip (IsKind kind) c (seen ≡ kind) o p q rest e (w.told kind n);
 }
 
 bending_on : (c : List Point) (seen b both : Bend) (n : ℕ) (o p q : Point) (rest : List Point) → is_same p q ≡ false → IsBend o p q b → bend_of_both seen b ≡ Some both
     → Bending c seen n o p (q ∷ rest) → Bending c both (n + 1) p q rest
 bending_on c seen b both n o p q rest e h j w = record {
   changes = changed_on c n p q rest e w.changes;
-  left = told-on IsLeft c (seen ≡ Left) (both ≡ Left) (b ≡ Left) o p q rest e (is-left o p q b h) (joins Left seen b both (λ f. absurd (cc)) j) w.left;
-  right = told-on IsRight c (seen ≡ Right) (both ≡ Right) (b ≡ Right) o p q rest e (is-right o p q b h) (joins Right seen b both (λ f. absurd (cc)) j) w.right;
-  reversed = told-on IsReversed c (seen ≡ Reversal) (both ≡ Reversal) (b ≡ Reversal) o p q rest e (is-reversed o p q b h) (joins Reversal seen b both (λ f. absurd (cc)) j) w.reversed;
+  told = λ kind n. told-on (IsKind kind) c (seen ≡ kind) (both ≡ kind) (b ≡ kind) o p q rest e (is-kind o p q b kind h) (joins kind seen b both n j) (w.told kind n);
 }
 
 -- two bends that do not join
@@ -141,29 +133,20 @@ bending_clash : (c : List Point) (seen b : Bend) (n : ℕ) (o p q : Point) (rest
     → Bending c seen n o p (q ∷ rest) → Convex c → ⊥
 bending_clash c seen b n o p q rest e h j w convex = go (clashes seen b j)
   where
-    left : (seen ≡ Left) ⊎ (b ≡ Left) → Met IsLeft (first_behind c) (last_of origin c) c
-    left x = told-met IsLeft c (seen ≡ Left) (b ≡ Left) o p q rest e (is-left o p q b h).0 w.left x
-
-    right : (seen ≡ Right) ⊎ (b ≡ Right) → Met IsRight (first_behind c) (last_of origin c) c
-    right x = told-met IsRight c (seen ≡ Right) (b ≡ Right) o p q rest e (is-right o p q b h).0 w.right x
-
-    reversed : (seen ≡ Reversal) ⊎ (b ≡ Reversal) → Met IsReversed (first_behind c) (last_of origin c) c
-    reversed x = told-met IsReversed c (seen ≡ Reversal) (b ≡ Reversal) o p q rest e (is-reversed o p q b h).0 w.reversed x
+    met : (kind : Bend) → kind ≢ Straight → (seen ≡ kind) ⊎ (b ≡ kind) → Met (IsKind kind) (first_behind c) (last_of origin c) c
+    met kind n x = told-met (IsKind kind) c (seen ≡ kind) (b ≡ kind) o p q rest e (is-kind o p q b kind h).0 (w.told kind n) x
 
     bulging : 3 ≤ length (dedup c) → Convex c → Bulges (dedup c)
     bulging three (inl few) = absurd (omega arith)
     bulging three (inr b) = b
 
     go : Clashes seen b → ⊥
-    go (inl (x, y)) =
-        let three = three_met IsLeft left_bends c (left x) in
-        ((bulges_met c three).0 (bulging three convex)).1 (left x) (right y)
-    go (inr (x, inl y)) =
-        let three = three_met IsLeft left_bends c (left y) in
-        ((bulges_met c three).0 (bulging three convex)).0 (reversed x)
-    go (inr (x, inr y)) =
-        let three = three_met IsRight right_bends c (right y) in
-        ((bulges_met c three).0 (bulging three convex)).0 (reversed x)
+    go (inl (x, y)) = let left = met Left (λ f. cc) x in
+        ((bulges_met c (three_met IsLeft left_bends c left)).0 (bulging (three_met IsLeft left_bends c left) convex)).1 left (met Right (λ f. cc) y)
+    go (inr (x, inl y)) = let three = three_met IsLeft left_bends c (met Left (λ f. cc) y) in
+        ((bulges_met c three).0 (bulging three convex)).0 (met Reversal (λ f. cc) x)
+    go (inr (x, inr y)) = let three = three_met IsRight right_bends c (met Right (λ f. cc) y) in
+        ((bulges_met c three).0 (bulging three convex)).0 (met Reversal (λ f. cc) x)
 
 few_or_more : (m : ℕ) → (m ≤ 2) ⊎ (3 ≤ m)
 few_or_more m = grind arith
@@ -182,8 +165,8 @@ bending_end c seen n o p w = (to, from)
     many : seen ≢ Reversal → (length (dedup c) ≤ 2) ⊎ (3 ≤ length (dedup c)) → Convex c
     many s (inl few) = inl few
     many s (inr three) = inr ((bulges_met c three).1 (
-      λ r. s (only (w.reversed.0 r)),
-      λ l r. let a : seen ≡ Left = only (w.left.0 l) in let b : seen ≡ Right = only (w.right.0 r) in absurd (cc),
+      λ r. s (only ((w.told Reversal (λ f. cc)).0 r)),
+      λ l r. let a : seen ≡ Left = only ((w.told Left (λ f. cc)).0 l) in let b : seen ≡ Right = only ((w.told Right (λ f. cc)).0 r) in absurd (cc),
     ))
 
     to : (n ≤ 2) ⊎ (seen ≢ Reversal) → Convex c
@@ -192,7 +175,7 @@ bending_end c seen n o p w = (to, from)
 
     bulging : Bulges (dedup c) → (length (dedup c) ≤ 2) ⊎ (3 ≤ length (dedup c)) → (n ≤ 2) ⊎ (seen ≢ Reversal)
     bulging b (inl few) = inl (subst (λ (m : ℕ). m ≤ 2) (sym count) few)
-    bulging b (inr three) = inr (λ s. ((bulges_met c three).0 b).0 (w.reversed.1 (inl s)))
+    bulging b (inr three) = inr (λ s. ((bulges_met c three).0 b).0 ((w.told Reversal (λ f. cc)).1 (inl s)))
 
     from : Convex c → (n ≤ 2) ⊎ (seen ≢ Reversal)
     from (inl few) = inl (subst (λ (m : ℕ). m ≤ 2) (sym count) few)

@@ -1,5 +1,5 @@
 -- Convexity of a contour that is rotated, read backwards, given a repeated point, or freed of zero turns.
-use Rattle.std.proofs.Common.{◌≡◌, ℕ, ◌<◌, ◌≤◌, List, [], ◌∷◌, ◌++◌, length, reverse, remove, ℤ, pos, neg_ℤ, ◌<ℤ◌, refl, sym, ap, subst, ◌∙◌, arith, ◌⊎◌, inl, inr, ◌↔◌, Bool, true, cond}
+use Rattle.std.proofs.Common.{◌≡◌, ℕ, ◌<◌, ◌≤◌, List, [], ◌∷◌, ◌++◌, length, reverse, remove, ℤ, pos, ◌<ℤ◌, refl, sym, ap, subst, ◌∙◌, arith, ◌⊎◌, inl, inr, ◌↔◌, Bool, true, cond}
 use Rattle.std.proofs.lemmas.Int.{ints}
 use Rattle.std.proofs.lemmas.List.{length-reverse, reverse-reverse}
 use Rattle.i_shape_core.proofs.Common.{Point, origin, cross, dot, IsZeroTurn, Test, IsRemovable, Step, End, Rotation, SameEnd, collapsed, rotated}
@@ -46,16 +46,10 @@ has_reversed {P} {Q} back c (k, h) =
     (m.1.place, m.1.removable)
 
 left_backwards : (a b c : Point) → IsLeft a b c → IsRight c b a
-left_backwards a b c h = go (cross a b c) (cross c b a) (cross_reversed a b c) h
-  where
-    go : (x y : ℤ) → y ≡ neg_ℤ x → pos 0 <ℤ x → y <ℤ pos 0
-    go x y e h = omega (arith, ints)
+left_backwards a b c h = omega (arith, ints, cross_reversed a b c)
 
 right_backwards : (a b c : Point) → IsRight a b c → IsLeft c b a
-right_backwards a b c h = go (cross a b c) (cross c b a) (cross_reversed a b c) h
-  where
-    go : (x y : ℤ) → y ≡ neg_ℤ x → x <ℤ pos 0 → pos 0 <ℤ y
-    go x y e h = omega (arith, ints)
+right_backwards a b c h = omega (arith, ints, cross_reversed a b c)
 
 reversed_backwards : (a b c : Point) → IsReversed a b c → IsReversed c b a
 reversed_backwards a b c h = (zero_reversed a b c h.0, subst (λ (d : ℤ). d <ℤ pos 0) (sym (dot_reversed a b c)) h.1)

@@ -65,21 +65,20 @@ all_same : (c : List Point) → AllSame (last_of origin c) c → length (dedup c
 unfolding dedup
 all_same c a = ap length (none_change (last_of origin c) c a)
 
-at_parts : (u v : List Point) (r : Point) → AllSame (last_of origin (u ++ r ∷ v)) v → r ≢ last_of origin (u ++ r ∷ v) → r ≡ point_at (dedup (u ++ r ∷ v)) (length (dedup (u ++ r ∷ v)) - 2)
-at_parts u [] r a n = absurd (n (sym (last_of_append origin u (r ∷ []))))
-at_parts u (x ∷ v) r a n = (last_but_one u (x ∷ v) r (last_of origin (u ++ r ∷ x ∷ v)) refl (omega arith) a n).1
+-- a point that differs from the last, and behind which there are only repeats of the last, is the last but one without repeats
+last_two : (d u v : List Point) (r : Point) → d ≡ u ++ r ∷ v → AllSame (last_of origin d) v → r ≢ last_of origin d
+    → (2 ≤ length (dedup d)) × (r ≡ point_at (dedup d) (length (dedup d) - 2))
+last_two d u [] r e a n = absurd (n (sym (ap (last_of origin) e ∙ last_of_append origin u (r ∷ []))))
+last_two d u (x ∷ v) r e a n = subst (λ (y : List Point). (2 ≤ length (dedup y)) × (r ≡ point_at (dedup y) (length (dedup y) - 2))) (sym e)
+    (last_but_one u (x ∷ v) r (last_of origin d) (ap (last_of origin) e) (omega arith) a n)
 
 -- the last but one of the points without repeats is the last that differs from the last
 pub last_but_one_differs : (c : List Point) (o : Point) → 1 ≤ length (dedup c) → last_differing (last_of origin c) o c ≡ point_at (dedup c) (length (dedup c) - 2)
 last_but_one_differs c o h = go (last_differing (last_of origin c) o c) (is_last_differing (last_of origin c) o c)
   where
-    parts : (r : Point) (d : List Point) (u v : List Point) → d ≡ u ++ r ∷ v → AllSame (last_of origin d) v → r ≢ last_of origin d → r ≡ point_at (dedup d) (length (dedup d) - 2)
-    parts r d u v e a n = subst (λ (x : List Point). r ≡ point_at (dedup x) (length (dedup x) - 2)) (sym e)
-        (at_parts u v r (subst (λ (x : List Point). AllSame (last_of origin x) v) e a) (subst (λ (x : List Point). r ≢ last_of origin x) e n))
-
     go : (r : Point) → IsLastDiffering (last_of origin c) o c r → r ≡ point_at (dedup c) (length (dedup c) - 2)
     go r (inl x) = absurd (omega (arith, all_same c x.1))
-    go r (inr (u, v, e, a, n)) = parts r c u v e a n
+    go r (inr (u, v, e, a, n)) = (last_two c u v r e a n).1
 
 -- ---- where the walk starts: at the last point, and behind it the last that differs
 abbrev pub first_behind : List Point → Point
@@ -96,67 +95,45 @@ told-start P c S n = (λ m. inr m, λ x. elim x [ inl s ↦ absurd (n s) | inr m
 -- another point adds what the test says there
 pub told-on : (P : Test) (c : List Point) (S T N : Type 0) (o p q : Point) (rest : List Point) → is_same p q ≡ false → N ↔ P o p q → T ↔ (S ⊎ N)
     → Told P c S o p (q ∷ rest) → Told P c T p q rest
-told-on P c S T N o p q rest e n t w = (λ m. to (w.0 m), λ x. w.1 (from x))
-  where
-    same : Met P o p (q ∷ rest) ≡ (P o p q ⊎ Met P p q rest)
-    same = ap (λ (b : Bool). cond b (Met P o p rest) (P o p q ⊎ Met P p q rest)) e
-
-    now : P o p q ⊎ Met P p q rest → T ⊎ Met P p q rest
-    now (inl x) = inl (t.1 (inr (n.1 x)))
-    now (inr m) = inr m
-
-    to : S ⊎ Met P o p (q ∷ rest) → T ⊎ Met P p q rest
-    to (inl s) = inl (t.1 (inl s))
-    to (inr m) = now (subst (λ (X : Type 0). X) same m)
-
-    earlier : S ⊎ N → S ⊎ Met P o p (q ∷ rest)
-    earlier (inl s) = inl s
-    earlier (inr y) = inr (subst (λ (X : Type 0). X) (sym same) (inl (n.0 y)))
-
-    from : T ⊎ Met P p q rest → S ⊎ Met P o p (q ∷ rest)
-    from (inl y) = earlier (t.0 y)
-    from (inr m) = inr (subst (λ (X : Type 0). X) (sym same) (inr m))
+told-on P c S T N o p q rest e n t w = let v = rw e at w in (
+  λ m. elim (v.0 m) [
+    | inl s ↦ inl (t.1 (inl s))
+    | inr (inl x) ↦ inl (t.1 (inr (n.1 x)))
+    | inr (inr m) ↦ inr m
+  ],
+  λ x. elim x [
+    | inl y ↦ elim (t.0 y) [ inl s ↦ v.1 (inl s) | inr z ↦ v.1 (inr (inl (n.0 z))) ]
+    | inr m ↦ v.1 (inr (inr m))
+  ],
+)
 
 -- a repeated point adds nothing
 pub told-skip : (P : Test) (c : List Point) (S : Type 0) (o p q : Point) (rest : List Point) → is_same p q ≡ true → Told P c S o p (q ∷ rest) → Told P c S o p rest
-told-skip P c S o p q rest e w = subst (λ (X : Type 0). Met P (first_behind c) (last_of origin c) c ↔ (S ⊎ X)) same w
-  where
-    same : Met P o p (q ∷ rest) ≡ Met P o p rest
-    same = ap (λ (b : Bool). cond b (Met P o p rest) (P o p q ⊎ Met P p q rest)) e
+told-skip P c S o p q rest e w = rw e at w
 
 -- one was met, before or here
 pub told-met : (P : Test) (c : List Point) (S N : Type 0) (o p q : Point) (rest : List Point) → is_same p q ≡ false → (N → P o p q)
     → Told P c S o p (q ∷ rest) → S ⊎ N → Met P (first_behind c) (last_of origin c) c
 told-met P c S N o p q rest e n w (inl s) = w.1 (inl s)
-told-met P c S N o p q rest e n w (inr y) =
-    w.1 (inr (subst (λ (X : Type 0). X) (sym (ap (λ (b : Bool). cond b (Met P o p rest) (P o p q ⊎ Met P p q rest)) e)) (inl (n y))))
+told-met P c S N o p q rest e n w (inr y) = (rw e at w).1 (inr (inl (n y)))
 
 -- ---- how many points are left without repeats
 
 -- the way to another point and back reverses
 back_reversed : (p q : Point) → p ≢ q → IsReversed p q p
-back_reversed p q n = go (back_cases p q p (there_and_back p q))
-  where
-    go : (p ≡ q) ⊎ ((q ≡ p) ⊎ IsReversed p q p) → IsReversed p q p
-    go (inl e) = absurd (n e)
-    go (inr (inl e)) = absurd (n (sym e))
-    go (inr (inr r)) = r
-
-two_parts : (u v : List Point) (r : Point) → AllSame (last_of origin (u ++ r ∷ v)) v → r ≢ last_of origin (u ++ r ∷ v) → 2 ≤ length (dedup (u ++ r ∷ v))
-two_parts u [] r a n = absurd (n (sym (last_of_append origin u (r ∷ []))))
-two_parts u (x ∷ v) r a n = (last_but_one u (x ∷ v) r (last_of origin (u ++ r ∷ x ∷ v)) refl (omega arith) a n).0
+back_reversed p q n = elim (back_cases p q p (there_and_back p q)) [
+  | inl e ↦ absurd (n e)
+  | inr (inl e) ↦ absurd (n (sym e))
+  | inr (inr r) ↦ r
+]
 
 -- where a point differs from the last one, at least two are left
 two_left : (c : List Point) → first_behind c ≢ last_of origin c → 2 ≤ length (dedup c)
 two_left c n = go (first_behind c) (is_last_differing (last_of origin c) (last_of origin c) c) n
   where
-    parts : (r : Point) (d u v : List Point) → d ≡ u ++ r ∷ v → AllSame (last_of origin d) v → r ≢ last_of origin d → 2 ≤ length (dedup d)
-    parts r d u v e a n = subst (λ (x : List Point). 2 ≤ length (dedup x)) (sym e)
-        (two_parts u v r (subst (λ (x : List Point). AllSame (last_of origin x) v) e a) (subst (λ (x : List Point). r ≢ last_of origin x) e n))
-
     go : (r : Point) → IsLastDiffering (last_of origin c) (last_of origin c) c r → r ≢ last_of origin c → 2 ≤ length (dedup c)
     go r (inl x) n = absurd (n x.0)
-    go r (inr (u, v, e, a, m)) n = parts r c u v e a m
+    go r (inr (u, v, e, a, m)) n = (last_two c u v r e a m).0
 
 -- two points are a way there and back: without a reversal there are at least three
 three_left : (c : List Point) (o : Point) → 2 ≤ length (dedup c) → (Met IsReversed o (last_of origin c) c → ⊥) → 3 ≤ length (dedup c)
@@ -277,14 +254,11 @@ few_differ {I} value cs last h e f three =
     let b : Point = record { x = pos 1; y = pos 0 } in
     let at = λ (o : Point). sym (same o) ∙ last_but_one_differs (contour_of value cs) o (omega (arith, three)) in
     let k : a ≡ b = at a ∙ sym (at b) in
-    two_numbers (ap (λ (p : Point). p.x) k)
+    omega (arith, ints, ap (λ (p : Point). p.x) k)
   where
     same : (o : Point) → last_differing (last_of origin (contour_of value cs)) o (contour_of value cs) ≡ o
     same o = ap (λ (p : Point). last_differing p o (contour_of value cs)) (sym (last_point value cs last h e))
         ∙ (differing-found value last o cs ∙ ap (λ (r : Option (IntPoint I)). unwrap_or (option_map (point_of value) r) o) (sym f))
-
-    two_numbers : pos 0 ≡ pos 1 → ⊥
-    two_numbers k = omega (arith, ints)
 
 -- so there are spikes
 pub none_differs : {I : Type 0} (value : I → ℤ) (cs : List (IntPoint I)) (last : IntPoint I) → 0 < length cs → last ≡ get_or cs (length cs - 1) last
@@ -397,39 +371,23 @@ pub record IsOnward (block : List Point) (first start e p : Point) (rest : List 
 pub onward_start : (block : List Point) (first start : Point) → IsOnward block first start first start block
 onward_start block first start = record { told = (λ b. b, λ b. b); edge = refl; here = refl }
 
--- at a repeated point it is asked of the rest alone
-back_at_repeat : (e p q : Point) (rest : List Point) → is_same p q ≡ true → GoesBack e p (q ∷ rest) ≡ GoesBack e q rest
-back_at_repeat e p q rest s = ap (λ (t : Bool). cond t (GoesBack e q rest) (Reverses e p q ⊎ GoesBack (vector p q) q rest)) s
-
--- at another point it is asked of this point too
-back_at_other : (e p q : Point) (rest : List Point) → is_same p q ≡ false → GoesBack e p (q ∷ rest) ≡ (Reverses e p q ⊎ GoesBack (vector p q) q rest)
-back_at_other e p q rest s = ap (λ (t : Bool). cond t (GoesBack e q rest) (Reverses e p q ⊎ GoesBack (vector p q) q rest)) s
-
 -- passes over a repeated point
 pub onward_skips : (block : List Point) (first start e p q : Point) (rest : List Point) → is_same p q ≡ true → IsOnward block first start e p (q ∷ rest) → IsOnward block first start e q rest
-onward_skips block first start e p q rest s w = record {
-  told = (λ b. w.told.0 (subst (λ (X : Type 0). X) (sym (back_at_repeat e p q rest s)) b), λ b. subst (λ (X : Type 0). X) (back_at_repeat e p q rest s) (w.told.1 b));
-  edge = sym (ap (λ (t : Bool). cond t (last_change e q rest) (last_change (vector p q) q rest)) s) ∙ w.edge;
-  here = w.here;
-}
+onward_skips block first start e p q rest s w = record { told = rw s at w.told; edge = rw s at w.edge; here = w.here }
 
 -- passes another point at which the way doesn't go back
 pub onward_on : (block : List Point) (first start e p q : Point) (rest : List Point) → is_same p q ≡ false → (cross_of e (vector p q) ≡ pos 0 → dot_of e (vector p q) <ℤ pos 0 → ⊥)
     → IsOnward block first start e p (q ∷ rest) → IsOnward block first start (vector p q) q rest
-onward_on block first start e p q rest s n w = record {
-  told = (λ b. w.told.0 (subst (λ (X : Type 0). X) (sym (back_at_other e p q rest s)) (inr b)), λ b. later (subst (λ (X : Type 0). X) (back_at_other e p q rest s) (w.told.1 b)));
-  edge = sym (ap (λ (t : Bool). cond t (last_change e q rest) (last_change (vector p q) q rest)) s) ∙ w.edge;
+onward_on block first start e p q rest s n w = let told = rw s at w.told in record {
+  told = (λ b. told.0 (inr b), λ b. elim (told.1 b) [ inl r ↦ absurd (n r.0 r.1) | inr later ↦ later ]);
+  edge = rw s at w.edge;
   here = w.here;
 }
-  where
-    later : Reverses e p q ⊎ GoesBack (vector p q) q rest → GoesBack (vector p q) q rest
-    later (inl (z, d)) = absurd (n z d)
-    later (inr b) = b
 
 -- and stops at one at which it does
 pub onward_stops : (block : List Point) (first start e p q : Point) (rest : List Point) → is_same p q ≡ false → cross_of e (vector p q) ≡ pos 0 → dot_of e (vector p q) <ℤ pos 0
     → IsOnward block first start e p (q ∷ rest) → GoesBack first start block
-onward_stops block first start e p q rest s z d w = w.told.0 (subst (λ (X : Type 0). X) (sym (back_at_other e p q rest s)) (inl (z, d)))
+onward_stops block first start e p q rest s z d w = (rw s at w.told).0 (inl (z, d))
 
 -- the last block tells whether the contour has spikes
 pub last_block_tells : {I A : Type 0} (value : I → ℤ) (c : List Point) (e p : Point) (rest : List (IntPoint I)) (last_but_one_differs : Option A) (onward : Bool) → onward ≡ is_some last_but_one_differs
