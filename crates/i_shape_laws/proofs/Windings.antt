@@ -1,5 +1,5 @@
 -- How often a contour winds: the parity of the winding number, and its laws.
-use Rattle.std.proofs.Common.{◌≡◌, ℕ, ◌+◌, ◌%◌, List, [], ◌∷◌, ℤ, pos, negsuc, ◌-ℤ◌, neg_ℤ, refl, sym, ap, ◌∙◌, arith, ◌↔◌, Bool, true, false, cond, int_lt, count_by, unsigned_abs}
+use Rattle.std.proofs.Common.{◌≡◌, ℕ, ◌+◌, ◌%◌, List, [], ◌∷◌, ℤ, pos, negsuc, ◌+ℤ◌, neg_ℤ, refl, sym, ap, ◌∙◌, arith, ◌↔◌, Bool, true, false, cond, int_lt, count_by, unsigned_abs}
 use Rattle.std.proofs.lemmas.Int.{ints}
 use Rattle.std.proofs.lemmas.List.Sums.{sum_by-cons}
 use Rattle.i_shape_core.specs.Point.{Point, cross}
@@ -12,44 +12,38 @@ use Rattle.i_shape_core.proofs.measure.RotatedEdges.{same_sum}
 use Rattle.i_shape_core.proofs.measure.Windings.{bit, flat, goes_up, goes_down, winding_kept, winding_none, winding_reversed}
 
 -- ---- parity
--- ups and downs of the edges to the right of p: the winding number is their difference, and how many edges are to the right their sum
+-- a number and a count that differ by an even number
 record Passed (z : ℤ) (n : ℕ) : Type 0 where
-  up : ℕ
-  down : ℕ
-  difference : z ≡ pos up -ℤ pos down
-  sum : n ≡ up + down
+  half : ℤ
+  is : pos n ≡ z +ℤ (half +ℤ half)
 
 passed_edge : (p a b : Point) → Passed (winding_of_edge p (edge a b)) (cond (is_right p (edge a b)) 1 0)
 passed_edge p a b = go (int_lt p.y a.y) (int_lt p.y b.y) refl refl
   where
-    upwards : (t : Bool) (z : ℤ) (n : ℕ) → z ≡ bit t → n ≡ cond t 1 0 → Passed z n
-    upwards true z n e f = record { up = 1; down = 0; difference = e; sum = f ∙ omega arith }
-    upwards false z n e f = record { up = 0; down = 0; difference = e; sum = f ∙ omega arith }
+    upwards : (t : Bool) → Passed (bit t) (cond t 1 0)
+    upwards true = record { half = pos 0; is = refl }
+    upwards false = record { half = pos 0; is = refl }
 
-    downwards : (t : Bool) (z : ℤ) (n : ℕ) → z ≡ neg_ℤ (bit t) → n ≡ cond t 1 0 → Passed z n
-    downwards true z n e f = record { up = 0; down = 1; difference = e; sum = f ∙ omega arith }
-    downwards false z n e f = record { up = 0; down = 0; difference = e; sum = f ∙ omega arith }
+    downwards : (t : Bool) → Passed (neg_ℤ (bit t)) (cond t 1 0)
+    downwards true = record { half = pos 1; is = refl }
+    downwards false = record { half = pos 0; is = refl }
 
     go : (s t : Bool) → int_lt p.y a.y ≡ s → int_lt p.y b.y ≡ t → Passed (winding_of_edge p (edge a b)) (cond (is_right p (edge a b)) 1 0)
-    go true true e f = upwards false _ _ (flat p a b true e f) (ap (λ (t : Bool). cond t 1 0) (right_when p a b true true e f))
-    go false false e f = upwards false _ _ (flat p a b false e f) (ap (λ (t : Bool). cond t 1 0) (right_when p a b false false e f))
-    go true false e f = downwards (int_lt (cross b p a) (pos 0)) _ _ (goes_down p a b e f) (ap (λ (t : Bool). cond t 1 0) (right_when p a b true false e f))
-    go false true e f = upwards (int_lt (cross a p b) (pos 0)) _ _ (goes_up p a b e f) (ap (λ (t : Bool). cond t 1 0) (right_when p a b false true e f))
+    go true true e f = rw (flat p a b true e f, right_when p a b true true e f) (upwards false)
+    go false false e f = rw (flat p a b false e f, right_when p a b false false e f) (upwards false)
+    go true false e f = rw (goes_down p a b e f, right_when p a b true false e f) (downwards (int_lt (cross b p a) (pos 0)))
+    go false true e f = rw (goes_up p a b e f, right_when p a b false true e f) (upwards (int_lt (cross a p b) (pos 0)))
 
 passed_edges : (p : Point) (es : List Edge) → Passed (sum_of (winding_of_edge p) es) (count_by (is_right p) es)
-passed_edges p [] = record { up = 0; down = 0; difference = refl; sum = refl }
+passed_edges p [] = record { half = pos 0; is = refl }
 passed_edges p (e ∷ es) =
     let one = passed_edge p e.start e.end in
     let rest = passed_edges p es in
-    both one.up one.down rest.up rest.down one.difference rest.difference one.sum rest.sum (sum_by-cons (λ (f : Edge). cond (is_right p f) 1 0) e es)
-  where
-    both : (u v s t : ℕ) → winding_of_edge p e ≡ pos u -ℤ pos v → sum_of (winding_of_edge p) es ≡ pos s -ℤ pos t → cond (is_right p e) 1 0 ≡ u + v → count_by (is_right p) es ≡ s + t
-        → count_by (is_right p) (e ∷ es) ≡ cond (is_right p e) 1 0 + count_by (is_right p) es → Passed (sum_of (winding_of_edge p) (e ∷ es)) (count_by (is_right p) (e ∷ es))
-    both u v s t f g h k l = record { up = u + s; down = v + t; difference = omega (arith, ints); sum = omega arith }
+    record { half = one.half +ℤ rest.half; is = omega (arith, ints, one.is, rest.is, sum_by-cons (λ (f : Edge). cond (is_right p f) 1 0) e es) }
 
 odd : (z : ℤ) (n : ℕ) → Passed z n → unsigned_abs z % 2 ≡ n % 2
-odd (pos k) n w = let e = w.difference in let f = w.sum in omega (arith, ints)
-odd (negsuc k) n w = let e = w.difference in let f = w.sum in omega (arith, ints)
+odd (pos k) n w = omega (arith, ints, w.is)
+odd (negsuc k) n w = omega (arith, ints, w.is)
 
 -- a point is inside where the contour winds about it an odd number of times
 pub winding_parity : (c : List Point) (p : Point) → Inside c p ↔ IsOdd (winding c p)

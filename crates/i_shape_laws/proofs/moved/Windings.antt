@@ -183,44 +183,19 @@ on_left l m p a b d k = go (tall l p a) (tall m p a) (tall l p b) (tall m p b) r
     go true true true false e f g h = absurd (wrong (high_high _ _ (high m p a f) (high l p b g)) (high_low _ _ (high l p a e) (low m p b h)))
     go true true true true e f g h = refl
 
+-- read backwards, an edge to the right of a point lies to its left
+crossing_backwards : (s t : Bool) → crossing s t false true ≡ neg_ℤ (crossing t s true false)
+crossing_backwards true true = refl
+crossing_backwards true false = refl
+crossing_backwards false true = refl
+crossing_backwards false false = refl
+
 -- the point lies to the right of it
 on_right : (l m p a b : Point) → pos 0 <ℤ cross_of l m → int_lt (neg_ℤ (cross a p b)) (pos 0) ≡ true
     → crossing (tall l p a) (tall l p b) false true ≡ crossing (tall m p a) (tall m p b) false true +ℤ (corner (tall l p b) (tall m p b) -ℤ corner (tall l p a) (tall m p a))
-on_right l m p a b d k = go (tall l p a) (tall m p a) (tall l p b) (tall m p b) refl refl refl refl
-  where
-    side : pos 0 <ℤ (rise m p a *ℤ rise l p b -ℤ rise l p a *ℤ rise m p b)
-    side = beyond (cross_of l m) (cross a p b) _ d k (sides l m a p b)
-      where
-        beyond : (x y z : ℤ) → pos 0 <ℤ x → int_lt (neg_ℤ y) (pos 0) ≡ true → x *ℤ y ≡ z → pos 0 <ℤ z
-        beyond x (negsuc y) z h e f = absurd (omega (arith, ints))
-        beyond x (pos zero) z h e f = absurd (omega (arith, ints))
-        beyond (negsuc x) (pos (suc y)) z h e f = absurd (omega (arith, ints))
-        beyond (pos zero) (pos (suc y)) z h e f = absurd (omega (arith, ints))
-        beyond (pos (suc x)) (pos (suc y)) z h e f = omega (arith, ints)
-
-    wrong : (rise m p a *ℤ rise l p b) ≤ℤ pos 0 → pos 0 ≤ℤ (rise l p a *ℤ rise m p b) → ⊥
-    wrong f g = no _ _ f g side
-      where
-        no : (x y : ℤ) → x ≤ℤ pos 0 → pos 0 ≤ℤ y → pos 0 <ℤ (x -ℤ y) → ⊥
-        no x y f g h = omega (arith, ints)
-
-    go : (u v s t : Bool) → tall l p a ≡ u → tall m p a ≡ v → tall l p b ≡ s → tall m p b ≡ t → crossing u s false true ≡ crossing v t false true +ℤ (corner s t -ℤ corner u v)
-    go false false false false e f g h = refl
-    go false false false true e f g h = refl
-    go false false true false e f g h = absurd (wrong (low_high _ _ (low m p a f) (high l p b g)) (low_low _ _ (low l p a e) (low m p b h)))
-    go false false true true e f g h = refl
-    go false true false false e f g h = absurd (wrong (high_low _ _ (high m p a f) (low l p b g)) (low_low _ _ (low l p a e) (low m p b h)))
-    go false true false true e f g h = refl
-    go false true true false e f g h = refl
-    go false true true true e f g h = refl
-    go true false false false e f g h = refl
-    go true false false true e f g h = refl
-    go true false true false e f g h = refl
-    go true false true true e f g h = absurd (wrong (low_high _ _ (low m p a f) (high l p b g)) (high_high _ _ (high l p a e) (high m p b h)))
-    go true true false false e f g h = refl
-    go true true false true e f g h = absurd (wrong (high_low _ _ (high m p a f) (low l p b g)) (high_high _ _ (high l p a e) (high m p b h)))
-    go true true true false e f g h = refl
-    go true true true true e f g h = refl
+on_right l m p a b d k =
+    let left = on_left l m p b a d (rw (cross_reversed a p b) k) in
+    rw (crossing_backwards (tall l p a) (tall l p b), crossing_backwards (tall m p a) (tall m p b)) (omega (arith, ints))
 
 in_between : (s t : Bool) → crossing s s false false ≡ crossing t t false false +ℤ (corner s t -ℤ corner s t)
 in_between true true = refl
@@ -241,17 +216,18 @@ one_edge l m p a b d off = go (int_lt (cross a p b) (pos 0)) (int_lt (neg_ℤ (c
         rw (sym (same_side l a p b z off), sym (same_side m a p b z off)) (in_between (tall l p a) (tall m p a))
 
 -- ---- all edges
-path_by : (l m p : Point) → pos 0 <ℤ cross_of l m → (a : Point) (bs : List Point) (z : Point) → AllOff p (edges_between a bs z)
-    → sum_of (crossing_along l p) (edges_between a bs z) ≡ sum_of (crossing_along m p) (edges_between a bs z) +ℤ (corner (tall l p z) (tall m p z) -ℤ corner (tall l p a) (tall m p a))
-path_by l m p d a [] z off = let one = one_edge l m p a z d off.0 in omega (arith, ints)
-path_by l m p d a (b ∷ bs) z off =
-    let one = one_edge l m p a b d off.0 in
-    let rest = path_by l m p d b bs z off.1 in
-    omega (arith, ints)
+-- where each edge adds to one number what it adds to another, and how much a height rises along it, both are one number around a contour
+module _ (f g : Edge → ℤ) (height : Point → ℤ) (p : Point) (each : (a b : Point) → Off p (edge a b) → f (edge a b) ≡ g (edge a b) +ℤ (height b -ℤ height a)) where
+  along_path : (a : Point) (bs : List Point) (z : Point) → AllOff p (edges_between a bs z) → sum_of f (edges_between a bs z) ≡ sum_of g (edges_between a bs z) +ℤ (height z -ℤ height a)
+  along_path a [] z off = let one = each a z off.0 in omega (arith, ints)
+  along_path a (b ∷ bs) z off = let one = each a b off.0 in let rest = along_path b bs z off.1 in omega (arith, ints)
+
+  around : (c : List Point) → AllOff p (edges c) → sum_of f (edges c) ≡ sum_of g (edges c)
+  around [] off = refl
+  around (a ∷ bs) off = let all = along_path a bs a off in omega (arith, ints)
 
 contour_by : (l m p : Point) → pos 0 <ℤ cross_of l m → (c : List Point) → AllOff p (edges c) → sum_of (crossing_along l p) (edges c) ≡ sum_of (crossing_along m p) (edges c)
-contour_by l m p d [] off = refl
-contour_by l m p d (a ∷ bs) off = let all = path_by l m p d a bs a off in omega (arith, ints)
+contour_by l m p d = around (crossing_along l p) (crossing_along m p) (λ q. corner (tall l p q) (tall m p q)) p (λ a b. one_edge l m p a b d)
 
 -- heights along y, and to the left
 abbrev up : Point
@@ -296,17 +272,12 @@ edge_swapped l p a b off = go (tall l p a) (tall l p b) (int_lt (cross a p b) (p
     go true false false false e f g h = let no = same true false e f g h in absurd (cc)
     go false true false false e f g h = let no = same false true e f g h in absurd (cc)
 
-path_swapped : (l p a : Point) (bs : List Point) (z : Point) → AllOff p (edges_between a bs z)
-    → sum_of (swapped l p) (edges_between a bs z) ≡ neg_ℤ (sum_of (crossing_along l p) (edges_between a bs z)) +ℤ (one_if (tall l p z) -ℤ one_if (tall l p a))
-path_swapped l p a [] z off = let one = edge_swapped l p a z off.0 in omega (arith, ints)
-path_swapped l p a (b ∷ bs) z off =
-    let one = edge_swapped l p a b off.0 in
-    let rest = path_swapped l p b bs z off.1 in
-    omega (arith, ints)
+sum_negated : (f : Edge → ℤ) (es : List Edge) → sum_of (λ e. neg_ℤ (f e)) es ≡ neg_ℤ (sum_of f es)
+sum_negated f [] = refl
+sum_negated f (e ∷ es) = let rest = sum_negated f es in omega (arith, ints)
 
 contour_swapped : (l p : Point) (c : List Point) → AllOff p (edges c) → sum_of (swapped l p) (edges c) ≡ neg_ℤ (sum_of (crossing_along l p) (edges c))
-contour_swapped l p [] off = refl
-contour_swapped l p (a ∷ bs) off = let all = path_swapped l p a bs a off in omega (arith, ints)
+contour_swapped l p c off = around (swapped l p) (λ e. neg_ℤ (crossing_along l p e)) (λ q. one_if (tall l p q)) p (edge_swapped l p) c off ∙ sum_negated (crossing_along l p) (edges c)
 
 -- ---- the moved contour
 -- the direction in which heights were measured before the move
