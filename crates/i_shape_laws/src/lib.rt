@@ -25,11 +25,13 @@ pub fn every_order<I: IntNumber>(_c: &[IntPoint<I>])
 {}
 
 /// If no point occurs twice and the contour doesn't collapse, every order leaves the same list.
+#[tactic(auto, using(crate::proofs::DistinctPoints::one_certain_end))]
 pub fn one_certain_end<I: IntNumber>(_c: &[IntPoint<I>])
     ensures { OneCertainEnd (contour_of I.value _c.now) }
 {}
 
 /// No contour joined to another has fewer points than an end of that one: cleaning leaves as few points as possible.
+#[tactic(auto, using(crate::proofs::Forms::end_is_shortest))]
 pub fn shortest()
     ensures { (c d : List Point) → Shortest c d }
 {}
@@ -41,39 +43,46 @@ pub fn unoriented_joined<I: IntNumber>(_c: &[IntPoint<I>], _d: &[IntPoint<I>])
 {}
 
 /// Removing zero turns keeps the winding number about each point.
+#[tactic(auto, using(crate::proofs::Windings::winding_laws))]
 pub fn winding_kept<I: IntNumber>(_c: &[IntPoint<I>], _d: &[IntPoint<I>])
     ensures { WindingKept (contour_of I.value _c.now) (contour_of I.value _d.now) }
 {}
 
 /// A point is inside exactly where the winding number about it is odd.
+#[tactic(auto, using(crate::proofs::Windings::winding_parity))]
 pub fn winding_parity<I: IntNumber>(_c: &[IntPoint<I>])
     ensures { (p : Point) → Inside (contour_of I.value _c.now) p
         ↔ IsOdd (winding (contour_of I.value _c.now) p) }
 {}
 
 /// Winding numbers don't depend on the start of a contour. Reversing the contour negates them.
+#[tactic(auto, using(crate::proofs::Windings::rotated_laws))]
 pub fn winding_rotated<I: IntNumber>(_c: &[IntPoint<I>], _d: &[IntPoint<I>])
     ensures { WindingRotated (contour_of I.value _c.now) (contour_of I.value _d.now) }
 {}
 
 /// Removing zero turns keeps the winding number about each point with rational coordinates.
+#[tactic(auto, using(i_shape_core::proofs::measure::RationalWindings::winding_between))]
 pub fn winding_between()
     ensures { (c d : List Point) → WindingBetween c d }
 {}
 
 /// If the contours of a shape keep what cleaning keeps, each fill rule fills the same points as before: even-odd, non-zero, positive and
 /// negative.
+#[tactic(auto, using(crate::proofs::Fillings::filling_kept))]
 pub fn filling_kept()
     ensures { (contours left : List (List Point)) → FillingKept contours left }
 {}
 
 /// Removing zero turns adds no point to the edges: each point of an edge that is left lies on an edge that was there.
+#[tactic(auto, using(crate::proofs::Boundaries::boundary_laws))]
 pub fn boundary_within()
     ensures { (c d : List Point) → BoundaryWithin c d }
 {}
 
 /// An affine map with integer coefficients and a determinant other than zero commutes with cleaning. Translations, reflections, quarter
 /// turns and scalings are such maps.
+#[tactic(auto, using(crate::proofs::moved::Laws::moved_laws))]
 pub fn moved_alike()
     ensures { (m : Move) → determinant m ≢ pos 0 → (c : List Point) → MovedAlike m c }
 {}
@@ -81,6 +90,7 @@ pub fn moved_alike()
 /// A moved contour has the same winding number about a moved point as before, if the point is off the edges and the determinant of the
 /// map is positive, as for translations, scalings, quarter turns and shears. If the determinant is negative, as for reflections, the
 /// number changes sign.
+#[tactic(auto, using(crate::proofs::moved::Windings::winding_moved))]
 pub fn winding_moved()
     ensures { (m : Move) (c : List Point) (p : Point) → (IsOnEdge c p → ⊥) → WindingMoved m c p }
 {}

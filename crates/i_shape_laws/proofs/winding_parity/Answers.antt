@@ -1,6 +1,0 @@
-use Rattle.i_shape_core.specs.IntPoint.{contour_of}
-use Rattle.i_shape_laws.proofs.Windings as lemmas
-use Rattle.i_shape_laws.proofs.winding_parity.Goals as goal
-
-pub returns : goal.returns
-returns g c = lemmas.winding_parity (contour_of g.I.IntNumber.value c.args._c.now)
