@@ -1,5 +1,5 @@
 -- How often a contour winds: the parity of the winding number, and its laws.
-use Rattle.std.proofs.Common.{◌≡◌, ℕ, ◌+◌, ◌%◌, List, [], ◌∷◌, ℤ, pos, negsuc, ◌+ℤ◌, neg_ℤ, refl, sym, ap, ◌∙◌, arith, ◌↔◌, Bool, true, false, cond, int_lt, count_by, unsigned_abs}
+use Rattle.std.proofs.Common.{◌≡◌, ℕ, ◌%◌, List, [], ◌∷◌, ℤ, pos, negsuc, ◌+ℤ◌, neg_ℤ, refl, sym, ◌∙◌, arith, ◌↔◌, Bool, true, false, cond, int_lt, count_by, unsigned_abs}
 use Rattle.std.proofs.lemmas.Int.{ints}
 use Rattle.std.proofs.lemmas.List.Sums.{sum_by-cons}
 use Rattle.i_shape_core.specs.Point.{Point, cross}

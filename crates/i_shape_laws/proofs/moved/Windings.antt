@@ -1,5 +1,5 @@
 -- How often a moved contour winds about the moved point: off the edges it doesn't matter in which direction the edges are counted.
-use Rattle.std.proofs.Common.{◌≡◌, ℕ, zero, suc, ◌<◌, List, [], ◌∷◌, ◌++◌, length, map, get_or, ℤ, pos, negsuc, ◌+ℤ◌, ◌-ℤ◌, ◌*ℤ◌, ◌<ℤ◌, ◌≤ℤ◌, neg_ℤ, Bool, true, false, cond, int_lt, refl, sym, ap, ap₂, subst, ◌∙◌, arith, inl, inr, add-one}
+use Rattle.std.proofs.Common.{◌≡◌, ℕ, suc, ◌<◌, List, [], ◌∷◌, ◌++◌, length, map, get_or, ℤ, pos, negsuc, ◌+ℤ◌, ◌-ℤ◌, ◌*ℤ◌, ◌<ℤ◌, ◌≤ℤ◌, neg_ℤ, Bool, true, false, cond, int_lt, refl, sym, ap, ap₂, subst, ◌∙◌, arith, inl, inr, add-one}
 use Rattle.std.proofs.lemmas.Int.{ints, by_lt_z}
 use Rattle.std.proofs.lemmas.List.{get_or_append_left, get_or_at}
 use Rattle.i_shape_core.specs.Point.{Point, origin, cross, cross_of, dot, dot_of}
@@ -10,7 +10,7 @@ use Rattle.i_shape_core.specs.Moves.{Move, determinant, moved_point, moved}
 use Rattle.i_shape_core.specs.Boundary.{IsBetween, IsOnEdge}
 use Rattle.i_shape_core.proofs.arithmetic.Polynomials.{Term, number, variable, plus, times, minus, by_polynomials}
 use Rattle.i_shape_core.proofs.plane.CrossProducts.{Place, coordinates, cross_term, dot_term, A, B, C, D, edge, cross_reversed}
-use Rattle.i_shape_core.proofs.arithmetic.WholeNumbers.{alike_scaled, drop_last, zero_not_above, zero_not_below}
+use Rattle.i_shape_core.proofs.arithmetic.WholeNumbers.{alike_scaled, drop_last, not_positive_of, one-mul, zero_not_above, zero_not_below}
 use Rattle.i_shape_core.proofs.measure.Inside.{right_when}
 use Rattle.i_shape_core.proofs.measure.Edges.{sum_alike}
 use Rattle.i_shape_core.proofs.removal.Places.{after_is, Follows}
@@ -73,32 +73,36 @@ sides l m a p b = by_polynomials (coordinates (l ∷ m ∷ a ∷ p ∷ b ∷ [])
     (times (plus (times A.x B.y) (minus (times A.y B.x))) (cross_term C D E))
     (plus (times (rise_term B D C) (rise_term A D E)) (minus (times (rise_term A D C) (rise_term B D E)))) refl
 
--- ---- products
+-- ---- orders and products
+-- two numbers are in the order of two others whose difference is theirs
+same_order : (x y u v : ℤ) → y -ℤ x ≡ v -ℤ u → int_lt x y ≡ int_lt u v
+same_order x y u v e = go (int_lt x y) (int_lt u v) refl refl
+  where
+    go : (s t : Bool) → int_lt x y ≡ s → int_lt u v ≡ t → int_lt x y ≡ int_lt u v
+    go true true f g = f ∙ sym g
+    go false false f g = f ∙ sym g
+    go true false f g = absurd (omega (arith, ints))
+    go false true f g = absurd (omega (arith, ints))
+
+-- a number that isn't below 0, times one that isn't above it
+not_above : (q d e : ℤ) → pos 0 ≤ℤ q → d ≤ℤ pos 0 → q *ℤ d ≡ e → e ≤ℤ pos 0
+not_above q d e h k is = not_positive_of q (pos 1) d e h (omega (arith, ints)) (is ∙ sym (one-mul e)) k
+
 low_low : (x y : ℤ) → x ≤ℤ pos 0 → y ≤ℤ pos 0 → pos 0 ≤ℤ (x *ℤ y)
-low_low (negsuc x) (negsuc y) h k = omega (arith, ints)
-low_low (negsuc x) (pos zero) h k = omega (arith, ints)
-low_low (negsuc x) (pos (suc y)) h k = absurd (omega (arith, ints))
-low_low (pos zero) y h k = omega (arith, ints)
-low_low (pos (suc x)) y h k = absurd (omega (arith, ints))
+low_low x y h k =
+    let e = not_above (neg_ℤ x) y (neg_ℤ (x *ℤ y)) (omega (arith, ints)) k (by_polynomials (x ∷ y ∷ []) (times (minus (variable 0)) (variable 1)) (minus (times (variable 0) (variable 1))) refl) in
+    omega (arith, ints)
 
 high_high : (x y : ℤ) → pos 0 <ℤ x → pos 0 <ℤ y → pos 0 ≤ℤ (x *ℤ y)
-high_high (negsuc x) y h k = absurd (omega (arith, ints))
-high_high (pos x) (negsuc y) h k = absurd (omega (arith, ints))
-high_high (pos x) (pos y) h k = omega (arith, ints)
+high_high x y h k =
+    let e = not_above x (neg_ℤ y) (neg_ℤ (x *ℤ y)) (omega (arith, ints)) (omega (arith, ints)) (by_polynomials (x ∷ y ∷ []) (times (variable 0) (minus (variable 1))) (minus (times (variable 0) (variable 1))) refl) in
+    omega (arith, ints)
 
 low_high : (x y : ℤ) → x ≤ℤ pos 0 → pos 0 <ℤ y → (x *ℤ y) ≤ℤ pos 0
-low_high (pos zero) y h k = omega (arith, ints)
-low_high (pos (suc x)) y h k = absurd (omega (arith, ints))
-low_high (negsuc x) (negsuc y) h k = absurd (omega (arith, ints))
-low_high (negsuc x) (pos zero) h k = absurd (omega (arith, ints))
-low_high (negsuc x) (pos (suc y)) h k = omega (arith, ints)
+low_high x y h k = not_above y x _ (omega (arith, ints)) h (by_polynomials (x ∷ y ∷ []) (times (variable 1) (variable 0)) (times (variable 0) (variable 1)) refl)
 
 high_low : (x y : ℤ) → pos 0 <ℤ x → y ≤ℤ pos 0 → (x *ℤ y) ≤ℤ pos 0
-high_low x (pos zero) h k = omega (arith, ints)
-high_low x (pos (suc y)) h k = absurd (omega (arith, ints))
-high_low (negsuc x) (negsuc y) h k = absurd (omega (arith, ints))
-high_low (pos zero) (negsuc y) h k = absurd (omega (arith, ints))
-high_low (pos (suc x)) (negsuc y) h k = omega (arith, ints)
+high_low x y h k = not_above x y _ (omega (arith, ints)) k refl
 
 low : (l p a : Point) → tall l p a ≡ false → rise l p a ≤ℤ pos 0
 low l p a e = omega (arith, ints)
@@ -126,11 +130,8 @@ in_line l a p b = by_polynomials (coordinates (a ∷ p ∷ b ∷ l ∷ []))
 same_side : (l a p b : Point) → cross a p b ≡ pos 0 → Off p (edge a b) → tall l p a ≡ tall l p b
 same_side l a p b z off = go (int_lt (dot a p b) (pos 0)) refl
   where
-    above : (x y : ℤ) (s t : Bool) → int_lt (pos 0) (y -ℤ x) ≡ s → int_lt x y ≡ t → s ≡ t
-    above x y true true e f = refl
-    above x y false false e f = refl
-    above x y true false e f = absurd (omega (arith, ints))
-    above x y false true e f = absurd (omega (arith, ints))
+    above : (x y : ℤ) → int_lt (pos 0) (y -ℤ x) ≡ int_lt x y
+    above x y = same_order (pos 0) (y -ℤ x) x y (omega (arith, ints))
 
     back : p ≡ a → int_lt (dot a p b) (pos 0) ≡ true → ⊥
     back same e = let none = subst (λ (q : Point). dot q p b ≡ pos 0) same (dot_same-first p b) in omega (arith, ints)
@@ -142,7 +143,7 @@ same_side l a p b z off = go (int_lt (dot a p b) (pos 0)) refl
         let there : pos 0 <ℤ neg_ℤ (dot a p b) = omega (arith, ints) in
         let apart : pos 0 <ℤ way_squared p a = by_lt_z (pos 0) (way_squared p a) (λ h. h) (λ h. absurd (back (no_way p a h) e)) in
         let alike = alike_scaled (way_squared p a) (neg_ℤ (dot a p b)) (rise l p a) (rise l p b) apart there (sym ways) in
-        sym (above (dot_of l p) (dot_of l a) _ _ refl refl) ∙ alike.above ∙ above (dot_of l p) (dot_of l b) _ _ refl refl
+        sym (above (dot_of l p) (dot_of l a)) ∙ alike.above ∙ above (dot_of l p) (dot_of l b)
 
 -- ---- one edge, its heights measured along l and along m, where m is left of l
 -- the point lies to the left of the edge
@@ -154,10 +155,7 @@ on_left l m p a b d k = go (tall l p a) (tall m p a) (tall l p b) (tall m p b) r
     side = below (cross_of l m) (cross a p b) _ d k (sides l m a p b)
       where
         below : (x y z : ℤ) → pos 0 <ℤ x → int_lt y (pos 0) ≡ true → x *ℤ y ≡ z → z <ℤ pos 0
-        below x (pos y) z h e f = absurd (omega (arith, ints))
-        below (negsuc x) (negsuc y) z h e f = absurd (omega (arith, ints))
-        below (pos zero) (negsuc y) z h e f = absurd (omega (arith, ints))
-        below (pos (suc x)) (negsuc y) z h e f = omega (arith, ints)
+        below x y z h e f = let sign = (alike_scaled x (pos 1) z y h (omega (arith, ints)) (one-mul z ∙ sym f)).below ∙ e in omega (arith, ints)
 
     wrong : pos 0 ≤ℤ (rise m p a *ℤ rise l p b) → (rise l p a *ℤ rise m p b) ≤ℤ pos 0 → ⊥
     wrong f g = no _ _ f g side
@@ -285,13 +283,7 @@ abbrev heights : Move → Point
 heights m = record { x = m.yx; y = m.yy }
 
 shifted : (x y z : ℤ) → int_lt (x +ℤ z) (y +ℤ z) ≡ int_lt x y
-shifted x y z = go (int_lt (x +ℤ z) (y +ℤ z)) (int_lt x y) refl refl
-  where
-    go : (s t : Bool) → int_lt (x +ℤ z) (y +ℤ z) ≡ s → int_lt x y ≡ t → int_lt (x +ℤ z) (y +ℤ z) ≡ int_lt x y
-    go true true e f = e ∙ sym f
-    go false false e f = e ∙ sym f
-    go true false e f = absurd (omega (arith, ints))
-    go false true e f = absurd (omega (arith, ints))
+shifted x y z = same_order (x +ℤ z) (y +ℤ z) x y (omega (arith, ints))
 
 -- what an edge adds after the move
 abbrev after : Move → Point → Edge → ℤ
