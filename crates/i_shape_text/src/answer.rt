@@ -1,6 +1,6 @@
 //! The answer of each command for a contour.
 
-ghost use Rattle.std.specs.Prelude.{◌≡◌, ◌++◌, ℕ, List, OnOk, IsOkUnless, string_bytes};
+ghost use Rattle.std.specs.Prelude.{◌≡◌, ◌++◌, ℕ, List, OnOk, IfOk, IsOkUnless, string_bytes};
 ghost use Rattle.i_shape_core.specs.Point.{Point};
 ghost use Rattle.i_shape_core.specs.Written.{slot};
 ghost use Rattle.i_shape_text.specs.Points.{contour_of, IsSafe};
@@ -49,6 +49,7 @@ impl ContourAnswer for Areas {
 #[derive(Drop)]
 pub(crate) struct Cleaned<C> {
     cleaner: C,
+    /// As long as the longest contour so far. What is left of the last one stands in front.
     left: IntContour<i32>,
 }
 
@@ -59,6 +60,21 @@ impl<C: ContourCleaner> Cleaned<C> {
             left: Vec::new(alloc),
         }
     }
+
+    /// Returns what the cleaner leaves of a contour: no points if the contour collapses.
+    fn clean(&mut self, contour: &[IntPoint<i32>]) -> Result<&[IntPoint<i32>], ShapeError>
+        requires { IsSafe (contour_of contour.now) }
+        ensures { IfOk result (λ left.
+            C.answers (contour_of contour.now) (slot (contour_of left.now))) }
+    {
+        if let Some(longer) = contour.get(self.left.len()..) {
+            self.left.extend_from_slice(longer)?;
+        }
+        let count = self
+            .cleaner
+            .try_clean_into(contour, self.left.as_mut_slice())?;
+        Ok(&self.left[..count])
+    }
 }
 
 impl<C: ContourCleaner> ContourAnswer for Cleaned<C> {
@@ -67,24 +83,18 @@ impl<C: ContourCleaner> ContourAnswer for Cleaned<C> {
     ghost answers = { ShowsCleaned C.answers };
 
     fn answer(&mut self, contour: &[IntPoint<i32>], output: &mut String) -> Result<(), ToolFault> {
-        clean(&mut self.cleaner, contour, &mut self.left)?;
-        Ok(show_cleaned(output, self.left.as_slice())?)
+        let left = self.clean(contour)?;
+        Ok(show_cleaned(output, left)?)
     }
 }
 
 /// What is left of a contour without its zero turns, or nothing if it collapses.
 #[derive(Drop)]
-pub(crate) struct Compacted {
-    simplifier: ContourSimplifier,
-    left: IntContour<i32>,
-}
+pub(crate) struct Compacted(Cleaned<ContourSimplifier>);
 
 impl Compacted {
     pub(crate) fn new(alloc: Global) -> Compacted {
-        Compacted {
-            simplifier: ContourSimplifier::new(alloc),
-            left: Vec::new(alloc),
-        }
+        Compacted(Cleaned::new(alloc))
     }
 }
 
@@ -94,24 +104,7 @@ impl ContourAnswer for Compacted {
     ghost answers = { ShowsLeft };
 
     fn answer(&mut self, contour: &[IntPoint<i32>], output: &mut String) -> Result<(), ToolFault> {
-        clean(&mut self.simplifier, contour, &mut self.left)?;
-        Ok(show_left(output, self.left.as_slice())?)
+        let left = self.0.clean(contour)?;
+        Ok(show_left(output, left)?)
     }
-}
-
-/// Replaces `left` with what a cleaner leaves of a contour: no points if the contour collapses.
-fn clean<C: ContourCleaner>(
-    cleaner: &mut C,
-    contour: &[IntPoint<i32>],
-    left: &mut IntContour<i32>,
-) -> Result<(), ShapeError>
-    requires { IsSafe (contour_of contour.now) }
-    ensures { OnOk result (C.answers (contour_of contour.now)
-        (slot (contour_of left.new.items))) }
-{
-    left.clear();
-    left.extend_from_slice(contour)?;
-    let count = cleaner.try_clean_into(contour, left.as_mut_slice())?;
-    left.truncate(count);
-    Ok(())
 }
