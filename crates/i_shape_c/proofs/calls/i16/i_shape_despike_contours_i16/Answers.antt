@@ -1,7 +1,0 @@
--- Made by scripts/widths.sh from that at 32 bits.
-use Rattle.std.specs.Int.{w64}
-use Rattle.std.proofs.lemmas.Int.{to_z-of_z}
-use Rattle.i_shape_c.proofs.calls.i16.i_shape_despike_contours_i16.Goals as goal
-
-pub returns : goal.returns
-returns c = rw (to_z-of_z w64 c.clean_contours.result (record { sfits = c.clean_contours.type_inv })) c.clean_contours.ensures

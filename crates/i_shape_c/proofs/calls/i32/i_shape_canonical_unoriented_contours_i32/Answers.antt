@@ -1,6 +1,0 @@
-use Rattle.std.specs.Int.{w64}
-use Rattle.std.proofs.lemmas.Int.{to_z-of_z}
-use Rattle.i_shape_c.proofs.calls.i32.i_shape_canonical_unoriented_contours_i32.Goals as goal
-
-pub returns : goal.returns
-returns c = rw (to_z-of_z w64 c.clean_contours.result (record { sfits = c.clean_contours.type_inv })) c.clean_contours.ensures
