@@ -57,11 +57,7 @@ zero_product_ℕ (suc a) (suc b) e = absurd (omega arith)
 
 -- a product that is 0 has a factor that is 0
 pub zero_product : (a b : ℤ) → a *ℤ b ≡ pos 0 → (a ≡ pos 0) ⊎ (b ≡ pos 0)
-zero_product (pos a) (pos b) e = either (zero_product_ℕ a b (omega (arith, ints)))
-  where
-    either : (a ≡ 0) ⊎ (b ≡ 0) → (pos a ≡ pos 0) ⊎ (pos b ≡ pos 0)
-    either (inl h) = inl (ap pos h)
-    either (inr h) = inr (ap pos h)
+zero_product (pos a) (pos b) e = elim (zero_product_ℕ a b (omega (arith, ints))) [ inl h ↦ inl (ap pos h) | inr h ↦ inr (ap pos h) ]
 zero_product (pos zero) (negsuc b) e = inl refl
 zero_product (pos (suc a)) (negsuc b) e = absurd (omega (arith, ints))
 zero_product (negsuc a) (pos zero) e = inr refl
@@ -87,10 +83,7 @@ square_not_negative (negsuc n) = omega (arith, ints)
 
 -- a sum of squares isn't negative
 pub squares_not_negative : (x y : ℤ) → pos 0 ≤ℤ (x *ℤ x +ℤ y *ℤ y)
-squares_not_negative x y = squares_sum (x *ℤ x) (y *ℤ y) (square_not_negative x) (square_not_negative y)
-  where
-    squares_sum : (a b : ℤ) → pos 0 ≤ℤ a → pos 0 ≤ℤ b → pos 0 ≤ℤ (a +ℤ b)
-    squares_sum a b f g = omega (arith, ints)
+squares_not_negative x y = omega (arith, ints, square_not_negative x, square_not_negative y)
 
 square_zero : (x : ℤ) → x *ℤ x ≡ pos 0 → x ≡ pos 0
 square_zero (pos zero) e = refl
@@ -109,11 +102,7 @@ squares_zero x y e = (square_zero x (left (x *ℤ x) (y *ℤ y) (square_not_nega
 
 -- a number that gives 0 times one above 0
 pub zero_of_positive : (s z : ℤ) → pos 0 <ℤ s → s *ℤ z ≡ pos 0 → z ≡ pos 0
-zero_of_positive s z h e = go (zero_product s z e)
-  where
-    go : (s ≡ pos 0) ⊎ (z ≡ pos 0) → z ≡ pos 0
-    go (inl f) = absurd (omega (arith, ints))
-    go (inr f) = f
+zero_of_positive s z h e = elim (zero_product s z e) [ inl f ↦ absurd (omega (arith, ints)) | inr f ↦ f ]
 
 -- a multiple of a number not above 0 is that of a number not above 0
 pub not_positive_of : (q s d e : ℤ) → pos 0 ≤ℤ q → pos 0 <ℤ s → q *ℤ d ≡ s *ℤ e → d ≤ℤ pos 0 → e ≤ℤ pos 0

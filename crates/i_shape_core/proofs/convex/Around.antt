@@ -30,10 +30,7 @@ passed_from P o p (q ∷ qs) (suc j) h x = inr (passed_from P p q qs j (omega ar
 -- the point behind, where p is the last point
 one_behind : (d : List Point) (p : Point) (k j : ℕ) → k < length d → p ≡ point_at d (length d - 1) → Follows (length d) k j → get_or (p ∷ d) j origin ≡ point_at d k
 one_behind d p k j h e (inl f) = ap (λ (i : ℕ). get_or (p ∷ d) i origin) (f.1 ∙ add-one k)
-one_behind d p k j h e (inr f) = ap (λ (i : ℕ). get_or (p ∷ d) i origin) f.1 ∙ e ∙ ap (point_at d) (last_place k (length d) f.0)
-  where
-    last_place : (k n : ℕ) → k + 1 ≡ n → n - 1 ≡ k
-    last_place k n e = omega arith
+one_behind d p k j h e (inr f) = ap (λ (i : ℕ). get_or (p ∷ d) i origin) f.1 ∙ e ∙ ap (point_at d) (let last : length d - 1 ≡ k = omega (arith, f.0) in last)
 
 -- and the one behind that, where o is the last but one
 two_behind : (d : List Point) (o p : Point) (b k j : ℕ) → b < length d → k < length d → 2 ≤ length d → o ≡ point_at d (length d - 2) → p ≡ point_at d (length d - 1)

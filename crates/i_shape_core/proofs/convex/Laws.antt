@@ -1,5 +1,5 @@
 -- Convexity of a contour that is rotated, read backwards, given a repeated point, or freed of zero turns.
-use Rattle.std.proofs.Common.{◌≡◌, ℕ, ◌<◌, ◌≤◌, List, [], ◌∷◌, ◌++◌, length, reverse, remove, ℤ, pos, ◌<ℤ◌, refl, sym, ap, subst, ◌∙◌, arith, ◌⊎◌, inl, inr, ◌↔◌, Bool, true, cond}
+use Rattle.std.proofs.Common.{◌≡◌, ℕ, ◌<◌, ◌≤◌, List, [], ◌∷◌, ◌++◌, length, reverse, remove, ℤ, pos, ◌<ℤ◌, refl, sym, ap, subst, ◌∙◌, arith, ◌⊎◌, inl, inr, ◌↔◌, cond}
 use Rattle.std.proofs.lemmas.Int.{ints}
 use Rattle.std.proofs.lemmas.List.{length-reverse, reverse-reverse}
 use Rattle.i_shape_core.proofs.Common.{Point, origin, cross, dot, IsZeroTurn, Test, IsRemovable, Step, End, Rotation, SameEnd, collapsed, rotated}
@@ -107,10 +107,7 @@ convex_reversed c = (λ x. reverse_back (reverse c) (subst Convex (sym (reverse-
 
 -- nor on a point that is repeated beside itself
 repeated_after : (q : Point) (u : List Point) (p : Point) (t : List Point) → changes_after q (u ++ p ∷ p ∷ t) ≡ changes_after q (u ++ p ∷ t)
-repeated_after q [] p t = ap (λ (xs : List Point). cond (is_same q p) xs (p ∷ xs)) (skipped (is_same p p) (same_self p))
-  where
-    skipped : (b : Bool) → b ≡ true → cond b (changes_after p t) (p ∷ changes_after p t) ≡ changes_after p t
-    skipped b e = rw e refl
+repeated_after q [] p t = rw (same_self p) refl
 repeated_after q (x ∷ u) p t = ap (λ (xs : List Point). cond (is_same q x) xs (x ∷ xs)) (repeated_after x u p t)
 
 last_repeated : (q : Point) (u : List Point) (p : Point) (t : List Point) → last_of q (u ++ p ∷ p ∷ t) ≡ last_of q (u ++ p ∷ t)

@@ -1,5 +1,5 @@
 -- The walk over a contour that starts from its last point, and counts the edges that pass a point on its right.
-use Rattle.std.proofs.Common.{◌≡◌, ℕ, suc, ◌+◌, ◌%◌, ◌<◌, ◌≤◌, List, [], ◌∷◌, ◌++◌, length, drop, get_or, ℤ, pos, int_lt, refl, sym, ap, subst, ◌∙◌, arith, ◌↔◌, Bool, true, false, not, cond, count_by, IsTrue, ◌-◌}
+use Rattle.std.proofs.Common.{◌≡◌, ℕ, ◌+◌, ◌%◌, ◌<◌, ◌≤◌, List, [], ◌∷◌, ◌++◌, length, drop, get_or, ℤ, pos, int_lt, refl, sym, ap, subst, ◌∙◌, arith, ◌↔◌, Bool, true, false, not, cond, count_by, IsTrue, ◌-◌}
 use Rattle.i_shape_core.proofs.Common.{point_of, contour_of, IntPoint, Point, origin, cross, last_of}
 use Rattle.std.proofs.lemmas.List.Sums.{sum_by-cons, sum_by_push}
 use mathlib.Core.Bool.{beq}
@@ -78,10 +78,7 @@ last_item value x (y ∷ xs) d = last_item value y xs d
 -- the last point that the program reads is that of the list
 pub last_read : {I : Type 0} (value : I → ℤ) (q : Point) (cs : List (IntPoint I)) (i : ℕ) (last : IntPoint I) → i + 1 ≡ length cs → last ≡ get_or cs i last → point_of value last ≡ last_of q (contour_of value cs)
 last_read value q [] i last h e = absurd (omega arith)
-last_read value q (x ∷ xs) i last h e = ap (point_of value) (e ∙ ap (λ (j : ℕ). get_or (x ∷ xs) j last) (less_one i (length xs) h)) ∙ last_item value x xs last
-  where
-    less_one : (j n : ℕ) → j + 1 ≡ suc n → j ≡ n
-    less_one j n e = omega arith
+last_read value q (x ∷ xs) i last h e = ap (point_of value) (e ∙ ap (λ (j : ℕ). get_or (x ∷ xs) j last) (let less : i ≡ length xs = omega arith in less)) ∙ last_item value x xs last
 
 -- the last point of the program is the last point of the contour
 pub last_point : {I : Type 0} (value : I → ℤ) (cs : List (IntPoint I)) (last : IntPoint I) → 0 < length cs → last ≡ get_or cs (length cs - 1) last → point_of value last ≡ last_of origin (contour_of value cs)

@@ -56,10 +56,7 @@ cross_reversed a b c = by_polynomials (coordinates (a ∷ b ∷ c ∷ [])) (cros
 
 -- a zero turn is one backwards too
 pub zero_reversed : (a b c : Point) → cross a b c ≡ pos 0 → cross c b a ≡ pos 0
-zero_reversed a b c e = back (cross a b c) (cross c b a) (cross_reversed a b c) e
-  where
-    back : (x y : ℤ) → y ≡ neg_ℤ x → x ≡ pos 0 → y ≡ pos 0
-    back x y e f = omega (arith, ints)
+zero_reversed a b c e = omega (arith, ints, cross_reversed a b c)
 
 -- the dot product is the same backwards
 pub dot_reversed : (a b c : Point) → dot c b a ≡ dot a b c

@@ -24,10 +24,7 @@ same_self a = rw ((signed_Decides a.x a.x).1 refl, (signed_Decides a.y a.y).1 re
 
 -- points that are told apart differ
 pub same_no : (a b : Point) → is_same a b ≡ false → a ≢ b
-same_no a b e h = absurd (clash (is_same a b) (subst (λ (q : Point). is_same a q ≡ true) h (same_self a)) e)
-  where
-    clash : (t : Bool) → t ≡ true → t ≡ false → ⊥
-    clash t f g = cc
+same_no a b e h = let t : is_same a b ≡ true = subst (λ (q : Point). is_same a q ≡ true) h (same_self a) in cc
 
 -- points that differ are told apart
 pub apart_no : (a b : Point) → a ≢ b → is_same a b ≡ false
@@ -62,11 +59,7 @@ changes_last q (p ∷ ps) = go (changes_last p ps) (is_same q p) refl
 
 changes-same : (q : Point) (ps : List Point) → AllApart q ps → changes_after q ps ≡ ps
 changes-same q [] a = refl
-changes-same q (p ∷ ps) a = go (changes-same p ps a.1) (is_same q p) (apart_no q p a.0)
-  where
-    go : changes_after p ps ≡ ps → (t : Bool) → t ≡ false → cond t (changes_after p ps) (p ∷ changes_after p ps) ≡ p ∷ ps
-    go e true f = absurd (cc)
-    go e false f = ap (λ (xs : List Point). p ∷ xs) e
+changes-same q (p ∷ ps) a = rw (apart_no q p a.0) (ap (λ (xs : List Point). p ∷ xs) (changes-same p ps a.1))
 
 -- without repeats a list is no longer
 pub dedup_fewer : (q : Point) (ps : List Point) → length (changes_after q ps) ≤ length ps
@@ -102,11 +95,8 @@ dedup-same c a = changes-same (last_of origin c) c a
 
 -- ---- by places
 pub last_at : (p : Point) (ps : List Point) → get_or (p ∷ ps) (suc (length ps) - 1) origin ≡ last_of p ps
-last_at p ps = ap (λ (i : ℕ). get_or (p ∷ ps) i origin) (less_one (length ps)) ∙ from_end p ps
+last_at p ps = ap (λ (i : ℕ). get_or (p ∷ ps) i origin) (let less : suc (length ps) - 1 ≡ length ps = omega arith in less) ∙ from_end p ps
   where
-    less_one : (n : ℕ) → suc n - 1 ≡ n
-    less_one n = omega arith
-
     from_end : (p : Point) (ps : List Point) → get_or (p ∷ ps) (length ps) origin ≡ last_of p ps
     from_end p [] = refl
     from_end p (q ∷ ps) = from_end q ps

@@ -42,17 +42,11 @@ before_is n (suc k) h = inl (rw (before_later n k h) (omega arith), rw (before_l
 
 -- the place before is a place of the cycle
 pub before_within : (n k : ℕ) → k < n → place_before n k < n
-before_within n k h = within n (place_before n k) k (before_is n k h) h
-  where
-    within : (n b k : ℕ) → Follows n b k → k < n → b < n
-    within n b k B h = grind arith
+before_within n k h = let before = before_is n k h in grind arith
 
 -- the place after is a place of the cycle
 pub after_within : (n k : ℕ) → k < n → place_after n k < n
-after_within n k h = within n k (place_after n k) h (after_is n k h)
-  where
-    within : (n k a : ℕ) → k < n → Follows n k a → a < n
-    within n k a h A = grind arith
+after_within n k h = let after = after_is n k h in grind arith
 
 -- what a place follows is the place before it
 pub before_from : (n b k : ℕ) → b < n → k < n → Follows n b k → place_before n k ≡ b

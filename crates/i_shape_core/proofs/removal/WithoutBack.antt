@@ -1,5 +1,5 @@
 -- A contour without back points keeps at least three points, and none that go back, whatever zero turns are taken out.
-use Rattle.std.proofs.Common.{◌≡◌, ℕ, ◌<◌, ◌≤◌, List, length, pos, ◌≤ℤ◌, ◌<ℤ◌, ◌⊎◌, inl, inr}
+use Rattle.std.proofs.Common.{◌≡◌, ℕ, ◌<◌, ◌≤◌, List, length, pos, ◌<ℤ◌, ◌⊎◌, inl, inr}
 use Rattle.i_shape_core.proofs.Common.{Point, cross, dot, IsZeroTurn, IsBack, point_at, IsRemovable, Step, Reach, stay, step}
 use Rattle.i_shape_core.proofs.removal.Tests.{Straightens}
 use Rattle.i_shape_core.proofs.plane.Back.{back_before_straight, back_after_straight, flat_triangle, low_or_above}
@@ -8,11 +8,7 @@ use Rattle.i_shape_core.proofs.removal.BackFirst.{keeps_none}
 
 -- a zero turn that doesn't go back goes straight on
 onward : (a p q : Point) → IsZeroTurn a p q → (IsBack a p q → ⊥) → pos 0 <ℤ dot a p q
-onward a p q z n = go (low_or_above (dot a p q))
-  where
-    go : (dot a p q ≤ℤ pos 0) ⊎ (pos 0 <ℤ dot a p q) → pos 0 <ℤ dot a p q
-    go (inl d) = absurd (n (z, d))
-    go (inr d) = d
+onward a p q z n = elim (low_or_above (dot a p q)) [ inl d ↦ absurd (n (z, d)) | inr d ↦ d ]
 
 -- back points and zero turns are such tests as Straightens wants
 pub back_straightens : Straightens IsBack IsZeroTurn

@@ -32,15 +32,11 @@ reversal_yes a b c e = go (int_eq (cross a b c) (pos 0)) refl (int_lt (dot a b c
 -- what isn't told a reversal is none
 pub reversal_no : (a b c : Point) → is_reversal a b c ≡ false → IsReversed a b c → ⊥
 unfolding is_reversal
-reversal_no a b c e h = go (int_eq (cross a b c) (pos 0)) ((signed_Decides (cross a b c) (pos 0)).1 h.0) (int_lt (dot a b c) (pos 0)) (below (dot a b c) h.1) e
-  where
-    below : (d : ℤ) → d <ℤ pos 0 → true ≡ int_lt d (pos 0)
-    below d h = omega (arith, ints)
-
-    go : (s : Bool) → s ≡ true → (t : Bool) → true ≡ t → s && t ≡ false → ⊥
-    go true e true f h = cc
-    go true e false f h = cc
-    go false e t f h = cc
+reversal_no a b c e h =
+    let straight = (signed_Decides (cross a b c) (pos 0)).1 h.0 in
+    let back : true ≡ int_lt (dot a b c) (pos 0) = omega (arith, ints, h.1) in
+    let never = rw (straight, ← back) at e in
+    cc
 
 -- the last point that differs from p, or o
 abbrev pub last_differing : Point → Point → List Point → Point
