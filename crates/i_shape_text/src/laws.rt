@@ -17,11 +17,13 @@ pub fn one_reading()
 {}
 
 /// The text of a contour whose coordinates fit `i32` reads as that contour.
+#[tactic(auto, using(crate::proofs::reading::Laws::shown_reads))]
 pub fn shown_reads_back()
     ensures { (c : List Point) → AllByRecursion FitPoint c → Reads (shown c) c }
 {}
 
 /// An answer to a text that ends its lines, followed by an answer to a second text, is an answer to the two as one text.
+#[tactic(auto, using(crate::proofs::running::TwoTexts::answers_concatenated))]
 pub fn answers_concatenated()
     ensures { (command : Command) (text more output added : List ℕ)
         → EndsItsLines text → AnswersText command text output
@@ -29,6 +31,7 @@ pub fn answers_concatenated()
 {}
 
 /// An answer to the two as one text is an answer to the first, followed by one to the second.
+#[tactic(auto, using(crate::proofs::running::TwoTexts::answers_parted))]
 pub fn answers_parted()
     ensures { (command : Command) (text more output : List ℕ)
         → EndsItsLines text → AnswersText command (text ++ more) output

@@ -70,6 +70,7 @@ fn read_contour(line: &str, contour: &mut IntContour<i32>) -> Result<bool, Alloc
 }
 
 /// Returns the point that the first two words of a text write, and the text after them.
+#[tactic(auto, using(crate::proofs::reading::Lines::some_word, crate::proofs::reading::Lines::no_first))]
 fn first_point(text: &[u8]) -> Option<(IntPoint<i32>, Option<&[u8]>)>
     ensures says { IfSome result (λ r.
         SayPoint (words_of text.now) (point_of r.0) (words_left (option_copied r.1))) }

@@ -139,6 +139,7 @@ fn write_whole<W: Write>(output: &mut W, bytes: &[u8]) -> io::Result<()>
 /// Runs the program once, and returns its exit status. If `words`, the arguments after the program's name, are one command, it reads all
 /// input and writes the answer to `output`. Otherwise it reads nothing. Where it has no answer, or can't write it, it writes a line to
 /// `errors`. If that fails, the line is lost, and the status stays.
+#[tactic(auto, using(crate::proofs::running::Serving::is_usage))]
 pub fn serve<R: Read, W: Write, E: Write>(
     alloc: Global,
     words: &[String],

@@ -26,6 +26,7 @@ use std::alloc::Global;
 ///
 /// `NotAContour` and `OutOfRange` give the first line that is faulty for the command. `OutOfMemory` occurs where an allocation fails and
 /// no faulty line was found before.
+#[tactic(auto, using(crate::proofs::running::Compacting::compact_of_lines))]
 pub fn run(alloc: Global, command: Command, text: &str) -> Result<String, ToolFault>
     ensures ok { IfOk result (λ output. AnswersText command text.now (string_bytes output)) }
     ensures err { IfErr result (IsFirstFault command text.now) }

@@ -1,5 +1,5 @@
 -- Laws of reading: a line reads one contour at most, and what is shown reads back.
-use Rattle.std.proofs.Common.{◌≡◌, ℕ, ◌<◌, ◌^◌, List, [], ◌∷◌, length, map, inl, inr, ⊎_elim, suc, refl, sym, ap, ◌∙◌, subst, arith, Bool, false, ◌==◌, cond, drop}
+use Rattle.std.proofs.Common.{◌≡◌, ℕ, ◌<◌, ◌^◌, eq-zero-or-pos, List, [], ◌∷◌, length, map, inl, inr, ⊎_elim, suc, refl, sym, ap, ◌∙◌, subst, arith, Bool, false, ◌==◌, cond, drop}
 use Rattle.std.specs.Prelude.{ℤ, pos, negsuc, neg_ℤ, ◌⊎◌}
 use Rattle.std.specs.List.{join_with_byte, AllByRecursion}
 use Rattle.std.specs.Fmt.{decimal, signed_decimal}
@@ -37,17 +37,13 @@ no_words line (x ∷ y ∷ words) [] empty is says = absurd says
 no_words line ([] ∷ y ∷ words) (p ∷ c) empty is says = absurd (omega (arith, decimal_nonempty [] p.x says.0))
 no_words line ((b ∷ bs) ∷ y ∷ words) (p ∷ c) empty is says = absurd (omega (arith, ap length is))
 
-one_of : (line : List ℕ) → (length line ≡ 0) ⊎ (0 < length line)
-one_of [] = inl refl
-one_of (b ∷ bs) = inr (omega arith)
-
 -- a line reads one contour at most
 pub one_reading : (line : List ℕ) (c d : List Point) → Reads line c → Reads line d → c ≡ d
 one_reading line c d (words, is, says) (others, same, again) =
     ⊎_elim
     (λ empty. no_words line words c empty is says ∙ sym (no_words line others d empty same again))
     (λ nonempty. same_points words c d says (subst (λ ws. SayPoints ws d) (sym (words_are_parts line others d nonempty same again) ∙ words_are_parts line words c nonempty is says) again))
-    (one_of line)
+    (eq-zero-or-pos (length line))
 
 without_sign_byte : (d : ℕ) (ds : List ℕ) (minus plus : Bool) → minus ≡ false → plus ≡ false → (cond minus ds (drop (cond plus 1 0) (d ∷ ds)) ≡ d ∷ ds) × (cond minus (neg_ℤ (pos (digits_value 10 (cond minus ds (drop (cond plus 1 0) (d ∷ ds)))))) (pos (digits_value 10 (cond minus ds (drop (cond plus 1 0) (d ∷ ds))))) ≡ pos (digits_value 10 (d ∷ ds)))
 without_sign_byte d ds minus plus no_minus no_plus = rw (no_minus, no_plus) (refl, refl)

@@ -64,40 +64,25 @@ no_second words (y ∷ more) z (x, is, decimal) some none c says = go c (subst (
     go [] h = h
     go (p ∷ c) h = none y more p.y refl h.1
 
--- done is what the words before those that are left say
+-- what is left follows `done`: points that it says are said after those, and whatever the words say, what is left says some points
 pub record HasRead (words left : List (List ℕ)) (done : List Point) : Type 0 where
-  pub front : List (List ℕ)
-  pub split : words ≡ front ++ left
-  pub says : SayPoints front done
-
-says-append : (front words : List (List ℕ)) (done c : List Point) → SayPoints front done → SayPoints words c → SayPoints (front ++ words) (done ++ c)
-says-append [] words [] c says more = more
-says-append [] words (p ∷ done) c says more = absurd says
-says-append (x ∷ []) words done c says more = absurd says
-says-append (x ∷ y ∷ front) words [] c says more = absurd says
-says-append (x ∷ y ∷ front) words (p ∷ done) c says more = (says.0, says.1, says-append front words done c says.2 more)
+  pub onward : (c : List Point) → SayPoints left c → SayPoints words (done ++ c)
+  pub back : (c : List Point) → SayPoints words c → (d : List Point) × SayPoints left d
 
 -- a point more
 pub read_point : (words left more : List (List ℕ)) (done : List Point) (p : Point) → HasRead words left done → SayPoint left p more → HasRead words more (done ++ p ∷ [])
 read_point words left more done p read (x, y, is, says_x, says_y) = record {
-  front = read.front ++ x ∷ (y ∷ []);
-  split = read.split ∙ ap (λ l. read.front ++ l) is ∙ sym (append_assoc read.front (x ∷ (y ∷ [])) more);
-  says = says-append read.front (x ∷ (y ∷ [])) done (p ∷ []) read.says (says_x, says_y, tt);
+  onward = λ c says. rw append_assoc (read.onward (p ∷ c) (subst (λ ws. SayPoints ws (p ∷ c)) (sym is) (says_x, says_y, says)));
+  back = λ c says. let (d, rest) = read.back c says in behind d (subst (λ ws. SayPoints ws d) is rest);
 }
+  where
+    behind : (d : List Point) → SayPoints (x ∷ y ∷ more) d → (e : List Point) × SayPoints more e
+    behind [] h = absurd h
+    behind (q ∷ d) h = (d, h.2)
 
 -- where no word is left, the line reads what is done
 pub read_all : (line : List ℕ) (done : List Point) → HasRead (words_of line) [] done → Reads line done
-read_all line done read =
-    let says : SayPoints (words_of line) done = subst (λ ws. SayPoints ws done) (sym (read.split ∙ append-nil read.front)) read.says in
-    (words_of line, sym (join_with_byte-slice_split space line), says)
-
-says_after : (front left : List (List ℕ)) (done d : List Point) → SayPoints front done → SayPoints (front ++ left) d → (c : List Point) × SayPoints left c
-says_after [] left [] d says all = (d, all)
-says_after [] left (p ∷ done) d says all = absurd says
-says_after (x ∷ []) left done d says all = absurd says
-says_after (x ∷ y ∷ front) left [] d says all = absurd says
-says_after (x ∷ y ∷ front) left (p ∷ done) [] says all = absurd all
-says_after (x ∷ y ∷ front) left (p ∷ done) (q ∷ d) says all = says_after front left done d says.2 all.2
+read_all line done read = (words_of line, sym (join_with_byte-slice_split space line), subst (SayPoints (words_of line)) (append-nil done) (read.onward [] tt))
 
 -- the words that make a line that isn't empty are its parts
 pub words_are_parts : (line : List ℕ) (words : List (List ℕ)) (d : List Point) → 0 < length line → line ≡ join_with_byte space words → SayPoints words d → words_of line ≡ words
@@ -107,6 +92,5 @@ words_are_parts line (word ∷ words) d nonempty is says = ap words_of is ∙ pa
 -- where what is left says no points, the line reads no contour
 pub read_none : (line : List ℕ) (left : List (List ℕ)) (done : List Point) → 0 < length line → HasRead (words_of line) left done → ((c : List Point) → SayPoints left c → ⊥) → ReadsNone line
 read_none line left done nonempty read none d (words, is, says) =
-    let all : SayPoints (read.front ++ left) d = subst (λ ws. SayPoints ws d) (sym (words_are_parts line words d nonempty is says) ∙ read.split) says in
-    let (c, rest) = says_after read.front left done d read.says all in
+    let (c, rest) = read.back d (subst (λ ws. SayPoints ws d) (sym (words_are_parts line words d nonempty is says)) says) in
     none c rest

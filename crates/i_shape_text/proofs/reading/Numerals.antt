@@ -1,14 +1,16 @@
 -- The number at the front of a text.
-use Rattle.std.proofs.Common.{◌≡◌, ℕ, ℤ, ◌+◌, ◌*◌, ◌<◌, ◌^◌, List, [], ◌∷◌, ◌++◌, length, take, drop, refl, sym, ap, ◌∙◌, subst, arith, Bool, true, false, ◌==◌, cond, zero, suc, append_assoc, append-nil, length-append}
+use Rattle.std.proofs.Common.{◌≡◌, ℕ, ℤ, ◌+◌, ◌-◌, ◌*◌, ◌<◌, ◌^◌, List, [], ◌∷◌, ◌++◌, length, take, drop, refl, sym, ap, ap₂, ◌∙◌, subst, arith, Bool, true, false, ◌==◌, cond, zero, suc, append_assoc, append-nil, length-append}
 use Rattle.std.specs.List.{join_with_byte}
 use Rattle.std.specs.Char.{digit_value}
 use Rattle.std.specs.Int.{w32}
 use Rattle.std.specs.Int.RustNames.{FitsSigned}
 use Rattle.std.specs.Str.Parse.{AllDigits, IsNumeral, digits_value, without_leading_sign, starts_with_minus}
+use Rattle.std.proofs.lemmas.List.{nil_from_length, append_cancel_left}
 use Rattle.std.proofs.lemmas.List.Splits.{slice_split_none, slice_split_at, join_with_byte-slice_split}
 use Rattle.std.proofs.lemmas.List.Elements.{All-from_recursion}
 use Rattle.std.proofs.Math.Seq.{take-append_seam}
 use Rattle.std.proofs.lemmas.Int.Digits.{digits_push, digits_value_push}
+use Rattle.std.proofs.lemmas.Str.{digit_value_digit}
 use Rattle.std.proofs.lemmas.Str.Parse.{digit_from_value, digits_value-take-le}
 use Rattle.i_shape_text.specs.Text.{space, IsDecimal, words_of}
 use Rattle.i_shape_text.specs.Numeral.{EndsWord, EndsDigits, HasDigits, SaysNumber, with_sign}
@@ -21,57 +23,47 @@ pub record HasTaken (text left : List ℕ) (size : ℕ) : Type 0 where
   pub digits : AllDigits 10 taken
   pub writes : size ≡ digits_value 10 taken
 
--- before the first digit nothing is taken
-pub taken_nothing : (text : List ℕ) → HasTaken text text 0
-taken_nothing text = record { taken = []; split = refl; digits = tt; writes = refl }
-
 -- a digit more
-pub take_digit : (text left after : List ℕ) (b size : ℕ) → HasTaken text left size → left ≡ b ∷ after → digit_value b < 10 → HasTaken text after (size * 10 + digit_value b)
-take_digit text left after b size done is digit = record {
-  taken = done.taken ++ b ∷ [];
-  split = done.split ∙ ap (λ l. done.taken ++ l) is ∙ sym (append_assoc done.taken (b ∷ []) after);
-  digits = digits_push 10 done.taken b done.digits digit;
-  writes = ap (λ n. n * 10 + digit_value b) done.writes ∙ sym (digits_value_push 10 done.taken b);
-}
+pub take_digit : (text left after : List ℕ) (b size digit : ℕ) → HasTaken text left size → left ≡ b ∷ after → digit_value b < 10 → digit ≡ b - 48 → HasTaken text after (size * 10 + digit)
+take_digit text left after b size digit done is small value =
+    let same : digit ≡ digit_value b = omega (arith, value, digit_value_digit b (digit_from_value b small)) in
+    record {
+      taken = done.taken ++ b ∷ [];
+      split = done.split ∙ ap (λ l. done.taken ++ l) is ∙ sym (append_assoc done.taken (b ∷ []) after);
+      digits = digits_push 10 done.taken b done.digits small;
+      writes = ap₂ (λ n d. n * 10 + d) done.writes same ∙ sym (digits_value_push 10 done.taken b);
+    }
 
 -- a space is no digit
 ends_word : (tail : List ℕ) → EndsWord tail → EndsDigits tail
 ends_word [] ends = tt
 ends_word (b ∷ tail) ends = λ digit. let range = digit_from_value b digit in omega (arith, ends, range)
 
--- digits that the digits of another cut of the text begin with
-record GoesOn (xs rest ys tail : List ℕ) : Type 0 where
-  more : List ℕ
-  longer : ys ≡ xs ++ more
-
-goes_on : (xs rest ys tail : List ℕ) → AllDigits 10 xs → EndsDigits tail → xs ++ rest ≡ ys ++ tail → GoesOn xs rest ys tail
-goes_on [] rest ys tail digits ends is = record { more = ys; longer = refl }
+-- digits are the first of those of another cut of the text, after whose digits no digit follows
+goes_on : (xs rest ys tail : List ℕ) → AllDigits 10 xs → EndsDigits tail → xs ++ rest ≡ ys ++ tail → (more : List ℕ) × (ys ≡ xs ++ more)
+goes_on [] rest ys tail digits ends is = (ys, refl)
 goes_on (x ∷ xs) rest [] [] digits ends is = absurd (omega (arith, ap length is))
 goes_on (x ∷ xs) rest [] (t ∷ tail) digits ends is = let same : x ≡ t = cc in absurd (ends (subst (λ b. digit_value b < 10) same digits.0))
 goes_on (x ∷ xs) rest (y ∷ ys) tail digits ends is =
-    let same : x ≡ y = cc in
+    let same : y ≡ x = cc in
     let left : xs ++ rest ≡ ys ++ tail = cc in
-    let on = goes_on xs rest ys tail digits.1 ends left in
-    record { more = on.more; longer = λ i. sym same i ∷ on.longer i }
+    let (more, longer) = goes_on xs rest ys tail digits.1 ends left in
+    (more, ap₂ ◌∷◌ same longer)
 
 -- digits end where no digit follows
 same_digits : (xs rest ys tail : List ℕ) → AllDigits 10 xs → AllDigits 10 ys → EndsDigits rest → EndsDigits tail → xs ++ rest ≡ ys ++ tail → (xs ≡ ys) × (rest ≡ tail)
-same_digits [] rest [] tail h k ends stops is = (refl, is)
-same_digits [] [] (y ∷ ys) tail h k ends stops is = absurd (omega (arith, ap length is))
-same_digits [] (r ∷ rest) (y ∷ ys) tail h k ends stops is = let same : y ≡ r = cc in absurd (ends (subst (λ b. digit_value b < 10) same k.0))
-same_digits (x ∷ xs) rest [] [] h k ends stops is = absurd (omega (arith, ap length is))
-same_digits (x ∷ xs) rest [] (t ∷ tail) h k ends stops is = let same : x ≡ t = cc in absurd (stops (subst (λ b. digit_value b < 10) same h.0))
-same_digits (x ∷ xs) rest (y ∷ ys) tail h k ends stops is =
-    let same : x ≡ y = cc in
-    let left : xs ++ rest ≡ ys ++ tail = cc in
-    let both = same_digits xs rest ys tail h.1 k.1 ends stops left in
-    ((λ i. same i ∷ both.0 i), both.1)
+same_digits xs rest ys tail h k ends stops is =
+    let (more, longer) = goes_on xs rest ys tail h stops is in
+    let (back, shorter) = goes_on ys tail xs rest k ends (sym is) in
+    let none : length more ≡ 0 = omega (arith, ap length longer, ap length shorter, length-append xs more, length-append ys back) in
+    let same : xs ≡ ys = sym (longer ∙ ap (λ l. xs ++ l) (nil_from_length more none) ∙ append-nil xs) in
+    (same, append_cancel_left xs rest tail (is ∙ ap (λ l. l ++ tail) (sym same)))
 
 -- where the digits so far write too large a number, so do all
 pub too_large : (text left : List ℕ) (size most : ℕ) → HasTaken text left size → most < size → (digits rest : List ℕ) → text ≡ digits ++ rest → EndsWord rest → IsNumeral 10 digits → most < digits_value 10 digits
 too_large text left size most done over digits rest is ends numeral =
-    let on = goes_on done.taken left digits rest done.digits (ends_word rest ends) (sym done.split ∙ is) in
-    let first : take (length done.taken) digits ≡ done.taken = ap (take (length done.taken)) on.longer ∙ take-append_seam done.taken on.more in
+    let (more, longer) = goes_on done.taken left digits rest done.digits (ends_word rest ends) (sym done.split ∙ is) in
+    let first : take (length done.taken) digits ≡ done.taken = ap (take (length done.taken)) longer ∙ take-append_seam done.taken more in
     omega (arith, digits_value-take-le 10 digits (length done.taken) (omega arith), ap (digits_value 10) first, done.writes, over)
 
 -- where no digit is taken and none follows, no number stands in front
@@ -80,29 +72,10 @@ no_digits text left size done none stops digits rest is ends numeral =
     let same = same_digits done.taken left digits rest done.digits numeral.1 stops (ends_word rest ends) (sym done.split ∙ is) in
     omega (arith, ap length is, length-append digits rest, ap length same.1, numeral.0, none)
 
--- where some are taken and no more follows, these are the digits in front
-pub all_digits : (text left : List ℕ) (size : ℕ) → HasTaken text left size → (length left ≡ length text → ⊥) → EndsDigits left → HasDigits text size left
-all_digits text left size done some stops = record {
-  digits = done.taken;
-  split = done.split;
-  numeral = (nonempty done.taken done.split, done.digits);
-  writes = done.writes;
-  ends = stops;
-}
-  where
-    nonempty : (taken : List ℕ) → text ≡ taken ++ left → 0 < length taken
-    nonempty [] is = absurd (some (sym (ap length is)))
-    nonempty (d ∷ taken) is = omega arith
-
 -- where digits end
 pub ends_before : (left after : List ℕ) (b : ℕ) → left ≡ b ∷ after → (digit_value b < 10 → ⊥) → EndsDigits left
 ends_before [] after b is other = tt
 ends_before (c ∷ left) after b is other = let same : c ≡ b = cc in λ digit. other (subst (λ d. digit_value d < 10) same digit)
-
--- digits end where the text does
-pub ends_with_text : (left : List ℕ) → length left ≡ 0 → EndsDigits left
-ends_with_text [] none = tt
-ends_with_text (b ∷ left) none = absurd (omega (arith, none))
 
 -- a word that makes these digits, a sign in front at most
 record HasWord (text digits rest : List ℕ) : Type 0 where

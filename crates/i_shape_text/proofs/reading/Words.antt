@@ -20,7 +20,7 @@ parts_of_split c bs (Some x) h ascii =
     slice_split_first (λ b. b == c) bs 0 inside ∙ (λ i. sym front i ∷ slice_split (λ b. b == c) (sym back i))
 
 -- a part that isn't the last is a line
-line_before_more : (part : List ℕ) (parts : List (List ℕ)) → 0 < length parts → lines_of_parts (part ∷ parts) ≡ part ∷ lines_of_parts parts
+pub line_before_more : (part : List ℕ) (parts : List (List ℕ)) → 0 < length parts → lines_of_parts (part ∷ parts) ≡ part ∷ lines_of_parts parts
 line_before_more part [] more = absurd (omega arith)
 line_before_more part (next ∷ rest) more = refl
 

@@ -1,6 +1,8 @@
 -- Two texts one after the other, of which the first ends its lines: their lines, answers and faults.
-use Rattle.std.proofs.Common.{◌≡◌, ◌⊎◌, ℕ, ◌+◌, List, [], ◌∷◌, ◌++◌, inl, inr, Bool, true, false, cond, ◌==◌, refl, sym, ap, ap₂, ◌∙◌, append_assoc, append-nil, subst, arith, length, length-append}
+use Rattle.std.proofs.Common.{◌≡◌, ◌⊎◌, ℕ, ◌+◌, ◌<◌, List, [], ◌∷◌, ◌++◌, inl, inr, Bool, true, false, cond, ◌==◌, refl, sym, ap, ap₂, ◌∙◌, append_assoc, append-nil, subst, arith, length, length-append}
 use Rattle.std.specs.List.{concat, slice_split, onto_first, AllByRecursion, AllZip}
+use Rattle.std.proofs.lemmas.List.Folds.{concat-append}
+use Rattle.std.proofs.lemmas.List.Splits.{length-slice_split}
 use Rattle.i_shape_core.specs.Point.{Point}
 use Rattle.i_shape_core.specs.Cleaners.{SimpleAnswer, SpikelessAnswer}
 use Rattle.i_shape_core.specs.Canonical.{CanonicalAnswer}
@@ -12,7 +14,7 @@ use Rattle.i_shape_text.specs.PartedTexts.{EndsItsLines, PartedAnswer, lines_lat
 use Rattle.i_shape_text.specs.declared.fault.ToolFault.{ToolFault}
 use Rattle.i_shape_text.specs.declared.fault.ToolFault.TheVariants.{NotAContour, OutOfRange, OutOfMemory}
 use Rattle.i_shape_text.specs.Run.{Gives, IsGood, IsFaultOfLine, IsFirstFault, AnswersLines, AnswersText, ShowsArea, ShowsCleaned}
-use Rattle.i_shape_text.proofs.running.Lines.{concat-append}
+use Rattle.i_shape_text.proofs.reading.Words.{line_before_more}
 use Rattle.i_shape_text.proofs.running.Compacting.{compact_of_lines, lines_of_compact}
 
 abbrev ends : ℕ → Bool
@@ -21,24 +23,13 @@ ends b = b == newline
 abbrev parts : List ℕ → List (List ℕ)
 parts text = slice_split ends text
 
--- a list has a first member
-record HasFirst (list : List (List ℕ)) : Type 0 where
-  head : List ℕ
-  tail : List (List ℕ)
-  is : list ≡ head ∷ tail
+-- a text has a part
+some_part : (text : List ℕ) → 0 < length (parts text)
+some_part text = omega (arith, length-slice_split ends text)
 
--- a text has a first part
-
-first_part : (text : List ℕ) → HasFirst (parts text)
-first_part [] = record { head = []; tail = []; is = refl }
-first_part (b ∷ text) = go (ends b) (first_part text)
-  where
-    go : (e : Bool) → HasFirst (parts text) → HasFirst (cond e ([] ∷ parts text) (onto_first b (parts text)))
-    go true more = record { head = []; tail = parts text; is = refl }
-    go false more = record { head = b ∷ more.head; tail = more.tail; is = ap (onto_first b) more.is }
-
-onto_first-append : (b : ℕ) (list more : List (List ℕ)) → HasFirst list → onto_first b (list ++ more) ≡ onto_first b list ++ more
-onto_first-append b list more first = rw first.is refl
+onto_first-append : (b : ℕ) (list more : List (List ℕ)) → 0 < length list → onto_first b (list ++ more) ≡ onto_first b list ++ more
+onto_first-append b [] more some = absurd (omega arith)
+onto_first-append b (part ∷ list) more some = refl
 
 -- a text is cut at each end of a line
 parts-append : (front more : List ℕ) → parts (front ++ newline ∷ more) ≡ parts front ++ parts more
@@ -48,16 +39,16 @@ parts-append (b ∷ front) more = go (ends b) (parts-append front more)
     go : (e : Bool) → parts (front ++ newline ∷ more) ≡ parts front ++ parts more
         → cond e ([] ∷ parts (front ++ newline ∷ more)) (onto_first b (parts (front ++ newline ∷ more))) ≡ cond e ([] ∷ parts front) (onto_first b (parts front)) ++ parts more
     go true is = ap (λ l. [] ∷ l) is
-    go false is = ap (onto_first b) is ∙ onto_first-append b (parts front) (parts more) (first_part front)
+    go false is = ap (onto_first b) is ∙ onto_first-append b (parts front) (parts more) (some_part front)
 
 -- parts that others follow are lines
-lines-append : (list more : List (List ℕ)) → HasFirst more → lines_of_parts (list ++ more) ≡ list ++ lines_of_parts more
-lines-append [] more first = refl
-lines-append (part ∷ []) more first = rw first.is refl
-lines-append (part ∷ next ∷ list) more first = ap (λ l. part ∷ l) (lines-append (next ∷ list) more first)
+lines-append : (list more : List (List ℕ)) → 0 < length more → lines_of_parts (list ++ more) ≡ list ++ lines_of_parts more
+lines-append [] more some = refl
+lines-append (part ∷ list) more some =
+    line_before_more part (list ++ more) (omega (arith, length-append list more)) ∙ ap (λ l. part ∷ l) (lines-append list more some)
 
 lines_after : (front more : List ℕ) → lines_of (front ++ newline ∷ more) ≡ parts front ++ lines_of more
-lines_after front more = ap lines_of_parts (parts-append front more) ∙ lines-append (parts front) (parts more) (first_part more)
+lines_after front more = ap lines_of_parts (parts-append front more) ∙ lines-append (parts front) (parts more) (some_part more)
 
 -- the lines of two texts, of which the first ends its lines
 pub lines_of_both : (text more : List ℕ) → EndsItsLines text → lines_of (text ++ more) ≡ lines_of text ++ lines_of more
@@ -98,23 +89,17 @@ zip_parted R (x ∷ xs) zs (y ∷ ys) h =
     let p = zip_parted R xs zs ys h.1 in
     record { left = y ∷ p.left; right = p.right; whole = ap (λ l. y ∷ l) p.whole; of_left = (h.0, p.of_left); of_right = p.of_right }
 
-module _ (command : Command) (Answers : List Point → List ℕ → Type 0) where
-  lines_parted : (text more output : List ℕ) → EndsItsLines text → AnswersLines command Answers (text ++ more) output → Parted (AnswersLines command Answers text) (AnswersLines command Answers more) output
-  lines_parted text more output whole (contours, answers, read, each, is) =
-      let c = zip_parted (Gives command) (lines_of text) (lines_of more) contours (subst (λ l. AllZip (Gives command) l contours) (lines_of_both text more whole) read) in
-      let a = zip_parted Answers c.left c.right answers (subst (λ l. AllZip Answers l answers) c.whole each) in
-      record {
-        left = concat a.left;
-        right = concat a.right;
-        whole = is ∙ ap concat a.whole ∙ concat-append a.left a.right;
-        of_left = (c.left, a.left, c.of_left, a.of_left, refl);
-        of_right = (c.right, a.right, c.of_right, a.of_right, refl);
-      }
-
-  as_answer : (text more output : List ℕ) → EndsItsLines text → ((t out : List ℕ) → AnswersLines command Answers t out → AnswersText command t out) → AnswersLines command Answers (text ++ more) output → PartedAnswer command text more output
-  as_answer text more output whole says h =
-      let p = lines_parted text more output whole h in
-      record { first = p.left; second = p.right; whole = p.whole; answers_first = says text p.left p.of_left; answers_second = says more p.right p.of_right }
+as_answer : (command : Command) (Answers : List Point → List ℕ → Type 0) (text more output : List ℕ) → EndsItsLines text → ((t out : List ℕ) → AnswersLines command Answers t out → AnswersText command t out) → AnswersLines command Answers (text ++ more) output → PartedAnswer command text more output
+as_answer command Answers text more output whole says (contours, answers, read, each, is) =
+    let c = zip_parted (Gives command) (lines_of text) (lines_of more) contours (subst (λ l. AllZip (Gives command) l contours) (lines_of_both text more whole) read) in
+    let a = zip_parted Answers c.left c.right answers (subst (λ l. AllZip Answers l answers) c.whole each) in
+    record {
+      first = concat a.left;
+      second = concat a.right;
+      whole = is ∙ ap concat a.whole ∙ concat-append a.left a.right;
+      answers_first = says text (concat a.left) (c.left, a.left, c.of_left, a.of_left, refl);
+      answers_second = says more (concat a.right) (c.right, a.right, c.of_right, a.of_right, refl);
+    }
 
 -- an answer to both texts is one to the first and then one to the second
 pub answers_parted : (command : Command) (text more output : List ℕ) → EndsItsLines text → AnswersText command (text ++ more) output → PartedAnswer command text more output
@@ -129,15 +114,13 @@ cut_at : {A : Type 0} (xs ys before : List A) (z : A) (after : List A) → xs ++
     → ((rest : List A) × (xs ≡ before ++ z ∷ rest)) ⊎ ((mid : List A) × (before ≡ xs ++ mid) × (ys ≡ mid ++ z ∷ after))
 cut_at [] ys before z after e = inr (before, refl, e)
 cut_at (x ∷ xs) ys [] z after e = let same : x ≡ z = cc in inl (xs, ap (λ w. w ∷ xs) same)
-cut_at {A} (x ∷ xs) ys (b ∷ before) z after e = go (cut_at xs ys before z after cc)
-  where
-    same : x ≡ b
-    same = cc
-
-    go : ((rest : List A) × (xs ≡ before ++ z ∷ rest)) ⊎ ((mid : List A) × (before ≡ xs ++ mid) × (ys ≡ mid ++ z ∷ after))
-        → ((rest : List A) × (x ∷ xs ≡ b ∷ before ++ z ∷ rest)) ⊎ ((mid : List A) × (b ∷ before ≡ x ∷ xs ++ mid) × (ys ≡ mid ++ z ∷ after))
-    go (inl (rest, is)) = inl (rest, ap₂ ◌∷◌ same is)
-    go (inr (mid, is, left)) = inr (mid, ap₂ ◌∷◌ (sym same) is, left)
+cut_at (x ∷ xs) ys (b ∷ before) z after e =
+    let same : x ≡ b = cc in
+    let later : xs ++ ys ≡ before ++ z ∷ after = cc in
+    elim (cut_at xs ys before z after later) [
+      | inl w ↦ inl (w.0, ap₂ ◌∷◌ same w.1)
+      | inr w ↦ inr (w.0, ap₂ ◌∷◌ (sym same) w.1, w.2)
+    ]
 
 good_both : (command : Command) (xs ys : List (List ℕ)) → AllByRecursion (IsGood command) xs → AllByRecursion (IsGood command) ys → AllByRecursion (IsGood command) (xs ++ ys)
 good_both command [] ys h k = k

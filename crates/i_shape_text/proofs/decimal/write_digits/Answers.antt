@@ -4,14 +4,6 @@ use Rattle.std.proofs.lemmas.List.{drop-set}
 use Rattle.i_shape_text.proofs.showing.Decimals.{decimal_pair, length_pair, decimal_two, length_two, length_one}
 use Rattle.i_shape_text.proofs.decimal.write_digits.Goals as goal
 
-pub overflow_sub-start : goal.overflow_sub-start
-overflow_sub-start c = omega (arith, length_pair c.loop-left.left c.loop-left-test.true c.loop-left.auto.left-fits.fits, c.loop-left.invariant.0)
-
-pub write_pair-requires : goal.write_pair-requires
-write_pair-requires c =
-    let long = length_pair c.loop-left.left c.loop-left-test.true c.loop-left.auto.left-fits.fits in
-    (omega arith, omega (arith, long, c.loop-left.invariant.0, c.loop-left.invariant.1, c.loop-left.auto.text, c.requires.1))
-
 pub loop-left-preserved : goal.loop-left-preserved
 loop-left-preserved c =
     let l = c.loop-left in
@@ -23,38 +15,12 @@ loop-left-preserved c =
       rw (c.write_pair.ensures, back) (rw (decimal_pair l.left c.loop-left-test.true l.auto.left-fits.fits, append_assoc) at l.invariant.3),
     )
 
-pub overflow_sub-start-then-left-ge10 : goal.overflow_sub-start-then-left-ge10
-overflow_sub-start-then-left-ge10 c = omega (arith, length_two c.loop-left.left c.if-left-ge10.true c.loop-left-test.false, c.loop-left.invariant.0)
-
-pub write_pair-requires-then-left-ge10 : goal.write_pair-requires-then-left-ge10
-write_pair-requires-then-left-ge10 c =
-    let long = length_two c.loop-left.left c.if-left-ge10.true c.loop-left-test.false in
-    (c.loop-left-test.false, omega (arith, long, c.loop-left.invariant.0, c.loop-left.invariant.1, c.loop-left.auto.text, c.requires.1))
-
-pub overflow_sub-result : goal.overflow_sub-result
-overflow_sub-result c = omega (arith, length_two c.loop-left.left c.if-left-ge10.true c.loop-left-test.false, c.loop-left.invariant.0)
-
-pub returns-then-left-ge10-clause-start : goal.returns-then-left-ge10-clause-start
-returns-then-left-ge10-clause-start c = omega (arith, length_two c.loop-left.left c.if-left-ge10.true c.loop-left-test.false, c.loop-left.invariant.0, c.loop-left.invariant.2)
-
 pub returns-then-left-ge10-clause-written : goal.returns-then-left-ge10-clause-written
 returns-then-left-ge10-clause-written c =
     let l = c.loop-left in
     let long = length_two l.left c.if-left-ge10.true c.loop-left-test.false in
     let back : l.start - 2 + 2 ≡ l.start = omega (arith, long, l.invariant.0) in
     rw (c.write_pair-then-left-ge10.ensures, back) (rw (decimal_two l.left c.if-left-ge10.true c.loop-left-test.false) at l.invariant.3)
-
-pub overflow_sub-text : goal.overflow_sub-text
-overflow_sub-text c = omega (arith, length_one c.loop-left.left c.if-left-ge10.false, c.loop-left.invariant.0)
-
-pub bounds-text-start : goal.bounds-text-start
-bounds-text-start c = omega (arith, length_one c.loop-left.left c.if-left-ge10.false, c.loop-left.invariant.0, c.loop-left.invariant.1, c.loop-left.auto.text, c.requires.1)
-
-pub overflow_sub-result-2 : goal.overflow_sub-result-2
-overflow_sub-result-2 c = omega (arith, length_one c.loop-left.left c.if-left-ge10.false, c.loop-left.invariant.0)
-
-pub returns-clause-start : goal.returns-clause-start
-returns-clause-start c = omega (arith, length_one c.loop-left.left c.if-left-ge10.false, c.loop-left.invariant.0, c.loop-left.invariant.2)
 
 pub returns-clause-written : goal.returns-clause-written
 returns-clause-written c =

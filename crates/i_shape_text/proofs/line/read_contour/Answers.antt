@@ -24,9 +24,3 @@ loop-rest-preserved c =
 
 pub returns : goal.returns
 returns c = read_all c.args.line.now (contour_of c.loop-rest.contour.items) (rw c.in_default.is at c.loop-rest.invariant)
-
-pub loop-rest-init : goal.loop-rest-init
-loop-rest-init c = search rules
-
-pub returns-then-is_empty : goal.returns-then-is_empty
-returns-then-is_empty c = grind (arith, common_steps)

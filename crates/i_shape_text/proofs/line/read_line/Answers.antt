@@ -5,15 +5,6 @@ use Rattle.i_shape_text.specs.Command.{IsCleaner}
 use Rattle.i_shape_text.proofs.line.read_line.Goals as goal
 use Rattle.i_shape_text.proofs.line.read_line.Goals.{else-is_cleaner-via-then-is_cleaner+else-not-is_safe, else-is_cleaner-via-else-is_cleaner}
 
-pub returns-then-not-branch-clause-err : goal.returns-then-not-branch-clause-err
-returns-then-not-branch-clause-err c = (refl, rw c.if-not-branch.true at c.in_ok-read_contour.ensures)
-
-pub returns-then-not-is_safe-clause-err : goal.returns-then-not-is_safe-clause-err
-returns-then-not-is_safe-clause-err c =
-    let read = contour_of c.read_contour.new.contour.items in
-    let not_safe : IsSafe read → ⊥ = λ safe. false≢true (sym c.if-not-is_safe.true ∙ c.is_safe.ensures.1 safe) in
-    (refl, (c.is_cleaner.ensures.0 c.if-is_cleaner.true, (read, rw c.if-not-branch.false at c.in_ok-read_contour.ensures, not_safe)))
-
 pub returns-clause-ok : goal.returns-clause-ok
 returns-clause-ok c =
     let read = contour_of c.read_contour.new.contour.items in

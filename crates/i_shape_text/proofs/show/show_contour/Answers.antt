@@ -6,9 +6,6 @@ use Rattle.i_shape_text.specs.Points.{contour_of}
 use Rattle.i_shape_text.proofs.showing.Contours.{without_first_space}
 use Rattle.i_shape_text.proofs.show.show_contour.Goals as goal
 
-pub loop-left-init : goal.loop-left-init
-loop-left-init c = (omega arith, ap (λ l. string_bytes c.args.output.now ++ l) (without_first_space (contour_of c.args.contour.now)))
-
 pub from_utf8_unchecked-requires : goal.from_utf8_unchecked-requires
 from_utf8_unchecked-requires c =
     let w = c.write_points in

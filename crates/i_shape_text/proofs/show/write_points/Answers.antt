@@ -19,6 +19,3 @@ loop-last-preserved c =
       subst IsAscii (sym w.ensures.written) (IsAscii-append (spaced (point_of last)) rest w.ensures.ascii l.invariant.2),
       ap (λ text. spaced_points (contour_of others) ++ text) w.ensures.written ∙ last_spaced l.left.now others last rest split.0 ∙ l.invariant.3,
     )
-
-pub returns-clause-within : goal.returns-clause-within
-returns-clause-within c = starts_within c.loop-last.text c.args.points.now c.loop-last.left.now c.loop-last.start c.in_default.ensures.cases c.loop-last.invariant.3

@@ -2,11 +2,8 @@ use Rattle.std.proofs.Common.{string_bytes, subst, rules}
 use Rattle.std.proofs.lemmas.Result.{err_from_is_err_and}
 use Rattle.i_shape_text.specs.declared.fault.ToolFault.TheVariants.{OutOfMemory}
 use Rattle.i_shape_text.specs.Points.{contour_of}
-use Rattle.i_shape_text.proofs.running.Lines.{answered_nothing, answer_more, answered_all, fault_after}
+use Rattle.i_shape_text.proofs.running.Lines.{answer_more, answered_all, fault_after}
 use Rattle.i_shape_text.proofs.text.answer_lines.Goals as goal
-
-pub loop-rest-init : goal.loop-rest-init
-loop-rest-init g c = (c.utf8.text, answered_nothing c.args.command g.A.ContourAnswer.answers c.args.text.now (string_bytes c.new-output.result) c.new-output.ensures.bytes)
 
 pub returns-in_err-read_line-clause-err : goal.returns-in_err-read_line-clause-err
 returns-in_err-read_line-clause-err g c =
