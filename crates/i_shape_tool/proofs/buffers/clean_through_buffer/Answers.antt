@@ -1,4 +1,4 @@
-use Rattle.std.proofs.Common.{rules, ◌∙◌, ap, sym, subst, IfOk}
+use Rattle.std.proofs.Common.{◌∙◌, ap, sym, subst, IfOk}
 use Rattle.i_shape.specs.Cleaners.{SimpleAnswer}
 use Rattle.i_shape.specs.Paths.{shape_lists}
 use Rattle.i_shape.specs.ShapeLists.{shapes_of, IsSafeList}
@@ -15,9 +15,6 @@ pub returns-clause-clean : goal.returns-clause-clean
 returns-clause-clean g c =
     let same = same_shapes g.I.IntNumber.value c.as_slice.result.now c.args.shapes.now (ap shape_lists c.as_slice.ensures.value ∙ c.in_ok-kept.ensures.same) in
     subst (λ shapes. IfOk c.simplified.result (λ r. ListClean SimpleAnswer shapes (shapes_of g.I.IntNumber.value r.items))) same (of_ok c.simplified.result (λ r cleaned. cleaned.answer) c.simplified.ensures.answer)
-
-pub returns-in_err-kept-clause-too_many : goal.returns-in_err-kept-clause-too_many
-returns-in_err-kept-clause-too_many g c = search rules
 
 pub returns-clause-kept : goal.returns-clause-kept
 returns-clause-kept g c =

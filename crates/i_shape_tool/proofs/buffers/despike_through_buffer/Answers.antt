@@ -1,4 +1,4 @@
-use Rattle.std.proofs.Common.{rules, sym, subst}
+use Rattle.std.proofs.Common.{sym, subst}
 use Rattle.i_shape.specs.Cleaners.{DespikeAnswer}
 use Rattle.i_shape.specs.ShapeLists.{shapes_of, IsSafeList}
 use Rattle.i_shape.specs.ShapeAnswers.{ListClean, ListKept}
@@ -19,6 +19,3 @@ pub returns-clause-kept : goal.returns-clause-kept
 returns-clause-kept g c =
     let same = same_shapes g.I.IntNumber.value c.in_ok-kept.kept.items c.args.shapes.now c.in_ok-kept.ensures.same in
     subst (λ shapes. ListKept DespikeAnswer shapes (shapes_of g.I.IntNumber.value c.remove_spikes.new.self.items)) same c.in_ok-remove_spikes.ensures.gives.kept
-
-pub returns-in_err-kept-clause-too_many : goal.returns-in_err-kept-clause-too_many
-returns-in_err-kept-clause-too_many g c = search rules
