@@ -1,5 +1,4 @@
 use Rattle.std.proofs.Common.{arith, ap, length}
-use Rattle.std.proofs.lemmas.Grind.{common_steps}
 use Rattle.i_shape_source.specs.Paths.{paths_of_shape, concatenated}
 use Rattle.i_shape.proofs.lists.EndToEnd.{all_points_step, all_ranges_step, all_length_step, all_length_within, length_step, length_within, as_contours}
 use Rattle.i_shape.proofs.flat.lists.append_all_contours.Goals as goal
@@ -21,9 +20,3 @@ loop-shape-preserved g c = record {
   points_capacity = omega arith;
   ranges_capacity = omega arith;
 }
-
-pub returns-clause-points : goal.returns-clause-points
-returns-clause-points g c = grind (arith, common_steps)
-
-pub returns-clause-ranges : goal.returns-clause-ranges
-returns-clause-ranges g c = grind (arith, common_steps)

@@ -1,5 +1,4 @@
 use Rattle.std.proofs.Common.{arith, ap, length}
-use Rattle.std.proofs.lemmas.Grind.{common_steps}
 use Rattle.i_shape.proofs.lists.EndToEnd.{points_step, ranges_step, length_step, length_within}
 use Rattle.i_shape.proofs.flat.lists.append_contours.Goals as goal
 
@@ -16,12 +15,3 @@ loop-contour-preserved g c = record {
   points_capacity = omega arith;
   ranges_capacity = omega arith;
 }
-
-pub returns-clause-points : goal.returns-clause-points
-returns-clause-points g c = grind (arith, common_steps)
-
-pub returns-clause-ranges : goal.returns-clause-ranges
-returns-clause-ranges g c = grind (arith, common_steps)
-
-pub returns-clause-points_len : goal.returns-clause-points_len
-returns-clause-points_len g c = grind (arith, common_steps)

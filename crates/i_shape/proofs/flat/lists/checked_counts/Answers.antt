@@ -1,5 +1,4 @@
 use Rattle.std.proofs.Common.{arith, length, ap, inl, inr, refl, ◌∙◌}
-use Rattle.std.proofs.lemmas.Grind.{common_steps}
 use Rattle.i_shape_source.specs.Paths.{paths_of_shape, concatenated}
 use Rattle.i_shape.proofs.lists.EndToEnd.{all_length_step, all_length_within, length_step, length_within, as_contours}
 use Rattle.i_shape.proofs.flat.lists.checked_counts.Goals as goal
@@ -26,6 +25,3 @@ loop-shape-preserved g c =
     let contours_more = length_step (λ s. paths_of_shape s.items) c.args.shapes.now c.loop-shape.shape-index c.shape-item.result c.loop-shape-test.true c.shape-item.is 0 c.loop-shape.contours c.in_ok-contours.contours c.shape-item.result.len
     (omega arith) (c.shape-item.result.ok.0 ∙ as_contours _ _ refl) (omega (arith, c.in_ok-contours.ensures)) in
     record { points = omega (arith, points_more); contours = omega (arith, contours_more) }
-
-pub returns : goal.returns
-returns g c = grind (arith, common_steps)

@@ -1,5 +1,4 @@
 use Rattle.std.proofs.Common.{arith}
-use Rattle.std.proofs.lemmas.Grind.{common_steps}
 use Rattle.i_shape.proofs.lists.EndToEnd.{length_step, length_within}
 use Rattle.i_shape.proofs.flat.lists.checked_points_count.Goals as goal
 
@@ -12,6 +11,3 @@ pub loop-contour-preserved : goal.loop-contour-preserved
 loop-contour-preserved g c =
     let more = length_step (λ v. v.items) c.args.contours.now c.loop-contour.contour-index c.contour-item.result c.loop-contour-test.true c.contour-item.is 0 c.loop-contour.total c.in_ok-total.total c.contour-item.result.len (omega arith) c.contour-item.result.ok.0 (omega (arith, c.in_ok-total.ensures)) in
     omega (arith, more)
-
-pub returns : goal.returns
-returns g c = grind (arith, common_steps)

@@ -1,4 +1,4 @@
-use Rattle.std.proofs.Common.{rules, ◌∙◌, ap}
+use Rattle.std.proofs.Common.{◌∙◌, ap}
 use Rattle.i_shape_core.proofs.measure.AreaWalk.{half-fits}
 use Rattle.i_shape.proofs.int.area.Area.area.Goals as goal
 
@@ -6,6 +6,3 @@ pub divide-requires-clause-fits : goal.divide-requires-clause-fits
 divide-requires-clause-fits g c =
     let wide = g.met.I.Wide.WideIntNumber in
     half-fits g.I.Wide.WideIntNumber.width _ _ _ c.area_two.ensures (ap g.I.Wide.WideIntNumber.value c.TWO.ensures ∙ wide.two_value)
-
-pub returns : goal.returns
-returns g c = search rules

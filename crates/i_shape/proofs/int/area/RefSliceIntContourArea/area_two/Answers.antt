@@ -1,5 +1,4 @@
-use Rattle.std.proofs.Common.{arith, ◌∙◌, ap, subst, sym}
-use Rattle.std.proofs.lemmas.Grind.{common_steps}
+use Rattle.std.proofs.Common.{◌∙◌, ap, subst, sym}
 use Rattle.std.specs.Int.{int_wrap}
 use Rattle.i_shape.specs.IntPoint.{contour_of}
 use Rattle.i_shape.specs.Edges.{shoelace}
@@ -18,9 +17,3 @@ loop-contour-preserved g c =
     sum-more g.I.Wide.WideIntNumber.width shoelace (λ contour. contour_of g.I.IntNumber.value contour.items) c.args.self.now.now c.loop-contour.contour-index c.contour-item.result _ _ _
     c.loop-contour-test.true c.contour-item.is c.loop-contour.invariant
     (c.area_two.ensures ∙ ap (λ points. int_wrap g.I.Wide.WideIntNumber.width (shoelace (contour_of g.I.IntNumber.value points))) c.as_slice.ensures.value) c.wrapping_add-sum.ensures
-
-pub loop-contour-init : goal.loop-contour-init
-loop-contour-init g c = grind (arith, common_steps)
-
-pub returns : goal.returns
-returns g c = grind (arith, common_steps)

@@ -1,5 +1,4 @@
-use Rattle.std.proofs.Common.{arith, ◌∙◌, ap, subst, sym}
-use Rattle.std.proofs.lemmas.Grind.{common_steps}
+use Rattle.std.proofs.Common.{◌∙◌, ap, subst, sym}
 use Rattle.std.specs.Int.{int_wrap}
 use Rattle.std.specs.List.{All}
 use Rattle.i_shape.specs.ShapeLists.{shape_of}
@@ -18,9 +17,3 @@ loop-shape-preserved g c =
     sum-more g.I.Wide.WideIntNumber.width shape_shoelace (λ shape. shape_of g.I.IntNumber.value shape.items) c.args.self.now.now c.loop-shape.shape-index c.shape-item.result _ _ _
     c.loop-shape-test.true c.shape-item.is c.loop-shape.invariant
     (c.area_two.ensures ∙ ap (λ contours. int_wrap g.I.Wide.WideIntNumber.width (shape_shoelace (shape_of g.I.IntNumber.value contours))) c.as_slice.ensures.value) c.wrapping_add-sum.ensures
-
-pub loop-shape-init : goal.loop-shape-init
-loop-shape-init g c = grind (arith, common_steps)
-
-pub returns : goal.returns
-returns g c = grind (arith, common_steps)

@@ -1,5 +1,4 @@
-use Rattle.std.proofs.Common.{arith, vec_len}
-use Rattle.std.proofs.lemmas.Grind.{common_steps}
+use Rattle.std.proofs.Common.{vec_len}
 use Rattle.std.specs.List.{sum_by}
 use Rattle.i_shape.proofs.lists.WrappedSums.{count-rest}
 use Rattle.i_shape.proofs.int.count.RefSliceIntShapePointsCount.points_count.Goals as goal
@@ -9,9 +8,3 @@ loop-shape-preserved g c =
     rw (c.points_count-count.ensures, c.as_slice.ensures.value)
     (count-rest (λ shape. sum_by (λ contour. vec_len contour) shape.items) c.args.self.now.now c.loop-shape.shape-index c.loop-shape.count c.shape-item.result
     c.loop-shape-test.true c.shape-item.is c.loop-shape.invariant)
-
-pub points_count-count-requires : goal.points_count-count-requires
-points_count-count-requires g c = grind (arith, common_steps)
-
-pub returns : goal.returns
-returns g c = grind (arith, common_steps)

@@ -1,10 +1,6 @@
-use Rattle.std.proofs.Common.{rules}
 use Rattle.i_shape.proofs.buffers.Contours.{HoldsContours-appended}
 use Rattle.i_shape.proofs.flat.buffer.contours.FlatContoursBuffer.set_with_shapes.Goals as goal
 
 pub returns-clause-ok : goal.returns-clause-ok
 returns-clause-ok g c =
     HoldsContours-appended c.clear_and_reserve.new.self _ _ c.in_ok-clear_and_reserve.ensures.ok c.append_all_contours.ensures.points c.append_all_contours.ensures.ranges
-
-pub returns-in_err-counts-clause-too_many : goal.returns-in_err-counts-clause-too_many
-returns-in_err-counts-clause-too_many g c = search rules

@@ -1,4 +1,4 @@
-use Rattle.std.proofs.Common.{rules, refl, ◌∙◌}
+use Rattle.std.proofs.Common.{refl, ◌∙◌}
 use Rattle.i_shape.proofs.lists.EndToEnd.{as_contours}
 use Rattle.i_shape.proofs.buffers.Shapes.{AddsShape-from_lists}
 use Rattle.i_shape.proofs.flat.buffer.shapes.FlatShapesBuffer.add_shape.Goals as goal
@@ -8,6 +8,3 @@ returns-clause-ok g c =
     AddsShape-from_lists _ _ _ _ _ _ _ _ _ c.reserve.ensures.items c.reserve-2.ensures.items c.reserve-3.ensures.items
     (c.reserve.ensures.len ∙ c.args.self.now.points.ok.0) (c.reserve-2.ensures.len ∙ c.args.self.now.contour_ranges.ok.0)
     (as_contours c.args.shape.now c.args.shape.now refl) c.append_shape.ensures.points c.append_shape.ensures.contour_ranges c.append_shape.ensures.shape_ranges
-
-pub returns-then-count-len-clause-too_many : goal.returns-then-count-len-clause-too_many
-returns-then-count-len-clause-too_many g c = search rules

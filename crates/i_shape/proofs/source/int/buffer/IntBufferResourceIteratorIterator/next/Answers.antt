@@ -1,5 +1,4 @@
-use Rattle.std.proofs.Common.{arith, rules, length}
-use Rattle.std.proofs.lemmas.Grind.{common_steps}
+use Rattle.std.proofs.Common.{length}
 use Rattle.std.specs.List.{All}
 use Rattle.std.proofs.lemmas.List.Elements.{All-tail}
 use Rattle.i_shape.specs.Flat.{InOrder}
@@ -9,9 +8,3 @@ pub invariant_of-self : goal.invariant_of-self
 invariant_of-self g c =
     let readable : All (InOrder (length c.self.inside.points.now)) c.self.inside.ranges.now = c.self.invariant in
     All-tail (InOrder (length c.self.inside.points.now)) _ _ (rw c.in_ok-range.ensures.cases.0 at readable)
-
-pub returns : goal.returns
-returns g c = search rules
-
-pub returns-in_err-range-clause-steps : goal.returns-in_err-range-clause-steps
-returns-in_err-range-clause-steps g c = grind (arith, common_steps)
