@@ -1,5 +1,5 @@
 -- What holds along permutations.
-use Rattle.std.proofs.Common.{◌≡◌, ℕ, zero, suc, ◌<◌, List, [], ◌∷◌, length, get_or, set, swap, subst, arith, IsPermutation}
+use Rattle.std.proofs.Common.{ℕ, zero, suc, ◌<◌, List, [], ◌∷◌, length, get_or, set, swap, arith, IsPermutation}
 use Rattle.std.specs.List.{AllZip}
 use Rattle.std.proofs.lemmas.List.Sorted.{IsPermutation-refl, IsPermutation-keeps, IsPermutation-cons, IsPermutation-middle, IsPermutation-trans}
 
@@ -49,52 +49,3 @@ module _ {X Y : Type 0} (G : X → Y → Type 0) where
   -- a related list follows each permutation
   pub follows_permutation : (xs ys : List X) → IsPermutation xs ys → Follows xs ys
   follows_permutation = along_permutation Follows (λ xs us z. (us, IsPermutation-refl us, z)) follows_skip follows_exchange follows_chain
-
--- What is left of two permutations of each other without the first place at which each has x.
-module _ {X : Type 0} (decide : (x y : X) → Dec (x ≡ y)) (x : X) where
-  without_at : {y : X} → Dec (x ≡ y) → List X → List X → List X
-  without_at (yes e) ys rest = ys
-  without_at {y} (no n) ys rest = y ∷ rest
-
-  -- the list without the first place at which it has x
-  pub without_first : List X → List X
-  without_first [] = []
-  without_first (y ∷ ys) = without_at (decide x y) ys (without_first ys)
-
-  without_here : (ys : List X) → without_first (x ∷ ys) ≡ ys
-  unfolding without_at without_first
-  without_here ys = go (decide x x)
-    where
-      go : (d : Dec (x ≡ x)) → without_at d ys (without_first ys) ≡ ys
-      go (yes e) = λ i. ys
-      go (no n) = absurd (n (λ i. x))
-
-  -- without the first x of each, the two lists are permutations of each other
-  abbrev pub StayAlike : List X → List X → Type 0
-  StayAlike xs ys = IsPermutation (without_first xs) (without_first ys)
-
-  alike_skip : (y : X) (xs ys : List X) → IsPermutation xs ys × StayAlike xs ys → IsPermutation (y ∷ xs) (y ∷ ys) × StayAlike (y ∷ xs) (y ∷ ys)
-  unfolding without_at without_first
-  alike_skip y xs ys h = (IsPermutation-cons y xs ys h.0, go (decide x y))
-    where
-      go : (d : Dec (x ≡ y)) → IsPermutation (without_at d xs (without_first xs)) (without_at d ys (without_first ys))
-      go (yes e) = h.0
-      go (no n) = IsPermutation-cons y _ _ h.1
-
-  alike_exchange : (y z : X) (xs : List X) → IsPermutation (y ∷ z ∷ xs) (z ∷ y ∷ xs) × StayAlike (y ∷ z ∷ xs) (z ∷ y ∷ xs)
-  unfolding without_at without_first
-  alike_exchange y z xs = (IsPermutation-middle (y ∷ []) z xs, go (decide x y) (decide x z))
-    where
-      go : (d : Dec (x ≡ y)) (e : Dec (x ≡ z)) → IsPermutation (without_at d (z ∷ xs) (without_at e xs (without_first xs))) (without_at e (y ∷ xs) (without_at d xs (without_first xs)))
-      go (yes a) (yes b) = let same : z ≡ y = cc in subst (λ w. IsPermutation (z ∷ xs) (w ∷ xs)) same (IsPermutation-refl (z ∷ xs))
-      go (yes a) (no b) = IsPermutation-refl (z ∷ xs)
-      go (no a) (yes b) = IsPermutation-refl (y ∷ xs)
-      go (no a) (no b) = IsPermutation-middle (y ∷ []) z (without_first xs)
-
-  stay_alike : (xs ys : List X) → IsPermutation xs ys → IsPermutation xs ys × StayAlike xs ys
-  stay_alike = along_permutation (λ xs ys. IsPermutation xs ys × StayAlike xs ys) (λ xs. (IsPermutation-refl xs, IsPermutation-refl (without_first xs))) alike_skip alike_exchange
-      (λ xs ys zs h k. (IsPermutation-trans xs ys zs h.0 k.0, IsPermutation-trans _ _ _ h.1 k.1))
-
-  -- one head less
-  pub IsPermutation-tail : (xs ys : List X) → IsPermutation (x ∷ xs) (x ∷ ys) → IsPermutation xs ys
-  IsPermutation-tail xs ys h = rw (without_here xs, without_here ys) at (stay_alike (x ∷ xs) (x ∷ ys) h).1
