@@ -1,10 +1,10 @@
 -- What callers need beside the contracts: from a buffer to the contours that it holds, from lists of points to shapes, and what whole lists keep.
-use Rattle.std.proofs.Common.{◌≡◌, ◌↔◌, ◌≤◌, ℕ, ◌+◌, ◌-◌, ℤ, List, [], ◌∷◌, ◌++◌, length, map, take, drop, refl, sym, ap, subst, ◌∙◌, arith, length-append, Option, Some, None, option_map, IfSome, Bool, false, IsTrue, Result, Ok, Err, IfOk}
+use Rattle.std.proofs.Common.{◌≡◌, ◌↔◌, ◌≤◌, ℕ, ◌+◌, ◌-◌, ℤ, List, [], ◌∷◌, ◌++◌, length, map, take, drop, refl, sym, ap, subst, ◌∙◌, arith, length-append, Option, Some, None, IfSome, Bool, Result, Ok, Err, IfOk}
 use Rattle.std.specs.Global.{Vec}
 use Rattle.std.specs.Int.{Width}
 use Rattle.std.specs.declared.ops.Range.{Range}
 use Rattle.std.specs.Result.{IsOk, IsErr, is_ok, OnOk, IsOkUnless}
-use Rattle.std.specs.List.{All, AllZip, filter_map, sum_by, slice_get}
+use Rattle.std.specs.List.{All, sum_by}
 use Rattle.std.proofs.lemmas.Int.{ints}
 use Rattle.std.proofs.lemmas.List.Elements.{All-nil, All-cons, All-head, All-tail, All-append, All-take, All-drop}
 use Rattle.std.proofs.lemmas.List.{map-append}
@@ -13,9 +13,8 @@ use Rattle.std.proofs.lemmas.Simd.{map-map}
 use Rattle.i_shape_core.specs.Point.{Point, IsBack}
 use Rattle.i_shape_core.specs.IntPoint.{contour_of, point_of, IsSafe}
 use Rattle.i_shape_core.specs.Contour.{IsSimple, IsRemovable, Reach, stay, step}
-use Rattle.i_shape_core.specs.Edges.{Inside}
 use Rattle.i_shape_core.specs.Convex.{NoSpikes}
-use Rattle.i_shape_core.specs.Cleaners.{SimpleAnswer, SpikelessAnswer, DespikeAnswer, KeptAnswer, IsKept, EachEndCollapses}
+use Rattle.i_shape_core.specs.Cleaners.{SimpleAnswer, SpikelessAnswer, DespikeAnswer, KeptAnswer, IsKept}
 use Rattle.i_shape_core.specs.Written.{slot, IsWritten}
 use Rattle.i_shape_core.specs.declared.error.ShapeError.{ShapeError}
 use Rattle.i_shape_core.specs.declared.error.ShapeError.TheVariants.{OutOfMemory}
@@ -27,14 +26,13 @@ use Rattle.i_shape.specs.Flat.{part_of, slices, shapes, end_to_end}
 use Rattle.i_shape.specs.Buffers.{Compact, contours_in, range_len, HoldsContours, HoldsShapes, contours_of, named_shapes}
 use Rattle.i_shape.specs.declared.flat.buffer.shapes.FlatShapesBuffer.{FlatShapesBuffer}
 use Rattle.i_shape.specs.ShapeLists.{shape_of, shapes_of, IsSafeShape, IsSafeList, AreSafePaths}
-use Rattle.i_shape.specs.ShapeAnswers.{HasPoints, inside_count, shapes_shoelace, Survivors, ShapeClean, ListClean, EachContour, EachShape, AreKept, ListKept}
+use Rattle.i_shape.specs.ShapeAnswers.{HasPoints, shapes_shoelace, Survivors, ShapeClean, ListClean, EachContour, EachShape, AreKept, ListKept}
 use Rattle.i_shape.specs.InPlace.{Leaves, CleansContour, DespikesContour, CleansShape, CleansList}
-use Rattle.i_shape_core.proofs.answers.Kept.{simple_kept, nothing_keeps}
+use Rattle.i_shape_core.proofs.answers.Kept.{nothing_keeps}
 use Rattle.i_shape_core.proofs.removal.Ends.{reach_shrinks, no_step}
 use Rattle.i_shape_core.proofs.walks.Spikes.{spikeless_end}
 use Rattle.i_shape_core.proofs.lists.Mapped.{all_mapped}
-use Rattle.i_shape.proofs.shapes.Kept.{inside_count-append}
-use Rattle.i_shape.proofs.lists.Surviving.{survivors_have}
+use Rattle.i_shape.proofs.lists.Surviving.{survivors_each, survivors_have}
 use Rattle.i_shape.proofs.buffers.ShapeRanges.{slice_range-map, slices-part_of}
 -- a simple contour is its own answer, and what relates the members of lists, or is left of them, does so end to end
 pub use Rattle.i_shape_core.proofs.walks.Found.{simple_stays}
@@ -114,16 +112,9 @@ safe_shapes_held width value buffer shapes held safe = subst (IsSafeShape width)
 pub contours_read : {I : Type 0} (value : I → ℤ) (buffer : FlatContoursBuffer I) (contours : List (Vec (IntPoint I))) → paths_of_shape contours ≡ slices buffer.points.items buffer.ranges.items → shape_of value contours ≡ contours_in value buffer
 contours_read value buffer contours same = shape_of_paths value contours ∙ ap (map (contour_of value)) same
 
-pointed : (contours : List (List Point)) (answers : List (Option (List Point))) → AllZip SimpleAnswer contours answers → All HasPoints (filter_map (λ answer. answer) answers)
-pointed [] [] h = All-nil HasPoints
-pointed [] (a ∷ answers) h = absurd h
-pointed (c ∷ contours) [] h = absurd h
-pointed (c ∷ contours) (None ∷ answers) h = pointed contours answers h.1
-pointed (c ∷ contours) (Some e ∷ answers) h = let kept = h.0 in All-cons HasPoints e _ (omega (arith, kept.enough)) (pointed contours answers h.1)
-
 -- the contours that cleaning leaves in a buffer have points, as their area asks
 pub points_left : (contours kept : List (List Point)) → Compact contours kept → All HasPoints kept
-points_left contours kept compact = let (answers, zipped, are) = compact in subst (All HasPoints) (sym are) (pointed contours answers zipped)
+points_left contours kept compact = survivors_have SimpleAnswer (λ c. Unit {0}) HasPoints (λ c e answer any. omega (arith, answer.enough)) contours kept compact (λ k d lt. tt)
 
 -- and so have those that are read from it
 pub points_read : {I : Type 0} (value : I → ℤ) (before : List (List Point)) (buffer : FlatContoursBuffer I) (contours : List (Vec (IntPoint I)))
@@ -137,98 +128,26 @@ pub compact_read : {I : Type 0} (value : I → ℤ) (contours : List (Vec (IntPo
 compact_read value contours old new (Ok back) held compact same = rw (contours_held value old contours held, sym (contours_read value new back.items same)) at compact
 compact_read value contours old new (Err e) held compact same = tt
 
--- p is inside of the contour that is read, where there is one, exactly where it is inside of c
-abbrev ToldInside : List Point → Point → Option (List Point) → Type 0
-ToldInside c p None = Inside c p → ⊥
-ToldInside c p (Some e) = Inside e p ↔ Inside c p
-
-answer_told : (c : List Point) (p : Point) (answers : List (Option (List Point))) → AllZip SimpleAnswer (c ∷ []) answers → ToldInside c p (slice_get (filter_map (λ answer. answer) answers) 0)
-answer_told c p [] h = absurd h
-answer_told c p (None ∷ []) h = (simple_kept c None h.0).inside p
-answer_told c p (Some e ∷ []) h = (simple_kept c (Some e) h.0).inside p
-answer_told c p (a ∷ b ∷ answers) h = absurd h.1
-
-first_of : {I : Type 0} (value : I → ℤ) (contours : List (Vec (IntPoint I))) → slice_get (shape_of value contours) 0 ≡ option_map (λ contour. contour_of value contour.items) (slice_get contours 0)
-first_of value [] = refl
-first_of value (contour ∷ contours) = refl
-
-module _ {I : Type 0} (value : I → ℤ) (buffer : FlatContoursBuffer I) (contours : List (Vec (IntPoint I))) (same : paths_of_shape contours ≡ slices buffer.points.items buffer.ranges.items) where
-  told : (old : FlatContoursBuffer I) (contour : List (IntPoint I)) → HoldsContours old (contour ∷ []) → Compact (contours_in value old) (contours_in value buffer)
-      → (p : Point) (first : Option (Vec (IntPoint I))) → first ≡ slice_get contours 0 → ToldInside (contour_of value contour) p (option_map (λ contour. contour_of value contour.items) first)
-  told old contour held (answers, zipped, are) p first is =
-      subst (ToldInside (contour_of value contour) p)
-      (sym (ap (λ l. slice_get l 0) are) ∙ sym (ap (λ l. slice_get l 0) (contours_read value buffer contours same)) ∙ first_of value contours ∙ ap (option_map (λ contour. contour_of value contour.items)) (sym is))
-      (answer_told (contour_of value contour) p answers (subst (λ l. AllZip SimpleAnswer l answers) (ap (map (contour_of value)) held.slices) zipped))
-
-  -- where one contour was put into a buffer, cleaned there and read back: what tells whether a point is inside of what is left tells whether it is inside of that contour
-  pub told_by_first : {R : Type 0} (old : FlatContoursBuffer I) (contour : List (IntPoint I)) → HoldsContours old (contour ∷ []) → Compact (contours_in value old) (contours_in value buffer)
-      → (p : Point) (first : Vec (IntPoint I)) → Some first ≡ slice_get contours 0 → R ↔ Inside (contour_of value first.items) p → R ↔ Inside (contour_of value contour) p
-  told_by_first old contour held compact p first is asked = let same = told old contour held compact p (Some first) is in (λ r. same.0 (asked.0 r), λ inside. asked.1 (same.1 inside))
-
-  -- where nothing is left it is inside of neither
-  pub told_by_none : (old : FlatContoursBuffer I) (contour : List (IntPoint I)) → HoldsContours old (contour ∷ []) → Compact (contours_in value old) (contours_in value buffer)
-      → (p : Point) → None ≡ slice_get contours 0 → IsTrue false ↔ Inside (contour_of value contour) p
-  told_by_none old contour held compact p is = (λ r. absurd cc, λ inside. absurd (told old contour held compact p None is inside))
-
-  -- and that is safe where the contours of the buffer are
-  pub safe_read : (width : Width) → IsSafeShape width (contours_in value buffer) → (first : Vec (IntPoint I)) → Some first ≡ slice_get contours 0 → All (IsSafe width) (contour_of value first.items)
-  safe_read width safe first is = first_safe contours is (subst (IsSafeShape width) (sym (contours_read value buffer contours same)) safe)
-    where
-      first_safe : (contours : List (Vec (IntPoint I))) → Some first ≡ slice_get contours 0 → IsSafeShape width (shape_of value contours) → All (IsSafe width) (contour_of value first.items)
-      first_safe [] is safe = absurd cc
-      first_safe (contour ∷ contours) is safe =
-          let it : contour ≡ first = cc in
-          subst (λ (x : Vec (IntPoint I)). All (IsSafe width) (contour_of value x.items)) it (All-head (All (IsSafe width)) (contour_of value contour.items) (shape_of value contours) safe)
-
 module _ (Answer : List Point → Option (List Point) → Type 0) where
   -- a shape and its answer, and what it keeps
   abbrev Keeps : List (List Point) → Option (List (List Point)) → Type 0
   Keeps shape r = ShapeClean Answer shape r × IfSome r (AreKept shape)
 
-  left_shorter : (shapes : List (List (List Point))) (answers : List (Option (List (List Point)))) → AllZip Keeps shapes answers → length (filter_map (λ answer. answer) answers) ≤ length shapes
-  left_shorter [] [] h = omega arith
-  left_shorter [] (a ∷ answers) h = absurd h
-  left_shorter (shape ∷ shapes) [] h = absurd h
-  left_shorter (shape ∷ shapes) (None ∷ answers) h = omega (arith, left_shorter shapes answers h.1)
-  left_shorter (shape ∷ shapes) (Some kept ∷ answers) h = omega (arith, left_shorter shapes answers h.1)
+  -- no more shapes are left, and where as many are, they have the same double area
+  abbrev Whole : List (List (List Point)) → List (List (List Point)) → Type 0
+  Whole shapes kept = (length kept ≤ length shapes) × (length kept ≡ length shapes → shapes_shoelace kept ≡ shapes_shoelace shapes)
 
-  left_kept : (shapes : List (List (List Point))) (answers : List (Option (List (List Point)))) → AllZip Keeps shapes answers → length (filter_map (λ answer. answer) answers) ≡ length shapes
-      → (shapes_shoelace (filter_map (λ answer. answer) answers) ≡ shapes_shoelace shapes) × ((p : Point) → inside_count (concatenated (filter_map (λ answer. answer) answers)) p ≡ inside_count (concatenated shapes) p)
-  left_kept [] [] h whole = (refl, λ p. refl)
-  left_kept [] (a ∷ answers) h whole = absurd h
-  left_kept (shape ∷ shapes) [] h whole = absurd h
-  left_kept (shape ∷ shapes) (None ∷ answers) h whole = absurd (omega (arith, left_shorter shapes answers h.1))
-  left_kept (shape ∷ shapes) (Some kept ∷ answers) h whole =
-      let rest = left_kept shapes answers h.1 (omega arith) in
-      let here : AreKept shape kept = h.0.1 in
-      let here_area = here.area in
-      let rest_area = rest.0 in (
-        omega (arith, ints),
-        λ p. omega (arith, inside_count-append shape (concatenated shapes) p, inside_count-append kept (concatenated (filter_map (λ answer. answer) answers)) p, here.inside p, rest.1 p),
-      )
-
--- cleaning a list leaves no more shapes than there were
-pub list_shorter : {Answer : List Point → Option (List Point) → Type 0} {shapes kept : List (List (List Point))} → ListKept Answer shapes kept → length kept ≤ length shapes
-list_shorter {Answer} {shapes} kept_list = let (answers, zipped, are) = kept_list.each in omega (arith, left_shorter Answer shapes answers zipped, ap length are)
+  left_whole : (shapes kept : List (List (List Point))) → Survivors Keeps shapes kept → Whole shapes kept
+  left_whole =
+      survivors_each Keeps Whole (omega arith, λ whole. refl) (λ shape shapes kept a rest. (omega (arith, rest.0), λ whole. absurd (omega (arith, rest.0, whole))))
+      (λ shape left shapes kept a rest. (
+        omega (arith, rest.0),
+        λ whole. let here = a.1.area in let more = rest.1 (omega (arith, whole)) in omega (arith, ints),
+      ))
 
 -- where as many shapes are left, the list keeps its double area
 pub list_area : {Answer : List Point → Option (List Point) → Type 0} {shapes kept : List (List (List Point))} → ListKept Answer shapes kept → length kept ≡ length shapes → shapes_shoelace kept ≡ shapes_shoelace shapes
-list_area {Answer} {shapes} kept_list whole = let (answers, zipped, are) = kept_list.each in ap shapes_shoelace are ∙ (left_kept Answer shapes answers zipped (sym (ap length are) ∙ whole)).0
-
--- and each point is inside of as many of its contours
-pub list_inside : {Answer : List Point → Option (List Point) → Type 0} {shapes kept : List (List (List Point))} → ListKept Answer shapes kept → length kept ≡ length shapes
-    → (p : Point) → inside_count (concatenated kept) p ≡ inside_count (concatenated shapes) p
-list_inside {Answer} {shapes} kept_list whole p =
-    let (answers, zipped, are) = kept_list.each in
-    ap (λ w. inside_count (concatenated w) p) are ∙ (left_kept Answer shapes answers zipped (sym (ap length are) ∙ whole)).1 p
-
--- the same of the area where the answer is named, in the form that a function names
-pub simplified_list_area : {shapes kept : List (List (List Point))} → ListKept SimpleAnswer shapes kept → length kept ≡ length shapes → shapes_shoelace kept ≡ shapes_shoelace shapes
-simplified_list_area kept_list whole = list_area kept_list whole
-
--- the removal of spikes keeps the double area of a list where no shape is left out
-pub despiked_list_area : {shapes kept : List (List (List Point))} → ListKept DespikeAnswer shapes kept → length kept ≡ length shapes → shapes_shoelace kept ≡ shapes_shoelace shapes
-despiked_list_area kept_list whole = list_area kept_list whole
+list_area {Answer} {shapes} {kept} list = (left_whole Answer shapes kept list.each).1
 
 -- what removing zero turns leaves has no spikes
 contour_spikeless : (c e : List Point) → SimpleAnswer c (Some e) → NoSpikes e
@@ -321,10 +240,6 @@ points_safe width value point points each list =
     let all = all_mapped (IsSafe width) (point_of value) (map point list) in
     rw (each list) (λ safe. all.0 (one.0 safe), λ safe. one.1 (all.1 safe))
 
-slot_simple : (c s : List Point) → SimpleAnswer c (slot s) → IsSimple s ↔ (EachEndCollapses c → ⊥)
-slot_simple c [] collapse = (λ simple. absurd (omega (arith, simple.enough)), λ stands. absurd (stands collapse))
-slot_simple c (p ∷ s) one = (λ simple collapse. omega (arith, collapse (p ∷ s) one.ended, one.enough), λ stands. record { enough = one.enough; none = one.ended.none_left })
-
 slot_keeps : (c s : List Point) → KeptAnswer c (slot s) → IsKept c s
 slot_keeps c [] flat = nothing_keeps c flat
 slot_keeps c (p ∷ s) kept = kept
@@ -347,10 +262,6 @@ module _ {P : Type 0} {width : Width} {read : List P → List Point} {given old 
   -- what a cleaner writes has the double area of what it was given, and the same points inside, also where it writes nothing
   pub written_kept : {Answer : List Point → Option (List Point) → Type 0} {Picks : List P → List P → Type 0} → IsWritten Answer KeptAnswer Picks width read given old new n → IsKept (read given) (read (take n new))
   written_kept written = slot_keeps (read given) (read (take n new)) written.cleaned.kept
-
-  -- what is written without zero turns is simple exactly where something is left
-  pub written_simple : {Picks : List P → List P → Type 0} → IsWritten SimpleAnswer KeptAnswer Picks width read given old new n → IsSimple (read (take n new)) ↔ (EachEndCollapses (read given) → ⊥)
-  written_simple written = slot_simple (read given) (read (take n new)) written.cleaned.answer
 
   -- where zero turns were removed, what is written where spikes are removed from the rest is the contour without zero turns too
   pub cleaned_twice : {before after : List P} {m : ℕ} {Picks Leaves : List P → List P → Type 0} → IsWritten SimpleAnswer KeptAnswer Picks width read given old new n → IsWritten SpikelessAnswer KeptAnswer Leaves width read (take n new) before after m → SimpleAnswer (read given) (slot (read (take m after)))

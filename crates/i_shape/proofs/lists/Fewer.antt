@@ -1,10 +1,11 @@
 -- Cleaning leaves no more shapes, contours and points than there were.
-use Rattle.std.proofs.Common.{◌≡◌, ℕ, ◌≤◌, List, [], ◌∷◌, length, length-append, refl, ap, arith, Option, Some, None}
-use Rattle.std.specs.List.{AllZip, filter_map, sum_by}
+use Rattle.std.proofs.Common.{◌≡◌, ℕ, ◌≤◌, List, [], ◌∷◌, length, length-append, refl, arith, Option, Some}
+use Rattle.std.specs.List.{sum_by}
 use Rattle.std.proofs.lemmas.List.Sums.{sum_by-cons, sum_by-append}
 use Rattle.i_shape_core.specs.Point.{Point}
 use Rattle.i_shape_source.specs.Paths.{concatenated}
 use Rattle.i_shape.specs.ShapeAnswers.{Survivors, ShapeClean}
+use Rattle.i_shape.proofs.lists.Surviving.{survivors_each}
 
 -- a number for each item, summed up over lists end to end
 pub sum_by-concatenated : {X : Type 0} (f : X → ℕ) (lists : List (List X)) → sum_by f (concatenated lists) ≡ sum_by (λ list. sum_by f list) lists
@@ -22,17 +23,10 @@ sum_by-length [] = refl
 sum_by-length (list ∷ lists) = omega (arith, sum_by-cons length list lists, sum_by-length lists, length-append list (concatenated lists))
 
 -- where no answer has more of something than its member, the answers that are left have no more of it together
-module _ {X Y : Type 0} (Answer : X → Option Y → Type 0) (f : X → ℕ) (g : Y → ℕ) (fewer : (x : X) (y : Y) → Answer x (Some y) → g y ≤ f x) where
-  answers_fewer : (xs : List X) (answers : List (Option Y)) → AllZip Answer xs answers → sum_by g (filter_map (λ answer. answer) answers) ≤ sum_by f xs
-  answers_fewer [] [] h = omega arith
-  answers_fewer [] (a ∷ answers) h = absurd h
-  answers_fewer (x ∷ xs) [] h = absurd h
-  answers_fewer (x ∷ xs) (None ∷ answers) h = omega (arith, sum_by-cons f x xs, answers_fewer xs answers h.1)
-  answers_fewer (x ∷ xs) (Some y ∷ answers) h = omega (arith, sum_by-cons f x xs, sum_by-cons g y (filter_map (λ answer. answer) answers), fewer x y h.0, answers_fewer xs answers h.1)
-
-  -- the answers that are left have no more of it together than the members
-  pub survivors_fewer : (xs : List X) (kept : List Y) → Survivors Answer xs kept → sum_by g kept ≤ sum_by f xs
-  survivors_fewer xs kept (answers, zipped, are) = omega (arith, ap (sum_by g) are, answers_fewer xs answers zipped)
+pub survivors_fewer : {X Y : Type 0} (Answer : X → Option Y → Type 0) (f : X → ℕ) (g : Y → ℕ) → ((x : X) (y : Y) → Answer x (Some y) → g y ≤ f x) → (xs : List X) (kept : List Y) → Survivors Answer xs kept → sum_by g kept ≤ sum_by f xs
+survivors_fewer Answer f g fewer =
+    survivors_each Answer (λ xs kept. sum_by g kept ≤ sum_by f xs) (omega arith) (λ x xs kept a rest. omega (arith, sum_by-cons f x xs, rest))
+    (λ x y xs kept a rest. omega (arith, sum_by-cons f x xs, sum_by-cons g y kept, fewer x y a, rest))
 
 -- nor have the contours of a cleaned shape
 pub shape_fewer : (Answer : List Point → Option (List Point) → Type 0) (f : List Point → ℕ) → ((c e : List Point) → Answer c (Some e) → f e ≤ f c)

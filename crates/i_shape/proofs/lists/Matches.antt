@@ -1,11 +1,20 @@
 -- Where two members have equal answers exactly where they are related, the sorted answers of two lists are one list exactly where the members that have answers are matched.
-use Rattle.std.proofs.Common.{◌≡◌, ◌↔◌, List, [], ◌∷◌, Option, Some, None, refl, sym, ap, subst, ◌∙◌, IsPermutation}
+use Rattle.std.proofs.Common.{◌≡◌, ◌↔◌, List, [], ◌∷◌, Option, Some, None, refl, sym, subst, ◌∙◌, IsPermutation}
 use Rattle.std.specs.List.{AllZip, filter_map}
 use Rattle.std.proofs.lemmas.List.Sorted.{IsPermutation-sym, IsPermutation-trans}
 use Rattle.i_shape.specs.ShapeAnswers.{Survivors}
 use Rattle.i_shape.specs.CanonicalShapes.{Stays, MatchedUncollapsed, SortedForms}
+use Rattle.i_shape_core.proofs.lists.Survivors.{survivors-none}
+use Rattle.i_shape.proofs.lists.Surviving.{survivors_each, survivors_gone, survivors_left}
 use Rattle.i_shape.proofs.lists.Permutations.{follows_permutation}
 use Rattle.i_shape.proofs.lists.Uniqueness.{in_one_order}
+
+-- two lists that are related place by place are so the other way round
+flipped : {A B : Type 0} (R : A → B → Type 0) (xs : List A) (ys : List B) → AllZip R xs ys → AllZip (λ y x. R x y) ys xs
+flipped R [] [] h = tt
+flipped R [] (y ∷ ys) h = absurd h
+flipped R (x ∷ xs) [] h = absurd h
+flipped R (x ∷ xs) (y ∷ ys) h = (h.0, flipped R xs ys h.1)
 
 module _ {X Y : Type 0} (Answer : X → Option Y → Type 0) (Collapses : X → Type 0) (R : X → X → Type 0) (AtMost : Y → Y → Type 0)
     (none : (x : X) → Answer x None → Collapses x)
@@ -18,20 +27,11 @@ module _ {X Y : Type 0} (Answer : X → Option Y → Type 0) (Collapses : X → 
   Gives x y = Answer x (Some y)
 
   -- the members that have an answer, and their answers
-  parted : (xs : List X) (answers : List (Option Y)) → AllZip Answer xs answers
-      → (left : List X) × Survivors (Stays Collapses) xs left × AllZip Gives left (filter_map (λ a. a) answers)
-  parted [] [] h = ([], ([], tt, refl), tt)
-  parted [] (a ∷ answers) h = absurd h
-  parted (x ∷ xs) [] h = absurd h
-  parted (x ∷ xs) (None ∷ answers) h =
-      let r = parted xs answers h.1 in
-      (r.0, (None ∷ r.1.0, (none x h.0, r.1.1), r.1.2), r.2)
-  parted (x ∷ xs) (Some y ∷ answers) h =
-      let r = parted xs answers h.1 in
-      (x ∷ r.0, (Some x ∷ r.1.0, ((some x y h.0, refl), r.1.1), ap (λ l. x ∷ l) r.1.2), (h.0, r.2))
-
   uncollapsed_of : (xs : List X) (forms : List Y) → Survivors Answer xs forms → (left : List X) × Survivors (Stays Collapses) xs left × AllZip Gives left forms
-  uncollapsed_of xs forms (answers, zipped, are) = let r = parted xs answers zipped in (r.0, r.1, subst (AllZip Gives r.0) (sym are) r.2)
+  uncollapsed_of =
+      survivors_each Answer (λ xs forms. (left : List X) × Survivors (Stays Collapses) xs left × AllZip Gives left forms) ([], survivors-none (Stays Collapses), tt)
+      (λ x xs forms h r. (r.0, survivors_gone (Stays Collapses) x xs r.0 (none x h) r.1, r.2))
+      (λ x y xs forms h r. (x ∷ r.0, survivors_left (Stays Collapses) x x xs r.0 (some x y h, refl) r.1, (h, r.2)))
 
   -- which members stand is certain
   stand_alike : (xs : List X) (a b : List (Option X)) → AllZip (Stays Collapses) xs a → AllZip (Stays Collapses) xs b → filter_map (λ z. z) a ≡ filter_map (λ z. z) b
@@ -91,20 +91,8 @@ module _ {X Y : Type 0} (Answer : X → Option Y → Type 0) (Collapses : X → 
           let back = followed fs gs moves a.0 a.2 in
           record { left = a.0; right = b.0; uncollapsed_left = a.1; uncollapsed_right = b.1; matched = record { order = back.0; same = back.1; pairs = related back.0 b.0 gs back.2 b.2 } }
         where
-          given_back : (us : List Y) (vs : List X) → AllZip (λ y x. Gives x y) us vs → AllZip Gives vs us
-          given_back [] [] h = tt
-          given_back [] (v ∷ vs) h = absurd h
-          given_back (u ∷ us) [] h = absurd h
-          given_back (u ∷ us) (v ∷ vs) h = (h.0, given_back us vs h.1)
-
-          given_forth : (us : List Y) (vs : List X) → AllZip Gives vs us → AllZip (λ y x. Gives x y) us vs
-          given_forth [] [] h = tt
-          given_forth [] (v ∷ vs) h = absurd h
-          given_forth (u ∷ us) [] h = absurd h
-          given_forth (u ∷ us) (v ∷ vs) h = (h.0, given_forth us vs h.1)
-
           followed : (us vs : List Y) → IsPermutation us vs → (left : List X) → AllZip Gives left us → (order : List X) × IsPermutation left order × AllZip Gives order vs
-          followed us vs p left h = let r = follows_permutation (λ y x. Gives x y) us vs p left (given_forth us left h) in (r.0, r.1, given_back vs r.0 r.2)
+          followed us vs p left h = let r = follows_permutation (λ y x. Gives x y) us vs p left (flipped Gives left us h) in (r.0, r.1, flipped (λ y x. Gives x y) vs r.0 r.2)
 
       from : MatchedUncollapsed Collapses R xs zs → l ≡ m
       from w =

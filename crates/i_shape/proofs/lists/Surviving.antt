@@ -31,30 +31,39 @@ pub survivors-more : {X Y Z : Type 0} (f : X → Y) (Answer : Y → Option Z →
     → Survivors Answer (map f (take i xs)) kept → Answer (f x) a → Survivors Answer (map f (take (i + 1) xs)) (kept ++ option_to_list a)
 survivors-more f Answer xs i x kept a lt read survive answer = rw (mapped-taken f xs i x lt read) (survivors-push Answer (map f (take i xs)) (f x) kept a survive answer)
 
+module _ {X Y : Type 0} (Answer : X → Option Y → Type 0) where
+  -- a member in front that collapses
+  pub survivors_gone : (x : X) (xs : List X) (kept : List Y) → Answer x None → Survivors Answer xs kept → Survivors Answer (x ∷ xs) kept
+  survivors_gone x xs kept answer (answers, zipped, are) = (None ∷ answers, (answer, zipped), are)
+
+  -- a member in front with its answer
+  pub survivors_left : (x : X) (y : Y) (xs : List X) (kept : List Y) → Answer x (Some y) → Survivors Answer xs kept → Survivors Answer (x ∷ xs) (y ∷ kept)
+  survivors_left x y xs kept answer (answers, zipped, are) = (Some y ∷ answers, (answer, zipped), ap (λ l. y ∷ l) are)
+
+  -- what holds of no members, and stays true with one more in front of either kind, holds of all that are left of a list
+  pub survivors_each : (P : List X → List Y → Type 0) → P [] [] → ((x : X) (xs : List X) (kept : List Y) → Answer x None → P xs kept → P (x ∷ xs) kept)
+      → ((x : X) (y : Y) (xs : List X) (kept : List Y) → Answer x (Some y) → P xs kept → P (x ∷ xs) (y ∷ kept)) → (xs : List X) (kept : List Y) → Survivors Answer xs kept → P xs kept
+  survivors_each P none gone left xs kept (answers, zipped, are) = subst (P xs) (sym are) (go xs answers zipped)
+    where
+      go : (xs : List X) (answers : List (Option Y)) → AllZip Answer xs answers → P xs (filter_map (λ answer. answer) answers)
+      go [] [] h = none
+      go [] (a ∷ answers) h = absurd h
+      go (x ∷ xs) [] h = absurd h
+      go (x ∷ xs) (None ∷ answers) h = gone x xs _ h.0 (go xs answers h.1)
+      go (x ∷ xs) (Some y ∷ answers) h = left x y xs _ h.0 (go xs answers h.1)
+
+  -- what each answer takes from its member, all that are left have
+  pub survivors_have : (P : X → Type 0) (Q : Y → Type 0) → ((x : X) (y : Y) → Answer x (Some y) → P x → Q y) → (xs : List X) (kept : List Y) → Survivors Answer xs kept → All P xs → All Q kept
+  survivors_have P Q takes =
+      survivors_each (λ xs kept. All P xs → All Q kept) (λ all. All-nil Q) (λ x xs kept a rest all. rest (All-tail P x xs all))
+      (λ x y xs kept a rest all. All-cons Q y kept (takes x y a (All-head P x xs all)) (rest (All-tail P x xs all)))
+
 -- the same by a weaker relation
 pub survivors_weaker : {X Y : Type 0} (Answer Weaker : X → Option Y → Type 0) → ((x : X) (r : Option Y) → Answer x r → Weaker x r) → (xs : List X) (kept : List Y) → Survivors Answer xs kept → Survivors Weaker xs kept
-survivors_weaker {X} {Y} Answer Weaker weaken xs kept (answers, zipped, are) = (answers, go xs answers zipped, are)
-  where
-    go : (xs : List X) (answers : List (Option Y)) → AllZip Answer xs answers → AllZip Weaker xs answers
-    go [] [] h = tt
-    go [] (a ∷ answers) h = absurd h
-    go (x ∷ xs) [] h = absurd h
-    go (x ∷ xs) (a ∷ answers) h = (weaken x a h.0, go xs answers h.1)
+survivors_weaker Answer Weaker weaken =
+    survivors_each Answer (Survivors Weaker) (survivors-none Weaker) (λ x xs kept a. survivors_gone Weaker x xs kept (weaken x None a)) (λ x y xs kept a. survivors_left Weaker x y xs kept (weaken x (Some y) a))
 
 -- members that are their own answers are all left
 pub survivors_stay : {X : Type 0} (P : X → Type 0) (Answer : X → Option X → Type 0) → ((x : X) → P x → Answer x (Some x)) → (xs : List X) → All P xs → Survivors Answer xs xs
 survivors_stay P Answer stays [] all = survivors-none Answer
-survivors_stay P Answer stays (x ∷ xs) all =
-    let rest = survivors_stay P Answer stays xs (All-tail P x xs all) in
-    (Some x ∷ rest.0, (stays x (All-head P x xs all), rest.1), ap (λ l. x ∷ l) rest.2)
-
--- what each answer takes from its member, all that are left have
-pub survivors_have : {X Y : Type 0} (Answer : X → Option Y → Type 0) (P : X → Type 0) (Q : Y → Type 0) → ((x : X) (y : Y) → Answer x (Some y) → P x → Q y) → (xs : List X) (kept : List Y) → Survivors Answer xs kept → All P xs → All Q kept
-survivors_have {X} {Y} Answer P Q takes xs kept (answers, zipped, are) all = subst (All Q) (sym are) (go xs answers zipped all)
-  where
-    go : (xs : List X) (answers : List (Option Y)) → AllZip Answer xs answers → All P xs → All Q (filter_map (λ answer. answer) answers)
-    go [] [] h all = All-nil Q
-    go [] (a ∷ answers) h all = absurd h
-    go (x ∷ xs) [] h all = absurd h
-    go (x ∷ xs) (None ∷ answers) h all = go xs answers h.1 (All-tail P x xs all)
-    go (x ∷ xs) (Some y ∷ answers) h all = All-cons Q y (filter_map (λ answer. answer) answers) (takes x y h.0 (All-head P x xs all)) (go xs answers h.1 (All-tail P x xs all))
+survivors_stay P Answer stays (x ∷ xs) all = survivors_left Answer x x xs xs (stays x (All-head P x xs all)) (survivors_stay P Answer stays xs (All-tail P x xs all))

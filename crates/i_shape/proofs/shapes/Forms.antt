@@ -1,6 +1,6 @@
 -- The forms of shapes and of lists of shapes, by any form of contours: where two are one, that there is one, that it is its own form, and what it keeps.
 use Rattle.std.proofs.Common.{◌≡◌, ◌↔◌, ◌⊎◌, inl, inr, ℕ, ℤ, ◌+ℤ◌, neg_ℤ, ◌%◌, nat_abs, map, List, [], ◌∷◌, Option, Some, None, IfSome, Result, Ok, Err, IfOk, refl, sym, ap, ◌∙◌, arith, IsPermutation}
-use Rattle.std.specs.List.{All, AllZip, filter_map, sum_by, count_by}
+use Rattle.std.specs.List.{All, sum_by, count_by}
 use Rattle.std.specs.Int.{Width}
 use Rattle.std.proofs.lemmas.Int.{ints}
 use Rattle.std.proofs.lemmas.List.Sums.{sum_by-cons}
@@ -20,11 +20,12 @@ use Rattle.i_shape_core.specs.Cleaners.{EachEndCollapses}
 use Rattle.i_shape_core.specs.Canonical.{IsAtMost, CanonicalAnswer, Joined, UnorientedAnswer, IsKeptEitherWay, JoinedEitherWay}
 use Rattle.i_shape_core.proofs.arithmetic.WholeNumbers.{add_swap}
 use Rattle.i_shape_core.proofs.least_rotation.Order.{at_most_refl, at_most_total, at_most_trans, at_most_antisym}
+use Rattle.i_shape_core.proofs.lists.Survivors.{survivors-none}
 use Rattle.i_shape_core.proofs.forms.Unoriented.{canonical_uncollapsed, canonical_one, has_canonical, canonical_again, canonical_kept, unoriented_uncollapsed, unoriented_one, has_unoriented, unoriented_again, unoriented_kept}
 use Rattle.i_shape.specs.ShapeAnswers.{Survivors, sum_of, shape_winding, inside_count, ShapeClean, AreKept}
 use Rattle.i_shape.specs.ShapeLists.{shape_of, shapes_of, IsSafeShape, IsSafeList}
 use Rattle.i_shape.specs.CanonicalShapes.{FormsShapeTo, FormsListTo, SortedForms, ShapeForm, ListForm, IsShapeAtMost, OuterCollapses, SameShape, OneShapeForm, OneListForm, HasShapeForm, HasListForm, AreKeptEitherWay, FormsKept}
-use Rattle.i_shape.proofs.lists.Surviving.{survivors_weaker, survivors_stay, survivors_have}
+use Rattle.i_shape.proofs.lists.Surviving.{survivors_gone, survivors_left, survivors_each, survivors_weaker, survivors_stay, survivors_have}
 use Rattle.i_shape.proofs.shapes.Kept.{edges_parity, same_parity, shape_keeps, shape_safe}
 use Rattle.i_shape.proofs.lists.Permutations.{along_permutation}
 use Rattle.i_shape.proofs.lists.Sorting.{sorted_exists}
@@ -35,12 +36,11 @@ use Rattle.i_shape.proofs.lists.Matches.{sorted_alike}
 module _ {X Y : Type 0} (Answer : X → Option Y → Type 0) (AtMost : Y → Y → Type 0) (has : (x : X) → Answer x None ⊎ ((y : Y) × Answer x (Some y)))
     (total : (x y : Y) → AtMost x y ⊎ AtMost y x) (trans : (x y z : Y) → AtMost x y → AtMost y z → AtMost x z) where
   all_answered : (xs : List X) → (forms : List Y) × Survivors Answer xs forms
-  all_answered [] = ([], ([], tt, refl))
-  all_answered (x ∷ xs) = go (has x) (all_answered xs)
-    where
-      go : Answer x None ⊎ ((y : Y) × Answer x (Some y)) → (forms : List Y) × Survivors Answer xs forms → (forms : List Y) × Survivors Answer (x ∷ xs) forms
-      go (inl h) (forms, (answers, zipped, are)) = (forms, (None ∷ answers, (h, zipped), are))
-      go (inr (y, h)) (forms, (answers, zipped, are)) = (y ∷ forms, (Some y ∷ answers, (h, zipped), ap (λ l. y ∷ l) are))
+  all_answered [] = ([], survivors-none Answer)
+  all_answered (x ∷ xs) = let (forms, survive) = all_answered xs in elim (has x) [
+    | inl h ↦ (forms, survivors_gone Answer x xs forms h survive)
+    | inr h ↦ (h.0 ∷ forms, survivors_left Answer x h.0 xs forms h.1 survive)
+  ]
 
   has_sorted : (xs : List X) → (l : List Y) × SortedForms Answer AtMost xs l
   has_sorted xs =
@@ -197,18 +197,14 @@ canonical_keeps s (Some l) a =
 
 -- where an answer keeps a number, and a contour without one has none of it, so does a cleaned shape
 module _ (f : List Point → ℕ) (none : (c : List Point) → UnorientedAnswer c None → f c ≡ 0) (some : (c e : List Point) → UnorientedAnswer c (Some e) → f e ≡ f c) where
-  answers_sum : (cs : List (List Point)) (answers : List (Option (List Point))) → AllZip UnorientedAnswer cs answers → sum_by f (filter_map (λ answer. answer) answers) ≡ sum_by f cs
-  answers_sum [] [] h = refl
-  answers_sum [] (a ∷ answers) h = absurd h
-  answers_sum (c ∷ cs) [] h = absurd h
-  answers_sum (c ∷ cs) (None ∷ answers) h = omega (arith, sum_by-cons f c cs, none c h.0, answers_sum cs answers h.1)
-  answers_sum (c ∷ cs) (Some e ∷ answers) h = omega (arith, sum_by-cons f c cs, sum_by-cons f e (filter_map (λ answer. answer) answers), some c e h.0, answers_sum cs answers h.1)
-
   clean_sum : (s k : List (List Point)) → ShapeClean UnorientedAnswer s (Some k) → sum_by f k ≡ sum_by f s
   clean_sum [] [] a = refl
   clean_sum [] (e ∷ k) a = absurd cc
   clean_sum (c ∷ s) [] a = absurd a
-  clean_sum (c ∷ s) (e ∷ k) (outer, (answers, zipped, are)) = omega (arith, sum_by-cons f c s, sum_by-cons f e k, some c e outer, ap (sum_by f) are, answers_sum s answers zipped)
+  clean_sum (c ∷ s) (e ∷ k) (outer, survive) = more c e s k outer (survivors_each UnorientedAnswer (λ cs kept. sum_by f kept ≡ sum_by f cs) refl (λ c cs kept a rest. omega (arith, sum_by-cons f c cs, none c a, rest)) more s k survive)
+    where
+      more : (c e : List Point) (cs kept : List (List Point)) → UnorientedAnswer c (Some e) → sum_by f kept ≡ sum_by f cs → sum_by f (e ∷ kept) ≡ sum_by f (c ∷ cs)
+      more c e cs kept a rest = omega (arith, sum_by-cons f c cs, sum_by-cons f e kept, some c e a, rest)
 
 -- opposite numbers are as far from 0
 opposite : (x y : ℤ) → x ≡ neg_ℤ y → nat_abs x ≡ nat_abs y

@@ -1,6 +1,6 @@
 -- What the answers of a cleaner keep of contours together, of shapes and of lists.
-use Rattle.std.proofs.Common.{◌≡◌, ℕ, ◌+◌, ◌%◌, ◌↔◌, ◌≤◌, List, [], ◌∷◌, ◌++◌, refl, sym, ◌∙◌, subst, arith, Option, Some, None, IfSome}
-use Rattle.std.specs.List.{All, AllZip, filter_map, count_by}
+use Rattle.std.proofs.Common.{◌≡◌, ℕ, ◌+◌, ◌%◌, ◌↔◌, ◌≤◌, List, [], ◌∷◌, ◌++◌, refl, sym, ◌∙◌, arith, Option, Some, None, IfSome}
+use Rattle.std.specs.List.{All, count_by}
 use Rattle.std.specs.Int.{Width}
 use native.Mathlib.Decide.{dec_le}
 use Rattle.std.proofs.lemmas.Int.{ints}
@@ -12,7 +12,7 @@ use Rattle.i_shape_core.specs.Edges.{edges, is_right, Inside}
 use Rattle.i_shape_core.specs.Cleaners.{IsKept, IsFlat, KeptAnswer}
 use Rattle.i_shape.specs.ShapeAnswers.{Survivors, inside_count, ShapeClean, ListClean, EachContour, AreKept, ListKept}
 use Rattle.i_shape.specs.ShapeLists.{IsSafeShape, IsSafeList}
-use Rattle.i_shape.proofs.lists.Surviving.{survivors_weaker, survivors_stay, survivors_have}
+use Rattle.i_shape.proofs.lists.Surviving.{survivors_each, survivors_weaker, survivors_stay, survivors_have}
 
 -- the number of edges to the right of p, modulo 2
 abbrev pub edges_parity : List Point → Point → ℕ
@@ -62,16 +62,9 @@ kept_more c e cs left kept rest = record {
 }
 
 module _ (Answer : List Point → Option (List Point) → Type 0) (keeps : (c : List Point) (r : Option (List Point)) → Answer c r → KeptAnswer c r) where
-  answers_keep : (cs : List (List Point)) (answers : List (Option (List Point))) → AllZip Answer cs answers → AreKept cs (filter_map (λ answer. answer) answers)
-  answers_keep [] [] h = same_kept []
-  answers_keep [] (a ∷ answers) h = absurd h
-  answers_keep (c ∷ cs) [] h = absurd h
-  answers_keep (c ∷ cs) (None ∷ answers) h = flat_more c cs (filter_map (λ answer. answer) answers) (keeps c None h.0) (answers_keep cs answers h.1)
-  answers_keep (c ∷ cs) (Some e ∷ answers) h = kept_more c e cs (filter_map (λ answer. answer) answers) (keeps c (Some e) h.0) (answers_keep cs answers h.1)
-
   -- what is left of contours keeps what they have together
   pub survivors_keep : (cs kept : List (List Point)) → Survivors Answer cs kept → AreKept cs kept
-  survivors_keep cs kept (answers, zipped, are) = subst (AreKept cs) (sym are) (answers_keep cs answers zipped)
+  survivors_keep = survivors_each Answer AreKept (same_kept []) (λ c cs kept a. flat_more c cs kept (keeps c None a)) (λ c e cs kept a. kept_more c e cs kept (keeps c (Some e) a))
 
   -- so does a cleaned shape
   pub shape_keeps : (s : List (List Point)) (r : Option (List (List Point))) → ShapeClean Answer s r → IfSome r (AreKept s)
