@@ -2,10 +2,9 @@
 use Rattle.std.proofs.Common.{◌≡◌, ℕ, ℤ, ◌+◌, ◌<◌, ◌≤◌, ◌==◌, Bool, not, cond, true, false, Result, Ok, Err, List, [], ◌∷◌, ◌++◌, length, set, get_or, take, drop, map, refl, sym, ap, ◌∙◌, subst, arith, append_assoc, append-nil, Option, Some, None, unwrap_or}
 use Rattle.std.specs.Int.{Width}
 use Rattle.std.specs.List.{All, AllZip, filter}
-use Rattle.std.proofs.lemmas.List.{set_at, get_or_at, drop_more, take_more, take_all, drop_all, length-take-le, take-append-le, get_or-map, map-set}
-use Rattle.std.proofs.lemmas.List.Elements.{All-nil}
+use Rattle.std.proofs.lemmas.List.{set_at, get_or_at, drop_more, take_more, take_all, drop_all, length-take-le, take-append-le, get_or-map, map-set, length-map}
+use Rattle.std.proofs.lemmas.List.Elements.{All-nil, All-get_or}
 use Rattle.std.proofs.lemmas.Slice.Zip.{all_zipped_more, AllZip-long}
-use Rattle.std.proofs.lemmas.Bool.Decides.{Decides-eqb}
 use Rattle.i_shape_core.specs.Point.{Point}
 use Rattle.i_shape_core.specs.IntPoint.{contour_of, IsSafe}
 use Rattle.i_shape_core.specs.declared.point.IntPoint.{IntPoint}
@@ -18,7 +17,12 @@ use Rattle.i_shape.specs.ShapeAnswers.{Survivors, ShapeClean, ListClean, EachCon
 use Rattle.i_shape.specs.InPlace.{Leaves, IsShortOrPasses, CleansShape, CleansList}
 use Rattle.i_shape.specs.declared.int.cleaning.in_place.InPlaceWork.{InPlaceWork}
 use Rattle.i_shape.specs.LeftInPlace.{AreLeftOf, HasRoom, has_points, keeps_outer, kept_contours, kept_shapes}
+use Rattle.i_shape.proofs.lists.Surviving.{survivors_gone, survivors_left}
 use Rattle.i_shape.proofs.shapes.Kept.{same_kept, shape_keeps, shape_safe, list_keeps}
+
+-- a list that was written whole over another
+pub written_whole : {A : Type 0} (items old : List A) (n : ℕ) → n ≡ length items → take n (items ++ drop (length items) old) ≡ items
+written_whole items old n same = take-append-le n items (drop (length items) old) (omega (arith, same)) ∙ take_all n items (omega (arith, same))
 
 -- a loop over a list has changed the first i members
 pub record SoFar {X : Type 0} (R : X → X → Type 0) (before now : List X) (i : ℕ) : Type 0 where
@@ -39,34 +43,40 @@ module _ {X : Type 0} (R : X → X → Type 0) where
     split = s.rest ∙ ap (λ l. s.left ++ l) (drop_more before i d lt)
 
     -- the next is as it was
-    pub so_far_next : get_or now i d ≡ get_or before i d
+    so_far_next : get_or now i d ≡ get_or before i d
     so_far_next = ap (λ l. get_or l i d) split ∙ get_or_at s.left (get_or before i d) (drop (i + 1) before) d i far
 
     -- it is changed too
-    pub so_far_more : (y : X) → R (get_or before i d) y → SoFar R before (set now i y) (i + 1)
+    so_far_more : (y : X) → R (get_or before i d) y → SoFar R before (set now i y) (i + 1)
     so_far_more y here = record {
       left = s.left ++ y ∷ [];
       each = subst (λ l. AllZip R l (s.left ++ y ∷ [])) (sym (take_more before i d lt)) (all_zipped_more R (take i before) s.left (get_or before i d) y s.each here);
       rest = ap (λ l. set l i y) split ∙ set_at s.left (get_or before i d) (drop (i + 1) before) y i far ∙ sym (append_assoc s.left (y ∷ []) (drop (i + 1) before));
     }
 
-  -- the same where the members are seen by f
-  module _ {A : Type 0} (f : A → X) (before : List X) (items : List A) (i : ℕ) (a : A) (d : X) (here : i < length items) (there : i < length before) (s : SoFar R before (map f items) i) where
-    pub so_far_read : f (get_or items i a) ≡ get_or before i d
-    so_far_read = sym (get_or-map f items i a d here) ∙ so_far_next before (map f items) i d there s
+-- a loop over things that are seen by f
+module _ {A X : Type 0} (R : X → X → Type 0) (f : A → X) (old items : List A) (i : ℕ) (same : length items ≡ length old) (s : SoFar R (map f old) (map f items) i) where
+  module _ (a : A) (lt : i < length old) where
+    there : i < length (map f old)
+    there = omega (arith, lt, length-map old f)
 
-    pub so_far_set : (b : A) → R (f (get_or items i a)) (f b) → SoFar R before (map f (set items i b)) (i + 1)
-    so_far_set b changed = subst (λ l. SoFar R before l (i + 1)) (sym (map-set f items i b)) (so_far_more before (map f items) i d there s (f b) (subst (λ x. R x (f b)) so_far_read changed))
+    read : f (get_or items i a) ≡ get_or (map f old) i (f a)
+    read = sym (get_or-map f items i a (f a) (omega (arith, lt, same))) ∙ so_far_next R (map f old) (map f items) i (f a) there s
 
-  -- all are
-  pub so_far_all : (before now : List X) (i : ℕ) → length before ≤ i → SoFar R before now i → AllZip R before now
-  so_far_all before now i done s =
-      let is : now ≡ s.left = s.rest ∙ ap (λ l. s.left ++ l) (drop_all i before done) ∙ append-nil s.left in
-      subst (AllZip R before) (sym is) (subst (λ l. AllZip R l s.left) (take_all i before done) s.each)
+    -- what held of all the things before holds of the one that comes next
+    pub so_far_holds : (P : X → Type 0) → All P (map f old) → P (f (get_or items i a))
+    so_far_holds P all = subst P (sym read) (All-get_or P (map f old) i (f a) there all)
 
--- a list that was written whole over another
-pub written_whole : {A : Type 0} (items old : List A) (n : ℕ) → n ≡ length items → take n (items ++ drop (length items) old) ≡ items
-written_whole items old n same = take-append-le n items (drop (length items) old) (omega (arith, same)) ∙ take_all n items (omega (arith, same))
+    -- it is changed too
+    pub so_far_set : (b : A) → R (f (get_or items i a)) (f b) → SoFar R (map f old) (map f (set items i b)) (i + 1)
+    so_far_set b changed = subst (λ l. SoFar R (map f old) l (i + 1)) (sym (map-set f items i b)) (so_far_more R (map f old) (map f items) i (f a) there s (f b) (subst (λ x. R x (f b)) read changed))
+
+  -- all are, in the list that they are written back to
+  pub so_far_all : (behind : List A) (n : ℕ) → length old ≤ i → n ≡ length items → AllZip R (map f old) (map f (take n (items ++ drop (length items) behind)))
+  so_far_all behind n done whole =
+      let long : length (map f old) ≤ i = omega (arith, done, length-map old f) in
+      let left_is : map f items ≡ s.left = s.rest ∙ ap (λ l. s.left ++ l) (drop_all i (map f old) long) ∙ append-nil s.left in
+      rw (written_whole items behind n whole, left_is) (rw (take_all i (map f old) long) at s.each)
 
 -- with room for the copy of a contour there is some for that of a shorter one
 pub fewer_in_place : {I C : Type 0} (has_room : C → ℕ → Type 0) → ((cleaner : C) (m n : ℕ) → m ≤ n → has_room cleaner n → has_room cleaner m) → (work : InPlaceWork I C) (m n : ℕ) → m ≤ n → HasRoom has_room work n → HasRoom has_room work m
@@ -78,8 +88,8 @@ module _ (Answer : List Point → Option (List Point) → Type 0) where
   contours_left [] [] h = survivors-none Answer
   contours_left [] (d ∷ ds) h = absurd h
   contours_left (c ∷ cs) [] h = absurd h
-  contours_left (c ∷ cs) ([] ∷ ds) h = let rest = contours_left cs ds h.1 in (None ∷ rest.0, (h.0, rest.1), rest.2)
-  contours_left (c ∷ cs) ((p ∷ d) ∷ ds) h = let rest = contours_left cs ds h.1 in (Some (p ∷ d) ∷ rest.0, (h.0, rest.1), ap (λ l. (p ∷ d) ∷ l) rest.2)
+  contours_left (c ∷ cs) ([] ∷ ds) h = survivors_gone Answer c cs _ h.0 (contours_left cs ds h.1)
+  contours_left (c ∷ cs) ((p ∷ d) ∷ ds) h = survivors_left Answer c (p ∷ d) cs _ h.0 (contours_left cs ds h.1)
 
   -- what is left of a shape is the cleaned shape
   pub shape_left : (shape left : List (List Point)) → AreLeftOf Answer shape left → Leaves (ShapeClean Answer) shape (kept_contours left)
@@ -94,13 +104,11 @@ module _ (Answer : List Point → Option (List Point) → Type 0) where
   list_left [] [] h = survivors-none (ShapeClean Answer)
   list_left [] (l ∷ left) h = absurd h
   list_left (s ∷ shapes) [] h = absurd h
-  list_left ([] ∷ shapes) ([] ∷ left) h = let rest = list_left shapes left h.1 in (Some [] ∷ rest.0, (refl, rest.1), ap (λ l. [] ∷ l) rest.2)
+  list_left ([] ∷ shapes) ([] ∷ left) h = survivors_left (ShapeClean Answer) [] [] shapes _ refl (list_left shapes left h.1)
   list_left ([] ∷ shapes) ((d ∷ ds) ∷ left) h = absurd h.0
   list_left ((c ∷ cs) ∷ shapes) ([] ∷ left) h = absurd h.0
-  list_left ((c ∷ cs) ∷ shapes) (([] ∷ ds) ∷ left) h = let rest = list_left shapes left h.1 in (None ∷ rest.0, (h.0.0, rest.1), rest.2)
-  list_left ((c ∷ cs) ∷ shapes) (((p ∷ d) ∷ ds) ∷ left) h =
-      let rest = list_left shapes left h.1 in
-      (Some ((p ∷ d) ∷ filter has_points ds) ∷ rest.0, ((h.0.0, contours_left cs ds h.0.1), rest.1), ap (λ l. ((p ∷ d) ∷ filter has_points ds) ∷ l) rest.2)
+  list_left ((c ∷ cs) ∷ shapes) (([] ∷ ds) ∷ left) h = survivors_gone (ShapeClean Answer) (c ∷ cs) shapes _ h.0.0 (list_left shapes left h.1)
+  list_left ((c ∷ cs) ∷ shapes) (((p ∷ d) ∷ ds) ∷ left) h = survivors_left (ShapeClean Answer) (c ∷ cs) _ shapes _ (h.0.0, contours_left cs ds h.0.1) (list_left shapes left h.1)
 
 same_error : (e k : ShapeError) (r : Result Bool ShapeError) → r ≡ Err e → r ≡ Err k → e ≡ OutOfMemory → k ≡ OutOfMemory
 same_error e k r was is memory = cc
@@ -143,20 +151,10 @@ module _ (Passes : List Point → Type 0) (Answer : List Point → Option (List 
     short = λ each. refl;
   }
 
-zero_told : (n : ℕ) → (n == 0) ≡ true → n ≡ 0
-zero_told n told = (Decides-eqb n 0).0 told
-
-more_told : (n : ℕ) → 0 < n → (n == 0) ≡ false
-more_told n some = go (n == 0) refl
-  where
-    go : (b : Bool) → (n == 0) ≡ b → (n == 0) ≡ false
-    go false e = e
-    go true e = absurd (omega (arith, zero_told n e, some))
-
 -- a contour has points exactly where its list isn't told empty
 pub has_points_told : {T : Type 0} (value : T → ℤ) (points : List (IntPoint T)) (n : ℕ) → n ≡ length points → has_points (contour_of value points) ≡ not (n == 0)
 has_points_told value [] n e = rw e refl
-has_points_told value (p ∷ points) n e = let told : (n == 0) ≡ false = more_told n (omega (arith, e)) in rw told refl
+has_points_told value (p ∷ points) n e = grind (arith, e)
 
 -- a filter by what is read of each member
 pub filter_read : {X Y : Type 0} (f : X → Y) (p : Y → Bool) (xs : List X) → map f (filter (λ x. p (f x)) xs) ≡ filter p (map f xs)

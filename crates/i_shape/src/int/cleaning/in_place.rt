@@ -2,12 +2,12 @@
 //! fail.
 
 ghost use Rattle.std.specs.Prelude.{◌≡◌, ◌<◌, ℕ, true, Ok, IfOk, IsOk, IsOkUnless};
-ghost use Rattle.std.specs.List.{All, AllZip};
+ghost use Rattle.std.specs.List.{All, AllZip, filter};
 ghost use Rattle.i_shape_core.specs.IntPoint.{contour_of, IsSafeContour};
 ghost use Rattle.i_shape_source.specs.Paths.{concatenated};
 ghost use Rattle.i_shape.specs.ShapeLists.{shape_of, shapes_of, IsSafeShape, IsSafeList};
 ghost use Rattle.i_shape.specs.InPlace.{CleansShape, CleansList};
-ghost use Rattle.i_shape.specs.LeftInPlace.{IsLeftOf, AreLeftOf, LongestUnclean, HasRoom, HasRoomFor, keeps_outer, kept_contours, kept_shapes};
+ghost use Rattle.i_shape.specs.LeftInPlace.{IsLeftOf, AreLeftOf, LongestUnclean, HasRoom, HasRoomFor, has_points, keeps_outer, kept_contours, kept_shapes};
 
 use crate::int::cleaning::InPlaceCleaner;
 use crate::int::shape::{IntContour, IntShape, IntShapes};
@@ -175,12 +175,20 @@ fn keeps_outer<I: IntNumber>(shape: &[IntContour<I>]) -> bool
     }
 }
 
+/// Removes the contours without points.
+fn drop_empty<I: IntNumber>(shape: &mut IntShape<I>)
+    ensures { shape_of I.value shape.new.items
+        ≡ filter has_points (shape_of I.value shape.old.items) }
+{
+    shape.retain(|contour| !contour.is_empty());
+}
+
 /// Removes the contours without points, or all contours where the outer one has no points.
 pub fn take_out_collapsed<I: IntNumber>(shape: &mut IntShape<I>)
     ensures { shape_of I.value shape.new.items ≡ kept_contours (shape_of I.value shape.old.items) }
 {
     if keeps_outer(shape.as_slice()) {
-        shape.retain(|contour| !contour.is_empty());
+        drop_empty(shape);
     } else {
         shape.clear();
     }
@@ -193,6 +201,6 @@ pub fn take_out_of_list<I: IntNumber>(shapes: &mut IntShapes<I>)
 {
     shapes.retain(|shape| keeps_outer(shape.as_slice()));
     for shape in shapes.iter_mut() {
-        shape.retain(|contour| !contour.is_empty());
+        drop_empty(shape);
     }
 }

@@ -1,8 +1,7 @@
-use Rattle.std.proofs.Common.{◌++◌, ◌∙◌, ap, append_assoc, append-nil, sym, subst, List, []}
+use Rattle.std.proofs.Common.{◌++◌, ◌∙◌, ap, append_assoc, append-nil, sym, []}
 use Rattle.std.specs.List.{All}
 use Rattle.std.specs.Option.{option_to_list}
 use Rattle.std.proofs.lemmas.List.{take_all}
-use Rattle.i_shape_core.specs.declared.point.IntPoint.{IntPoint}
 use Rattle.i_shape_core.specs.IntPoint.{contour_of, IsSafe}
 use Rattle.i_shape.specs.ShapeLists.{shape_of}
 use Rattle.i_shape_core.proofs.lists.Survivors.{survivors-none}
@@ -11,8 +10,7 @@ use Rattle.i_shape.proofs.int.cleaning.append_holes.Goals as goal
 
 pub append_contour-requires : goal.append_contour-requires
 append_contour-requires g c =
-    let Safe : List (IntPoint g.row.I.Denot) → Type 0 = λ w. All (IsSafe g.I.IntNumber.width) (contour_of g.I.IntNumber.value w) in
-    subst Safe (sym c.as_slice.ensures.value) (mapped-read (λ v. contour_of g.I.IntNumber.value v.items) (All (IsSafe g.I.IntNumber.width)) c.args.contours.now c.loop-contour.contour-index c.contour-item.result c.loop-contour-test.true c.contour-item.is c.requires)
+    rw c.as_slice.ensures.value (mapped-read (λ v. contour_of g.I.IntNumber.value v.items) (All (IsSafe g.I.IntNumber.width)) c.args.contours.now c.loop-contour.contour-index c.contour-item.result c.loop-contour-test.true c.contour-item.is c.requires)
 
 pub loop-contour-init : goal.loop-contour-init
 loop-contour-init g c = ([], survivors-none g.C.ContourCleaner.answers, sym (append-nil (shape_of g.I.IntNumber.value c.args.kept.now.items)))
@@ -21,10 +19,9 @@ pub loop-contour-preserved : goal.loop-contour-preserved
 loop-contour-preserved g c =
     let value = g.I.IntNumber.value in
     let inv = c.loop-contour.invariant in
-    let step = c.in_ok-append_contour.ensures.ok in
-    let Answered : List (IntPoint g.row.I.Denot) → Type 0 = λ w. g.C.ContourCleaner.answers (contour_of value w) step.0 in (
+    let step = c.in_ok-append_contour.ensures.ok in (
       inv.0 ++ option_to_list step.0,
-      survivors-more (λ v. contour_of value v.items) g.C.ContourCleaner.answers c.args.contours.now c.loop-contour.contour-index c.contour-item.result inv.0 step.0 c.loop-contour-test.true c.contour-item.is inv.1 (subst Answered c.as_slice.ensures.value step.1),
+      survivors-more (λ v. contour_of value v.items) g.C.ContourCleaner.answers c.args.contours.now c.loop-contour.contour-index c.contour-item.result inv.0 step.0 c.loop-contour-test.true c.contour-item.is inv.1 (rw c.as_slice.ensures.value at step.1),
       step.2 ∙ ap (λ w. w ++ option_to_list step.0) inv.2 ∙ append_assoc (shape_of value c.args.kept.now.items) inv.0 (option_to_list step.0),
     )
 

@@ -1,7 +1,4 @@
-use Rattle.std.proofs.Common.{sym, subst, List}
-use Rattle.std.specs.Global.{Vec}
 use Rattle.std.proofs.lemmas.List.{take_all}
-use Rattle.i_shape_core.specs.declared.point.IntPoint.{IntPoint}
 use Rattle.i_shape.specs.ShapeLists.{shape_of, shapes_of, IsSafeShape}
 use Rattle.i_shape.specs.ShapeAnswers.{ShapeClean}
 use Rattle.i_shape.proofs.lists.Surviving.{mapped-read, survivors-more}
@@ -11,16 +8,14 @@ use Rattle.i_shape.proofs.int.cleaning.clean_list.Goals as goal
 pub push_cleaned_shape-requires : goal.push_cleaned_shape-requires
 push_cleaned_shape-requires g c =
     let value = g.I.IntNumber.value in
-    let Safe : List (Vec (IntPoint g.row.I.Denot)) → Type 0 = λ w. IsSafeShape g.I.IntNumber.width (shape_of value w) in
-    subst Safe (sym c.as_slice.ensures.value) (mapped-read (λ s. shape_of value s.items) (IsSafeShape g.I.IntNumber.width) c.args.shapes.now c.loop-shape.shape-index c.shape-item.result c.loop-shape-test.true c.shape-item.is c.requires)
+    rw c.as_slice.ensures.value (mapped-read (λ s. shape_of value s.items) (IsSafeShape g.I.IntNumber.width) c.args.shapes.now c.loop-shape.shape-index c.shape-item.result c.loop-shape-test.true c.shape-item.is c.requires)
 
 pub loop-shape-preserved : goal.loop-shape-preserved
 loop-shape-preserved g c =
     let value = g.I.IntNumber.value in
     let answers = g.C.ContourCleaner.answers in
     let step = c.in_ok-push_cleaned_shape.ensures.ok in
-    let Clean : List (Vec (IntPoint g.row.I.Denot)) → Type 0 = λ w. ShapeClean answers (shape_of value w) step.0 in
-    rw step.2 (survivors-more (λ s. shape_of value s.items) (ShapeClean answers) c.args.shapes.now c.loop-shape.shape-index c.shape-item.result (shapes_of value c.loop-shape.kept.items) step.0 c.loop-shape-test.true c.shape-item.is c.loop-shape.invariant (subst Clean c.as_slice.ensures.value step.1))
+    rw step.2 (survivors-more (λ s. shape_of value s.items) (ShapeClean answers) c.args.shapes.now c.loop-shape.shape-index c.shape-item.result (shapes_of value c.loop-shape.kept.items) step.0 c.loop-shape-test.true c.shape-item.is c.loop-shape.invariant (rw c.as_slice.ensures.value at step.1))
 
 pub returns-clause-answer : goal.returns-clause-answer
 returns-clause-answer g c =

@@ -1,11 +1,9 @@
-use Rattle.std.proofs.Common.{rules, arith, List, Some, sym, subst}
+use Rattle.std.proofs.Common.{rules, arith, Some}
 use Rattle.std.proofs.lemmas.Grind.{common_steps}
 use Rattle.std.specs.List.{All}
-use Rattle.std.specs.Global.{Vec}
 use Rattle.std.proofs.lemmas.List.Elements.{All-head, All-tail}
-use Rattle.i_shape_core.specs.declared.point.IntPoint.{IntPoint}
 use Rattle.i_shape_core.specs.IntPoint.{contour_of, IsSafe}
-use Rattle.i_shape.specs.ShapeLists.{shape_of, IsSafeShape}
+use Rattle.i_shape.specs.ShapeLists.{shape_of}
 use Rattle.i_shape.specs.ShapeAnswers.{ShapeClean}
 use Rattle.i_shape.proofs.shapes.Kept.{shape_keeps, shape_safe}
 use Rattle.i_shape.proofs.int.cleaning.clean_shape.Goals as goal
@@ -13,16 +11,13 @@ use Rattle.i_shape.proofs.int.cleaning.clean_shape.Goals as goal
 pub cleaned-requires : goal.cleaned-requires
 cleaned-requires g c =
     let value = g.I.IntNumber.value in
-    let Safe : List (Vec (IntPoint g.row.I.Denot)) → Type 0 = λ w. IsSafeShape g.I.IntNumber.width (shape_of value w) in
-    let SafeContour : List (IntPoint g.row.I.Denot) → Type 0 = λ w. All (IsSafe g.I.IntNumber.width) (contour_of value w) in
-    subst SafeContour (sym c.as_slice.ensures.value)
-    (All-head (All (IsSafe g.I.IntNumber.width)) (contour_of value c.in-Some.outer.now.items) (shape_of value c.in-Some.holes.now) (subst Safe c.in-Some.ensures.cases.0 c.requires))
+    rw c.as_slice.ensures.value
+    (All-head (All (IsSafe g.I.IntNumber.width)) (contour_of value c.in-Some.outer.now.items) (shape_of value c.in-Some.holes.now) (rw c.in-Some.ensures.cases.0 at c.requires))
 
 pub append_holes-requires : goal.append_holes-requires
 append_holes-requires g c =
     let value = g.I.IntNumber.value in
-    let Safe : List (Vec (IntPoint g.row.I.Denot)) → Type 0 = λ w. IsSafeShape g.I.IntNumber.width (shape_of value w) in
-    All-tail (All (IsSafe g.I.IntNumber.width)) (contour_of value c.in-Some.outer.now.items) (shape_of value c.in-Some.holes.now) (subst Safe c.in-Some.ensures.cases.0 c.requires)
+    All-tail (All (IsSafe g.I.IntNumber.width)) (contour_of value c.in-Some.outer.now.items) (shape_of value c.in-Some.holes.now) (rw c.in-Some.ensures.cases.0 at c.requires)
 
 pub returns-in_default-clause-answer : goal.returns-in_default-clause-answer
 returns-in_default-clause-answer g c =

@@ -1,8 +1,6 @@
-use Rattle.std.proofs.Common.{refl, sym, ◌∙◌, subst, List}
-use Rattle.std.specs.Global.{Vec}
+use Rattle.std.proofs.Common.{refl, sym, ◌∙◌}
 use Rattle.std.proofs.lemmas.Bool.{false≢true}
 use Rattle.std.proofs.lemmas.List.{take_all}
-use Rattle.i_shape_core.specs.declared.point.IntPoint.{IntPoint}
 use Rattle.i_shape.specs.ShapeLists.{shape_of, IsSafeShape}
 use Rattle.i_shape.specs.ShapeAnswers.{EachContour}
 use Rattle.i_shape.proofs.lists.Surviving.{mapped-read, mapped-more}
@@ -11,24 +9,21 @@ use Rattle.i_shape.proofs.int.cleaning.is_clean_list.Goals as goal
 pub is_clean_shape-requires : goal.is_clean_shape-requires
 is_clean_shape-requires g c =
     let value = g.I.IntNumber.value in
-    let Safe : List (Vec (IntPoint g.row.I.Denot)) → Type 0 = λ w. IsSafeShape g.I.IntNumber.width (shape_of value w) in
-    subst Safe (sym c.as_slice.ensures.value) (mapped-read (λ s. shape_of value s.items) (IsSafeShape g.I.IntNumber.width) c.args.shapes.now c.loop-shape.shape-index c.shape-item.result c.loop-shape-test.true c.shape-item.is c.requires)
+    rw c.as_slice.ensures.value (mapped-read (λ s. shape_of value s.items) (IsSafeShape g.I.IntNumber.width) c.args.shapes.now c.loop-shape.shape-index c.shape-item.result c.loop-shape-test.true c.shape-item.is c.requires)
 
 pub returns-then-not-is_clean_shape : goal.returns-then-not-is_clean_shape
 returns-then-not-is_clean_shape g c =
     let value = g.I.IntNumber.value in
-    let clean = g.C.ContourCleaner.clean in
-    let Clean : List (Vec (IntPoint g.row.I.Denot)) → Type 0 = λ w. EachContour clean (shape_of value w) in (
+    let clean = g.C.ContourCleaner.clean in (
       λ f. absurd (cc),
-      λ all. absurd (false≢true (sym c.if-not-is_clean_shape.true ∙ c.is_clean_shape.ensures.1 (subst Clean (sym c.as_slice.ensures.value) (mapped-read (λ s. shape_of value s.items) (EachContour clean) c.args.shapes.now c.loop-shape.shape-index c.shape-item.result c.loop-shape-test.true c.shape-item.is all)))),
+      λ all. absurd (false≢true (sym c.if-not-is_clean_shape.true ∙ c.is_clean_shape.ensures.1 (rw c.as_slice.ensures.value (mapped-read (λ s. shape_of value s.items) (EachContour clean) c.args.shapes.now c.loop-shape.shape-index c.shape-item.result c.loop-shape-test.true c.shape-item.is all)))),
     )
 
 pub loop-shape-preserved : goal.loop-shape-preserved
 loop-shape-preserved g c =
     let value = g.I.IntNumber.value in
     let clean = g.C.ContourCleaner.clean in
-    let Clean : List (Vec (IntPoint g.row.I.Denot)) → Type 0 = λ w. EachContour clean (shape_of value w) in
-    mapped-more (λ s. shape_of value s.items) (EachContour clean) c.args.shapes.now c.loop-shape.shape-index c.shape-item.result c.loop-shape-test.true c.shape-item.is c.loop-shape.invariant (subst Clean c.as_slice.ensures.value (c.is_clean_shape.ensures.0 c.if-not-is_clean_shape.false))
+    mapped-more (λ s. shape_of value s.items) (EachContour clean) c.args.shapes.now c.loop-shape.shape-index c.shape-item.result c.loop-shape-test.true c.shape-item.is c.loop-shape.invariant (rw c.as_slice.ensures.value at (c.is_clean_shape.ensures.0 c.if-not-is_clean_shape.false))
 
 pub returns : goal.returns
 returns g c =

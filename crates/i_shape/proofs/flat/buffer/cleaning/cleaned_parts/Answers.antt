@@ -1,9 +1,6 @@
-use Rattle.std.proofs.Common.{List, ap, map, sym, subst}
-use Rattle.i_shape_core.specs.Point.{Point}
+use Rattle.std.proofs.Common.{ap, map}
 use Rattle.i_shape_core.specs.IntPoint.{contour_of}
-use Rattle.i_shape.specs.ShapeAnswers.{Survivors}
 use Rattle.i_shape.specs.declared.flat.buffer.contours.FlatContoursBuffer.{FlatContoursBuffer}
-use Rattle.i_shape.specs.Flat.{slices}
 use Rattle.i_shape.proofs.buffers.CleanedShapes.{grown_held, held_slices}
 use Rattle.i_shape.proofs.flat.buffer.cleaning.cleaned_parts.Goals as goal
 
@@ -13,8 +10,7 @@ returns-clause-cleaned g c =
     let more = c.in_ok-append_parts.ensures.ok in
     let kept : FlatContoursBuffer g.row.T.Denot = record { points = c.append_parts.new.points; ranges = c.append_parts.new.ranges } in
     let held = grown_held c.clear_and_reserve.new.self kept more.0 c.in_ok-clear_and_reserve.ensures.ok more.2 in
-    let Left : List (List Point) → Type 0 = λ w. Survivors g.C.ContourCleaner.answers (map (contour_of value) (slices c.args.points.now c.args.ranges.now)) w in
-    subst Left (sym (ap (map (contour_of value)) held.slices)) more.1
+    rw (ap (map (contour_of value)) held.slices) more.1
 
 pub returns-clause-end_to_end : goal.returns-clause-end_to_end
 returns-clause-end_to_end g c =

@@ -1,10 +1,7 @@
-use Rattle.std.proofs.Common.{List, sym, subst}
-use Rattle.std.specs.Global.{Vec}
 use Rattle.std.specs.Cmp.Lexicographic.{slice_cmp}
 use Rattle.std.proofs.lemmas.Cmp.{on_total, lists_total}
 use Rattle.std.proofs.lemmas.List.{take_all}
 use Rattle.std.proofs.lemmas.List.Sorted.{IsPermutation-map}
-use Rattle.i_shape_core.specs.declared.point.IntPoint.{IntPoint}
 use Rattle.i_shape_core.specs.IntPoint.{point_of, contour_of}
 use Rattle.i_shape.specs.ShapeLists.{shape_of, shapes_of, IsSafeShape}
 use Rattle.i_shape.proofs.lists.Surviving.{mapped-read, survivors-more}
@@ -17,15 +14,13 @@ use Rattle.i_shape.proofs.int.canonical.forms.list_form.Goals as goal
 pub push_shape_form-requires : goal.push_shape_form-requires
 push_shape_form-requires g c =
     let value = g.I.IntNumber.value in
-    let Safe : List (Vec (IntPoint g.row.I.Denot)) → Type 0 = λ w. IsSafeShape g.I.IntNumber.width (shape_of value w) in
-    subst Safe (sym c.as_slice.ensures.value) (mapped-read (λ s. shape_of value s.items) (IsSafeShape g.I.IntNumber.width) c.args.shapes.now c.loop-shape.shape-index c.shape-item.result c.loop-shape-test.true c.shape-item.is c.requires)
+    rw c.as_slice.ensures.value (mapped-read (λ s. shape_of value s.items) (IsSafeShape g.I.IntNumber.width) c.args.shapes.now c.loop-shape.shape-index c.shape-item.result c.loop-shape-test.true c.shape-item.is c.requires)
 
 pub loop-shape-preserved : goal.loop-shape-preserved
 loop-shape-preserved g c =
     let value = g.I.IntNumber.value in
     let step = c.in_ok-push_shape_form.ensures.ok in
-    let Clean : List (Vec (IntPoint g.row.I.Denot)) → Type 0 = λ w. ShapeForm g.C.ContourCleaner.answers (shape_of value w) step.0 in
-    rw step.2 (survivors-more (λ s. shape_of value s.items) (ShapeForm g.C.ContourCleaner.answers) c.args.shapes.now c.loop-shape.shape-index c.shape-item.result (shapes_of value c.loop-shape.forms.items) step.0 c.loop-shape-test.true c.shape-item.is c.loop-shape.invariant (subst Clean c.as_slice.ensures.value step.1))
+    rw step.2 (survivors-more (λ s. shape_of value s.items) (ShapeForm g.C.ContourCleaner.answers) c.args.shapes.now c.loop-shape.shape-index c.shape-item.result (shapes_of value c.loop-shape.forms.items) step.0 c.loop-shape-test.true c.shape-item.is c.loop-shape.invariant (rw c.as_slice.ensures.value at step.1))
 
 sorted_answer : goal.returns-clause-answer
 sorted_answer g c =

@@ -1,10 +1,8 @@
-use Rattle.std.proofs.Common.{List, Some, rules, sym, subst}
+use Rattle.std.proofs.Common.{Some, rules}
 use Rattle.std.specs.List.{All}
-use Rattle.std.specs.Global.{Vec}
 use Rattle.std.proofs.lemmas.List.Elements.{All-head, All-tail}
-use Rattle.i_shape_core.specs.declared.point.IntPoint.{IntPoint}
 use Rattle.i_shape_core.specs.IntPoint.{contour_of, IsSafe}
-use Rattle.i_shape.specs.ShapeLists.{shape_of, IsSafeShape}
+use Rattle.i_shape.specs.ShapeLists.{shape_of}
 use Rattle.i_shape.specs.CanonicalShapes.{ShapeForm}
 use Rattle.i_shape.proofs.shapes.Forms.{form_safe}
 use Rattle.i_shape.proofs.int.canonical.forms.shape_form.Goals as goal
@@ -12,22 +10,16 @@ use Rattle.i_shape.proofs.int.canonical.forms.shape_form.Goals as goal
 pub cleaned-requires : goal.cleaned-requires
 cleaned-requires g c =
     let value = g.I.IntNumber.value in
-    let Safe : List (Vec (IntPoint g.row.I.Denot)) → Type 0 = λ w. IsSafeShape g.I.IntNumber.width (shape_of value w) in
-    let SafeContour : List (IntPoint g.row.I.Denot) → Type 0 = λ w. All (IsSafe g.I.IntNumber.width) (contour_of value w) in
-    subst SafeContour (sym c.as_slice.ensures.value)
-    (All-head (All (IsSafe g.I.IntNumber.width)) (contour_of value c.in-Some.outer.now.items) (shape_of value c.in-Some.holes.now) (subst Safe c.in-Some.ensures.cases.0 c.requires))
+    rw c.as_slice.ensures.value
+    (All-head (All (IsSafe g.I.IntNumber.width)) (contour_of value c.in-Some.outer.now.items) (shape_of value c.in-Some.holes.now) (rw c.in-Some.ensures.cases.0 at c.requires))
 
 pub sorted_forms-requires : goal.sorted_forms-requires
 sorted_forms-requires g c =
     let value = g.I.IntNumber.value in
-    let Safe : List (Vec (IntPoint g.row.I.Denot)) → Type 0 = λ w. IsSafeShape g.I.IntNumber.width (shape_of value w) in
-    All-tail (All (IsSafe g.I.IntNumber.width)) (contour_of value c.in-Some.outer.now.items) (shape_of value c.in-Some.holes.now) (subst Safe c.in-Some.ensures.cases.0 c.requires)
+    All-tail (All (IsSafe g.I.IntNumber.width)) (contour_of value c.in-Some.outer.now.items) (shape_of value c.in-Some.holes.now) (rw c.in-Some.ensures.cases.0 at c.requires)
 
 pub returns-clause-safe : goal.returns-clause-safe
 returns-clause-safe g c =
     let value = g.I.IntNumber.value in
     let answer : ShapeForm g.C.ContourCleaner.answers (shape_of value c.args.shape.now) (Some (shape_of value c.insert.new.self.items)) = search rules in
     form_safe g.C.ContourCleaner.answers g.I.IntNumber.width (g.met.C.CleanerLaws.stays_safe g.I.IntNumber.width) _ _ answer c.requires
-
-pub returns-in_default-2-clause-answer : goal.returns-in_default-2-clause-answer
-returns-in_default-2-clause-answer g c = search rules

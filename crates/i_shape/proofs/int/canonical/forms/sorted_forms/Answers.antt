@@ -1,7 +1,5 @@
-use Rattle.std.proofs.Common.{List, sym, subst}
 use Rattle.std.specs.List.{All}
 use Rattle.std.proofs.lemmas.List.{take_all}
-use Rattle.i_shape_core.specs.declared.point.IntPoint.{IntPoint}
 use Rattle.std.specs.Cmp.Lexicographic.{slice_cmp}
 use Rattle.std.proofs.lemmas.Cmp.{on_total, lists_total}
 use Rattle.std.proofs.lemmas.List.Sorted.{IsPermutation-map}
@@ -16,15 +14,13 @@ use Rattle.i_shape.proofs.int.canonical.forms.sorted_forms.Goals as goal
 pub append_contour-requires : goal.append_contour-requires
 append_contour-requires g c =
     let value = g.I.IntNumber.value in
-    let Safe : List (IntPoint g.row.I.Denot) → Type 0 = λ w. All (IsSafe g.I.IntNumber.width) (contour_of value w) in
-    subst Safe (sym c.as_slice.ensures.value) (mapped-read (λ v. contour_of value v.items) (All (IsSafe g.I.IntNumber.width)) c.args.contours.now c.loop-contour.contour-index c.contour-item.result c.loop-contour-test.true c.contour-item.is c.requires)
+    rw c.as_slice.ensures.value (mapped-read (λ v. contour_of value v.items) (All (IsSafe g.I.IntNumber.width)) c.args.contours.now c.loop-contour.contour-index c.contour-item.result c.loop-contour-test.true c.contour-item.is c.requires)
 
 pub loop-contour-preserved : goal.loop-contour-preserved
 loop-contour-preserved g c =
     let value = g.I.IntNumber.value in
     let step = c.in_ok-append_contour.ensures.ok in
-    let Clean : List (IntPoint g.row.I.Denot) → Type 0 = λ w. g.C.ContourCleaner.answers (contour_of value w) step.0 in
-    rw step.2 (survivors-more (λ v. contour_of value v.items) g.C.ContourCleaner.answers c.args.contours.now c.loop-contour.contour-index c.contour-item.result (shape_of value c.loop-contour.sorted.items) step.0 c.loop-contour-test.true c.contour-item.is c.loop-contour.invariant (subst Clean c.as_slice.ensures.value step.1))
+    rw step.2 (survivors-more (λ v. contour_of value v.items) g.C.ContourCleaner.answers c.args.contours.now c.loop-contour.contour-index c.contour-item.result (shape_of value c.loop-contour.sorted.items) step.0 c.loop-contour-test.true c.contour-item.is c.loop-contour.invariant (rw c.as_slice.ensures.value at step.1))
 
 pub returns-clause-answer : goal.returns-clause-answer
 returns-clause-answer g c =

@@ -1,14 +1,11 @@
-use Rattle.std.proofs.Common.{rules, ◌≡◌, Bool, Result, Some, Err, List, sym, subst}
-use Rattle.std.specs.Global.{Vec}
-use Rattle.std.specs.List.{All}
+use Rattle.std.proofs.Common.{rules, ◌≡◌, Bool, Result, Err, List, sym, subst}
 use Rattle.i_shape_core.specs.Point.{Point}
-use Rattle.i_shape_core.specs.declared.point.IntPoint.{IntPoint}
 use Rattle.i_shape_core.specs.declared.error.ShapeError.{ShapeError}
 use Rattle.i_shape_source.specs.Paths.{concatenated}
-use Rattle.i_shape.specs.ShapeLists.{shapes_of, IsSafeList}
+use Rattle.i_shape.specs.ShapeLists.{shapes_of}
 use Rattle.i_shape.specs.ShapeAnswers.{ListClean, EachShape}
 use Rattle.i_shape.specs.InPlace.{IsShortOrPasses, CleansList}
-use Rattle.i_shape.specs.LeftInPlace.{LongestUnclean, HasRoom, HasRoomFor}
+use Rattle.i_shape.specs.LeftInPlace.{HasRoom, HasRoomFor}
 use Rattle.i_shape.proofs.shapes.Kept.{list_safe}
 use Rattle.i_shape.proofs.in_place.Contours.{list_stays_in_place}
 use Rattle.i_shape.proofs.in_place.Left.{fewer_in_place, list_left, list_cleaned_in_place, list_refused_in_place}
@@ -17,20 +14,17 @@ use Rattle.i_shape.proofs.int.cleaning.in_place.clean_list_in_place.Goals as goa
 
 pub longest_unclean_of_list-requires : goal.longest_unclean_of_list-requires
 longest_unclean_of_list-requires g c =
-    let Safe : List (Vec (Vec (IntPoint g.row.I.Denot))) → Type 0 = λ w. IsSafeList g.I.IntNumber.width (shapes_of g.I.IntNumber.value w) in
-    subst Safe (sym c.as_slice.ensures.value) c.requires
+    rw c.as_slice.ensures.value c.requires
 
 pub returns-in_default-clause-gives : goal.returns-in_default-clause-gives
 returns-in_default-clause-gives g c =
     let cleaner = g.C.ContourCleaner in
-    let Passes : List (Vec (Vec (IntPoint g.row.I.Denot))) → Type 0 = λ w. All cleaner.clean (concatenated (shapes_of g.I.IntNumber.value w)) in
-    list_stays_in_place cleaner.clean cleaner.answers g.met.C.InPlaceCleaner.stays g.met.C.InPlaceCleaner.kept (shapes_of g.I.IntNumber.value c.args.shapes.now.items) (each_of_all cleaner.clean (shapes_of g.I.IntNumber.value c.args.shapes.now.items) (subst Passes c.as_slice.ensures.value c.in_default.ensures))
+    list_stays_in_place cleaner.clean cleaner.answers g.met.C.InPlaceCleaner.stays g.met.C.InPlaceCleaner.kept (shapes_of g.I.IntNumber.value c.args.shapes.now.items) (each_of_all cleaner.clean (shapes_of g.I.IntNumber.value c.args.shapes.now.items) (rw c.as_slice.ensures.value at c.in_default.ensures))
 
 pub clean_shapes-requires-clause-room : goal.clean_shapes-requires-clause-room
 clean_shapes-requires-clause-room g c =
     let cleaner = g.C.ContourCleaner in
-    let Told : List (Vec (Vec (IntPoint g.row.I.Denot))) → Type 0 = λ w. LongestUnclean cleaner.clean (concatenated (shapes_of g.I.IntNumber.value w)) (Some c.in-Some.longest) in
-    let told = subst Told c.as_slice.ensures.value c.in-Some.ensures in
+    let told = rw c.as_slice.ensures.value at c.in-Some.ensures in
     let shapes : List (List (List Point)) = shapes_of g.I.IntNumber.value c.args.shapes.now.items in
     each_of_all (HasRoomFor (HasRoom cleaner.has_room) cleaner.clean c.in_ok-work.work) shapes
     (room_for_each cleaner.clean (concatenated shapes) c.in-Some.longest told (HasRoom cleaner.has_room) (fewer_in_place cleaner.has_room g.met.C.ContourCleaner.fewer) c.in_ok-work.work c.in_ok-work.ensures.room)
@@ -40,8 +34,7 @@ returns-clause-gives g c =
     let value = g.I.IntNumber.value in
     let cleaner = g.C.ContourCleaner in
     let shapes : List (List (List Point)) = shapes_of value c.args.shapes.now.items in
-    let Told : List (Vec (Vec (IntPoint g.row.I.Denot))) → Type 0 = λ w. LongestUnclean cleaner.clean (concatenated (shapes_of value w)) (Some c.in-Some.longest) in
-    let told = subst Told c.as_slice.ensures.value c.in-Some.ensures in
+    let told = rw c.as_slice.ensures.value at c.in-Some.ensures in
     list_cleaned_in_place cleaner.clean cleaner.answers g.met.C.InPlaceCleaner.kept shapes _ (λ each. not_all_clean cleaner.clean (concatenated shapes) c.in-Some.longest told (all_of_each cleaner.clean shapes each))
     (subst (ListClean cleaner.answers shapes) (sym c.take_out_of_list.ensures) (list_left cleaner.answers shapes (shapes_of value c.clean_shapes.new.shapes.items) c.clean_shapes.ensures.left))
 
@@ -57,8 +50,7 @@ pub returns-in_err-work-clause-gives : goal.returns-in_err-work-clause-gives
 returns-in_err-work-clause-gives g c =
     let cleaner = g.C.ContourCleaner in
     let old : List (List (List Point)) = shapes_of g.I.IntNumber.value c.args.shapes.now.items in
-    let Told : List (Vec (Vec (IntPoint g.row.I.Denot))) → Type 0 = λ w. LongestUnclean cleaner.clean (concatenated (shapes_of g.I.IntNumber.value w)) (Some c.in-Some.longest) in
-    let told = subst Told c.as_slice.ensures.value c.in-Some.ensures in
+    let told = rw c.as_slice.ensures.value at c.in-Some.ensures in
     let Gives : Result Bool ShapeError → Type 0 = λ r. CleansList cleaner.clean cleaner.answers old old r in
     let is : c.from_residual.result ≡ Err c.in_err-work.field-0.0 = search rules in
     let fails : EachShape cleaner.clean old → ⊥ = λ each. not_all_clean cleaner.clean (concatenated old) c.in-Some.longest told (all_of_each cleaner.clean old each) in

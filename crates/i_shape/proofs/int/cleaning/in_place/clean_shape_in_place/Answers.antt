@@ -1,12 +1,10 @@
-use Rattle.std.proofs.Common.{rules, ◌≡◌, Bool, Result, Some, Err, List, sym, subst}
-use Rattle.std.specs.Global.{Vec}
+use Rattle.std.proofs.Common.{rules, ◌≡◌, Bool, Result, Err, List, sym, subst}
 use Rattle.i_shape_core.specs.Point.{Point}
-use Rattle.i_shape_core.specs.declared.point.IntPoint.{IntPoint}
 use Rattle.i_shape_core.specs.declared.error.ShapeError.{ShapeError}
-use Rattle.i_shape.specs.ShapeLists.{shape_of, IsSafeShape}
+use Rattle.i_shape.specs.ShapeLists.{shape_of}
 use Rattle.i_shape.specs.ShapeAnswers.{ShapeClean, EachContour}
 use Rattle.i_shape.specs.InPlace.{Leaves, IsShortOrPasses, CleansShape}
-use Rattle.i_shape.specs.LeftInPlace.{LongestUnclean, HasRoom}
+use Rattle.i_shape.specs.LeftInPlace.{HasRoom}
 use Rattle.i_shape.proofs.in_place.Contours.{shape_stays_in_place}
 use Rattle.i_shape.proofs.in_place.Left.{fewer_in_place, shape_left, shape_cleaned_in_place, shape_refused_in_place, leaves_safe}
 use Rattle.i_shape.proofs.in_place.Longest.{not_all_clean, short_longest, room_for_each}
@@ -14,20 +12,17 @@ use Rattle.i_shape.proofs.int.cleaning.in_place.clean_shape_in_place.Goals as go
 
 pub longest_unclean-requires : goal.longest_unclean-requires
 longest_unclean-requires g c =
-    let Safe : List (Vec (IntPoint g.row.I.Denot)) → Type 0 = λ w. IsSafeShape g.I.IntNumber.width (shape_of g.I.IntNumber.value w) in
-    subst Safe (sym c.as_slice.ensures.value) c.requires
+    rw c.as_slice.ensures.value c.requires
 
 pub returns-in_default-clause-gives : goal.returns-in_default-clause-gives
 returns-in_default-clause-gives g c =
     let cleaner = g.C.ContourCleaner in
-    let Passes : List (Vec (IntPoint g.row.I.Denot)) → Type 0 = λ w. EachContour cleaner.clean (shape_of g.I.IntNumber.value w) in
-    shape_stays_in_place cleaner.clean cleaner.answers g.met.C.InPlaceCleaner.stays (shape_of g.I.IntNumber.value c.args.shape.now.items) (subst Passes c.as_slice.ensures.value c.in_default.ensures)
+    shape_stays_in_place cleaner.clean cleaner.answers g.met.C.InPlaceCleaner.stays (shape_of g.I.IntNumber.value c.args.shape.now.items) (rw c.as_slice.ensures.value at c.in_default.ensures)
 
 pub clean_contours-requires-clause-room : goal.clean_contours-requires-clause-room
 clean_contours-requires-clause-room g c =
     let cleaner = g.C.ContourCleaner in
-    let Told : List (Vec (IntPoint g.row.I.Denot)) → Type 0 = λ w. LongestUnclean cleaner.clean (shape_of g.I.IntNumber.value w) (Some c.in-Some.longest) in
-    let told = subst Told c.as_slice.ensures.value c.in-Some.ensures in
+    let told = rw c.as_slice.ensures.value at c.in-Some.ensures in
     room_for_each cleaner.clean (shape_of g.I.IntNumber.value c.args.shape.now.items) c.in-Some.longest told (HasRoom cleaner.has_room) (fewer_in_place cleaner.has_room g.met.C.ContourCleaner.fewer) c.in_ok-work.work c.in_ok-work.ensures.room
 
 pub returns-clause-gives : goal.returns-clause-gives
@@ -35,8 +30,7 @@ returns-clause-gives g c =
     let value = g.I.IntNumber.value in
     let cleaner = g.C.ContourCleaner in
     let shape : List (List Point) = shape_of value c.args.shape.now.items in
-    let Told : List (Vec (IntPoint g.row.I.Denot)) → Type 0 = λ w. LongestUnclean cleaner.clean (shape_of value w) (Some c.in-Some.longest) in
-    let told = subst Told c.as_slice.ensures.value c.in-Some.ensures in
+    let told = rw c.as_slice.ensures.value at c.in-Some.ensures in
     shape_cleaned_in_place cleaner.clean cleaner.answers g.met.C.InPlaceCleaner.kept shape _ (not_all_clean cleaner.clean shape c.in-Some.longest told)
     (subst (Leaves (ShapeClean cleaner.answers) shape) (sym c.take_out_collapsed.ensures) (shape_left cleaner.answers shape (shape_of value c.clean_contours.new.shape.items) c.clean_contours.ensures.left))
 
@@ -52,8 +46,7 @@ pub returns-in_err-work-clause-gives : goal.returns-in_err-work-clause-gives
 returns-in_err-work-clause-gives g c =
     let cleaner = g.C.ContourCleaner in
     let old : List (List Point) = shape_of g.I.IntNumber.value c.args.shape.now.items in
-    let Told : List (Vec (IntPoint g.row.I.Denot)) → Type 0 = λ w. LongestUnclean cleaner.clean (shape_of g.I.IntNumber.value w) (Some c.in-Some.longest) in
-    let told = subst Told c.as_slice.ensures.value c.in-Some.ensures in
+    let told = rw c.as_slice.ensures.value at c.in-Some.ensures in
     let Gives : Result Bool ShapeError → Type 0 = λ r. CleansShape cleaner.clean cleaner.answers old old r in
     let is : c.from_residual.result ≡ Err c.in_err-work.field-0.0 = search rules in
     let long : EachContour (IsShortOrPasses cleaner.clean) old → ⊥ = λ each. (let refused = c.in_err-work.ensures.short (short_longest cleaner.clean old c.in-Some.longest told each) in absurd (cc)) in

@@ -1,4 +1,4 @@
-use Rattle.std.proofs.Common.{◌≡◌, List, length, max, unwrap_or, sym, subst, arith}
+use Rattle.std.proofs.Common.{◌≡◌, List, length, max, unwrap_or, arith}
 use Rattle.std.specs.List.{All}
 use Rattle.std.proofs.lemmas.List.{take_all, length-map}
 use Rattle.std.proofs.lemmas.List.Elements.{All-nil}
@@ -14,21 +14,19 @@ loop-contour-init g c = All-nil g.C.ContourCleaner.clean
 
 pub is_clean-requires : goal.is_clean-requires
 is_clean-requires g c =
-    let Safe : List (IntPoint g.row.I.Denot) → Type 0 = λ w. All (IsSafe g.I.IntNumber.width) (contour_of g.I.IntNumber.value w) in
-    subst Safe (sym c.as_slice.ensures.value) (mapped-read (λ v. contour_of g.I.IntNumber.value v.items) (All (IsSafe g.I.IntNumber.width)) c.args.shape.now c.loop-contour.contour-index c.contour-item.result c.loop-contour-test.true c.contour-item.is c.requires)
+    rw c.as_slice.ensures.value (mapped-read (λ v. contour_of g.I.IntNumber.value v.items) (All (IsSafe g.I.IntNumber.width)) c.args.shape.now c.loop-contour.contour-index c.contour-item.result c.loop-contour-test.true c.contour-item.is c.requires)
 
 pub loop-contour-preserved-then-is_clean : goal.loop-contour-preserved-then-is_clean
 loop-contour-preserved-then-is_clean g c =
-    let Clean : List (IntPoint g.row.I.Denot) → Type 0 = λ w. g.C.ContourCleaner.clean (contour_of g.I.IntNumber.value w) in
     rw (mapped-taken (λ v. contour_of g.I.IntNumber.value v.items) c.args.shape.now c.loop-contour.contour-index c.contour-item.result c.loop-contour-test.true c.contour-item.is)
-    (clean_more g.C.ContourCleaner.clean _ _ c.loop-contour.longest c.loop-contour.invariant (subst Clean c.as_slice.ensures.value (c.is_clean.ensures.0 c.if-is_clean.true)))
+    (clean_more g.C.ContourCleaner.clean _ _ c.loop-contour.longest c.loop-contour.invariant (rw c.as_slice.ensures.value at (c.is_clean.ensures.0 c.if-is_clean.true)))
 
 pub loop-contour-preserved : goal.loop-contour-preserved
 loop-contour-preserved g c =
     let value = g.I.IntNumber.value in
     let Clean : List (IntPoint g.row.I.Denot) → Type 0 = λ w. g.C.ContourCleaner.clean (contour_of value w) in
     let contour = c.contour-item.result in
-    let fails : Clean contour.items → ⊥ = λ pass. fails_by_test c.is_clean.result c.is_clean.ensures c.if-is_clean.false (subst Clean (sym c.as_slice.ensures.value) pass) in
+    let fails : Clean contour.items → ⊥ = λ pass. fails_by_test c.is_clean.result c.is_clean.ensures c.if-is_clean.false (rw c.as_slice.ensures.value pass) in
     let count : c.max.result ≡ max (length (contour_of value contour.items)) (unwrap_or c.loop-contour.longest 0) = omega (arith, c.max.ensures, c.len.ensures, contour.ok.0, length-map contour.items (point_of value), c.unwrap_or.ensures) in
     rw (count, mapped-taken (λ v. contour_of value v.items) c.args.shape.now c.loop-contour.contour-index contour c.loop-contour-test.true c.contour-item.is)
     (unclean_more g.C.ContourCleaner.clean _ _ c.loop-contour.longest c.loop-contour.invariant fails)

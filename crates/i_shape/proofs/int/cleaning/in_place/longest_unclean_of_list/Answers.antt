@@ -1,11 +1,7 @@
-use Rattle.std.proofs.Common.{◌≡◌, List, Some, None, max, unwrap_or, sym, ap, ◌∙◌, subst}
-use Rattle.std.specs.Global.{Vec}
-use Rattle.std.specs.List.{All}
+use Rattle.std.proofs.Common.{◌≡◌, Some, None, max, unwrap_or, ap, ◌∙◌}
 use Rattle.std.proofs.lemmas.List.{take_all}
 use Rattle.std.proofs.lemmas.List.Elements.{All-nil}
-use Rattle.i_shape_core.specs.declared.point.IntPoint.{IntPoint}
 use Rattle.i_shape.specs.ShapeLists.{shape_of, IsSafeShape}
-use Rattle.i_shape.specs.LeftInPlace.{LongestUnclean}
 use Rattle.i_shape.proofs.lists.EndToEnd.{concatenated_step}
 use Rattle.i_shape.proofs.lists.Surviving.{mapped-read}
 use Rattle.i_shape.proofs.in_place.Longest.{longest_append}
@@ -17,21 +13,18 @@ loop-shape-init g c = All-nil g.C.ContourCleaner.clean
 pub longest_unclean-requires : goal.longest_unclean-requires
 longest_unclean-requires g c =
     let value = g.I.IntNumber.value in
-    let Safe : List (Vec (IntPoint g.row.I.Denot)) → Type 0 = λ w. IsSafeShape g.I.IntNumber.width (shape_of value w) in
-    subst Safe (sym c.as_slice.ensures.value) (mapped-read (λ s. shape_of value s.items) (IsSafeShape g.I.IntNumber.width) c.args.shapes.now c.loop-shape.shape-index c.shape-item.result c.loop-shape-test.true c.shape-item.is c.requires)
+    rw c.as_slice.ensures.value (mapped-read (λ s. shape_of value s.items) (IsSafeShape g.I.IntNumber.width) c.args.shapes.now c.loop-shape.shape-index c.shape-item.result c.loop-shape-test.true c.shape-item.is c.requires)
 
 pub loop-shape-preserved-in_default : goal.loop-shape-preserved-in_default
 loop-shape-preserved-in_default g c =
-    let Told : List (Vec (IntPoint g.row.I.Denot)) → Type 0 = λ w. All g.C.ContourCleaner.clean (shape_of g.I.IntNumber.value w) in
     rw (concatenated_step (λ s. shape_of g.I.IntNumber.value s.items) c.args.shapes.now c.loop-shape.shape-index c.shape-item.result c.loop-shape-test.true c.shape-item.is)
-    (longest_append g.C.ContourCleaner.clean _ _ c.loop-shape.longest None c.loop-shape.invariant (subst Told c.as_slice.ensures.value c.in_default.ensures))
+    (longest_append g.C.ContourCleaner.clean _ _ c.loop-shape.longest None c.loop-shape.invariant (rw c.as_slice.ensures.value at c.in_default.ensures))
 
 pub loop-shape-preserved : goal.loop-shape-preserved
 loop-shape-preserved g c =
-    let Told : List (Vec (IntPoint g.row.I.Denot)) → Type 0 = λ w. LongestUnclean g.C.ContourCleaner.clean (shape_of g.I.IntNumber.value w) (Some c.in-Some.points) in
     let count : c.max.result ≡ max c.in-Some.points (unwrap_or c.loop-shape.longest 0) = c.max.ensures ∙ ap (max c.in-Some.points) c.unwrap_or.ensures in
     rw (count, concatenated_step (λ s. shape_of g.I.IntNumber.value s.items) c.args.shapes.now c.loop-shape.shape-index c.shape-item.result c.loop-shape-test.true c.shape-item.is)
-    (longest_append g.C.ContourCleaner.clean _ _ c.loop-shape.longest (Some c.in-Some.points) c.loop-shape.invariant (subst Told c.as_slice.ensures.value c.in-Some.ensures))
+    (longest_append g.C.ContourCleaner.clean _ _ c.loop-shape.longest (Some c.in-Some.points) c.loop-shape.invariant (rw c.as_slice.ensures.value at c.in-Some.ensures))
 
 pub returns : goal.returns
 returns g c =

@@ -1,4 +1,4 @@
-use Rattle.std.proofs.Common.{arith, rules, ap}
+use Rattle.std.proofs.Common.{arith, ap}
 use Rattle.i_shape_core.specs.IntPoint.{contour_of}
 use Rattle.i_shape_core.proofs.plane.Contours.{refuted_by_test}
 use Rattle.i_shape.proofs.in_place.Spikes.{spikeless_stays_in_place, spikes_collapse}
@@ -13,6 +13,3 @@ returns-in-None-clause-gives g c = spikes_collapse (contour_of g.I.IntNumber.val
 
 pub returns-in-Some : goal.returns-in-Some
 returns-in-Some g c = grind arith
-
-pub returns-in_err-contour : goal.returns-in_err-contour
-returns-in_err-contour g c = search rules

@@ -1,10 +1,9 @@
-use Rattle.std.proofs.Common.{◌≡◌, ℕ, ◌++◌, ◌∙◌, List, ap, subst, get_or, option_map}
+use Rattle.std.proofs.Common.{◌≡◌, ℕ, ◌++◌, ◌∙◌, ap, get_or, option_map}
 use Rattle.std.specs.List.{All}
 use Rattle.std.specs.Option.{option_to_list}
 use Rattle.std.specs.declared.ops.Range.{Range}
 use Rattle.std.proofs.lemmas.List.{get_or_default, map-append}
 use Rattle.i_shape_core.specs.IntPoint.{contour_of, IsSafe}
-use Rattle.i_shape_core.specs.declared.point.IntPoint.{IntPoint}
 use Rattle.i_shape.specs.ShapeAnswers.{Survivors}
 use Rattle.i_shape.proofs.buffers.CleanedContours.{contour_at, contour-read, contours-all, map-option_to_list}
 use Rattle.i_shape.proofs.lists.Surviving.{survivors-more}
@@ -24,8 +23,7 @@ loop-range-preserved g c =
     let d : Range ℕ = record { start = 0; end = 0 } in
     let inv = c.loop-range.invariant in
     let step = c.in_ok-append_cleaned.ensures.ok in
-    let Answered : List (IntPoint g.row.T.Denot) → Type 0 = λ w. g.C.ContourCleaner.answers (contour_of value w) (option_map (contour_of value) step.0) in
-    let here = subst Answered c.part.ensures step.1 in
+    let here = rw c.part.ensures at step.1 in
     let more = survivors-more (contour_at value c.args.source.now) g.C.ContourCleaner.answers named i (get_or named i d) (contours_of value inv.0) (option_map (contour_of value) step.0) c.loop-range-test.true (get_or_default named i d (get_or named i d) c.loop-range-test.true) inv.1 here in
     let joins : contours_of value (inv.0 ++ option_to_list step.0) ≡ contours_of value inv.0 ++ option_to_list (option_map (contour_of value) step.0) =
     map-append (contour_of value) inv.0 (option_to_list step.0) ∙ ap (λ w. contours_of value inv.0 ++ w) (map-option_to_list (contour_of value) step.0) in (

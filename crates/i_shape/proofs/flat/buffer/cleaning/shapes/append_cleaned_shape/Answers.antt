@@ -1,12 +1,9 @@
-use Rattle.std.proofs.Common.{◌≡◌, ◌∙◌, ℕ, List, true, false, length, refl, sym, subst, option_map}
+use Rattle.std.proofs.Common.{◌≡◌, ◌∙◌, true, false, length, refl, subst}
 use Rattle.std.specs.List.{All}
 use Rattle.std.specs.Option.{is_some}
-use Rattle.std.specs.declared.ops.Range.{Range}
 use Rattle.std.proofs.lemmas.List.Elements.{All-head, All-tail}
 use Rattle.i_shape_core.specs.IntPoint.{contour_of, IsSafe}
-use Rattle.i_shape_core.specs.declared.point.IntPoint.{IntPoint}
 use Rattle.i_shape.specs.Flat.{InOrder, part_of, slices}
-use Rattle.i_shape.specs.ShapeLists.{IsSafeShape}
 use Rattle.i_shape.specs.Buffers.{contours_of}
 use Rattle.i_shape.proofs.buffers.CleanedShapes.{appends-empty, appends-none, appends-whole}
 use Rattle.i_shape.proofs.flat.buffer.cleaning.shapes.append_cleaned_shape.Goals as goal
@@ -23,18 +20,15 @@ pub append_cleaned-requires : goal.append_cleaned-requires
 append_cleaned-requires g c =
     let value = g.T.IntNumber.value in
     let source = c.args.source.now in
-    let Safe : List (Range ℕ) → Type 0 = λ w. IsSafeShape g.T.IntNumber.width (contours_of value (slices source w)) in
-    let SafeContour : List (IntPoint g.row.T.Denot) → Type 0 = λ w. All (IsSafe g.T.IntNumber.width) (contour_of value w) in
-    subst SafeContour (sym c.part.ensures)
-    (All-head (All (IsSafe g.T.IntNumber.width)) (contour_of value (part_of source c.in-Some.outer.now)) (contours_of value (slices source c.in-Some.holes.now)) (subst Safe c.in-Some.ensures.cases.0 c.requires.safe))
+    rw c.part.ensures
+    (All-head (All (IsSafe g.T.IntNumber.width)) (contour_of value (part_of source c.in-Some.outer.now)) (contours_of value (slices source c.in-Some.holes.now)) (rw c.in-Some.ensures.cases.0 at c.requires.safe))
 
 pub returns-then-not-left-clause-ok : goal.returns-then-not-left-clause-ok
 returns-then-not-left-clause-ok g c =
     let value = g.T.IntNumber.value in
     let step = c.in_ok-left.ensures.ok in
-    let Answered : List (IntPoint g.row.T.Denot) → Type 0 = λ w. g.C.ContourCleaner.answers (contour_of value w) (option_map (contour_of value) step.0) in
     let told : false ≡ is_some step.0 = cc in
-    appends-none value c.args.source.now c.args.named.now c.args.kept.now _ c.in-Some.outer.now c.in-Some.holes.now c.in-Some.ensures.cases.0 step.0 (subst Answered c.part.ensures step.1) step.2 told refl
+    appends-none value c.args.source.now c.args.named.now c.args.kept.now _ c.in-Some.outer.now c.in-Some.holes.now c.in-Some.ensures.cases.0 step.0 (rw c.part.ensures at step.1) step.2 told refl
 
 pub append_parts-requires-clause-readable : goal.append_parts-requires-clause-readable
 append_parts-requires-clause-readable g c =
@@ -44,17 +38,15 @@ pub append_parts-requires-clause-safe : goal.append_parts-requires-clause-safe
 append_parts-requires-clause-safe g c =
     let value = g.T.IntNumber.value in
     let source = c.args.source.now in
-    let Safe : List (Range ℕ) → Type 0 = λ w. IsSafeShape g.T.IntNumber.width (contours_of value (slices source w)) in
-    All-tail (All (IsSafe g.T.IntNumber.width)) (contour_of value (part_of source c.in-Some.outer.now)) (contours_of value (slices source c.in-Some.holes.now)) (subst Safe c.in-Some.ensures.cases.0 c.requires.safe)
+    All-tail (All (IsSafe g.T.IntNumber.width)) (contour_of value (part_of source c.in-Some.outer.now)) (contours_of value (slices source c.in-Some.holes.now)) (rw c.in-Some.ensures.cases.0 at c.requires.safe)
 
 pub returns-clause-ok : goal.returns-clause-ok
 returns-clause-ok g c =
     let value = g.T.IntNumber.value in
     let step = c.in_ok-left.ensures.ok in
     let rest = c.in_ok-append_parts.ensures.ok in
-    let Answered : List (IntPoint g.row.T.Denot) → Type 0 = λ w. g.C.ContourCleaner.answers (contour_of value w) (option_map (contour_of value) step.0) in
     let told : true ≡ is_some step.0 = cc in
     appends-whole value c.args.source.now c.args.named.now c.args.kept.now _ c.in-Some.outer.now c.in-Some.holes.now c.in-Some.ensures.cases.0
     c.append_cleaned.new.points.items c.append_cleaned.new.ranges.items step.0 rest.0 c.len-start.result c.len-end.result
-    (subst Answered c.part.ensures step.1) step.2 told rest.1 rest.2
+    (rw c.part.ensures at step.1) step.2 told rest.1 rest.2
     (c.len-start.ensures ∙ c.args.kept.now.contour_ranges.ok.0) (c.len-end.ensures ∙ c.append_parts.new.ranges.ok.0) c.in_ok-push-2.ensures.items

@@ -1,8 +1,7 @@
 use Rattle.std.proofs.Common.{◌≡◌, ◌<◌, List, length, take, sym, ap, ◌∙◌, subst, arith}
-use Rattle.std.specs.List.{All}
 use Rattle.std.proofs.lemmas.List.{length-map}
 use Rattle.std.proofs.lemmas.Grind.{common_steps}
-use Rattle.i_shape_core.specs.IntPoint.{contour_of, point_of, IsSafe}
+use Rattle.i_shape_core.specs.IntPoint.{contour_of, point_of}
 use Rattle.i_shape_core.specs.Written.{slot}
 use Rattle.i_shape_core.specs.declared.point.IntPoint.{IntPoint}
 use Rattle.i_shape_core.proofs.answers.Written.{slot_some}
@@ -11,14 +10,12 @@ use Rattle.i_shape.proofs.int.cleaning.in_place.InPlaceWork.clean_contour.Goals 
 
 pub is_clean-requires : goal.is_clean-requires
 is_clean-requires g c =
-    let Safe : List (IntPoint g.row.I.Denot) → Type 0 = λ w. All (IsSafe g.I.IntNumber.width) (contour_of g.I.IntNumber.value w) in
-    subst Safe (sym c.as_slice.ensures.value) c.requires.safe
+    rw c.as_slice.ensures.value c.requires.safe
 
 pub returns-then-is_clean-clause-left : goal.returns-then-is_clean-clause-left
 returns-then-is_clean-clause-left g c =
     let contour = contour_of g.I.IntNumber.value c.args.contour.now.items in
-    let Clean : List (IntPoint g.row.I.Denot) → Type 0 = λ w. g.C.ContourCleaner.clean (contour_of g.I.IntNumber.value w) in
-    let clean = subst Clean c.as_slice.ensures.value (c.is_clean.ensures.0 c.if-is_clean.true) in
+    let clean = rw c.as_slice.ensures.value at (c.is_clean.ensures.0 c.if-is_clean.true) in
     let some : 0 < length contour = omega (arith, c.if-len-lt3.false, c.len.ensures, c.args.contour.now.ok.0, length-map c.args.contour.now.items (point_of g.I.IntNumber.value)) in
     subst (g.C.ContourCleaner.answers contour) (sym (slot_some contour some)) (g.met.C.InPlaceCleaner.stays contour clean)
 
