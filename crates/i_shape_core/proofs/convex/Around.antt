@@ -17,10 +17,7 @@ PassedAt P o p qs = (j : ℕ) × (j < length qs) × P (get_or (o ∷ p ∷ qs) j
 passed_at : (P : Test) (o p : Point) (qs : List Point) → Passed P o p qs → PassedAt P o p qs
 passed_at P o p [] h = absurd h
 passed_at P o p (q ∷ qs) (inl h) = (0, omega arith, h)
-passed_at P o p (q ∷ qs) (inr h) = later (passed_at P p q qs h)
-  where
-    later : PassedAt P p q qs → PassedAt P o p (q ∷ qs)
-    later (j, l, x) = (suc j, omega arith, x)
+passed_at P o p (q ∷ qs) (inr h) = let later = passed_at P p q qs h in (suc later.0, omega (arith, later.1), later.2)
 
 passed_from : (P : Test) (o p : Point) (qs : List Point) (j : ℕ) → j < length qs → P (get_or (o ∷ p ∷ qs) j origin) (get_or (p ∷ qs) j origin) (get_or qs j origin) → Passed P o p qs
 passed_from P o p [] j h x = absurd (omega arith)

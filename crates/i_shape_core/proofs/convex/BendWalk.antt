@@ -1,5 +1,5 @@
 -- The walk that tells how a contour bends.
-use Rattle.std.proofs.Common.{◌≡◌, ◌≢◌, ℕ, ◌+◌, ◌-◌, ◌<◌, ◌≤◌, ◌<ℤ◌, ◌≤ℤ◌, List, [], ◌∷◌, length, drop, get_or, Some, None, ℤ, pos, refl, sym, ap, subst, ◌∙◌, arith, ◌⊎◌, inl, inr, ◌↔◌, Bool, true, false, IsTrue, T, leb, leb→le, le→leb, cond, int_lt}
+use Rattle.std.proofs.Common.{◌≡◌, ◌≢◌, ℕ, ◌+◌, ◌-◌, ◌<◌, ◌≤◌, ◌<ℤ◌, ◌≤ℤ◌, List, [], ◌∷◌, length, drop, get_or, Some, None, ℤ, pos, refl, sym, ap, subst, ◌∙◌, arith, ◌⊎◌, inl, inr, ◌↔◌, Bool, true, false, IsTrue, leb, cond, int_lt, tests}
 use Rattle.std.proofs.lemmas.Int.{ints}
 use Rattle.i_shape_core.specs.Point.{Point, origin, vector, cross, dot, cross_of, dot_of}
 use Rattle.i_shape_core.proofs.Common.{Test, point_at, point_of, contour_of, IntPoint, IsBend, bend_of_both}
@@ -291,11 +291,7 @@ bending_over value cs seen repeats i e p h w =
 
 -- a test of a number for being two at most
 pub few_tells : (m : ℕ) → IsTrue (leb m 2) ↔ (m ≤ 2)
-few_tells m = (λ t. leb→le m 2 (subst T (sym t) tt), λ k. is_so (leb m 2) (le→leb m 2 k))
-  where
-    is_so : (t : Bool) → T t → t ≡ true
-    is_so true h = refl
-    is_so false h = absurd h
+few_tells m = grind (arith, tests)
 
 -- without points
 pub convex_without : {I : Type 0} (value : I → ℤ) (cs : List (IntPoint I)) → length cs ≤ 0 → IsTrue true ↔ Convex (contour_of value cs)

@@ -95,10 +95,7 @@ winding_reversed (a ∷ u) p = same_sum (winding_of_edge p) (reverse (a ∷ u)) 
 
 -- ---- few points
 nothing : (p a : Point) → winding_of_edge p (edge a a) ≡ pos 0
-nothing p a = go (int_lt p.y a.y) refl
-  where
-    go : (s : Bool) → int_lt p.y a.y ≡ s → winding_of_edge p (edge a a) ≡ pos 0
-    go s e = flat p a a s e e
+nothing p a = flat p a a (int_lt p.y a.y) refl refl
 
 -- fewer than three points wind about nothing
 pub winding_none : (c : List Point) → length c < 3 → (p : Point) → winding c p ≡ pos 0

@@ -50,17 +50,11 @@ after_within n k h = let after = after_is n k h in grind arith
 
 -- what a place follows is the place before it
 pub before_from : (n b k : ℕ) → b < n → k < n → Follows n b k → place_before n k ≡ b
-before_from n b k i h B = same n (place_before n k) k b (before_within n k h) i (before_is n k h) B
-  where
-    same : (n x y z : ℕ) → x < n → z < n → Follows n x y → Follows n z y → x ≡ z
-    same n x y z g h X Z = grind arith
+before_from n b k i h B = let within = before_within n k h in let before = before_is n k h in grind arith
 
 -- what follows a place is the place after it
 pub after_from : (n k a : ℕ) → k < n → Follows n k a → place_after n k ≡ a
-after_from n k a h A = same n k (place_after n k) a (after_is n k h) A
-  where
-    same : (n x y z : ℕ) → Follows n x y → Follows n x z → y ≡ z
-    same n x y z Y Z = grind arith
+after_from n k a h A = let after = after_is n k h in grind arith
 
 -- of three places or more one isn't both neighbours of another
 pub one_neighbour : (n k a m s q : ℕ) → 3 ≤ n → k < n → m < n → q < n → Follows n k a → Follows n m s → Follows n q k → s ≡ k → m ≡ a → ⊥
