@@ -1,6 +1,6 @@
 //! The canonical form of a contour: the least rotation of the contour without zero turns.
 
-ghost use Rattle.std.specs.Prelude.{◌≡◌, ◌⊎◌, ℕ, ◌+◌, ◌-◌, ◌*◌, ◌<◌, ◌≤◌, min, max, length};
+ghost use Rattle.std.specs.Prelude.{◌≡◌, ◌⊎◌, ℕ, ◌+◌, ◌-◌, ◌*◌, ◌<◌, ◌≤◌, min, max, length, OnOk};
 ghost use Rattle.std.specs.Ordering.{MatchOrdering};
 ghost use Rattle.i_shape_core.specs.IntPoint.{contour_of, IsSafeContour};
 ghost use Rattle.i_shape_core.specs.Contour.{IsSimple, point_at, RotatedSublist, Rotation};
@@ -30,6 +30,8 @@ impl ContourSimplifier {
             OkUnlessMemory result (CleansTo CanonicalAnswer KeptAnswer I.width I.value c) }
         ensures short { length contour.now < 3 → result ≡ Ok None }
         ensures keeps_room { KeepsRoomToSimplify self.old self.new }
+        ensures takes_room { OnOk result ((IsSimple (contour_of I.value contour.now) → ⊥)
+            → HasRoomToSimplify self.new (length contour.now)) }
     {
         let Some(mut kept) = self.simplify_contour(contour)? else {
             return Ok(None);

@@ -1,6 +1,6 @@
 //! The cleaners of one contour: a trait and its five implementations.
 
-ghost use Rattle.std.specs.Prelude.{◌≡◌, ◌↔◌, ◌<◌, ◌≤◌, ℕ, List, length, Option, IsTrue, IsOk, IfOk, IsOkUnless};
+ghost use Rattle.std.specs.Prelude.{◌≡◌, ◌↔◌, ◌<◌, ◌≤◌, ℕ, List, length, Option, IsTrue, IsOk, IfOk, OnOk, IsOkUnless};
 ghost use Rattle.std.proofs.Common.{rules, arith};
 ghost use Rattle.i_shape_core.specs.Point.{Point};
 ghost use Rattle.i_shape_core.specs.IntPoint.{contour_of, IsSafeContour};
@@ -75,7 +75,9 @@ pub trait ContourCleaner: Drop {
         ensures answer { let c = contour_of I.value contour.now in
             OkUnlessMemory result (CleansTo answers keeps I.width I.value c) }
         ensures short { length contour.now < 3 → result ≡ Ok None }
-        ensures keeps_room { (n : ℕ) → has_room self.old n → has_room self.new n };
+        ensures keeps_room { (n : ℕ) → has_room self.old n → has_room self.new n }
+        ensures takes_room { OnOk result ((clean (contour_of I.value contour.now) → ⊥)
+            → has_room self.new (length contour.now)) };
 
     /// Does the same as `cleaned` for a contour that isn't clean, without testing it first.
     fn cleaned_unchecked<I: IntNumber>(
@@ -88,6 +90,7 @@ pub trait ContourCleaner: Drop {
             OkUnlessMemory result (CleansTo answers keeps I.width I.value c) }
         ensures short { length contour.now < 3 → result ≡ Ok None }
         ensures keeps_room { (n : ℕ) → has_room self.old n → has_room self.new n }
+        ensures takes_room { OnOk result (has_room self.new (length contour.now)) }
     {
         self.cleaned(contour)
     }

@@ -128,6 +128,8 @@ impl ContourDeSpiker {
             OkUnlessMemory result (CleansInOrder SpikelessAnswer I.width I.value c) }
         ensures short { length contour.now < 3 → result ≡ Ok None }
         ensures keeps_room { KeepsRoomToDespike self.old self.new }
+        ensures takes_room { OnOk result ((IsDespikedAlready (contour_of I.value contour.now) → ⊥)
+            → HasRoomToDespike self.new (length contour.now)) }
     {
         let (kept, _visits) = self.despike_counted(contour)?;
         Ok(kept)
@@ -149,6 +151,8 @@ impl ContourDeSpiker {
             IfOk result (λ r. IsDespikedAlready c → r.1 ≡ length c) }
         ensures short { length contour.now < 3 → result ≡ Ok (None, 0) }
         ensures keeps_room { KeepsRoomToDespike self.old self.new }
+        ensures takes_room { OnOk result ((IsDespikedAlready (contour_of I.value contour.now) → ⊥)
+            → HasRoomToDespike self.new (length contour.now)) }
     {
         if contour.len() < 3 {
             return Ok((None, 0));

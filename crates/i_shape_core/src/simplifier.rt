@@ -53,6 +53,8 @@ impl ContourSimplifier {
             OkUnlessMemory result (CleansInOrder SimpleAnswer I.width I.value c) }
         ensures short { length contour.now < 3 → result ≡ Ok None }
         ensures keeps_room { KeepsRoomToSimplify self.old self.new }
+        ensures takes_room { OnOk result ((IsSimple (contour_of I.value contour.now) → ⊥)
+            → HasRoomToSimplify self.new (length contour.now)) }
     {
         let (kept, _visits) = self.simplify_counted(contour)?;
         Ok(kept)
@@ -74,6 +76,8 @@ impl ContourSimplifier {
             IfOk result (λ r. IsSimple c → r.1 ≡ length c) }
         ensures short { length contour.now < 3 → result ≡ Ok (None, 0) }
         ensures keeps_room { KeepsRoomToSimplify self.old self.new }
+        ensures takes_room { OnOk result ((IsSimple (contour_of I.value contour.now) → ⊥)
+            → HasRoomToSimplify self.new (length contour.now)) }
     {
         if contour.len() < 3 {
             return Ok((None, 0));

@@ -1,6 +1,6 @@
 //! The canonical form of a contour without regard to direction: the lesser of its canonical form and that of the contour reversed.
 
-ghost use Rattle.std.specs.Prelude.{◌≡◌, ◌⊎◌, ◌<◌, ◌≤◌, false, length, reverse, IsTrue};
+ghost use Rattle.std.specs.Prelude.{◌≡◌, ◌⊎◌, ◌<◌, ◌≤◌, false, length, reverse, IsTrue, OnOk};
 ghost use Rattle.i_shape_core.specs.IntPoint.{contour_of, IsSafeContour};
 ghost use Rattle.i_shape_core.specs.Contour.{IsSimple, SublistEitherWay, Rotation};
 ghost use Rattle.i_shape_core.specs.Canonical.{IsAtMost, IsLesserWay, UnorientedAnswer, KeptEitherWay, started_at};
@@ -28,6 +28,8 @@ impl ContourSimplifier {
             OkUnlessMemory result (CleansTo UnorientedAnswer KeptEitherWay I.width I.value c) }
         ensures short { length contour.now < 3 → result ≡ Ok None }
         ensures keeps_room { KeepsRoomToSimplify self.old self.new }
+        ensures takes_room { OnOk result ((IsSimple (contour_of I.value contour.now) → ⊥)
+            → HasRoomToSimplify self.new (length contour.now)) }
     {
         let Some(mut kept) = self.canonical(contour)? else {
             return Ok(None);

@@ -4,6 +4,7 @@ use Rattle.i_shape_core.proofs.Common.{IsBack, contour_of, answered, SpikelessAn
 use Rattle.std.specs.Global.{Vec}
 use Rattle.i_shape_core.proofs.plane.Contours.{length-contour}
 use Rattle.i_shape_core.proofs.walks.Found.{spikeless_answer, kept_spikeless, short_answer, visits_answer, walk_kept}
+use Rattle.i_shape_core.proofs.answers.Kept.{despiked_stays}
 use Rattle.i_shape_core.proofs.answers.Written.{walked, unless_memory}
 use Rattle.i_shape_core.proofs.lists.FirstPlaces.{none_found, first_collapses}
 use Rattle.i_shape_core.proofs.walks.RingStates.{StartsAt, starting_size, starting_removes}
@@ -141,3 +142,9 @@ pub returns-clause-clean_visits : goal.returns-clause-clean_visits
 returns-clause-clean_visits g c =
     let found = rw (c.in-Some.is, c.new.ensures.contour) at c.first_back-probe.ensures.answer in
     IfOk-weaker c.keep_left.result _ _ (λ r w clean. absurd (clean.ended.none_left c.in-Some.place found.0.here)) c.keep_left.ensures.kept
+
+pub returns-in_default-clause-takes_room : goal.returns-in_default-clause-takes_room
+returns-in_default-clause-takes_room g c =
+    let none = rw (c.in_default.is, c.new.ensures.contour) at c.first_back-probe.ensures.answer in
+    let already = despiked_stays _ (omega (arith, length-contour g.I.IntNumber.value c.args.contour.now, c.if-contour-lt3.false)) none.0 in
+    IfOk-weaker c.keep_whole.result _ _ (λ r w unclean. absurd (unclean already)) c.keep_whole.ensures.kept

@@ -2,7 +2,7 @@ use Rattle.std.proofs.Common.{◌≡◌, ◌∙◌, ℕ, ℤ, List, Option, None
 use Rattle.std.specs.Global.{Vec}
 use Rattle.std.specs.Int.{Width}
 use Rattle.std.proofs.lemmas.Result.{IfOk-weaker}
-use Rattle.i_shape_core.proofs.Common.{Point, IsZeroTurn, contour_of, IsSafe, SimpleAnswer, WalkAnswer, IntPoint}
+use Rattle.i_shape_core.proofs.Common.{Point, IsZeroTurn, IsSimple, contour_of, IsSafe, SimpleAnswer, WalkAnswer, IntPoint}
 use Rattle.i_shape_core.specs.Written.{CleansInOrder}
 use Rattle.i_shape_core.proofs.plane.Contours.{length-contour}
 use Rattle.i_shape_core.proofs.walks.Found.{simple_answer, kept_answer, visits_answer, short_answer, walk_kept}
@@ -81,3 +81,10 @@ pub returns-clause-clean_visits : goal.returns-clause-clean_visits
 returns-clause-clean_visits g c =
     let counted = rw c.new.ensures.contour at c.start_of_walk-probe.ensures.counted in
     IfOk-weaker c.keep_left.result _ _ (λ r w simple. (let no : Some c.in-Some.start ≡ None = sym c.in-Some.is ∙ (counted simple).0 in absurd (cc))) c.keep_left.ensures.kept
+
+pub returns-in_default-clause-takes_room : goal.returns-in_default-clause-takes_room
+returns-in_default-clause-takes_room g c =
+    let points = contour_of g.I.IntNumber.value c.args.contour.now in
+    let found = rw c.new.ensures.contour at (c.start_of_walk-probe.ensures.clean c.in_default.is) in
+    let simple : IsSimple points = record { enough = found.enough; none = found.ended.none_left } in
+    IfOk-weaker c.keep_whole.result _ _ (λ r w unclean. absurd (unclean simple)) c.keep_whole.ensures.kept
