@@ -226,7 +226,7 @@ fn count_is_the_number_of_readable_paths_left(rt: HostRuntime) -> Result<(), Fai
     Ok(())
 }
 
-/// A range that is too far is refused, and leaves the buffer empty. An upper hint asks for no room.
+/// A hint or a range that is too far is refused, and leaves the buffer empty.
 #[test]
 fn size_hints_need_not_be_exact(rt: HostRuntime) -> Result<(), Fail> {
     let row = Row::new(&rt, rt.alloc(), "size hints");
@@ -240,13 +240,12 @@ fn size_hints_need_not_be_exact(rt: HostRuntime) -> Result<(), Fail> {
     row.holds(matches!(answer, Err(ShapeError::OutOfMemory)), "too far");
     has_contours(&row, &contours, ["", "", ""])?;
     contours.add_contour(&[WholePoint { x: 1, y: 1 }])?;
-    contours.set_with_iter(items(2, 0, Some(far)), &[])?;
-    has_contours(&row, &contours, ["7 7 7 7", "", ""])?;
+    let answer = contours.set_with_iter(items(2, 0, Some(far)), &[]);
+    row.holds(matches!(answer, Err(ShapeError::OutOfMemory)), "a far hint");
+    has_contours(&row, &contours, ["", "", ""])?;
     let mut shapes = FloatFlatShapesBuffer::new(row.alloc);
     shapes.add_contour(&[WholePoint { x: 1, y: 1 }])?;
-    shapes.set_with_iter(items(2, 0, Some(far)), &[], &[])?;
-    has_shapes(&row, &shapes, ["7 7 7 7", "", "", ""])?;
-    let answer = shapes.set_with_iter(items(2, 2, Some(2)), &[0..far], &[]);
+    let answer = shapes.set_with_iter(items(2, 0, Some(far)), &[], &[]);
     row.holds(matches!(answer, Err(ShapeError::OutOfMemory)), "far shapes");
     has_shapes(&row, &shapes, ["", "", "", ""])
 }

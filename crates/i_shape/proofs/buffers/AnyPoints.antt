@@ -1,23 +1,15 @@
 -- When a flat buffer over points of any kind holds paths.
-use Rattle.std.proofs.Common.{◌≡◌, ℕ, ◌+◌, ◌≤◌, ◌⊎◌, inl, inr, List, [], ◌∷◌, ◌++◌, length, map, refl, sym, ap, ◌∙◌, arith, append-nil, true, nat_le}
-use Rattle.std.specs.List.{All, Contains, filter}
+use Rattle.std.proofs.Common.{◌≡◌, ℕ, ◌+◌, ◌≤◌, List, [], ◌∷◌, ◌++◌, length, refl, sym, ap, ◌∙◌, arith, append-nil, true, nat_le}
+use Rattle.std.specs.List.{All, filter}
 use Rattle.std.specs.declared.ops.Range.{Range}
 use Rattle.std.proofs.lemmas.Bool.{le-leb}
-use Rattle.std.proofs.lemmas.List.Elements.{All-head, All-tail, All-map, All-contains}
+use Rattle.std.proofs.lemmas.List.Elements.{All-head, All-tail}
 use Rattle.i_shape_source.specs.Paths.{concatenated}
 use Rattle.i_shape.specs.Flat.{InOrder, slices, end_to_end}
 use Rattle.i_shape.specs.FloatBuffers.{is_readable, LieEndToEnd, FormOneShape, in_one_shape}
 use Rattle.i_shape.specs.declared.flat.float.shapes.FloatFlatShapesBuffer.{FloatFlatShapesBuffer}
 use Rattle.i_shape.proofs.lists.EndToEnd.{slices_concatenated, InOrder_concatenated}
 use Rattle.i_shape.proofs.buffers.ShapeRanges.{readable_concatenated, shapes-end_to_end}
-
--- the greatest end of ranges that end within a bound is within it
-pub greatest_within : (ranges : List (Range ℕ)) (greatest most : ℕ) → (greatest ≡ 0) ⊎ Contains (map (λ range. range.end) ranges) greatest → All (λ range. range.end ≤ most) ranges → greatest ≤ most
-greatest_within ranges greatest most (inl none) ends = omega (arith, none)
-greatest_within ranges greatest most (inr found) ends = All-contains (λ n. n ≤ most) (map (λ range. range.end) ranges) greatest each found
-  where
-    each : All (λ n. n ≤ most) (map (λ range. range.end) ranges)
-    each = All-map (λ n. n ≤ most) (λ range. range.end) ranges ends
 
 -- where every range can be read none is passed over
 readable_all : (n : ℕ) (ranges : List (Range ℕ)) → All (InOrder n) ranges → filter (is_readable n) ranges ≡ ranges

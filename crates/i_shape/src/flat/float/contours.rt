@@ -185,8 +185,9 @@ impl<P: Copy> FloatFlatContoursBuffer<P> {
 
     /// Replaces the contents by all items of an iterator and copies of these ranges. The ranges aren't checked.
     ///
-    /// Before it takes the first item, the call makes room for as many points as the lower size hint says, and for no
-    /// fewer than the greatest end of the ranges. The only error is `OutOfMemory`, which leaves the buffer empty.
+    /// Before it takes the first item, the call makes room for as many points as the upper size hint says, or the lower
+    /// one where there is no upper one, and for no fewer than the greatest end of the ranges. The only error is
+    /// `OutOfMemory`, which leaves the buffer empty.
     pub fn set_with_iter<I: Iterator<Item = P> + Drop>(
         &mut self,
         iter: I,
@@ -199,14 +200,13 @@ impl<P: Copy> FloatFlatContoursBuffer<P> {
         ensures err { OnErr result (HasLists self.new [] []) }
         ensures room { OnOk result
             (All (λ range. range.end ≤ vec_capacity self.new.points) ranges.now) }
-        ensures reserved { HasListsRoom self.old (size (I.remaining iter)) (length ranges.now)
-            → All (λ range. range.end ≤ vec_capacity self.old.points) ranges.now → IsOk result }
         ensures keeps_room { KeepsListsRoom self.old self.new }
         ensures memory { IsOkUnless result ShapeError.OutOfMemory }
     {
         self.clear();
-        let (lower, _) = iter.size_hint();
-        self.points.reserve(lower.max(greatest_end(ranges)))?;
+        let (lower, upper) = iter.size_hint();
+        let room = upper.unwrap_or(lower).max(greatest_end(ranges));
+        self.points.reserve(room)?;
         self.ranges.reserve(ranges.len())?;
         append_items(&mut self.points, iter)?;
         append_ranges(&mut self.ranges, ranges);

@@ -260,9 +260,9 @@ impl<P: Copy> FloatFlatShapesBuffer<P> {
 
     /// Replaces the contents by all items of an iterator and copies of these ranges. The ranges aren't checked.
     ///
-    /// Before it takes the first item, the call makes room for as many points as the lower size hint says, and for no
-    /// fewer than the greatest end of the contour ranges. The only error is `OutOfMemory`, which leaves the buffer
-    /// empty.
+    /// Before it takes the first item, the call makes room for as many points as the upper size hint says, or the lower
+    /// one where there is no upper one, and for no fewer than the greatest end of the contour ranges. The only error is
+    /// `OutOfMemory`, which leaves the buffer empty.
     pub fn set_with_iter<I: Iterator<Item = P> + Drop>(
         &mut self,
         iter: I,
@@ -276,17 +276,13 @@ impl<P: Copy> FloatFlatShapesBuffer<P> {
         ensures err { OnErr result (HasShapeLists self.new [] [] []) }
         ensures room { OnOk result
             (All (λ range. range.end ≤ vec_capacity self.new.points) contour_ranges.now) }
-        ensures reserved { HasGroupsRoom self.old (size (I.remaining iter))
-            (length contour_ranges.now) (length shape_ranges.now)
-            → All (λ range. range.end ≤ vec_capacity self.old.points) contour_ranges.now
-            → IsOk result }
         ensures keeps_room { KeepsGroupsRoom self.old self.new }
         ensures memory { IsOkUnless result ShapeError.OutOfMemory }
     {
         self.clear();
-        let (lower, _) = iter.size_hint();
-        self.points
-            .reserve(lower.max(greatest_end(contour_ranges)))?;
+        let (lower, upper) = iter.size_hint();
+        let room = upper.unwrap_or(lower).max(greatest_end(contour_ranges));
+        self.points.reserve(room)?;
         self.contour_ranges.reserve(contour_ranges.len())?;
         self.shape_ranges.reserve(shape_ranges.len())?;
         append_items(&mut self.points, iter)?;
