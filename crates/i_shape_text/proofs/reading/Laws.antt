@@ -1,6 +1,6 @@
 -- Laws of reading: a line reads one contour at most, and what is shown reads back.
-use Rattle.std.proofs.Common.{◌≡◌, ℕ, ◌<◌, ◌^◌, eq-zero-or-pos, List, [], ◌∷◌, length, map, inl, inr, ⊎_elim, suc, refl, sym, ap, ◌∙◌, subst, arith, Bool, false, ◌==◌, cond, drop}
-use Rattle.std.specs.Prelude.{ℤ, pos, negsuc, neg_ℤ, ◌⊎◌}
+use Rattle.std.proofs.Common.{◌≡◌, ℕ, ◌<◌, ◌^◌, eq-zero-or-pos, List, [], ◌∷◌, length, map, ⊎_elim, suc, refl, sym, ap, ◌∙◌, subst, arith, Bool, false, ◌==◌, cond, drop}
+use Rattle.std.specs.Prelude.{ℤ, pos, negsuc, neg_ℤ}
 use Rattle.std.specs.List.{join_with_byte, AllByRecursion}
 use Rattle.std.specs.Fmt.{decimal, signed_decimal}
 use Rattle.std.specs.Int.{w32}

@@ -2,7 +2,7 @@ use Rattle.std.proofs.Common.{◌≤◌, ◌++◌, drop, length, ap, ◌∙◌, 
 use Rattle.std.specs.Fmt.{decimal}
 use Rattle.std.specs.Int.{w32}
 use Rattle.std.proofs.lemmas.Int.{to_z-of_z}
-use Rattle.i_shape_text.proofs.showing.Decimals.{length_number, signed_ascii, minus_written, none_written}
+use Rattle.i_shape_text.proofs.showing.Decimals.{length_number, minus_written, none_written}
 use Rattle.i_shape_text.proofs.decimal.write_number.Goals as goal
 use Rattle.i_shape_text.proofs.decimal.write_number.Goals.{then-number-lt0, else-number-lt0}
 

@@ -1,6 +1,5 @@
-use Rattle.std.proofs.Common.{rules}
 use Rattle.i_shape_text.specs.Text.{words_of}
-use Rattle.i_shape_text.proofs.reading.Lines.{some_word, no_first, no_second}
+use Rattle.i_shape_text.proofs.reading.Lines.{some_word, no_second}
 use Rattle.i_shape_text.proofs.line.first_point.Goals as goal
 
 pub returns-in_err-y-clause-no_point : goal.returns-in_err-y-clause-no_point

@@ -1,5 +1,4 @@
-use Rattle.std.proofs.Common.{refl, rules, sym, ◌∙◌}
-use Rattle.std.proofs.lemmas.Bool.{false≢true}
+use Rattle.std.proofs.Common.{rules}
 use Rattle.i_shape_text.specs.Points.{contour_of, IsSafe}
 use Rattle.i_shape_text.specs.Command.{IsCleaner}
 use Rattle.i_shape_text.proofs.line.read_line.Goals as goal

@@ -1,9 +1,7 @@
-use Rattle.std.proofs.Common.{◌+◌, ◌-◌, ◌++◌, drop, string_bytes, sym, ap, subst, arith}
+use Rattle.std.proofs.Common.{◌+◌, ◌-◌, drop, sym, subst}
 use Rattle.std.specs.Str.{IsAscii}
 use Rattle.std.proofs.lemmas.List.{drop-drop}
 use Rattle.std.proofs.lemmas.Str.{IsAscii-take, IsAscii-drop, IsUtf8-from_ascii}
-use Rattle.i_shape_text.specs.Points.{contour_of}
-use Rattle.i_shape_text.proofs.showing.Contours.{without_first_space}
 use Rattle.i_shape_text.proofs.show.show_contour.Goals as goal
 
 pub from_utf8_unchecked-requires : goal.from_utf8_unchecked-requires

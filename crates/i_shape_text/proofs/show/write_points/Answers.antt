@@ -3,7 +3,7 @@ use Rattle.std.specs.Str.{IsAscii}
 use Rattle.std.proofs.lemmas.Str.{IsAscii-append}
 use Rattle.i_shape_text.specs.Points.{contour_of, point_of}
 use Rattle.i_shape_text.specs.Text.{spaced, spaced_points}
-use Rattle.i_shape_text.proofs.showing.Contours.{last_spaced, starts_within}
+use Rattle.i_shape_text.proofs.showing.Contours.{last_spaced}
 use Rattle.i_shape_text.proofs.show.write_points.Goals as goal
 
 pub loop-last-preserved : goal.loop-last-preserved
