@@ -7,6 +7,7 @@ ghost use Rattle.i_shape.specs.IntPoint.{contour_of, IsSafe};
 use crate::row::Row;
 use i_shape::IntNumber;
 use i_shape::int::IntPoint;
+use i_shape::int::safe_range::IntSafeRange;
 use i_shape::int::shape::IntContour;
 use std::alloc::{AllocError, Global};
 use std::process::Abort;
@@ -20,10 +21,9 @@ pub fn contour<I: IntNumber>(
 {
     let mut contour = Vec::new(row.alloc);
     for [x, y] in points {
-        let point = IntPoint::new(*x, *y);
-        assert!(row.rt; point.is_in_safe_range(), "a point isn't in safe range");
-        contour.push(point)?;
+        contour.push(IntPoint::new(*x, *y))?;
     }
+    assert!(row.rt; contour.is_in_safe_range(), "a point isn't safe");
     Ok(contour)
 }
 

@@ -9,6 +9,7 @@ ghost use Rattle.i_shape.specs.ShapeLists.{shape_of, shapes_of, IsSafeShape, IsS
 
 use crate::given;
 use crate::row::Row;
+use i_shape::int::safe_range::IntSafeRange;
 use i_shape::int::shape::{IntContour, IntShape, IntShapes};
 use std::alloc::Global;
 use std::ops::Range;
@@ -45,6 +46,7 @@ pub fn shape(row: &Row<'_, impl Abort>, text: &str) -> Result<IntShape<i32>, Fai
     for points in text.split_terminator(';') {
         shape.push(contour(row, points)?)?;
     }
+    assert!(row.rt; shape.is_in_safe_range(), "a point isn't safe");
     Ok(shape)
 }
 
@@ -56,6 +58,7 @@ pub fn shapes(row: &Row<'_, impl Abort>, text: &str) -> Result<IntShapes<i32>, F
     for contours in text.split_terminator('/') {
         shapes.push(shape(row, contours)?)?;
     }
+    assert!(row.rt; shapes.is_in_safe_range(), "a point isn't safe");
     Ok(shapes)
 }
 
