@@ -2,7 +2,6 @@
 
 use crate::given::contour;
 use crate::row::Row;
-use crate::worked::has_area;
 use i_shape::int::IntPoint;
 use i_shape::int::area::{Area, IteratorArea, UnsafeArea};
 use i_shape::int::count::PointsCount;
@@ -32,17 +31,6 @@ fn an_advanced_iterator_sums_what_is_left(rt: HostRuntime) -> Result<(), Fail> {
     let mut points = square.as_slice().iter().copied();
     let _first = points.next();
     row.equal(points.unsafe_area(), 100, "unsafe_area");
-    Ok(())
-}
-
-#[test]
-fn an_octagon_of_large_coordinates(rt: HostRuntime) -> Result<(), Fail> {
-    let row = Row::new(&rt, rt.alloc(), "an octagon");
-    let (near, far) = (209715200, 314572800);
-    let octagon = int_path![
-        row.alloc; [-far, near], [-far, -near], [-near, -far], [near, -far], [far, -near], [far, near], [near, far], [-near, far]
-    ]?;
-    has_area(&row, octagon.as_slice(), 747667906887680000);
     Ok(())
 }
 

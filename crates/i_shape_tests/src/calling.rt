@@ -4,8 +4,8 @@ use crate::resource::WholePoint;
 use crate::row::Row;
 use crate::texts;
 use callers::chain::clean_list;
-use callers::consumer::{all_points, count_paths, count_shape_paths, same_safe_range};
-use callers::copies::{copied_as_one_shape, copied_paths};
+use callers::consumer::all_points;
+use callers::copies::copied_paths;
 use callers::corners::corners;
 use callers::pipeline::cleaned_contours;
 use i_shape::int::IntPoint;
@@ -17,17 +17,9 @@ fn consumers_answer_from_the_law(rt: HostRuntime) -> Result<(), Fail> {
     row.equal(corners(row.alloc)?, 3, "a point on an edge is no corner");
     let points = [IntPoint::new(7, 1), IntPoint::new(2, -3)];
     row.equal(all_points(&points, row.alloc)?.len(), 2, "points");
-    row.equal(count_paths(&points), 1, "paths");
-    let safe = same_safe_range(&points, points.as_slice());
-    row.equal(safe, (true, true), "safe");
-    let whole = [WholePoint { x: 7, y: 1 }];
-    row.equal(count_shape_paths(&whole), 1, "paths of a point");
-    let paths = [whole.to_vec(row.alloc)?, Vec::new(row.alloc)];
+    let paths = [[WholePoint { x: 7, y: 1 }].to_vec(row.alloc)?];
     let copies = copied_paths(row.alloc, &paths)?;
     row.holds(copies.as_slice() == paths.as_slice(), "copies");
-    let list = copied_as_one_shape(row.alloc, &paths)?;
-    assert!(rt; list.len() == 1, "another number of shapes");
-    row.holds(list[0].as_slice() == paths.as_slice(), "the shape");
     Ok(())
 }
 

@@ -82,7 +82,7 @@ fn repeated_points_and_rotations_keep_convexity(rt: HostRuntime) -> Result<(), F
 }
 
 /// A contour, a point, whether the contour contains it, and how often it winds about it.
-const PLACES: [(&str, [i32; 2], bool, isize); 17] = [
+const PLACES: [(&str, [i32; 2], bool, isize); 14] = [
     ("0 0 10 0 10 10 0 10", [5, 5], true, 1),
     ("0 0 100000 100000 200000 0", [100000, 50000], true, -1),
     ("0 0 100000 100000 200000 0", [100000, 150000], false, 0),
@@ -96,10 +96,7 @@ const PLACES: [(&str, [i32; 2], bool, isize); 17] = [
     ("1 2 2 0 0 0", [0, 1], false, 0),
     ("5 5 5 5 5 5", [5, 5], false, 0),
     ("", [0, 0], false, 0),
-    ("2 2 2 6 6 6 6 2", [4, 4], true, -1),
-    ("0 0 8 0 8 8 0 8 0 0 8 0 8 8 0 8", [4, 4], false, 2),
     ("0 8 -5 -7 8 2 -8 2 5 -7", [0, 0], false, 2),
-    ("0 8 -5 -7 8 2 -8 2 5 -7", [0, 6], true, 1),
 ];
 
 /// Whether the contour contains the point, and how often it winds about it.

@@ -9,7 +9,6 @@ use crate::row::Row;
 use crate::texts;
 use i_shape::ShapeError;
 use i_shape::flat::float::{FloatFlatContoursBuffer, FloatFlatShapesBuffer};
-use i_shape::source::float::resource::ShapeResource;
 use std::alloc::Global;
 use std::process::Abort;
 use std::test::Fail;
@@ -214,18 +213,6 @@ fn bad_ranges_are_passed_over(rt: HostRuntime) -> Result<(), Fail> {
     Ok(())
 }
 
-#[test]
-fn count_is_the_number_of_readable_paths_left(rt: HostRuntime) -> Result<(), Fail> {
-    let row = Row::new(&rt, rt.alloc(), "5..6 0..1 2..1 1..2 0..2 0..3");
-    let points = [WholePoint { x: 1, y: 2 }, WholePoint { x: 3, y: 4 }];
-    let mut contours = FloatFlatContoursBuffer::new(row.alloc);
-    contours.set_flat(&points, &[5..6, 0..1, 2..1, 1..2, 0..2, 0..3])?;
-    let mut walk = (&contours).iter_paths();
-    walk.next();
-    row.equal(walk.count(), 2, "paths after one");
-    Ok(())
-}
-
 /// A hint or a range that is too far is refused, and leaves the buffer empty.
 #[test]
 fn size_hints_need_not_be_exact(rt: HostRuntime) -> Result<(), Fail> {
@@ -242,10 +229,5 @@ fn size_hints_need_not_be_exact(rt: HostRuntime) -> Result<(), Fail> {
     contours.add_contour(&[WholePoint { x: 1, y: 1 }])?;
     let answer = contours.set_with_iter(items(2, 0, Some(far)), &[]);
     row.holds(matches!(answer, Err(ShapeError::OutOfMemory)), "a far hint");
-    has_contours(&row, &contours, ["", "", ""])?;
-    let mut shapes = FloatFlatShapesBuffer::new(row.alloc);
-    shapes.add_contour(&[WholePoint { x: 1, y: 1 }])?;
-    let answer = shapes.set_with_iter(items(2, 0, Some(far)), &[], &[]);
-    row.holds(matches!(answer, Err(ShapeError::OutOfMemory)), "far shapes");
-    has_shapes(&row, &shapes, ["", "", "", ""])
+    has_contours(&row, &contours, ["", "", ""])
 }

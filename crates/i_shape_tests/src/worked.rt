@@ -48,11 +48,10 @@ a square about zero|-1 -1 1 -1 1 1 -1 1|8|-1 -1 1 -1 1 1 -1 1|4|-1 -1 1 -1 1 1 -
 a spike across the start|0 -1 0 1 1 1 1 0 0 0|-2|0 1 1 1 1 0 0 0|6|0 1 1 1 1 0 0 0|5|spikes|0 0 0 1 1 1 1 0
 a square with a point on each edge|0 -10 10 -10 10 0 10 10 0 10 -10 10 -10 0 -10 -10|800|10 -10 10 10 -10 10 -10 -10|12|0 -10 10 -10 10 0 10 10 0 10 -10 10 -10 0 -10 -10|8|no spikes|-10 -10 10 -10 10 10 -10 10
 a clockwise square|-10 -10 -10 10 10 10 10 -10|-800|-10 -10 -10 10 10 10 10 -10|4|-10 -10 -10 10 10 10 10 -10|4|no spikes|-10 -10 -10 10 10 10 10 -10
-a slanted edge there and back|-16383 -16383 16383 16383 16383 -16383 0 0|-536805378|16383 16383 16383 -16383 0 0|5|16383 16383 16383 -16383 0 0|4|spikes|0 0 16383 16383 16383 -16383
 two ways there and back|-10 -10 -10 10 10 10 -10 10 -10 -10 10 -10|0||5||7|spikes|";
 
 /// The double area of the contour is `two`, and the area half of it towards zero, as a slice and as an iterator.
-pub fn has_area(row: &Row<'_, impl Abort>, points: &[IntPoint<i32>], two: i64) {
+fn has_area(row: &Row<'_, impl Abort>, points: &[IntPoint<i32>], two: i64) {
     assert!(row.rt; !points.is_empty(), "no point");
     let walked = points.iter().copied();
     let by_walks = [
@@ -162,6 +161,18 @@ fn each_call_answers_each_row(rt: HostRuntime) -> Result<(), Fail> {
     }
     Ok(())
 }
+
+#[test]
+fn an_octagon_of_large_coordinates(rt: HostRuntime) -> Result<(), Fail> {
+    let row = Row::new(&rt, rt.alloc(), "an octagon");
+    let octagon = texts::contour(&row, OCTAGON)?;
+    has_area(&row, octagon.as_slice(), 747667906887680000);
+    Ok(())
+}
+
+const OCTAGON: &str = "\
+-314572800 209715200 -314572800 -209715200 -209715200 -314572800 209715200 -314572800
+314572800 -209715200 314572800 209715200 209715200 314572800 -209715200 314572800";
 
 /// A thousand points on a line, and one point a thousand times, are visited once each, or thrice at most.
 #[test]

@@ -9,8 +9,6 @@ use std::test::Fail;
 
 const FAILED: &str = "input or output failed\n";
 
-const USAGE: &str = "usage: i_shape_tool simplify|despike|area|canonical|compact\n";
-
 /// Gives empty lines, and fails after so many with an error of this kind.
 #[derive(Drop)]
 struct BrokenReader {
@@ -64,25 +62,15 @@ impl Write for BrokenWriter {
     }
 }
 
-/// A word, how many lines are read, how the next read fails, the status, and what is told. Words are judged before input.
-const READS: [(&str, usize, ErrorKind, u8, &str); 6] = [
-    ("simplify", 0, ErrorKind::BrokenPipe, 4, FAILED),
-    ("simplify", 1, ErrorKind::BrokenPipe, 4, FAILED),
-    ("simplify", 2, ErrorKind::BrokenPipe, 4, FAILED),
-    ("simplify", 0, ErrorKind::OutOfMemory, 4, FAILED),
-    ("simplify", 1, ErrorKind::OutOfMemory, 4, FAILED),
-    ("simplified", 0, ErrorKind::BrokenPipe, 2, USAGE),
-];
-
 #[test]
 fn a_read_fails(rt: HostRuntime) -> Result<(), Fail> {
-    for (word, left, kind, status, told) in READS {
-        let row = Row::new(&rt, rt.alloc(), word);
+    let row = Row::new(&rt, rt.alloc(), "a read");
+    for (left, kind) in [(0, ErrorKind::BrokenPipe), (2, ErrorKind::OutOfMemory)] {
         let mut input = BrokenReader { left, kind };
         let (mut output, mut errors) = (Vec::new(row.alloc), Vec::new(row.alloc));
-        let ended = status_of(&row, &[word], &mut input, &mut output, &mut errors)?;
-        row.equal((ended, output.len()), (status, 0), "the status");
-        row.equal(errors.as_slice(), told.as_bytes(), "what is told");
+        let ended = status_of(&row, &["area"], &mut input, &mut output, &mut errors)?;
+        row.equal((ended, output.len()), (4, 0), "the status");
+        row.equal(errors.as_slice(), FAILED.as_bytes(), "what is told");
     }
     Ok(())
 }
@@ -90,44 +78,29 @@ fn a_read_fails(rt: HostRuntime) -> Result<(), Fail> {
 /// The writer holds as much of the answer as it has room for, and nothing else.
 #[test]
 fn a_write_or_flush_fails(rt: HostRuntime) -> Result<(), Fail> {
-    for (room, kept, status, told) in [
-        (0, "", 4, FAILED),
-        (1, "n", 4, FAILED),
-        (4, "none", 4, FAILED),
-        (5, "none\n", 4, FAILED),
-        (6, "none\n", 0, ""),
-    ] {
-        let row = Row::new(&rt, rt.alloc(), kept);
+    let row = Row::new(&rt, rt.alloc(), "a write");
+    for (room, kept) in [(0, ""), (4, "none"), (5, "none\n")] {
         let mut output = BrokenWriter::new(row.alloc, room);
         let mut errors = Vec::new(row.alloc);
         let mut input = b"\n".as_slice();
         let ended = status_of(&row, &["simplify"], &mut input, &mut output, &mut errors)?;
-        row.equal(ended, status, "the status");
+        row.equal(ended, 4, "the status");
         row.equal(output.kept.as_slice(), kept.as_bytes(), "the output");
-        row.equal(errors.as_slice(), told.as_bytes(), "what is told");
+        row.equal(errors.as_slice(), FAILED.as_bytes(), "what is told");
     }
     Ok(())
 }
 
-/// With little room for what is told, and none, a word and a text end with this status.
-const TOLD: [(&str, &str, u8); 4] = [
-    ("simplify", "", 0),
-    ("simplify", "x", 1),
-    ("simplify", "0 1073741824", 1),
-    ("simplifies", "", 2),
-];
-
+/// With little room for what is told, and none, a word ends with this status.
 #[test]
 fn a_line_that_standard_error_does_not_take_changes_no_status(rt: HostRuntime) -> Result<(), Fail> {
-    for (word, text, status) in TOLD {
-        for room in [0, 3] {
-            let row = Row::new(&rt, rt.alloc(), text);
-            let mut output = Vec::new(row.alloc);
-            let mut errors = BrokenWriter::new(row.alloc, room);
-            let mut input = text.as_bytes();
-            let ended = status_of(&row, &[word], &mut input, &mut output, &mut errors)?;
-            row.equal((ended, output.len()), (status, 0), "the status");
-        }
+    let row = Row::new(&rt, rt.alloc(), "a complaint");
+    for (word, room, status) in [("simplify", 0, 1), ("simplify", 3, 1), ("simplifies", 0, 2)] {
+        let mut output = Vec::new(row.alloc);
+        let mut errors = BrokenWriter::new(row.alloc, room);
+        let mut input = b"x".as_slice();
+        let ended = status_of(&row, &[word], &mut input, &mut output, &mut errors)?;
+        row.equal((ended, output.len()), (status, 0), "the status");
     }
     Ok(())
 }
