@@ -1,8 +1,8 @@
 //! Flat buffers that are tested and then cleaned.
 
-ghost use Rattle.std.specs.Prelude.{◌≡◌, [], ◌∷◌, OnOk, OnErr, IfOk, IsErrOf, Ok, false, ◌↔◌};
+ghost use Rattle.std.specs.Prelude.{◌≡◌, OnOk, OnErr, IfOk, IsErrOf, Ok, false, ◌↔◌};
 ghost use Rattle.i_shape_core.specs.Contour.{IsSimple};
-ghost use Rattle.i_shape_core.specs.IntPoint.{contour_of, IsSafeContour};
+ghost use Rattle.i_shape_core.specs.IntPoint.{IsSafeContour};
 ghost use Rattle.i_shape.specs.Paths.{concatenated};
 ghost use Rattle.i_shape.specs.ShapeLists.{shapes_of, IsSafeList};
 ghost use Rattle.i_shape.specs.Buffers.{Compact, contours_in, CanReadContours};
@@ -11,7 +11,6 @@ ghost use Rattle.std.specs.List.{All};
 use crate::refusal::Refusal;
 use i_shape::IntNumber;
 use i_shape::flat::buffer::FlatContoursBuffer;
-use i_shape::int::IntPoint;
 use i_shape::int::safe_range::IntSafeRange;
 use i_shape::int::shape::IntShape;
 
@@ -34,26 +33,6 @@ pub fn simplify<I: IntNumber>(buffer: &mut FlatContoursBuffer<I>) -> Result<bool
     if !buffer.is_in_safe_range() {
         return Err(Refusal::OutOfRange);
     }
-    Ok(buffer.simplify_contours()?)
-}
-
-/// Fills the buffer with the contour and removes zero turns there. Returns whether any contour had to be cleaned.
-pub fn set_contour<I: IntNumber>(
-    buffer: &mut FlatContoursBuffer<I>,
-    contour: &[IntPoint<I>],
-) -> Result<bool, Refusal>
-    ensures range { IsErrOf result Refusal.OutOfRange
-        ↔ (IsSafeContour I.width (contour_of I.value contour.now) → ⊥) }
-    ensures untouched { IsErrOf result Refusal.OutOfRange → buffer.new ≡ buffer.old }
-    ensures compact { OnOk result
-        (Compact (contour_of I.value contour.now ∷ []) (contours_in I.value buffer.new)) }
-    ensures flag { IfOk result
-        (λ changed. changed ≡ false ↔ All IsSimple (contour_of I.value contour.now ∷ [])) }
-{
-    if !contour.is_in_safe_range() {
-        return Err(Refusal::OutOfRange);
-    }
-    buffer.set_with_contour(contour)?;
     Ok(buffer.simplify_contours()?)
 }
 

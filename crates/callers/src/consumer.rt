@@ -8,23 +8,11 @@ use i_shape::IntNumber;
 use i_shape::int::IntPoint;
 use i_shape::int::safe_range::IntSafeRange;
 use i_shape::int::shape::IntContour;
-use i_shape::source::float::resource::{ShapePoint, ShapeResource};
 use i_shape::source::int::resource::IntShapeResource;
 use std::alloc::{AllocError, Global};
 
 /// Returns the number of paths, by an iterator chain.
 pub fn count_paths<'a, I: IntNumber + 'a, R: IntShapeResource<'a, I> + Copy>(resource: R) -> usize
-    requires can { R.can_read resource }
-    requires few { length (R.paths resource) ≤ usize.MAX }
-    ensures { result ≡ length (R.paths resource) }
-{
-    resource.iter_paths().count()
-}
-
-/// Returns the number of paths over points of any type, by an iterator chain.
-pub fn count_shape_paths<'a, P: ShapePoint + 'a, R: ShapeResource<'a, P> + Copy>(
-    resource: R,
-) -> usize
     requires can { R.can_read resource }
     requires few { length (R.paths resource) ≤ usize.MAX }
     ensures { result ≡ length (R.paths resource) }

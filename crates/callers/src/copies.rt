@@ -1,12 +1,11 @@
-//! The paths of a resource, copied through the flat buffers over points of any type.
+//! The paths of a resource, copied through a flat buffer over points of any type.
 
 ghost use Rattle.std.specs.Prelude.{◌≡◌, ◌<◌, ◌↔◌, ◌⊎◌, length, IfOk, IsErrOf};
-ghost use Rattle.i_shape.specs.FloatBuffers.{in_one_shape};
-ghost use Rattle.i_shape.specs.Paths.{concatenated, paths_of_shape, shape_lists};
+ghost use Rattle.i_shape.specs.Paths.{concatenated, paths_of_shape};
 
 use i_shape::ShapeError;
-use i_shape::base::data::{Contour, Shapes};
-use i_shape::flat::float::{FloatFlatContoursBuffer, FloatFlatShapesBuffer};
+use i_shape::base::data::Contour;
+use i_shape::flat::float::FloatFlatContoursBuffer;
 use i_shape::source::float::resource::{ShapePoint, ShapeResource};
 use std::alloc::Global;
 
@@ -25,21 +24,4 @@ pub fn copied_paths<'a, P: ShapePoint + 'a, R: ShapeResource<'a, P> + Copy>(
     let mut buffer = FloatFlatContoursBuffer::new(alloc);
     buffer.set_with_resource(resource)?;
     buffer.to_contours()
-}
-
-/// Returns one shape with a copy of each path, in order, or no shape where there are no paths. The errors are the same.
-pub fn copied_as_one_shape<'a, P: ShapePoint + 'a, R: ShapeResource<'a, P> + Copy>(
-    alloc: Global,
-    resource: R,
-) -> Result<Shapes<P>, ShapeError>
-    requires { R.can_read resource }
-    ensures copies { IfOk result (λ list. shape_lists list.items
-        ≡ in_one_shape (R.paths resource)) }
-    ensures too_many { IsErrOf result ShapeError.TooManyPoints
-        ↔ ((usize.MAX < length (concatenated (R.paths resource)))
-        ⊎ (usize.MAX < length (R.paths resource))) }
-{
-    let mut buffer = FloatFlatShapesBuffer::new(alloc);
-    buffer.set_with_resource(resource)?;
-    buffer.to_shapes()
 }

@@ -1,45 +1,17 @@
-//! Contours that are cleaned from one slice into another, over points of the library or of the caller. The double area
-//! stays the same.
+//! A contour that is cleaned from one slice into another, over points of any type. The double area stays the same.
 
 ghost use Rattle.std.specs.Prelude.{◌≡◌, ◌↔◌, ◌⊎◌, ◌<◌, length, take, IsTrue, IfOk, IsErrOf};
 ghost use Rattle.std.specs.List.{All};
-ghost use Rattle.std.specs.Int.{int_wrap};
 ghost use Rattle.i_shape_core.specs.IntPoint.{point_of, contour_of, IsSafe};
 ghost use Rattle.i_shape_core.specs.Edges.{shoelace};
 ghost use Rattle.i_shape_core.specs.Cleaners.{SimpleAnswer};
 ghost use Rattle.i_shape_core.specs.Written.{slot};
 
 use crate::refusal::Refusal;
-use i_shape::IntNumber;
+use i_shape::int::ContourPoint;
 use i_shape::int::despike::ContourDeSpiker;
 use i_shape::int::safe_range::IntSafeRange;
 use i_shape::int::simple::ContourSimplifier;
-use i_shape::int::{ContourPoint, IntPoint};
-use i_shape_core::area::area_of;
-
-/// Returns twice the signed area of a contour, computed from its copy without zero turns at the front of `out`.
-pub fn area_into<I: IntNumber>(
-    simplifier: &mut ContourSimplifier,
-    contour: &[IntPoint<I>],
-    out: &mut [IntPoint<I>],
-) -> Result<I::Wide, Refusal>
-    ensures range { IsErrOf result Refusal.OutOfRange
-        ↔ (All (IsSafe I.width) (contour_of I.value contour.now) → ⊥) }
-    ensures room { IsErrOf result Refusal.NoRoom
-        ↔ (All (IsSafe I.width) (contour_of I.value contour.now)
-        × (length out.old < length contour.now)) }
-    ensures area { IfOk result (λ area. I.Wide.value area
-        ≡ int_wrap I.Wide.width (shoelace (contour_of I.value contour.now))) }
-{
-    if !contour.is_in_safe_range() {
-        return Err(Refusal::OutOfRange);
-    }
-    if out.len() < contour.len() {
-        return Err(Refusal::NoRoom);
-    }
-    let count = simplifier.simplify_into(contour, out)?;
-    Ok(area_of(&out[..count]))
-}
 
 fn is_safe<P: ContourPoint>(point: &P) -> bool
     ensures { IsTrue result ↔ IsSafe P.Coordinate.width

@@ -6,13 +6,10 @@
 pub mod at_i64;
 pub mod buffer;
 pub mod chain;
-pub mod contour;
 pub mod first;
 pub mod into;
-pub mod list;
 pub mod names;
 pub mod refusal;
-pub mod shape;
 
 // These are layers over the library, with a condition on the points or the resource.
 pub mod consumer;

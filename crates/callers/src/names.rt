@@ -11,11 +11,11 @@ use i_shape::flat::buffer::{FlatContoursBuffer, FlatShapesBuffer};
 use i_shape::flat::float::{FloatFlatContoursBuffer, FloatFlatShapesBuffer};
 use i_shape::int::area::{Area, IteratorArea, UnsafeArea};
 use i_shape::int::count::PointsCount;
-use i_shape::int::despike::DeSpikeContour;
+use i_shape::int::despike::{DeSpikeContour, DeSpikeShape, DeSpikeShapes};
 use i_shape::int::path::{ContourExtension, IntPath, IntPaths};
 use i_shape::int::safe_range::IntSafeRange;
 use i_shape::int::shape::{IntContour, IntShape, IntShapes};
-use i_shape::int::simple::ContourSimplifier;
+use i_shape::int::simple::{ContourSimplifier, SimpleContour, SimpleShape, SimpleShapes};
 use i_shape::int::{IntPoint, Origin};
 use i_shape::source::float::buffer::{
     FloatContoursBufferResourceIterator, FloatShapesBufferResourceIterator,
@@ -79,18 +79,16 @@ pub fn measures<I: IntNumber>(contour: &[IntPoint<I>]) -> Option<(I::Wide, I::Wi
 /// Returns the turn of a contour's first three points, and the visits so far. `None` where it has fewer points, or one
 /// isn't safe.
 pub fn first_turn<I: IntNumber>(contour: &[IntPoint<I>]) -> Option<(Turn, u128)> {
-    if contour.len() < 3 || !contour.is_in_safe_range() {
+    if !contour.is_in_safe_range() {
         return None;
     }
     let mut probe: Probe<'_, I> = Probe::new(contour);
+    if probe.len() < 3 {
+        return None;
+    }
     let turn = probe.turn(0, 1, 2);
     probe.skip();
     Some((turn, probe.visits()))
-}
-
-/// Returns the number of points of a probe.
-pub fn points_of_probe<'a, I: IntNumber>(probe: &Probe<'a, I>) -> usize {
-    probe.len()
 }
 
 /// Returns the first point of a contour, kept by a probe without a visit.
@@ -102,6 +100,49 @@ pub fn first_kept<I: IntNumber>(
         return Ok((Vec::new(alloc), 0));
     }
     Probe::new(contour).keep(alloc, &[0])
+}
+
+/// Returns whether a contour has safe points, is simple and convex, and has no spikes.
+pub fn is_plain<I: IntNumber>(contour: &IntContour<I>) -> bool {
+    let points = contour.as_slice();
+    points.is_in_safe_range() && points.is_simple() && points.is_convex() && contour.has_no_spikes()
+}
+
+/// Returns whether all points of a shape and a list are safe, and each contour is simple and has no spikes.
+pub fn are_plain<I: IntNumber>(shape: &IntShape<I>, shapes: &IntShapes<I>) -> bool {
+    shape.is_in_safe_range()
+        && shapes.is_in_safe_range()
+        && shape.as_slice().is_simple()
+        && shape.has_no_spikes()
+        && shapes.as_slice().is_simple()
+        && shapes.has_no_spikes()
+}
+
+/// Returns a contour without zero turns, its form, and the contour without spikes. There is none where a point isn't
+/// safe.
+pub fn cleaned<I: IntNumber>(
+    alloc: Global,
+    contour: &IntContour<I>,
+) -> Result<[Option<IntContour<I>>; 3], ShapeError> {
+    if !contour.is_in_safe_range() {
+        return Ok([None, None, None]);
+    }
+    let points = contour.as_slice();
+    let simple = ContourSimplifier::new(alloc).simplify_contour(points)?;
+    let form = points.canonical(alloc)?;
+    Ok([simple, form, contour.despiked_contour(alloc)?])
+}
+
+/// Returns a shape without zero turns, and without spikes. There is none where a point isn't safe.
+pub fn cleaned_shape<I: IntNumber>(
+    alloc: Global,
+    shape: &IntShape<I>,
+) -> Result<[Option<IntShape<I>>; 2], ShapeError> {
+    if !shape.is_in_safe_range() {
+        return Ok([None, None]);
+    }
+    let simple = shape.as_slice().simplified(alloc)?;
+    Ok([simple, shape.despiked_shape(alloc)?])
 }
 
 /// Returns how many vertices each cleaner visits, or `None` where a point isn't safe.
