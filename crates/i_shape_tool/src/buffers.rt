@@ -56,11 +56,13 @@ pub fn despike_through_buffer<I: IntNumber>(
 }
 
 /// Fills a flat buffer with the shapes and returns them as read back.
+#[tactic(auto, using(i_shape::proofs::CallerLemmas::same_shapes))]
 fn read_back<I: IntNumber>(
     alloc: Global,
     shapes: &[IntShape<I>],
 ) -> Result<IntShapes<I>, ShapeError>
-    ensures same { IfOk result (λ r. shape_lists r.items ≡ shape_lists shapes.now) }
+    ensures same { IfOk result
+        (λ r. shapes_of I.value r.items ≡ shapes_of I.value shapes.now) }
     ensures too_many { IsErrOf result ShapeError.TooManyPoints
         ↔ ((usize.MAX < length (concatenated (concatenated (shape_lists shapes.now))))
         ⊎ (usize.MAX < length (concatenated (shape_lists shapes.now)))) }
