@@ -1,5 +1,5 @@
 -- What is left where each contour is cleaned in its place, and then the collapsed ones are taken out.
-use Rattle.std.proofs.Common.{◌≡◌, ℕ, ℤ, ◌+◌, ◌<◌, ◌≤◌, ◌==◌, Bool, not, cond, true, false, Result, Ok, Err, List, [], ◌∷◌, ◌++◌, length, set, get_or, take, drop, map, refl, sym, ap, ◌∙◌, subst, arith, append_assoc, append-nil, Option, Some, None, unwrap_or}
+use Rattle.std.proofs.Common.{◌≡◌, ℕ, ℤ, ◌+◌, ◌<◌, ◌≤◌, ◌==◌, Bool, not, cond, true, false, Ok, Err, List, [], ◌∷◌, ◌++◌, length, set, get_or, take, drop, map, refl, sym, ap, ◌∙◌, subst, arith, append_assoc, append-nil, Option, Some, None, unwrap_or}
 use Rattle.std.specs.Int.{Width}
 use Rattle.std.specs.List.{All, AllZip, filter}
 use Rattle.std.proofs.lemmas.List.{set_at, get_or_at, drop_more, take_more, take_all, drop_all, length-take-le, take-append-le, get_or-map, map-set, length-map}
@@ -110,9 +110,6 @@ module _ (Answer : List Point → Option (List Point) → Type 0) where
   list_left ((c ∷ cs) ∷ shapes) (([] ∷ ds) ∷ left) h = survivors_gone (ShapeClean Answer) (c ∷ cs) shapes _ h.0.0 (list_left shapes left h.1)
   list_left ((c ∷ cs) ∷ shapes) (((p ∷ d) ∷ ds) ∷ left) h = survivors_left (ShapeClean Answer) (c ∷ cs) _ shapes _ (h.0.0, contours_left cs ds h.0.1) (list_left shapes left h.1)
 
-same_error : (e k : ShapeError) (r : Result Bool ShapeError) → r ≡ Err e → r ≡ Err k → e ≡ OutOfMemory → k ≡ OutOfMemory
-same_error e k r was is memory = cc
-
 -- A shape and a list that didn't pass, and what is left of them.
 module _ (Passes : List Point → Type 0) (Answer : List Point → Option (List Point) → Type 0) (keeps : (c : List Point) (r : Option (List Point)) → Answer c r → KeptAnswer c r) where
   left_keeps : (shape new : List (List Point)) (answer : Option (List (List Point))) → ShapeClean Answer shape answer → new ≡ unwrap_or answer [] → 0 < length new → AreKept shape new
@@ -130,7 +127,7 @@ module _ (Passes : List Point → Type 0) (Answer : List Point → Option (List 
   -- where memory is refused they stay
   pub shape_refused_in_place : (shape : List (List Point)) (e : ShapeError) → (EachContour Passes shape → ⊥) → (EachContour (IsShortOrPasses Passes) shape → ⊥) → e ≡ OutOfMemory → CleansShape Passes Answer shape shape (Err e)
   shape_refused_in_place shape e fails long memory = record {
-    cleans = record { passes = λ pass. absurd (fails pass); clean = λ f. absurd cc; left = tt; refused = λ k f. (same_error e k (Err e) refl f memory, refl) };
+    cleans = record { passes = λ pass. absurd (fails pass); clean = λ f. absurd cc; left = tt; refused = λ k f. (cc, refl) };
     kept = λ some. same_kept shape;
     short = λ each. absurd (long each);
   }
@@ -138,7 +135,7 @@ module _ (Passes : List Point → Type 0) (Answer : List Point → Option (List 
   -- where memory is refused, a list that did not pass stays
   pub list_refused_in_place : (shapes : List (List (List Point))) (e : ShapeError) → (EachShape Passes shapes → ⊥) → (EachShape (IsShortOrPasses Passes) shapes → ⊥) → e ≡ OutOfMemory → CleansList Passes Answer shapes shapes (Err e)
   list_refused_in_place shapes e fails long memory = record {
-    cleans = record { passes = λ pass. absurd (fails pass); clean = λ f. absurd cc; left = tt; refused = λ k f. (same_error e k (Err e) refl f memory, refl) };
+    cleans = record { passes = λ pass. absurd (fails pass); clean = λ f. absurd cc; left = tt; refused = λ k f. (cc, refl) };
     kept = tt;
     short = λ each. absurd (long each);
   }

@@ -23,7 +23,8 @@ sum_by-length [] = refl
 sum_by-length (list ∷ lists) = omega (arith, sum_by-cons length list lists, sum_by-length lists, length-append list (concatenated lists))
 
 -- where no answer has more of something than its member, the answers that are left have no more of it together
-pub survivors_fewer : {X Y : Type 0} (Answer : X → Option Y → Type 0) (f : X → ℕ) (g : Y → ℕ) → ((x : X) (y : Y) → Answer x (Some y) → g y ≤ f x) → (xs : List X) (kept : List Y) → Survivors Answer xs kept → sum_by g kept ≤ sum_by f xs
+pub survivors_fewer : {X Y : Type 0} (Answer : X → Option Y → Type 0) (f : X → ℕ) (g : Y → ℕ) → ((x : X) (y : Y) → Answer x (Some y) → g y ≤ f x)
+    → (xs : List X) (kept : List Y) → Survivors Answer xs kept → sum_by g kept ≤ sum_by f xs
 survivors_fewer Answer f g fewer =
     survivors_each Answer (λ xs kept. sum_by g kept ≤ sum_by f xs) (omega arith) (λ x xs kept a rest. omega (arith, sum_by-cons f x xs, rest))
     (λ x y xs kept a rest. omega (arith, sum_by-cons f x xs, sum_by-cons g y kept, fewer x y a, rest))

@@ -1,10 +1,10 @@
 -- What the answers of a cleaner keep of contours together, of shapes and of lists.
-use Rattle.std.proofs.Common.{◌≡◌, ℕ, ◌+◌, ◌%◌, ◌↔◌, ◌≤◌, List, [], ◌∷◌, ◌++◌, refl, sym, ◌∙◌, arith, Option, Some, None, IfSome}
+use Rattle.std.proofs.Common.{◌≡◌, ℕ, ◌+◌, ◌%◌, ◌↔◌, ◌≤◌, List, [], ◌∷◌, refl, sym, ◌∙◌, arith, Option, Some, None, IfSome}
 use Rattle.std.specs.List.{All, count_by}
 use Rattle.std.specs.Int.{Width}
 use native.Mathlib.Decide.{dec_le}
 use Rattle.std.proofs.lemmas.Int.{ints}
-use Rattle.std.proofs.lemmas.List.Sums.{sum_by-cons, sum_by-append}
+use Rattle.std.proofs.lemmas.List.Sums.{sum_by-cons}
 use Rattle.std.proofs.lemmas.List.Elements.{All-cons, All-head, All-tail}
 use Rattle.i_shape_core.specs.Point.{Point}
 use Rattle.i_shape_core.specs.IntPoint.{IsSafe}
@@ -22,11 +22,6 @@ edges_parity c p = count_by (is_right p) (edges c) % 2
 pub inside_count-cons : (c : List Point) (cs : List (List Point)) (p : Point) → inside_count (c ∷ cs) p ≡ edges_parity c p + inside_count cs p
 unfolding inside_count
 inside_count-cons c cs p = sum_by-cons (λ c. edges_parity c p) c cs
-
--- of contours of two lists together, a point is inside of those of either
-pub inside_count-append : (cs ds : List (List Point)) (p : Point) → inside_count (cs ++ ds) p ≡ inside_count cs p + inside_count ds p
-unfolding inside_count
-inside_count-append cs ds p = sum_by-append (λ c. edges_parity c p) cs ds
 
 -- contours keep themselves
 pub same_kept : (contours : List (List Point)) → AreKept contours contours
