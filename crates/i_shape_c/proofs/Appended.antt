@@ -50,7 +50,8 @@ put_front part old new put =
     let is : new ≡ part ++ drop (length part) old = put ∙ ap (λ n. part ++ drop n old) none in
     (ap (take (length part)) is ∙ take_at part (drop (length part) old) (length part) refl, ap (drop (length part)) is ∙ drop_at part (drop (length part) old) (length part) refl, is)
 
-ends-append : {X : Type 0} (start : ℕ) (xs ys : List (List X)) → ends_from start (xs ++ ys) ≡ ends_from start xs ++ ends_from (start + length (concatenated xs)) ys
+-- the ends of lists behind lists
+pub ends-append : {X : Type 0} (start : ℕ) (xs ys : List (List X)) → ends_from start (xs ++ ys) ≡ ends_from start xs ++ ends_from (start + length (concatenated xs)) ys
 ends-append start [] ys =
     let same : start ≡ start + 0 = omega arith in
     ap (λ n. ends_from n ys) same

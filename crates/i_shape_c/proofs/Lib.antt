@@ -6,7 +6,9 @@ pub mod Areas
 pub mod PolygonLists
 pub mod Appended
 pub mod PolygonsLeft
-pub mod Counts
+pub mod Nested
+pub mod SortedPolygons
+pub mod FormsWritten
 pub mod Windings
 pub mod Told
 pub mod Compacted

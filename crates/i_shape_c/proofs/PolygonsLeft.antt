@@ -13,10 +13,10 @@ use Rattle.i_shape.specs.ShapeAnswers.{ShapeClean, ListClean, EachShape}
 use Rattle.i_shape.proofs.buffers.ShapeRanges.{slice_range-map}
 use Rattle.i_shape_core.proofs.lists.Rings.{rises_to}
 use Rattle.i_shape_core.proofs.lists.Survivors.{survivors-none, survivors-push}
-use Rattle.i_shape_c.specs.Appended.{IsReady, AppendsRings, AppendsPolygons, AppendsRingLeft, AppendsShapeLeft, WritesLeft, rings_at, polygons_of}
+use Rattle.i_shape_c.specs.Appended.{HasPolygonsRoom, IsPut, IsReady, AppendsRings, AppendsPolygons, AppendsRingLeft, AppendsShapeLeft, WritesLeft, rings_at, polygons_of}
 use Rattle.i_shape_c.specs.Batch.{offset, nth_contour, PartsPoints, AreSafeContours}
 use Rattle.i_shape_c.specs.Cleaned.{AreSafe}
-use Rattle.i_shape_c.specs.Polygons.{parts, polygons, offsets_of, AreShapesLeft}
+use Rattle.i_shape_c.specs.Polygons.{parts, polygons, offsets_of, HasShapesRoom, AreShapesLeft}
 use Rattle.i_shape_c.specs.declared.polygons.Counts.{Counts}
 use Rattle.i_shape_c.proofs.Appended.{offset_part, nth_part, length_part, parted_part, put_none, put_front, rings_more, polygons_more, length-offsets}
 use Rattle.i_shape_c.proofs.Batches.{safe_part}
@@ -33,7 +33,7 @@ map_more f xs None = map-append f xs []
 map_more f xs (Some x) = map-append f xs (x ∷ [])
 
 -- two functions that agree make the same of two ranges
-same_ranges : {X : Type 0} (f g : ℕ → X) (s t n : ℕ) → ((j : ℕ) → j < n → f (s + j) ≡ g (t + j)) → map f (range_with_len s n) ≡ map g (range_with_len t n)
+pub same_ranges : {X : Type 0} (f g : ℕ → X) (s t n : ℕ) → ((j : ℕ) → j < n → f (s + j) ≡ g (t + j)) → map f (range_with_len s n) ≡ map g (range_with_len t n)
 same_ranges f g s t zero each = refl
 same_ranges {X} f g s t (suc n) each = ap₂ ◌∷◌ first (same_ranges f g (s + 1) (t + 1) n next)
   where
@@ -136,12 +136,52 @@ each_part Q points offsets a b order within each k less =
     let count = length_part offsets a b order within in
     rw (nth_part offsets a b points k (omega (arith, less, count))) (each (a + k) (omega (arith, less, count, within)))
 
+-- polygons of points of C, and those that they represent
+module _ {P : Type 0} (at : P → Point) (list : List (List (List P))) where
+  abbrev made : List (List (List Point))
+  made = map (map (map at)) list
+
+  made_rings : concatenated made ≡ map (map at) (concatenated list)
+  made_rings = concatenated-map (map at) list
+
+  made_points : concatenated (concatenated made) ≡ map at (concatenated (concatenated list))
+  made_points = ap concatenated made_rings ∙ concatenated-map at (concatenated list)
+
+  -- they are as many, with as many contours and points
+  pub read_counts : (length made ≡ length list) × (length (concatenated made) ≡ length (concatenated list)) × (length (concatenated (concatenated made)) ≡ length (concatenated (concatenated list)))
+  read_counts = (length-map list (map (map at)), ap length made_rings ∙ length-map (concatenated list) (map at), ap length made_points ∙ length-map (concatenated (concatenated list)) at)
+
+  -- arrays that hold what is made of polygons are what a call leaves
+  pub polygons_written : (Gives : List (List (List Point)) → List (List (List Point)) → Type 0) (points : List P) (contours shapes : List ℕ) (old_points new_points : List P) (old_contours new_contours old_shapes new_shapes : List ℕ) (n : ℕ)
+      → Gives (polygons (map at points) contours shapes) made → IsPut 0 (concatenated (concatenated list)) old_points new_points → IsPut 0 (offsets_of 0 (concatenated list)) old_contours new_contours → IsPut 0 (offsets_of 0 list) old_shapes new_shapes
+      → length list ≡ n → length (concatenated (concatenated list)) ≤ length points → length (concatenated list) < length contours → length list < length shapes
+      → AreShapesLeft Gives at points contours shapes old_points new_points old_contours new_contours old_shapes new_shapes n
+  polygons_written Gives points contours shapes old_points new_points old_contours new_contours old_shapes new_shapes n gives points_are contours_are shapes_are count fewer_points fewer_contours fewer_shapes =
+      let counts = read_counts in
+      let points_put = put_front (concatenated (concatenated list)) old_points new_points points_are in
+      let contours_put = put_front (offsets_of 0 (concatenated list)) old_contours new_contours contours_are in
+      let shapes_put = put_front (offsets_of 0 list) old_shapes new_shapes shapes_are in
+      let contour_offsets : offsets_of 0 (concatenated made) ≡ offsets_of 0 (concatenated list) = ap (offsets_of 0) made_rings ∙ offsets-map at 0 (concatenated list) in
+      let shape_offsets : offsets_of 0 made ≡ offsets_of 0 list = offsets-map (map at) 0 list in
+      record {
+        list = made;
+        left = gives;
+        count = counts.0 ∙ count;
+        fewer_points = omega (arith, counts.2, fewer_points);
+        fewer_contours = omega (arith, counts.1, fewer_contours);
+        fewer_shapes = omega (arith, count, fewer_shapes);
+        written = rw (counts.2, points_put.0) (sym made_points);
+        rest = rw counts.2 points_put.1;
+        contours_are = rw (contour_offsets, counts.1, ← length-offsets 0 (concatenated list)) contours_put.2;
+        shapes_are = rw (shape_offsets, counts.0, ← length-offsets 0 list) shapes_put.2;
+      }
+
 -- the contours of polygons, of which those from the first polygon's on are `rings`
 module _ {P : Type 0} (at : P → Point) (points : List P) (contours shapes : List ℕ) (contours_parted : PartsPoints (length points) contours) (shapes_parted : PartsPoints (length contours - 1) shapes) where
-  abbrev low : ℕ
+  abbrev pub low : ℕ
   low = offset shapes 0
 
-  abbrev high : ℕ
+  abbrev pub high : ℕ
   high = offset shapes (length shapes - 1)
 
   abbrev pub rings : List ℕ
@@ -169,16 +209,32 @@ module _ {P : Type 0} (at : P → Point) (points : List P) (contours shapes : Li
       let up = rises_to shapes (length shapes) 0 (length shapes - 1) shapes_parted.order (omega arith) (omega (arith, shapes_parted.some)) in
       parted_part contours low (high + 1) (length points) contours_parted (omega (arith, up)) (omega (arith, shapes_parted.last, contours_parted.some))
 
-  -- where all the points are safe, theirs are
-  pub rings_safe : (width : Width) → AreSafeContours width at points contours → AreSafeContours width at points rings
-  rings_safe width safe =
+  -- they begin and end where the contours of the polygons do
+  pub rings_ends : (offset rings 0 ≡ offset contours low) × (offset rings (length rings - 1) ≡ offset contours high)
+  rings_ends =
       let total = count_rings in
       let up = rises_to shapes (length shapes) 0 (length shapes - 1) shapes_parted.order (omega arith) (omega (arith, shapes_parted.some)) in
       let first : low + 0 ≡ low = omega arith in
-      let last : low + (length rings - 1) ≡ high = omega (arith, total, up) in
-      let first_is : offset rings 0 ≡ offset contours low = offset_part contours low (high + 1) 0 (omega (arith, up)) ∙ ap (offset contours) first in
-      let last_is : offset rings (length rings - 1) ≡ offset contours high = offset_part contours low (high + 1) (length rings - 1) (omega (arith, last)) ∙ ap (offset contours) last in
-      subst₂ (λ a b. AreSafe width at (slice_range points a b)) (sym first_is) (sym last_is) (safe_part width at points contours low high contours_parted.order up (omega (arith, shapes_parted.last, contours_parted.some)) safe)
+      let last : low + (length rings - 1) ≡ high = omega (arith, total, up) in (
+        offset_part contours low (high + 1) 0 (omega (arith, up)) ∙ ap (offset contours) first,
+        offset_part contours low (high + 1) (length rings - 1) (omega (arith, last)) ∙ ap (offset contours) last,
+      )
+
+  -- where all the points are safe, theirs are
+  pub rings_safe : (width : Width) → AreSafeContours width at points contours → AreSafeContours width at points rings
+  rings_safe width safe =
+      let up = rises_to shapes (length shapes) 0 (length shapes - 1) shapes_parted.order (omega arith) (omega (arith, shapes_parted.some)) in
+      subst₂ (λ a b. AreSafe width at (slice_range points a b)) (sym rings_ends.0) (sym rings_ends.1) (safe_part width at points contours low high contours_parted.order up (omega (arith, shapes_parted.last, contours_parted.some)) safe)
+
+  -- there is room for them where there is for all
+  pub room_for_polygons : (out_points out_contours out_shapes : ℕ) → HasShapesRoom (length points) (length contours) (length shapes) out_points out_contours out_shapes → HasPolygonsRoom contours shapes out_points out_contours out_shapes
+  room_for_polygons out_points out_contours out_shapes room =
+      let up = rises_to contours (length contours) high (length contours - 1) contours_parted.order (omega (arith, shapes_parted.last)) (omega (arith, contours_parted.some)) in
+      record {
+        points_room = omega (arith, up, contours_parted.last, room.contours_fit.points_room);
+        contours_room = omega (arith, shapes_parted.last, contours_parted.some, room.contours_fit.offsets_room);
+        shapes_room = room.shapes_room;
+      }
 
   -- the polygons are parted by them
   polygons_are : polygons (map at points) contours shapes ≡ map (map (map at)) (polygons_of points rings shapes (length shapes - 1))
@@ -245,28 +301,7 @@ module _ {P : Type 0} (at : P → Point) (points : List P) (contours shapes : Li
       → AreShapesLeft (ListClean Answer) at points contours shapes old_points new_points old_contours new_contours old_shapes new_shapes n
   left_written Answer given_rings old_points new_points old_contours new_contours old_shapes new_shapes n same wrote_given =
       let wrote = subst (λ w. WritesLeft Answer at (polygons_of points w shapes (length shapes - 1)) (length points) (length w) (length shapes) old_points new_points old_contours new_contours old_shapes new_shapes n) same wrote_given in
-      let list = wrote.left in
       let total = count_rings in
-      let made = map (map (map at)) list in
-      let made_rings : concatenated made ≡ map (map at) (concatenated list) = concatenated-map (map at) list in
-      let made_points : concatenated (concatenated made) ≡ map at (concatenated (concatenated list)) = ap concatenated made_rings ∙ concatenated-map at (concatenated list) in
-      let count_points : length (concatenated (concatenated made)) ≡ length (concatenated (concatenated list)) = ap length made_points ∙ length-map (concatenated (concatenated list)) at in
-      let count_contours : length (concatenated made) ≡ length (concatenated list) = ap length made_rings ∙ length-map (concatenated list) (map at) in
-      let count_shapes : length made ≡ length list = length-map list (map (map at)) in
-      let points_put = put_front (concatenated (concatenated list)) old_points new_points wrote.written.points_are in
-      let contours_put = put_front (offsets_of 0 (concatenated list)) old_contours new_contours wrote.written.contours_are in
-      let shapes_put = put_front (offsets_of 0 list) old_shapes new_shapes wrote.written.shapes_are in
-      let contour_offsets : offsets_of 0 (concatenated made) ≡ offsets_of 0 (concatenated list) = ap (offsets_of 0) made_rings ∙ offsets-map at 0 (concatenated list) in
-      let shape_offsets : offsets_of 0 made ≡ offsets_of 0 list = offsets-map (map at) 0 list in
-      record {
-        list = made;
-        left = rw polygons_are wrote.answer;
-        count = count_shapes ∙ wrote.written.count;
-        fewer_points = omega (arith, count_points, wrote.written.fewer_points);
-        fewer_contours = omega (arith, count_contours, wrote.written.fewer_contours, total, shapes_parted.last, contours_parted.some);
-        fewer_shapes = omega (arith, wrote.written.count, wrote.written.fewer_shapes);
-        written = rw (count_points, points_put.0) (sym made_points);
-        rest = rw count_points points_put.1;
-        contours_are = rw (contour_offsets, count_contours, ← length-offsets 0 (concatenated list)) contours_put.2;
-        shapes_are = rw (shape_offsets, count_shapes, ← length-offsets 0 list) shapes_put.2;
-      }
+      polygons_written at wrote.left (ListClean Answer) points contours shapes old_points new_points old_contours new_contours old_shapes new_shapes n (rw polygons_are wrote.answer)
+      wrote.written.points_are wrote.written.contours_are wrote.written.shapes_are wrote.written.count wrote.written.fewer_points
+      (omega (arith, wrote.written.fewer_contours, total, shapes_parted.last, contours_parted.some)) wrote.written.fewer_shapes

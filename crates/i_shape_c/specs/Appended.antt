@@ -30,6 +30,12 @@ rings_at rings shapes k = slice_range rings (offset shapes k - offset shapes 0) 
 abbrev pub polygons_of : {P : Type 0} → List P → List ℕ → List ℕ → ℕ → List (List (List P))
 polygons_of points rings shapes n = map (λ k. parts points (rings_at rings shapes k)) (range_with_len 0 n)
 
+-- there is room for the points and the contours of the polygons, and for the offsets of both
+pub record HasPolygonsRoom (contours shapes : List ℕ) (out_points out_contours out_shapes : ℕ) : Type 0 where
+  pub points_room : offset contours (offset shapes (length shapes - 1)) ≤ out_points + offset contours (offset shapes 0)
+  pub contours_room : offset shapes (length shapes - 1) < out_contours + offset shapes 0
+  pub shapes_room : length shapes ≤ out_shapes
+
 -- a part stands in the new list from a place on, and the rest is as it was
 abbrev pub IsPut : {P : Type 0} → ℕ → List P → List P → List P → Type 0
 IsPut at part old new = new ≡ take at old ++ (part ++ drop (at + length part) old)

@@ -6,6 +6,7 @@ pub mod Places
 pub mod Polygons
 pub mod Compacted
 pub mod Appended
+pub mod Sorted
 pub mod Tests
 pub mod Areas
 pub mod Windings

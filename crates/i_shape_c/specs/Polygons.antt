@@ -1,7 +1,7 @@
 -- Polygons in three arrays: points, offsets that divide these into contours, and offsets that divide the contours into
 -- polygons.
 use Rattle.std.specs.Prelude.{◌≡◌, ℕ, ℤ, ◌+◌, ◌-◌, ◌<◌, ◌≤◌, ◌++◌, pos, negsuc, List, [], ◌∷◌, map, length, take, drop}
-use Rattle.std.specs.List.{range_with_len}
+use Rattle.std.specs.List.{All, range_with_len}
 use Rattle.i_shape.specs.Point.{Point}
 use Rattle.i_shape.specs.Paths.{concatenated}
 use Rattle.i_shape_c.specs.Batch.{nth_contour, PartsPoints, HasRoom, AreSafeContours}
@@ -31,12 +31,6 @@ pub record HasShapesRoom (points contours shapes out_points out_contours out_sha
   pub contours_fit : HasRoom points contours out_points out_contours
   pub shapes_room : shapes ≤ out_shapes
 
--- there are no more polygons, contours and points than before
-pub record AreFewer (given left : List (List (List Point))) : Type 0 where
-  pub shapes : length left ≤ length given
-  pub contours : length (concatenated left) ≤ length (concatenated given)
-  pub points : length (concatenated (concatenated left)) ≤ length (concatenated (concatenated given))
-
 -- the new arrays begin with what is left of the polygons, n of them, and what follows is unchanged; there are no more
 -- points, contours and polygons than were given
 pub record AreShapesLeft {P : Type 0} (Gives : List (List (List Point)) → List (List (List Point)) → Type 0) (point : P → Point) (points : List P) (contours shapes : List ℕ) (old_points new_points : List P) (old_contours new_contours old_shapes new_shapes : List ℕ) (n : ℕ) : Type 0 where
@@ -58,9 +52,9 @@ ShapesAnswer Gives point points contours shapes old_points new_points old_contou
 ShapesAnswer Gives point points contours shapes old_points new_points old_contours new_contours old_shapes new_shapes (negsuc n) =
     (n < 4) × (new_points ≡ old_points) × (new_contours ≡ old_contours) × (new_shapes ≡ old_shapes)
 
--- there is no polygon
+-- no polygon has a contour
 abbrev pub AreNone : List (List (List Point)) → Type 0
-AreNone list = list ≡ []
+AreNone list = All (λ shape. shape ≡ []) list
 
 -- what a call that cleans polygons returns and leaves, and exactly when it returns a code: `Gives` relates the polygons
 -- to what is left of them, and the call never returns the code of a failed allocation for polygons of which `Spares`

@@ -1,32 +1,76 @@
-//! Conversions between points of C and points of the library.
+//! Lists that lie end to end in one array, divided by offsets: reading, sorting and writing.
 
-ghost use Rattle.std.specs.Prelude.{◌≡◌, ◌≤◌, ◌++◌, length, map, drop, IfOk};
+ghost use Rattle.std.specs.Prelude.{◌≡◌, ◌+◌, ◌≤◌, ◌<◌, length, map, IfOk, IsSorted};
+ghost use Rattle.i_shape.specs.Paths.{concatenated};
+ghost use Rattle.i_shape_c.specs.Appended.{IsPut};
+ghost use Rattle.i_shape_c.specs.Batch.{PartsPoints};
+ghost use Rattle.i_shape_c.specs.Polygons.{parts, offsets_of};
+ghost use Rattle.i_shape_c.specs.Sorted.{SortsRest, SortsEachRest};
 
-use crate::point::CPoint;
-use i_shape::int::IntPoint;
-use i_shape::int::shape::IntContour;
-use std::alloc::AllocError;
+use crate::batch::part;
+use i_shape::ShapeError;
+use std::alloc::Global;
 
-/// Appends the points, converted to the library's. Allocates nothing where there is room for them.
-pub fn append_points<P: CPoint>(
-    given: &[P],
-    list: &mut IntContour<P::Coordinate>,
-) -> Result<(), AllocError>
-    ensures { IfOk result (λ _. list.new.items ≡ list.old.items ++ map P.point given.now) }
+/// Returns the lists into which the offsets divide the items.
+pub fn slices<'a, T: Copy>(
+    alloc: Global,
+    items: &'a [T],
+    offsets: &[usize],
+) -> Result<Vec<&'a [T]>, ShapeError>
+    requires { PartsPoints (length items.now) offsets.now }
+    ensures { IfOk result (λ lists. map (λ list. list.now) lists.items ≡ parts items.now offsets.now) }
 {
-    list.reserve(given.len())?;
-    for point in given {
-        list.push_reserved((*point).to_point());
+    let mut lists = Vec::with_capacity(alloc, offsets.len() - 1)?;
+    for place in 1..offsets.len() {
+        lists.push(part(items, offsets[place - 1], offsets[place]))?;
     }
-    Ok(())
+    Ok(lists)
 }
 
-/// Writes the points, converted to C's, to the front of `out`.
-pub fn copy_out<P: CPoint>(points: &[IntPoint<P::Coordinate>], out: &mut [P])
-    requires { length points.now ≤ length out.old }
-    ensures { out.new ≡ map P.c_point points.now ++ drop (length points.now) out.old }
+/// Sorts the items of each list but its first one.
+pub fn sort_each_rest<T: Ord>(items: &mut [T], offsets: &[usize])
+    requires { PartsPoints (length items.old) offsets.now }
+    ensures sorted { SortsEachRest (IsSorted T.cmp) items.old items.new offsets.now (length offsets.now) }
+    ensures len { length items.new ≡ length items.old }
 {
-    for place in 0..points.len() {
-        out[place] = P::of_point(points[place]);
+    for place in 1..offsets.len() {
+        sort_rest(&mut items[offsets[place - 1]..offsets[place]]);
     }
+}
+
+/// Sorts the items but the first one.
+fn sort_rest<T: Ord>(list: &mut [T])
+    ensures sorted { SortsRest (IsSorted T.cmp) list.old list.new }
+    ensures len { length list.new ≡ length list.old }
+{
+    if !list.is_empty() {
+        list[1..].sort_unstable();
+    }
+}
+
+/// Writes the lists end to end to the front of `out`, and their offsets to the front of `offsets`.
+pub fn write_lists<T: Copy>(lists: &[&[T]], out: &mut [T], offsets: &mut [usize])
+    requires room { length (concatenated (map (λ list. list.now) lists.now)) ≤ length out.old }
+    requires offsets_room { length lists.now < length offsets.old }
+    ensures items { IsPut 0 (concatenated (map (λ list. list.now) lists.now)) out.old out.new }
+    ensures offsets { IsPut 0 (offsets_of 0 (map (λ list. list.now) lists.now)) offsets.old offsets.new }
+{
+    offsets[0] = 0;
+    let mut end = 0;
+    for place in 0..lists.len() {
+        end = write_at(lists[place], out, end);
+        offsets[place + 1] = end;
+    }
+}
+
+/// Writes the items from place `at` on, and returns where they end.
+fn write_at<T: Copy>(items: &[T], out: &mut [T], at: usize) -> usize
+    requires { at + length items.now ≤ length out.old }
+    ensures put { IsPut at items.now out.old out.new }
+    ensures end { result ≡ at + length items.now }
+    ensures len { length out.new ≡ length out.old }
+{
+    let end = at + items.len();
+    out[at..end].copy_from_slice(items);
+    end
 }

@@ -4,7 +4,7 @@
 ghost use Rattle.std.specs.Prelude.{◌≡◌, ◌↔◌, ◌+◌, ◌-◌, ◌^◌, ◌<◌, ◌≤◌, ℕ, length, map, IfOk, OnErr, IsTrue};
 ghost use Rattle.i_shape.specs.IntPoint.{contour_of};
 ghost use Rattle.i_shape.specs.ShapeAnswers.{ListClean, EachShape};
-ghost use Rattle.i_shape_c.specs.Appended.{IsReady, AreReady, AppendsRingLeft, AppendsShapeLeft, WritesLeft, polygons_of};
+ghost use Rattle.i_shape_c.specs.Appended.{HasPolygonsRoom, IsReady, AreReady, AppendsRingLeft, AppendsShapeLeft, WritesLeft, polygons_of};
 ghost use Rattle.i_shape_c.specs.Batch.{offset, AreRising, PartsPoints, AreSafeContours};
 ghost use Rattle.i_shape_c.specs.Cleaned.{TakesNoMemory};
 ghost use Rattle.i_shape_c.specs.Codes.{IsRefusal};
@@ -111,7 +111,7 @@ fn has_shapes_room(
 
 /// Writes the cleaned polygons to the front of the three arrays. Returns how many there are. Allocates before it
 /// writes, and only if a contour that isn't clean is long enough, so an error leaves the arrays unchanged.
-fn write_cleaned<P: CPoint, C: ContourCleaner>(
+pub fn write_cleaned<P: CPoint, C: ContourCleaner>(
     alloc: Global,
     points: &[P],
     contours: &[usize],
@@ -121,7 +121,7 @@ fn write_cleaned<P: CPoint, C: ContourCleaner>(
     out_shapes: &mut [usize],
 ) -> Result<usize, ShapeError>
     requires parted { PartsPolygons (length points.now) contours.now shapes.now }
-    requires room { HasShapesRoom (length points.now) (length contours.now) (length shapes.now)
+    requires room { HasPolygonsRoom contours.now shapes.now
         (length out_points.old) (length out_contours.old) (length out_shapes.old) }
     requires points_safe { AreSafeContours P.Coordinate.width
         (point_by P.Coordinate.value P.point) points.now contours.now }
@@ -178,7 +178,8 @@ fn write_polygons<P: CPoint, C: ContourCleaner>(
     requires shapes_order { AreRising shapes.now (length shapes.now) }
     requires shapes_last { offset shapes.now (length shapes.now - 1)
         < length rings.now + offset shapes.now 0 }
-    requires points_room { length points.now ≤ length out_points.old }
+    requires points_room { offset rings.now (length rings.now - 1)
+        ≤ length out_points.old + offset rings.now 0 }
     requires contours_room { length rings.now ≤ length out_contours.old }
     requires shapes_room { length shapes.now ≤ length out_shapes.old }
     ensures { WritesLeft C.answers (point_by P.Coordinate.value P.point)

@@ -1,4 +1,4 @@
-use Rattle.std.proofs.Common.{◌<◌, ◌^◌, refl, arith}
+use Rattle.std.proofs.Common.{◌<◌, ◌^◌, length, refl, arith}
 use Rattle.std.specs.Int.{w64}
 use Rattle.std.proofs.lemmas.Int.{to_z_pos}
 use Rattle.i_shape.specs.Point.{Point}
@@ -6,6 +6,7 @@ use Rattle.i_shape.specs.IntPoint.{point_of}
 use Rattle.i_shape.specs.ShapeAnswers.{ListClean}
 use Rattle.i_shape_c.specs.Polygons.{ShapesAnswer}
 use Rattle.i_shape_c.specs.declared.codes.Refusal.TheVariants.{NoMemory}
+use Rattle.i_shape_c.proofs.PolygonsLeft.{room_for_polygons}
 use Rattle.i_shape_c.proofs.Refusals.{each_code, code_of_64, refused, refused_memory, not_refused}
 use Rattle.i_shape_c.proofs.polygons.clean_shapes.Goals as goal
 
@@ -18,6 +19,12 @@ returns-in-Some g c =
           c.args.out_contours.now c.args.out_contours.now c.args.out_shapes.now c.args.out_shapes.now) r (λ n few. (few, refl, refl, refl));
       refuses = refused r c.in-Some.ensures;
     })
+
+pub write_cleaned-requires-clause-room : goal.write_cleaned-requires-clause-room
+write_cleaned-requires-clause-room g c =
+    let at : g.row.P.Denot → Point = λ p. point_of g.P.Coordinate.IntNumber.value (g.P.ContourPoint.point p) in
+    let fit = c.in_default.ensures in
+    room_for_polygons at c.args.points.now c.args.contours.now c.args.shapes.now fit.0.contours_parted fit.0.shapes_parted (length c.args.out_points.now) (length c.args.out_contours.now) (length c.args.out_shapes.now) fit.1
 
 pub returns-in-Ok : goal.returns-in-Ok
 returns-in-Ok g c =

@@ -6,7 +6,7 @@ use Rattle.i_shape_c.specs.Batch.{AreSpared}
 use Rattle.i_shape_c.specs.Cleaned.{TakesNoMemory}
 use Rattle.i_shape_core.proofs.lists.Rings.{rises_to}
 use Rattle.i_shape_c.proofs.Batches.{safe_rings, have_room, on_err}
-use Rattle.i_shape_c.proofs.PolygonsLeft.{rings, rings_parted, rings_safe, rings_clean, left_written}
+use Rattle.i_shape_c.proofs.PolygonsLeft.{rings, rings_ends, count_rings, rings_parted, rings_safe, rings_clean, left_written}
 use Rattle.i_shape_c.proofs.polygons.write_cleaned.Goals as goal
 
 pub part-rings-requires-clause-order : goal.part-rings-requires-clause-order
@@ -23,6 +23,18 @@ make_room-requires-clause-parted g c =
     let at : g.row.P.Denot → Point = λ p. point_of g.P.Coordinate.IntNumber.value (g.P.ContourPoint.point p) in
     rw (c.part-rings.ensures.part)
     (rings_parted at c.args.points.now c.args.contours.now c.args.shapes.now c.requires.parted.contours_parted c.requires.parted.shapes_parted)
+
+pub write_polygons-requires-clause-points_room : goal.write_polygons-requires-clause-points_room
+write_polygons-requires-clause-points_room g c =
+    let at : g.row.P.Denot → Point = λ p. point_of g.P.Coordinate.IntNumber.value (g.P.ContourPoint.point p) in
+    let ends = rings_ends at c.args.points.now c.args.contours.now c.args.shapes.now c.requires.parted.contours_parted c.requires.parted.shapes_parted in
+    rw (c.part-rings.ensures.part) (omega (arith, ends.0, ends.1, c.requires.room.points_room))
+
+pub write_polygons-requires-clause-contours_room : goal.write_polygons-requires-clause-contours_room
+write_polygons-requires-clause-contours_room g c =
+    let at : g.row.P.Denot → Point = λ p. point_of g.P.Coordinate.IntNumber.value (g.P.ContourPoint.point p) in
+    let count = count_rings at c.args.points.now c.args.contours.now c.args.shapes.now c.requires.parted.contours_parted c.requires.parted.shapes_parted in
+    rw (c.part-rings.ensures.part) (omega (arith, count, c.requires.room.contours_room))
 
 pub write_polygons-requires-clause-parted : goal.write_polygons-requires-clause-parted
 write_polygons-requires-clause-parted g c =

@@ -64,7 +64,7 @@ append_polygon-counts-requires-clause-points_room g c =
     let up = rises_in rings shapes c.loop-place.place c.requires.shapes_order (omega arith) c.loop-place-test.true c.requires.shapes_last in
     let ends = ends_in rings shapes c.loop-place.place c.requires.shapes_order (omega arith) c.loop-place-test.true c.requires.shapes_last in
     let last = rises_to rings (length rings) (offset shapes c.loop-place.place - offset shapes 0) (length rings - 1) c.requires.parted.order (omega (arith, up.0, up.1, up.2)) (omega (arith, c.requires.parted.some)) in
-    rw (c.part-polygon.ensures.part, ends.0, ends.1) (omega (arith, c.loop-place.invariant.fewer_points, last, c.requires.parted.last, c.requires.points_room, c.loop-place.invariant.begun.appended.rings.points_len))
+    rw (c.part-polygon.ensures.part, ends.0, ends.1) (omega (arith, c.loop-place.invariant.fewer_points, last, c.requires.points_room, c.loop-place.invariant.begun.appended.rings.points_len))
 
 pub append_polygon-counts-requires-clause-contours_room : goal.append_polygon-counts-requires-clause-contours_room
 append_polygon-counts-requires-clause-contours_room g c =

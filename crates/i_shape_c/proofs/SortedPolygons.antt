@@ -1,0 +1,170 @@
+-- The form of polygons: the cleaned polygons, sorted, with the holes of each sorted.
+use Rattle.std.proofs.Common.{◌≡◌, ℕ, ℤ, zero, suc, ◌+◌, ◌-◌, ◌≤◌, ◌<◌, ◌++◌, List, [], ◌∷◌, length, take, drop, map, Option, Some, None, IsPermutation, IsSorted, refl, sym, ap, ap₂, ◌∙◌, subst, subst₂, arith}
+use Rattle.std.specs.Cmp.{IsTotalOrder}
+use Rattle.std.specs.Cmp.Lexicographic.{slice_cmp}
+use Rattle.std.specs.Ordering.{MatchOrdering, int_cmp}
+use Rattle.std.specs.declared.cmp.Ordering.{Ordering}
+use Rattle.std.specs.List.{AllZip, AllPairs, range_with_len, sum_by, filter_map}
+use Rattle.std.proofs.lemmas.Cmp.{on_total, lists_total}
+use Rattle.std.proofs.lemmas.List.{take-map, drop-map, length-map}
+use Rattle.std.proofs.lemmas.List.Sorted.{IsPermutation-map, sum_by-IsPermutation}
+use Rattle.std.proofs.lemmas.List.Sums.{sum_by-cons, sum_by-take-drop}
+use Rattle.std.proofs.lemmas.Simd.{map-map}
+use Rattle.i_shape_core.proofs.forms.ContourOrder.{point_cmp, points_told, Tells, IsContourBefore, contours_told, contour_told}
+use Rattle.i_shape.specs.Point.{Point}
+use Rattle.i_shape.specs.IntPoint.{point_of}
+use Rattle.i_shape.specs.IntPoints.{IntPoint}
+use Rattle.i_shape.specs.Paths.{concatenated}
+use Rattle.i_shape.specs.Canonical.{IsBefore, IsAtMost}
+use Rattle.i_shape.specs.CanonicalShapes.{ShapeForm, ListForm, IsShapeAtMost}
+use Rattle.i_shape.specs.ShapeAnswers.{Survivors, ShapeClean, ListClean}
+use Rattle.i_shape.proofs.lists.Fewer.{sum_by-one, sum_by-length, sum_by-concatenated}
+use Rattle.i_shape.proofs.shapes.SortedOrders.{shape_told, sorted_pairs}
+use Rattle.i_shape_c.specs.Batch.{nth_contour}
+use Rattle.i_shape_c.specs.Polygons.{parts, polygons}
+use Rattle.i_shape_c.specs.Sorted.{SortsRest, SortsEachRest, SortsPolygons}
+use Rattle.i_shape_c.proofs.PolygonLists.{concatenated-map, parts-map}
+use Rattle.i_shape_c.proofs.PolygonsLeft.{read_counts}
+
+-- where each answer is made into another, what is left is too
+survivors_made : {X Y Z : Type 0} (A : X → Option Y → Type 0) (B : X → Option Z → Type 0) (R : Y → Z → Type 0) → ((x : X) → A x None → B x None) → ((x : X) (y : Y) (z : Z) → A x (Some y) → R y z → B x (Some z))
+    → (xs : List X) (ys : List Y) (zs : List Z) → Survivors A xs ys → AllZip R ys zs → Survivors B xs zs
+survivors_made {X} {Y} {Z} A B R none some xs ys zs (answers, zipped, are) made = go xs answers zs zipped (subst (λ w. AllZip R w zs) are made)
+  where
+    go : (xs : List X) (answers : List (Option Y)) (zs : List Z) → AllZip A xs answers → AllZip R (filter_map (λ answer. answer) answers) zs → Survivors B xs zs
+    go [] [] [] h k = ([], tt, refl)
+    go [] [] (z ∷ zs) h k = absurd k
+    go [] (a ∷ answers) zs h k = absurd h
+    go (x ∷ xs) [] zs h k = absurd h
+    go (x ∷ xs) (None ∷ answers) zs h k = let rest = go xs answers zs h.1 k in (None ∷ rest.0, (none x h.0, rest.1), rest.2)
+    go (x ∷ xs) (Some y ∷ answers) [] h k = absurd k
+    go (x ∷ xs) (Some y ∷ answers) (z ∷ zs) h k = let rest = go xs answers zs h.1 k.1 in (Some z ∷ rest.0, (some x y z h.0 k.0, rest.1), ap (λ l. z ∷ l) rest.2)
+
+module _ (Form : List Point → Option (List Point) → Type 0) where
+  form_none : (s : List (List Point)) → ShapeClean Form s None → ShapeForm Form s None
+  form_none [] clean = clean
+  form_none (c ∷ s) clean = clean
+
+  -- a cleaned polygon whose holes are sorted is the form of the polygon
+  form_some : (s k l : List (List Point)) → ShapeClean Form s (Some k) → SortsRest (AllPairs IsAtMost) k l → ShapeForm Form s (Some l)
+  form_some [] [] [] clean sorts = refl
+  form_some [] [] (y ∷ l) clean sorts = let first = sorts.first in absurd cc
+  form_some [] (x ∷ k) l clean sorts = absurd cc
+  form_some (c ∷ s) [] l clean sorts = absurd clean
+  form_some (c ∷ s) (x ∷ k) [] clean sorts = let first = sorts.first in absurd cc
+  form_some (c ∷ s) (x ∷ k) (y ∷ l) clean sorts =
+      let first = sorts.first in
+      let same : x ≡ y = cc in
+      (subst (λ w. Form c (Some w)) same clean.0, (k, clean.1, sorts.same, sorts.sorted))
+
+  -- cleaned polygons that are sorted are the form of the polygons
+  pub form_of_cleaned : (given cleaned sorted : List (List (List Point))) → ListClean Form given cleaned → SortsPolygons cleaned sorted → ListForm Form given sorted
+  form_of_cleaned given cleaned sorted clean sorts =
+      (sorts.holes, survivors_made (ShapeClean Form) (ShapeForm Form) (SortsRest (AllPairs IsAtMost)) form_none form_some given cleaned sorts.holes clean sorts.holes_sorted, sorts.same, sorts.in_order)
+
+-- a sum over the members is that over the members as they are made
+zip_sums : {X Y : Type 0} (R : X → Y → Type 0) (f : X → ℕ) (g : Y → ℕ) → ((x : X) (y : Y) → R x y → g y ≡ f x) → (xs : List X) (ys : List Y) → AllZip R xs ys → sum_by g ys ≡ sum_by f xs
+zip_sums R f g same [] [] h = refl
+zip_sums R f g same [] (y ∷ ys) h = absurd h
+zip_sums R f g same (x ∷ xs) [] h = absurd h
+zip_sums R f g same (x ∷ xs) (y ∷ ys) h = omega (arith, sum_by-cons f x xs, sum_by-cons g y ys, same x y h.0, zip_sums R f g same xs ys h.1)
+
+-- sorting holes changes no sum over the contours
+holes_sum : (f : List Point → ℕ) (s t : List (List Point)) → SortsRest (AllPairs IsAtMost) s t → sum_by f t ≡ sum_by f s
+holes_sum f s t sorts = omega (arith, sum_by-take-drop f t 1, sum_by-take-drop f s 1, ap (sum_by f) sorts.first, sum_by-IsPermutation f (drop 1 s) (drop 1 t) sorts.same)
+
+-- nor does sorting polygons
+polygons_sum : (f : List Point → ℕ) (s t : List (List (List Point))) → SortsPolygons s t → sum_by (sum_by f) t ≡ sum_by (sum_by f) s
+polygons_sum f s t sorts =
+    let holes = zip_sums (SortsRest (AllPairs IsAtMost)) (sum_by f) (sum_by f) (holes_sum f) s sorts.holes sorts.holes_sorted in
+    omega (arith, sum_by-IsPermutation (sum_by f) sorts.holes t sorts.same, holes)
+
+-- sorted polygons are as many, with as many contours and points
+pub sorted_counts : (s t : List (List (List Point))) → SortsPolygons s t
+    → (length t ≡ length s) × (length (concatenated t) ≡ length (concatenated s)) × (length (concatenated (concatenated t)) ≡ length (concatenated (concatenated s)))
+sorted_counts s t sorts =
+    let shapes = zip_sums (SortsRest (AllPairs IsAtMost)) (λ w. 1) (λ w. 1) (λ x y h. refl) s sorts.holes sorts.holes_sorted in
+    let contours = polygons_sum (λ w. 1) s t sorts in
+    let points = polygons_sum length s t sorts in (
+      omega (arith, shapes, sum_by-IsPermutation (λ w. 1) sorts.holes t sorts.same, sum_by-one s, sum_by-one t),
+      omega (arith, contours, sum_by-concatenated (λ c. 1) s, sum_by-concatenated (λ c. 1) t, sum_by-one (concatenated s), sum_by-one (concatenated t)),
+      omega (arith, points, sum_by-concatenated length s, sum_by-concatenated length t, sum_by-length (concatenated s), sum_by-length (concatenated t)),
+    )
+
+-- what holds at each number holds of all that is made of numbers
+zip_from : {X Y : Type 0} (R : X → Y → Type 0) (f : ℕ → X) (g : ℕ → Y) (s n : ℕ) → ((k : ℕ) → s ≤ k → k < s + n → R (f k) (g k)) → AllZip R (map f (range_with_len s n)) (map g (range_with_len s n))
+zip_from R f g s zero each = tt
+zip_from R f g s (suc n) each = (each s (omega arith) (omega arith), zip_from R f g (s + 1) n (λ k low high. each k (omega (arith, low)) (omega (arith, high))))
+
+-- points of C are in the order of the points that they represent
+pub points_in_order : {P I : Type 0} (value : I → ℤ) (point : P → IntPoint I) (coordinate_cmp : I → I → Ordering) (order : (a b : I) → coordinate_cmp a b ≡ int_cmp (value a) (value b)) (cmp : P → P → Ordering)
+    → ((p q : P) → cmp p q ≡ point_cmp value coordinate_cmp order (point p) (point q)) → Tells cmp (λ p. point_of value (point p)) IsBefore
+points_in_order value point coordinate_cmp order cmp same p q =
+    subst (λ o. MatchOrdering o (IsBefore (point_of value (point p)) (point_of value (point q))) (point_of value (point p) ≡ point_of value (point q)) (IsBefore (point_of value (point q)) (point_of value (point p)))) (sym (same p q))
+    (points_told value coordinate_cmp order (point p) (point q))
+
+map-map₂ : {X Y Z : Type 0} (f : Y → Z) (g : X → Y) (lists : List (List X)) → map (map f) (map (map g) lists) ≡ map (map (λ x. f (g x))) lists
+map-map₂ f g [] = refl
+map-map₂ f g (x ∷ xs) = ap₂ ◌∷◌ (map-map f g x) (map-map₂ f g xs)
+
+-- lists of rings, and lists of these, as the program has them
+module _ {P B D : Type 0} (ring : B → List P) (rings : D → List B) (at : P → Point) (cmp : P → P → Ordering) (told : Tells cmp at IsBefore) (total : IsTotalOrder cmp) where
+  abbrev read : B → List Point
+  read b = map at (ring b)
+
+  abbrev pub ring_cmp : B → B → Ordering
+  ring_cmp x y = slice_cmp cmp (ring x) (ring y)
+
+  abbrev pub shape_cmp : D → D → Ordering
+  shape_cmp x y = slice_cmp ring_cmp (rings x) (rings y)
+
+  ring_told : Tells ring_cmp read IsContourBefore
+  ring_told x y = contours_told cmp at told (ring x) (ring y)
+
+  ring_total : IsTotalOrder ring_cmp
+  ring_total = on_total ring (lists_total total)
+
+  rest_sorted : (old new : List B) → SortsRest (IsSorted ring_cmp) old new → SortsRest (AllPairs IsAtMost) (map read old) (map read new)
+  rest_sorted old new sorts = record {
+    first = take-map read 1 new ∙ ap (map read) sorts.first ∙ sym (take-map read 1 old);
+    same = rw (drop-map read 1 old, drop-map read 1 new) (IsPermutation-map read (drop 1 old) (drop 1 new) sorts.same);
+    sorted = rw (drop-map read 1 new) (sorted_pairs ring_cmp read IsAtMost ring_total (contour_told ring_cmp read ring_told) (drop 1 new) sorts.sorted);
+  }
+
+  -- where the rings of each polygon are sorted but the first, and then the polygons, the polygons are sorted
+  pub polygons_sorted : (old new : List B) (offsets : List ℕ) (made sorted : List D) → SortsEachRest (IsSorted ring_cmp) old new offsets (length offsets) → map rings made ≡ parts new offsets → IsPermutation made sorted → IsSorted shape_cmp sorted
+      → SortsPolygons (map (map read) (parts old offsets)) (map (λ d. map read (rings d)) sorted)
+  polygons_sorted old new offsets made sorted each are same up =
+      let f = λ (k : ℕ). map read (nth_contour old offsets k) in
+      let g = λ (k : ℕ). map read (nth_contour new offsets k) in
+      let all = range_with_len 0 (length offsets - 1) in
+      let shape = λ (d : D). map read (rings d) in
+      let is : map shape made ≡ map (map read) (parts new offsets) = sym (map-map (map read) rings made) ∙ ap (map (map read)) are in
+      let zipped : AllZip (SortsRest (AllPairs IsAtMost)) (map f all) (map g all) = zip_from (SortsRest (AllPairs IsAtMost)) f g 0 (length offsets - 1)
+      (λ k low high. rest_sorted (nth_contour old offsets k) (nth_contour new offsets k) (each k (omega (arith, high)))) in
+      record {
+        holes = map (map read) (parts new offsets);
+        holes_sorted = rw (map-map (map read) (nth_contour old offsets) all, map-map (map read) (nth_contour new offsets) all) zipped;
+        same = rw is at (IsPermutation-map shape made sorted same);
+        in_order = sorted_pairs shape_cmp shape IsShapeAtMost (on_total rings (lists_total ring_total)) (λ x y less. shape_told ring_cmp read ring_told (rings x) (rings y) less) sorted up;
+      }
+
+  -- so they are, as they are read from arrays, with as many contours and points
+  pub made_sorted : (points : List P) (contours shapes : List ℕ) (old new : List B) (made sorted : List D) → map ring old ≡ parts points contours → SortsEachRest (IsSorted ring_cmp) old new shapes (length shapes) → map rings made ≡ parts new shapes → IsPermutation made sorted
+      → IsSorted shape_cmp sorted → SortsPolygons (map (map (map at)) (polygons points contours shapes)) (map (map (map at)) (map (map ring) (map rings sorted)))
+      × (length (concatenated (map rings sorted)) ≡ length (concatenated (polygons points contours shapes)))
+      × (length (concatenated (map ring (concatenated (map rings sorted)))) ≡ length (concatenated (concatenated (polygons points contours shapes))))
+  made_sorted points contours shapes old new made sorted are each polygons_are same up =
+      let given = polygons points contours shapes in
+      let left = map (map ring) (map rings sorted) in
+      let given_read : map (map (map at)) given ≡ map (map read) (parts old shapes) = ap (λ w. map (map (map at)) (parts w shapes)) (sym are) ∙ ap (map (map (map at))) (parts-map ring old shapes) ∙ map-map₂ (map at) ring (parts old shapes) in
+      let left_read : map (map (map at)) left ≡ map (λ d. map read (rings d)) sorted = map-map₂ (map at) ring (map rings sorted) ∙ map-map (map read) rings sorted in
+      let sorts : SortsPolygons (map (map (map at)) given) (map (map (map at)) left) = subst₂ SortsPolygons (sym given_read) (sym left_read) (polygons_sorted old new shapes made sorted each polygons_are same up) in
+      let counts = sorted_counts (map (map (map at)) given) (map (map (map at)) left) sorts in
+      let given_counts = read_counts at given in
+      let left_counts = read_counts at left in
+      let flat : concatenated left ≡ map ring (concatenated (map rings sorted)) = concatenated-map ring (map rings sorted) in (
+        sorts,
+        omega (arith, counts.1, given_counts.1, left_counts.1, ap length flat, length-map (concatenated (map rings sorted)) ring),
+        omega (arith, counts.2, given_counts.2, left_counts.2, ap (λ w. length (concatenated w)) flat),
+      )

@@ -1,0 +1,35 @@
+-- How polygons are sorted, and then written. Private functions alone speak of it.
+use Rattle.std.specs.Prelude.{◌≡◌, ℕ, ◌+◌, ◌<◌, List, map, take, drop, IsPermutation}
+use Rattle.std.specs.List.{AllZip, AllPairs}
+use Rattle.i_shape.specs.Point.{Point}
+use Rattle.i_shape.specs.Paths.{concatenated}
+use Rattle.i_shape.specs.Canonical.{IsAtMost}
+use Rattle.i_shape.specs.CanonicalShapes.{IsShapeAtMost}
+use Rattle.i_shape_c.specs.Appended.{IsPut}
+use Rattle.i_shape_c.specs.Batch.{nth_contour}
+use Rattle.i_shape_c.specs.Polygons.{offsets_of}
+
+-- the first item stays, and the others are sorted
+pub record SortsRest {X : Type 0} (Sorted : List X → Type 0) (old new : List X) : Type 0 where
+  pub first : take 1 new ≡ take 1 old
+  pub same : IsPermutation (drop 1 old) (drop 1 new)
+  pub sorted : Sorted (drop 1 new)
+
+-- so are the items of each part between the first n offsets
+abbrev pub SortsEachRest : {X : Type 0} → (List X → Type 0) → List X → List X → List ℕ → ℕ → Type 0
+SortsEachRest Sorted old new offsets n = (k : ℕ) → k + 1 < n → SortsRest Sorted (nth_contour old offsets k) (nth_contour new offsets k)
+
+-- the holes of each polygon are sorted, and then the polygons
+pub record SortsPolygons (given sorted : List (List (List Point))) : Type 0 where
+  pub holes : List (List (List Point))
+  pub holes_sorted : AllZip (SortsRest (AllPairs IsAtMost)) given holes
+  pub same : IsPermutation holes sorted
+  pub in_order : AllPairs IsShapeAtMost sorted
+
+-- the three arrays hold the sorted polygons from the start on
+pub record WritesSorted {P : Type 0} (point : P → Point) (given : List (List (List P))) (old_points new_points : List P) (old_contours new_contours old_shapes new_shapes : List ℕ) : Type 0 where
+  pub list : List (List (List P))
+  pub sorted : SortsPolygons (map (map (map point)) given) (map (map (map point)) list)
+  pub points_are : IsPut 0 (concatenated (concatenated list)) old_points new_points
+  pub contours_are : IsPut 0 (offsets_of 0 (concatenated list)) old_contours new_contours
+  pub shapes_are : IsPut 0 (offsets_of 0 list) old_shapes new_shapes
