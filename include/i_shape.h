@@ -129,7 +129,7 @@ ptrdiff_t i_shape_canonical_unoriented_contours_i32(const i_shape_point_i32 *poi
  * and their points at out_contours[out_shapes[n]]. I_SHAPE_BAD_OFFSETS and I_SHAPE_NO_ROOM as above, and where the same
  * is wrong of shapes[] over the contours, or of its room. I_SHAPE_UNSAFE: contours that no polygon has are tested too.
  * Behind the result nothing is written, nor after a code. The first two take no memory where each contour of a polygon
- * is clean or has fewer than three points (despike: four). */
+ * is clean or has fewer than three points (despike: four), and the others where no polygon has a contour. */
 
 /* Without zero turns. */
 ptrdiff_t i_shape_simplify_shapes_i32(const i_shape_point_i32 *points, size_t count, const size_t *contours, size_t contour_offset_count, const size_t *shapes, size_t shape_offset_count, i_shape_point_i32 *out_points, size_t room, size_t *out_contours, size_t contour_room, size_t *out_shapes, size_t shape_room);

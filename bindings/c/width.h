@@ -150,7 +150,7 @@ static void AT(test_shapes)(void) {
 }
 
 static void AT(test_shapes_codes)(void) {
-    const size_t contours[3] = {0, 3, 6}, outside[2] = {0, 7}, shapes[2] = {0, 2}, backwards[3] = {0, 2, 1}, beyond[2] = {0, 3}, none[1] = {1};
+    const size_t contours[3] = {0, 3, 6}, outside[2] = {0, 7}, shapes[2] = {0, 2}, backwards[3] = {0, 2, 1}, beyond[2] = {0, 3}, none[1] = {1}, hollow[3] = {1, 1, 1};
     for (int k = 0; k < CLEANERS; k++) {
         POINT given[6] = {{0, 0}, {2, 0}, {0, 4}, {0, 0}, {4, 0}, {0, 4}}, out[6];
         size_t out_contours[3], out_shapes[3];
@@ -173,11 +173,12 @@ static void AT(test_shapes_codes)(void) {
         check(CLEAN(contours, 3, shapes, 2, 6, 3, 3) == I_SHAPE_UNSAFE, W, name, "polygons with a point that isn't safe");
         check(IS_UNTOUCHED, W, name, "codes leave the arrays of polygons as they were");
         given[5].y = 4;
-        /* Two clean contours of a polygon: for a canonical form three lists with all points, contours and polygons end to end, four of
-           the library's points, and four of what is left. */
-        WITH_EACH_GROWTH_REFUSED(CLEAN(contours, 3, shapes, 2, 6, 3, 3), IS_UNTOUCHED, growths == (is_form(k) ? 11 : 0), W, name);
-        /* Of no polygon no memory is taken. */
+        /* Two clean contours of a polygon: for a canonical form the points and offsets of what is left, two lists of its contours and one
+           of its polygons. */
+        WITH_EACH_GROWTH_REFUSED(CLEAN(contours, 3, shapes, 2, 6, 3, 3), IS_UNTOUCHED, growths == (is_form(k) ? 6 : 0), W, name);
+        /* Of no polygon, and of polygons without a contour, no memory is taken. */
         WITH_EACH_GROWTH_REFUSED(CLEAN(contours, 3, none, 1, 6, 3, 3), 1, growths == 0, W, name);
+        WITH_EACH_GROWTH_REFUSED(CLEAN(contours, 3, hollow, 3, 6, 3, 3), 1, growths == 0, W, name);
 #undef IS_UNTOUCHED
 #undef CLEAN
     }
@@ -467,11 +468,11 @@ static void AT(test_refusals)(void) {
 
 #ifdef REFUSES
 /* How many bytes the calls ask for: one place for each point of the longest contour of which a point is removed. A canonical form of
-   polygons has lists of all points and some for each contour. */
+   polygons has their points and offsets too, and for each contour two places and a length, and one of each for a polygon. */
 static void AT(test_sizes)(void) {
     enum { SQUARES = 64, CORNERS = 5, COUNT = SQUARES * CORNERS };
-    const size_t places = CORNERS * sizeof(size_t), range = 2 * sizeof(size_t), all[2] = {0, SQUARES};
-    const size_t lists = COUNT * sizeof(POINT) + SQUARES * range + range;
+    const size_t places = CORNERS * sizeof(size_t), all[2] = {0, SQUARES};
+    const size_t lists = COUNT * sizeof(POINT) + 5 * (SQUARES + 1) * sizeof(size_t);
     const POINT square[CORNERS] = {{0, 0}, {4, 0}, {4, 0}, {4, 4}, {0, 4}};
     POINT given[COUNT], out[COUNT];
     size_t offsets[SQUARES + 1] = {0}, out_offsets[SQUARES + 1], out_shapes[2];
@@ -489,8 +490,7 @@ static void AT(test_sizes)(void) {
         check(AT(polygons)[k](given, COUNT, offsets, SQUARES + 1, all, 2, out, COUNT, out_offsets, SQUARES + 1, out_shapes, 2) == 1, W,
               cleaner_names[k], "64 squares of one polygon");
         /* Of simplify, the first, and of despike, which cleans nothing, since no square has a spike. */
-        const size_t most = is_form(k) ? 4 * lists : k == 0 ? places : 0;
-        check(is_form(k) ? asked <= most : asked == most, W, cleaner_names[k], "how much it asks for of polygons");
+        check(asked == (is_form(k) ? lists + places : k == 0 ? places : 0), W, cleaner_names[k], "how much it asks for of polygons");
     }
     /* The square wound 300,000 times, in one contour: each time a point goes. */
     enum { TURNS = 300000, MANY = TURNS * CORNERS };
@@ -521,12 +521,12 @@ static void AT(test_named)(void) {
     memcpy(given + contours[0], square, sizeof square);
     size_t out_contours[2], out_shapes[2];
 #ifdef REFUSES
-    const size_t places = CORNERS * sizeof(size_t), lists = CORNERS * sizeof(POINT) + places;
+    const size_t places = CORNERS * sizeof(size_t), lists = CORNERS * sizeof(POINT) + 10 * sizeof(size_t);
     for (int k = 0; k < CLEANERS; k++) {
         growths = asked = 0;
         check(AT(polygons)[k](given, COUNT, contours, 2, shapes, 2, out, COUNT, out_contours, 2, out_shapes, 2) == 1, W, cleaner_names[k], "five of 2^20 points");
-        check(growths == (is_form(k) ? 10 : k == 0), W, cleaner_names[k], "how often it takes memory for five of 2^20 points");
-        check(asked <= (is_form(k) ? 4 * lists : k == 0 ? places : 0), W, cleaner_names[k], "how much it asks for of five of 2^20 points");
+        check(growths == (is_form(k) ? 7 : k == 0), W, cleaner_names[k], "how often it takes memory for five of 2^20 points");
+        check(asked == (is_form(k) ? lists + places : k == 0 ? places : 0), W, cleaner_names[k], "how much it asks for of five of 2^20 points");
     }
 #endif
     if (mprotect(memory, from, PROT_NONE) != 0 || mprotect(memory + from + page, size - from - page, PROT_NONE) != 0) abort();

@@ -1,5 +1,5 @@
 -- Cleaned polygons read back from arrays, and their form as it is written.
-use Rattle.std.proofs.Common.{◌≡◌, ℕ, zero, suc, ◌+◌, ◌-◌, ◌≤◌, ◌<◌, ◌++◌, List, [], ◌∷◌, length, take, drop, get_or, map, slice_range, append-nil, append_assoc, length-append, refl, sym, ap, ap₂, subst, ◌∙◌, arith, Option, Some}
+use Rattle.std.proofs.Common.{◌≡◌, ℕ, zero, suc, ◌+◌, ◌-◌, ◌≤◌, ◌<◌, ◌++◌, List, [], ◌∷◌, length, take, drop, get_or, map, slice_range, append-nil, append_assoc, length-append, refl, sym, ap, ap₂, subst, ◌∙◌, arith, Option, Some, Result, Ok, Err, IfOk, OnErr}
 use Rattle.std.specs.List.{All, AllZip, AllPairs, range_with_len}
 use Rattle.std.proofs.lemmas.List.{length-map, map-append, take_at, drop_at, take-append-drop}
 use Rattle.std.proofs.lemmas.List.Elements.{All-nil, All-head, All-tail}
@@ -95,6 +95,9 @@ module _ {P : Type 0} (Form : List Point → Option (List Point) → Type 0) (at
   pub ring_offsets : slice_range new_contours 0 (length rings + 1) ≡ offsets_of 0 rings
   ring_offsets = front_part (offsets_of 0 rings) new_contours (drop (length rings + 1) old_contours) (length rings + 1) left.contours_are (length-offsets 0 rings)
 
+  pub all_contours : length rings + 1 ≤ length new_contours
+  all_contours = omega (arith, ap length left.contours_are, length-append (offsets_of 0 rings) (drop (length rings + 1) old_contours), length-offsets 0 rings)
+
   pub all_points : length (concatenated rings) ≤ length new_points
   all_points =
       let m = length (concatenated rings) in
@@ -163,6 +166,15 @@ module _ {P : Type 0} (Form : List Point → Option (List Point) → Type 0) (at
         same = IsPermutation-refl left.list;
         in_order = λ i j d low high. subst (λ w. IsShapeAtMost w (get_or left.list j d)) (sym (own i d (omega (arith, low, high)))) tt;
       }
+
+-- what holds of a result holds as what follows from it, and so of an error
+pub if_ok : {A E : Type 0} {P Q : A → Type 0} (r : Result A E) → ((a : A) → P a → Q a) → IfOk r P → IfOk r Q
+if_ok (Ok a) f h = f a h
+if_ok (Err e) f h = h
+
+pub if_err : {A E : Type 0} {P Q : Type 0} (r : Result A E) → (P → Q) → OnErr r P → OnErr r Q
+if_err (Ok a) f h = h
+if_err (Err e) f h = f h
 
 -- polygons without a contour take no memory
 pub none_spared : (Passes : List Point → Type 0) (list : List (List (List Point))) → AreNone list → EachShape Passes list
