@@ -145,6 +145,18 @@ pub fn cleaned_shape<I: IntNumber>(
     Ok([simple, shape.despiked_shape(alloc)?])
 }
 
+/// Returns a list without zero turns, and without spikes. Both are empty where a point isn't safe.
+pub fn cleaned_list<I: IntNumber>(
+    alloc: Global,
+    shapes: &IntShapes<I>,
+) -> Result<[IntShapes<I>; 2], ShapeError> {
+    if !shapes.is_in_safe_range() {
+        return Ok([Vec::new(alloc), Vec::new(alloc)]);
+    }
+    let simple = shapes.as_slice().simplified(alloc)?;
+    Ok([simple, shapes.despiked_shapes(alloc)?])
+}
+
 /// Returns how many vertices each cleaner visits, or `None` where a point isn't safe.
 pub fn visits<I: IntNumber>(
     alloc: Global,
