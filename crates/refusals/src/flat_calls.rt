@@ -3,7 +3,7 @@
 use crate::flat_buffers::{
     contours, shapes, spot_contours, spot_shapes, test_contours, test_shapes,
 };
-use crate::given::{BOTH, MARK, SPIKED, SPIKED_AND_TRIANGLE, SQUARE, TRIANGLE, shape};
+use crate::given::{MARK, SPIKED, SQUARE, TRIANGLE, shape};
 use crate::spots::{self, PAIR, Repeated, Spot, TRIPLE};
 use crate::told::{begun, call, ended, on};
 use i_shape::flat::buffer::{FlatContoursBuffer, FlatShapesBuffer};
@@ -21,8 +21,8 @@ fn new(rt: HostRuntime) {
 #[test]
 fn cloned(rt: HostRuntime) {
     let alloc = rt.alloc();
-    on!(rt, contours(alloc, &BOTH, &[0..4, 4..7]), "FlatContoursBuffer::clone", it => it.clone());
-    on!(rt, shapes(alloc, &BOTH, &[0..4, 4..7]), "FlatShapesBuffer::clone", it => it.clone());
+    on!(rt, contours(alloc, &SQUARE, &[0..4, 0..3]), "FlatContoursBuffer::clone", it => it.clone());
+    on!(rt, shapes(alloc, &SQUARE, &[0..4, 0..3]), "FlatShapesBuffer::clone", it => it.clone());
     on!(rt, spot_contours(alloc, &spots::BOTH, &[0..2, 2..5]), "FloatFlatContoursBuffer::clone", it => it.clone());
     on!(rt, spot_shapes(alloc, &spots::BOTH, &[0..2, 2..5]), "FloatFlatShapesBuffer::clone", it => it.clone());
 }
@@ -103,11 +103,11 @@ fn set_flat_and_with_resources(rt: HostRuntime) {
 #[test]
 fn read(rt: HostRuntime) {
     let alloc = rt.alloc();
-    on!(rt, contours(alloc, &BOTH, &[0..4, 4..7]), "FlatContoursBuffer::to_contours", it => {
+    on!(rt, contours(alloc, &SQUARE, &[0..4, 0..3]), "FlatContoursBuffer::to_contours", it => {
         assert!(rt; it.can_read_contours());
         it.to_contours()
     });
-    if let Ok(it) = shapes(alloc, &BOTH, &[0..4, 4..7]) {
+    if let Ok(it) = shapes(alloc, &SQUARE, &[0..4, 0..3]) {
         assert!(rt; it.can_read_contours() && it.can_read_shapes());
         call!(rt, "FlatShapesBuffer::to_contours" => it.to_contours());
         call!(rt, "FlatShapesBuffer::to_shapes" => it.to_shapes());
@@ -140,22 +140,22 @@ macro_rules! cleans {
 
 #[test]
 fn contours_cleaned(rt: HostRuntime) {
-    cleans!(rt, contours(&SPIKED_AND_TRIANGLE, &[0..6, 6..9]) after test_contours, "FlatContoursBuffer::simplify_contours" => simplify_contours);
+    cleans!(rt, contours(&SPIKED, &[0..6, 3..6]) after test_contours, "FlatContoursBuffer::simplify_contours" => simplify_contours);
     cleans!(rt, contours(&SPIKED, &[0..6, 0..6]) after test_contours, "FlatContoursBuffer::simplify_contours of two that aren't clean" => simplify_contours);
-    cleans!(rt, contours(&BOTH, &[0..4, 4..7]) after test_contours, "FlatContoursBuffer::simplify_contours of a clean value" => simplify_contours);
+    cleans!(rt, contours(&SQUARE, &[0..4, 0..3]) after test_contours, "FlatContoursBuffer::simplify_contours of a clean value" => simplify_contours);
 }
 
 #[test]
 fn contours_despiked(rt: HostRuntime) {
-    cleans!(rt, contours(&SPIKED_AND_TRIANGLE, &[0..6, 6..9]) after test_contours, "FlatContoursBuffer::remove_spikes" => remove_spikes);
+    cleans!(rt, contours(&SPIKED, &[0..6, 3..6]) after test_contours, "FlatContoursBuffer::remove_spikes" => remove_spikes);
     cleans!(rt, contours(&SPIKED, &[0..6, 0..6]) after test_contours, "FlatContoursBuffer::remove_spikes of two that have some" => remove_spikes);
-    cleans!(rt, contours(&BOTH, &[0..4, 4..7]) after test_contours, "FlatContoursBuffer::remove_spikes of a clean value" => remove_spikes);
+    cleans!(rt, contours(&SQUARE, &[0..4, 0..3]) after test_contours, "FlatContoursBuffer::remove_spikes of a clean value" => remove_spikes);
 }
 
 #[test]
 fn shapes_cleaned(rt: HostRuntime) {
-    cleans!(rt, shapes(&SPIKED_AND_TRIANGLE, &[0..6, 6..9]) after test_shapes, "FlatShapesBuffer::simplify_shapes" => simplify_shapes);
-    cleans!(rt, shapes(&BOTH, &[0..4, 4..7]) after test_shapes, "FlatShapesBuffer::simplify_shapes of a clean value" => simplify_shapes);
-    cleans!(rt, shapes(&SPIKED_AND_TRIANGLE, &[0..6, 6..9]) after test_shapes, "FlatShapesBuffer::remove_spikes" => remove_spikes);
-    cleans!(rt, shapes(&BOTH, &[0..4, 4..7]) after test_shapes, "FlatShapesBuffer::remove_spikes of a clean value" => remove_spikes);
+    cleans!(rt, shapes(&SPIKED, &[0..6, 3..6]) after test_shapes, "FlatShapesBuffer::simplify_shapes" => simplify_shapes);
+    cleans!(rt, shapes(&SQUARE, &[0..4, 0..3]) after test_shapes, "FlatShapesBuffer::simplify_shapes of a clean value" => simplify_shapes);
+    cleans!(rt, shapes(&SPIKED, &[0..6, 3..6]) after test_shapes, "FlatShapesBuffer::remove_spikes" => remove_spikes);
+    cleans!(rt, shapes(&SQUARE, &[0..4, 0..3]) after test_shapes, "FlatShapesBuffer::remove_spikes of a clean value" => remove_spikes);
 }

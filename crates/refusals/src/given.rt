@@ -1,12 +1,13 @@
 //! What the calls under test are given.
 
-ghost use Rattle.std.specs.Prelude.{◌↔◌, IsTrue, IfOk};
+ghost use Rattle.std.specs.Prelude.{IfOk};
 ghost use Rattle.std.specs.List.{All};
-ghost use Rattle.i_shape.specs.IntPoint.{point_of, contour_of, IsSafe};
+ghost use Rattle.i_shape.specs.IntPoint.{contour_of, IsSafe};
 ghost use Rattle.i_shape.specs.ShapeLists.{shape_of, shapes_of, IsSafeShape, IsSafeList};
 
 use i_shape::IntNumber;
 use i_shape::int::IntPoint;
+use i_shape::int::safe_range::IntSafeRange;
 use i_shape::int::shape::{IntContour, IntShape, IntShapes};
 use std::alloc::{AllocError, Global};
 use std::process::Abort;
@@ -31,48 +32,17 @@ pub const FLAT: [IntPoint<i32>; 3] = points![[0, 0], [2, 0], [1, 0]];
 /// A triangle.
 pub const TRIANGLE: [IntPoint<i32>; 3] = points![[0, 0], [1, 0], [0, 1]];
 
-/// That square and a triangle, end to end.
-pub const BOTH: [IntPoint<i32>; 7] = points![
-    [0, 0],
-    [2, 0],
-    [2, 2],
-    [0, 2],
-    [0, 0],
-    [1, 0],
-    [0, 1]
-];
-
-/// The square with the spike and a triangle, end to end.
-pub const SPIKED_AND_TRIANGLE: [IntPoint<i32>; 9] = points![
-    [0, 0],
-    [2, 0],
-    [4, 0],
-    [2, 0],
-    [2, 2],
-    [0, 2],
-    [0, 0],
-    [1, 0],
-    [0, 1]
-];
-
 /// A contour with a spike, and a canonical form that starts elsewhere.
 pub const TURNED: [IntPoint<i32>; 5] = points![[6, 0], [0, 0], [2, 0], [1, 0], [1, 5]];
 
 /// What a buffer holds before a call.
 pub const MARK: [IntPoint<i32>; 1] = points![[9, 9]];
 
-/// Whether all points are safe.
-pub fn are_safe<I: IntNumber>(points: &[IntPoint<I>]) -> bool
-    ensures { IsTrue result ↔ All (λ p. IsSafe I.width (point_of I.value p)) points.now }
-{
-    points.iter().all(|point| point.is_in_safe_range())
-}
-
 /// These points. The test stops where one isn't safe.
 pub fn safe<'a, I: IntNumber>(rt: &impl Abort, points: &'a [IntPoint<I>]) -> &'a [IntPoint<I>]
     ensures { All (IsSafe I.width) (contour_of I.value result.now) }
 {
-    assert!(rt; are_safe(points), "a point isn't in safe range");
+    assert!(rt; points.is_in_safe_range(), "a point isn't safe");
     points
 }
 
@@ -97,8 +67,9 @@ pub fn shape<I: IntNumber>(
 {
     let mut shape = Vec::new(alloc);
     for points in contours {
-        shape.push(contour(rt, alloc, *points)?)?;
+        shape.push(Vec::from_slice(alloc, *points)?)?;
     }
+    assert!(rt; shape.is_in_safe_range(), "a point isn't safe");
     Ok(shape)
 }
 

@@ -1,7 +1,7 @@
 //! Tests and measures, which take no memory, but for winding numbers by height.
 
 use crate::flat_buffers::{contours, shapes, spot_contours, spot_shapes};
-use crate::given::{BOTH, SQUARE, TRIANGLE, one_shape, safe, shape};
+use crate::given::{SQUARE, TRIANGLE, one_shape, safe, shape};
 use crate::spots;
 use crate::told::{begun, call, ended, on};
 use i_shape::int::IntPoint;
@@ -96,7 +96,7 @@ fn measures_of_shapes(rt: HostRuntime) {
 
 #[test]
 fn tests_of_buffers_of_contours(rt: HostRuntime) {
-    if let Ok(mut it) = contours(rt.alloc(), &BOTH, &[0..4, 4..7]) {
+    if let Ok(mut it) = contours(rt.alloc(), &SQUARE, &[0..4, 0..3]) {
         call!(rt, "FlatContoursBuffer::is_empty" => Ok(it.is_empty()));
         call!(rt, "FlatContoursBuffer::is_single_contour" => Ok(it.is_single_contour()));
         call!(rt, "FlatContoursBuffer::can_read_contours" => Ok(it.can_read_contours()));
@@ -112,7 +112,7 @@ fn tests_of_buffers_of_contours(rt: HostRuntime) {
 
 #[test]
 fn tests_of_buffers_of_shapes(rt: HostRuntime) {
-    if let Ok(it) = shapes(rt.alloc(), &BOTH, &[0..4, 4..7]) {
+    if let Ok(it) = shapes(rt.alloc(), &SQUARE, &[0..4, 0..3]) {
         call!(rt, "FlatShapesBuffer::is_empty" => Ok(it.is_empty()));
         call!(rt, "FlatShapesBuffer::can_read_contours" => Ok(it.can_read_contours()));
         call!(rt, "FlatShapesBuffer::can_read_shapes" => Ok(it.can_read_shapes()));

@@ -1,7 +1,7 @@
 //! Calls of numbers, points, probes, new values and walks over paths, which take no memory.
 
 use crate::flat_buffers::{contours, shapes, spot_contours, spot_shapes};
-use crate::given::{BOTH, FLAT, MARK, SQUARE, TRIANGLE, one_shape, safe};
+use crate::given::{FLAT, MARK, SQUARE, TRIANGLE, one_shape, safe};
 use crate::spots::{self, PAIR, Spot, TRIPLE};
 use crate::told::{begun, call, ended};
 use i_shape::IntNumber;
@@ -96,8 +96,8 @@ fn paths_of_lists(rt: HostRuntime) {
 fn paths_of_buffers(rt: HostRuntime) {
     let alloc = rt.alloc();
     let (Ok(one), Ok(other)) = (
-        contours(alloc, &BOTH, &[0..4, 4..7]),
-        shapes(alloc, &BOTH, &[0..4, 4..7]),
+        contours(alloc, &SQUARE, &[0..4, 0..3]),
+        shapes(alloc, &SQUARE, &[0..4, 0..3]),
     ) else {
         return;
     };

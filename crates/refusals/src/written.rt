@@ -4,7 +4,7 @@ ghost use Rattle.std.specs.Prelude.{◌≤◌, length};
 ghost use Rattle.std.specs.List.{All};
 ghost use Rattle.i_shape.specs.IntPoint.{contour_of, IsSafe};
 
-use crate::given::{FLAT, SPIKED, SPIKED_AND_TRIANGLE, SQUARE, TURNED, safe};
+use crate::given::{FLAT, SPIKED, SQUARE, TURNED, safe};
 use crate::told::{begun, call, ended};
 use i_shape::IntNumber;
 use i_shape::int::IntPoint;
@@ -12,20 +12,20 @@ use i_shape::int::despike::ContourDeSpiker;
 use i_shape::int::simple::ContourSimplifier;
 use std::process::Abort;
 
-/// These points. The test stops where one isn't safe, and where they are more than nine.
+/// These points. The test stops where one isn't safe, and where they are more than six.
 fn few<'a, I: IntNumber>(rt: &impl Abort, points: &'a [IntPoint<I>]) -> &'a [IntPoint<I>]
     ensures points_safe { All (IsSafe I.width) (contour_of I.value result.now) }
-    ensures room { length result.now ≤ 9 }
+    ensures room { length result.now ≤ 6 }
 {
     let kept = safe(rt, points);
-    assert!(rt; kept.len() <= 9, "more than nine points");
+    assert!(rt; kept.len() <= 6, "more than six points");
     kept
 }
 
 #[test]
 fn by_a_new_cleaner(rt: HostRuntime) {
     let alloc = rt.alloc();
-    let mut out = SPIKED_AND_TRIANGLE;
+    let mut out = SPIKED;
     let (spiked, turned) = (few(&rt, SPIKED.as_slice()), few(&rt, TURNED.as_slice()));
     call!(rt, "ContourSimplifier::simplify_into" => ContourSimplifier::new(alloc).simplify_into(spiked, &mut out));
     call!(rt, "ContourSimplifier::canonical_into" => ContourSimplifier::new(alloc).canonical_into(turned, &mut out));
@@ -36,7 +36,7 @@ fn by_a_new_cleaner(rt: HostRuntime) {
 /// There is no second call where the first is refused: it would take the memory that the first one lacked.
 #[test]
 fn by_a_used_cleaner(rt: HostRuntime) {
-    let mut out = SPIKED_AND_TRIANGLE;
+    let mut out = SPIKED;
     let spiked = few(&rt, SPIKED.as_slice());
     let mut simplifier = ContourSimplifier::new(rt.alloc());
     if simplifier.simplify_into(spiked, &mut out).is_ok() {
@@ -52,25 +52,22 @@ fn by_a_used_cleaner(rt: HostRuntime) {
 /// With room for the longest contour a cleaner takes no more, however many it cleans.
 #[test]
 fn with_room(rt: HostRuntime) {
-    let mut out = SPIKED_AND_TRIANGLE;
-    let (four, nine) = (
-        few(&rt, &SPIKED[..4]),
-        few(&rt, SPIKED_AND_TRIANGLE.as_slice()),
-    );
+    let mut out = SPIKED;
+    let (four, six) = (few(&rt, &SPIKED[..4]), few(&rt, SPIKED.as_slice()));
     let mut simplifier = ContourSimplifier::new(rt.alloc());
-    call!(rt, "ContourSimplifier::reserve" => simplifier.reserve(9));
+    call!(rt, "ContourSimplifier::reserve" => simplifier.reserve(6));
     call!(rt, "ContourSimplifier::simplify_into of four points with room" => simplifier.simplify_into(four, &mut out));
-    call!(rt, "ContourSimplifier::simplify_into of nine points with room" => simplifier.simplify_into(nine, &mut out));
-    call!(rt, "ContourSimplifier::canonical_into with room" => simplifier.canonical_into(nine, &mut out));
+    call!(rt, "ContourSimplifier::simplify_into of six points with room" => simplifier.simplify_into(six, &mut out));
+    call!(rt, "ContourSimplifier::canonical_into with room" => simplifier.canonical_into(six, &mut out));
     let mut despiker = ContourDeSpiker::new(rt.alloc());
-    call!(rt, "ContourDeSpiker::reserve" => despiker.reserve(9));
+    call!(rt, "ContourDeSpiker::reserve" => despiker.reserve(6));
     call!(rt, "ContourDeSpiker::despike_into of four points with room" => despiker.despike_into(four, &mut out));
-    call!(rt, "ContourDeSpiker::despike_into of nine points with room" => despiker.despike_into(nine, &mut out));
+    call!(rt, "ContourDeSpiker::despike_into of six points with room" => despiker.despike_into(six, &mut out));
 }
 
 #[test]
 fn without_memory(rt: HostRuntime) {
-    let mut out = SPIKED_AND_TRIANGLE;
+    let mut out = SPIKED;
     let mut simplifier = ContourSimplifier::new(rt.alloc());
     let mut despiker = ContourDeSpiker::new(rt.alloc());
     let (clean, two, flat) = (
