@@ -2,7 +2,7 @@
 use Rattle.std.proofs.Common.{◌≡◌, ◌↔◌, inl, inr, ℕ, ℤ, ◌+◌, ◌-◌, ◌≤◌, ◌<◌, List, map, length, take, drop, slice_range, ap, sym, subst, ◌∙◌, arith, Option}
 use Rattle.std.specs.Int.{Width}
 use Rattle.std.specs.List.{All}
-use Rattle.std.specs.Prelude.{Result, Ok, Err, IsOk, IfOk, OnErr, OnOk}
+use Rattle.std.specs.Prelude.{Result, Ok, Err, IsOk, IfOk, OnErr}
 use Rattle.std.proofs.lemmas.Bool.{cases_lt}
 use Rattle.std.proofs.lemmas.List.{take-take, drop-take, drop-drop, length-map}
 use Rattle.std.proofs.lemmas.List.Elements.{All-take, All-drop}
@@ -20,11 +20,6 @@ use Rattle.i_shape_c.proofs.Boundary.{copied_points, safe_contour}
 pub on_err : {T E Q : Type 0} (r : Result T E) → Q → OnErr r Q
 on_err (Ok t) q = tt
 on_err (Err e) q = q
-
--- what follows where a call is done
-pub on_ok : {T E P Q : Type 0} (r : Result T E) → (P → Q) → OnOk r P → OnOk r Q
-on_ok (Ok t) follows p = follows p
-on_ok (Err e) follows p = tt
 
 -- what follows from what a call answers
 pub if_ok : {T E : Type 0} {P Q : T → Type 0} (r : Result T E) → ((t : T) → P t → Q t) → IfOk r P → IfOk r Q

@@ -19,11 +19,6 @@ module _ {P I : Type 0} (width : Width) (value : I → ℤ) (to : P → IntPoint
   pub safe_contour : (given : List P) (copy : List (IntPoint I)) → copy ≡ map to given → AreSafe width (λ p. point_of value (to p)) given → All (IsSafe width) (contour_of value copy)
   safe_contour given copy is safe = rw (copied_points given copy is) (All-map (IsSafe width) (λ p. point_of value (to p)) given safe)
 
--- points that were copied out are the same points
-pub same_points : {P I : Type 0} (value : I → ℤ) (to : P → IntPoint I) (of : IntPoint I → P) → ((p : IntPoint I) → to (of p) ≡ p) → (kept : List (IntPoint I)) → map (λ p. point_of value (to p)) (map of kept) ≡ contour_of value kept
-same_points value to of same [] = refl
-same_points value to of same (p ∷ kept) = rw (same p, same_points value to of same kept) refl
-
 -- what is written is the same however the points of a list are read
 pub written_as : {P : Type 0} (Answer Kept : List Point → Option (List Point) → Type 0) (Picks : List P → List P → Type 0) (width : Width) (read other : List P → List Point) (given old new : List P) (n : ℕ) → ((list : List P) → read list ≡ other list)
     → IsWritten Answer Kept Picks width read given old new n → IsWritten Answer Kept Picks width other given old new n

@@ -1,5 +1,5 @@
 -- Cleaned polygons read back from arrays, and their form as it is written.
-use Rattle.std.proofs.Common.{◌≡◌, ℕ, zero, suc, ◌+◌, ◌-◌, ◌≤◌, ◌<◌, ◌++◌, List, [], ◌∷◌, length, take, drop, get_or, map, slice_range, append-nil, append_assoc, length-append, refl, sym, ap, ap₂, subst, ◌∙◌, arith, Option, Some, Result, Ok, Err, IfOk, OnErr}
+use Rattle.std.proofs.Common.{◌≡◌, ℕ, zero, suc, ◌+◌, ◌-◌, ◌≤◌, ◌<◌, ◌++◌, List, [], ◌∷◌, length, take, drop, get_or, map, slice_range, append-nil, append_assoc, length-append, refl, sym, ap, ap₂, subst, ◌∙◌, arith, Option, Some, Result, Ok, Err, OnErr}
 use Rattle.std.specs.List.{All, AllZip, AllPairs, range_with_len}
 use Rattle.std.proofs.lemmas.List.{length-map, map-append, take_at, drop_at, take-append-drop}
 use Rattle.std.proofs.lemmas.List.Elements.{All-nil, All-head, All-tail}
@@ -133,17 +133,17 @@ module _ {P : Type 0} (Form : List Point → Option (List Point) → Type 0) (at
   -- where no polygon has a contour, what is left of them is their form
   pub none_written : AreNone (polygons (map at points) contours shapes) → AreShapesLeft (ListForm Form) at points contours shapes old_points new_points old_contours new_contours old_shapes new_shapes n
   none_written none = record {
-      list = left.list;
-      left = form_of_cleaned Form (polygons (map at points) contours shapes) left.list left.list left.left sorts;
-      count = left.count;
-      fewer_points = left.fewer_points;
-      fewer_contours = left.fewer_contours;
-      fewer_shapes = left.fewer_shapes;
-      written = left.written;
-      rest = left.rest;
-      contours_are = left.contours_are;
-      shapes_are = left.shapes_are;
-    }
+    list = left.list;
+    left = form_of_cleaned Form (polygons (map at points) contours shapes) left.list left.list left.left sorts;
+    count = left.count;
+    fewer_points = left.fewer_points;
+    fewer_contours = left.fewer_contours;
+    fewer_shapes = left.fewer_shapes;
+    written = left.written;
+    rest = left.rest;
+    contours_are = left.contours_are;
+    shapes_are = left.shapes_are;
+  }
     where
       takes : (x y : List (List Point)) → ShapeClean Form x (Some y) → x ≡ [] → y ≡ []
       takes [] y clean e = cc
@@ -167,11 +167,7 @@ module _ {P : Type 0} (Form : List Point → Option (List Point) → Type 0) (at
         in_order = λ i j d low high. subst (λ w. IsShapeAtMost w (get_or left.list j d)) (sym (own i d (omega (arith, low, high)))) tt;
       }
 
--- what holds of a result holds as what follows from it, and so of an error
-pub if_ok : {A E : Type 0} {P Q : A → Type 0} (r : Result A E) → ((a : A) → P a → Q a) → IfOk r P → IfOk r Q
-if_ok (Ok a) f h = f a h
-if_ok (Err e) f h = h
-
+-- what follows from what a failed call answers
 pub if_err : {A E : Type 0} {P Q : Type 0} (r : Result A E) → (P → Q) → OnErr r P → OnErr r Q
 if_err (Ok a) f h = h
 if_err (Err e) f h = f h
@@ -191,9 +187,9 @@ module _ {X : Type 0} (points : List X) (contours shapes : List ℕ) (parted : P
   -- between equal offsets no polygon has a contour
   pub level_none : offset shapes 0 ≡ offset shapes (length shapes - 1) → (k : ℕ) (d : List (List X)) → k < length (polygons points contours shapes) → get_or (polygons points contours shapes) k d ≡ []
   level_none level = all_from (nth_contour (parts points contours) shapes) (λ s. s ≡ []) (length shapes - 1) (λ k less.
-    let up = rises k (omega (arith, less)) in
-    let none : offset shapes (k + 1) - offset shapes k ≡ 0 = omega (arith, up.0, up.1, up.2, level) in
-    rw none refl)
+      let up = rises k (omega (arith, less)) in
+      let none : offset shapes (k + 1) - offset shapes k ≡ 0 = omega (arith, up.0, up.1, up.2, level) in
+      rw none refl)
 
   -- and where none has one, the offsets are equal
   pub none_level : ((k : ℕ) (d : List (List X)) → k < length (polygons points contours shapes) → get_or (polygons points contours shapes) k d ≡ []) → offset shapes 0 ≡ offset shapes (length shapes - 1)

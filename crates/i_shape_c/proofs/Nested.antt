@@ -1,13 +1,13 @@
 -- Lists that lie end to end, which are read, sorted and written.
-use Rattle.std.proofs.Common.{◌≡◌, ℕ, ◌+◌, ◌-◌, ◌≤◌, ◌<◌, ◌++◌, List, [], ◌∷◌, length, take, drop, get_or, map, slice_range, set, append-nil, length-append, refl, sym, ap, ◌∙◌, subst, arith}
+use Rattle.std.proofs.Common.{◌≡◌, ℕ, ◌+◌, ◌-◌, ◌≤◌, ◌<◌, ◌++◌, List, [], ◌∷◌, length, take, drop, get_or, map, slice_range, append-nil, length-append, sym, ap, ◌∙◌, subst, arith}
 use Rattle.std.proofs.lemmas.List.{map_more, length-map, take-take, drop-take, drop_all}
 use Rattle.std.proofs.lemmas.List.FromFn.{length-map-range_with_len}
 use Rattle.i_shape_c.specs.Batch.{offset, nth_contour, AreRising}
-use Rattle.i_shape_c.specs.Appended.{IsPut, ends_from}
+use Rattle.i_shape_c.specs.Appended.{IsPut}
 use Rattle.i_shape_c.specs.Polygons.{parts, offsets_of}
 use Rattle.i_shape.specs.Paths.{concatenated}
 use Rattle.i_shape_c.specs.Sorted.{SortsRest, SortsEachRest}
-use Rattle.i_shape_core.proofs.lists.Rings.{rises_to, each_more, same_further}
+use Rattle.i_shape_core.proofs.lists.Rings.{rises_to, each_more}
 use Rattle.i_shape_c.proofs.Appended.{put_front, offsets-ends_from, ends-append}
 use Rattle.i_shape.proofs.lists.EndToEnd.{concatenated-append, length_concatenated_take}
 

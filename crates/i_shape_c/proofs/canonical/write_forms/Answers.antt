@@ -9,9 +9,8 @@ use Rattle.i_shape_c.specs.Cleaned.{TakesNoMemory}
 use Rattle.i_shape_c.specs.Polygons.{polygons, offsets_of}
 use Rattle.i_shape_c.specs.Sorted.{WritesSorted}
 use Rattle.i_shape_c.proofs.Appended.{length-offsets}
-use Rattle.i_shape_c.proofs.Batches.{on_err}
-use Rattle.i_shape_c.proofs.PolygonsLeft.{room_for_polygons}
-use Rattle.i_shape_c.proofs.FormsWritten.{shape_offsets, last_shape, ring_offsets, all_contours, all_points, cleaned_counts, offsets_part, form_written, none_written, none_spared, level_none, none_level, if_ok, if_err}
+use Rattle.i_shape_c.proofs.Batches.{if_ok, on_err}
+use Rattle.i_shape_c.proofs.FormsWritten.{shape_offsets, last_shape, ring_offsets, all_contours, all_points, cleaned_counts, offsets_part, form_written, none_written, none_spared, level_none, none_level, if_err}
 use Rattle.i_shape_c.proofs.canonical.write_forms.Goals as goal
 
 pub returns-then-first-last-clause-ok : goal.returns-then-first-last-clause-ok
