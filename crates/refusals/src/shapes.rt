@@ -57,6 +57,16 @@ fn in_place_where_it_is_clean(rt: HostRuntime) {
     on!(rt, one_shape(&rt, alloc, &[&SQUARE, &TRIANGLE]), "IntShapes::remove_spikes of a clean value", it => it.remove_spikes());
 }
 
+/// Contours that aren't clean have fewer than three points.
+#[test]
+fn in_place_where_short_contours_collapse(rt: HostRuntime) {
+    let alloc = rt.alloc();
+    on!(rt, shape(&rt, alloc, &[&SQUARE, &SQUARE[..2]]), "IntShape::simplify_contour of a hole below three points", it => it.simplify_contour());
+    on!(rt, shape(&rt, alloc, &[&SQUARE, &SQUARE[..2]]), "IntShape::remove_spikes of a hole below three points", it => it.remove_spikes());
+    on!(rt, one_shape(&rt, alloc, &[&SQUARE, &SQUARE[..2]]), "IntShapes::simplify_contour of a hole below three points", it => it.simplify_contour());
+    on!(rt, one_shape(&rt, alloc, &[&SQUARE, &SQUARE[..2]]), "IntShapes::remove_spikes of a hole below three points", it => it.remove_spikes());
+}
+
 #[test]
 fn macros(rt: HostRuntime) {
     let alloc = rt.alloc();
