@@ -4,7 +4,7 @@ use crate::resource::WholePoint;
 use crate::row::Row;
 use crate::texts;
 use callers::chain::clean_list;
-use callers::consumer::all_points;
+use callers::consumer::{all_points, count_paths, same_safe_range};
 use callers::copies::copied_paths;
 use callers::corners::corners;
 use callers::pipeline::cleaned_contours;
@@ -16,6 +16,9 @@ fn consumers_answer_from_the_law(rt: HostRuntime) -> Result<(), Fail> {
     let row = Row::new(&rt, rt.alloc(), "consumers");
     row.equal(corners(row.alloc)?, 3, "a point on an edge is no corner");
     let points = [IntPoint::new(7, 1), IntPoint::new(2, -3)];
+    row.equal(count_paths(&points), 1, "paths");
+    let safe = same_safe_range(&points, points.as_slice());
+    row.equal(safe, (true, true), "safe");
     row.equal(all_points(&points, row.alloc)?.len(), 2, "points");
     let paths = [[WholePoint { x: 7, y: 1 }].to_vec(row.alloc)?];
     let copies = copied_paths(row.alloc, &paths)?;

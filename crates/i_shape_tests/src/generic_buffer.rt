@@ -229,5 +229,10 @@ fn size_hints_need_not_be_exact(rt: HostRuntime) -> Result<(), Fail> {
     contours.add_contour(&[WholePoint { x: 1, y: 1 }])?;
     let answer = contours.set_with_iter(items(2, 0, Some(far)), &[]);
     row.holds(matches!(answer, Err(ShapeError::OutOfMemory)), "a far hint");
-    has_contours(&row, &contours, ["", "", ""])
+    has_contours(&row, &contours, ["", "", ""])?;
+    let mut shapes = FloatFlatShapesBuffer::new(row.alloc);
+    shapes.add_contour(&[WholePoint { x: 1, y: 1 }])?;
+    let answer = shapes.set_with_iter(items(2, 0, Some(far)), &[], &[]);
+    row.holds(matches!(answer, Err(ShapeError::OutOfMemory)), "far shapes");
+    has_shapes(&row, &shapes, ["", "", "", ""])
 }

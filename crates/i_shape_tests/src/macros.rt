@@ -52,6 +52,9 @@ fn expressions_are_evaluated_from_left_to_right(rt: HostRuntime) -> Result<(), F
     row.equal(lists[0].as_slice(), &[10, 1], "members of a path");
     row.equal(lists[1].as_slice(), &[2], "members of the next");
     let mut count = 0;
+    let path = int_path![row.alloc; [next(&mut count), next(&mut count)], [next(&mut count), 0]]?;
+    row.holds(path == texts::contour(&row, "1 2 3 0")?, "int_path");
+    let mut count = 0;
     let list: IntShapes<i32> = int_shapes![
         row.alloc;
         [[[next(&mut count), 0]], [[next(&mut count), 0]]],

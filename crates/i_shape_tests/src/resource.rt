@@ -243,26 +243,31 @@ fn are_safe<I: IntNumber>(
     Ok(())
 }
 
+/// The point isn't safe, and nor are the corners with it.
+fn is_far<I: IntNumber>(
+    row: &Row<'_, impl Abort>,
+    corners: &[IntPoint<I>],
+    far: IntPoint<I>,
+) -> Result<(), Fail> {
+    row.holds(!far.is_in_safe_range(), "a point beyond the corners");
+    let mut points = corners.to_vec(row.alloc)?;
+    points.push(far)?;
+    are_safe(row, points.as_slice(), false)
+}
+
 /// The corners of a width are safe, and no longer with a point beyond them, whichever coordinate it is.
 fn safe_range_ends_at<I: IntNumber>(
     row: &Row<'_, impl Abort>,
-    [low, high]: [I; 2],
-    beyond: [I; 4],
+    corners: &[IntPoint<I>],
+    beyond: &[I],
 ) -> Result<(), Fail> {
-    let [first, last] = [IntPoint::new(low, low), IntPoint::new(high, high)];
-    let corners = path![row.alloc; first, last]?;
-    row.holds(
-        first.is_in_safe_range() && last.is_in_safe_range(),
-        "the corners",
-    );
-    are_safe(row, corners.as_slice(), true)?;
-    are_safe(row, &corners.as_slice()[..0], true)?;
+    for corner in corners {
+        row.holds(corner.is_in_safe_range(), "a corner");
+    }
+    are_safe(row, corners, true)?;
     for far in beyond {
-        for point in [IntPoint::new(far, I::ZERO), IntPoint::new(I::ZERO, far)] {
-            row.holds(!point.is_in_safe_range(), "a point beyond the corners");
-            let points = path![row.alloc; first, last, point]?;
-            are_safe(row, points.as_slice(), false)?;
-        }
+        is_far(row, corners, IntPoint::new(*far, I::ZERO))?;
+        is_far(row, corners, IntPoint::new(I::ZERO, *far))?;
     }
     Ok(())
 }
@@ -271,11 +276,36 @@ fn safe_range_ends_at<I: IntNumber>(
 fn safe_range_ends_at_a_quarter_of_each_width(rt: HostRuntime) -> Result<(), Fail> {
     let row = Row::new(&rt, rt.alloc(), "the safe range");
     let m = 16383i16;
-    safe_range_ends_at(&row, [-m, m], [m + 1, -m - 1, i16::MAX, i16::MIN])?;
+    safe_range_ends_at(
+        &row,
+        &[IntPoint::new(-m, -m), IntPoint::new(m, m)],
+        &[m + 1, -m - 1, i16::MAX, i16::MIN],
+    )?;
     let m = 1073741823i32;
-    safe_range_ends_at(&row, [-m, m], [m + 1, -m - 1, i32::MAX, i32::MIN])?;
+    safe_range_ends_at(
+        &row,
+        &[IntPoint::new(-m, -m), IntPoint::new(m, m)],
+        &[m + 1, -m - 1, i32::MAX, i32::MIN],
+    )?;
     let m = 4611686018427387903i64;
-    safe_range_ends_at(&row, [-m, m], [m + 1, -m - 1, i64::MAX, i64::MIN])
+    safe_range_ends_at(
+        &row,
+        &[IntPoint::new(-m, -m), IntPoint::new(m, m)],
+        &[m + 1, -m - 1, i64::MAX, i64::MIN],
+    )
+}
+
+#[test]
+fn each_path_decides_whether_a_resource_is_safe(rt: HostRuntime) -> Result<(), Fail> {
+    let row = Row::new(&rt, rt.alloc(), "paths");
+    let near = [IntPoint::new(1, 2)].to_vec(row.alloc)?;
+    let far = [IntPoint::new(0, 1073741824)].to_vec(row.alloc)?;
+    let paths = [Vec::new(row.alloc), near, far];
+    row.holds(!(&paths).is_in_safe_range(), "a far path");
+    row.holds(paths[..2].is_in_safe_range(), "a near path");
+    row.holds(paths[..1].is_in_safe_range(), "an empty path");
+    row.holds(paths[..0].is_in_safe_range(), "no path");
+    Ok(())
 }
 
 /// Both buffers lend each range of contours, whatever the ranges of shapes are.

@@ -5,7 +5,7 @@ use crate::tool::given::serves;
 use std::test::Fail;
 
 /// A command, a text, and what the command answers to it.
-const ANSWERED: [(&str, &str, &str); 13] = [
+const ANSWERED: [(&str, &str, &str); 18] = [
     ("simplify", "", ""),
     (
         "simplify",
@@ -35,7 +35,19 @@ const ANSWERED: [(&str, &str, &str); 13] = [
     ),
     ("compact", "0 0 0 512 0 1\n7 7\n", ""),
     ("compact", LINES, "0 0 4 0 4 4 0 4\n0 0 1 0 0 1\n"),
+    ("area", "0 0 1 0 0 1\n0 0 10 0 10 10 0 10\n", "1\n200\n"),
+    ("simplify", CLEAN, CLEAN),
+    ("despike", CLEAN, CLEAN),
+    ("canonical", CLEAN, CLEAN),
+    ("compact", CLEAN, CLEAN),
 ];
+
+/// Clean contours from their least points on: one of 33 points between small ones.
+const CLEAN: &str = "\
+0 0 4 0 4 4
+0 0 1 1 2 4 3 9 4 16 5 25 6 36 7 49 8 64 9 81 10 100 11 121 12 144 13 169 14 196 15 225 16 256 17 289 18 324 19 361 20 400 21 441 22 484 23 529 24 576 25 625 26 676 27 729 28 784 29 841 30 900 31 961 32 1024
+0 0 4 0 4 4
+";
 
 const LINES: &str = "0 0 2 0 4 0 4 4 0 4\n\n1 1 2 2 3 3\n0 0 1 0 0 1\n";
 
