@@ -1,5 +1,5 @@
 -- Points of C, and what cleaning leaves of them.
-use Rattle.std.proofs.Common.{◌≡◌, ℕ, ℤ, List, [], ◌∷◌, Option, map, take, refl, ap, ◌∙◌}
+use Rattle.std.proofs.Common.{◌≡◌, ℕ, ℤ, List, Option, map, take, ap, ◌∙◌}
 use Rattle.std.specs.Int.{Width}
 use Rattle.std.specs.List.{All}
 use Rattle.std.proofs.lemmas.Simd.{map-map}

@@ -136,7 +136,7 @@ none_left = (
   record { answer = answer; refuses = accepted 0 (record { contours_parted = one_offset (lit≤ tt); shapes_parted = one_offset (lit≤ tt) }) (record { contours_fit = record { points_room = lit≤ tt; offsets_room = lit≤ tt }; shapes_room = lit≤ tt }) none_unsafe },
   λ w. (w.refuses.unsafe_points.0 refl).2 none_unsafe,
   λ w. let told = w.answer.fewer_shapes in omega (arith, told),
-  λ w. w.refuses.memory refl refl,
+  λ w. w.refuses.memory refl (λ k d less. absurd (omega (arith, less))),
 )
   where
     answer : ShapesAnswer (ListClean Stays) self [] (0 ∷ []) (0 ∷ []) [] [] (7 ∷ 9 ∷ []) (0 ∷ 9 ∷ []) (7 ∷ []) (0 ∷ []) (pos 0)

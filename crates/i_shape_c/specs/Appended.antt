@@ -1,5 +1,5 @@
 -- How what is left of polygons is written one behind the other. Private functions alone speak of it.
-use Rattle.std.specs.Prelude.{◌≡◌, Bool, ℕ, ℤ, ◌+◌, ◌-◌, ◌<◌, ◌≤◌, ◌++◌, List, [], ◌∷◌, map, length, take, drop, slice_range, IsTrue, Option}
+use Rattle.std.specs.Prelude.{◌≡◌, Bool, ℕ, ◌+◌, ◌-◌, ◌<◌, ◌≤◌, ◌++◌, List, [], ◌∷◌, map, length, take, drop, slice_range, IsTrue, Option}
 use Rattle.std.specs.Int.{Width}
 use Rattle.std.specs.List.{range_with_len}
 use Rattle.std.specs.Option.{option_map, option_to_list}

@@ -1,4 +1,4 @@
-use Rattle.std.proofs.Common.{rules, ◌≡◌, ◌<◌, length, IsTrue, nat_eq, arith}
+use Rattle.std.proofs.Common.{rules, ◌≡◌, ◌<◌, length}
 use Rattle.i_shape_c.proofs.Batches.{parted_by}
 use Rattle.i_shape_c.proofs.batch.are_parted.Goals as goal
 
