@@ -468,14 +468,15 @@ static void AT(test_refusals)(void) {
 
 #ifdef REFUSES
 /* How many bytes the calls ask for: one place for each point of the longest contour of which a point is removed. A canonical form of
-   polygons has their points and offsets too, and for each contour two places and a length, and one of each for a polygon. */
+   polygons also copies their points and offsets, and makes two slices for each contour and one for each polygon. A slice is a
+   pointer and a length. */
 static void AT(test_sizes)(void) {
     enum { SQUARES = 64, CORNERS = 5, COUNT = SQUARES * CORNERS };
-    const size_t places = CORNERS * sizeof(size_t), all[2] = {0, SQUARES};
-    const size_t lists = COUNT * sizeof(POINT) + 5 * (SQUARES + 1) * sizeof(size_t);
+    const size_t places = CORNERS * sizeof(size_t), halves[3] = {0, SQUARES / 2, SQUARES};
+    const size_t lists = COUNT * sizeof(POINT) + (5 * SQUARES + 3 * 2 + 2) * sizeof(size_t);
     const POINT square[CORNERS] = {{0, 0}, {4, 0}, {4, 0}, {4, 4}, {0, 4}};
     POINT given[COUNT], out[COUNT];
-    size_t offsets[SQUARES + 1] = {0}, out_offsets[SQUARES + 1], out_shapes[2];
+    size_t offsets[SQUARES + 1] = {0}, out_offsets[SQUARES + 1], out_shapes[3];
     for (int k = 0; k < COUNT; k++) {
         given[k] = square[k % CORNERS];
         offsets[k / CORNERS + 1] = (size_t)(k + 1);
@@ -486,9 +487,10 @@ static void AT(test_sizes)(void) {
         asked = 0;
         check(AT(batches)[k](given, COUNT, offsets, SQUARES + 1, out, COUNT, out_offsets, SQUARES + 1) == 4 * SQUARES && asked == places, W,
               cleaner_names[k], "how much it asks for of many contours");
-        asked = 0;
-        check(AT(polygons)[k](given, COUNT, offsets, SQUARES + 1, all, 2, out, COUNT, out_offsets, SQUARES + 1, out_shapes, 2) == 1, W,
-              cleaner_names[k], "64 squares of one polygon");
+        growths = asked = 0;
+        check(AT(polygons)[k](given, COUNT, offsets, SQUARES + 1, halves, 3, out, COUNT, out_offsets, SQUARES + 1, out_shapes, 3) == 2, W,
+              cleaner_names[k], "64 squares of two polygons");
+        check(growths == (is_form(k) ? 7 : k == 0), W, cleaner_names[k], "how often it takes memory for polygons");
         /* Of simplify, the first, and of despike, which cleans nothing, since no square has a spike. */
         check(asked == (is_form(k) ? lists + places : k == 0 ? places : 0), W, cleaner_names[k], "how much it asks for of polygons");
     }

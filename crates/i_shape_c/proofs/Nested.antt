@@ -60,6 +60,6 @@ filled part old new put long =
     let none : drop (length part) old ≡ [] = drop_all (length part) old (omega (arith, long)) in
     (put_front part old new put).2 ∙ ap (λ w. part ++ w) none ∙ append-nil part
 
--- there are as many lists as the offsets part
+-- there are as many lists as the offsets divide
 pub listed : {B X : Type 0} (f : B → List X) (lists : List B) (items : List X) (offsets : List ℕ) → map f lists ≡ parts items offsets → length lists ≡ length offsets - 1
 listed f lists items offsets are = sym (length-map lists f) ∙ ap length are ∙ length-map-range_with_len (nth_contour items offsets) 0 (length offsets - 1)

@@ -1,4 +1,5 @@
--- How what is left of polygons is written one behind the other. Private functions alone speak of it.
+-- How what is left of polygons is written one behind the other, and the room that it takes. Private functions alone
+-- speak of it.
 use Rattle.std.specs.Prelude.{◌≡◌, Bool, ℕ, ◌+◌, ◌-◌, ◌<◌, ◌≤◌, ◌++◌, List, [], ◌∷◌, map, length, take, drop, slice_range, IsTrue, Option}
 use Rattle.std.specs.Int.{Width}
 use Rattle.std.specs.List.{range_with_len}
@@ -18,7 +19,7 @@ pub record IsReady {P : Type 0} (Clean : List Point → Type 0) (width : Width) 
   pub clean : IsTrue is_clean → Clean (read ring)
   pub reserved : (Clean (read ring) → ⊥) → room (length ring)
 
--- so can each contour that the offsets part
+-- so can each contour that the offsets divide
 abbrev pub AreReady : {P : Type 0} → (List Point → Type 0) → Width → (List P → List Point) → Bool → (ℕ → Type 0) → List P → List ℕ → Type 0
 AreReady Clean width read all_clean room points rings = (k : ℕ) → k + 1 < length rings → IsReady Clean width read all_clean room (nth_contour points rings k)
 
@@ -30,7 +31,7 @@ rings_at rings shapes k = slice_range rings (offset shapes k - offset shapes 0) 
 abbrev pub polygons_of : {P : Type 0} → List P → List ℕ → List ℕ → ℕ → List (List (List P))
 polygons_of points rings shapes n = map (λ k. parts points (rings_at rings shapes k)) (range_with_len 0 n)
 
--- there is room for the points and the contours of the polygons, and for the offsets of both
+-- there is room for the points of the polygons, for the offsets of their contours, and for their own
 pub record HasPolygonsRoom (contours shapes : List ℕ) (out_points out_contours out_shapes : ℕ) : Type 0 where
   pub points_room : offset contours (offset shapes (length shapes - 1)) ≤ out_points + offset contours (offset shapes 0)
   pub contours_room : offset shapes (length shapes - 1) < out_contours + offset shapes 0

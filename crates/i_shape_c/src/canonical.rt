@@ -17,8 +17,8 @@ use i_shape::ShapeError;
 use i_shape::int::cleaner::ContourCleaner;
 use std::alloc::Global;
 
-/// Writes the form of the polygons, whose contours `C` brings into theirs, to the front of the three arrays. Returns
-/// how many polygons it has, or a code below 0.
+/// Writes the form of the polygons to the front of the three arrays. `C` computes the form of a contour. Returns how
+/// many polygons the form has, or a code below 0.
 pub fn form_shapes<P: CPoint, C: ContourCleaner>(
     alloc: Global,
     points: &[P],
@@ -59,7 +59,7 @@ pub fn form_shapes<P: CPoint, C: ContourCleaner>(
 }
 
 /// Writes the form of the polygons to the front of the three arrays. Returns how many polygons it has. Allocates before
-/// it writes, and only where a polygon has a contour, so an error leaves the arrays unchanged.
+/// it writes, so an error leaves the arrays unchanged. Allocates nothing where no polygon has a contour.
 fn write_forms<P: CPoint, C: ContourCleaner>(
     alloc: Global,
     points: &[P],
@@ -122,8 +122,8 @@ fn write_forms<P: CPoint, C: ContourCleaner>(
     Ok(count)
 }
 
-/// Writes the polygons, sorted, with the holes of each sorted, to the front of the three arrays. Allocates before it
-/// writes.
+/// Writes the polygons, sorted, with the holes of each sorted, to the front of the three arrays. The contours are exactly
+/// those of the polygons. Allocates before it writes, so an error leaves the arrays unchanged.
 fn write_sorted<P: CPoint>(
     alloc: Global,
     points: &[P],
@@ -151,6 +151,7 @@ fn write_sorted<P: CPoint>(
     sort_each_rest(&mut rings, shapes);
     let mut polygons = slices(alloc, &rings, shapes)?;
     polygons.sort_unstable();
+    // One place for each contour. All of them are written below.
     let mut sorted = slices(alloc, points, contours)?;
     write_lists(&polygons, &mut sorted, out_shapes);
     write_lists(&sorted, out_points, out_contours);

@@ -27,7 +27,7 @@ pub fn slices<'a, T: Copy>(
     Ok(lists)
 }
 
-/// Sorts the items of each list but its first one.
+/// Sorts the items of each list into which the offsets divide them, except for its first item.
 pub fn sort_each_rest<T: Ord>(items: &mut [T], offsets: &[usize])
     requires { PartsPoints (length items.old) offsets.now }
     ensures sorted { SortsEachRest (IsSorted T.cmp) items.old items.new offsets.now (length offsets.now) }
@@ -38,7 +38,7 @@ pub fn sort_each_rest<T: Ord>(items: &mut [T], offsets: &[usize])
     }
 }
 
-/// Sorts the items but the first one.
+/// Sorts all items but the first.
 fn sort_rest<T: Ord>(list: &mut [T])
     ensures sorted { SortsRest (IsSorted T.cmp) list.old list.new }
     ensures len { length list.new ≡ length list.old }

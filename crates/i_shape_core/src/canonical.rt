@@ -20,7 +20,8 @@ use std::cmp::Ordering;
 
 impl ContourSimplifier {
     /// Returns the canonical form of a contour, as `SimpleContour::canonical` does. Earlier calls don't affect the result, even if they
-    /// failed. The only error is `OutOfMemory`, which can't occur below three points.
+    /// failed. Makes room for a contour with zero turns, and keeps it. The only error is `OutOfMemory`, which can't occur below three
+    /// points.
     pub fn canonical<I: IntNumber>(
         &mut self,
         contour: &[IntPoint<I>],

@@ -66,7 +66,8 @@ pub trait ContourCleaner: Drop {
             (contour_of P.Coordinate.value (P.points contour.now)) }
         ensures { IsTrue result ↔ clean (contour_of P.Coordinate.value (P.points contour.now)) };
 
-    /// Returns the cleaned contour, or `None` if it collapses. The only error is `OutOfMemory`, which can't occur below three points.
+    /// Returns the cleaned contour, or `None` if it collapses. Makes room for a contour that isn't clean, and keeps it. The only error is
+    /// `OutOfMemory`, which can't occur below three points.
     fn cleaned<I: IntNumber>(
         &mut self,
         contour: &[IntPoint<I>],

@@ -118,7 +118,8 @@ impl ContourDeSpiker {
     }
 
     /// Returns the contour without spikes and repeated points, as `DeSpikeContour::despiked_contour` does. Earlier calls don't affect the
-    /// result, even if they failed. The only error is `OutOfMemory`, which can't occur below three points.
+    /// result, even if they failed. Makes room for a contour with spikes or repeated points, and keeps it. The only error is
+    /// `OutOfMemory`, which can't occur below three points.
     pub fn despike_contour<I: IntNumber>(
         &mut self,
         contour: &[IntPoint<I>],

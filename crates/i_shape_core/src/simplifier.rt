@@ -43,7 +43,8 @@ impl ContourSimplifier {
     }
 
     /// Returns the contour without zero turns, as `SimpleContour::simplified` does. Earlier calls don't affect the result, even if they
-    /// failed. The only error is `OutOfMemory`, which can't occur below three points.
+    /// failed. Makes room for a contour with zero turns, and keeps it. The only error is `OutOfMemory`, which can't occur below three
+    /// points.
     pub fn simplify_contour<I: IntNumber>(
         &mut self,
         contour: &[IntPoint<I>],

@@ -18,7 +18,8 @@ use std::cmp::Ordering;
 
 impl ContourSimplifier {
     /// Returns the unoriented form of a contour, as `SimpleContour::canonical_unoriented` does. Earlier calls don't affect the result,
-    /// even if they failed. The only error is `OutOfMemory`, which can't occur below three points.
+    /// even if they failed. Makes room for a contour with zero turns, and keeps it. The only error is `OutOfMemory`, which can't occur
+    /// below three points.
     pub fn canonical_unoriented<I: IntNumber>(
         &mut self,
         contour: &[IntPoint<I>],

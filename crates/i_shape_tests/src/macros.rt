@@ -11,6 +11,7 @@ fn lists_of_any_kind(rt: HostRuntime) -> Result<(), Fail> {
     let row = Row::new(&rt, rt.alloc(), "of numbers");
     let list: Vec<i32> = path![row.alloc;]?;
     row.holds(list.is_empty(), "path, none");
+    row.equal(path![row.alloc; 7]?.as_slice(), &[7], "path, one");
     row.equal(path![row.alloc; 1, 2,]?.as_slice(), &[1, 2], "path, two");
     let lists: Vec<Vec<i32>> = paths![row.alloc;]?;
     row.holds(lists.is_empty(), "paths, none");

@@ -67,6 +67,7 @@ impl<C: ContourCleaner> Cleaned<C> {
         ensures { IfOk result (λ left.
             C.answers (contour_of contour.now) (slot (contour_of left.now))) }
     {
+        // Only the length matters: what stands there is written over.
         if let Some(longer) = contour.get(self.left.len()..) {
             self.left.extend_from_slice(longer)?;
         }
