@@ -51,6 +51,10 @@ offsets_part lists n within =
     let end : length (offsets_of 0 lists) - 1 ≡ length lists = omega (arith, long) in
     record { some = omega (arith, long); order = rising 0 lists; last = rw end (omega (arith, last_offset 0 lists, within)) }
 
+-- the last offset isn't below the first
+pub spans : {n : ℕ} {offsets : List ℕ} → PartsPoints n offsets → offset offsets 0 ≤ offset offsets (length offsets - 1)
+spans {n} {offsets} part = rises_to offsets (length offsets) 0 (length offsets - 1) part.order (omega arith) (omega (arith, part.some))
+
 -- lists that lie end to end are read back by their offsets
 parts_back : {X : Type 0} (items : List X) (start : ℕ) (front rest : List X) (lists : List (List X)) → length front ≡ start → items ≡ front ++ (concatenated lists ++ rest) → parts items (offsets_of start lists) ≡ lists
 parts_back items start front rest [] long is = refl
@@ -75,7 +79,7 @@ parts_back {X} items start front rest (x ∷ xs) long is =
         rw (first_offset (start + length x) xs, count, behind) (take_at x (concatenated xs ++ rest) (length x) refl)
 
 -- what a call leaves, read back
-module _ {P : Type 0} (Form : List Point → Option (List Point) → Type 0) (at : P → Point) (points : List P) (contours shapes : List ℕ) (old_points new_points : List P) (old_contours new_contours old_shapes new_shapes : List ℕ) (n : ℕ)
+module _ {P : Type 0} (Form : List Point → Option (List Point) → Type 0) {at : P → Point} {points : List P} {contours shapes : List ℕ} {old_points new_points : List P} {old_contours new_contours old_shapes new_shapes : List ℕ} {n : ℕ}
     (left : AreShapesLeft (ListClean Form) at points contours shapes old_points new_points old_contours new_contours old_shapes new_shapes n) where
   abbrev pub rings : List (List Point)
   rings = concatenated left.list
@@ -119,9 +123,9 @@ module _ {P : Type 0} (Form : List Point → Option (List Point) → Type 0) (at
       (sym counts.1 ∙ ap (λ w. length (concatenated w)) cleaned_are, sym counts.2 ∙ ap (λ w. length (concatenated (concatenated w))) cleaned_are)
 
   -- arrays that hold them sorted hold the form of the polygons
-  pub form_written : (had_points has_points : List P) (had_contours has_contours had_shapes has_shapes : List ℕ) → WritesSorted at cleaned had_points has_points had_contours has_contours had_shapes has_shapes
+  pub form_written : {had_points has_points : List P} {had_contours has_contours had_shapes has_shapes : List ℕ} → WritesSorted at cleaned had_points has_points had_contours has_contours had_shapes has_shapes
       → AreShapesLeft (ListForm Form) at points contours shapes had_points has_points had_contours has_contours had_shapes has_shapes n
-  form_written had_points has_points had_contours has_contours had_shapes has_shapes wrote =
+  form_written {had_points} {has_points} {had_contours} {has_contours} {had_shapes} {has_shapes} wrote =
       let made = map (map (map at)) wrote.list in
       let sorts = subst (λ w. SortsPolygons w made) cleaned_are wrote.sorted in
       let counts = sorted_counts left.list made sorts in
@@ -176,7 +180,7 @@ if_err (Err e) f h = f h
 pub none_spared : (Passes : List Point → Type 0) (list : List (List (List Point))) → AreNone list → EachShape Passes list
 none_spared Passes list none = λ k d less. subst (All Passes) (sym (none k d less)) (All-nil Passes)
 
-module _ {X : Type 0} (points : List X) (contours shapes : List ℕ) (parted : PartsPoints (length contours - 1) shapes) where
+module _ {X : Type 0} (points : List X) (contours : List ℕ) {shapes : List ℕ} (parted : PartsPoints (length contours - 1) shapes) where
   rises : (k : ℕ) → k + 1 < length shapes → (offset shapes 0 ≤ offset shapes k) × (offset shapes k ≤ offset shapes (k + 1)) × (offset shapes (k + 1) ≤ offset shapes (length shapes - 1))
   rises k less = (
     rises_to shapes (length shapes) 0 k parted.order (omega arith) (omega (arith, less)),
