@@ -5,7 +5,6 @@ use Rattle.std.proofs.lemmas.List.{length-map, map-append, take_at, drop_at, tak
 use Rattle.std.proofs.lemmas.List.Elements.{All-nil, All-head, All-tail}
 use Rattle.std.proofs.lemmas.List.FromFn.{length-map-range_with_len, get_or-map-range_with_len}
 use Rattle.std.proofs.lemmas.List.Sorted.{IsPermutation-refl}
-use Rattle.i_shape_core.proofs.lists.Rings.{rises_to}
 use Rattle.i_shape.specs.Point.{Point}
 use Rattle.i_shape.specs.Paths.{concatenated}
 use Rattle.i_shape.specs.Canonical.{IsAtMost}
@@ -17,7 +16,7 @@ use Rattle.i_shape_c.specs.Polygons.{parts, polygons, offsets_of, AreNone, AreSh
 use Rattle.i_shape_c.specs.Sorted.{SortsRest, SortsPolygons, WritesSorted}
 use Rattle.i_shape_c.proofs.Appended.{length-offsets}
 use Rattle.i_shape_c.proofs.PolygonLists.{polygon_at, polygons-map, all_from}
-use Rattle.i_shape_c.proofs.PolygonsLeft.{same_ranges, read_counts, polygons_written}
+use Rattle.i_shape_c.proofs.PolygonsLeft.{same_ranges, read_counts, polygons_written, offsets_rise}
 use Rattle.i_shape_c.proofs.SortedPolygons.{form_of_cleaned, sorted_counts}
 
 -- the first part of a list
@@ -50,10 +49,6 @@ offsets_part lists n within =
     let long = length-offsets 0 lists in
     let end : length (offsets_of 0 lists) - 1 ≡ length lists = omega (arith, long) in
     record { some = omega (arith, long); order = rising 0 lists; last = rw end (omega (arith, last_offset 0 lists, within)) }
-
--- the last offset isn't below the first
-pub spans : {n : ℕ} {offsets : List ℕ} → PartsPoints n offsets → offset offsets 0 ≤ offset offsets (length offsets - 1)
-spans {n} {offsets} part = rises_to offsets (length offsets) 0 (length offsets - 1) part.order (omega arith) (omega (arith, part.some))
 
 -- lists that lie end to end are read back by their offsets
 parts_back : {X : Type 0} (items : List X) (start : ℕ) (front rest : List X) (lists : List (List X)) → length front ≡ start → items ≡ front ++ (concatenated lists ++ rest) → parts items (offsets_of start lists) ≡ lists
@@ -181,17 +176,10 @@ pub none_spared : (Passes : List Point → Type 0) (list : List (List (List Poin
 none_spared Passes list none = λ k d less. subst (All Passes) (sym (none k d less)) (All-nil Passes)
 
 module _ {X : Type 0} (points : List X) (contours : List ℕ) {shapes : List ℕ} (parted : PartsPoints (length contours - 1) shapes) where
-  rises : (k : ℕ) → k + 1 < length shapes → (offset shapes 0 ≤ offset shapes k) × (offset shapes k ≤ offset shapes (k + 1)) × (offset shapes (k + 1) ≤ offset shapes (length shapes - 1))
-  rises k less = (
-    rises_to shapes (length shapes) 0 k parted.order (omega arith) (omega (arith, less)),
-    parted.order k less,
-    rises_to shapes (length shapes) (k + 1) (length shapes - 1) parted.order (omega (arith, less)) (omega (arith, less)),
-  )
-
   -- between equal offsets no polygon has a contour
   pub level_none : offset shapes 0 ≡ offset shapes (length shapes - 1) → (k : ℕ) (d : List (List X)) → k < length (polygons points contours shapes) → get_or (polygons points contours shapes) k d ≡ []
   level_none level = all_from (nth_contour (parts points contours) shapes) (λ s. s ≡ []) (length shapes - 1) (λ k less.
-      let up = rises k (omega (arith, less)) in
+      let up = offsets_rise parted k (omega (arith, less)) in
       let none : offset shapes (k + 1) - offset shapes k ≡ 0 = omega (arith, up.0, up.1, up.2, level) in
       rw none refl)
 
@@ -204,7 +192,7 @@ module _ {X : Type 0} (points : List X) (contours : List ℕ) {shapes : List ℕ
 
       step : (k : ℕ) → k + 1 < length shapes → offset shapes k ≡ offset shapes (k + 1)
       step k less =
-          let up = rises k less in
+          let up = offsets_rise parted k less in
           let read = get_or-map-range_with_len f 0 (length shapes - 1) k k [] (omega (arith, less)) (omega arith) in
           let many = length-map-range_with_len f 0 (length shapes - 1) in
           let wide = length-map-range_with_len (nth_contour points contours) (offset shapes k) (offset shapes (k + 1) - offset shapes k) in

@@ -176,6 +176,19 @@ module _ {P : Type 0} (at : P → Point) (list : List (List (List P))) where
         shapes_are = rw (shape_offsets, counts.0, ← length-offsets 0 list) shapes_put.2;
       }
 
+-- the last offset isn't below the first
+pub spans : {n : ℕ} {offsets : List ℕ} → PartsPoints n offsets → offset offsets 0 ≤ offset offsets (length offsets - 1)
+spans {n} {offsets} part = rises_to offsets (length offsets) 0 (length offsets - 1) part.order (omega arith) (omega (arith, part.some))
+
+-- and those between them rise
+pub offsets_rise : {n : ℕ} {offsets : List ℕ} → PartsPoints n offsets → (k : ℕ) → k + 1 < length offsets
+    → (offset offsets 0 ≤ offset offsets k) × (offset offsets k ≤ offset offsets (k + 1)) × (offset offsets (k + 1) ≤ offset offsets (length offsets - 1))
+offsets_rise {n} {offsets} part k less = (
+  rises_to offsets (length offsets) 0 k part.order (omega arith) (omega (arith, less)),
+  part.order k less,
+  rises_to offsets (length offsets) (k + 1) (length offsets - 1) part.order (omega (arith, less)) (omega (arith, less)),
+)
+
 -- the contours of polygons, of which those from the first polygon's on are `rings`
 module _ {P : Type 0} (at : P → Point) (points : List P) (contours shapes : List ℕ) (contours_parted : PartsPoints (length points) contours) (shapes_parted : PartsPoints (length contours - 1) shapes) where
   abbrev pub low : ℕ
@@ -187,17 +200,9 @@ module _ {P : Type 0} (at : P → Point) (points : List P) (contours shapes : Li
   abbrev pub rings : List ℕ
   rings = slice_range contours low (high + 1)
 
-  rises : (k : ℕ) → k + 1 < length shapes → (low ≤ offset shapes k) × (offset shapes k ≤ offset shapes (k + 1)) × (offset shapes (k + 1) ≤ high)
-  rises k less = (
-    rises_to shapes (length shapes) 0 k shapes_parted.order (omega arith) (omega (arith, less)),
-    shapes_parted.order k less,
-    rises_to shapes (length shapes) (k + 1) (length shapes - 1) shapes_parted.order (omega (arith, less)) (omega (arith, shapes_parted.some)),
-  )
-
   pub count_rings : length rings ≡ high + 1 - low
   count_rings =
-      let up = rises_to shapes (length shapes) 0 (length shapes - 1) shapes_parted.order (omega arith) (omega (arith, shapes_parted.some)) in
-      length_part contours low (high + 1) (omega (arith, up)) (omega (arith, shapes_parted.last, contours_parted.some))
+      length_part contours low (high + 1) (omega (arith, spans shapes_parted)) (omega (arith, shapes_parted.last, contours_parted.some))
 
   -- each contour of each polygon is one of them
   ring_is : (i : ℕ) → low + i < high → nth_contour (map at points) contours (low + i) ≡ map at (nth_contour points rings i)
@@ -206,25 +211,22 @@ module _ {P : Type 0} (at : P → Point) (points : List P) (contours shapes : Li
   -- they part the points
   pub rings_parted : PartsPoints (length points) rings
   rings_parted =
-      let up = rises_to shapes (length shapes) 0 (length shapes - 1) shapes_parted.order (omega arith) (omega (arith, shapes_parted.some)) in
-      parted_part contours low (high + 1) (length points) contours_parted (omega (arith, up)) (omega (arith, shapes_parted.last, contours_parted.some))
+      parted_part contours low (high + 1) (length points) contours_parted (omega (arith, spans shapes_parted)) (omega (arith, shapes_parted.last, contours_parted.some))
 
   -- they begin and end where the contours of the polygons do
   pub rings_ends : (offset rings 0 ≡ offset contours low) × (offset rings (length rings - 1) ≡ offset contours high)
   rings_ends =
       let total = count_rings in
-      let up = rises_to shapes (length shapes) 0 (length shapes - 1) shapes_parted.order (omega arith) (omega (arith, shapes_parted.some)) in
       let first : low + 0 ≡ low = omega arith in
-      let last : low + (length rings - 1) ≡ high = omega (arith, total, up) in (
-        offset_part contours low (high + 1) 0 (omega (arith, up)) ∙ ap (offset contours) first,
+      let last : low + (length rings - 1) ≡ high = omega (arith, total, spans shapes_parted) in (
+        offset_part contours low (high + 1) 0 (omega (arith, spans shapes_parted)) ∙ ap (offset contours) first,
         offset_part contours low (high + 1) (length rings - 1) (omega (arith, last)) ∙ ap (offset contours) last,
       )
 
   -- where all the points are safe, theirs are
   pub rings_safe : (width : Width) → AreSafeContours width at points contours → AreSafeContours width at points rings
   rings_safe width safe =
-      let up = rises_to shapes (length shapes) 0 (length shapes - 1) shapes_parted.order (omega arith) (omega (arith, shapes_parted.some)) in
-      subst₂ (λ a b. AreSafe width at (slice_range points a b)) (sym rings_ends.0) (sym rings_ends.1) (safe_part width at points contours low high contours_parted.order up (omega (arith, shapes_parted.last, contours_parted.some)) safe)
+      subst₂ (λ a b. AreSafe width at (slice_range points a b)) (sym rings_ends.0) (sym rings_ends.1) (safe_part width at points contours low high contours_parted.order (spans shapes_parted) (omega (arith, shapes_parted.last, contours_parted.some)) safe)
 
   -- there is room for them where there is for all
   pub room_for_polygons : (out_points out_contours out_shapes : ℕ) → HasShapesRoom (length points) (length contours) (length shapes) out_points out_contours out_shapes → HasPolygonsRoom contours shapes out_points out_contours out_shapes
@@ -243,7 +245,7 @@ module _ {P : Type 0} (at : P → Point) (points : List P) (contours shapes : Li
     where
       shape : (k j : ℕ) → j ≡ k → k + 1 < length shapes → nth_contour (parts (map at points) contours) shapes j ≡ map (map at) (parts points (rings_at rings shapes j))
       shape k j is less =
-          let up = rises k less in
+          let up = offsets_rise shapes_parted k less in
           let from = offset shapes k - low in
           let to = offset shapes (k + 1) - low + 1 in
           let total = count_rings in
@@ -281,7 +283,7 @@ module _ {P : Type 0} (at : P → Point) (points : List P) (contours shapes : Li
       let below : low + i < high = omega (arith, less, total) in
       let found = shape_of (length shapes - 1) (low + i) (omega (arith, shapes_parted.some)) (omega arith) below in
       let k = found.0 in
-      let up = rises k (omega (arith, found.1)) in
+      let up = offsets_rise shapes_parted k (omega (arith, found.1)) in
       let j = low + i - offset shapes k in
       let n = offset shapes (k + 1) - offset shapes k in
       let whole = polygons (map at points) contours shapes in

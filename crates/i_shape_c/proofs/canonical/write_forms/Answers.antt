@@ -9,7 +9,8 @@ use Rattle.i_shape_c.specs.Polygons.{polygons, offsets_of}
 use Rattle.i_shape_c.specs.Sorted.{WritesSorted}
 use Rattle.i_shape_c.proofs.Appended.{length-offsets}
 use Rattle.i_shape_c.proofs.Batches.{if_ok, on_err}
-use Rattle.i_shape_c.proofs.FormsWritten.{spans, shape_offsets, last_shape, ring_offsets, all_contours, all_points, cleaned_counts, offsets_part, form_written, none_written, none_spared, level_none, none_level, if_err}
+use Rattle.i_shape_c.proofs.PolygonsLeft.{spans}
+use Rattle.i_shape_c.proofs.FormsWritten.{shape_offsets, last_shape, ring_offsets, all_contours, all_points, cleaned_counts, offsets_part, form_written, none_written, none_spared, level_none, none_level, if_err}
 use Rattle.i_shape_c.proofs.canonical.write_forms.Given.{Over}
 use Rattle.i_shape_c.proofs.canonical.write_forms.Goals.{After-shared_slice_known-7-1, After-write_sorted-arg-3-1}
 use Rattle.i_shape_c.proofs.canonical.write_forms.Goals as goal
