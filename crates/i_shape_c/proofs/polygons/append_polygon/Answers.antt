@@ -9,7 +9,7 @@ use Rattle.i_shape_c.specs.Batch.{offset, nth_contour}
 use Rattle.i_shape_c.specs.Polygons.{parts}
 use Rattle.i_shape_core.proofs.lists.Rings.{rises_to}
 use Rattle.i_shape_c.proofs.Appended.{rings_none, polygon_put}
-use Rattle.i_shape_c.proofs.PolygonsLeft.{ShapeBegun, begun_more, begun_none, ready_still}
+use Rattle.i_shape_c.proofs.PolygonsLeft.{ShapeBegun, begun_more, begun_none, ready_still, spans}
 use Rattle.i_shape_c.proofs.polygons.append_polygon.Goals as goal
 
 pub loop-place-init : goal.loop-place-init
@@ -49,7 +49,6 @@ returns-then-written-counts-clause-left g c =
     let f : ℕ → List g.row.P.Denot = nth_contour points rings in
     let step = c.append_ring-written in
     let next : k + 1 ≡ place = omega (arith, c.loop-place.auto.place) in
-    let up = rises_to rings (length rings) 0 (length rings - 1) c.requires.parted.order (omega arith) (omega (arith, c.requires.parted.some)) in
     let is : c.part-ring.result.now ≡ f k = c.part-ring.ensures.part ∙ ap (λ j. slice_range points (offset rings k) (offset rings j)) (sym next) in
     let first : take (k + 1) (parts points rings) ≡ map f (range_with_len 0 k) ++ (f k ∷ []) =
     take-map-range_with_len f 0 (length rings - 1) (k + 1) (omega (arith, next, c.loop-place-test.true)) ∙ map-range_with_len_more f 0 k k (let e : 0 + k ≡ k = omega arith in e) in
@@ -58,13 +57,10 @@ returns-then-written-counts-clause-left g c =
     subst (λ w. AppendsRingLeft g.C.ContourCleaner.answers at w c.loop-place.out_points step.new.out_points c.loop-place.out_contours step.new.out_contours c.loop-place.written step.result) is step.ensures.left in
     subst (λ w. AppendsShapeLeft g.C.ContourCleaner.answers at w c.args.out_points.now step.new.out_points c.args.out_contours.now step.new.out_contours c.args.out_shapes.now c.args.out_shapes.now c.args.counts c.args.counts) (sym whole)
     (begun_none g.C.ContourCleaner.answers at c.args.out_points.now c.loop-place.out_points step.new.out_points c.args.out_contours.now c.loop-place.out_contours step.new.out_contours c.args.counts c.loop-place.written step.result
-    (map f (range_with_len 0 k)) (f k) (drop (k + 1) (parts points rings)) c.args.out_shapes.now c.loop-place.invariant.begun left (omega (arith, c.requires.points_room, up)) (omega (arith, c.requires.contours_room, c.requires.parted.some)) c.if-written-counts.true)
+    (map f (range_with_len 0 k)) (f k) (drop (k + 1) (parts points rings)) c.args.out_shapes.now c.loop-place.invariant.begun left (omega (arith, c.requires.points_room, spans c.requires.parted)) (omega (arith, c.requires.contours_room, c.requires.parted.some)) c.if-written-counts.true)
 
 pub returns-then-written-counts-clause-fewer_points : goal.returns-then-written-counts-clause-fewer_points
-returns-then-written-counts-clause-fewer_points g c =
-    let parted = c.requires.parted in
-    let up = rises_to c.args.rings.now (length c.args.rings.now) 0 (length c.args.rings.now - 1) parted.order (omega arith) (omega (arith, parted.some)) in
-    omega (arith, up)
+returns-then-written-counts-clause-fewer_points g c = omega (arith, spans c.requires.parted)
 
 pub returns-then-written-counts-clause-keeps_room : goal.returns-then-written-counts-clause-keeps_room
 returns-then-written-counts-clause-keeps_room g c = λ n had. c.append_ring-written.ensures.keeps_room n (c.loop-place.invariant.keeps_room n had)
@@ -81,7 +77,6 @@ loop-place-preserved g c =
     let step = c.append_ring-written in
     let next : k + 1 ≡ place = omega (arith, c.loop-place.auto.place) in
     let count : place + 1 - 1 ≡ place = omega arith in
-    let up = rises_to rings (length rings) 0 (length rings - 1) c.requires.parted.order (omega arith) (omega (arith, c.requires.parted.some)) in
     let is : c.part-ring.result.now ≡ f k = c.part-ring.ensures.part ∙ ap (λ j. slice_range points (offset rings k) (offset rings j)) (sym next) in
     let whole : map f (range_with_len 0 (place + 1 - 1)) ≡ map f (range_with_len 0 k) ++ (f k ∷ []) = ap (λ n. map f (range_with_len 0 n)) (count ∙ sym next) ∙ map-range_with_len_more f 0 k k (let e : 0 + k ≡ k = omega arith in e) in
     let left : AppendsRingLeft g.C.ContourCleaner.answers at (f k) c.loop-place.out_points step.new.out_points c.loop-place.out_contours step.new.out_contours c.loop-place.written step.result =
@@ -89,7 +84,7 @@ loop-place-preserved g c =
     record {
       begun = subst (λ w. ShapeBegun g.C.ContourCleaner.answers at w c.args.out_points.now step.new.out_points c.args.out_contours.now step.new.out_contours c.args.counts step.result) (sym whole)
           (begun_more g.C.ContourCleaner.answers at c.args.out_points.now c.loop-place.out_points step.new.out_points c.args.out_contours.now c.loop-place.out_contours step.new.out_contours c.args.counts c.loop-place.written step.result
-          (map f (range_with_len 0 k)) (f k) inv.begun left (omega (arith, c.requires.points_room, up)) (omega (arith, c.requires.contours_room, c.requires.parted.some)) c.if-written-counts.false);
+          (map f (range_with_len 0 k)) (f k) inv.begun left (omega (arith, c.requires.points_room, spans c.requires.parted)) (omega (arith, c.requires.contours_room, c.requires.parted.some)) c.if-written-counts.false);
       fewer_points = rw count (omega (arith, step.ensures.fewer_points, inv.fewer_points, c.part-ring.ensures.len));
       fewer_contours = omega (arith, step.ensures.fewer_contours, inv.fewer_contours);
       shapes = step.ensures.shapes ∙ inv.shapes;

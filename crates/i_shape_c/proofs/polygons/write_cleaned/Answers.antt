@@ -1,19 +1,15 @@
-use Rattle.std.proofs.Common.{◌-◌, length, arith}
+use Rattle.std.proofs.Common.{arith}
 use Rattle.i_shape.specs.Point.{Point}
 use Rattle.i_shape.specs.IntPoint.{point_of, contour_of}
 use Rattle.i_shape_core.specs.Rings.{AreSafeRings}
 use Rattle.i_shape_c.specs.Batch.{AreSpared}
 use Rattle.i_shape_c.specs.Cleaned.{TakesNoMemory}
-use Rattle.i_shape_core.proofs.lists.Rings.{rises_to}
 use Rattle.i_shape_c.proofs.Batches.{safe_rings, have_room, on_err}
-use Rattle.i_shape_c.proofs.PolygonsLeft.{rings, rings_ends, count_rings, rings_parted, rings_safe, rings_clean, left_written}
+use Rattle.i_shape_c.proofs.PolygonsLeft.{spans, rings, rings_ends, count_rings, rings_parted, rings_safe, rings_clean, left_written}
 use Rattle.i_shape_c.proofs.polygons.write_cleaned.Goals as goal
 
 pub part-rings-requires-clause-order : goal.part-rings-requires-clause-order
-part-rings-requires-clause-order g c =
-    let fit = c.requires.parted.shapes_parted in
-    let up = rises_to c.args.shapes.now (length c.args.shapes.now) 0 (length c.args.shapes.now - 1) fit.order (omega arith) (omega (arith, fit.some)) in
-    omega (arith, up)
+part-rings-requires-clause-order g c = omega (arith, spans c.requires.parted.shapes_parted)
 
 pub part-rings-requires-clause-within : goal.part-rings-requires-clause-within
 part-rings-requires-clause-within g c = omega (arith, c.requires.parted.shapes_parted.last, c.requires.parted.contours_parted.some)
