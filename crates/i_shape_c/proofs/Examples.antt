@@ -16,7 +16,7 @@ use Rattle.i_shape_c.specs.Compacted.{Indices, CompactsShapes}
 use Rattle.i_shape_c.specs.Locations.{rule_of, IsFilledByte, FillsAnswer, FillsPoint, IsLocated, TellsEach}
 use Rattle.i_shape_c.specs.Measures.{IsByteOf, MeasuresEach, TestsEach}
 use Rattle.i_shape_c.specs.Places.{IsFirstUnsafe, IsFirstBadOffset}
-use Rattle.i_shape_c.specs.Polygons.{parts, polygons, offsets_of, PartsPolygons, HasShapesRoom, AreNone, ShapesAnswer, CleansPolygons}
+use Rattle.i_shape_c.specs.Polygons.{parts, polygons, offsets_of, PartsPolygons, HasShapesRoom, HaveNoContours, ShapesAnswer, CleansPolygons}
 use Rattle.i_shape_c.specs.Tests.{IsTold, TestAnswer, TestsContour, TestsPoint}
 use Rattle.i_shape_c.specs.Windings.{contours_winding, WindingsAnswer, WindsAbout, WindsAboutEach}
 use Rattle.i_shape_c.specs.declared.codes.Refusal.TheVariants.{Unsafe, BadOffsets, NoMemory, NoRoom}
@@ -129,7 +129,7 @@ each_cleaned = (record { first = refl; order = order; last = refl; fewer = lit�
 
 -- no polygon leaves none: both lists of offsets are 0 alone
 abbrev None_left : List ℕ → ℤ → Type 0
-None_left new = CleansPolygons AreNone (ListClean Stays) w32 self [] (0 ∷ []) (0 ∷ []) [] [] (7 ∷ 9 ∷ []) new (7 ∷ []) (0 ∷ [])
+None_left new = CleansPolygons HaveNoContours (ListClean Stays) w32 self [] (0 ∷ []) (0 ∷ []) [] [] (7 ∷ 9 ∷ []) new (7 ∷ []) (0 ∷ [])
 
 none_left : None_left (0 ∷ 9 ∷ []) (pos 0) × (None_left (0 ∷ 9 ∷ []) (negsuc 0) → ⊥) × (None_left (0 ∷ 9 ∷ []) (pos 1) → ⊥) × (None_left (0 ∷ 9 ∷ []) (negsuc 2) → ⊥)
 none_left = (

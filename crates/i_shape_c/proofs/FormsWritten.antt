@@ -12,7 +12,7 @@ use Rattle.i_shape.specs.CanonicalShapes.{ListForm, IsShapeAtMost}
 use Rattle.i_shape.specs.ShapeAnswers.{ShapeClean, ListClean, EachShape}
 use Rattle.i_shape.proofs.lists.Surviving.{survivors_have}
 use Rattle.i_shape_c.specs.Batch.{offset, nth_contour, AreRising, PartsPoints}
-use Rattle.i_shape_c.specs.Polygons.{parts, polygons, offsets_of, AreNone, AreShapesLeft}
+use Rattle.i_shape_c.specs.Polygons.{parts, polygons, offsets_of, HaveNoContours, AreShapesLeft}
 use Rattle.i_shape_c.specs.Sorted.{SortsRest, SortsPolygons, WritesSorted}
 use Rattle.i_shape_c.proofs.Appended.{length-offsets}
 use Rattle.i_shape_c.proofs.PolygonLists.{polygon_at, polygons-map, all_from}
@@ -130,7 +130,7 @@ module _ {P : Type 0} (Form : List Point → Option (List Point) → Type 0) {at
       (omega (arith, counts.0, reads.0, left.count)) (omega (arith, counts.2, reads.2, left.fewer_points)) (omega (arith, counts.1, reads.1, left.fewer_contours)) (omega (arith, counts.0, reads.0, left.count, left.fewer_shapes))
 
   -- where no polygon has a contour, what is left of them is their form
-  pub none_written : AreNone (polygons (map at points) contours shapes) → AreShapesLeft (ListForm Form) at points contours shapes old_points new_points old_contours new_contours old_shapes new_shapes n
+  pub none_written : HaveNoContours (polygons (map at points) contours shapes) → AreShapesLeft (ListForm Form) at points contours shapes old_points new_points old_contours new_contours old_shapes new_shapes n
   none_written none = record {
     list = left.list;
     left = form_of_cleaned Form (polygons (map at points) contours shapes) left.list left.list left.left sorts;
@@ -172,7 +172,7 @@ if_err (Ok a) f h = h
 if_err (Err e) f h = f h
 
 -- polygons without a contour take no memory
-pub none_spared : (Passes : List Point → Type 0) (list : List (List (List Point))) → AreNone list → EachShape Passes list
+pub none_spared : (Passes : List Point → Type 0) (list : List (List (List Point))) → HaveNoContours list → EachShape Passes list
 none_spared Passes list none = λ k d less. subst (All Passes) (sym (none k d less)) (All-nil Passes)
 
 module _ {X : Type 0} (points : List X) (contours : List ℕ) {shapes : List ℕ} (parted : PartsPoints (length contours - 1) shapes) where

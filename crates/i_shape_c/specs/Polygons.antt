@@ -53,8 +53,8 @@ ShapesAnswer Gives point points contours shapes old_points new_points old_contou
     (n < 4) × (new_points ≡ old_points) × (new_contours ≡ old_contours) × (new_shapes ≡ old_shapes)
 
 -- no polygon has a contour
-abbrev pub AreNone : List (List (List Point)) → Type 0
-AreNone list = All (λ shape. shape ≡ []) list
+abbrev pub HaveNoContours : List (List (List Point)) → Type 0
+HaveNoContours list = All (λ shape. shape ≡ []) list
 
 -- what a call that cleans polygons returns and leaves, and exactly when it returns a code: `Gives` relates the polygons
 -- to what is left of them, and the call never returns the code of a failed allocation for polygons of which `Spares`

@@ -5,7 +5,7 @@ ghost use Rattle.i_shape.specs.CanonicalShapes.{ListForm};
 ghost use Rattle.i_shape.specs.Paths.{concatenated};
 ghost use Rattle.i_shape_c.specs.Batch.{PartsPoints, AreSafeContours};
 ghost use Rattle.i_shape_c.specs.Points.{point_by};
-ghost use Rattle.i_shape_c.specs.Polygons.{polygons, AreNone, PartsPolygons, HasShapesRoom, AreShapesLeft, CleansPolygons};
+ghost use Rattle.i_shape_c.specs.Polygons.{polygons, HaveNoContours, PartsPolygons, HasShapesRoom, AreShapesLeft, CleansPolygons};
 ghost use Rattle.i_shape_c.specs.Sorted.{WritesSorted};
 
 use crate::batch::part;
@@ -29,7 +29,7 @@ pub fn form_shapes<P: CPoint, C: ContourCleaner>(
     out_shapes: &mut [usize],
 ) -> isize
     requires { length out_shapes.old < 2 ^ 63 }
-    ensures { CleansPolygons AreNone (ListForm C.answers) P.Coordinate.width
+    ensures { CleansPolygons HaveNoContours (ListForm C.answers) P.Coordinate.width
         (point_by P.Coordinate.value P.point) points.now contours.now shapes.now
         out_points.old out_points.new out_contours.old out_contours.new
         out_shapes.old out_shapes.new result }
@@ -80,12 +80,10 @@ fn write_forms<P: CPoint, C: ContourCleaner>(
         out_contours.old out_contours.new out_shapes.old out_shapes.new n) }
     ensures err { OnErr result ((out_points.new ≡ out_points.old)
         × (out_contours.new ≡ out_contours.old) × (out_shapes.new ≡ out_shapes.old)) }
-    ensures memory { OnErr result (AreNone (polygons
+    ensures memory { OnErr result (HaveNoContours (polygons
         (map (point_by P.Coordinate.value P.point) points.now) contours.now shapes.now) → ⊥) }
 {
-    let first = shapes[0];
-    let last = shapes[shapes.len() - 1];
-    if first == last {
+    if shapes[0] == shapes[shapes.len() - 1] {
         return write_cleaned::<P, C>(
             alloc,
             points,
@@ -96,6 +94,42 @@ fn write_forms<P: CPoint, C: ContourCleaner>(
             out_shapes,
         );
     }
+    write_sorted_forms::<P, C>(
+        alloc,
+        points,
+        contours,
+        shapes,
+        out_points,
+        out_contours,
+        out_shapes,
+    )
+}
+
+/// Does the same by way of lists of its own, which hold the cleaned polygons. Allocates before it writes, so an error
+/// leaves the arrays unchanged.
+fn write_sorted_forms<P: CPoint, C: ContourCleaner>(
+    alloc: Global,
+    points: &[P],
+    contours: &[usize],
+    shapes: &[usize],
+    out_points: &mut [P],
+    out_contours: &mut [usize],
+    out_shapes: &mut [usize],
+) -> Result<usize, ShapeError>
+    requires parted { PartsPolygons (length points.now) contours.now shapes.now }
+    requires room { HasShapesRoom (length points.now) (length contours.now) (length shapes.now)
+        (length out_points.old) (length out_contours.old) (length out_shapes.old) }
+    requires points_safe { AreSafeContours P.Coordinate.width
+        (point_by P.Coordinate.value P.point) points.now contours.now }
+    ensures ok { IfOk result
+        (λ n. AreShapesLeft (ListForm C.answers) (point_by P.Coordinate.value P.point)
+        points.now contours.now shapes.now out_points.old out_points.new
+        out_contours.old out_contours.new out_shapes.old out_shapes.new n) }
+    ensures err { OnErr result ((out_points.new ≡ out_points.old)
+        × (out_contours.new ≡ out_contours.old) × (out_shapes.new ≡ out_shapes.old)) }
+{
+    let first = shapes[0];
+    let last = shapes[shapes.len() - 1];
     let mut cleaned_points = vec![in alloc; P::ZERO; contours[last] - contours[first]]?;
     let mut cleaned_contours = vec![in alloc; 0usize; last - first + 1]?;
     let mut cleaned_shapes = vec![in alloc; 0usize; shapes.len()]?;

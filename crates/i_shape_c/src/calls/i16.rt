@@ -13,7 +13,7 @@ ghost use Rattle.i_shape_c.specs.Cleaned.{TakesNoMemory, AreSafe, CleansContour}
 ghost use Rattle.i_shape_c.specs.Batch.{CleansContours};
 ghost use Rattle.i_shape_c.specs.Areas.{IsDoubleArea};
 ghost use Rattle.i_shape_c.specs.Tests.{IsTold, TestsContour, TestsPoint};
-ghost use Rattle.i_shape_c.specs.Polygons.{AreNone, CleansPolygons};
+ghost use Rattle.i_shape_c.specs.Polygons.{HaveNoContours, CleansPolygons};
 ghost use Rattle.i_shape_c.specs.Windings.{WindsAbout, WindsAboutEach};
 ghost use Rattle.i_shape_c.specs.Locations.{FillsPoint, IsFilledByte, IsLocated, TellsEach};
 ghost use Rattle.i_shape_c.specs.Places.{IsFirstUnsafe};
@@ -229,7 +229,7 @@ pub extern "C" fn i_shape_canonical_shapes_i16(
     out_contours: &mut [usize],
     out_shapes: &mut [usize],
 ) -> isize
-    ensures { CleansPolygons AreNone (ListForm CanonicalAnswer) w16 point_i16
+    ensures { CleansPolygons HaveNoContours (ListForm CanonicalAnswer) w16 point_i16
         points.now contours.now shapes.now out_points.old out_points.new
         out_contours.old out_contours.new out_shapes.old out_shapes.new result }
 {
@@ -256,7 +256,7 @@ pub extern "C" fn i_shape_canonical_unoriented_shapes_i16(
     out_contours: &mut [usize],
     out_shapes: &mut [usize],
 ) -> isize
-    ensures { CleansPolygons AreNone (ListForm UnorientedAnswer) w16 point_i16
+    ensures { CleansPolygons HaveNoContours (ListForm UnorientedAnswer) w16 point_i16
         points.now contours.now shapes.now out_points.old out_points.new
         out_contours.old out_contours.new out_shapes.old out_shapes.new result }
 {
