@@ -3,9 +3,14 @@ use std::alloc::{AllocError, Global};
 use std::test::Fail;
 
 /// The commands, each with a text, and the words behind its name.
-const TEXTS: [(Command, &str, &str); 6] = [
+const TEXTS: [(Command, &str, &str); 7] = [
     (Command::Simplify, "0 0 2 0 4 0 4 4\n", ""),
     (Command::Simplify, "0 0 4 0 4 4\n", " of a clean line"),
+    (
+        Command::Simplify,
+        "0 0 2 0 4 0 4 4\n0 0 2 0 4 0 4 4\n",
+        " of two lines",
+    ),
     (Command::Despike, "0 0 4 0 8 0 4 0 4 4\n", ""),
     (Command::Area, "0 0 1 0 0 1\n", ""),
     (Command::Canonical, "4 0 4 4 0 0 2 0\n", ""),
