@@ -3,4 +3,3 @@ pub mod Kept
 pub mod Order
 pub mod SortedOrders
 pub mod Forms
-pub mod FewerForms

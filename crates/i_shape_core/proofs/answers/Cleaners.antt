@@ -1,10 +1,8 @@
 -- What shapes and lists take of the answers of each cleaner.
-use Rattle.std.proofs.Common.{◌<◌, ◌≤◌, inl, inr, List, length, reverse, Some, None, sym, subst, arith, All}
+use Rattle.std.proofs.Common.{◌<◌, List, length, Some, None, arith, All}
 use Rattle.std.specs.Int.{Width}
-use Rattle.std.proofs.lemmas.List.{length-reverse}
 use Rattle.i_shape_core.proofs.Common.{Point, IsSafe, SimpleAnswer, DespikeAnswer, CanonicalAnswer, UnorientedAnswer}
 use Rattle.i_shape_core.proofs.removal.Ends.{reach_shrinks}
-use Rattle.i_shape_core.proofs.removal.Rotations.{rotation_length}
 use Rattle.i_shape_core.proofs.answers.Kept.{spikeless_long, simple_left, despike_left}
 use Rattle.i_shape_core.proofs.forms.Unoriented.{canonical_left, unoriented_left}
 
@@ -23,17 +21,6 @@ canonical_safe width = canonical_left (IsSafe width)
 -- the unoriented form of a contour of safe points has safe points alone
 pub unoriented_safe : (width : Width) (c l : List Point) → UnorientedAnswer c (Some l) → All (IsSafe width) c → All (IsSafe width) l
 unoriented_safe width = unoriented_left (IsSafe width)
-
--- the canonical form has no more points than the contour
-pub canonical_fewer : (c l : List Point) → CanonicalAnswer c (Some l) → length l ≤ length c
-canonical_fewer c l one = omega (arith, rotation_length one.least.rotation, reach_shrinks one.ends.ended.reached)
-
--- the unoriented form has no more points than the contour
-pub unoriented_fewer : (c l : List Point) → UnorientedAnswer c (Some l) → length l ≤ length c
-unoriented_fewer c l one = elim one.one [
-  | inl same ↦ subst (λ d. length d ≤ length c) (sym same) (canonical_fewer c one.forwards one.is_forwards)
-  | inr same ↦ subst (λ d. length d ≤ length c) (sym same) (omega (arith, length-reverse c, canonical_fewer (reverse c) one.backwards one.is_backwards))
-]
 
 -- a contour of fewer than three points collapses
 pub simple_short : (c : List Point) → length c < 3 → SimpleAnswer c None
