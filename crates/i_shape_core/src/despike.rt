@@ -1,13 +1,12 @@
 //! Contours without spikes: the tests, the cleaned copy, and the cleaner.
 
-ghost use Rattle.std.specs.Prelude.{◌≡◌, ◌↔◌, ◌+◌, ◌-◌, ◌*◌, ◌^◌, ◌<◌, ◌≤◌, List, Some, length, map, option_map, false, IsTrue, IsNone, IfOk, OnOk, IsOk, IsOkUnless, vec_capacity};
+ghost use Rattle.std.specs.Prelude.{◌≡◌, ◌↔◌, ◌+◌, ◌-◌, ◌*◌, ◌^◌, ◌<◌, ◌<ℤ◌, ◌≤◌, pos, List, Some, length, map, option_map, false, IsTrue, IsNone, IfOk, OnOk, IsOk, IsOkUnless, vec_capacity};
 ghost use Rattle.std.specs.Option.{IfSome};
 ghost use Rattle.std.specs.List.{All};
 ghost use Rattle.i_shape_core.specs.IntPoint.{contour_of, point_of, IsSafe, answered, IsSafeContour};
-ghost use Rattle.i_shape_core.specs.Point.{Point, IsBack};
+ghost use Rattle.i_shape_core.specs.Point.{Point, IsBack, cross_of, dot_of};
 ghost use Rattle.i_shape_core.specs.Contour.{Sublist, point_at};
-ghost use Rattle.i_shape_core.specs.Blocks.{GoesBack, last_change};
-ghost use Rattle.i_shape_core.specs.Convex.{NoSpikes, last_of};
+ghost use Rattle.i_shape_core.specs.Convex.{NoSpikes};
 ghost use Rattle.i_shape_core.specs.Cleaners.{IsDespikedAlready, SpikelessAnswer, KeptAnswer, VisitsAnswer};
 ghost use Rattle.i_shape_core.specs.Walks.{RisingPlaces, WalkAnswer, Finds, Falls, FirstAnswer, IsRingState, PassesAtPlace, from_contour_first, ring_of_all};
 ghost use Rattle.i_shape_core.specs.Refusals.{OkUnlessMemory};
@@ -393,49 +392,31 @@ pub fn has_no_spikes<P: ContourPoint>(points: &[P]) -> bool
     let Some(last) = points.last() else {
         return false;
     };
-    let here = last.to_point();
+    let mut here = last.to_point();
     let Some(behind) = last_other(points, here) else {
         return false;
     };
-    walk_onward(here - behind, here, points).is_some()
-}
-
-/// Returns the last edge and the last point of the path from `start` over a block of points, or `None` if it turns back. The edge `first`
-/// leads to `start`. Repeated points are skipped.
-#[inline(always)]
-fn walk_onward<P: ContourPoint>(
-    first: IntPoint<P::Coordinate>,
-    start: IntPoint<P::Coordinate>,
-    block: &[P],
-) -> Option<(IntPoint<P::Coordinate>, IntPoint<P::Coordinate>)>
-    requires start_safe { IsSafe P.Coordinate.width (point_of P.Coordinate.value start) }
-    requires block_safe { IsSafeContour P.Coordinate.width
-        (contour_of P.Coordinate.value (P.points block.now)) }
-    ensures back { IsNone result ↔ GoesBack (point_of P.Coordinate.value first)
-        (point_of P.Coordinate.value start) (contour_of P.Coordinate.value (P.points block.now)) }
-    ensures edge { IfSome result (λ r. point_of P.Coordinate.value r.0
-        ≡ last_change (point_of P.Coordinate.value first)
-        (point_of P.Coordinate.value start) (contour_of P.Coordinate.value (P.points block.now))) }
-    ensures end { IfSome result (λ r. point_of P.Coordinate.value r.1
-        ≡ last_of (point_of P.Coordinate.value start)
-        (contour_of P.Coordinate.value (P.points block.now))) }
-    ensures end_safe { IfSome result
-        (λ r. IsSafe P.Coordinate.width (point_of P.Coordinate.value r.1)) }
-{
-    let mut edge = first;
-    let mut here = start;
-    for given in block {
+    let mut edge = here - behind;
+    for given in points {
         let point = given.to_point();
-        if !are_same(here, point) {
-            let next = point - here;
-            if edge.is_parallel_to(next) {
-                if edge.dot_product(next) < <P::Coordinate as IntNumber>::Wide::ZERO {
-                    return None;
-                }
-            }
-            edge = next;
+        if are_same(here, point) {
+            continue;
         }
+        let next = point - here;
+        if goes_back(edge, next) {
+            return false;
+        }
+        edge = next;
         here = point;
     }
-    Some((edge, here))
+    true
+}
+
+/// Returns whether a path that comes along `edge` goes back along `next`. The `x` of `next` isn't `I::MIN`.
+fn goes_back<I: IntNumber>(edge: IntPoint<I>, next: IntPoint<I>) -> bool
+    requires { ¬ (next.x ≡ I.MIN) }
+    ensures { IsTrue result ↔ (cross_of (point_of I.value edge) (point_of I.value next) ≡ pos 0)
+        × (dot_of (point_of I.value edge) (point_of I.value next) <ℤ pos 0) }
+{
+    edge.is_parallel_to(next) && edge.dot_product(next) < I::Wide::ZERO
 }

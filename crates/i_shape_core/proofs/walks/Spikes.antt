@@ -1,7 +1,7 @@
 -- The walk that looks for spikes.
-use Rattle.std.proofs.Common.{◌≡◌, ◌≢◌, ℕ, ◌-◌, ◌<◌, ◌≤◌, List, [], ◌∷◌, ◌++◌, reverse, length, get_or, Option, Some, None, option_map, unwrap_or, not, ℤ, pos, int_lt, ◌<ℤ◌, T, refl, sym, ap, subst, ◌∙◌, arith, ◌⊎◌, inl, inr, ◌↔◌, Bool, true, false, cond, ◌&&◌, IsTrue, IsNone, is_some, All, find, int_eq}
+use Rattle.std.proofs.Common.{◌≡◌, ◌≢◌, ℕ, ◌-◌, ◌<◌, ◌≤◌, List, [], ◌∷◌, ◌++◌, reverse, length, get_or, Option, Some, None, option_map, unwrap_or, not, ℤ, pos, int_lt, ◌<ℤ◌, T, refl, sym, ap, subst, ◌∙◌, arith, ◌⊎◌, inl, inr, ◌↔◌, Bool, true, false, cond, ◌&&◌, IsTrue, All, find, int_eq}
 use Rattle.std.proofs.lemmas.Int.{ints}
-use Rattle.std.proofs.lemmas.List.{reverse-append, append-nil}
+use Rattle.std.proofs.lemmas.List.{reverse-append}
 use Rattle.std.proofs.lemmas.List.Elements.{All-head, All-tail, All-push}
 use Rattle.std.proofs.lemmas.List.Folds.{find-append}
 use Rattle.std.proofs.lemmas.Bool.Decides.{same_from_decides}
@@ -10,7 +10,6 @@ use Rattle.std.specs.Option.{option_or}
 use Rattle.std.specs.Cmp.{signed_Decides}
 use Rattle.i_shape_core.specs.Point.{Point, origin, vector, cross, cross_of, dot, dot_of, IsBack}
 use Rattle.i_shape_core.proofs.Common.{Test, point_at, place_before, place_after, IsRemovable, point_of, contour_of, IsSafe, IntPoint}
-use Rattle.i_shape_core.specs.Blocks.{Reverses, GoesBack, last_change}
 use Rattle.i_shape_core.specs.Convex.{is_same, is_reversal, changes_after, last_of, dedup, NoSpikes, IsReversal, cross_at}
 use Rattle.i_shape_core.proofs.convex.Laws.{Has, IsReversed}
 use Rattle.i_shape_core.proofs.measure.InsideWalk.{last_point}
@@ -145,38 +144,54 @@ three_left c o h none = go (changes_after p c) h (changes_apart p c) (changes_la
     go (x ∷ y ∷ []) h a e none = absurd (none (inr (inl (subst (λ (z : Point). IsReversed p x z) (sym e) (back_reversed p x a.0)))))
     go (x ∷ y ∷ z ∷ d) h a e none = omega arith
 
--- ---- the walk over a contour of which not all points are the same: o and p are the last two that differ, no turn so far reverses, and the rest is still to come
-pub record Walking (c : List Point) (o p : Point) (rest : List Point) : Type 0 where
+-- ---- the walk over a contour of which not all points are the same: the edge e leads to p, no turn so far reverses, and the rest is still to come
+pub record Walking (c : List Point) (e p : Point) (rest : List Point) : Type 0 where
+  pub from : Point
+  pub edge : e ≡ vector from p
   pub differ : first_behind c ≢ last_of origin c
-  pub met : Told IsReversed c ⊥ o p rest
+  pub met : Told IsReversed c ⊥ from p rest
 
-walking_start : (c : List Point) → first_behind c ≢ last_of origin c → Walking c (first_behind c) (last_of origin c) c
-walking_start c n = record { differ = n; met = told-start IsReversed c ⊥ (λ x. x) }
+-- a repeated point changes nothing
+pub walking_skip : (c : List Point) (e p q : Point) (rest : List Point) → is_same p q ≡ true → Walking c e p (q ∷ rest) → Walking c e p rest
+walking_skip c e p q rest f w = record { from = w.from; edge = w.edge; differ = w.differ; met = told-skip IsReversed c ⊥ w.from p q rest f w.met }
 
-walking_skip : (c : List Point) (o p q : Point) (rest : List Point) → is_same p q ≡ true → Walking c o p (q ∷ rest) → Walking c o p rest
-walking_skip c o p q rest e w = record { differ = w.differ; met = told-skip IsReversed c ⊥ o p q rest e w.met }
+-- a test of two edges tells whether the way over three points reverses
+reverses : (e v o p q : Point) (b : Bool) → e ≡ vector o p → v ≡ vector p q → IsTrue b ↔ (cross_of e v ≡ pos 0) × (dot_of e v <ℤ pos 0) → IsTrue b ↔ IsReversed o p q
+unfolding cross dot
+reverses e v o p q b f g t = rw (f, g) at t
 
-walking_on : (c : List Point) (o p q : Point) (rest : List Point) → is_same p q ≡ false → is_reversal o p q ≡ false → Walking c o p (q ∷ rest) → Walking c p q rest
-walking_on c o p q rest e f w = record {
+-- the way goes on to another point, where it doesn't go back
+pub walking_on : (c : List Point) (e v p q : Point) (rest : List Point) (b : Bool) → is_same p q ≡ false → v ≡ vector p q → IsTrue b ↔ (cross_of e v ≡ pos 0) × (dot_of e v <ℤ pos 0) → b ≡ false
+    → Walking c e p (q ∷ rest) → Walking c v q rest
+walking_on c e v p q rest b f g t m w = record {
+  from = p;
+  edge = g;
   differ = w.differ;
-  met = told-on IsReversed c ⊥ ⊥ (IsReversed o p q) o p q rest e (λ x. x, λ x. x) (λ x. absurd x, λ x. elim x [ inl y ↦ y | inr y ↦ reversal_no o p q f y ]) w.met;
+  met = told-on IsReversed c ⊥ ⊥ (IsTrue b) w.from p q rest f (reverses e v w.from p q b w.edge g t) (λ x. absurd x, λ x. elim x [ inl y ↦ y | inr y ↦ absurd (cc) ]) w.met;
 }
 
--- with a reversal it has spikes
-spike_found : (c : List Point) (o p q : Point) (rest : List Point) → is_same p q ≡ false → is_reversal o p q ≡ true → Walking c o p (q ∷ rest) → NoSpikes c → ⊥
+-- where it goes back, there is a spike
+pub spike_found : (c : List Point) (e v p q : Point) (rest : List Point) (b : Bool) → is_same p q ≡ false → v ≡ vector p q → IsTrue b ↔ (cross_of e v ≡ pos 0) × (dot_of e v <ℤ pos 0) → b ≡ true
+    → Walking c e p (q ∷ rest) → IsTrue false ↔ NoSpikes c
 unfolding Has cross_at
-spike_found c o p q rest e f w h =
-    let m = told-met IsReversed c ⊥ (IsReversed o p q) o p q rest e (λ x. x) w.met (inr (reversal_yes o p q f)) in
-    let k = (has_met IsReversed c (first_behind c) h.enough (last_but_one_differs c (last_of origin c) (omega (arith, h.enough)))).1 m in
-    h.none k.0 (record { within = k.1.within; straight = k.1.passes.0; back = k.1.passes.1 })
+spike_found c e v p q rest b f g t y w = (
+  λ x. absurd (cc),
+  λ h.
+      let m = told-met IsReversed c ⊥ (IsTrue b) w.from p q rest f (reverses e v w.from p q b w.edge g t).0 w.met (inr y) in
+      let k = (has_met IsReversed c (first_behind c) h.enough (last_but_one_differs c (last_of origin c) (omega (arith, h.enough)))).1 m in
+      absurd (h.none k.0 (record { within = k.1.within; straight = k.1.passes.0; back = k.1.passes.1 })),
+)
 
--- at the end it has none
-no_spike_found : (c : List Point) (o p : Point) → Walking c o p [] → NoSpikes c
+-- at the end there is none
+pub no_spike_found : (c : List Point) (e p : Point) → Walking c e p [] → IsTrue true ↔ NoSpikes c
 unfolding Has cross_at
-no_spike_found c o p w = record {
-  enough = enough;
-  none = λ k r. none ((has_met IsReversed c (first_behind c) enough (last_but_one_differs c (last_of origin c) (omega (arith, enough)))).0 (k, record { enough = enough; within = r.within; passes = (r.straight, r.back) }));
-}
+no_spike_found c e p w = (
+  λ x. record {
+    enough = enough;
+    none = λ k r. none ((has_met IsReversed c (first_behind c) enough (last_but_one_differs c (last_of origin c) (omega (arith, enough)))).0 (k, record { enough = enough; within = r.within; passes = (r.straight, r.back) }));
+  },
+  λ x. refl,
+)
   where
     none : Met IsReversed (first_behind c) (last_of origin c) c → ⊥
     none m = elim (w.met.0 m) [ inl x ↦ x | inr x ↦ x ]
@@ -296,109 +311,10 @@ found_safe {I} w value cs last behind safe e =
     (found_one (λ q. not (is_same (point_of value last) (point_of value q))) P (reverse cs) behind e (all_backwards P cs (points_safe w value cs safe))).0
 
 -- the walk begins with the last point, and the last that differs from it
-pub walking_begins : {I : Type 0} (value : I → ℤ) (cs : List (IntPoint I)) (last behind : IntPoint I) → 0 < length cs → last ≡ get_or cs (length cs - 1) last
-    → Some behind ≡ found_differing value last cs → Walking (contour_of value cs) (point_of value behind) (point_of value last) (contour_of value cs)
-walking_begins value cs last behind h e f =
-    holds_at_start value cs last behind h e f (λ o p. o ≢ p → Walking (contour_of value cs) o p (contour_of value cs)) (walking_start (contour_of value cs)) (found_differs value cs last behind f)
-
--- ---- the walk that carries the edge by which it came, in place of the point before
-pub record EdgeWalking (c : List Point) (e p : Point) (rest : List Point) : Type 0 where
-  pub from : Point
-  pub edge : e ≡ vector from p
-  pub walking : Walking c from p rest
-
--- a repeated point changes nothing
-edge_skips : (c : List Point) (e p q : Point) (rest : List Point) → is_same p q ≡ true → EdgeWalking c e p (q ∷ rest) → EdgeWalking c e p rest
-edge_skips c e p q rest f w = record { from = w.from; edge = w.edge; walking = walking_skip c w.from p q rest f w.walking }
-
--- another point at which the way doesn't go back
-edge_goes_on : (c : List Point) (e p q : Point) (rest : List Point) → is_same p q ≡ false
-    → (cross_of e (vector p q) ≡ pos 0 → dot_of e (vector p q) <ℤ pos 0 → ⊥) → EdgeWalking c e p (q ∷ rest) → EdgeWalking c (vector p q) q rest
-unfolding cross dot
-edge_goes_on c e p q rest f onward w = record { from = p; edge = refl; walking = walking_on c w.from p q rest f (go (is_reversal w.from p q) refl) w.walking }
-  where
-    none : IsReversed w.from p q → ⊥
-    none r = subst (λ (v : Point). (cross_of v (vector p q) ≡ pos 0 → dot_of v (vector p q) <ℤ pos 0 → ⊥)) w.edge onward r.0 r.1
-
-    go : (b : Bool) → is_reversal w.from p q ≡ b → b ≡ false
-    go false g = refl
-    go true g = absurd (none (reversal_yes w.from p q g))
-
--- where it goes back, there is a spike
-edge_stops : (c : List Point) (e p q : Point) (rest : List Point) → is_same p q ≡ false
-    → cross_of e (vector p q) ≡ pos 0 → dot_of e (vector p q) <ℤ pos 0 → EdgeWalking c e p (q ∷ rest) → NoSpikes c → ⊥
-unfolding cross dot
-edge_stops c e p q rest f flat back w = spike_found c w.from p q rest f (go (is_reversal w.from p q) refl) w.walking
-  where
-    reversed : IsReversed w.from p q
-    reversed = subst (λ (v : Point). (cross_of v (vector p q) ≡ pos 0) × (dot_of v (vector p q) <ℤ pos 0)) w.edge (flat, back)
-
-    go : (b : Bool) → is_reversal w.from p q ≡ b → b ≡ true
-    go true g = refl
-    go false g = absurd (reversal_no w.from p q g reversed)
-
--- it passes a block of points among which the way doesn't go back
-edge_over : (c : List Point) (e p : Point) (qs rs : List Point) → (GoesBack e p qs → ⊥) → EdgeWalking c e p (qs ++ rs) → EdgeWalking c (last_change e p qs) (last_of p qs) rs
-edge_over c e p [] rs n w = w
-edge_over c e p (q ∷ qs) rs n w = go (λ v m x. edge_over c v q qs rs m x) (is_same p q) refl n
-  where
-    go : ((v : Point) → (GoesBack v q qs → ⊥) → EdgeWalking c v q (qs ++ rs) → EdgeWalking c (last_change v q qs) (last_of q qs) rs) → (t : Bool) → is_same p q ≡ t
-        → (cond t (GoesBack e q qs) (Reverses e p q ⊎ GoesBack (vector p q) q qs) → ⊥) → EdgeWalking c (cond t (last_change e q qs) (last_change (vector p q) q qs)) (last_of q qs) rs
-    go later true s m = later e m (subst (λ (r : Point). EdgeWalking c e r (qs ++ rs)) (same_yes p q s) (edge_skips c e p q (qs ++ rs) s w))
-    go later false s m = later (vector p q) (λ b. m (inr b)) (edge_goes_on c e p q (qs ++ rs) s (λ z d. m (inl (z, d))) w)
-
--- where it goes back among them, there is a spike
-edge_ends : (c : List Point) (e p : Point) (qs rs : List Point) → GoesBack e p qs → EdgeWalking c e p (qs ++ rs) → NoSpikes c → ⊥
-edge_ends c e p [] rs b w h = absurd b
-edge_ends c e p (q ∷ qs) rs b w h = go (λ v m x. edge_ends c v q qs rs m x h) (is_same p q) refl b
-  where
-    go : ((v : Point) → GoesBack v q qs → EdgeWalking c v q (qs ++ rs) → ⊥) → (t : Bool) → is_same p q ≡ t → cond t (GoesBack e q qs) (Reverses e p q ⊎ GoesBack (vector p q) q qs) → ⊥
-    go later true s m = later e m (subst (λ (r : Point). EdgeWalking c e r (qs ++ rs)) (same_yes p q s) (edge_skips c e p q (qs ++ rs) s w))
-    go later false s (inl (z, d)) = edge_stops c e p q (qs ++ rs) s z d w h
-    go later false s (inr m) = later (vector p q) m (edge_goes_on c e p q (qs ++ rs) s (λ z d. edge_stops c e p q (qs ++ rs) s z d w h) w)
-
--- ---- within a block: what the walk knows at the edge e and the point p, with the rest of the block still to come
-pub record IsOnward (block : List Point) (first start e p : Point) (rest : List Point) : Type 0 where
-  pub told : GoesBack e p rest ↔ GoesBack first start block
-  pub edge : last_change e p rest ≡ last_change first start block
-  pub here : last_of p rest ≡ last_of start block
-
--- it starts with the whole block
-pub onward_start : (block : List Point) (first start : Point) → IsOnward block first start first start block
-onward_start block first start = record { told = (λ b. b, λ b. b); edge = refl; here = refl }
-
--- passes over a repeated point
-pub onward_skips : (block : List Point) (first start e p q : Point) (rest : List Point) → is_same p q ≡ true → IsOnward block first start e p (q ∷ rest) → IsOnward block first start e q rest
-onward_skips block first start e p q rest s w = record { told = rw s at w.told; edge = rw s at w.edge; here = w.here }
-
--- passes another point at which the way doesn't go back
-pub onward_on : (block : List Point) (first start e p q : Point) (rest : List Point) → is_same p q ≡ false → (cross_of e (vector p q) ≡ pos 0 → dot_of e (vector p q) <ℤ pos 0 → ⊥)
-    → IsOnward block first start e p (q ∷ rest) → IsOnward block first start (vector p q) q rest
-onward_on block first start e p q rest s n w = let told = rw s at w.told in record {
-  told = (λ b. told.0 (inr b), λ b. elim (told.1 b) [ inl r ↦ absurd (n r.0 r.1) | inr later ↦ later ]);
-  edge = rw s at w.edge;
-  here = w.here;
-}
-
--- and stops at one at which it does
-pub onward_stops : (block : List Point) (first start e p q : Point) (rest : List Point) → is_same p q ≡ false → cross_of e (vector p q) ≡ pos 0 → dot_of e (vector p q) <ℤ pos 0
-    → IsOnward block first start e p (q ∷ rest) → GoesBack first start block
-onward_stops block first start e p q rest s z d w = (rw s at w.told).0 (inl (z, d))
-
--- the last block tells whether the contour has spikes
-pub last_block_tells : {I A : Type 0} (value : I → ℤ) (c : List Point) (e p : Point) (rest : List (IntPoint I)) (last_but_one_differs : Option A) (onward : Bool) → onward ≡ is_some last_but_one_differs
-    → IsNone last_but_one_differs ↔ GoesBack e p (contour_of value rest) → EdgeWalking c e p (contour_of value rest) → IsTrue onward ↔ NoSpikes c
-last_block_tells {I} {A} value c e p rest last_but_one_differs onward same told w = go last_but_one_differs same told
-  where
-    whole : EdgeWalking c e p (contour_of value rest ++ [])
-    whole = subst (EdgeWalking c e p) (sym (append-nil (contour_of value rest))) w
-
-    free : (GoesBack e p (contour_of value rest) → ⊥) → NoSpikes c
-    free n = let w = edge_over c e p (contour_of value rest) [] n whole in no_spike_found c w.from (last_of p (contour_of value rest)) w.walking
-
-    go : (f : Option A) → onward ≡ is_some f → IsNone f ↔ GoesBack e p (contour_of value rest) → IsTrue onward ↔ NoSpikes c
-    go (Some r) s h = (λ x. free (λ b. let f = h.1 b in absurd (cc)), λ x. s)
-    go None s h = (λ x. absurd (cc), λ x. absurd (edge_ends c e p (contour_of value rest) [] (h.0 refl) whole x))
+pub walking_begins : {I : Type 0} (value : I → ℤ) (cs : List (IntPoint I)) (last behind : IntPoint I) (e : Point) → 0 < length cs → last ≡ get_or cs (length cs - 1) last
+    → Some behind ≡ found_differing value last cs → e ≡ vector (point_of value behind) (point_of value last) → Walking (contour_of value cs) e (point_of value last) (contour_of value cs)
+walking_begins value cs last behind e h r f k = holds_at_start value cs last behind h r f (λ o p. o ≢ p → e ≡ vector o p → Walking (contour_of value cs) e p (contour_of value cs))
+    (λ n g. record { from = _; edge = g; differ = n; met = told-start IsReversed (contour_of value cs) ⊥ (λ x. x) }) (found_differs value cs last behind f) k
 
 -- a contour of which no point turns back has no spikes
 pub spikeless_end : (d : List Point) → 3 ≤ length d → ((k : ℕ) → IsRemovable IsBack d k → ⊥) → NoSpikes d

@@ -1,9 +1,9 @@
-use Rattle.std.proofs.Common.{arith}
-use Rattle.i_shape_core.specs.IntPoint.{point_of}
-use Rattle.i_shape_core.proofs.arithmetic.Coordinates.{safe_points-apart}
-use Rattle.i_shape_core.proofs.plane.PointLists.{points-length, last_read}
+use Rattle.std.proofs.Common.{◌∙◌, sym, ap, arith}
+use Rattle.i_shape_core.proofs.arithmetic.Coordinates.{safe_points-apart, safe_vector-above}
+use Rattle.i_shape_core.proofs.plane.Contours.{rest-read, rest-none}
+use Rattle.i_shape_core.proofs.plane.PointLists.{points-length, item_read, last_read}
 use Rattle.i_shape_core.proofs.plane.SafeParts.{item_safe}
-use Rattle.i_shape_core.proofs.walks.Spikes.{walking_begins, none_differs, found_safe, nothing_told, last_block_tells}
+use Rattle.i_shape_core.proofs.walks.Spikes.{walking_begins, walking_skip, walking_on, spike_found, no_spike_found, none_differs, found_safe, nothing_told}
 use Rattle.i_shape_core.proofs.despike.has_no_spikes.Goals as goal
 
 pub returns-in_default : goal.returns-in_default
@@ -13,30 +13,52 @@ returns-in_default g c =
 
 pub returns-in_default-last_other : goal.returns-in_default-last_other
 returns-in_default-last_other g c =
-    let points = g.P.ContourPoint.points in
-    let whole = c.args.points.now in
-    let value = g.P.Coordinate.IntNumber.value in
     let last = last_read g.P.ContourPoint.point g.P.ContourPoint.points g.P.ContourPoint.each c.args.points.now c.in-Some.last.now c.to_point-here.result c.to_point-here.ensures c.in-Some.ensures.item.1 (omega (arith, c.in-Some.ensures.item.3.0)) in
-    none_differs value (points whole) c.to_point-here.result last.0 last.1 c.in_default-last_other.ensures
+    none_differs g.P.Coordinate.IntNumber.value (g.P.ContourPoint.points c.args.points.now) c.to_point-here.result last.0 last.1 c.in_default-last_other.ensures
 
-pub sub-requires : goal.sub-requires
-sub-requires g c =
-    let width = g.P.Coordinate.IntNumber.width in
+pub sub-edge-requires : goal.sub-edge-requires
+sub-edge-requires g c =
     let here = item_safe g.P.Coordinate.IntNumber.width g.P.Coordinate.IntNumber.value g.P.ContourPoint.point g.P.ContourPoint.points g.P.ContourPoint.each _ _ _ _ c.requires c.to_point-here.ensures (omega (arith, c.in-Some.ensures.item.3.0)) c.in-Some.ensures.item.1 in
-    let before = found_safe width g.P.Coordinate.IntNumber.value (g.P.ContourPoint.points c.args.points.now) c.to_point-here.result c.in-Some-last_other.behind c.requires c.in-Some-last_other.ensures in
-    safe_points-apart width g.met.P.Coordinate.IntNumber.some_bits g.met.P.Coordinate.IntNumber.bits_split _ _ here before
+    let behind = found_safe g.P.Coordinate.IntNumber.width g.P.Coordinate.IntNumber.value (g.P.ContourPoint.points c.args.points.now) c.to_point-here.result c.in-Some-last_other.behind c.requires c.in-Some-last_other.ensures in
+    safe_points-apart g.P.Coordinate.IntNumber.width g.met.P.Coordinate.IntNumber.some_bits g.met.P.Coordinate.IntNumber.bits_split _ _ here behind
 
-pub walk_onward-requires-clause-start_safe : goal.walk_onward-requires-clause-start_safe
-walk_onward-requires-clause-start_safe g c = item_safe g.P.Coordinate.IntNumber.width g.P.Coordinate.IntNumber.value g.P.ContourPoint.point g.P.ContourPoint.points g.P.ContourPoint.each _ _ _ _ c.requires c.to_point-here.ensures (omega (arith, c.in-Some.ensures.item.3.0)) c.in-Some.ensures.item.1
+pub loop-given-init : goal.loop-given-init
+loop-given-init g c =
+    let last = last_read g.P.ContourPoint.point g.P.ContourPoint.points g.P.ContourPoint.each c.args.points.now c.in-Some.last.now c.to_point-here.result c.to_point-here.ensures c.in-Some.ensures.item.1 (omega (arith, c.in-Some.ensures.item.3.0)) in
+    record {
+      here_safe = item_safe g.P.Coordinate.IntNumber.width g.P.Coordinate.IntNumber.value g.P.ContourPoint.point g.P.ContourPoint.points g.P.ContourPoint.each _ _ _ _ c.requires c.to_point-here.ensures (omega (arith, c.in-Some.ensures.item.3.0)) c.in-Some.ensures.item.1;
+      walking = walking_begins g.P.Coordinate.IntNumber.value (g.P.ContourPoint.points c.args.points.now) c.to_point-here.result c.in-Some-last_other.behind _ last.0 last.1 c.in-Some-last_other.ensures c.sub-edge.ensures;
+    }
+
+pub sub-next-requires : goal.sub-next-requires
+sub-next-requires g c =
+    let next = item_safe g.P.Coordinate.IntNumber.width g.P.Coordinate.IntNumber.value g.P.ContourPoint.point g.P.ContourPoint.points g.P.ContourPoint.each _ _ _ _ c.requires c.to_point-point.ensures c.loop-given-test.true c.given-item.is in
+    safe_points-apart g.P.Coordinate.IntNumber.width g.met.P.Coordinate.IntNumber.some_bits g.met.P.Coordinate.IntNumber.bits_split _ _ next c.loop-given.invariant.here_safe
+
+pub goes_back-requires : goal.goes_back-requires
+goes_back-requires g c =
+    let next = item_safe g.P.Coordinate.IntNumber.width g.P.Coordinate.IntNumber.value g.P.ContourPoint.point g.P.ContourPoint.points g.P.ContourPoint.each _ _ _ _ c.requires c.to_point-point.ensures c.loop-given-test.true c.given-item.is in
+    λ least. safe_vector-above g.P.Coordinate.IntNumber.width g.met.P.Coordinate.IntNumber.some_bits g.met.P.Coordinate.IntNumber.bits_split _ _ _ _ next c.loop-given.invariant.here_safe g.met.P.Coordinate.IntNumber.min_value c.sub-next.ensures (ap g.P.Coordinate.IntNumber.value least)
+
+pub loop-given-preserved-then-are_same : goal.loop-given-preserved-then-are_same
+loop-given-preserved-then-are_same g c =
+    let item = item_read g.P.ContourPoint.point g.P.ContourPoint.points g.P.ContourPoint.each c.args.points.now c.loop-given.given-index c.given-item.result c.to_point-point.result c.to_point-point.ensures c.loop-given-test.true c.given-item.is in
+    record { here_safe = c.loop-given.invariant.here_safe; walking = walking_skip _ _ _ _ _ (sym c.are_same.ensures ∙ c.if-are_same.true) (rw (rest-read g.P.Coordinate.IntNumber.value (g.P.ContourPoint.points c.args.points.now) _ c.to_point-point.result item.0 item.1) at c.loop-given.invariant.walking) }
+
+pub returns-then-goes_back : goal.returns-then-goes_back
+returns-then-goes_back g c =
+    let item = item_read g.P.ContourPoint.point g.P.ContourPoint.points g.P.ContourPoint.each c.args.points.now c.loop-given.given-index c.given-item.result c.to_point-point.result c.to_point-point.ensures c.loop-given-test.true c.given-item.is in
+    spike_found _ _ _ _ _ _ _ (sym c.are_same.ensures ∙ c.if-are_same.false) c.sub-next.ensures c.goes_back.ensures c.if-goes_back.true (rw (rest-read g.P.Coordinate.IntNumber.value (g.P.ContourPoint.points c.args.points.now) _ c.to_point-point.result item.0 item.1) at c.loop-given.invariant.walking)
+
+pub loop-given-preserved : goal.loop-given-preserved
+loop-given-preserved g c =
+    let item = item_read g.P.ContourPoint.point g.P.ContourPoint.points g.P.ContourPoint.each c.args.points.now c.loop-given.given-index c.given-item.result c.to_point-point.result c.to_point-point.ensures c.loop-given-test.true c.given-item.is in
+    record {
+      here_safe = item_safe g.P.Coordinate.IntNumber.width g.P.Coordinate.IntNumber.value g.P.ContourPoint.point g.P.ContourPoint.points g.P.ContourPoint.each _ _ _ _ c.requires c.to_point-point.ensures c.loop-given-test.true c.given-item.is;
+      walking = walking_on _ _ _ _ _ _ _ (sym c.are_same.ensures ∙ c.if-are_same.false) c.sub-next.ensures c.goes_back.ensures c.if-goes_back.false (rw (rest-read g.P.Coordinate.IntNumber.value (g.P.ContourPoint.points c.args.points.now) _ c.to_point-point.result item.0 item.1) at c.loop-given.invariant.walking);
+    }
 
 pub returns : goal.returns
 returns g c =
-    let points = g.P.ContourPoint.points in
-    let whole = c.args.points.now in
-    let value = g.P.Coordinate.IntNumber.value in
-    let last = last_read g.P.ContourPoint.point g.P.ContourPoint.points g.P.ContourPoint.each c.args.points.now c.in-Some.last.now c.to_point-here.result c.to_point-here.ensures c.in-Some.ensures.item.1 (omega (arith, c.in-Some.ensures.item.3.0)) in
-    last_block_tells value _ _ _ _ _ _ c.is_some.ensures c.walk_onward.ensures.back (record {
-      from = point_of value c.in-Some-last_other.behind;
-      edge = c.sub.ensures;
-      walking = walking_begins value (points whole) c.to_point-here.result c.in-Some-last_other.behind last.0 last.1 c.in-Some-last_other.ensures;
-    })
+    let count = points-length g.P.ContourPoint.point g.P.ContourPoint.points g.P.ContourPoint.each c.args.points.now in
+    no_spike_found _ _ _ (rw (rest-none g.P.Coordinate.IntNumber.value (g.P.ContourPoint.points c.args.points.now) c.loop-given.given-index (omega (arith, count, c.loop-given-test.false))) at c.loop-given.invariant.walking)
