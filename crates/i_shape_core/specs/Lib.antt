@@ -18,7 +18,6 @@ pub mod Turn
 pub mod Refusals
 pub mod Canonical
 pub mod Walks
-pub mod Blocks
 pub mod Heights
 pub mod FourTurns
 pub mod Rings

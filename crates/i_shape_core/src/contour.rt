@@ -8,7 +8,6 @@ ghost use Rattle.i_shape_core.specs.Edges.{shoelace, Inside};
 ghost use Rattle.i_shape_core.specs.Winding.{winding};
 ghost use Rattle.i_shape_core.specs.Filling.{IsFilled};
 ghost use Rattle.i_shape_core.specs.Boundary.{IsOnEdge};
-ghost use Rattle.i_shape_core.specs.Blocks.{inside_after};
 ghost use Rattle.i_shape_core.specs.Convex.{Convex};
 
 use crate::area::area_of;
@@ -179,34 +178,11 @@ pub fn contains_point<P: ContourPoint>(contour: &[P], point: IntPoint<P::Coordin
     let Some(last) = contour.last() else {
         return false;
     };
-    let start = last.to_point();
-    is_inside_after(false, point, start, contour)
-}
-
-/// Returns whether `point` is inside after the edges from `first` over the points, if `was_inside` is the result for the edges before.
-/// Each edge that passes its height strictly to the right of it flips the result.
-#[inline(always)]
-fn is_inside_after<P: ContourPoint>(
-    was_inside: bool,
-    point: IntPoint<P::Coordinate>,
-    first: IntPoint<P::Coordinate>,
-    points: &[P],
-) -> bool
-    requires point_safe { IsSafe P.Coordinate.width (point_of P.Coordinate.value point) }
-    requires first_safe { IsSafe P.Coordinate.width (point_of P.Coordinate.value first) }
-    requires points_safe { IsSafeContour P.Coordinate.width
-        (contour_of P.Coordinate.value (P.points points.now)) }
-    ensures { result ≡ inside_after (point_of P.Coordinate.value point)
-        was_inside (point_of P.Coordinate.value first)
-        (contour_of P.Coordinate.value (P.points points.now)) }
-{
-    let mut is_inside = was_inside;
-    let mut start = first;
-    for given in points {
+    let mut start = last.to_point();
+    let mut is_inside = false;
+    for given in contour {
         let end = given.to_point();
-        if passes_right(point, start, end) {
-            is_inside = !is_inside;
-        }
+        is_inside ^= passes_right(point, start, end);
         start = end;
     }
     is_inside

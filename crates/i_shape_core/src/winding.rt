@@ -84,11 +84,10 @@ pub(crate) fn passes_right<I: IntNumber>(
 {
     let is_start_above = start.y > point.y;
     let is_end_above = end.y > point.y;
-    if is_start_above == is_end_above {
-        false
-    } else if is_start_above {
-        Triangle::is_clockwise(end, point, start)
+    let (low, high) = if is_start_above {
+        (end, start)
     } else {
-        Triangle::is_clockwise(start, point, end)
-    }
+        (start, end)
+    };
+    is_start_above != is_end_above && Triangle::is_clockwise(low, point, high)
 }

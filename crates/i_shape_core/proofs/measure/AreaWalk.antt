@@ -9,8 +9,7 @@ use Rattle.i_shape_core.specs.Edges.{Edge, sum_of, area_of_edge, shoelace}
 use Rattle.i_shape_core.proofs.measure.Edges.{sum_push}
 use Rattle.i_shape_core.proofs.plane.CrossProducts.{edge}
 use Rattle.i_shape_core.proofs.removal.Dedup.{last_of_append}
-use Rattle.i_shape_core.specs.Blocks.{path_over}
-use Rattle.i_shape_core.proofs.measure.InsideWalk.{between_is}
+use Rattle.i_shape_core.proofs.measure.InsideWalk.{path_over, between_is}
 
 -- what the edges of the way from a over the points add to twice the area
 abbrev pub area_along : Point → List Point → ℤ

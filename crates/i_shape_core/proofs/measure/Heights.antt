@@ -13,12 +13,10 @@ use Rattle.i_shape_core.proofs.Common.{Point, origin, cross, point_at, is_above,
 use Rattle.i_shape_core.specs.Winding.{winding, winding_of_edge}
 use Rattle.i_shape_core.specs.Heights.{asked_points, IsRising, IsPlaceOf, IsAdded, AllFit, asks}
 use Rattle.i_shape_core.specs.declared.heights.Asked.{Asked}
-use Rattle.i_shape_core.specs.Blocks.{winding_over}
 use Rattle.i_shape_core.proofs.plane.Contours.{rest-read, rest-none}
 use Rattle.i_shape_core.proofs.plane.CrossProducts.{edge}
 use Rattle.i_shape_core.proofs.measure.Inside.{right_when}
-use Rattle.i_shape_core.proofs.measure.InsideWalk.{right_flat}
-use Rattle.i_shape_core.proofs.measure.WindingWalk.{adds_nothing, no_points, walk_all, winding_half}
+use Rattle.i_shape_core.proofs.measure.WindingWalk.{winding_over, adds_nothing, no_points, walk_all, winding_half}
 
 -- ---- reading
 pub asked-length : {I : Type 0} (value : I → ℤ) (qs : List (Asked I)) → length (asked_points value qs) ≡ length qs
@@ -35,8 +33,8 @@ asked-safe w value qs k d safe within =
 -- ---- one edge
 -- an edge on one side of the height of p adds nothing
 pub flat_adds : (p a b : Point) (s t : Bool) → is_above p a ≡ s → is_above p b ≡ t → s ≡ t → winding_of_edge p (edge a b) ≡ pos 0
-flat_adds p a b true true e f g = sym (adds_nothing p a b false (right_flat p a b true true (sym e) (sym f) refl) refl)
-flat_adds p a b false false e f g = sym (adds_nothing p a b false (right_flat p a b false false (sym e) (sym f) refl) refl)
+flat_adds p a b true true e f g = sym (adds_nothing p a b false (sym (right_when p a b true true e f)) refl)
+flat_adds p a b false false e f g = sym (adds_nothing p a b false (sym (right_when p a b false false e f)) refl)
 flat_adds p a b true false e f g = absurd (cc)
 flat_adds p a b false true e f g = absurd (cc)
 

@@ -4,15 +4,13 @@ use Rattle.std.proofs.lemmas.Int.{ints, to_z-of_z}
 use Rattle.std.proofs.lemmas.List.{get_or_default}
 use Rattle.i_shape_core.proofs.Common.{Point, point_of, contour_of, IntPoint, edges_between, sum_of, is_right, last_of}
 use Rattle.i_shape_core.specs.Winding.{level, winding_of_edge, winding, IsWithinHalf}
-use Rattle.i_shape_core.specs.Blocks.{path_over, winding_over}
 use Rattle.std.specs.Int.{Width}
 use Rattle.std.proofs.Math.IntN.{+ℤ_assoc}
 use Rattle.i_shape_core.proofs.plane.Contours.{rest-read, rest-none}
-use Rattle.i_shape_core.proofs.measure.Edges.{sum_push}
 use Rattle.i_shape_core.proofs.plane.CrossProducts.{edge}
 use Rattle.i_shape_core.proofs.measure.Inside.{right_when}
 use Rattle.i_shape_core.proofs.arithmetic.Products.{InReach, fits-reach, reach-fits}
-use Rattle.i_shape_core.proofs.measure.InsideWalk.{between_is, last_point}
+use Rattle.i_shape_core.proofs.measure.InsideWalk.{path_over, walk_sum}
 
 -- ---- one edge
 -- an edge that isn't right of p adds nothing
@@ -114,6 +112,10 @@ no_points value p [] h = refl
 no_points value p (x ∷ xs) h = absurd (omega arith)
 
 -- ---- the walk
+-- what the edges of the way from q over the points add to how often a contour winds about p
+abbrev pub winding_over : Point → Point → List Point → ℤ
+winding_over p q ps = sum_of (winding_of_edge p) (path_over q ps)
+
 -- a point more is walked to
 pub walk_edge : {I : Type 0} (value : I → ℤ) (p : Point) (cs : List (IntPoint I)) (i : ℕ) (start x : IntPoint I) (t w s : ℤ) → i < length cs → x ≡ get_or cs i x
     → w ≡ winding_of_edge p (edge (point_of value start) (point_of value x)) → t +ℤ winding_over p (point_of value start) (contour_of value (drop i cs)) ≡ s
@@ -126,17 +128,7 @@ walk_edge value p cs i start x t w s h e f g =
 pub walk_all : {I : Type 0} (value : I → ℤ) (p : Point) (cs : List (IntPoint I)) (last : IntPoint I) → 0 < length cs → last ≡ get_or cs (length cs - 1) last
     → winding_over p (point_of value last) (contour_of value cs) ≡ winding (contour_of value cs) p
 unfolding winding
-walk_all value p [] last h e = absurd (omega arith)
-walk_all value p (x ∷ xs) last h e =
-    let q = point_of value x in
-    let ps = contour_of value xs in
-    ap (λ (r : Point). winding_over p r (q ∷ ps)) (last_point value (x ∷ xs) last h e)
-    ∙ swap (winding_of_edge p (edge (last_of q ps) q)) (winding_over p q ps)
-    ∙ sym (sum_push (winding_of_edge p) (path_over q ps) (edge (last_of q ps) q))
-    ∙ ap (sum_of (winding_of_edge p)) (sym (between_is q ps q))
-  where
-    swap : (a b : ℤ) → a +ℤ b ≡ b +ℤ a
-    swap a b = omega (arith, ints)
+walk_all value p cs last h e = walk_sum value (winding_of_edge p) cs last h e
 
 -- after the last point the winding number is told
 pub walk_over : {I : Type 0} (value : I → ℤ) (p : Point) (cs : List (IntPoint I)) (i : ℕ) (start last : IntPoint I) (t : ℤ) → length cs ≤ i → 0 < length cs → last ≡ get_or cs (length cs - 1) last

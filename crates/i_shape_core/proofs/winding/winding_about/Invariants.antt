@@ -1,7 +1,6 @@
 use Rattle.std.proofs.Common.{◌≡◌, ◌+ℤ◌, drop}
-use Rattle.i_shape_core.proofs.Common.{point_of, contour_of, IsSafe, sum_of, level, winding_of_edge}
-use Rattle.i_shape_core.specs.Blocks.{path_over}
-use Rattle.i_shape_core.proofs.measure.WindingWalk.{IsNear}
+use Rattle.i_shape_core.proofs.Common.{point_of, contour_of, IsSafe, level}
+use Rattle.i_shape_core.proofs.measure.WindingWalk.{winding_over, IsNear}
 use Rattle.i_shape_core.proofs.winding.winding_about.Given as goal
 
 abbrev pub invariant-loop-given : goal.invariant-loop-given
@@ -11,5 +10,5 @@ invariant-loop-given g l =
     record {
       before_safe : IsSafe g.P.Coordinate.IntNumber.width (point_of value l.before);
       near : IsNear l.given-index (level p (point_of value l.initial.before)) (level p (point_of value l.before)) l.total;
-      told : l.total +ℤ sum_of (winding_of_edge p) (path_over (point_of value l.before) (contour_of value (drop l.given-index (g.P.ContourPoint.points l.contour)))) ≡ sum_of (winding_of_edge p) (path_over (point_of value l.initial.before) (contour_of value (g.P.ContourPoint.points l.contour)));
+      told : l.total +ℤ winding_over p (point_of value l.before) (contour_of value (drop l.given-index (g.P.ContourPoint.points l.contour))) ≡ winding_over p (point_of value l.initial.before) (contour_of value (g.P.ContourPoint.points l.contour));
     }
