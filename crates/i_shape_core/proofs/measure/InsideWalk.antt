@@ -35,25 +35,15 @@ flipped true false n m e = omega arith
 flipped false true n m e = omega arith
 flipped false false n m e = omega arith
 
--- after the last edge the parity tells whether the point is inside
-pub walk_done : (c : List Point) (p : Point) (s : Bool) → (bit_of s + 0) % 2 ≡ count_by (is_right p) (edges c) % 2 → IsTrue s ↔ Inside c p
-unfolding Inside
-walk_done c p true e = (λ h. sym e ∙ refl, λ h. refl)
-walk_done c p false e = (λ h. absurd (cc), λ h. absurd (omega arith))
-
 -- ---- the same over the points of a program
 last_item : {I : Type 0} (value : I → ℤ) (x : IntPoint I) (xs : List (IntPoint I)) (d : IntPoint I) → point_of value (get_or (x ∷ xs) (length xs) d) ≡ last_of (point_of value x) (contour_of value xs)
 last_item value x [] d = refl
 last_item value x (y ∷ xs) d = last_item value y xs d
 
--- the last point that the program reads is that of the list
-pub last_read : {I : Type 0} (value : I → ℤ) (q : Point) (cs : List (IntPoint I)) (i : ℕ) (last : IntPoint I) → i + 1 ≡ length cs → last ≡ get_or cs i last → point_of value last ≡ last_of q (contour_of value cs)
-last_read value q [] i last h e = absurd (omega arith)
-last_read value q (x ∷ xs) i last h e = ap (point_of value) (e ∙ ap (λ (j : ℕ). get_or (x ∷ xs) j last) (let less : i ≡ length xs = omega arith in less)) ∙ last_item value x xs last
-
 -- the last point of the program is the last point of the contour
 pub last_point : {I : Type 0} (value : I → ℤ) (cs : List (IntPoint I)) (last : IntPoint I) → 0 < length cs → last ≡ get_or cs (length cs - 1) last → point_of value last ≡ last_of origin (contour_of value cs)
-last_point value cs last h e = last_read value origin cs (length cs - 1) last (omega arith) e
+last_point value [] last h e = absurd (omega arith)
+last_point value (x ∷ xs) last h e = ap (point_of value) (e ∙ ap (λ (j : ℕ). get_or (x ∷ xs) j last) (let last : length (x ∷ xs) - 1 ≡ length xs = omega arith in last)) ∙ last_item value x xs last
 
 -- the walk from the last point over all points has the edges of the contour
 pub walk_sum : {I : Type 0} (value : I → ℤ) (f : Edge → ℤ) (cs : List (IntPoint I)) (last : IntPoint I) → 0 < length cs → last ≡ get_or cs (length cs - 1) last
@@ -93,10 +83,6 @@ counted_more value p cs i start x s r h e f w =
 -- and tells at the end whether p is inside
 pub counted_end : {I : Type 0} (value : I → ℤ) (p : Point) (cs : List (IntPoint I)) (i : ℕ) (start : IntPoint I) (s : Bool) → length cs ≤ i
     → IsCounted (contour_of value cs) p s (point_of value start) (contour_of value (drop i cs)) → IsTrue s ↔ Inside (contour_of value cs) p
-counted_end value p cs i start s h w = walk_done (contour_of value cs) p s (rw (rest-none value cs i h) at w)
-
--- without points nothing is inside
-pub nothing_inside : {I : Type 0} (value : I → ℤ) (p : Point) (cs : List (IntPoint I)) → length cs ≤ 0 → IsTrue false ↔ Inside (contour_of value cs) p
 unfolding Inside
-nothing_inside value p [] h = (λ e. absurd (cc), λ e. absurd (omega arith))
-nothing_inside value p (x ∷ xs) h = absurd (omega arith)
+counted_end value p cs i start true h w = let e = rw (rest-none value cs i h) at w in (λ t. sym e ∙ refl, λ t. refl)
+counted_end value p cs i start false h w = let e = rw (rest-none value cs i h) at w in (λ t. absurd (cc), λ t. absurd (omega arith))

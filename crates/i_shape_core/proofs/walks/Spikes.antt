@@ -200,15 +200,11 @@ no_spike_found c e p w = (
     enough = three_left c (first_behind c) (two_left c w.differ) none
 
 -- ---- over the points of a program
--- without points a contour isn't one without spikes
-pub none_without_points : {I : Type 0} (value : I → ℤ) (cs : List (IntPoint I)) → length cs ≤ 0 → NoSpikes (contour_of value cs) → ⊥
-unfolding dedup
-none_without_points value [] h s = let e = s.enough in omega arith
-none_without_points value (x ∷ xs) h s = omega arith
-
 -- without points the answer is no
 pub nothing_told : {I : Type 0} (value : I → ℤ) (cs : List (IntPoint I)) → length cs ≤ 0 → IsTrue false ↔ NoSpikes (contour_of value cs)
-nothing_told value cs h = (λ t. absurd (cc), λ s. absurd (none_without_points value cs h s))
+unfolding dedup
+nothing_told value [] h = (λ t. absurd (cc), λ s. let e = s.enough in absurd (omega arith))
+nothing_told value (x ∷ xs) h = absurd (omega arith)
 
 -- points are the same where their coordinates are
 pub same-told : {I : Type 0} (value : I → ℤ) (equal : I → I → Bool) → ((a b : I) → IsTrue (equal a b) ↔ (value a ≡ value b))

@@ -1,14 +1,15 @@
 use Rattle.std.proofs.Common.{arith}
 use Rattle.i_shape_core.specs.IntPoint.{point_of}
-use Rattle.i_shape_core.proofs.plane.PointLists.{points-length, item_read, last_read}
+use Rattle.i_shape_core.proofs.plane.PointLists.{points-length, read-length, item_read, last_read}
 use Rattle.i_shape_core.proofs.plane.SafeParts.{item_safe}
-use Rattle.i_shape_core.proofs.measure.InsideWalk.{counted_start, counted_more, counted_end, nothing_inside}
+use Rattle.i_shape_core.proofs.measure.Inside.{none_inside}
+use Rattle.i_shape_core.proofs.measure.InsideWalk.{counted_start, counted_more, counted_end}
 use Rattle.i_shape_core.proofs.contour.contains_point.Goals as goal
 
 pub returns-in_default : goal.returns-in_default
 returns-in_default g c =
-    let count = points-length g.P.ContourPoint.point g.P.ContourPoint.points g.P.ContourPoint.each c.args.contour.now in
-    nothing_inside g.P.Coordinate.IntNumber.value (point_of g.P.Coordinate.IntNumber.value c.args.point) (g.P.ContourPoint.points c.args.contour.now) (omega (arith, count, c.in_default.ensures.item.3))
+    let count = read-length g.P.Coordinate.IntNumber.value g.P.ContourPoint.point g.P.ContourPoint.points g.P.ContourPoint.each c.args.contour.now in
+    (λ t. absurd (cc), λ inside. absurd (none_inside _ (omega (arith, count, c.in_default.ensures.item.3)) _ inside))
 
 pub loop-given-init : goal.loop-given-init
 loop-given-init g c =
