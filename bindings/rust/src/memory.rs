@@ -3,7 +3,7 @@
 use crate::Error;
 
 /// An empty vector with room for so many items.
-pub(crate) fn with_room<T>(count: usize) -> Result<Vec<T>, Error> {
+pub(crate) fn try_with_capacity<T>(count: usize) -> Result<Vec<T>, Error> {
     let mut items = Vec::new();
     items
         .try_reserve_exact(count)
@@ -18,7 +18,7 @@ pub(crate) fn try_reserve<T>(items: &mut Vec<T>, count: usize) -> Result<(), Err
 
 /// The items of a slice in a vector of its length.
 pub(crate) fn copied<T: Copy>(items: &[T]) -> Result<Vec<T>, Error> {
-    let mut copy = with_room(items.len())?;
+    let mut copy = try_with_capacity(items.len())?;
     copy.extend_from_slice(items);
     Ok(copy)
 }
@@ -28,7 +28,7 @@ pub(crate) fn made_of_each<T, U>(
     items: impl ExactSizeIterator<Item = T>,
     make: impl Fn(T) -> Result<U, Error>,
 ) -> Result<Vec<U>, Error> {
-    let mut made = with_room(items.len())?;
+    let mut made = try_with_capacity(items.len())?;
     for item in items {
         made.push(make(item)?);
     }

@@ -89,8 +89,8 @@ impl<I: IntNumber> FlatContoursBuffer<I> {
 
     /// Holds nothing, with room for so many points and contours.
     pub fn clear_and_reserve(&mut self, points: usize, contours: usize) {
-        empty_with_room(&mut self.points, points);
-        empty_with_room(&mut self.ranges, contours);
+        clear_and_reserve(&mut self.points, points);
+        clear_and_reserve(&mut self.ranges, contours);
     }
 
     /// Appends a contour.
@@ -184,9 +184,9 @@ impl<I: IntNumber> FlatShapesBuffer<I> {
 
     /// Holds nothing, with room for so many points, contours and shapes.
     pub fn clear_and_reserve(&mut self, points: usize, contours: usize, shapes: usize) {
-        empty_with_room(&mut self.points, points);
-        empty_with_room(&mut self.contour_ranges, contours);
-        empty_with_room(&mut self.shape_ranges, shapes);
+        clear_and_reserve(&mut self.points, points);
+        clear_and_reserve(&mut self.contour_ranges, contours);
+        clear_and_reserve(&mut self.shape_ranges, shapes);
     }
 
     /// Appends a shape.
@@ -242,7 +242,7 @@ fn appended<I: Copy>(points: &mut Vec<IntPoint<I>>, contour: &[IntPoint<I>]) -> 
 }
 
 /// Takes all items out, and makes room for so many.
-fn empty_with_room<T>(items: &mut Vec<T>, count: usize) {
+fn clear_and_reserve<T>(items: &mut Vec<T>, count: usize) {
     items.clear();
     items.reserve(count);
 }

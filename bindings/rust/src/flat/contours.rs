@@ -4,7 +4,7 @@ use super::offsets::{append, ranges, try_append_part, try_fit, try_rebased, try_
 use crate::calls::{AskMany, CleanMany, ask_many, clean_many, holds, overwritten, windings};
 use crate::error::answered;
 use crate::int::{IntNumber, IntPoint};
-use crate::memory::{try_reserve, with_room};
+use crate::memory::{try_reserve, try_with_capacity};
 use crate::{Error, FillRule, Location};
 
 /// Contours that lie end to end in borrowed points: contour k is `points[offsets[k]..offsets[k +
@@ -178,7 +178,7 @@ impl<'a, I: IntNumber> Contours<'a, I> {
     /// of a contour isn't, [`Error::NoMemory`] where there is none for the answer. It takes more memory where that saves
     /// time, and does without where it is refused.
     pub fn try_winding_numbers(self, about: &[IntPoint<I>]) -> Result<Vec<isize>, Error> {
-        let mut numbers = with_room(about.len())?;
+        let mut numbers = try_with_capacity(about.len())?;
         windings(
             self.points,
             self.offsets,
@@ -282,7 +282,7 @@ impl<'a, I: IntNumber> Contours<'a, I> {
         about: &[IntPoint<I>],
         rule: FillRule,
     ) -> Result<Vec<T>, Error> {
-        let mut items = with_room(about.len())?;
+        let mut items = try_with_capacity(about.len())?;
         ask_many(
             call,
             self.points,
@@ -301,8 +301,8 @@ impl<'a, I: IntNumber> Contours<'a, I> {
         let points = &self.points[self.offsets[0]..];
         let rebased = try_rebased(self.offsets)?;
         let mut left = OwnedContours {
-            points: with_room(points.len())?,
-            offsets: with_room(rebased.len())?,
+            points: try_with_capacity(points.len())?,
+            offsets: try_with_capacity(rebased.len())?,
         };
         let count = clean_many(
             call,
@@ -346,8 +346,8 @@ impl<I: IntNumber> OwnedContours<I> {
     /// A copy of the contours, end to end. [`Error::NoMemory`] where an allocation fails.
     pub fn try_from_contours<C: AsRef<[IntPoint<I>]>>(contours: &[C]) -> Result<Self, Error> {
         let count = try_sum(contours.iter().map(|contour| contour.as_ref().len()))?;
-        let mut points = with_room(count)?;
-        let mut offsets = with_room(contours.len().saturating_add(1))?;
+        let mut points = try_with_capacity(count)?;
+        let mut offsets = try_with_capacity(contours.len().saturating_add(1))?;
         offsets.push(0);
         for contour in contours {
             try_append_part(&mut points, &mut offsets, contour.as_ref())?;

@@ -5,7 +5,7 @@ use crate::Error;
 use crate::calls::{MeasureMany, measure_many};
 use crate::error::answered;
 use crate::int::IntNumber;
-use crate::memory::{made_of_each, with_room};
+use crate::memory::{made_of_each, try_with_capacity};
 
 /// The methods of a test: their names, and what the test asks of a contour.
 macro_rules! tests {
@@ -76,7 +76,7 @@ impl<I: IntNumber> Contours<'_, I> {
 
     /// What a call writes of each contour.
     fn try_measured<T>(self, call: MeasureMany<I, T>) -> Result<Vec<T>, Error> {
-        let mut items = with_room(self.len())?;
+        let mut items = try_with_capacity(self.len())?;
         measure_many(call, self.points, self.offsets, items.spare_capacity_mut())?;
         // SAFETY: the call has written an item of each contour.
         unsafe { items.set_len(self.len()) };

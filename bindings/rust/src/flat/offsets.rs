@@ -3,7 +3,7 @@
 use crate::Error;
 use crate::calls::first_bad_offset;
 use crate::error::answered;
-use crate::memory::{try_reserve, with_room};
+use crate::memory::{try_reserve, try_with_capacity};
 use std::borrow::Cow;
 use std::ops::Range;
 
@@ -30,7 +30,7 @@ pub(super) fn try_fit(offsets: &[usize], count: usize) -> Result<(), Option<usiz
 /// ```
 pub fn try_from_lengths(lengths: impl IntoIterator<Item = usize>) -> Result<Vec<usize>, Error> {
     let lengths = lengths.into_iter();
-    let mut offsets = with_room(lengths.size_hint().0.saturating_add(1))?;
+    let mut offsets = try_with_capacity(lengths.size_hint().0.saturating_add(1))?;
     let mut end: usize = 0;
     offsets.push(end);
     for length in lengths {
@@ -66,7 +66,7 @@ pub fn from_lengths(lengths: impl IntoIterator<Item = usize>) -> Vec<usize> {
 /// ```
 pub fn try_from_ranges(ranges: &[Range<usize>]) -> Result<Vec<usize>, Error> {
     let mut end = ranges.first().map_or(0, |range| range.start);
-    let mut offsets = with_room(ranges.len().saturating_add(1))?;
+    let mut offsets = try_with_capacity(ranges.len().saturating_add(1))?;
     offsets.push(end);
     for range in ranges {
         if range.start != end || range.end < end {
@@ -119,7 +119,7 @@ pub(super) fn try_rebased(offsets: &[usize]) -> Result<Cow<'_, [usize]>, Error> 
     if first == 0 {
         return Ok(Cow::Borrowed(offsets));
     }
-    let mut rebased = with_room(offsets.len())?;
+    let mut rebased = try_with_capacity(offsets.len())?;
     rebased.extend(offsets.iter().map(|offset| offset - first));
     Ok(Cow::Owned(rebased))
 }

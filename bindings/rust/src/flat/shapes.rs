@@ -7,7 +7,7 @@ use crate::calls::{CleanShapes, clean_shapes, holds, overwritten};
 use crate::error::answered;
 use crate::int::shape::{IntContour, IntShapes};
 use crate::int::{IntNumber, IntPoint};
-use crate::memory::{copied, made_of_each, try_reserve, with_room};
+use crate::memory::{copied, made_of_each, try_reserve, try_with_capacity};
 
 /// Polygons that lie end to end in borrowed points: polygon j has the contours from `shapes[j]` to
 /// `shapes[j + 1]`, its outer contour first, and contour k is `points[contours[k]..contours[k +
@@ -273,9 +273,9 @@ impl<'a, I: IntNumber> Shapes<'a, I> {
         let contours = try_rebased(contours)?;
         let shapes = try_rebased(self.shapes)?;
         let mut left = OwnedShapes {
-            points: with_room(points.len())?,
-            contours: with_room(contours.len())?,
-            shapes: with_room(shapes.len())?,
+            points: try_with_capacity(points.len())?,
+            contours: try_with_capacity(contours.len())?,
+            shapes: try_with_capacity(shapes.len())?,
         };
         let count = clean_shapes(
             call,
@@ -326,9 +326,9 @@ impl<I: IntNumber> OwnedShapes<I> {
     pub fn try_from_shapes<S: AsRef<[IntContour<I>]>>(shapes: &[S]) -> Result<Self, Error> {
         let contour_count = try_sum(shapes.iter().map(|shape| shape.as_ref().len()))?;
         let count = try_sum(shapes.iter().flat_map(AsRef::as_ref).map(Vec::len))?;
-        let mut points = with_room(count)?;
-        let mut contours = with_room(contour_count.saturating_add(1))?;
-        let mut ends = with_room(shapes.len().saturating_add(1))?;
+        let mut points = try_with_capacity(count)?;
+        let mut contours = try_with_capacity(contour_count.saturating_add(1))?;
+        let mut ends = try_with_capacity(shapes.len().saturating_add(1))?;
         contours.push(0);
         ends.push(0);
         for shape in shapes {
