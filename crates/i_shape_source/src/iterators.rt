@@ -26,6 +26,7 @@ impl<'a, P> Model for ContourResourceIterator<'a, P> {
 }
 
 impl<'a, P> ContourResourceIterator<'a, P> {
+    #[tactic(auto, using(crate::proofs::Lent::lends_from_list))]
     pub(crate) fn with_slice(path: &'a [P]) -> Self
         ensures left { result ≡ path.now ∷ [] }
         ensures lends { LendsExactly (TakesFirst deref) result (path.now ∷ []) }
@@ -63,6 +64,7 @@ impl<'a, P> Model for ShapeResourceIterator<'a, P> {
 }
 
 impl<'a, P> ShapeResourceIterator<'a, P> {
+    #[tactic(auto, using(crate::proofs::Lent::lends_from_list))]
     pub(crate) fn with_slice(paths: &'a [Vec<P>]) -> Self
         ensures left { result ≡ paths_of_shape paths.now }
         ensures lends { LendsExactly (TakesFirst deref) result (paths_of_shape paths.now) }
@@ -103,6 +105,7 @@ impl<'a, P> Model for ShapesResourceIterator<'a, P> {
 }
 
 impl<'a, P> ShapesResourceIterator<'a, P> {
+    #[tactic(auto, using(crate::proofs::Lent::lends_from_list))]
     pub(crate) fn with_slice(shapes: &'a [Vec<Vec<P>>]) -> Self
         ensures left { result ≡ paths_of_shapes shapes.now }
         ensures lends { LendsExactly (TakesFirst deref) result (paths_of_shapes shapes.now) }
@@ -133,6 +136,7 @@ impl<'a, P> Iterator for ShapesResourceIterator<'a, P> {
 }
 
 /// Returns an iterator that lends borrowed paths.
+#[tactic(auto, using(crate::proofs::Lent::lends_slices))]
 pub(crate) fn lend_slices<'a, P>(slices: &'a [&'a [P]]) -> Copied<Iter<'a, &'a [P]>>
     ensures left { iter_rest (copied_source result) ≡ slices.now }
     ensures lends { LendsExactly (copied_steps iter_steps) result (paths_of_slices slices.now) }

@@ -19,6 +19,7 @@ pub trait IntSafeRange<'a, I: IntNumber + 'a>: IntShapeResource<'a, I> + Copy {
 }
 
 impl<'a, I: IntNumber + 'a, R: IntShapeResource<'a, I> + Copy> IntSafeRange<'a, I> for R {
+    #[tactic(auto, using(std::proofs::lemmas::Grind::common_steps, crate::proofs::SafePaths::safe_paths))]
     fn is_in_safe_range(self) -> bool {
         self.iter_paths().all(|path| is_safe_path(path))
     }
