@@ -49,6 +49,7 @@ fn is_safe(contour: &IntContour<i32>) -> bool
 }
 
 /// Reads the contour of a line into `contour`, in place of what it held. Returns whether the line holds one.
+#[tactic(auto, using(crate::proofs::reading::Lines::read_all))]
 fn read_contour(line: &str, contour: &mut IntContour<i32>) -> Result<bool, AllocError>
     ensures { IfOk result
         (λ reads. MatchBool reads (Reads line.now (contour_of contour.new.items))

@@ -4,7 +4,7 @@ use Rattle.std.proofs.lemmas.List.{map-append}
 use Rattle.std.proofs.ResultArms.{chosen}
 use Rattle.i_shape_text.specs.Points.{point_of, contour_of}
 use Rattle.i_shape_text.specs.Text.{words_left, words_of}
-use Rattle.i_shape_text.proofs.reading.Lines.{HasRead, read_point, read_all, read_none}
+use Rattle.i_shape_text.proofs.reading.Lines.{HasRead, read_point, read_none}
 use Rattle.i_shape_text.proofs.line.read_contour.Goals as goal
 
 pub returns-in_default-first_point : goal.returns-in_default-first_point
@@ -20,6 +20,3 @@ loop-rest-preserved c =
     let grown = ap contour_of pushed ∙ map-append point_of c.loop-rest.contour.items (c.in-Some-first_point.point ∷ []) in
     subst (HasRead (words_of c.args.line.now) (words_left (option_copied c.in-Some-first_point.left))) (sym grown)
     (read_point (words_of c.args.line.now) (words_of c.in-Some.text.now) (words_left (option_copied c.in-Some-first_point.left)) (contour_of c.loop-rest.contour.items) (point_of c.in-Some-first_point.point) left c.in-Some-first_point.ensures.says)
-
-pub returns : goal.returns
-returns c = read_all c.args.line.now (contour_of c.loop-rest.contour.items) (rw c.in_default.is at c.loop-rest.invariant)
