@@ -182,7 +182,9 @@ pub fn contains_point<P: ContourPoint>(contour: &[P], point: IntPoint<P::Coordin
     let mut is_inside = false;
     for given in contour {
         let end = given.to_point();
-        is_inside ^= passes_right(point, start, end);
+        if passes_right(point, start, end) {
+            is_inside = !is_inside;
+        }
         start = end;
     }
     is_inside

@@ -29,7 +29,7 @@ between_is a [] z = refl
 between_is a (b ∷ bs) z = ap (λ (es : List Edge). edge a b ∷ es) (between_is b bs z)
 
 -- one more edge
-flipped : (s r : Bool) (n m : ℕ) → (bit_of s + (bit_of r + n)) % 2 ≡ m → (bit_of (not (beq s r)) + n) % 2 ≡ m
+flipped : (s r : Bool) (n m : ℕ) → (bit_of s + (bit_of r + n)) % 2 ≡ m → (bit_of (cond r (not s) s) + n) % 2 ≡ m
 flipped true true n m e = omega arith
 flipped true false n m e = omega arith
 flipped false true n m e = omega arith
@@ -74,7 +74,7 @@ counted_start value p cs last h e =
 -- goes on to another point
 pub counted_more : {I : Type 0} (value : I → ℤ) (p : Point) (cs : List (IntPoint I)) (i : ℕ) (start x : IntPoint I) (s r : Bool) → i < length cs → x ≡ get_or cs i x
     → r ≡ is_right p (edge (point_of value start) (point_of value x)) → IsCounted (contour_of value cs) p s (point_of value start) (contour_of value (drop i cs))
-    → IsCounted (contour_of value cs) p (not (beq s r)) (point_of value x) (contour_of value (drop (i + 1) cs))
+    → IsCounted (contour_of value cs) p (cond r (not s) s) (point_of value x) (contour_of value (drop (i + 1) cs))
 counted_more value p cs i start x s r h e f w =
     let rest = contour_of value (drop (i + 1) cs) in
     rw f (flipped s (is_right p (edge (point_of value start) (point_of value x))) (count_by (is_right p) (path_over (point_of value x) rest)) _
