@@ -1,9 +1,8 @@
 -- Points of the program, as points over unbounded integers.
-use Rattle.std.specs.Prelude.{ℤ, List, map, Option, option_map, All}
+use Rattle.std.specs.Prelude.{ℤ, List, map, Option, option_map}
 use Rattle.std.specs.Global.{Vec}
-use Rattle.std.specs.Int.{Width}
 use Rattle.i_shape_core.specs.Point.{Point}
-pub use Rattle.i_shape_core.specs.SafeCoordinates.{IsSafeCoordinate}
+pub use Rattle.i_shape_core.specs.SafeCoordinates.{IsSafe, IsSafeContour, IsSafeCoordinate}
 use Rattle.i_shape_core.specs.declared.point.IntPoint.{IntPoint}
 
 -- the point that a program's point represents; `value` gives the integer that a coordinate represents
@@ -17,11 +16,3 @@ contour_of value points = map (point_of value) points
 -- what an optional list represents, if `read` gives what a list represents
 abbrev pub answered : {X Y : Type 0} → (List X → Y) → Option (Vec X) → Option Y
 answered read answer = option_map (λ kept. read kept.items) answer
-
--- both coordinates of the point are safe
-abbrev pub IsSafe : Width → Point → Type 0
-IsSafe width p = IsSafeCoordinate width p.x × IsSafeCoordinate width p.y
-
--- each point of the contour is safe
-abbrev pub IsSafeContour : Width → List Point → Type 0
-IsSafeContour width c = All (IsSafe width) c
