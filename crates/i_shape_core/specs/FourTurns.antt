@@ -1,7 +1,11 @@
 -- Turns that are tested together.
-use Rattle.std.specs.Prelude.{ℕ, ◌+◌, ◌<◌, List, ◌⊎◌}
+use Rattle.std.specs.Prelude.{ℕ, ℤ, ◌+◌, ◌<◌, List, ◌⊎◌}
 use Rattle.i_shape_core.specs.Point.{Point, IsZeroTurn}
 use Rattle.i_shape_core.specs.Contour.{point_at}
+
+-- the point with two coordinates
+abbrev pub at : ℤ → ℤ → Point
+at x y = record { x = x; y = y }
 
 -- one of the four turns of the points from place k on is a zero turn
 abbrev pub HasZeroTurnFrom : List Point → ℕ → Type 0

@@ -1,8 +1,9 @@
 //! A test of the turns of a contour for zero turns, four at a time.
 
-ghost use Rattle.std.specs.Prelude.{◌↔◌, ◌+◌, ◌<◌, ◌≤◌, length, IsTrue};
-ghost use Rattle.i_shape_core.specs.FourTurns.{HasZeroTurnFrom, IsTurning};
-ghost use Rattle.i_shape_core.specs.IntPoint.{contour_of, IsSafeContour};
+ghost use Rattle.std.specs.Prelude.{◌≡◌, ◌↔◌, ◌+◌, ◌<◌, ◌≤◌, length, IsTrue};
+ghost use Rattle.i_shape_core.specs.Contour.{point_at};
+ghost use Rattle.i_shape_core.specs.FourTurns.{at, HasZeroTurnFrom, IsTurning};
+ghost use Rattle.i_shape_core.specs.IntPoint.{contour_of, IsSafe, IsSafeContour};
 
 use crate::number::IntNumber;
 use crate::point::ContourPoint;
@@ -47,11 +48,25 @@ fn has_zero_turn_from<P: ContourPoint>(points: &[P], place: usize) -> bool
         place }
 {
     P::Coordinate::has_zero_turn(
-        points[place].to_point(),
-        points[place + 1].to_point(),
-        points[place + 2].to_point(),
-        points[place + 3].to_point(),
-        points[place + 4].to_point(),
-        points[place + 5].to_point(),
+        coordinates_at(points, place),
+        coordinates_at(points, place + 1),
+        coordinates_at(points, place + 2),
+        coordinates_at(points, place + 3),
+        coordinates_at(points, place + 4),
+        coordinates_at(points, place + 5),
     )
+}
+
+/// Returns the coordinates of the point at a place.
+#[inline(always)]
+fn coordinates_at<P: ContourPoint>(points: &[P], place: usize) -> (P::Coordinate, P::Coordinate)
+    requires safe { IsSafeContour P.Coordinate.width
+        (contour_of P.Coordinate.value (P.points points.now)) }
+    requires within { place < length points.now }
+    ensures safe { IsSafe P.Coordinate.number_width (at (P.Coordinate.number result.0) (P.Coordinate.number result.1)) }
+    ensures read { at (P.Coordinate.number result.0) (P.Coordinate.number result.1)
+        ≡ point_at (contour_of P.Coordinate.value (P.points points.now)) place }
+{
+    let point = points[place].to_point();
+    (point.x, point.y)
 }

@@ -1,12 +1,9 @@
 //! Comparisons of products and of turns, each in the way that is fastest for a width.
 
 ghost use Rattle.std.specs.Prelude.{◌≡◌, ◌↔◌, ◌*ℤ◌, ℤ, [], ◌∷◌, IsTrue};
-ghost use Rattle.std.specs.Int.{Width, int_wrap};
-ghost use Rattle.i_shape_core.specs.FourTurns.{HasZeroTurnFrom};
-ghost use Rattle.i_shape_core.specs.IntPoint.{contour_of, IsSafeContour};
-
-use crate::number::WideIntNumber;
-use crate::point::IntPoint;
+ghost use Rattle.std.specs.Int.{Width};
+ghost use Rattle.i_shape_core.specs.FourTurns.{at, HasZeroTurnFrom};
+ghost use Rattle.i_shape_core.specs.SafeCoordinates.{IsSafe};
 
 mod lanes;
 mod low_halves;
@@ -23,24 +20,20 @@ pub trait ZeroTurns: Copy {
     fn are_products_equal(a: Self, b: Self, c: Self, d: Self) -> bool
         ensures { IsTrue result ↔ (number a *ℤ number b ≡ number c *ℤ number d) };
 
-    /// Returns whether one of the four turns of the path over six points is a zero turn. It tests all four, without a branch between
-    /// them.
+    /// Returns whether one of the four turns of the path over six points, each given by its coordinates, is a zero turn. It tests all
+    /// four, without a branch between them.
     fn has_zero_turn(
-        a: IntPoint<Self>,
-        b: IntPoint<Self>,
-        c: IntPoint<Self>,
-        d: IntPoint<Self>,
-        e: IntPoint<Self>,
-        f: IntPoint<Self>,
+        a: (Self, Self),
+        b: (Self, Self),
+        c: (Self, Self),
+        d: (Self, Self),
+        e: (Self, Self),
+        f: (Self, Self),
     ) -> bool
-        requires { IsSafeContour number_width (contour_of number (a ∷ b ∷ c ∷ d ∷ e ∷ f ∷ [])) }
-        ensures { IsTrue result ↔ HasZeroTurnFrom (contour_of number (a ∷ b ∷ c ∷ d ∷ e ∷ f ∷ [])) 0 };
-}
-
-/// Returns whether `a` times `b` equals `c` times `d`, as the type wraps them.
-fn are_wrapped_products_equal<W: WideIntNumber>(a: W, b: W, c: W, d: W) -> bool
-    ensures { IsTrue result
-        ↔ (int_wrap W.width (W.value a *ℤ W.value b) ≡ int_wrap W.width (W.value c *ℤ W.value d)) }
-{
-    a.wrapping_mul(b) == c.wrapping_mul(d)
+        requires { IsSafe number_width (at (number a.0) (number a.1)) × IsSafe number_width (at (number b.0) (number b.1))
+            × IsSafe number_width (at (number c.0) (number c.1)) × IsSafe number_width (at (number d.0) (number d.1))
+            × IsSafe number_width (at (number e.0) (number e.1)) × IsSafe number_width (at (number f.0) (number f.1)) }
+        ensures { IsTrue result ↔ HasZeroTurnFrom (at (number a.0) (number a.1) ∷ at (number b.0) (number b.1)
+            ∷ at (number c.0) (number c.1) ∷ at (number d.0) (number d.1)
+            ∷ at (number e.0) (number e.1) ∷ at (number f.0) (number f.1) ∷ []) 0 };
 }

@@ -1,14 +1,14 @@
 -- Four turns by the lanes of vectors.
-use Rattle.std.proofs.Common.{◌≡◌, ◌↔◌, ◌⊎◌, ◌∙◌, ◌+◌, ◌*◌, ◌%◌, ◌≤◌, ◌^◌, ◌-◌, ℕ, ℤ, ◌*ℤ◌, ◌-ℤ◌, ◌<ℤ◌, neg_ℤ, pos, [], ◌∷◌, Bool, true, false, cond, not, nat_eq, of_z, to_z, IsTrue, FitsSigned, refl, ap, sym, inl, inr, rules, arith, pow-add}
+use Rattle.std.proofs.Common.{◌≡◌, ◌↔◌, ◌⊎◌, ◌∙◌, ◌+◌, ◌*◌, ◌%◌, ◌≤◌, ◌^◌, ◌-◌, ℕ, ℤ, ◌*ℤ◌, ◌-ℤ◌, ◌<ℤ◌, neg_ℤ, pos, [], ◌∷◌, Bool, true, false, cond, not, nat_eq, of_z, to_z, IsTrue, FitsSigned, refl, ap, inl, inr, rules, arith, pow-add}
 use Rattle.std.proofs.lemmas.Int.{to_z-of_z, ints}
-use Rattle.std.specs.Int.{Width, int_wrap}
+use Rattle.std.specs.Int.{Width}
 use Rattle.i_shape_core.specs.FourTurns.{HasZeroTurnFrom}
-use Rattle.i_shape_core.specs.IntPoint.{IsSafe, IsSafeContour, IsSafeCoordinate}
-use Rattle.i_shape_core.specs.Point.{Point, cross, origin, IsZeroTurn}
+use Rattle.i_shape_core.specs.IntPoint.{IsSafe, IsSafeCoordinate}
+use Rattle.i_shape_core.specs.Point.{Point, cross, IsZeroTurn}
 use Rattle.i_shape_core.specs.Widths.{bits, hbits}
 use Rattle.i_shape_core.proofs.arithmetic.Coordinates.{safe-difference}
 use Rattle.i_shape_core.proofs.arithmetic.WholeNumbers.{equal_of_difference, difference_of_equal}
-use Rattle.i_shape_core.proofs.arithmetic.Products.{InReach, reach-fits, widened, product-fits, products-told}
+use Rattle.i_shape_core.proofs.arithmetic.Products.{InReach, reach-fits, widened, product-fits}
 use lib.Lanes.{top}
 
 -- a safe coordinate fits
@@ -68,19 +68,18 @@ zero_of : (a b c : Point) → (b.x -ℤ a.x) *ℤ (c.y -ℤ b.y) ≡ (b.y -ℤ a
 unfolding cross
 zero_of a b c e = difference_of_equal ((b.x -ℤ a.x) *ℤ (c.y -ℤ b.y)) ((b.y -ℤ a.y) *ℤ (c.x -ℤ b.x)) e
 
+-- two products of lanes that are widened first are equal where the products are
+pub lanes_told : (w W : Width) → hbits W ≡ 2 * hbits w + 1 → (a b c d : ℤ) → FitsSigned w a → FitsSigned w b → FitsSigned w c → FitsSigned w d
+    → IsTrue (nat_eq (of_z W (lane_product w W a b)) (of_z W (lane_product w W c d))) ↔ (a *ℤ b ≡ c *ℤ d)
+lanes_told w W e a b c d fa fb fc fd =
+    rw (product_of_lanes w W e a b fa fb, product_of_lanes w W e c d fc fd) (lanes_same W (a *ℤ b) (c *ℤ d) (product-fits w W e a b fa fb) (product-fits w W e c d fc fd))
+
 -- a turn is a zero turn where the lanes of its two products are equal
 turn_told : (w W : Width) → hbits W ≡ 2 * hbits w + 1 → 2 ≤ hbits w → bits w ≡ hbits w + 1 → (a b c : Point) → IsSafe w a → IsSafe w b → IsSafe w c
     → IsTrue (nat_eq (of_z W (lane_product w W (b.x -ℤ a.x) (c.y -ℤ b.y))) (of_z W (lane_product w W (b.y -ℤ a.y) (c.x -ℤ b.x)))) ↔ IsZeroTurn a b c
-unfolding cross
 turn_told w W e some split a b c r s t =
-    let ex = safe-difference w some split b.x a.x s.0 r.0 in
-    let ey = safe-difference w some split b.y a.y s.1 r.1 in
-    let fx = safe-difference w some split c.x b.x t.0 s.0 in
-    let fy = safe-difference w some split c.y b.y t.1 s.1 in
-    let left : ℤ = (b.x -ℤ a.x) *ℤ (c.y -ℤ b.y) in
-    let right : ℤ = (b.y -ℤ a.y) *ℤ (c.x -ℤ b.x) in
-    let told = lanes_same W left right (product-fits w W e _ _ ex fy) (product-fits w W e _ _ ey fx) in
-    rw (product_of_lanes w W e (b.x -ℤ a.x) (c.y -ℤ b.y) ex fy, product_of_lanes w W e (b.y -ℤ a.y) (c.x -ℤ b.x) ey fx)
+    let told = lanes_told w W e _ _ _ _ (safe-difference w some split b.x a.x s.0 r.0) (safe-difference w some split c.y b.y t.1 s.1)
+    (safe-difference w some split b.y a.y s.1 r.1) (safe-difference w some split c.x b.x t.0 s.0) in
     (λ t. zero_of a b c (told.0 t), λ z. told.1 (zero_products a b c z))
 
 -- the bit of a mask's lane, where `full` has the highest of h + 1 bits
@@ -112,16 +111,10 @@ module _ (w W : Width) (wide : hbits W ≡ 2 * hbits w + 1) (some : 2 ≤ hbits 
   abbrev pub turn_lane : Point → Point → Point → Bool
   turn_lane a b c = nat_eq (of_z W (lane_product w W (b.x -ℤ a.x) (c.y -ℤ b.y))) (of_z W (lane_product w W (b.y -ℤ a.y) (c.x -ℤ b.x)))
 
-  pub four_told : (h full : ℕ) → lane_bit h full true ≡ 1 → lane_bit h full false ≡ 0 → (a b c d e f : Point) → IsSafeContour w (a ∷ b ∷ c ∷ d ∷ e ∷ f ∷ [])
+  pub four_told : (h full : ℕ) → lane_bit h full true ≡ 1 → lane_bit h full false ≡ 0 → (a b c d e f : Point) → IsSafe w a → IsSafe w b → IsSafe w c → IsSafe w d → IsSafe w e → IsSafe w f
       → IsTrue (not (nat_eq ((lane_bit h full (turn_lane a b c) + 2 * (lane_bit h full (turn_lane b c d) + 2 * (lane_bit h full (turn_lane c d e) + 2 * (lane_bit h full (turn_lane d e f) + 0)))) % 18446744073709551616) 0))
       ↔ HasZeroTurnFrom (a ∷ b ∷ c ∷ d ∷ e ∷ f ∷ []) 0
-  four_told h full one none a b c d e f safe =
-      let r : IsSafe w a = safe 0 origin (omega arith) in
-      let s : IsSafe w b = safe 1 origin (omega arith) in
-      let t : IsSafe w c = safe 2 origin (omega arith) in
-      let u : IsSafe w d = safe 3 origin (omega arith) in
-      let v : IsSafe w e = safe 4 origin (omega arith) in
-      let x : IsSafe w f = safe 5 origin (omega arith) in
+  four_told h full one none a b c d e f r s t u v x =
       let mask = some_lane h full one none (turn_lane a b c) (turn_lane b c d) (turn_lane c d e) (turn_lane d e f) in
       let first = turn_told w W wide some split a b c r s t in
       let second = turn_told w W wide some split b c d s t u in
@@ -131,32 +124,14 @@ module _ (w W : Width) (wide : hbits W ≡ 2 * hbits w + 1) (some : 2 ≤ hbits 
         λ z. mask.1 (elim z [ inl g ↦ inl (first.1 g) | inr g ↦ elim g [ inl i ↦ inr (inl (second.1 i)) | inr i ↦ elim i [ inl j ↦ inr (inr (inl (third.1 j))) | inr j ↦ inr (inr (inr (fourth.1 j))) ] ] ]),
       )
 
--- the low halves of the two products of a zero turn are equal
-pub low_halves_equal : (W : Width) (a b c : Point) → IsZeroTurn a b c → int_wrap W ((b.x -ℤ a.x) *ℤ (c.y -ℤ b.y)) ≡ int_wrap W ((b.y -ℤ a.y) *ℤ (c.x -ℤ b.x))
-low_halves_equal W a b c z = ap (int_wrap W) (zero_products a b c z)
-
-module _ (w W : Width) (wide : hbits W ≡ 2 * hbits w + 1) (some : 2 ≤ hbits w) (split : bits w ≡ hbits w + 1) (a b c : Point) (r : IsSafe w a) (s : IsSafe w b) (t : IsSafe w c) where
-  difference_read : (p q : ℤ) → IsSafeCoordinate w p → IsSafeCoordinate w q → to_z w (of_z w (to_z w (of_z w q) -ℤ to_z w (of_z w p))) ≡ to_z w (of_z w (q -ℤ p))
-  difference_read p q f g = difference_of_lanes w some split p q f g ∙ sym (to_z-of_z w (q -ℤ p) (safe-difference w some split q p g f))
-
-  -- a test of the low halves says yes to a zero turn
-  pub low_told : (ex fy ey fx : ℤ) → ex ≡ to_z w (of_z w (to_z w (of_z w b.x) -ℤ to_z w (of_z w a.x))) → fy ≡ to_z w (of_z w (to_z w (of_z w c.y) -ℤ to_z w (of_z w b.y)))
-      → ey ≡ to_z w (of_z w (to_z w (of_z w b.y) -ℤ to_z w (of_z w a.y))) → fx ≡ to_z w (of_z w (to_z w (of_z w c.x) -ℤ to_z w (of_z w b.x)))
-      → (told : Bool) → IsTrue told ↔ (int_wrap w (ex *ℤ fy) ≡ int_wrap w (ey *ℤ fx)) → IsZeroTurn a b c → IsTrue told
-  low_told ex fy ey fx i j k l told law z =
-      law.1 (rw (
-        i ∙ difference_of_lanes w some split a.x b.x r.0 s.0,
-        j ∙ difference_of_lanes w some split b.y c.y s.1 t.1,
-        k ∙ difference_of_lanes w some split a.y b.y r.1 s.1,
-        l ∙ difference_of_lanes w some split b.x c.x s.0 t.0,
-      ) (low_halves_equal w a b c z))
-
-  -- and a test of the whole products says yes to nothing else
-  pub whole_told : (ex fy ey fx : ℤ) → ex ≡ to_z w (of_z w (to_z w (of_z w b.x) -ℤ to_z w (of_z w a.x))) → fy ≡ to_z w (of_z w (to_z w (of_z w c.y) -ℤ to_z w (of_z w b.y)))
-      → ey ≡ to_z w (of_z w (to_z w (of_z w b.y) -ℤ to_z w (of_z w a.y))) → fx ≡ to_z w (of_z w (to_z w (of_z w c.x) -ℤ to_z w (of_z w b.x)))
-      → (told : Bool) → IsTrue told ↔ (int_wrap W (to_z W (of_z W ex) *ℤ to_z W (of_z W fy)) ≡ int_wrap W (to_z W (of_z W ey) *ℤ to_z W (of_z W fx))) → IsTrue told ↔ IsZeroTurn a b c
-  whole_told ex fy ey fx i j k l told law =
-      let law = products-told w W wide _ _ _ _ ex fy ey fx
-      (safe-difference w some split b.x a.x s.0 r.0) (safe-difference w some split c.y b.y t.1 s.1) (safe-difference w some split b.y a.y s.1 r.1) (safe-difference w some split c.x b.x t.0 s.0)
-      (i ∙ difference_read a.x b.x r.0 s.0) (j ∙ difference_read b.y c.y s.1 t.1) (k ∙ difference_read a.y b.y r.1 s.1) (l ∙ difference_read b.x c.x s.0 t.0) told law in
-      (λ h. zero_of a b c (law.0 h), λ z. law.1 (zero_products a b c z))
+-- the products of the vectors at a turn, as the program computes them, are equal at a zero turn alone
+pub products_told : (w : Width) → 2 ≤ hbits w → bits w ≡ hbits w + 1 → (a b c : Point) → IsSafe w a → IsSafe w b → IsSafe w c
+    → (to_z w (of_z w (to_z w (of_z w b.x) -ℤ to_z w (of_z w a.x))) *ℤ to_z w (of_z w (to_z w (of_z w c.y) -ℤ to_z w (of_z w b.y)))
+    ≡ to_z w (of_z w (to_z w (of_z w b.y) -ℤ to_z w (of_z w a.y))) *ℤ to_z w (of_z w (to_z w (of_z w c.x) -ℤ to_z w (of_z w b.x)))) ↔ IsZeroTurn a b c
+products_told w some split a b c r s t =
+    rw (
+      difference_of_lanes w some split a.x b.x r.0 s.0,
+      difference_of_lanes w some split b.y c.y s.1 t.1,
+      difference_of_lanes w some split a.y b.y r.1 s.1,
+      difference_of_lanes w some split b.x c.x s.0 t.0,
+    ) (zero_of a b c, zero_products a b c)

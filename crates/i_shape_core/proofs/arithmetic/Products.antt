@@ -1,5 +1,5 @@
 -- How large the products of coordinates get, and that the wider type has room for them.
-use Rattle.std.proofs.Common.{◌≡◌, ℕ, suc, ◌+◌, ◌*◌, ◌-◌, ◌^◌, ◌<◌, ◌≤◌, ℤ, pos, negsuc, ◌+ℤ◌, ◌-ℤ◌, ◌*ℤ◌, ◌≤ℤ◌, ◌<ℤ◌, neg_ℤ, FitsSigned, to_z, of_z, Bool, IsTrue, ◌↔◌, ap, sym, subst, ◌∙◌, arith, inl, inr, mul-le-mul, pow-add, pow_pos}
+use Rattle.std.proofs.Common.{◌≡◌, ℕ, suc, ◌+◌, ◌*◌, ◌-◌, ◌^◌, ◌<◌, ◌≤◌, ℤ, pos, negsuc, ◌+ℤ◌, ◌-ℤ◌, ◌*ℤ◌, ◌≤ℤ◌, ◌<ℤ◌, neg_ℤ, FitsSigned, to_z, of_z, ap, sym, subst, ◌∙◌, arith, inl, inr, mul-le-mul, pow-add, pow_pos}
 use Rattle.std.proofs.lemmas.Bool.{cases_lt}
 use Rattle.std.proofs.lemmas.Int.{ints, int_wrap_fits, by_lt_z, to_z-of_z}
 use Rattle.std.specs.Int.{Width, int_wrap}
@@ -103,19 +103,6 @@ widened w W e a a' f same =
     let below = h.below in
     let reach : InReach (2 * (r * r)) a = record { from = omega (arith, ints); below = omega (arith, ints) } in
     ap (λ z. to_z W (of_z W z)) (same ∙ to_z-of_z w a f) ∙ to_z-of_z W a (wide-fits w W a e reach)
-
--- two products of coordinates are equal where the wider type, which reads them so, tells that they are
-pub products-told : (w W : Width) → hbits W ≡ 2 * hbits w + 1 → (a b c d a' b' c' d' : ℤ)
-    → FitsSigned w a → FitsSigned w b → FitsSigned w c → FitsSigned w d
-    → a' ≡ to_z w (of_z w a) → b' ≡ to_z w (of_z w b) → c' ≡ to_z w (of_z w c) → d' ≡ to_z w (of_z w d)
-    → (told : Bool) → IsTrue told ↔ (int_wrap W (to_z W (of_z W a') *ℤ to_z W (of_z W b')) ≡ int_wrap W (to_z W (of_z W c') *ℤ to_z W (of_z W d')))
-    → IsTrue told ↔ (a *ℤ b ≡ c *ℤ d)
-products-told w W e a b c d a' b' c' d' fa fb fc fd ea eb ec ed told law =
-    let left = wrapped-product w W e a b fa fb in
-    let right = wrapped-product w W e c d fc fd in
-    let same : IsTrue told ↔ (int_wrap W (a *ℤ b) ≡ int_wrap W (c *ℤ d)) =
-    rw (widened w W e a a' fa ea, widened w W e b b' fb eb, widened w W e c c' fc ec, widened w W e d d' fd ed) at law in
-    (λ t. sym left ∙ same.0 t ∙ right, λ z. same.1 (left ∙ z ∙ sym right))
 
 -- a difference of products of four coordinates, as the wider type computes it
 pub wrapped-difference : (w W : Width) → hbits W ≡ 2 * hbits w + 1 → (a b c d a' b' c' d' left right out : ℤ)

@@ -1,7 +1,6 @@
 -- Turns that are tested together, and a contour without zero turns by all its turns.
-use Rattle.std.proofs.Common.{[], ◌∷◌, map, ◌≡◌, ℕ, ℤ, ◌+◌, ◌<◌, ◌≤◌, List, length, get_or, inl, inr, arith, All}
+use Rattle.std.proofs.Common.{map, ◌≡◌, ℕ, ℤ, ◌+◌, ◌<◌, ◌≤◌, List, length, get_or, inl, inr, arith, All}
 use Rattle.std.proofs.lemmas.Bool.{cases_lt}
-use Rattle.std.proofs.lemmas.List.Elements.{All-from_recursion}
 use Rattle.std.specs.Int.{Width}
 use Rattle.i_shape_core.proofs.Common.{point_at, point_of, contour_of, IsSafe, Point, IsZeroTurn, IntPoint}
 use Rattle.i_shape_core.specs.FourTurns.{HasZeroTurnFrom, IsTurning}
@@ -19,10 +18,6 @@ placed point points each w value list k a p safe is within read =
     let item = points-item point points each list k a p is within read in
     let inside : k < length (points list) = omega (arith, within, points-length point points each list) in
     record { safe = read-safe w value (points list) k p safe inside item; at = read-point value (points list) k p inside item }
-
--- six safe points
-pub six_safe : (w : Width) {a b c d e f : Point} → IsSafe w a → IsSafe w b → IsSafe w c → IsSafe w d → IsSafe w e → IsSafe w f → All (IsSafe w) (a ∷ b ∷ c ∷ d ∷ e ∷ f ∷ [])
-six_safe w {a} {b} {c} {d} {e} {f} p q r s t u = All-from_recursion (IsSafe w) (a ∷ b ∷ c ∷ d ∷ e ∷ f ∷ []) (p, (q, (r, (s, (t, (u, tt))))))
 
 module _ (c : List Point) where
   -- the turn of the points at three places that follow each other

@@ -2,12 +2,10 @@
 
 ghost use Rattle.std.specs.Prelude.{◌≡◌, ◌↔◌, ◌-ℤ◌, [], ◌∷◌, IsTrue};
 ghost use Rattle.std.specs.Int.{w16, w32};
-ghost use Rattle.i_shape_core.specs.FourTurns.{HasZeroTurnFrom};
-ghost use Rattle.i_shape_core.specs.IntPoint.{contour_of, IsSafe, IsSafeContour, point_of};
+ghost use Rattle.i_shape_core.specs.FourTurns.{at, HasZeroTurnFrom};
+ghost use Rattle.i_shape_core.specs.SafeCoordinates.{IsSafe};
 
-use crate::number::IntNumber;
-use crate::point::IntPoint;
-use crate::zero_turns::{ZeroTurns, are_wrapped_products_equal};
+use crate::zero_turns::ZeroTurns;
 use std::simd::prelude::*;
 
 impl ZeroTurns for i16 {
@@ -16,20 +14,22 @@ impl ZeroTurns for i16 {
     ghost number = { λ x. x };
 
     fn are_products_equal(a: i16, b: i16, c: i16, d: i16) -> bool {
-        are_wrapped_products_equal(a.to_wide(), b.to_wide(), c.to_wide(), d.to_wide())
+        a as i32 * b as i32 == c as i32 * d as i32
     }
 
     #[inline(always)]
     fn has_zero_turn(
-        a: IntPoint<i16>,
-        b: IntPoint<i16>,
-        c: IntPoint<i16>,
-        d: IntPoint<i16>,
-        e: IntPoint<i16>,
-        f: IntPoint<i16>,
+        a: (i16, i16),
+        b: (i16, i16),
+        c: (i16, i16),
+        d: (i16, i16),
+        e: (i16, i16),
+        f: (i16, i16),
     ) -> bool
-        requires { IsSafeContour w16 (contour_of (λ z. z) (a ∷ b ∷ c ∷ d ∷ e ∷ f ∷ [])) }
-        ensures { IsTrue result ↔ HasZeroTurnFrom (contour_of (λ z. z) (a ∷ b ∷ c ∷ d ∷ e ∷ f ∷ [])) 0 }
+        requires { IsSafe w16 (at a.0 a.1) × IsSafe w16 (at b.0 b.1) × IsSafe w16 (at c.0 c.1)
+            × IsSafe w16 (at d.0 d.1) × IsSafe w16 (at e.0 e.1) × IsSafe w16 (at f.0 f.1) }
+        ensures { IsTrue result ↔ HasZeroTurnFrom (at a.0 a.1 ∷ at b.0 b.1 ∷ at c.0 c.1
+            ∷ at d.0 d.1 ∷ at e.0 e.1 ∷ at f.0 f.1 ∷ []) 0 }
     {
         let first = vectors_of_i16(a, b, c, d, e);
         let second = vectors_of_i16(b, c, d, e, f);
@@ -46,20 +46,19 @@ impl ZeroTurns for i16 {
 /// The vectors from each of five points to the next, the coordinates in the order in which they lie.
 #[inline(always)]
 fn vectors_of_i16(
-    a: IntPoint<i16>,
-    b: IntPoint<i16>,
-    c: IntPoint<i16>,
-    d: IntPoint<i16>,
-    e: IntPoint<i16>,
+    a: (i16, i16),
+    b: (i16, i16),
+    c: (i16, i16),
+    d: (i16, i16),
+    e: (i16, i16),
 ) -> i16x8
-    requires { IsSafe w16 (point_of (λ z. z) a) × IsSafe w16 (point_of (λ z. z) b)
-        × IsSafe w16 (point_of (λ z. z) c) × IsSafe w16 (point_of (λ z. z) d)
-        × IsSafe w16 (point_of (λ z. z) e) }
-    ensures { result ≡ (b.x -ℤ a.x) ∷ (b.y -ℤ a.y) ∷ (c.x -ℤ b.x)
-        ∷ (c.y -ℤ b.y) ∷ (d.x -ℤ c.x) ∷ (d.y -ℤ c.y) ∷ (e.x -ℤ d.x) ∷ (e.y -ℤ d.y) ∷ [] }
+    requires { IsSafe w16 (at a.0 a.1) × IsSafe w16 (at b.0 b.1) × IsSafe w16 (at c.0 c.1)
+        × IsSafe w16 (at d.0 d.1) × IsSafe w16 (at e.0 e.1) }
+    ensures { result ≡ (b.0 -ℤ a.0) ∷ (b.1 -ℤ a.1) ∷ (c.0 -ℤ b.0)
+        ∷ (c.1 -ℤ b.1) ∷ (d.0 -ℤ c.0) ∷ (d.1 -ℤ c.1) ∷ (e.0 -ℤ d.0) ∷ (e.1 -ℤ d.1) ∷ [] }
 {
-    let from = i16x8::from_array([a.x, a.y, b.x, b.y, c.x, c.y, d.x, d.y]);
-    let to = i16x8::from_array([b.x, b.y, c.x, c.y, d.x, d.y, e.x, e.y]);
+    let from = i16x8::from_array([a.0, a.1, b.0, b.1, c.0, c.1, d.0, d.1]);
+    let to = i16x8::from_array([b.0, b.1, c.0, c.1, d.0, d.1, e.0, e.1]);
     to.strict_sub(from)
 }
 
@@ -69,20 +68,22 @@ impl ZeroTurns for i32 {
     ghost number = { λ x. x };
 
     fn are_products_equal(a: i32, b: i32, c: i32, d: i32) -> bool {
-        are_wrapped_products_equal(a.to_wide(), b.to_wide(), c.to_wide(), d.to_wide())
+        a as i64 * b as i64 == c as i64 * d as i64
     }
 
     #[inline(always)]
     fn has_zero_turn(
-        a: IntPoint<i32>,
-        b: IntPoint<i32>,
-        c: IntPoint<i32>,
-        d: IntPoint<i32>,
-        e: IntPoint<i32>,
-        f: IntPoint<i32>,
+        a: (i32, i32),
+        b: (i32, i32),
+        c: (i32, i32),
+        d: (i32, i32),
+        e: (i32, i32),
+        f: (i32, i32),
     ) -> bool
-        requires { IsSafeContour w32 (contour_of (λ z. z) (a ∷ b ∷ c ∷ d ∷ e ∷ f ∷ [])) }
-        ensures { IsTrue result ↔ HasZeroTurnFrom (contour_of (λ z. z) (a ∷ b ∷ c ∷ d ∷ e ∷ f ∷ [])) 0 }
+        requires { IsSafe w32 (at a.0 a.1) × IsSafe w32 (at b.0 b.1) × IsSafe w32 (at c.0 c.1)
+            × IsSafe w32 (at d.0 d.1) × IsSafe w32 (at e.0 e.1) × IsSafe w32 (at f.0 f.1) }
+        ensures { IsTrue result ↔ HasZeroTurnFrom (at a.0 a.1 ∷ at b.0 b.1 ∷ at c.0 c.1
+            ∷ at d.0 d.1 ∷ at e.0 e.1 ∷ at f.0 f.1 ∷ []) 0 }
     {
         let first = vectors_of_i32(a, b, c, d, e);
         let second = vectors_of_i32(b, c, d, e, f);
@@ -99,19 +100,18 @@ impl ZeroTurns for i32 {
 /// The same of 32 bits.
 #[inline(always)]
 fn vectors_of_i32(
-    a: IntPoint<i32>,
-    b: IntPoint<i32>,
-    c: IntPoint<i32>,
-    d: IntPoint<i32>,
-    e: IntPoint<i32>,
+    a: (i32, i32),
+    b: (i32, i32),
+    c: (i32, i32),
+    d: (i32, i32),
+    e: (i32, i32),
 ) -> i32x8
-    requires { IsSafe w32 (point_of (λ z. z) a) × IsSafe w32 (point_of (λ z. z) b)
-        × IsSafe w32 (point_of (λ z. z) c) × IsSafe w32 (point_of (λ z. z) d)
-        × IsSafe w32 (point_of (λ z. z) e) }
-    ensures { result ≡ (b.x -ℤ a.x) ∷ (b.y -ℤ a.y) ∷ (c.x -ℤ b.x)
-        ∷ (c.y -ℤ b.y) ∷ (d.x -ℤ c.x) ∷ (d.y -ℤ c.y) ∷ (e.x -ℤ d.x) ∷ (e.y -ℤ d.y) ∷ [] }
+    requires { IsSafe w32 (at a.0 a.1) × IsSafe w32 (at b.0 b.1) × IsSafe w32 (at c.0 c.1)
+        × IsSafe w32 (at d.0 d.1) × IsSafe w32 (at e.0 e.1) }
+    ensures { result ≡ (b.0 -ℤ a.0) ∷ (b.1 -ℤ a.1) ∷ (c.0 -ℤ b.0)
+        ∷ (c.1 -ℤ b.1) ∷ (d.0 -ℤ c.0) ∷ (d.1 -ℤ c.1) ∷ (e.0 -ℤ d.0) ∷ (e.1 -ℤ d.1) ∷ [] }
 {
-    let from = i32x8::from_array([a.x, a.y, b.x, b.y, c.x, c.y, d.x, d.y]);
-    let to = i32x8::from_array([b.x, b.y, c.x, c.y, d.x, d.y, e.x, e.y]);
+    let from = i32x8::from_array([a.0, a.1, b.0, b.1, c.0, c.1, d.0, d.1]);
+    let to = i32x8::from_array([b.0, b.1, c.0, c.1, d.0, d.1, e.0, e.1]);
     to.strict_sub(from)
 }

@@ -1,14 +1,12 @@
 //! Coordinates of 64 bits: the low halves of the products first, which cost half as much and are equal where the products are.
 
-ghost use Rattle.std.specs.Prelude.{◌↔◌, [], ◌∷◌, IsTrue};
+ghost use Rattle.std.specs.Prelude.{◌≡◌, ◌↔◌, ◌*ℤ◌, [], ◌∷◌, IsTrue};
 ghost use Rattle.std.specs.Int.{w64};
-ghost use Rattle.i_shape_core.specs.FourTurns.{HasZeroTurnFrom};
-ghost use Rattle.i_shape_core.specs.IntPoint.{contour_of, IsSafe, IsSafeContour, point_of};
+ghost use Rattle.i_shape_core.specs.FourTurns.{at, HasZeroTurnFrom};
+ghost use Rattle.i_shape_core.specs.SafeCoordinates.{IsSafe};
 ghost use Rattle.i_shape_core.specs.Point.{IsZeroTurn};
 
-use crate::number::IntNumber;
-use crate::point::IntPoint;
-use crate::zero_turns::{ZeroTurns, are_wrapped_products_equal};
+use crate::zero_turns::ZeroTurns;
 
 impl ZeroTurns for i64 {
     ghost number_width = { w64 };
@@ -16,21 +14,22 @@ impl ZeroTurns for i64 {
     ghost number = { λ x. x };
 
     fn are_products_equal(a: i64, b: i64, c: i64, d: i64) -> bool {
-        are_wrapped_products_equal::<i64>(a, b, c, d)
-            && are_wrapped_products_equal(a.to_wide(), b.to_wide(), c.to_wide(), d.to_wide())
+        are_low_halves_equal(a, b, c, d) && a as i128 * b as i128 == c as i128 * d as i128
     }
 
     #[inline(always)]
     fn has_zero_turn(
-        a: IntPoint<i64>,
-        b: IntPoint<i64>,
-        c: IntPoint<i64>,
-        d: IntPoint<i64>,
-        e: IntPoint<i64>,
-        f: IntPoint<i64>,
+        a: (i64, i64),
+        b: (i64, i64),
+        c: (i64, i64),
+        d: (i64, i64),
+        e: (i64, i64),
+        f: (i64, i64),
     ) -> bool
-        requires { IsSafeContour w64 (contour_of (λ z. z) (a ∷ b ∷ c ∷ d ∷ e ∷ f ∷ [])) }
-        ensures { IsTrue result ↔ HasZeroTurnFrom (contour_of (λ z. z) (a ∷ b ∷ c ∷ d ∷ e ∷ f ∷ [])) 0 }
+        requires { IsSafe w64 (at a.0 a.1) × IsSafe w64 (at b.0 b.1) × IsSafe w64 (at c.0 c.1)
+            × IsSafe w64 (at d.0 d.1) × IsSafe w64 (at e.0 e.1) × IsSafe w64 (at f.0 f.1) }
+        ensures { IsTrue result ↔ HasZeroTurnFrom (at a.0 a.1 ∷ at b.0 b.1 ∷ at c.0 c.1
+            ∷ at d.0 d.1 ∷ at e.0 e.1 ∷ at f.0 f.1 ∷ []) 0 }
     {
         let may_have = may_be_zero(a, b, c)
             | may_be_zero(b, c, d)
@@ -43,28 +42,27 @@ impl ZeroTurns for i64 {
     }
 }
 
+/// Returns whether the low halves of `a` times `b` and of `c` times `d` are equal, as those of equal products are.
+#[inline(always)]
+fn are_low_halves_equal(a: i64, b: i64, c: i64, d: i64) -> bool
+    ensures { a *ℤ b ≡ c *ℤ d → IsTrue result }
+{
+    a.wrapping_mul(b) == c.wrapping_mul(d)
+}
+
 /// Whether the low halves of the two products of a turn are equal, as those of a zero turn are.
 #[inline(always)]
-fn may_be_zero(a: IntPoint<i64>, b: IntPoint<i64>, c: IntPoint<i64>) -> bool
-    requires { IsSafe w64 (point_of (λ z. z) a) × IsSafe w64 (point_of (λ z. z) b)
-        × IsSafe w64 (point_of (λ z. z) c) }
-    ensures { IsZeroTurn (point_of (λ z. z) a) (point_of (λ z. z) b) (point_of (λ z. z) c)
-        → IsTrue result }
+fn may_be_zero(a: (i64, i64), b: (i64, i64), c: (i64, i64)) -> bool
+    requires { IsSafe w64 (at a.0 a.1) × IsSafe w64 (at b.0 b.1) × IsSafe w64 (at c.0 c.1) }
+    ensures { IsZeroTurn (at a.0 a.1) (at b.0 b.1) (at c.0 c.1) → IsTrue result }
 {
-    are_wrapped_products_equal::<i64>(b.x - a.x, c.y - b.y, b.y - a.y, c.x - b.x)
+    are_low_halves_equal(b.0 - a.0, c.1 - b.1, b.1 - a.1, c.0 - b.0)
 }
 
 /// Whether a turn is a zero turn.
-fn is_zero(a: IntPoint<i64>, b: IntPoint<i64>, c: IntPoint<i64>) -> bool
-    requires { IsSafe w64 (point_of (λ z. z) a) × IsSafe w64 (point_of (λ z. z) b)
-        × IsSafe w64 (point_of (λ z. z) c) }
-    ensures { IsTrue result ↔ IsZeroTurn (point_of (λ z. z) a)
-        (point_of (λ z. z) b) (point_of (λ z. z) c) }
+fn is_zero(a: (i64, i64), b: (i64, i64), c: (i64, i64)) -> bool
+    requires { IsSafe w64 (at a.0 a.1) × IsSafe w64 (at b.0 b.1) × IsSafe w64 (at c.0 c.1) }
+    ensures { IsTrue result ↔ IsZeroTurn (at a.0 a.1) (at b.0 b.1) (at c.0 c.1) }
 {
-    are_wrapped_products_equal(
-        (b.x - a.x) as i128,
-        (c.y - b.y) as i128,
-        (b.y - a.y) as i128,
-        (c.x - b.x) as i128,
-    )
+    i64::are_products_equal(b.0 - a.0, c.1 - b.1, b.1 - a.1, c.0 - b.0)
 }

@@ -1,8 +1,6 @@
 use Rattle.std.proofs.Common.{refl, w32, w64}
-use Rattle.i_shape_core.proofs.arithmetic.Products.{products-told}
+use Rattle.i_shape_core.proofs.arithmetic.Lanes.{lanes_told}
 use Rattle.i_shape_core.proofs.zero_turns.lanes.I32ZeroTurns.are_products_equal.Goals as goal
 
 pub returns : goal.returns
-returns c =
-    products-told w32 w64 refl _ _ _ _ _ _ _ _ c.ranges.a c.ranges.b c.ranges.c c.ranges.d
-    c.to_wide.ensures.same c.to_wide-2.ensures.same c.to_wide-3.ensures.same c.to_wide-4.ensures.same _ c.are_wrapped_products_equal.ensures
+returns c = lanes_told w32 w64 refl c.args.a c.args.b c.args.c c.args.d c.ranges.a c.ranges.b c.ranges.c c.ranges.d
