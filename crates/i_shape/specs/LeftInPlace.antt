@@ -3,7 +3,7 @@ use Rattle.std.specs.Prelude.{◌≡◌, ◌≤◌, Bool, true, false, ℕ, List
 use Rattle.std.specs.List.{All, AllZip, Contains, filter}
 use Rattle.i_shape_core.specs.Point.{Point}
 use Rattle.i_shape_core.specs.Written.{slot}
-use Rattle.i_shape.specs.declared.int.cleaning.in_place.InPlaceWork.{InPlaceWork}
+use Rattle.i_shape.specs.declared.int.in_place.InPlaceWork.{InPlaceWork}
 
 -- d is what is left of c: its answer, or no points where it collapses
 abbrev pub IsLeftOf : (List Point → Option (List Point) → Type 0) → List Point → List Point → Type 0

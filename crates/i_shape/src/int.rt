@@ -5,6 +5,7 @@ pub mod canonical;
 pub(crate) mod cleaning;
 pub mod count;
 pub mod despike;
+mod in_place;
 pub mod path;
 pub mod shape;
 pub mod simple;

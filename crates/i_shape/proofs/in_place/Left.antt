@@ -15,7 +15,7 @@ use Rattle.i_shape_core.proofs.lists.Survivors.{survivors-none}
 use Rattle.i_shape.specs.ShapeLists.{IsSafeShape}
 use Rattle.i_shape.specs.ShapeAnswers.{Survivors, ShapeClean, ListClean, EachContour, EachShape, AreKept}
 use Rattle.i_shape.specs.InPlace.{Leaves, IsShortOrPasses, CleansShape, CleansList}
-use Rattle.i_shape.specs.declared.int.cleaning.in_place.InPlaceWork.{InPlaceWork}
+use Rattle.i_shape.specs.declared.int.in_place.InPlaceWork.{InPlaceWork}
 use Rattle.i_shape.specs.LeftInPlace.{AreLeftOf, HasRoom, has_points, keeps_outer, kept_contours, kept_shapes}
 use Rattle.i_shape.proofs.lists.Surviving.{survivors_gone, survivors_left}
 use Rattle.i_shape.proofs.shapes.Kept.{same_kept, shape_keeps, shape_safe, list_keeps}

@@ -14,8 +14,6 @@ ghost use Rattle.i_shape.specs.ShapeAnswers.{Survivors, ShapeClean, EachContour,
 ghost use Rattle.i_shape.specs.ShapeLists.{shape_of, shapes_of, IsSafeShape, IsSafeList};
 ghost use Rattle.i_shape_core.specs.Refusals.{OkUnlessMemory};
 
-mod in_place;
-
 use crate::int::shape::{IntContour, IntShape, IntShapes};
 pub use i_shape_core::cleaner::{
     Canonicalizer, ContourCleaner, SpikeRemover, UnorientedCanonicalizer,
@@ -24,7 +22,6 @@ use i_shape_core::error::ShapeError;
 use i_shape_core::number::IntNumber;
 use i_shape_core::point::IntPoint;
 use i_shape_core::simplifier::ContourSimplifier;
-pub use in_place::{clean_list_in_place, clean_shape_in_place};
 use std::alloc::Global;
 
 /// What shapes and lists require of a cleaner's results. `ContourDeSpiker` doesn't implement it: shapes keep repeated

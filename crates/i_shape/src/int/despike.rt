@@ -2,12 +2,17 @@
 
 ghost use Rattle.std.specs.Prelude.{◌≡◌, Bool, true, Result, Ok};
 ghost use Rattle.i_shape_core.specs.IntPoint.{contour_of, IsSafeContour};
+ghost use Rattle.i_shape_core.specs.Convex.{NoSpikes};
+ghost use Rattle.i_shape_core.specs.Cleaners.{DespikeAnswer};
 ghost use Rattle.i_shape_core.specs.declared.error.ShapeError.{ShapeError};
-ghost use Rattle.i_shape.specs.InPlace.{DespikesContour};
+ghost use Rattle.i_shape.specs.ShapeLists.{shape_of, shapes_of, IsSafeShape, IsSafeList};
+ghost use Rattle.i_shape.specs.InPlace.{DespikesContour, CleansShape, CleansList};
 
 mod shape;
 
-use crate::int::shape::IntContour;
+use crate::int::in_place::{clean_list_in_place, clean_shape_in_place};
+use crate::int::shape::{IntContour, IntShape, IntShapes};
+use i_shape_core::cleaner::SpikeRemover;
 pub use i_shape_core::despike::{ContourDeSpiker, DeSpikeContour};
 use i_shape_core::error::ShapeError;
 use i_shape_core::number::IntNumber;
@@ -48,5 +53,28 @@ impl<I: IntNumber> DeSpike for IntContour<I> {
             None => self.clear(),
         }
         Ok(true)
+    }
+}
+
+/// A shape whose first contour collapses becomes empty. Later contours that collapse are removed. For an empty shape
+/// the call returns false.
+impl<I: IntNumber> DeSpike for IntShape<I> {
+    ghost can_despike = { λ shape. IsSafeShape I.width (shape_of I.value shape.items) };
+
+    ghost despike_gives = { λ old r new. CleansShape NoSpikes DespikeAnswer (shape_of I.value old.items) (shape_of I.value new.items) r };
+
+    fn remove_spikes(&mut self) -> Result<bool, ShapeError> {
+        clean_shape_in_place::<I, SpikeRemover>(self)
+    }
+}
+
+/// A shape whose first contour collapses is removed. A shape that was empty stays.
+impl<I: IntNumber> DeSpike for IntShapes<I> {
+    ghost can_despike = { λ shapes. IsSafeList I.width (shapes_of I.value shapes.items) };
+
+    ghost despike_gives = { λ old r new. CleansList NoSpikes DespikeAnswer (shapes_of I.value old.items) (shapes_of I.value new.items) r };
+
+    fn remove_spikes(&mut self) -> Result<bool, ShapeError> {
+        clean_list_in_place::<I, SpikeRemover>(self)
     }
 }

@@ -6,11 +6,13 @@ ghost use Rattle.i_shape_core.specs.IntPoint.{contour_of, IsSafeContour};
 ghost use Rattle.i_shape_core.specs.Contour.{IsSimple};
 ghost use Rattle.i_shape_core.specs.Cleaners.{SimpleAnswer};
 ghost use Rattle.i_shape_core.specs.declared.error.ShapeError.{ShapeError};
-ghost use Rattle.i_shape.specs.InPlace.{CleansContour};
+ghost use Rattle.i_shape.specs.ShapeLists.{shape_of, shapes_of, IsSafeShape, IsSafeList};
+ghost use Rattle.i_shape.specs.InPlace.{CleansContour, CleansShape, CleansList};
 
 mod shape;
 
-use crate::int::shape::IntContour;
+use crate::int::in_place::{clean_list_in_place, clean_shape_in_place};
+use crate::int::shape::{IntContour, IntShape, IntShapes};
 use i_shape_core::error::ShapeError;
 use i_shape_core::number::IntNumber;
 pub use i_shape_core::simple::SimpleContour;
@@ -52,5 +54,28 @@ impl<I: IntNumber> Simplify for IntContour<I> {
             None => self.clear(),
         }
         Ok(true)
+    }
+}
+
+/// A shape whose first contour collapses becomes empty. Later contours that collapse are removed. For an empty shape
+/// the call returns false.
+impl<I: IntNumber> Simplify for IntShape<I> {
+    ghost can_simplify = { λ shape. IsSafeShape I.width (shape_of I.value shape.items) };
+
+    ghost simplify_gives = { λ old r new. CleansShape IsSimple SimpleAnswer (shape_of I.value old.items) (shape_of I.value new.items) r };
+
+    fn simplify_contour(&mut self) -> Result<bool, ShapeError> {
+        clean_shape_in_place::<I, ContourSimplifier>(self)
+    }
+}
+
+/// A shape whose first contour collapses is removed. A shape that was empty stays.
+impl<I: IntNumber> Simplify for IntShapes<I> {
+    ghost can_simplify = { λ shapes. IsSafeList I.width (shapes_of I.value shapes.items) };
+
+    ghost simplify_gives = { λ old r new. CleansList IsSimple SimpleAnswer (shapes_of I.value old.items) (shapes_of I.value new.items) r };
+
+    fn simplify_contour(&mut self) -> Result<bool, ShapeError> {
+        clean_list_in_place::<I, ContourSimplifier>(self)
     }
 }

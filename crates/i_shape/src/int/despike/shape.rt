@@ -1,4 +1,4 @@
-//! Removal of spikes from shapes and shape lists: tests, cleaned copies, and cleaning in place.
+//! Removal of spikes from shapes and shape lists: tests, and cleaned copies.
 
 ghost use Rattle.std.specs.Prelude.{◌≡◌, ◌↔◌, List, [], IsTrue, IsOk};
 ghost use Rattle.i_shape_core.specs.Point.{Point};
@@ -6,14 +6,11 @@ ghost use Rattle.i_shape_core.specs.Convex.{NoSpikes};
 ghost use Rattle.i_shape_core.specs.Cleaners.{DespikeAnswer};
 ghost use Rattle.i_shape.specs.ShapeLists.{shape_of, shapes_of, IsSafeShape, IsSafeList};
 ghost use Rattle.i_shape.specs.ShapeAnswers.{EachContour, EachShape, CleansShapeTo, CleansListTo};
-ghost use Rattle.i_shape.specs.InPlace.{CleansShape, CleansList};
 ghost use Rattle.i_shape_core.specs.Refusals.{OkUnlessMemory};
 
 use crate::int::cleaning::{
-    ContourCleaner, SpikeRemover, clean_list, clean_list_in_place, clean_shape,
-    clean_shape_in_place, is_clean_list, is_clean_shape,
+    ContourCleaner, SpikeRemover, clean_list, clean_shape, is_clean_list, is_clean_shape,
 };
-use crate::int::despike::DeSpike;
 use crate::int::shape::{IntContour, IntShape, IntShapes};
 use i_shape_core::error::ShapeError;
 use i_shape_core::number::IntNumber;
@@ -83,28 +80,5 @@ impl<I: IntNumber> DeSpikeShapes<I> for IntShapes<I> {
     fn despiked_shapes(&self, alloc: Global) -> Result<IntShapes<I>, ShapeError> {
         let mut remover = SpikeRemover::new(alloc);
         clean_list(&mut remover, alloc, self.as_slice())
-    }
-}
-
-/// A shape whose first contour collapses becomes empty. Later contours that collapse are removed. For an empty shape
-/// the call returns false.
-impl<I: IntNumber> DeSpike for IntShape<I> {
-    ghost can_despike = { λ shape. IsSafeShape I.width (shape_of I.value shape.items) };
-
-    ghost despike_gives = { λ old r new. CleansShape NoSpikes DespikeAnswer (shape_of I.value old.items) (shape_of I.value new.items) r };
-
-    fn remove_spikes(&mut self) -> Result<bool, ShapeError> {
-        clean_shape_in_place::<I, SpikeRemover>(self)
-    }
-}
-
-/// A shape whose first contour collapses is removed. A shape that was empty stays.
-impl<I: IntNumber> DeSpike for IntShapes<I> {
-    ghost can_despike = { λ shapes. IsSafeList I.width (shapes_of I.value shapes.items) };
-
-    ghost despike_gives = { λ old r new. CleansList NoSpikes DespikeAnswer (shapes_of I.value old.items) (shapes_of I.value new.items) r };
-
-    fn remove_spikes(&mut self) -> Result<bool, ShapeError> {
-        clean_list_in_place::<I, SpikeRemover>(self)
     }
 }

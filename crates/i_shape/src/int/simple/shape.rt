@@ -1,4 +1,4 @@
-//! Removal of zero turns from shapes and shape lists: tests, cleaned copies, and cleaning in place.
+//! Removal of zero turns from shapes and shape lists: tests, and cleaned copies.
 
 ghost use Rattle.std.specs.Prelude.{◌≡◌, ◌↔◌, List, [], IsTrue, IsOk};
 ghost use Rattle.i_shape_core.specs.Point.{Point};
@@ -6,15 +6,10 @@ ghost use Rattle.i_shape_core.specs.Contour.{IsSimple};
 ghost use Rattle.i_shape_core.specs.Cleaners.{SimpleAnswer};
 ghost use Rattle.i_shape.specs.ShapeLists.{shape_of, shapes_of, IsSafeShape, IsSafeList};
 ghost use Rattle.i_shape.specs.ShapeAnswers.{EachContour, EachShape, CleansShapeTo, CleansListTo};
-ghost use Rattle.i_shape.specs.InPlace.{CleansShape, CleansList};
 ghost use Rattle.i_shape_core.specs.Refusals.{OkUnlessMemory};
 
-use crate::int::cleaning::{
-    clean_list, clean_list_in_place, clean_shape, clean_shape_in_place, is_clean_list,
-    is_clean_shape,
-};
+use crate::int::cleaning::{clean_list, clean_shape, is_clean_list, is_clean_shape};
 use crate::int::shape::{IntContour, IntShape, IntShapes};
-use crate::int::simple::Simplify;
 use i_shape_core::error::ShapeError;
 use i_shape_core::number::IntNumber;
 use i_shape_core::simplifier::ContourSimplifier;
@@ -81,28 +76,5 @@ impl<I: IntNumber> SimpleShapes<I> for &[IntShape<I>] {
 
     fn simplified(&self, alloc: Global) -> Result<IntShapes<I>, ShapeError> {
         clean_list(&mut ContourSimplifier::new(alloc), alloc, *self)
-    }
-}
-
-/// A shape whose first contour collapses becomes empty. Later contours that collapse are removed. For an empty shape
-/// the call returns false.
-impl<I: IntNumber> Simplify for IntShape<I> {
-    ghost can_simplify = { λ shape. IsSafeShape I.width (shape_of I.value shape.items) };
-
-    ghost simplify_gives = { λ old r new. CleansShape IsSimple SimpleAnswer (shape_of I.value old.items) (shape_of I.value new.items) r };
-
-    fn simplify_contour(&mut self) -> Result<bool, ShapeError> {
-        clean_shape_in_place::<I, ContourSimplifier>(self)
-    }
-}
-
-/// A shape whose first contour collapses is removed. A shape that was empty stays.
-impl<I: IntNumber> Simplify for IntShapes<I> {
-    ghost can_simplify = { λ shapes. IsSafeList I.width (shapes_of I.value shapes.items) };
-
-    ghost simplify_gives = { λ old r new. CleansList IsSimple SimpleAnswer (shapes_of I.value old.items) (shapes_of I.value new.items) r };
-
-    fn simplify_contour(&mut self) -> Result<bool, ShapeError> {
-        clean_list_in_place::<I, ContourSimplifier>(self)
     }
 }

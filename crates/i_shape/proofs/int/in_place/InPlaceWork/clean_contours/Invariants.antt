@@ -2,7 +2,7 @@ use Rattle.std.proofs.Common.{ℕ}
 use Rattle.i_shape.specs.ShapeLists.{shape_of}
 use Rattle.i_shape.specs.LeftInPlace.{IsLeftOf, HasRoom}
 use Rattle.i_shape.proofs.in_place.Left.{SoFar}
-use Rattle.i_shape.proofs.int.cleaning.in_place.InPlaceWork.clean_contours.Given as goal
+use Rattle.i_shape.proofs.int.in_place.InPlaceWork.clean_contours.Given as goal
 
 abbrev pub invariant-loop-contour : goal.invariant-loop-contour
 invariant-loop-contour g l = record {

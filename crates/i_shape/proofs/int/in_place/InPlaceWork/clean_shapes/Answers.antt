@@ -3,7 +3,7 @@ use Rattle.std.specs.List.{All}
 use Rattle.i_shape.specs.ShapeLists.{shape_of, shapes_of, IsSafeShape}
 use Rattle.i_shape.specs.LeftInPlace.{HasRoom, HasRoomFor}
 use Rattle.i_shape.proofs.in_place.Left.{so_far_none, so_far_holds, so_far_set, so_far_all}
-use Rattle.i_shape.proofs.int.cleaning.in_place.InPlaceWork.clean_shapes.Goals as goal
+use Rattle.i_shape.proofs.int.in_place.InPlaceWork.clean_shapes.Goals as goal
 
 pub loop-shape-init : goal.loop-shape-init
 loop-shape-init g c = record { left = so_far_none _ (shapes_of g.I.IntNumber.value c.deref_mut-shape-items.result.now); keeps_room = λ n had. had }

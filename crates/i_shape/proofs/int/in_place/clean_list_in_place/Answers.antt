@@ -10,7 +10,7 @@ use Rattle.i_shape.proofs.shapes.Kept.{list_safe}
 use Rattle.i_shape.proofs.in_place.Contours.{list_stays_in_place}
 use Rattle.i_shape.proofs.in_place.Left.{fewer_in_place, list_left, list_cleaned_in_place, list_refused_in_place}
 use Rattle.i_shape.proofs.in_place.Longest.{each_of_all, all_of_each, not_all_clean, short_longest, room_for_each}
-use Rattle.i_shape.proofs.int.cleaning.in_place.clean_list_in_place.Goals as goal
+use Rattle.i_shape.proofs.int.in_place.clean_list_in_place.Goals as goal
 
 pub longest_unclean_of_list-requires : goal.longest_unclean_of_list-requires
 longest_unclean_of_list-requires g c =

@@ -5,7 +5,7 @@ use Rattle.i_shape.specs.ShapeLists.{shape_of, IsSafeShape}
 use Rattle.i_shape.proofs.lists.EndToEnd.{concatenated_step}
 use Rattle.i_shape.proofs.lists.Surviving.{mapped-read}
 use Rattle.i_shape.proofs.in_place.Longest.{longest_append}
-use Rattle.i_shape.proofs.int.cleaning.in_place.longest_unclean_of_list.Goals as goal
+use Rattle.i_shape.proofs.int.in_place.longest_unclean_of_list.Goals as goal
 
 pub loop-shape-init : goal.loop-shape-init
 loop-shape-init g c = All-nil g.C.ContourCleaner.clean

@@ -7,7 +7,7 @@ use Rattle.i_shape_core.specs.declared.point.IntPoint.{IntPoint}
 use Rattle.i_shape.specs.ShapeLists.{shape_of}
 use Rattle.i_shape.specs.LeftInPlace.{has_points}
 use Rattle.i_shape.proofs.in_place.Left.{has_points_told, filter_read}
-use Rattle.i_shape.proofs.int.cleaning.in_place.drop_empty.Goals as goal
+use Rattle.i_shape.proofs.int.in_place.drop_empty.Goals as goal
 
 pub returns : goal.returns
 returns g c =

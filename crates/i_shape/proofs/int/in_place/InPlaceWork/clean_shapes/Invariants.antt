@@ -2,7 +2,7 @@ use Rattle.std.proofs.Common.{ℕ}
 use Rattle.i_shape.specs.ShapeLists.{shapes_of}
 use Rattle.i_shape.specs.LeftInPlace.{AreLeftOf, HasRoom}
 use Rattle.i_shape.proofs.in_place.Left.{SoFar}
-use Rattle.i_shape.proofs.int.cleaning.in_place.InPlaceWork.clean_shapes.Given as goal
+use Rattle.i_shape.proofs.int.in_place.InPlaceWork.clean_shapes.Given as goal
 
 abbrev pub invariant-loop-shape : goal.invariant-loop-shape
 invariant-loop-shape g l = record {

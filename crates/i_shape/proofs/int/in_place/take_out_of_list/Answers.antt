@@ -7,7 +7,7 @@ use Rattle.i_shape_core.specs.declared.point.IntPoint.{IntPoint}
 use Rattle.i_shape.specs.ShapeLists.{shape_of, shapes_of}
 use Rattle.i_shape.specs.LeftInPlace.{has_points, keeps_outer}
 use Rattle.i_shape.proofs.in_place.Left.{filter_read, so_far_none, so_far_set, so_far_all}
-use Rattle.i_shape.proofs.int.cleaning.in_place.take_out_of_list.Goals as goal
+use Rattle.i_shape.proofs.int.in_place.take_out_of_list.Goals as goal
 
 pub loop-shape-init : goal.loop-shape-init
 loop-shape-init g c = so_far_none _ (shapes_of g.I.IntNumber.value c.deref_mut-shape-items.result.now)

@@ -4,7 +4,7 @@ use Rattle.i_shape_core.specs.IntPoint.{contour_of, IsSafe}
 use Rattle.i_shape.specs.ShapeLists.{shape_of}
 use Rattle.i_shape.specs.LeftInPlace.{HasRoom, HasRoomFor}
 use Rattle.i_shape.proofs.in_place.Left.{so_far_none, so_far_holds, so_far_set, so_far_all}
-use Rattle.i_shape.proofs.int.cleaning.in_place.InPlaceWork.clean_contours.Goals as goal
+use Rattle.i_shape.proofs.int.in_place.InPlaceWork.clean_contours.Goals as goal
 
 pub loop-contour-init : goal.loop-contour-init
 loop-contour-init g c = record { left = so_far_none _ (shape_of g.I.IntNumber.value c.deref_mut-contour-items.result.now); keeps_room = λ n had. had }

@@ -7,7 +7,7 @@ use Rattle.i_shape_core.specs.IntPoint.{contour_of, point_of, IsSafe}
 use Rattle.i_shape_core.proofs.walks.StackReads.{fails_by_test}
 use Rattle.i_shape.proofs.lists.Surviving.{mapped-read, mapped-taken}
 use Rattle.i_shape.proofs.in_place.Longest.{clean_more, unclean_more}
-use Rattle.i_shape.proofs.int.cleaning.in_place.longest_unclean.Goals as goal
+use Rattle.i_shape.proofs.int.in_place.longest_unclean.Goals as goal
 
 pub loop-contour-init : goal.loop-contour-init
 loop-contour-init g c = All-nil g.C.ContourCleaner.clean

@@ -6,7 +6,7 @@ use Rattle.i_shape_core.specs.Written.{slot}
 use Rattle.i_shape_core.specs.declared.point.IntPoint.{IntPoint}
 use Rattle.i_shape_core.proofs.answers.Written.{slot_some}
 use Rattle.i_shape.proofs.in_place.Left.{written_whole}
-use Rattle.i_shape.proofs.int.cleaning.in_place.InPlaceWork.clean_contour.Goals as goal
+use Rattle.i_shape.proofs.int.in_place.InPlaceWork.clean_contour.Goals as goal
 
 pub is_clean-requires : goal.is_clean-requires
 is_clean-requires g c =

@@ -8,7 +8,7 @@ use Rattle.i_shape.specs.LeftInPlace.{HasRoom}
 use Rattle.i_shape.proofs.in_place.Contours.{shape_stays_in_place}
 use Rattle.i_shape.proofs.in_place.Left.{fewer_in_place, shape_left, shape_cleaned_in_place, shape_refused_in_place, leaves_safe}
 use Rattle.i_shape.proofs.in_place.Longest.{not_all_clean, short_longest, room_for_each}
-use Rattle.i_shape.proofs.int.cleaning.in_place.clean_shape_in_place.Goals as goal
+use Rattle.i_shape.proofs.int.in_place.clean_shape_in_place.Goals as goal
 
 pub longest_unclean-requires : goal.longest_unclean-requires
 longest_unclean-requires g c =
