@@ -4,4 +4,5 @@ pub mod Mapped
 pub mod Sublists
 pub mod FirstPlaces
 pub mod Survivors
+pub mod Longest
 pub mod Rings

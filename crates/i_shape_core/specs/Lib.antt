@@ -20,4 +20,5 @@ pub mod Canonical
 pub mod Walks
 pub mod Heights
 pub mod FourTurns
+pub mod Unclean
 pub mod Rings

@@ -1,9 +1,10 @@
 -- Rings in one array of points, divided by offsets.
-use Rattle.std.specs.Prelude.{◌≡◌, ℕ, ◌+◌, ◌-◌, ◌<◌, ◌≤◌, ◌⊎◌, List, length, drop, get_or, slice_range, Option, MatchOption, Result, OnErr, OnOk, IsOk, IsOkUnless}
+use Rattle.std.specs.Prelude.{◌≡◌, ℕ, ◌+◌, ◌-◌, ◌<◌, ◌≤◌, List, length, drop, get_or, slice_range, Option, Result, OnErr, OnOk, IsOk, IsOkUnless}
 use Rattle.std.specs.Int.{Width}
 use Rattle.i_shape_core.specs.Point.{Point}
 use Rattle.i_shape_core.specs.IntPoint.{IsSafeContour}
 use Rattle.i_shape_core.specs.Written.{slot, IsCleaned}
+use Rattle.i_shape_core.specs.Unclean.{LongestUnclean, IsShortOrClean}
 use Rattle.i_shape_core.specs.declared.error.ShapeError.{ShapeError}
 use Rattle.i_shape_core.specs.declared.error.ShapeError.TheVariants.{OutOfMemory}
 
@@ -33,17 +34,9 @@ AreSafeRings width read points offsets = (k : ℕ) → k + 1 < length offsets �
 abbrev pub AreCleanRings : {P : Type 0} → (List Point → Type 0) → (List P → List Point) → List P → List ℕ → ℕ → Type 0
 AreCleanRings Clean read points offsets n = (k : ℕ) → k + 1 < n → Clean (read (nth_ring points offsets k))
 
--- the longest of the rings between the first n offsets that aren't clean has `longest` points
-pub record IsLongestUnclean {P : Type 0} (Clean : List Point → Type 0) (read : List P → List Point) (points : List P) (offsets : List ℕ) (n longest : ℕ) : Type 0 where
-  pub ring : ℕ
-  pub within : ring + 1 < n
-  pub unclean : Clean (read (nth_ring points offsets ring)) → ⊥
-  pub len : length (nth_ring points offsets ring) ≡ longest
-  pub most : (k : ℕ) → k + 1 < n → (Clean (read (nth_ring points offsets k)) → ⊥) → length (nth_ring points offsets k) ≤ longest
-
--- the number of points of that ring, or none if all are clean
-abbrev pub LongestUnclean : {P : Type 0} → (List Point → Type 0) → (List P → List Point) → List P → List ℕ → ℕ → Option ℕ → Type 0
-LongestUnclean Clean read points offsets n r = MatchOption r (AreCleanRings Clean read points offsets n) (IsLongestUnclean Clean read points offsets n)
+-- the number of points of the longest of those rings that isn't clean, or none if all are clean
+abbrev pub LongestUncleanRing : {P : Type 0} → (List Point → Type 0) → (List P → List Point) → List P → List ℕ → ℕ → Option ℕ → Type 0
+LongestUncleanRing Clean read points offsets n = LongestUnclean (λ k. k + 1 < n) (λ k. Clean (read (nth_ring points offsets k))) (λ k. length (nth_ring points offsets k))
 
 -- each ring between the first n offsets is clean, or there is room for its points
 abbrev pub HaveRoom : {P : Type 0} → (List Point → Type 0) → (List P → List Point) → (ℕ → Type 0) → List P → List ℕ → ℕ → Type 0
@@ -51,7 +44,7 @@ HaveRoom Clean read room points offsets n = (k : ℕ) → k + 1 < n → (Clean (
 
 -- each ring between the first n offsets is clean, or has fewer than three points
 abbrev pub AreShortOrClean : {P : Type 0} → (List Point → Type 0) → (List P → List Point) → List P → List ℕ → ℕ → Type 0
-AreShortOrClean Clean read points offsets n = (k : ℕ) → k + 1 < n → (length (nth_ring points offsets k) < 3) ⊎ Clean (read (nth_ring points offsets k))
+AreShortOrClean Clean read points offsets n = (k : ℕ) → k + 1 < n → IsShortOrClean (λ j. Clean (read (nth_ring points offsets j))) (λ j. length (nth_ring points offsets j)) k
 
 -- a call makes room for the longest ring that isn't clean: `had` and `has` hold of the numbers of points for which there is room before
 -- and after

@@ -3,7 +3,7 @@
 ghost use Rattle.std.specs.Prelude.{◌≡◌, ◌↔◌, ◌+◌, ◌-◌, ◌≤◌, ℕ, length, take, drop, slice_range, IsTrue, IfOk, OnErr};
 ghost use Rattle.i_shape_core.specs.IntPoint.{contour_of, IsSafeContour};
 ghost use Rattle.i_shape_core.specs.Written.{IsWritten};
-ghost use Rattle.i_shape_core.specs.Rings.{PartsPoints, AreSafeRings, AreCleanRings, LongestUnclean, HaveRoom, TakesRoom, Leaves, AreCleanedRings};
+ghost use Rattle.i_shape_core.specs.Rings.{PartsPoints, AreSafeRings, AreCleanRings, LongestUncleanRing, HaveRoom, TakesRoom, Leaves, AreCleanedRings};
 
 use crate::cleaner::ContourCleaner;
 use crate::error::ShapeError;
@@ -68,7 +68,7 @@ pub fn longest_unclean<P: ContourPoint, C: ContourCleaner>(
     requires parted { PartsPoints (length points.now) offsets.now }
     requires points_safe { AreSafeRings P.Coordinate.width
         (λ list. contour_of P.Coordinate.value (P.points list)) points.now offsets.now }
-    ensures { LongestUnclean C.clean (λ list. contour_of P.Coordinate.value (P.points list))
+    ensures { LongestUncleanRing C.clean (λ list. contour_of P.Coordinate.value (P.points list))
         points.now offsets.now (length offsets.now) result }
 {
     let mut longest = None;

@@ -1,10 +1,11 @@
 -- Rings in one array of points, parted by offsets, and parts of lists that are written place by place.
-use Rattle.std.proofs.Common.{◌≡◌, ℕ, ◌+◌, ◌-◌, ◌≤◌, ◌<◌, ◌++◌, suc, zero, List, [], length, take, drop, set, slice_range, refl, ap, sym, subst, ◌∙◌, arith, ◌⊎◌, inl, inr, ◌↔◌, Bool, true, false, not, Option, Some, None, is_some, max, eq-or-lt_of_le, IsTrue, unwrap_or}
+use Rattle.std.proofs.Common.{◌≡◌, ℕ, ◌+◌, ◌-◌, ◌≤◌, ◌<◌, ◌++◌, suc, zero, List, [], length, take, drop, set, slice_range, refl, ap, sym, subst, ◌∙◌, arith, ◌⊎◌, inl, inr, Option, Some, None, max, eq-or-lt_of_le, unwrap_or}
 use Rattle.std.proofs.lemmas.List.{take_rest, drop_all, length-drop, append-nil, length-take-le, drop-drop, drop-set-lt, take-take, drop-take, get_or-set_same, get_or-set_other}
 use Rattle.std.proofs.Math.Seq.{drop-append_seam}
-use Rattle.std.proofs.lemmas.Bool.{cases_lt}
 use Rattle.i_shape_core.specs.Point.{Point}
-use Rattle.i_shape_core.specs.Rings.{offset, nth_ring, AreRising, AreCleanRings, LongestUnclean, HaveRoom, AreShortOrClean, AreCleanedRings}
+use Rattle.i_shape_core.specs.Unclean.{LongestUnclean}
+use Rattle.i_shape_core.specs.Rings.{offset, nth_ring, AreRising, LongestUncleanRing, AreCleanedRings}
+use Rattle.i_shape_core.proofs.lists.Longest.{longer, unclean_alone, longest_of_both}
 
 -- what lies behind a place stays as it was when that place is written
 pub back_more : {X : Type 0} (xs ys : List X) (n m : ℕ) (v : X) → m ≡ n + 1 → drop n xs ≡ drop n ys → drop m (set xs n v) ≡ drop m ys
@@ -70,59 +71,18 @@ each_more Q place some before here k less = elim (eq-or-lt_of_le (let low : k + 
 
 -- the longest ring that isn't clean
 module _ {P : Type 0} (Clean : List Point → Type 0) (read : List P → List Point) (points : List P) (offsets : List ℕ) where
-  -- a clean ring more
-  pub clean_more : (place : ℕ) (r : Option ℕ) → 0 < place → Clean (read (nth_ring points offsets (place - 1))) → LongestUnclean Clean read points offsets place r → LongestUnclean Clean read points offsets (place + 1) r
-  clean_more place None some clean each = each_more (λ k. Clean (read (nth_ring points offsets k))) place some each clean
-  clean_more place (Some n) some clean before = record {
-    ring = before.ring;
-    within = omega (arith, before.within);
-    unclean = before.unclean;
-    len = before.len;
-    most = each_more (λ k. (Clean (read (nth_ring points offsets k)) → ⊥) → length (nth_ring points offsets k) ≤ n) place some before.most (λ unclean. absurd (unclean clean));
-  }
+  module _ (place : ℕ) (r : Option ℕ) (some : 0 < place) (before : LongestUncleanRing Clean read points offsets place r) where
+    with_next : (s : Option ℕ) → LongestUnclean (λ k. place - 1 ≡ k) (λ k. Clean (read (nth_ring points offsets k))) (λ k. length (nth_ring points offsets k)) s → LongestUncleanRing Clean read points offsets (place + 1) (longer r s)
+    with_next s = longest_of_both _ _ (λ k. k + 1 < place) (λ k. place - 1 ≡ k) (λ k. k + 1 < place + 1)
+        (each_more (λ k. (k + 1 < place) ⊎ (place - 1 ≡ k)) place some (λ k less. inl less) (inr refl)) (λ k less. omega (arith, less)) (λ k same. omega (arith, same, some)) r s before
 
-  -- one more that isn't clean
-  pub unclean_more : (place : ℕ) (r : Option ℕ) → 0 < place → (Clean (read (nth_ring points offsets (place - 1))) → ⊥) → LongestUnclean Clean read points offsets place r
-      → LongestUnclean Clean read points offsets (place + 1) (Some (max (length (nth_ring points offsets (place - 1))) (unwrap_or r 0)))
-  unclean_more place None some unclean each = record {
-    ring = place - 1;
-    within = omega (arith, some);
-    unclean = unclean;
-    len = omega arith;
-    most = each_more (λ k. (Clean (read (nth_ring points offsets k)) → ⊥) → length (nth_ring points offsets k) ≤ max (length (nth_ring points offsets (place - 1))) 0) place some (λ k less other. absurd (other (each k less))) (λ _. omega arith);
-  }
-  unclean_more place (Some n) some unclean before =
-      let here = length (nth_ring points offsets (place - 1)) in
-      let most = each_more (λ k. (Clean (read (nth_ring points offsets k)) → ⊥) → length (nth_ring points offsets k) ≤ max here n) place some (λ k less other. omega (arith, before.most k less other)) (λ _. omega arith) in
-      elim (cases_lt here n) [
-        | inl less ↦ record { ring = before.ring; within = omega (arith, before.within); unclean = before.unclean; len = omega (arith, before.len, less); most = most }
-        | inr least ↦ record { ring = place - 1; within = omega (arith, some); unclean = unclean; len = omega (arith, least); most = most }
-      ]
+    -- with a clean ring more
+    pub clean_more : Clean (read (nth_ring points offsets (place - 1))) → LongestUncleanRing Clean read points offsets (place + 1) r
+    clean_more clean = with_next None (λ k same. subst (λ j. Clean (read (nth_ring points offsets j))) same clean)
 
-  -- all are clean where there is none
-  pub all_clean : (n : ℕ) (r : Option ℕ) (none : Bool) → is_some r ≡ not none → LongestUnclean Clean read points offsets n r → IsTrue none ↔ AreCleanRings Clean read points offsets n
-  all_clean n None true told each = (λ _. each, λ _. refl)
-  all_clean n None false told each = absurd (cc)
-  all_clean n (Some m) true told longest = absurd (cc)
-  all_clean n (Some m) false told longest = (λ no. absurd (cc), λ each. absurd (longest.unclean (each longest.ring longest.within)))
-
-  -- room for it is room for each
-  pub room_for_each : (room : ℕ → Type 0) → ((m n : ℕ) → m ≤ n → room n → room m) → (n : ℕ) (r : Option ℕ) → LongestUnclean Clean read points offsets n r → room (unwrap_or r 0) → HaveRoom Clean read room points offsets n
-  room_for_each room fewer n None each has = λ k less unclean. absurd (unclean (each k less))
-  room_for_each room fewer n (Some m) longest has = λ k less unclean. fewer _ m (longest.most k less unclean) has
-
-  -- room for each is room for it, where there is one
-  pub room_for_longest : (room : ℕ → Type 0) (n : ℕ) (r : Option ℕ) → LongestUnclean Clean read points offsets n r → HaveRoom Clean read room points offsets n → (unwrap_or r 0 < 3) ⊎ room (unwrap_or r 0)
-  room_for_longest room n None each has = inl (omega arith)
-  room_for_longest room n (Some m) longest has = inr (subst room longest.len (has longest.ring longest.within longest.unclean))
-
-  -- it is short where each other is clean
-  pub short_longest : (n : ℕ) (r : Option ℕ) → LongestUnclean Clean read points offsets n r → AreShortOrClean Clean read points offsets n → unwrap_or r 0 < 3
-  short_longest n None all each = omega arith
-  short_longest n (Some m) longest each = elim (each longest.ring longest.within) [
-    | inl few ↦ omega (arith, few, longest.len)
-    | inr clean ↦ absurd (longest.unclean clean)
-  ]
+    -- with one more that isn't clean
+    pub unclean_more : (Clean (read (nth_ring points offsets (place - 1))) → ⊥) → LongestUncleanRing Clean read points offsets (place + 1) (Some (max (length (nth_ring points offsets (place - 1))) (unwrap_or r 0)))
+    unclean_more unclean = with_next (Some _) (unclean_alone _ _ (place - 1) unclean)
 
 module _ {P : Type 0} (Left : List P → List P → Type 0) where
   -- the rings before a place are done

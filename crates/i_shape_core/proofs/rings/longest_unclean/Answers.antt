@@ -1,6 +1,6 @@
 use Rattle.std.proofs.Common.{◌≡◌, ◌+◌, ◌-◌, ◌<◌, List, sym, subst, length, arith}
 use Rattle.i_shape_core.specs.IntPoint.{contour_of}
-use Rattle.i_shape_core.specs.Rings.{nth_ring, LongestUnclean}
+use Rattle.i_shape_core.specs.Rings.{nth_ring, LongestUncleanRing}
 use Rattle.i_shape_core.proofs.lists.Rings.{rises_to, clean_more, unclean_more}
 use Rattle.i_shape_core.proofs.walks.StackReads.{fails_by_test}
 use Rattle.i_shape_core.proofs.rings.longest_unclean.Goals as goal
@@ -26,13 +26,13 @@ loop-place-preserved g c =
     let ring : nth_ring c.args.points.now c.args.offsets.now (place - 1) ≡ c.part-ring.result.now = rw next (sym c.part-ring.ensures.part) in
     elim c.if-not-is_clean.branch [
       | then-not-is_clean w ↦ (
-          let more = unclean_more IsClean read c.args.points.now c.args.offsets.now place c.loop-place.longest some (rw ring (fails_by_test c.is_clean.result c.is_clean.ensures w.if-not-is_clean.true)) c.loop-place.invariant in
+          let more = unclean_more IsClean read c.args.points.now c.args.offsets.now place c.loop-place.longest some c.loop-place.invariant (rw ring (fails_by_test c.is_clean.result c.is_clean.ensures w.if-not-is_clean.true)) in
           rw (w.longest-is, w.max.ensures, w.unwrap_or.ensures) (rw ring at more))
-      | else-not-is_clean w ↦ rw w.longest-is (clean_more IsClean read c.args.points.now c.args.offsets.now place c.loop-place.longest some (rw ring (c.is_clean.ensures.0 w.if-not-is_clean.false)) c.loop-place.invariant)
+      | else-not-is_clean w ↦ rw w.longest-is (clean_more IsClean read c.args.points.now c.args.offsets.now place c.loop-place.longest some c.loop-place.invariant (rw ring (c.is_clean.ensures.0 w.if-not-is_clean.false)))
     ]
 
 pub returns : goal.returns
 returns g c =
     let read = λ (list : List g.row.P.Denot). contour_of g.P.Coordinate.IntNumber.value (g.P.ContourPoint.points list) in
     let end : c.loop-place.place ≡ length c.args.offsets.now = omega (arith, c.loop-place-test.false, c.loop-place.auto.place-end (omega (arith, c.requires.parted.some))) in
-    subst (λ n. LongestUnclean g.C.ContourCleaner.clean read c.args.points.now c.args.offsets.now n c.loop-place.longest) end c.loop-place.invariant
+    subst (λ n. LongestUncleanRing g.C.ContourCleaner.clean read c.args.points.now c.args.offsets.now n c.loop-place.longest) end c.loop-place.invariant

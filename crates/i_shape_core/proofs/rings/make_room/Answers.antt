@@ -1,21 +1,17 @@
-use Rattle.std.proofs.Common.{rules, List, inl, inr, refl, length}
+use Rattle.std.proofs.Common.{rules, inl, inr, refl}
 use Rattle.std.proofs.lemmas.Result.{err_from_is_err_and}
-use Rattle.i_shape_core.specs.IntPoint.{contour_of}
-use Rattle.i_shape_core.proofs.lists.Rings.{all_clean, room_for_each, room_for_longest, short_longest}
+use Rattle.i_shape_core.proofs.lists.Longest.{all_clean, room_for_each, room_for_longest, short_longest}
 use Rattle.i_shape_core.proofs.rings.make_room.Goals as goal
 
 pub returns-in_err-reserve-clause-memory : goal.returns-in_err-reserve-clause-memory
 returns-in_err-reserve-clause-memory g c =
-    let read = λ (list : List g.row.P.Denot). contour_of g.P.Coordinate.IntNumber.value (g.P.ContourPoint.points list) in
-    let IsClean = g.C.ContourCleaner.clean in
     let refused = err_from_is_err_and c.from_residual.result c.from_residual.ensures.1 in
     let longest = c.longest_unclean-longest in
     let reserve = c.in_err-reserve.ensures in
-    let n = length c.args.offsets.now in
     rw refused.1 (record {
       memory = search rules;
-      unclean = λ each. (let told = reserve.short (rw c.unwrap_or.ensures (short_longest IsClean read c.args.points.now c.args.offsets.now n longest.result longest.ensures each)) in absurd (cc));
-      reserved = λ room. elim (room_for_longest IsClean read c.args.points.now c.args.offsets.now (g.C.ContourCleaner.has_room c.args.cleaner.now) n longest.result longest.ensures room) [
+      unclean = λ each. (let told = reserve.short (rw c.unwrap_or.ensures (short_longest _ _ _ longest.result longest.ensures each)) in absurd (cc));
+      reserved = λ room. elim (room_for_longest _ _ _ (g.C.ContourCleaner.has_room c.args.cleaner.now) longest.result longest.ensures room) [
         | inl few ↦ reserve.short (rw c.unwrap_or.ensures few)
         | inr has ↦ reserve.reserved (rw c.unwrap_or.ensures has)
       ];
@@ -25,14 +21,10 @@ returns-in_err-reserve-clause-memory g c =
 
 pub returns-clause-clean : goal.returns-clause-clean
 returns-clause-clean g c =
-    let read = λ (list : List g.row.P.Denot). contour_of g.P.Coordinate.IntNumber.value (g.P.ContourPoint.points list) in
-    let IsClean = g.C.ContourCleaner.clean in
-    all_clean IsClean read c.args.points.now c.args.offsets.now (length c.args.offsets.now) c.longest_unclean-longest.result c.is_none.result c.is_none.ensures c.longest_unclean-longest.ensures
+    all_clean _ _ _ c.longest_unclean-longest.result c.is_none.result c.is_none.ensures c.longest_unclean-longest.ensures
 
 pub returns-clause-memory : goal.returns-clause-memory
 returns-clause-memory g c =
-    let read = λ (list : List g.row.P.Denot). contour_of g.P.Coordinate.IntNumber.value (g.P.ContourPoint.points list) in
-    let IsClean = g.C.ContourCleaner.clean in
     let longest = c.longest_unclean-longest in
     let reserve = c.in_ok-reserve.ensures in
     record {
@@ -40,5 +32,5 @@ returns-clause-memory g c =
       unclean = tt;
       reserved = λ _. refl;
       keeps_room = reserve.keeps_room;
-      takes_room = room_for_each IsClean read c.args.points.now c.args.offsets.now (g.C.ContourCleaner.has_room c.reserve.new.self) (g.met.C.ContourCleaner.fewer c.reserve.new.self) (length c.args.offsets.now) longest.result longest.ensures (rw c.unwrap_or.ensures at reserve.room);
+      takes_room = room_for_each _ _ _ (g.C.ContourCleaner.has_room c.reserve.new.self) (g.met.C.ContourCleaner.fewer c.reserve.new.self) longest.result longest.ensures (rw c.unwrap_or.ensures at reserve.room);
     }
