@@ -74,51 +74,8 @@ impl<'a, P> Iterator for FloatContoursBufferResourceIterator<'a, P> {
     }
 }
 
-/// Iterates over the points of each contour range of a shapes buffer. Skips ranges that are reversed or reach beyond
-/// the points.
-#[derive(Drop)]
-pub struct FloatShapesBufferResourceIterator<'a, P> {
-    points: &'a [P],
-    contour_ranges: &'a [Range<usize>],
-}
-
-impl<'a, P> Model for FloatShapesBufferResourceIterator<'a, P> {
-    ghost use Rattle.std.specs.Prelude.{List};
-    ghost use Rattle.i_shape.specs.FloatBuffers.{readable_slices};
-
-    ghost Value = { List (List P) };
-
-    ghost view = { λ s. readable_slices s.points.now s.contour_ranges.now };
-}
-
-impl<'a, P> FloatShapesBufferResourceIterator<'a, P> {
-    pub(crate) fn with_ranges(points: &'a [P], contour_ranges: &'a [Range<usize>]) -> Self
-        ensures left { result ≡ readable_slices points.now contour_ranges.now }
-        ensures lends { LendsExactly (TakesFirst deref)
-            result (readable_slices points.now contour_ranges.now) }
-        ensures runs { RunsThrough (TakesFirst deref) result
-            (readable_slices points.now contour_ranges.now) }
-    {
-        FloatShapesBufferResourceIterator {
-            points,
-            contour_ranges,
-        }
-    }
-}
-
-impl<'a, P> Iterator for FloatShapesBufferResourceIterator<'a, P> {
-    type Item = &'a [P];
-
-    ghost next_gives = { TakesFirst deref };
-
-    ghost remaining = { λ s. at_most (length s) };
-
-    fn next(&mut self) -> Option<&'a [P]> {
-        let (path, rest) = first_readable(self.points, self.contour_ranges)?;
-        self.contour_ranges = rest;
-        Some(path)
-    }
-}
+/// Iterates over the points of each contour range of a shapes buffer, as that of a contours buffer does.
+pub type FloatShapesBufferResourceIterator<'a, P> = FloatContoursBufferResourceIterator<'a, P>;
 
 impl<'a, P: ShapePoint + 'a> ShapeResource<'a, P> for &'a FloatFlatContoursBuffer<P> {
     type ResourceIter = FloatContoursBufferResourceIterator<'a, P>;
@@ -155,7 +112,7 @@ impl<'a, P: ShapePoint + 'a> ShapeResource<'a, P> for &'a FloatFlatShapesBuffer<
 
     fn iter_paths(self) -> FloatShapesBufferResourceIterator<'a, P> {
         let ranges = self.contour_ranges.as_slice();
-        FloatShapesBufferResourceIterator::with_ranges(self.points.as_slice(), ranges)
+        FloatContoursBufferResourceIterator::with_ranges(self.points.as_slice(), ranges)
     }
 }
 
