@@ -1,3 +1,5 @@
+-- the words of shapes and buffers that most proofs name
+mod Common
 -- lists: end to end, in order, permuted, what cleaning leaves of them
 pub mod lists
 -- shapes and lists of shapes: what cleaning keeps, their order and forms

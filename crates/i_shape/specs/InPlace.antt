@@ -1,8 +1,9 @@
 -- What a call that cleans in place leaves.
-use Rattle.std.specs.Prelude.{◌≡◌, ◌↔◌, ◌<◌, ◌⊎◌, Bool, true, false, Option, Result, Ok, Err, List, [], length, unwrap_or, OnOk, IsOk}
+use Rattle.std.specs.Prelude.{◌≡◌, ◌↔◌, ◌<◌, Bool, true, false, Option, Result, Ok, Err, List, [], length, unwrap_or, OnOk, IsOk}
 use Rattle.i_shape_core.specs.Point.{Point}
 use Rattle.i_shape_core.specs.Convex.{NoSpikes}
 use Rattle.i_shape_core.specs.Cleaners.{DespikeAnswer, IsKept}
+use Rattle.i_shape_core.specs.Unclean.{IsShortOrClean}
 use Rattle.i_shape_core.specs.declared.error.ShapeError.{ShapeError}
 use Rattle.i_shape_core.specs.declared.error.ShapeError.TheVariants.{OutOfMemory}
 use Rattle.i_shape.specs.ShapeAnswers.{ShapeClean, ListClean, EachContour, EachShape, AreKept, ListKept}
@@ -36,19 +37,15 @@ pub record DespikesContour (old new : List Point) (r : Result Bool ShapeError) :
   -- a second call finds the contour clean exactly where it isn't empty
   pub again : (b : Bool) → r ≡ Ok b → NoSpikes new ↔ (0 < length new)
 
--- the contour has fewer than three points, or passes its test
-abbrev pub IsShortOrPasses : (List Point → Type 0) → List Point → Type 0
-IsShortOrPasses Passes c = (length c < 3) ⊎ Passes c
-
 -- a shape is cleaned in place; where a contour is left, the contours together keep what AreKept says
 pub record CleansShape (Passes : List Point → Type 0) (Answer : List Point → Option (List Point) → Type 0) (old new : List (List Point)) (r : Result Bool ShapeError) : Type 0 where
   pub cleans : CleansInPlace (EachContour Passes) (Leaves (ShapeClean Answer)) old new r
   pub kept : 0 < length new → AreKept old new
   -- memory is needed only where a contour of three points or more doesn't pass
-  pub short : EachContour (IsShortOrPasses Passes) old → IsOk r
+  pub short : EachContour (IsShortOrClean Passes length) old → IsOk r
 
 -- a list is cleaned in place, shape by shape
 pub record CleansList (Passes : List Point → Type 0) (Answer : List Point → Option (List Point) → Type 0) (old new : List (List (List Point))) (r : Result Bool ShapeError) : Type 0 where
   pub cleans : CleansInPlace (EachShape Passes) (ListClean Answer) old new r
   pub kept : OnOk r (ListKept Answer old new)
-  pub short : EachShape (IsShortOrPasses Passes) old → IsOk r
+  pub short : EachShape (IsShortOrClean Passes length) old → IsOk r

@@ -1,6 +1,6 @@
 -- What steps of cleaning in place look for and leave. Private functions alone speak of it.
-use Rattle.std.specs.Prelude.{◌≡◌, ◌≤◌, Bool, true, false, ℕ, List, [], ◌∷◌, Option, MatchOption, length, map, max, vec_capacity, if◌then◌else◌}
-use Rattle.std.specs.List.{All, AllZip, Contains, filter}
+use Rattle.std.specs.Prelude.{◌≤◌, Bool, true, false, ℕ, List, [], ◌∷◌, Option, length, map, max, vec_capacity, if◌then◌else◌}
+use Rattle.std.specs.List.{AllZip, filter}
 use Rattle.i_shape_core.specs.Point.{Point}
 use Rattle.i_shape_core.specs.Written.{slot}
 use Rattle.i_shape.specs.declared.int.in_place.InPlaceWork.{InPlaceWork}
@@ -12,22 +12,6 @@ IsLeftOf Answer c d = Answer c (slot d)
 -- each contour is what is left of the one in its place
 abbrev pub AreLeftOf : (List Point → Option (List Point) → Type 0) → List (List Point) → List (List Point) → Type 0
 AreLeftOf Answer shape left = AllZip (IsLeftOf Answer) shape left
-
--- a contour that isn't clean has at most n points
-abbrev pub IsWithin : (List Point → Type 0) → ℕ → List Point → Type 0
-IsWithin Clean n c = (Clean c → ⊥) → length c ≤ n
-
--- the longest of the contours that aren't clean has n points
-pub record IsLongestUnclean (Clean : List Point → Type 0) (contours : List (List Point)) (n : ℕ) : Type 0 where
-  pub longest : List Point
-  pub among : Contains contours longest
-  pub unclean : Clean longest → ⊥
-  pub len : length longest ≡ n
-  pub most : All (IsWithin Clean n) contours
-
--- the number of points of that contour, or none if all are clean
-abbrev pub LongestUnclean : (List Point → Type 0) → List (List Point) → Option ℕ → Type 0
-LongestUnclean Clean contours r = MatchOption r (All Clean contours) (IsLongestUnclean Clean contours)
 
 -- there is room for the contour, if it doesn't pass
 abbrev pub HasRoomFor : {W : Type 0} → (W → ℕ → Type 0) → (List Point → Type 0) → W → List Point → Type 0

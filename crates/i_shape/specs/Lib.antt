@@ -13,6 +13,7 @@ pub use Rattle.i_shape_core.specs.Cleaners
 pub use Rattle.i_shape_core.specs.Survivors
 pub use Rattle.i_shape_core.specs.Written
 pub use Rattle.i_shape_core.specs.Room
+pub use Rattle.i_shape_core.specs.Unclean
 pub use Rattle.i_shape_core.specs.Turn
 pub use Rattle.i_shape_core.specs.FourTurns
 pub use Rattle.i_shape_core.specs.Refusals

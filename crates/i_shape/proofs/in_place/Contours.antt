@@ -1,10 +1,7 @@
 -- What cleaning in place leaves.
 use Rattle.std.proofs.Common.{◌≡◌, ◌≤◌, true, false, Ok, Option, Some, None, List, [], length, refl, arith}
-use Rattle.i_shape_core.specs.Point.{Point}
-use Rattle.i_shape_core.specs.Cleaners.{IsFlat, KeptAnswer}
+use Rattle.i_shape.proofs.Common.{Point, IsFlat, KeptAnswer, ShapeClean, ListClean, EachContour, EachShape, CleansInPlace, CleansContour, CleansShape, CleansList}
 use Rattle.i_shape_core.proofs.answers.Kept.{keeps_itself, nothing_keeps}
-use Rattle.i_shape.specs.ShapeAnswers.{ShapeClean, ListClean, EachContour, EachShape}
-use Rattle.i_shape.specs.InPlace.{CleansInPlace, CleansContour, CleansShape, CleansList}
 use Rattle.i_shape.proofs.shapes.Kept.{same_kept, shape_stays, list_keeps}
 use Rattle.i_shape.proofs.lists.Surviving.{survivors_stay}
 

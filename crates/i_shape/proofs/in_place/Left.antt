@@ -1,22 +1,10 @@
 -- What is left where each contour is cleaned in its place, and then the collapsed ones are taken out.
-use Rattle.std.proofs.Common.{◌≡◌, ℕ, ℤ, ◌+◌, ◌<◌, ◌≤◌, ◌==◌, Bool, not, cond, true, false, Ok, Err, List, [], ◌∷◌, ◌++◌, length, set, get_or, take, drop, map, refl, sym, ap, ◌∙◌, subst, arith, append_assoc, append-nil, Option, Some, None, unwrap_or}
-use Rattle.std.specs.Int.{Width}
-use Rattle.std.specs.List.{All, AllZip, filter}
+use Rattle.std.proofs.Common.{◌≡◌, ℕ, ℤ, ◌+◌, ◌<◌, ◌≤◌, ◌==◌, Bool, not, cond, true, false, Ok, Err, List, [], ◌∷◌, ◌++◌, length, set, get_or, take, drop, map, refl, sym, ap, ◌∙◌, subst, arith, append_assoc, append-nil, Option, Some, None, unwrap_or, All, filter}
+use Rattle.i_shape.proofs.Common.{Width, AllZip, Point, contour_of, IsSafe, IntPoint, KeptAnswer, ShapeError, OutOfMemory, IsSafeShape, Survivors, ShapeClean, ListClean, EachContour, EachShape, AreKept, Leaves, IsShortOrClean, CleansShape, CleansList, InPlaceWork, AreLeftOf, HasRoom, has_points, keeps_outer, kept_contours, kept_shapes}
 use Rattle.std.proofs.lemmas.List.{set_at, get_or_at, drop_more, take_more, take_all, drop_all, length-take-le, take-append-le, get_or-map, map-set, length-map}
 use Rattle.std.proofs.lemmas.List.Elements.{All-nil, All-get_or}
 use Rattle.std.proofs.lemmas.Slice.Zip.{all_zipped_more, AllZip-long}
-use Rattle.i_shape_core.specs.Point.{Point}
-use Rattle.i_shape_core.specs.IntPoint.{contour_of, IsSafe}
-use Rattle.i_shape_core.specs.declared.point.IntPoint.{IntPoint}
-use Rattle.i_shape_core.specs.Cleaners.{KeptAnswer}
-use Rattle.i_shape_core.specs.declared.error.ShapeError.{ShapeError}
-use Rattle.i_shape_core.specs.declared.error.ShapeError.TheVariants.{OutOfMemory}
 use Rattle.i_shape_core.proofs.lists.Survivors.{survivors-none}
-use Rattle.i_shape.specs.ShapeLists.{IsSafeShape}
-use Rattle.i_shape.specs.ShapeAnswers.{Survivors, ShapeClean, ListClean, EachContour, EachShape, AreKept}
-use Rattle.i_shape.specs.InPlace.{Leaves, IsShortOrPasses, CleansShape, CleansList}
-use Rattle.i_shape.specs.declared.int.in_place.InPlaceWork.{InPlaceWork}
-use Rattle.i_shape.specs.LeftInPlace.{AreLeftOf, HasRoom, has_points, keeps_outer, kept_contours, kept_shapes}
 use Rattle.i_shape.proofs.lists.Surviving.{survivors_gone, survivors_left}
 use Rattle.i_shape.proofs.shapes.Kept.{same_kept, shape_keeps, shape_safe, list_keeps}
 
@@ -125,7 +113,7 @@ module _ (Passes : List Point → Type 0) (Answer : List Point → Option (List 
   }
 
   -- where memory is refused they stay
-  pub shape_refused_in_place : (shape : List (List Point)) (e : ShapeError) → (EachContour Passes shape → ⊥) → (EachContour (IsShortOrPasses Passes) shape → ⊥) → e ≡ OutOfMemory → CleansShape Passes Answer shape shape (Err e)
+  pub shape_refused_in_place : (shape : List (List Point)) (e : ShapeError) → (EachContour Passes shape → ⊥) → (EachContour (IsShortOrClean Passes length) shape → ⊥) → e ≡ OutOfMemory → CleansShape Passes Answer shape shape (Err e)
   shape_refused_in_place shape e fails long memory = record {
     cleans = record { passes = λ pass. absurd (fails pass); clean = λ f. absurd cc; left = tt; refused = λ k f. (cc, refl) };
     kept = λ some. same_kept shape;
@@ -133,7 +121,7 @@ module _ (Passes : List Point → Type 0) (Answer : List Point → Option (List 
   }
 
   -- where memory is refused, a list that did not pass stays
-  pub list_refused_in_place : (shapes : List (List (List Point))) (e : ShapeError) → (EachShape Passes shapes → ⊥) → (EachShape (IsShortOrPasses Passes) shapes → ⊥) → e ≡ OutOfMemory → CleansList Passes Answer shapes shapes (Err e)
+  pub list_refused_in_place : (shapes : List (List (List Point))) (e : ShapeError) → (EachShape Passes shapes → ⊥) → (EachShape (IsShortOrClean Passes length) shapes → ⊥) → e ≡ OutOfMemory → CleansList Passes Answer shapes shapes (Err e)
   list_refused_in_place shapes e fails long memory = record {
     cleans = record { passes = λ pass. absurd (fails pass); clean = λ f. absurd cc; left = tt; refused = λ k f. (cc, refl) };
     kept = tt;

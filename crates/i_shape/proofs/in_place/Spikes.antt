@@ -1,10 +1,7 @@
 -- What the removal of spikes in place leaves.
 use Rattle.std.proofs.Common.{◌≡◌, true, false, Ok, List, [], length, ap, arith}
-use Rattle.i_shape_core.specs.Point.{Point}
-use Rattle.i_shape_core.specs.Convex.{NoSpikes}
-use Rattle.i_shape_core.specs.Cleaners.{EachEndCollapses, DespikeAnswer}
+use Rattle.i_shape.proofs.Common.{Point, NoSpikes, EachEndCollapses, DespikeAnswer, DespikesContour}
 use Rattle.i_shape_core.proofs.answers.Kept.{collapsed_flat, spikeless_long, spikeless_stays}
-use Rattle.i_shape.specs.InPlace.{DespikesContour}
 use Rattle.i_shape.proofs.in_place.Contours.{contour_stays, contour_collapses}
 
 -- without spikes it stays

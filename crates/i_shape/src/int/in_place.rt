@@ -1,13 +1,14 @@
 //! Cleaning in place. Memory for the longest contour that needs cleaning is allocated first; after that nothing can
 //! fail.
 
-ghost use Rattle.std.specs.Prelude.{◌≡◌, ◌<◌, ℕ, true, Ok, IfOk, IsOk, IsOkUnless};
-ghost use Rattle.std.specs.List.{All, AllZip, filter};
+ghost use Rattle.std.specs.Prelude.{◌≡◌, ◌<◌, ℕ, length, true, Ok, IfOk, IsOk, IsOkUnless};
+ghost use Rattle.std.specs.List.{All, AllZip, Contains, filter};
 ghost use Rattle.i_shape_core.specs.IntPoint.{contour_of, IsSafeContour};
+ghost use Rattle.i_shape_core.specs.Unclean.{LongestUnclean};
 ghost use Rattle.i_shape_source.specs.Paths.{concatenated};
 ghost use Rattle.i_shape.specs.ShapeLists.{shape_of, shapes_of, IsSafeShape, IsSafeList};
 ghost use Rattle.i_shape.specs.InPlace.{CleansShape, CleansList};
-ghost use Rattle.i_shape.specs.LeftInPlace.{IsLeftOf, AreLeftOf, LongestUnclean, HasRoom, HasRoomFor, has_points, keeps_outer, kept_contours, kept_shapes};
+ghost use Rattle.i_shape.specs.LeftInPlace.{IsLeftOf, AreLeftOf, HasRoom, HasRoomFor, has_points, keeps_outer, kept_contours, kept_shapes};
 
 use crate::int::cleaning::InPlaceCleaner;
 use crate::int::shape::{IntContour, IntShape, IntShapes};
@@ -31,7 +32,7 @@ pub fn clean_shape_in_place<I: IntNumber, C: InPlaceCleaner>(
     let Some(longest) = longest_unclean::<I, C>(shape.as_slice()) else {
         return Ok(false);
     };
-    let mut work = InPlaceWork::<I, C>::with_room(*shape.allocator(), longest)?;
+    let mut work = InPlaceWork::<I, C>::with_capacity(*shape.allocator(), longest)?;
     work.clean_contours(shape);
     take_out_collapsed(shape);
     Ok(true)
@@ -51,7 +52,7 @@ pub fn clean_list_in_place<I: IntNumber, C: InPlaceCleaner>(
     let Some(longest) = longest_unclean_of_list::<I, C>(shapes.as_slice()) else {
         return Ok(false);
     };
-    let mut work = InPlaceWork::<I, C>::with_room(*shapes.allocator(), longest)?;
+    let mut work = InPlaceWork::<I, C>::with_capacity(*shapes.allocator(), longest)?;
     work.clean_shapes(shapes);
     take_out_of_list(shapes);
     Ok(true)
@@ -60,7 +61,7 @@ pub fn clean_list_in_place<I: IntNumber, C: InPlaceCleaner>(
 /// Returns the number of points of the longest contour that isn't clean, or `None` if all are clean.
 fn longest_unclean<I: IntNumber, C: ContourCleaner>(shape: &[IntContour<I>]) -> Option<usize>
     requires { IsSafeShape I.width (shape_of I.value shape.now) }
-    ensures { LongestUnclean C.clean (shape_of I.value shape.now) result }
+    ensures { LongestUnclean (Contains (shape_of I.value shape.now)) C.clean length result }
 {
     let mut longest = None;
     for contour in shape {
@@ -75,7 +76,8 @@ fn longest_unclean<I: IntNumber, C: ContourCleaner>(shape: &[IntContour<I>]) -> 
 /// Returns the same for all contours of a list.
 fn longest_unclean_of_list<I: IntNumber, C: ContourCleaner>(shapes: &[IntShape<I>]) -> Option<usize>
     requires { IsSafeList I.width (shapes_of I.value shapes.now) }
-    ensures { LongestUnclean C.clean (concatenated (shapes_of I.value shapes.now)) result }
+    ensures { LongestUnclean (Contains (concatenated (shapes_of I.value shapes.now))) C.clean
+        length result }
 {
     let mut longest = None;
     for shape in shapes {
@@ -96,7 +98,7 @@ struct InPlaceWork<I, C> {
 
 impl<I: IntNumber, C: InPlaceCleaner> InPlaceWork<I, C> {
     /// Allocates memory for contours of up to `points` points, and none below three. The only error is `OutOfMemory`.
-    fn with_room(alloc: Global, points: usize) -> Result<InPlaceWork<I, C>, ShapeError>
+    fn with_capacity(alloc: Global, points: usize) -> Result<InPlaceWork<I, C>, ShapeError>
         ensures room { IfOk result (λ work. HasRoom C.has_room work points) }
         ensures short { points < 3 → IsOk result }
         ensures memory { IsOkUnless result ShapeError.OutOfMemory }

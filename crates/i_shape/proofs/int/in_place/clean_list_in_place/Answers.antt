@@ -1,15 +1,11 @@
-use Rattle.std.proofs.Common.{rules, ◌≡◌, Bool, Result, Err, List, sym, subst}
-use Rattle.i_shape_core.specs.Point.{Point}
-use Rattle.i_shape_core.specs.declared.error.ShapeError.{ShapeError}
-use Rattle.i_shape_source.specs.Paths.{concatenated}
-use Rattle.i_shape.specs.ShapeLists.{shapes_of}
-use Rattle.i_shape.specs.ShapeAnswers.{ListClean, EachShape}
-use Rattle.i_shape.specs.InPlace.{IsShortOrPasses, CleansList}
-use Rattle.i_shape.specs.LeftInPlace.{HasRoom, HasRoomFor}
+use Rattle.std.proofs.Common.{rules, ◌≡◌, Bool, Result, Err, Some, List, length, Contains, sym, subst}
+use Rattle.std.proofs.lemmas.List.Elements.{All-contains}
+use Rattle.i_shape_core.proofs.lists.Longest.{short_longest}
+use Rattle.i_shape.proofs.Common.{Point, ShapeError, concatenated, shapes_of, ListClean, EachShape, IsShortOrClean, CleansList, HasRoom, HasRoomFor}
 use Rattle.i_shape.proofs.shapes.Kept.{list_safe}
 use Rattle.i_shape.proofs.in_place.Contours.{list_stays_in_place}
 use Rattle.i_shape.proofs.in_place.Left.{fewer_in_place, list_left, list_cleaned_in_place, list_refused_in_place}
-use Rattle.i_shape.proofs.in_place.Longest.{each_of_all, all_of_each, not_all_clean, short_longest, room_for_each}
+use Rattle.i_shape.proofs.in_place.Longest.{each_of_all, all_of_each, all_contained, not_all_clean, room_for_all}
 use Rattle.i_shape.proofs.int.in_place.clean_list_in_place.Goals as goal
 
 pub longest_unclean_of_list-requires : goal.longest_unclean_of_list-requires
@@ -19,7 +15,7 @@ longest_unclean_of_list-requires g c =
 pub returns-in_default-clause-gives : goal.returns-in_default-clause-gives
 returns-in_default-clause-gives g c =
     let cleaner = g.C.ContourCleaner in
-    list_stays_in_place cleaner.clean cleaner.answers g.met.C.InPlaceCleaner.stays g.met.C.InPlaceCleaner.kept (shapes_of g.I.IntNumber.value c.args.shapes.now.items) (each_of_all cleaner.clean (shapes_of g.I.IntNumber.value c.args.shapes.now.items) (rw c.as_slice.ensures.value at c.in_default.ensures))
+    list_stays_in_place cleaner.clean cleaner.answers g.met.C.InPlaceCleaner.stays g.met.C.InPlaceCleaner.kept (shapes_of g.I.IntNumber.value c.args.shapes.now.items) (each_of_all cleaner.clean (shapes_of g.I.IntNumber.value c.args.shapes.now.items) (all_contained cleaner.clean _ (rw c.as_slice.ensures.value at c.in_default.ensures)))
 
 pub clean_shapes-requires-clause-room : goal.clean_shapes-requires-clause-room
 clean_shapes-requires-clause-room g c =
@@ -27,7 +23,7 @@ clean_shapes-requires-clause-room g c =
     let told = rw c.as_slice.ensures.value at c.in-Some.ensures in
     let shapes : List (List (List Point)) = shapes_of g.I.IntNumber.value c.args.shapes.now.items in
     each_of_all (HasRoomFor (HasRoom cleaner.has_room) cleaner.clean c.in_ok-work.work) shapes
-    (room_for_each cleaner.clean (concatenated shapes) c.in-Some.longest told (HasRoom cleaner.has_room) (fewer_in_place cleaner.has_room g.met.C.ContourCleaner.fewer) c.in_ok-work.work c.in_ok-work.ensures.room)
+    (room_for_all cleaner.clean (concatenated shapes) c.in-Some.longest told (HasRoom cleaner.has_room) (fewer_in_place cleaner.has_room g.met.C.ContourCleaner.fewer) c.in_ok-work.work c.in_ok-work.ensures.room)
 
 pub returns-clause-gives : goal.returns-clause-gives
 returns-clause-gives g c =
@@ -54,5 +50,5 @@ returns-in_err-work-clause-gives g c =
     let Gives : Result Bool ShapeError → Type 0 = λ r. CleansList cleaner.clean cleaner.answers old old r in
     let is : c.from_residual.result ≡ Err c.in_err-work.field-0.0 = search rules in
     let fails : EachShape cleaner.clean old → ⊥ = λ each. not_all_clean cleaner.clean (concatenated old) c.in-Some.longest told (all_of_each cleaner.clean old each) in
-    let long : EachShape (IsShortOrPasses cleaner.clean) old → ⊥ = λ each. (let refused = c.in_err-work.ensures.short (short_longest cleaner.clean (concatenated old) c.in-Some.longest told (all_of_each (IsShortOrPasses cleaner.clean) old each)) in absurd (cc)) in
+    let long : EachShape (IsShortOrClean cleaner.clean length) old → ⊥ = λ each. (let refused = c.in_err-work.ensures.short (short_longest cleaner.clean length (Contains (concatenated old)) (Some c.in-Some.longest) told (λ d is. All-contains (IsShortOrClean cleaner.clean length) (concatenated old) d (all_of_each (IsShortOrClean cleaner.clean length) old each) is)) in absurd (cc)) in
     subst Gives (sym is) (list_refused_in_place cleaner.clean cleaner.answers g.met.C.InPlaceCleaner.kept old _ fails long c.in_err-work.ensures.memory)

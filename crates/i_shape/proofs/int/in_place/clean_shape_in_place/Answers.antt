@@ -1,13 +1,10 @@
-use Rattle.std.proofs.Common.{rules, ◌≡◌, Bool, Result, Err, List, sym, subst}
-use Rattle.i_shape_core.specs.Point.{Point}
-use Rattle.i_shape_core.specs.declared.error.ShapeError.{ShapeError}
-use Rattle.i_shape.specs.ShapeLists.{shape_of}
-use Rattle.i_shape.specs.ShapeAnswers.{ShapeClean, EachContour}
-use Rattle.i_shape.specs.InPlace.{Leaves, IsShortOrPasses, CleansShape}
-use Rattle.i_shape.specs.LeftInPlace.{HasRoom}
+use Rattle.std.proofs.Common.{rules, ◌≡◌, Bool, Result, Err, Some, List, length, Contains, sym, subst}
+use Rattle.std.proofs.lemmas.List.Elements.{All-contains}
+use Rattle.i_shape_core.proofs.lists.Longest.{short_longest}
+use Rattle.i_shape.proofs.Common.{Point, ShapeError, shape_of, ShapeClean, EachContour, Leaves, IsShortOrClean, CleansShape, HasRoom}
 use Rattle.i_shape.proofs.in_place.Contours.{shape_stays_in_place}
 use Rattle.i_shape.proofs.in_place.Left.{fewer_in_place, shape_left, shape_cleaned_in_place, shape_refused_in_place, leaves_safe}
-use Rattle.i_shape.proofs.in_place.Longest.{not_all_clean, short_longest, room_for_each}
+use Rattle.i_shape.proofs.in_place.Longest.{all_contained, not_all_clean, room_for_all}
 use Rattle.i_shape.proofs.int.in_place.clean_shape_in_place.Goals as goal
 
 pub longest_unclean-requires : goal.longest_unclean-requires
@@ -17,13 +14,13 @@ longest_unclean-requires g c =
 pub returns-in_default-clause-gives : goal.returns-in_default-clause-gives
 returns-in_default-clause-gives g c =
     let cleaner = g.C.ContourCleaner in
-    shape_stays_in_place cleaner.clean cleaner.answers g.met.C.InPlaceCleaner.stays (shape_of g.I.IntNumber.value c.args.shape.now.items) (rw c.as_slice.ensures.value at c.in_default.ensures)
+    shape_stays_in_place cleaner.clean cleaner.answers g.met.C.InPlaceCleaner.stays (shape_of g.I.IntNumber.value c.args.shape.now.items) (all_contained cleaner.clean _ (rw c.as_slice.ensures.value at c.in_default.ensures))
 
 pub clean_contours-requires-clause-room : goal.clean_contours-requires-clause-room
 clean_contours-requires-clause-room g c =
     let cleaner = g.C.ContourCleaner in
     let told = rw c.as_slice.ensures.value at c.in-Some.ensures in
-    room_for_each cleaner.clean (shape_of g.I.IntNumber.value c.args.shape.now.items) c.in-Some.longest told (HasRoom cleaner.has_room) (fewer_in_place cleaner.has_room g.met.C.ContourCleaner.fewer) c.in_ok-work.work c.in_ok-work.ensures.room
+    room_for_all cleaner.clean (shape_of g.I.IntNumber.value c.args.shape.now.items) c.in-Some.longest told (HasRoom cleaner.has_room) (fewer_in_place cleaner.has_room g.met.C.ContourCleaner.fewer) c.in_ok-work.work c.in_ok-work.ensures.room
 
 pub returns-clause-gives : goal.returns-clause-gives
 returns-clause-gives g c =
@@ -49,5 +46,5 @@ returns-in_err-work-clause-gives g c =
     let told = rw c.as_slice.ensures.value at c.in-Some.ensures in
     let Gives : Result Bool ShapeError → Type 0 = λ r. CleansShape cleaner.clean cleaner.answers old old r in
     let is : c.from_residual.result ≡ Err c.in_err-work.field-0.0 = search rules in
-    let long : EachContour (IsShortOrPasses cleaner.clean) old → ⊥ = λ each. (let refused = c.in_err-work.ensures.short (short_longest cleaner.clean old c.in-Some.longest told each) in absurd (cc)) in
+    let long : EachContour (IsShortOrClean cleaner.clean length) old → ⊥ = λ each. (let refused = c.in_err-work.ensures.short (short_longest cleaner.clean length (Contains old) (Some c.in-Some.longest) told (λ d is. All-contains (IsShortOrClean cleaner.clean length) old d each is)) in absurd (cc)) in
     subst Gives (sym is) (shape_refused_in_place cleaner.clean cleaner.answers g.met.C.InPlaceCleaner.kept old _ (not_all_clean cleaner.clean old c.in-Some.longest told) long c.in_err-work.ensures.memory)

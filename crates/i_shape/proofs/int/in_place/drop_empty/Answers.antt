@@ -1,11 +1,6 @@
-use Rattle.std.proofs.Common.{rules, ◌≡◌, Bool, ◌∙◌, ap}
-use Rattle.std.specs.Global.{Vec}
-use Rattle.std.specs.List.{filter}
+use Rattle.std.proofs.Common.{rules, ◌≡◌, Bool, ◌∙◌, ap, filter}
 use Rattle.std.proofs.lemmas.Fn.{filter_same}
-use Rattle.i_shape_core.specs.IntPoint.{contour_of}
-use Rattle.i_shape_core.specs.declared.point.IntPoint.{IntPoint}
-use Rattle.i_shape.specs.ShapeLists.{shape_of}
-use Rattle.i_shape.specs.LeftInPlace.{has_points}
+use Rattle.i_shape.proofs.Common.{Vec, contour_of, IntPoint, shape_of, has_points}
 use Rattle.i_shape.proofs.in_place.Left.{has_points_told, filter_read}
 use Rattle.i_shape.proofs.int.in_place.drop_empty.Goals as goal
 

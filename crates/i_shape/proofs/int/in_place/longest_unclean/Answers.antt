@@ -1,16 +1,13 @@
-use Rattle.std.proofs.Common.{◌≡◌, List, length, max, unwrap_or, arith}
-use Rattle.std.specs.List.{All}
+use Rattle.std.proofs.Common.{◌≡◌, List, length, max, unwrap_or, arith, All}
 use Rattle.std.proofs.lemmas.List.{take_all, length-map}
-use Rattle.std.proofs.lemmas.List.Elements.{All-nil}
-use Rattle.i_shape_core.specs.declared.point.IntPoint.{IntPoint}
-use Rattle.i_shape_core.specs.IntPoint.{contour_of, point_of, IsSafe}
+use Rattle.i_shape.proofs.Common.{IntPoint, contour_of, point_of, IsSafe}
 use Rattle.i_shape_core.proofs.walks.StackReads.{fails_by_test}
 use Rattle.i_shape.proofs.lists.Surviving.{mapped-read, mapped-taken}
-use Rattle.i_shape.proofs.in_place.Longest.{clean_more, unclean_more}
+use Rattle.i_shape.proofs.in_place.Longest.{none_longest, clean_more, unclean_more}
 use Rattle.i_shape.proofs.int.in_place.longest_unclean.Goals as goal
 
 pub loop-contour-init : goal.loop-contour-init
-loop-contour-init g c = All-nil g.C.ContourCleaner.clean
+loop-contour-init g c = none_longest g.C.ContourCleaner.clean
 
 pub is_clean-requires : goal.is_clean-requires
 is_clean-requires g c =

@@ -1,14 +1,12 @@
-use Rattle.std.proofs.Common.{◌≡◌, Some, None, max, unwrap_or, ap, ◌∙◌}
-use Rattle.std.proofs.lemmas.List.{take_all}
-use Rattle.std.proofs.lemmas.List.Elements.{All-nil}
-use Rattle.i_shape.specs.ShapeLists.{shape_of, IsSafeShape}
+use Rattle.std.proofs.Common.{◌≡◌, Some, None, max, unwrap_or, ap, ◌∙◌, take_all}
+use Rattle.i_shape.proofs.Common.{shape_of, IsSafeShape}
 use Rattle.i_shape.proofs.lists.EndToEnd.{concatenated_step}
 use Rattle.i_shape.proofs.lists.Surviving.{mapped-read}
-use Rattle.i_shape.proofs.in_place.Longest.{longest_append}
+use Rattle.i_shape.proofs.in_place.Longest.{none_longest, longest_append}
 use Rattle.i_shape.proofs.int.in_place.longest_unclean_of_list.Goals as goal
 
 pub loop-shape-init : goal.loop-shape-init
-loop-shape-init g c = All-nil g.C.ContourCleaner.clean
+loop-shape-init g c = none_longest g.C.ContourCleaner.clean
 
 pub longest_unclean-requires : goal.longest_unclean-requires
 longest_unclean-requires g c =

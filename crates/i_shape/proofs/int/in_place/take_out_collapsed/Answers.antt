@@ -1,6 +1,5 @@
 use Rattle.std.proofs.Common.{◌∙◌, sym, ap}
-use Rattle.i_shape.specs.ShapeLists.{shape_of}
-use Rattle.i_shape.specs.LeftInPlace.{keeps_outer}
+use Rattle.i_shape.proofs.Common.{shape_of, keeps_outer}
 use Rattle.i_shape.proofs.in_place.Left.{outer_kept}
 use Rattle.i_shape.proofs.int.in_place.take_out_collapsed.Goals as goal
 

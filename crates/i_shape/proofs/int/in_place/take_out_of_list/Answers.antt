@@ -1,11 +1,7 @@
-use Rattle.std.proofs.Common.{rules, arith, ◌≡◌, Bool, ◌∙◌, ap, map}
-use Rattle.std.specs.Global.{Vec}
-use Rattle.std.specs.List.{filter}
+use Rattle.std.proofs.Common.{rules, arith, ◌≡◌, Bool, ◌∙◌, ap, map, filter}
 use Rattle.std.proofs.lemmas.Slice.Zip.{AllZip-map}
 use Rattle.std.proofs.lemmas.Fn.{filter_same}
-use Rattle.i_shape_core.specs.declared.point.IntPoint.{IntPoint}
-use Rattle.i_shape.specs.ShapeLists.{shape_of, shapes_of}
-use Rattle.i_shape.specs.LeftInPlace.{has_points, keeps_outer}
+use Rattle.i_shape.proofs.Common.{Vec, IntPoint, shape_of, shapes_of, has_points, keeps_outer}
 use Rattle.i_shape.proofs.in_place.Left.{filter_read, so_far_none, so_far_set, so_far_all}
 use Rattle.i_shape.proofs.int.in_place.take_out_of_list.Goals as goal
 

@@ -1,7 +1,5 @@
-use Rattle.std.proofs.Common.{◌≡◌}
-use Rattle.std.specs.List.{filter}
-use Rattle.i_shape.specs.ShapeLists.{shapes_of}
-use Rattle.i_shape.specs.LeftInPlace.{has_points}
+use Rattle.std.proofs.Common.{◌≡◌, filter}
+use Rattle.i_shape.proofs.Common.{shapes_of, has_points}
 use Rattle.i_shape.proofs.in_place.Left.{SoFar}
 use Rattle.i_shape.proofs.int.in_place.take_out_of_list.Given as goal
 

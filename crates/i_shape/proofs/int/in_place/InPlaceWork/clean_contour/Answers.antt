@@ -1,9 +1,7 @@
 use Rattle.std.proofs.Common.{◌≡◌, ◌<◌, List, length, take, sym, ap, ◌∙◌, subst, arith}
 use Rattle.std.proofs.lemmas.List.{length-map}
 use Rattle.std.proofs.lemmas.Grind.{common_steps}
-use Rattle.i_shape_core.specs.IntPoint.{contour_of, point_of}
-use Rattle.i_shape_core.specs.Written.{slot}
-use Rattle.i_shape_core.specs.declared.point.IntPoint.{IntPoint}
+use Rattle.i_shape.proofs.Common.{contour_of, point_of, slot, IntPoint}
 use Rattle.i_shape_core.proofs.answers.Written.{slot_some}
 use Rattle.i_shape.proofs.in_place.Left.{written_whole}
 use Rattle.i_shape.proofs.int.in_place.InPlaceWork.clean_contour.Goals as goal

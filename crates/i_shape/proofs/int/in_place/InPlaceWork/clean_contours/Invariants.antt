@@ -1,6 +1,5 @@
 use Rattle.std.proofs.Common.{ℕ}
-use Rattle.i_shape.specs.ShapeLists.{shape_of}
-use Rattle.i_shape.specs.LeftInPlace.{IsLeftOf, HasRoom}
+use Rattle.i_shape.proofs.Common.{shape_of, IsLeftOf, HasRoom}
 use Rattle.i_shape.proofs.in_place.Left.{SoFar}
 use Rattle.i_shape.proofs.int.in_place.InPlaceWork.clean_contours.Given as goal
 

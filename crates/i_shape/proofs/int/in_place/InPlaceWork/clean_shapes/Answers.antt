@@ -1,7 +1,5 @@
-use Rattle.std.proofs.Common.{arith}
-use Rattle.std.specs.List.{All}
-use Rattle.i_shape.specs.ShapeLists.{shape_of, shapes_of, IsSafeShape}
-use Rattle.i_shape.specs.LeftInPlace.{HasRoom, HasRoomFor}
+use Rattle.std.proofs.Common.{arith, All}
+use Rattle.i_shape.proofs.Common.{shape_of, shapes_of, IsSafeShape, HasRoom, HasRoomFor}
 use Rattle.i_shape.proofs.in_place.Left.{so_far_none, so_far_holds, so_far_set, so_far_all}
 use Rattle.i_shape.proofs.int.in_place.InPlaceWork.clean_shapes.Goals as goal
 

@@ -1,6 +1,5 @@
 use Rattle.std.proofs.Common.{ℕ}
-use Rattle.i_shape.specs.ShapeLists.{shapes_of}
-use Rattle.i_shape.specs.LeftInPlace.{AreLeftOf, HasRoom}
+use Rattle.i_shape.proofs.Common.{shapes_of, AreLeftOf, HasRoom}
 use Rattle.i_shape.proofs.in_place.Left.{SoFar}
 use Rattle.i_shape.proofs.int.in_place.InPlaceWork.clean_shapes.Given as goal
 
