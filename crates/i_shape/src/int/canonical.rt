@@ -79,10 +79,12 @@ pub trait CanonicalShapes<I: IntNumber> {
 impl<I: IntNumber> CanonicalShape<I> for &[IntContour<I>] {
     ghost shape = { λ contours. shape_of I.value contours.now };
 
+    #[tactic(auto, using(crate::proofs::shapes::Forms::shape_form_given, crate::proofs::shapes::Forms::canonical_keeps))]
     fn canonical(&self, alloc: Global) -> Result<Option<IntShape<I>>, ShapeError> {
         shape_form(&mut Canonicalizer::new(alloc), alloc, *self)
     }
 
+    #[tactic(auto, using(crate::proofs::shapes::Forms::shape_form_given, crate::proofs::shapes::Forms::unoriented_keeps))]
     fn canonical_unoriented(&self, alloc: Global) -> Result<Option<IntShape<I>>, ShapeError> {
         let mut unoriented = UnorientedCanonicalizer::new(alloc);
         shape_form(&mut unoriented, alloc, *self)
@@ -92,10 +94,12 @@ impl<I: IntNumber> CanonicalShape<I> for &[IntContour<I>] {
 impl<I: IntNumber> CanonicalShapes<I> for &[IntShape<I>] {
     ghost shapes = { λ list. shapes_of I.value list.now };
 
+    #[tactic(auto, using(crate::proofs::shapes::Forms::list_form_given, crate::proofs::shapes::Forms::canonical_keeps))]
     fn canonical(&self, alloc: Global) -> Result<IntShapes<I>, ShapeError> {
         list_form(&mut Canonicalizer::new(alloc), alloc, *self)
     }
 
+    #[tactic(auto, using(crate::proofs::shapes::Forms::list_form_given, crate::proofs::shapes::Forms::unoriented_keeps))]
     fn canonical_unoriented(&self, alloc: Global) -> Result<IntShapes<I>, ShapeError> {
         let mut unoriented = UnorientedCanonicalizer::new(alloc);
         list_form(&mut unoriented, alloc, *self)

@@ -13,6 +13,7 @@ use i_shape_core::number::IntNumber;
 /// the holes that don't collapse can be paired one to one so that partners are joined. For unoriented forms, joined in
 /// either direction.
 /// Two contours are joined where rotations, removals and insertions of zero turns lead from one to the other.
+#[tactic(auto, using(crate::proofs::shapes::Forms::canonical_shapes, crate::proofs::shapes::Forms::unoriented_shapes))]
 pub fn same_shapes<I: IntNumber>(_s: &[IntContour<I>], _t: &[IntContour<I>])
     ensures canonical { OneShapeForm CanonicalAnswer (Joined IsZeroTurn)
         (shape_of I.value _s.now) (shape_of I.value _t.now) }

@@ -49,6 +49,7 @@ impl<'a, P> Model for FloatContoursBufferResourceIterator<'a, P> {
 }
 
 impl<'a, P> FloatContoursBufferResourceIterator<'a, P> {
+    #[tactic(auto, using(i_shape_source::proofs::Lent::lends_from_list))]
     pub(crate) fn with_ranges(points: &'a [P], ranges: &'a [Range<usize>]) -> Self
         ensures left { result ≡ readable_slices points.now ranges.now }
         ensures lends { LendsExactly (TakesFirst deref)
@@ -84,6 +85,7 @@ impl<'a, P: ShapePoint + 'a> ShapeResource<'a, P> for &'a FloatFlatContoursBuffe
 
     ghost begins = { λ buffer iter. iter ≡ readable_slices buffer.now.points.items buffer.now.ranges.items };
 
+    #[tactic(auto, using(i_shape_source::proofs::Lent::runs_from_lends))]
     fn iter_paths(self) -> FloatContoursBufferResourceIterator<'a, P> {
         let points = self.points.as_slice();
         FloatContoursBufferResourceIterator::with_ranges(points, self.ranges.as_slice())
@@ -110,6 +112,7 @@ impl<'a, P: ShapePoint + 'a> ShapeResource<'a, P> for &'a FloatFlatShapesBuffer<
 
     ghost begins = { λ buffer iter. iter ≡ readable_slices buffer.now.points.items buffer.now.contour_ranges.items };
 
+    #[tactic(auto, using(i_shape_source::proofs::Lent::runs_from_lends))]
     fn iter_paths(self) -> FloatShapesBufferResourceIterator<'a, P> {
         let ranges = self.contour_ranges.as_slice();
         FloatContoursBufferResourceIterator::with_ranges(self.points.as_slice(), ranges)

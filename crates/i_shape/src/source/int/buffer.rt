@@ -38,6 +38,7 @@ impl<'a, I> Model for IntBufferResourceIterator<'a, I> {
 }
 
 impl<'a, I> IntBufferResourceIterator<'a, I> {
+    #[tactic(auto, using(i_shape_source::proofs::Lent::lends_from_list))]
     pub(crate) fn with_ranges(points: &'a [IntPoint<I>], ranges: &'a [Range<usize>]) -> Self
         requires { All (InOrder (length points.now)) ranges.now }
         ensures left { result ≡ slices points.now ranges.now }
@@ -90,6 +91,7 @@ impl<'a, I: IntNumber + 'a> IntShapeResource<'a, I> for &'a FlatContoursBuffer<I
 
     ghost can_read = { λ buffer. All (InOrder (length buffer.now.points.items)) buffer.now.ranges.items };
 
+    #[tactic(auto, using(i_shape_source::proofs::Lent::runs_from_lends))]
     fn iter_paths(self) -> IntBufferResourceIterator<'a, I> {
         IntBufferResourceIterator::with_ranges(self.points.as_slice(), self.ranges.as_slice())
     }
@@ -123,6 +125,7 @@ impl<'a, I: IntNumber + 'a> IntShapeResource<'a, I> for &'a FlatShapesBuffer<I> 
 
     ghost can_read = { λ buffer. All (InOrder (length buffer.now.points.items)) buffer.now.contour_ranges.items };
 
+    #[tactic(auto, using(i_shape_source::proofs::Lent::runs_from_lends))]
     fn iter_paths(self) -> IntBufferResourceIterator<'a, I> {
         let ranges = self.contour_ranges.as_slice();
         IntBufferResourceIterator::with_ranges(self.points.as_slice(), ranges)

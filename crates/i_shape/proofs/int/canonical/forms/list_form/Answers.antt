@@ -1,11 +1,9 @@
 use Rattle.std.specs.Cmp.Lexicographic.{slice_cmp}
 use Rattle.std.proofs.lemmas.Cmp.{on_total, lists_total}
-use Rattle.std.proofs.lemmas.List.{take_all}
+use Rattle.std.proofs.Common.{take_all}
 use Rattle.std.proofs.lemmas.List.Sorted.{IsPermutation-map}
-use Rattle.i_shape_core.specs.IntPoint.{point_of, contour_of}
-use Rattle.i_shape.specs.ShapeLists.{shape_of, shapes_of, IsSafeShape}
+use Rattle.i_shape.proofs.Common.{point_of, contour_of, shape_of, shapes_of, IsSafeShape, ShapeForm, IsShapeAtMost}
 use Rattle.i_shape.proofs.lists.Surviving.{mapped-read, survivors-more}
-use Rattle.i_shape.specs.CanonicalShapes.{ShapeForm, IsShapeAtMost}
 use Rattle.i_shape_core.proofs.forms.ContourOrder.{point_cmp, points_told, points_total, contours_told}
 use Rattle.i_shape.proofs.shapes.SortedOrders.{shape_told, sorted_pairs}
 use Rattle.i_shape.proofs.shapes.Forms.{forms_safe}

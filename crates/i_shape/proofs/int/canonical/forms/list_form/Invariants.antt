@@ -1,7 +1,5 @@
 use Rattle.std.proofs.Common.{take}
-use Rattle.i_shape.specs.ShapeLists.{shapes_of}
-use Rattle.i_shape.specs.ShapeAnswers.{Survivors}
-use Rattle.i_shape.specs.CanonicalShapes.{ShapeForm}
+use Rattle.i_shape.proofs.Common.{shapes_of, Survivors, ShapeForm}
 use Rattle.i_shape.proofs.int.canonical.forms.list_form.Given as goal
 
 abbrev pub invariant-loop-shape : goal.invariant-loop-shape

@@ -1,9 +1,6 @@
-use Rattle.std.proofs.Common.{Some, rules}
-use Rattle.std.specs.List.{All}
+use Rattle.std.proofs.Common.{Some, rules, All}
 use Rattle.std.proofs.lemmas.List.Elements.{All-head, All-tail}
-use Rattle.i_shape_core.specs.IntPoint.{contour_of, IsSafe}
-use Rattle.i_shape.specs.ShapeLists.{shape_of}
-use Rattle.i_shape.specs.CanonicalShapes.{ShapeForm}
+use Rattle.i_shape.proofs.Common.{contour_of, IsSafe, shape_of, ShapeForm}
 use Rattle.i_shape.proofs.shapes.Forms.{form_safe}
 use Rattle.i_shape.proofs.int.canonical.forms.shape_form.Goals as goal
 

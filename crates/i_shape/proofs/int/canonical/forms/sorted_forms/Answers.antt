@@ -1,13 +1,10 @@
-use Rattle.std.specs.List.{All}
-use Rattle.std.proofs.lemmas.List.{take_all}
+use Rattle.std.proofs.Common.{All, take_all}
 use Rattle.std.specs.Cmp.Lexicographic.{slice_cmp}
 use Rattle.std.proofs.lemmas.Cmp.{on_total, lists_total}
 use Rattle.std.proofs.lemmas.List.Sorted.{IsPermutation-map}
 use Rattle.i_shape_core.proofs.forms.ContourOrder.{point_cmp, points_told, points_total, contours_told, contour_told}
 use Rattle.i_shape.proofs.shapes.SortedOrders.{sorted_pairs}
-use Rattle.i_shape_core.specs.IntPoint.{point_of, contour_of, IsSafe}
-use Rattle.i_shape_core.specs.Canonical.{IsAtMost}
-use Rattle.i_shape.specs.ShapeLists.{shape_of}
+use Rattle.i_shape.proofs.Common.{point_of, contour_of, IsSafe, IsAtMost, shape_of}
 use Rattle.i_shape.proofs.lists.Surviving.{mapped-read, survivors-more}
 use Rattle.i_shape.proofs.int.canonical.forms.sorted_forms.Goals as goal
 

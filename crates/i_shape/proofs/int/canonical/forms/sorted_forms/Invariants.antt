@@ -1,6 +1,5 @@
 use Rattle.std.proofs.Common.{take}
-use Rattle.i_shape.specs.ShapeLists.{shape_of}
-use Rattle.i_shape.specs.ShapeAnswers.{Survivors}
+use Rattle.i_shape.proofs.Common.{shape_of, Survivors}
 use Rattle.i_shape.proofs.int.canonical.forms.sorted_forms.Given as goal
 
 abbrev pub invariant-loop-contour : goal.invariant-loop-contour

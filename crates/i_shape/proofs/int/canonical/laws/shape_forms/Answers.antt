@@ -1,4 +1,4 @@
-use Rattle.i_shape.specs.ShapeLists.{shape_of}
+use Rattle.i_shape.proofs.Common.{shape_of}
 use Rattle.i_shape.proofs.shapes.Forms.{canonical_has_shape, unoriented_has_shape}
 use Rattle.i_shape.proofs.int.canonical.laws.shape_forms.Goals as goal
 

@@ -1,5 +1,5 @@
 use Rattle.std.proofs.Common.{◌≡◌, length}
-use Rattle.i_shape.specs.FloatBuffers.{readable_slices}
+use Rattle.i_shape.proofs.Common.{readable_slices}
 use Rattle.i_shape.proofs.source.float.buffer.first_readable.Given as goal
 
 -- passing over a range that cannot be read leaves the same paths

@@ -1,7 +1,6 @@
-use Rattle.std.proofs.Common.{length}
-use Rattle.std.specs.List.{All}
+use Rattle.std.proofs.Common.{length, All}
 use Rattle.std.proofs.lemmas.List.Elements.{All-tail}
-use Rattle.i_shape.specs.Flat.{InOrder}
+use Rattle.i_shape.proofs.Common.{InOrder}
 use Rattle.i_shape.proofs.source.int.buffer.IntBufferResourceIteratorIterator.next.Goals as goal
 
 pub invariant_of-self : goal.invariant_of-self
