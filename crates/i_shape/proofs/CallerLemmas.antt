@@ -1,33 +1,11 @@
 -- What callers need beside the contracts: from a buffer to the contours that it holds, from lists of points to shapes, and what whole lists keep.
-use Rattle.std.proofs.Common.{◌≡◌, ◌↔◌, ◌≤◌, ℕ, ◌+◌, ◌-◌, ℤ, List, [], ◌∷◌, ◌++◌, length, map, take, drop, refl, sym, ap, subst, ◌∙◌, arith, length-append, Option, Some, None, IfSome, Bool, Result, Ok, Err, IfOk}
-use Rattle.std.specs.Global.{Vec}
-use Rattle.std.specs.Int.{Width}
-use Rattle.std.specs.declared.ops.Range.{Range}
-use Rattle.std.specs.Result.{IsOk, IsErr, is_ok, OnOk, IsOkUnless}
-use Rattle.std.specs.List.{All, sum_by}
+use Rattle.std.proofs.Common.{◌≡◌, ◌↔◌, ◌≤◌, ℕ, ◌+◌, ◌-◌, ℤ, List, [], ◌∷◌, ◌++◌, length, map, take, drop, refl, sym, ap, subst, ◌∙◌, arith, length-append, Option, Some, None, IfSome, Bool, Result, Ok, Err, IfOk, IsOk, IsErr, is_ok, OnOk, IsOkUnless, All, sum_by}
+use Rattle.i_shape.proofs.Common.{Vec, Width, Range, Point, IsBack, contour_of, point_of, IsSafe, IsSimple, IsRemovable, Reach, stay, step, NoSpikes, SimpleAnswer, SpikelessAnswer, DespikeAnswer, KeptAnswer, IsKept, slot, IsWritten, ShapeError, OutOfMemory, OkUnlessMemory, IntPoint, paths_of_shape, paths_of_shapes, shape_lists, concatenated, FlatContoursBuffer, part_of, slices, shapes, end_to_end, Compact, contours_in, range_len, HoldsContours, HoldsShapes, contours_of, named_shapes, FlatShapesBuffer, shape_of, shapes_of, IsSafeShape, IsSafeList, AreSafePaths, HasPoints, shapes_shoelace, Survivors, ShapeClean, ListClean, EachContour, EachShape, AreKept, ListKept, Leaves, CleansContour, DespikesContour, CleansShape, CleansList}
 use Rattle.std.proofs.lemmas.Int.{ints}
 use Rattle.std.proofs.lemmas.List.Elements.{All-nil, All-cons, All-head, All-tail, All-append, All-take, All-drop}
 use Rattle.std.proofs.lemmas.List.{map-append}
 use Rattle.std.proofs.lemmas.List.Sums.{sum_by-cons}
 use Rattle.std.proofs.lemmas.Simd.{map-map}
-use Rattle.i_shape_core.specs.Point.{Point, IsBack}
-use Rattle.i_shape_core.specs.IntPoint.{contour_of, point_of, IsSafe}
-use Rattle.i_shape_core.specs.Contour.{IsSimple, IsRemovable, Reach, stay, step}
-use Rattle.i_shape_core.specs.Convex.{NoSpikes}
-use Rattle.i_shape_core.specs.Cleaners.{SimpleAnswer, SpikelessAnswer, DespikeAnswer, KeptAnswer, IsKept}
-use Rattle.i_shape_core.specs.Written.{slot, IsWritten}
-use Rattle.i_shape_core.specs.declared.error.ShapeError.{ShapeError}
-use Rattle.i_shape_core.specs.declared.error.ShapeError.TheVariants.{OutOfMemory}
-use Rattle.i_shape_core.specs.Refusals.{OkUnlessMemory}
-use Rattle.i_shape_core.specs.declared.point.IntPoint.{IntPoint}
-use Rattle.i_shape_source.specs.Paths.{paths_of_shape, paths_of_shapes, shape_lists, concatenated}
-use Rattle.i_shape.specs.declared.flat.buffer.contours.FlatContoursBuffer.{FlatContoursBuffer}
-use Rattle.i_shape.specs.Flat.{part_of, slices, shapes, end_to_end}
-use Rattle.i_shape.specs.Buffers.{Compact, contours_in, range_len, HoldsContours, HoldsShapes, contours_of, named_shapes}
-use Rattle.i_shape.specs.declared.flat.buffer.shapes.FlatShapesBuffer.{FlatShapesBuffer}
-use Rattle.i_shape.specs.ShapeLists.{shape_of, shapes_of, IsSafeShape, IsSafeList, AreSafePaths}
-use Rattle.i_shape.specs.ShapeAnswers.{HasPoints, shapes_shoelace, Survivors, ShapeClean, ListClean, EachContour, EachShape, AreKept, ListKept}
-use Rattle.i_shape.specs.InPlace.{Leaves, CleansContour, DespikesContour, CleansShape, CleansList}
 use Rattle.i_shape_core.proofs.answers.Kept.{nothing_keeps}
 use Rattle.i_shape_core.proofs.removal.Ends.{reach_shrinks, no_step}
 use Rattle.i_shape_core.proofs.walks.Spikes.{spikeless_end}

@@ -1,13 +1,7 @@
 -- The definitions of flat lists, shapes and ranges at values that are written out.
 use Rattle.std.proofs.Common.{◌≡◌, ℕ, List, [], ◌∷◌, ◌<◌, Option, Some, None, pos, refl, lit≤, lit<, arith, length}
-use Rattle.std.specs.declared.ops.Range.{Range}
-use Rattle.i_shape_core.specs.Point.{Point, cross}
-use Rattle.i_shape_core.specs.Edges.{shoelace, area_of_edge, is_right}
-use Rattle.i_shape_source.specs.Paths.{concatenated}
-use Rattle.i_shape.specs.Flat.{InOrder, part_of, slices, shapes, IsReadableShape, end_to_end}
-use Rattle.i_shape.specs.Buffers.{CanReadFirst, first_contour, range_len}
-use Rattle.i_shape.specs.FloatBuffers.{readable_slices, in_one_shape}
-use Rattle.i_shape.specs.ShapeAnswers.{ShapeClean, ListClean, shape_shoelace, shapes_shoelace, inside_count}
+use Rattle.i_shape_core.specs.Point.{cross}
+use Rattle.i_shape.proofs.Common.{Range, Point, shoelace, area_of_edge, is_right, concatenated, InOrder, part_of, slices, shapes, IsReadableShape, end_to_end, CanReadFirst, first_contour, range_len, readable_slices, in_one_shape, ShapeClean, ListClean, shape_shoelace, shapes_shoelace, inside_count}
 
 abbrev from_to : ℕ → ℕ → Range ℕ
 from_to start end = record { start = start; end = end }

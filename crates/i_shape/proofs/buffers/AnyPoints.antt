@@ -1,12 +1,7 @@
 -- When a flat buffer over points of any kind holds paths.
-use Rattle.std.proofs.Common.{◌≡◌, ℕ, ◌+◌, ◌≤◌, List, [], ◌∷◌, ◌++◌, length, refl, sym, ap, ◌∙◌, arith, append-nil, true, nat_le}
-use Rattle.std.specs.List.{All, filter}
-use Rattle.std.specs.declared.ops.Range.{Range}
-use Rattle.std.proofs.lemmas.Bool.{le-leb}
+use Rattle.std.proofs.Common.{◌≡◌, ℕ, ◌+◌, ◌≤◌, List, [], ◌∷◌, ◌++◌, length, refl, sym, ap, ◌∙◌, arith, append-nil, true, nat_le, All, filter, le-leb}
+use Rattle.i_shape.proofs.Common.{Range, concatenated, InOrder, slices, end_to_end, is_readable, LieEndToEnd, FormOneShape, in_one_shape}
 use Rattle.std.proofs.lemmas.List.Elements.{All-head, All-tail}
-use Rattle.i_shape_source.specs.Paths.{concatenated}
-use Rattle.i_shape.specs.Flat.{InOrder, slices, end_to_end}
-use Rattle.i_shape.specs.FloatBuffers.{is_readable, LieEndToEnd, FormOneShape, in_one_shape}
 use Rattle.i_shape.specs.declared.flat.float.shapes.FloatFlatShapesBuffer.{FloatFlatShapesBuffer}
 use Rattle.i_shape.proofs.lists.EndToEnd.{slices_concatenated, InOrder_concatenated}
 use Rattle.i_shape.proofs.buffers.ShapeRanges.{readable_concatenated, shapes-end_to_end}

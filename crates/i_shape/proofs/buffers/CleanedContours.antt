@@ -1,14 +1,7 @@
 -- Cleaning inside a flat buffer.
-use Rattle.std.proofs.Common.{◌≡◌, ℕ, ◌+◌, ◌<◌, ◌≤◌, ℤ, List, length, get_or, take, map, refl, Option, Some, None, option_map}
-use Rattle.std.specs.List.{All}
-use Rattle.std.specs.Option.{option_to_list}
-use Rattle.std.specs.declared.ops.Range.{Range}
-use Rattle.std.proofs.lemmas.List.{take_all}
+use Rattle.std.proofs.Common.{◌≡◌, ℕ, ◌+◌, ◌<◌, ◌≤◌, ℤ, List, length, get_or, take, map, refl, Option, Some, None, option_map, All, option_to_list, take_all}
+use Rattle.i_shape.proofs.Common.{Range, Point, contour_of, IntPoint, part_of, slices}
 use Rattle.std.proofs.lemmas.Simd.{map-map}
-use Rattle.i_shape_core.specs.Point.{Point}
-use Rattle.i_shape_core.specs.IntPoint.{contour_of}
-use Rattle.i_shape_core.specs.declared.point.IntPoint.{IntPoint}
-use Rattle.i_shape.specs.Flat.{part_of, slices}
 use Rattle.i_shape.proofs.lists.Surviving.{same_read, mapped-read, mapped-more}
 
 -- the contour that a range of points names, over whole numbers

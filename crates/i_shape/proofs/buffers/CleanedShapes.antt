@@ -1,21 +1,9 @@
 -- Cleaning inside a flat buffer of shapes, and what both forms of a buffer append.
-use Rattle.std.proofs.Common.{◌≡◌, ℕ, ◌+◌, ◌<◌, ◌≤◌, ℤ, List, [], ◌∷◌, ◌++◌, length, get_or, take, map, refl, sym, ap, ◌∙◌, subst, arith, append-nil, append_assoc, length-append, Option, Some, None, option_map, true, false, true≢false}
-use Rattle.std.specs.List.{All}
-use Rattle.std.specs.Option.{option_to_list, is_some}
-use Rattle.std.specs.declared.ops.Range.{Range}
+use Rattle.std.proofs.Common.{◌≡◌, ℕ, ◌+◌, ◌<◌, ◌≤◌, ℤ, List, [], ◌∷◌, ◌++◌, length, get_or, take, map, refl, sym, ap, ◌∙◌, subst, arith, append-nil, append_assoc, length-append, Option, Some, None, option_map, true, false, true≢false, All, option_to_list, is_some}
+use Rattle.i_shape.proofs.Common.{Range, Point, contour_of, IntPoint, concatenated, FlatContoursBuffer, FlatShapesBuffer, IsReadableShape, part_of, slices, shapes, end_to_end, Survivors, ShapeClean, ListClean, HoldsContours, HoldsShapes, shapes_in, contours_of, named_shapes, Grows, AppendsShapeAnswer}
 use Rattle.std.proofs.lemmas.List.{map-append, take_all, nil_from_length}
 use Rattle.std.proofs.lemmas.List.Elements.{All-weaker}
 use Rattle.std.proofs.lemmas.Simd.{map-map}
-use Rattle.i_shape_core.specs.Point.{Point}
-use Rattle.i_shape_core.specs.IntPoint.{contour_of}
-use Rattle.i_shape_core.specs.declared.point.IntPoint.{IntPoint}
-use Rattle.i_shape_source.specs.Paths.{concatenated}
-use Rattle.i_shape.specs.declared.flat.buffer.contours.FlatContoursBuffer.{FlatContoursBuffer}
-use Rattle.i_shape.specs.declared.flat.buffer.shapes.FlatShapesBuffer.{FlatShapesBuffer}
-use Rattle.i_shape.specs.Flat.{IsReadableShape, part_of, slices, shapes, end_to_end}
-use Rattle.i_shape.specs.ShapeAnswers.{Survivors, ShapeClean, ListClean}
-use Rattle.i_shape.specs.Buffers.{HoldsContours, HoldsShapes, shapes_in, contours_of, named_shapes}
-use Rattle.i_shape.specs.AppendedAnswers.{Grows, AppendsShapeAnswer}
 use Rattle.i_shape.proofs.buffers.CleanedContours.{map-option_to_list}
 use Rattle.i_shape.proofs.buffers.Contours.{HoldsContours-from_lists}
 use Rattle.i_shape.proofs.lists.EndToEnd.{concatenated-append, end_to_end-append, length-end_to_end}

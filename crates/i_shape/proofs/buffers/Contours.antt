@@ -1,10 +1,6 @@
 -- When a buffer holds contours.
 use Rattle.std.proofs.Common.{◌≡◌, List, [], ◌++◌, length, vec_len, refl, ap, arith}
-use Rattle.i_shape_core.specs.declared.point.IntPoint.{IntPoint}
-use Rattle.i_shape.specs.declared.flat.buffer.contours.FlatContoursBuffer.{FlatContoursBuffer}
-use Rattle.i_shape_source.specs.Paths.{concatenated}
-use Rattle.i_shape.specs.Flat.{end_to_end}
-use Rattle.i_shape.specs.Buffers.{HoldsContours}
+use Rattle.i_shape.proofs.Common.{IntPoint, FlatContoursBuffer, concatenated, end_to_end, HoldsContours}
 use Rattle.i_shape.proofs.lists.EndToEnd.{slices_concatenated, InOrder_concatenated}
 
 -- where its two lists have the points and the ranges of contours end to end

@@ -1,7 +1,7 @@
 -- A loop over the paths that a resource lends, at the path that comes next.
 use Rattle.std.proofs.Common.{◌≡◌, ◌∙◌, ◌++◌, ◌+◌, ◌≤◌, List, ◌∷◌, map, length, Option, Some, refl, subst, ap, Bor, arith, length-append}
 use Rattle.std.specs.Iterator.{Yields}
-use Rattle.i_shape_source.specs.Paths.{LendsExactly, path_of, concatenated}
+use Rattle.i_shape.proofs.Common.{LendsExactly, path_of, concatenated}
 use Rattle.i_shape_source.proofs.Lent.{saw_next}
 use Rattle.i_shape.proofs.lists.EndToEnd.{concatenated-append}
 

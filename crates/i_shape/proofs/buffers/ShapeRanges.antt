@@ -1,12 +1,9 @@
 -- Shapes by ranges of contour ranges.
-use Rattle.std.proofs.Common.{◌≡◌, ℕ, ◌+◌, ◌-◌, ◌≤◌, List, [], ◌∷◌, ◌++◌, length, map, take, drop, slice_range, refl, sym, ap, ◌∙◌, arith, append-nil, inl, inr, length-append, length-drop}
+use Rattle.std.proofs.Common.{◌≡◌, ℕ, ◌+◌, ◌-◌, ◌≤◌, List, [], ◌∷◌, ◌++◌, length, map, take, drop, slice_range, refl, sym, ap, ◌∙◌, arith, append-nil, inl, inr, length-append, length-drop, All}
 use Rattle.std.proofs.lemmas.List.{take-map, drop-map, take-append-le, drop-append-le, drop_at, map-append, take_all}
 use Rattle.std.proofs.lemmas.List.Elements.{All-head, All-tail, All-take, All-drop, All-weaker, All-push}
 use Rattle.std.proofs.lemmas.Bool.{cases_lt}
-use Rattle.std.specs.List.{All}
-use Rattle.std.specs.declared.ops.Range.{Range}
-use Rattle.i_shape_source.specs.Paths.{concatenated}
-use Rattle.i_shape.specs.Flat.{InOrder, IsReadableShape, part_of, slices, shapes, end_to_end}
+use Rattle.i_shape.proofs.Common.{Range, concatenated, InOrder, IsReadableShape, part_of, slices, shapes, end_to_end}
 use Rattle.i_shape.proofs.lists.EndToEnd.{slices-end_to_end, slices_concatenated, InOrder-end_to_end, InOrder_concatenated, length-end_to_end}
 
 -- a part of a list whose items are made into others

@@ -1,11 +1,6 @@
 -- When a buffer holds shapes.
 use Rattle.std.proofs.Common.{◌≡◌, ℕ, ◌+◌, List, [], ◌∷◌, ◌++◌, length, vec_len, refl, sym, ap, ◌∙◌, append-nil}
-use Rattle.std.specs.declared.ops.Range.{Range}
-use Rattle.i_shape_core.specs.declared.point.IntPoint.{IntPoint}
-use Rattle.i_shape.specs.declared.flat.buffer.shapes.FlatShapesBuffer.{FlatShapesBuffer}
-use Rattle.i_shape_source.specs.Paths.{concatenated}
-use Rattle.i_shape.specs.Flat.{end_to_end}
-use Rattle.i_shape.specs.Buffers.{HoldsShapes, AddsShape}
+use Rattle.i_shape.proofs.Common.{Range, IntPoint, FlatShapesBuffer, concatenated, end_to_end, HoldsShapes, AddsShape}
 use Rattle.i_shape.proofs.lists.EndToEnd.{slices_concatenated, InOrder_concatenated}
 use Rattle.i_shape.proofs.buffers.ShapeRanges.{readable_concatenated, shapes-end_to_end, readable-append, shapes-push}
 

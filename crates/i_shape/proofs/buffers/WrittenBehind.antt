@@ -1,15 +1,8 @@
 -- A contour that is cleaned over its copy at the end of a list, of which what is left stays.
-use Rattle.std.proofs.Common.{◌≡◌, ℕ, ℤ, ◌+◌, ◌-◌, ◌<◌, ◌≤◌, List, [], ◌∷◌, ◌++◌, take, drop, length, Bool, true, false, Option, Some, None, option_map, refl, sym, ap, subst, ◌∙◌, arith, append_assoc, append-nil, length-append, length-take, length-drop}
-use Rattle.std.specs.Int.{Width}
-use Rattle.std.specs.Option.{option_to_list, is_some}
-use Rattle.std.specs.declared.ops.Range.{Range}
+use Rattle.std.proofs.Common.{◌≡◌, ℕ, ℤ, ◌+◌, ◌-◌, ◌<◌, ◌≤◌, List, [], ◌∷◌, ◌++◌, take, drop, length, Bool, true, false, Option, Some, None, option_map, refl, sym, ap, subst, ◌∙◌, arith, append_assoc, append-nil, length-append, length-take, length-drop, option_to_list, is_some}
+use Rattle.i_shape.proofs.Common.{Width, Range, Point, contour_of, IntPoint, slot, IsWritten, Grows}
 use Rattle.std.proofs.lemmas.List.{take-take, take-append-le, length-take-le}
 use Rattle.std.proofs.Math.Seq.{take-append_seam, take-append-add}
-use Rattle.i_shape_core.specs.Point.{Point}
-use Rattle.i_shape_core.specs.IntPoint.{contour_of}
-use Rattle.i_shape_core.specs.declared.point.IntPoint.{IntPoint}
-use Rattle.i_shape_core.specs.Written.{slot, IsWritten}
-use Rattle.i_shape.specs.AppendedAnswers.{Grows}
 
 -- the front of a list that was written over behind its first items
 pub written_behind : {X : Type 0} (points contour whole written behind rest after : List X) (start n room : ℕ) → start ≡ length points → whole ≡ points ++ contour → n ≤ length written → start + length written ≤ room

@@ -1,13 +1,9 @@
 -- Lists end to end, and the ranges that name them.
-use Rattle.std.proofs.Common.{suc, ◌-◌, add-zero, ◌≡◌, ℕ, ◌+◌, ◌<◌, ◌≤◌, List, [], ◌∷◌, ◌++◌, length, get_or, take, drop, map, refl, sym, ap, ◌∙◌, append_assoc, arith, length-append}
+use Rattle.std.proofs.Common.{suc, ◌-◌, add-zero, ◌≡◌, ℕ, ◌+◌, ◌<◌, ◌≤◌, List, [], ◌∷◌, ◌++◌, length, get_or, take, drop, map, refl, sym, ap, ◌∙◌, append_assoc, arith, length-append, All}
 use Rattle.std.proofs.lemmas.List.{length-map, map-append, take-append-drop, take_at, drop_at, append-nil}
-use Rattle.std.specs.declared.ops.Range.{Range}
-use Rattle.std.specs.Global.{Vec}
-use Rattle.std.specs.List.{All}
+use Rattle.i_shape.proofs.Common.{Vec, Range, paths_of_shape, concatenated, InOrder, part_of, slices, end_to_end}
 use Rattle.std.proofs.lemmas.List.Elements.{All-cons, All-nil}
 use Rattle.i_shape_core.proofs.lists.Mapped.{take_one_more}
-use Rattle.i_shape_source.specs.Paths.{paths_of_shape, concatenated}
-use Rattle.i_shape.specs.Flat.{InOrder, part_of, slices, end_to_end}
 
 -- two lists of parts, concatenated one after the other
 pub concatenated-append : {P : Type 0} (cs ds : List (List P)) → concatenated (cs ++ ds) ≡ concatenated cs ++ concatenated ds

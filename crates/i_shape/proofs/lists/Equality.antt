@@ -1,8 +1,7 @@
 -- What comparing two lists member by member says.
 use Rattle.std.proofs.Common.{◌≡◌, ℕ, ◌==◌, ◌&&◌, Bool, IsTrue, Decides, List, [], ◌∷◌, refl, sym, ap, subst}
-use Rattle.std.specs.List.{AllZip}
+use Rattle.i_shape.proofs.Common.{AllZip, Range}
 use Rattle.std.specs.Cmp.Lexicographic.{pointwise}
-use Rattle.std.specs.declared.ops.Range.{Range}
 use Rattle.std.proofs.lemmas.Bool.Decides.{Decides-and, Decides-like, Decides-eqb}
 use Rattle.std.proofs.lemmas.List.Elements.{same_from_all_zip}
 

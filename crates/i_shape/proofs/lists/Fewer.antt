@@ -1,8 +1,7 @@
 -- Sums over lists end to end.
-use Rattle.std.proofs.Common.{◌≡◌, ℕ, List, [], ◌∷◌, length, length-append, refl, arith}
-use Rattle.std.specs.List.{sum_by}
+use Rattle.std.proofs.Common.{◌≡◌, ℕ, List, [], ◌∷◌, length, length-append, refl, arith, sum_by}
 use Rattle.std.proofs.lemmas.List.Sums.{sum_by-cons, sum_by-append}
-use Rattle.i_shape_source.specs.Paths.{concatenated}
+use Rattle.i_shape.proofs.Common.{concatenated}
 
 -- a number for each item, summed up over lists end to end
 pub sum_by-concatenated : {X : Type 0} (f : X → ℕ) (lists : List (List X)) → sum_by f (concatenated lists) ≡ sum_by (λ list. sum_by f list) lists

@@ -1,9 +1,7 @@
 -- Where two members have equal answers exactly where they are related, the sorted answers of two lists are one list exactly where the members that have answers are matched.
-use Rattle.std.proofs.Common.{◌≡◌, ◌↔◌, List, [], ◌∷◌, Option, Some, None, refl, sym, subst, ◌∙◌, IsPermutation}
-use Rattle.std.specs.List.{AllZip, filter_map}
+use Rattle.std.proofs.Common.{◌≡◌, ◌↔◌, List, [], ◌∷◌, Option, Some, None, refl, sym, subst, ◌∙◌, IsPermutation, filter_map}
+use Rattle.i_shape.proofs.Common.{AllZip, Survivors, Stays, MatchedUncollapsed, SortedForms}
 use Rattle.std.proofs.lemmas.List.Sorted.{IsPermutation-sym, IsPermutation-trans}
-use Rattle.i_shape.specs.ShapeAnswers.{Survivors}
-use Rattle.i_shape.specs.CanonicalShapes.{Stays, MatchedUncollapsed, SortedForms}
 use Rattle.i_shape_core.proofs.lists.Survivors.{survivors-none}
 use Rattle.i_shape.proofs.lists.Surviving.{survivors_each, survivors_gone, survivors_left}
 use Rattle.i_shape.proofs.lists.Permutations.{follows_permutation}

@@ -1,6 +1,6 @@
 -- What holds along permutations.
 use Rattle.std.proofs.Common.{ℕ, zero, suc, ◌<◌, List, [], ◌∷◌, length, get_or, set, swap, arith, IsPermutation}
-use Rattle.std.specs.List.{AllZip}
+use Rattle.i_shape.proofs.Common.{AllZip}
 use Rattle.std.proofs.lemmas.List.Sorted.{IsPermutation-refl, IsPermutation-keeps, IsPermutation-cons, IsPermutation-middle, IsPermutation-trans}
 
 -- A relation holds along each permutation if it is reflexive and transitive, and goes under a head and over an exchange of two heads.

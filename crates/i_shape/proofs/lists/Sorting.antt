@@ -1,6 +1,5 @@
 -- Each list can be put in order.
-use Rattle.std.proofs.Common.{◌⊎◌, zero, suc, List, [], ◌∷◌, inl, inr, arith, IsPermutation}
-use Rattle.std.specs.List.{All, AllPairs}
+use Rattle.std.proofs.Common.{◌⊎◌, zero, suc, List, [], ◌∷◌, inl, inr, arith, IsPermutation, All, AllPairs}
 use Rattle.std.proofs.lemmas.List.Elements.{All-cons, All-weaker}
 use Rattle.std.proofs.lemmas.List.Sorted.{IsPermutation-refl, IsPermutation-cons, IsPermutation-middle, IsPermutation-trans, All-permutation}
 use Rattle.i_shape.proofs.lists.Uniqueness.{pairs_tail, pairs_head}

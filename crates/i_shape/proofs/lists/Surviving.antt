@@ -1,12 +1,10 @@
 -- Steps of a loop over the members of a list that is read through a function: what holds of them all, and what is left of them.
-use Rattle.std.proofs.Common.{◌≡◌, ℕ, ◌+◌, ◌<◌, List, [], ◌∷◌, ◌++◌, length, get_or, take, map, sym, ap, ◌∙◌, subst, Option, Some, None}
-use Rattle.std.specs.List.{All, AllZip, filter_map}
-use Rattle.std.specs.Option.{option_to_list}
+use Rattle.std.proofs.Common.{◌≡◌, ℕ, ◌+◌, ◌<◌, List, [], ◌∷◌, ◌++◌, length, get_or, take, map, sym, ap, ◌∙◌, subst, Option, Some, None, All, filter_map, option_to_list}
+use Rattle.i_shape.proofs.Common.{AllZip, Survivors}
 use Rattle.std.proofs.lemmas.List.{get_or_default, get_or-map, length-map, map-append}
 use Rattle.std.proofs.lemmas.List.Elements.{All-nil, All-cons, All-head, All-tail, All-push}
 use Rattle.i_shape_core.proofs.lists.Mapped.{take_one_more}
 use Rattle.i_shape_core.proofs.lists.Survivors.{survivors-none, survivors-push}
-use Rattle.i_shape.specs.ShapeAnswers.{Survivors}
 
 -- the member that is read at a place within the list stands there
 pub same_read : {X : Type 0} (xs : List X) (i : ℕ) (d : X) → i < length xs → get_or xs i d ≡ get_or xs i (get_or xs i d)

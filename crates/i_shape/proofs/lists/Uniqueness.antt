@@ -1,6 +1,5 @@
 -- Two permutations of each other that are in order are one list.
-use Rattle.std.proofs.Common.{◌≡◌, ◌+◌, ◌<◌, ℕ, suc, List, [], ◌∷◌, refl, sym, ap, subst, arith, IsPermutation}
-use Rattle.std.specs.List.{All, AllPairs, sum_by}
+use Rattle.std.proofs.Common.{◌≡◌, ◌+◌, ◌<◌, ℕ, suc, List, [], ◌∷◌, refl, sym, ap, subst, arith, IsPermutation, All, AllPairs, sum_by}
 use Rattle.std.proofs.lemmas.List.Elements.{All-cons, All-head, All-tail}
 use Rattle.std.proofs.lemmas.List.Sums.{sum_by-cons}
 use Rattle.std.proofs.lemmas.List.Sorted.{sum_by-IsPermutation}

@@ -1,10 +1,8 @@
 -- Sums over the items of a list that wrap at each item, and counts.
-use Rattle.std.proofs.Common.{◌≡◌, ℕ, ◌+◌, ◌*◌, ◌^◌, ◌<◌, ℤ, pos, neg_ℤ, ◌+ℤ◌, ◌-ℤ◌, ◌≤ℤ◌, List, map, length, drop, get_or, FitsSigned, w64, sym, ap, ◌∙◌, arith}
+use Rattle.std.proofs.Common.{◌≡◌, ℕ, ◌+◌, ◌*◌, ◌^◌, ◌<◌, ℤ, pos, neg_ℤ, ◌+ℤ◌, ◌-ℤ◌, ◌≤ℤ◌, List, map, length, drop, get_or, FitsSigned, w64, sym, ap, ◌∙◌, arith, sum_by}
 use Rattle.std.proofs.lemmas.Int.{ints, int_wrap-add_left, int_wrap-add_right}
 use Rattle.std.proofs.lemmas.List.Sums.{sum_by-cons}
-use Rattle.std.specs.Int.{Width, int_wrap, w128}
-use Rattle.std.specs.List.{sum_by}
-use Rattle.i_shape.specs.ShapeAnswers.{sum_of}
+use Rattle.i_shape.proofs.Common.{Width, int_wrap, w128, sum_of}
 use Rattle.i_shape_core.proofs.plane.Contours.{drop-read}
 use Rattle.i_shape_core.proofs.arithmetic.Products.{fits-reach, reach-fits}
 

@@ -1,30 +1,14 @@
 -- The forms of shapes and of lists of shapes, by any form of contours: where two are one, that there is one, that it is its own form, and what it keeps.
-use Rattle.std.proofs.Common.{◌≡◌, ◌↔◌, ◌⊎◌, inl, inr, ℕ, ℤ, ◌+ℤ◌, neg_ℤ, ◌%◌, nat_abs, map, List, [], ◌∷◌, Option, Some, None, IfSome, Result, Ok, Err, IfOk, refl, sym, ap, ◌∙◌, arith, IsPermutation}
-use Rattle.std.specs.List.{All, sum_by, count_by}
-use Rattle.std.specs.Int.{Width}
+use Rattle.std.proofs.Common.{◌≡◌, ◌↔◌, ◌⊎◌, inl, inr, ℕ, ℤ, ◌+ℤ◌, neg_ℤ, ◌%◌, nat_abs, map, List, [], ◌∷◌, Option, Some, None, IfSome, Result, Ok, Err, IfOk, refl, sym, ap, ◌∙◌, arith, IsPermutation, All, sum_by, count_by, IsOkUnless}
+use Rattle.i_shape.proofs.Common.{Vec, Width, Point, IsZeroTurn, IsSafe, answered, OkUnlessMemory, IntPoint, ShapeError, OutOfMemory, edges, is_right, shoelace, Inside, winding, EachEndCollapses, IsAtMost, CanonicalAnswer, Joined, UnorientedAnswer, IsKeptEitherWay, JoinedEitherWay, Survivors, sum_of, shape_winding, inside_count, ShapeClean, AreKept, shape_of, shapes_of, IsSafeShape, IsSafeList, FormsShapeTo, FormsListTo, SortedForms, ShapeForm, ListForm, IsShapeAtMost, OuterCollapses, SameShape, OneShapeForm, OneListForm, HasShapeForm, HasListForm, AreKeptEitherWay, FormsKept}
 use Rattle.std.proofs.lemmas.Int.{ints}
 use Rattle.std.proofs.lemmas.List.Sums.{sum_by-cons}
 use Rattle.std.proofs.lemmas.List.Sorted.{All-permutation, IsPermutation-refl, IsPermutation-cons, sum_by-IsPermutation}
-use Rattle.i_shape_core.specs.Point.{Point, IsZeroTurn}
-use Rattle.i_shape_core.specs.IntPoint.{IsSafe, answered}
-use Rattle.i_shape_core.specs.Refusals.{OkUnlessMemory}
-use Rattle.i_shape_core.specs.declared.point.IntPoint.{IntPoint}
-use Rattle.i_shape_core.specs.declared.error.ShapeError.{ShapeError}
-use Rattle.i_shape_core.specs.declared.error.ShapeError.TheVariants.{OutOfMemory}
-use Rattle.std.specs.Global.{Vec}
-use Rattle.std.specs.Result.{IsOkUnless}
-use Rattle.i_shape_core.specs.Edges.{edges, is_right, shoelace, Inside}
-use Rattle.i_shape_core.specs.Winding.{winding}
 use Rattle.i_shape_core.specs.Moves.{moved, scaling}
-use Rattle.i_shape_core.specs.Cleaners.{EachEndCollapses}
-use Rattle.i_shape_core.specs.Canonical.{IsAtMost, CanonicalAnswer, Joined, UnorientedAnswer, IsKeptEitherWay, JoinedEitherWay}
 use Rattle.i_shape_core.proofs.arithmetic.WholeNumbers.{add_swap}
 use Rattle.i_shape_core.proofs.least_rotation.Order.{at_most_refl, at_most_total, at_most_trans, at_most_antisym}
 use Rattle.i_shape_core.proofs.lists.Survivors.{survivors-none}
 use Rattle.i_shape_core.proofs.forms.Unoriented.{canonical_uncollapsed, canonical_one, has_canonical, canonical_again, canonical_kept, unoriented_uncollapsed, unoriented_one, has_unoriented, unoriented_again, unoriented_kept}
-use Rattle.i_shape.specs.ShapeAnswers.{Survivors, sum_of, shape_winding, inside_count, ShapeClean, AreKept}
-use Rattle.i_shape.specs.ShapeLists.{shape_of, shapes_of, IsSafeShape, IsSafeList}
-use Rattle.i_shape.specs.CanonicalShapes.{FormsShapeTo, FormsListTo, SortedForms, ShapeForm, ListForm, IsShapeAtMost, OuterCollapses, SameShape, OneShapeForm, OneListForm, HasShapeForm, HasListForm, AreKeptEitherWay, FormsKept}
 use Rattle.i_shape.proofs.lists.Surviving.{survivors_gone, survivors_left, survivors_each, survivors_weaker, survivors_stay, survivors_have}
 use Rattle.i_shape.proofs.shapes.Kept.{edges_parity, same_parity, shape_keeps, shape_safe}
 use Rattle.i_shape.proofs.lists.Permutations.{along_permutation}

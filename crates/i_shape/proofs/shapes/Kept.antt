@@ -1,17 +1,10 @@
 -- What the answers of a cleaner keep of contours together, of shapes and of lists.
-use Rattle.std.proofs.Common.{◌≡◌, ℕ, ◌+◌, ◌%◌, ◌↔◌, ◌≤◌, List, [], ◌∷◌, refl, sym, ◌∙◌, arith, Option, Some, None, IfSome}
-use Rattle.std.specs.List.{All, count_by}
-use Rattle.std.specs.Int.{Width}
+use Rattle.std.proofs.Common.{◌≡◌, ℕ, ◌+◌, ◌%◌, ◌↔◌, ◌≤◌, List, [], ◌∷◌, refl, sym, ◌∙◌, arith, Option, Some, None, IfSome, All, count_by}
+use Rattle.i_shape.proofs.Common.{Width, Point, IsSafe, edges, is_right, Inside, IsKept, IsFlat, KeptAnswer, Survivors, inside_count, ShapeClean, ListClean, EachContour, AreKept, ListKept, IsSafeShape, IsSafeList}
 use native.Mathlib.Decide.{dec_le}
 use Rattle.std.proofs.lemmas.Int.{ints}
 use Rattle.std.proofs.lemmas.List.Sums.{sum_by-cons}
 use Rattle.std.proofs.lemmas.List.Elements.{All-cons, All-head, All-tail}
-use Rattle.i_shape_core.specs.Point.{Point}
-use Rattle.i_shape_core.specs.IntPoint.{IsSafe}
-use Rattle.i_shape_core.specs.Edges.{edges, is_right, Inside}
-use Rattle.i_shape_core.specs.Cleaners.{IsKept, IsFlat, KeptAnswer}
-use Rattle.i_shape.specs.ShapeAnswers.{Survivors, inside_count, ShapeClean, ListClean, EachContour, AreKept, ListKept}
-use Rattle.i_shape.specs.ShapeLists.{IsSafeShape, IsSafeList}
 use Rattle.i_shape.proofs.lists.Surviving.{survivors_each, survivors_weaker, survivors_stay, survivors_have}
 
 -- the number of edges to the right of p, modulo 2

@@ -1,10 +1,8 @@
 -- The order of shapes, contour by contour.
 use Rattle.std.proofs.Common.{◌≡◌, ◌⊎◌, inl, inr, List, [], ◌∷◌, refl, sym, ◌∙◌, subst}
-use Rattle.i_shape_core.specs.Point.{Point}
-use Rattle.i_shape_core.specs.Canonical.{IsAtMost}
+use Rattle.i_shape.proofs.Common.{Point, IsAtMost, IsShapeAtMost}
 use Rattle.i_shape_core.proofs.removal.Repeats.{same_decided}
 use Rattle.i_shape_core.proofs.least_rotation.Order.{at_most_total, at_most_trans, at_most_antisym}
-use Rattle.i_shape.specs.CanonicalShapes.{IsShapeAtMost}
 
 -- equality of lists and so on is decided
 module _ {X : Type 0} (decide : (x y : X) → Dec (x ≡ y)) where

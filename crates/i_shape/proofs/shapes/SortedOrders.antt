@@ -1,16 +1,12 @@
 -- Lists that a sort has put in order, read as lists of contours and of shapes.
-use Rattle.std.proofs.Common.{◌≡◌, inl, inr, ◌<◌, List, [], ◌∷◌, length, get_or, map, false, true≢false, sym, arith, IsSorted}
+use Rattle.std.proofs.Common.{◌≡◌, inl, inr, ◌<◌, List, [], ◌∷◌, length, get_or, map, false, true≢false, sym, arith, IsSorted, AllPairs, Ordering, Less, Equal, Greater}
 use Rattle.std.specs.Cmp.{IsTotalOrder}
 use Rattle.std.specs.Cmp.Lexicographic.{slice_cmp}
-use Rattle.std.specs.List.{AllPairs}
 use Rattle.std.specs.Ordering.{MatchOrdering, ordering_then, is_lt}
-use Rattle.std.specs.declared.cmp.Ordering.{Ordering}
-use Rattle.std.specs.declared.cmp.Ordering.TheVariants.{Less, Equal, Greater}
 use Rattle.std.proofs.lemmas.List.{get_or-map, length-map}
 use Rattle.std.proofs.lemmas.List.Sorted.{ranks_by, sorted_far}
-use Rattle.i_shape_core.specs.Point.{Point}
+use Rattle.i_shape.proofs.Common.{Point, IsShapeAtMost}
 use Rattle.i_shape_core.proofs.forms.ContourOrder.{Tells, IsContourBefore}
-use Rattle.i_shape.specs.CanonicalShapes.{IsShapeAtMost}
 
 module _ {X : Type 0} (cmp : X → X → Ordering) (f : X → List Point) (told : Tells cmp f IsContourBefore) where
   -- a list of contours that isn't greater than another is at most that

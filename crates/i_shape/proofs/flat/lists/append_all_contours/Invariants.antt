@@ -1,6 +1,5 @@
 use Rattle.std.proofs.Common.{◌≡◌, ◌+◌, ◌≤◌, ◌++◌, length, take, vec_len, vec_capacity}
-use Rattle.i_shape_source.specs.Paths.{concatenated, paths_of_shapes}
-use Rattle.i_shape.specs.Flat.{end_to_end}
+use Rattle.i_shape.proofs.Common.{concatenated, paths_of_shapes, end_to_end}
 use Rattle.i_shape.proofs.flat.lists.append_all_contours.Given as goal
 
 abbrev pub invariant-loop-shape : goal.invariant-loop-shape

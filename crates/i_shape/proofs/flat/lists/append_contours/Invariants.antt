@@ -1,6 +1,5 @@
 use Rattle.std.proofs.Common.{◌≡◌, ◌+◌, ◌≤◌, ◌++◌, length, take, vec_len, vec_capacity}
-use Rattle.i_shape_source.specs.Paths.{paths_of_shape, concatenated}
-use Rattle.i_shape.specs.Flat.{end_to_end}
+use Rattle.i_shape.proofs.Common.{paths_of_shape, concatenated, end_to_end}
 use Rattle.i_shape.proofs.flat.lists.append_contours.Given as goal
 
 abbrev pub invariant-loop-contour : goal.invariant-loop-contour

@@ -1,5 +1,5 @@
 use Rattle.std.proofs.Common.{◌≡◌, length, take}
-use Rattle.i_shape_source.specs.Paths.{concatenated, paths_of_shapes}
+use Rattle.i_shape.proofs.Common.{concatenated, paths_of_shapes}
 use Rattle.i_shape.proofs.flat.lists.checked_counts.Given as goal
 
 abbrev pub invariant-loop-shape : goal.invariant-loop-shape

@@ -1,6 +1,5 @@
 use Rattle.std.proofs.Common.{◌≡◌, take}
-use Rattle.i_shape_source.specs.Paths.{paths_of_shape}
-use Rattle.i_shape.specs.Flat.{slices}
+use Rattle.i_shape.proofs.Common.{paths_of_shape, slices}
 use Rattle.i_shape.proofs.flat.lists.copied_parts.Given as goal
 
 abbrev pub invariant-loop-range : goal.invariant-loop-range

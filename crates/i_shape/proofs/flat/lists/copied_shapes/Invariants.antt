@@ -1,6 +1,5 @@
 use Rattle.std.proofs.Common.{◌≡◌, take}
-use Rattle.i_shape_source.specs.Paths.{shape_lists}
-use Rattle.i_shape.specs.Flat.{shapes}
+use Rattle.i_shape.proofs.Common.{shape_lists, shapes}
 use Rattle.i_shape.proofs.flat.lists.copied_shapes.Given as goal
 
 abbrev pub invariant-loop-range : goal.invariant-loop-range

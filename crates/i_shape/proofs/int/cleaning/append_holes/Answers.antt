@@ -1,9 +1,5 @@
-use Rattle.std.proofs.Common.{◌++◌, ◌∙◌, ap, append_assoc, append-nil, sym, []}
-use Rattle.std.specs.List.{All}
-use Rattle.std.specs.Option.{option_to_list}
-use Rattle.std.proofs.lemmas.List.{take_all}
-use Rattle.i_shape_core.specs.IntPoint.{contour_of, IsSafe}
-use Rattle.i_shape.specs.ShapeLists.{shape_of}
+use Rattle.std.proofs.Common.{◌++◌, ◌∙◌, ap, append_assoc, append-nil, sym, [], All, option_to_list, take_all}
+use Rattle.i_shape.proofs.Common.{contour_of, IsSafe, shape_of}
 use Rattle.i_shape_core.proofs.lists.Survivors.{survivors-none}
 use Rattle.i_shape.proofs.lists.Surviving.{mapped-read, survivors-more}
 use Rattle.i_shape.proofs.int.cleaning.append_holes.Goals as goal

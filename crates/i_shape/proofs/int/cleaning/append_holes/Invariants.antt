@@ -1,7 +1,5 @@
 use Rattle.std.proofs.Common.{◌≡◌, ◌++◌, List, take}
-use Rattle.i_shape_core.specs.Point.{Point}
-use Rattle.i_shape.specs.ShapeAnswers.{Survivors}
-use Rattle.i_shape.specs.ShapeLists.{shape_of}
+use Rattle.i_shape.proofs.Common.{Point, Survivors, shape_of}
 use Rattle.i_shape.proofs.int.cleaning.append_holes.Given as goal
 
 abbrev pub invariant-loop-contour : goal.invariant-loop-contour

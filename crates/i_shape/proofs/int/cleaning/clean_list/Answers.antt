@@ -1,6 +1,5 @@
-use Rattle.std.proofs.lemmas.List.{take_all}
-use Rattle.i_shape.specs.ShapeLists.{shape_of, shapes_of, IsSafeShape}
-use Rattle.i_shape.specs.ShapeAnswers.{ShapeClean}
+use Rattle.std.proofs.Common.{take_all}
+use Rattle.i_shape.proofs.Common.{shape_of, shapes_of, IsSafeShape, ShapeClean}
 use Rattle.i_shape.proofs.lists.Surviving.{mapped-read, survivors-more}
 use Rattle.i_shape.proofs.shapes.Kept.{list_keeps, list_safe}
 use Rattle.i_shape.proofs.int.cleaning.clean_list.Goals as goal

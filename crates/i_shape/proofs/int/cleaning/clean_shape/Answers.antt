@@ -1,10 +1,7 @@
-use Rattle.std.proofs.Common.{rules, arith, Some}
+use Rattle.std.proofs.Common.{rules, arith, Some, All}
 use Rattle.std.proofs.lemmas.Grind.{common_steps}
-use Rattle.std.specs.List.{All}
 use Rattle.std.proofs.lemmas.List.Elements.{All-head, All-tail}
-use Rattle.i_shape_core.specs.IntPoint.{contour_of, IsSafe}
-use Rattle.i_shape.specs.ShapeLists.{shape_of}
-use Rattle.i_shape.specs.ShapeAnswers.{ShapeClean}
+use Rattle.i_shape.proofs.Common.{contour_of, IsSafe, shape_of, ShapeClean}
 use Rattle.i_shape.proofs.shapes.Kept.{shape_keeps, shape_safe}
 use Rattle.i_shape.proofs.int.cleaning.clean_shape.Goals as goal
 

@@ -1,8 +1,6 @@
-use Rattle.std.proofs.Common.{refl, sym, ◌∙◌}
+use Rattle.std.proofs.Common.{refl, sym, ◌∙◌, take_all}
 use Rattle.std.proofs.lemmas.Bool.{false≢true}
-use Rattle.std.proofs.lemmas.List.{take_all}
-use Rattle.i_shape.specs.ShapeLists.{shape_of, IsSafeShape}
-use Rattle.i_shape.specs.ShapeAnswers.{EachContour}
+use Rattle.i_shape.proofs.Common.{shape_of, IsSafeShape, EachContour}
 use Rattle.i_shape.proofs.lists.Surviving.{mapped-read, mapped-more}
 use Rattle.i_shape.proofs.int.cleaning.is_clean_list.Goals as goal
 

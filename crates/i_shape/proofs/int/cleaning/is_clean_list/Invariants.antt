@@ -1,6 +1,5 @@
 use Rattle.std.proofs.Common.{take}
-use Rattle.i_shape.specs.ShapeLists.{shapes_of}
-use Rattle.i_shape.specs.ShapeAnswers.{EachShape}
+use Rattle.i_shape.proofs.Common.{shapes_of, EachShape}
 use Rattle.i_shape.proofs.int.cleaning.is_clean_list.Given as goal
 
 abbrev pub invariant-loop-shape : goal.invariant-loop-shape

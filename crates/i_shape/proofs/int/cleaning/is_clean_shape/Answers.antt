@@ -1,8 +1,6 @@
-use Rattle.std.proofs.Common.{refl, sym, ◌∙◌}
-use Rattle.std.specs.List.{All}
+use Rattle.std.proofs.Common.{refl, sym, ◌∙◌, All, take_all}
 use Rattle.std.proofs.lemmas.Bool.{false≢true}
-use Rattle.std.proofs.lemmas.List.{take_all}
-use Rattle.i_shape_core.specs.IntPoint.{contour_of, IsSafe}
+use Rattle.i_shape.proofs.Common.{contour_of, IsSafe}
 use Rattle.i_shape.proofs.lists.Surviving.{mapped-read, mapped-more}
 use Rattle.i_shape.proofs.int.cleaning.is_clean_shape.Goals as goal
 

@@ -1,6 +1,5 @@
 use Rattle.std.proofs.Common.{take}
-use Rattle.i_shape.specs.ShapeLists.{shape_of}
-use Rattle.i_shape.specs.ShapeAnswers.{EachContour}
+use Rattle.i_shape.proofs.Common.{shape_of, EachContour}
 use Rattle.i_shape.proofs.int.cleaning.is_clean_shape.Given as goal
 
 abbrev pub invariant-loop-contour : goal.invariant-loop-contour

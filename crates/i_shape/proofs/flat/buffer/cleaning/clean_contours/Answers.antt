@@ -1,9 +1,6 @@
-use Rattle.std.proofs.Common.{rules, ◌≡◌, ap, ◌∙◌, IsTrue, Err}
-use Rattle.std.specs.List.{All}
+use Rattle.std.proofs.Common.{rules, ◌≡◌, ap, ◌∙◌, IsTrue, Err, All}
 use Rattle.std.proofs.lemmas.Result.{err_from_is_err_and}
-use Rattle.i_shape_core.specs.declared.error.ShapeError.TheVariants.{TooManyPoints}
-use Rattle.i_shape.specs.ShapeAnswers.{Survivors}
-use Rattle.i_shape.specs.Buffers.{contours_in}
+use Rattle.i_shape.proofs.Common.{TooManyPoints, Survivors, contours_in}
 use Rattle.i_shape.proofs.lists.Surviving.{survivors_stay}
 use Rattle.i_shape.proofs.shapes.Kept.{survivors_keep, survivors_safe}
 use Rattle.i_shape.proofs.flat.buffer.cleaning.clean_contours.Goals as goal

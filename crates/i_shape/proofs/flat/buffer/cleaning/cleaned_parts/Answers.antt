@@ -1,6 +1,5 @@
 use Rattle.std.proofs.Common.{ap, map}
-use Rattle.i_shape_core.specs.IntPoint.{contour_of}
-use Rattle.i_shape.specs.declared.flat.buffer.contours.FlatContoursBuffer.{FlatContoursBuffer}
+use Rattle.i_shape.proofs.Common.{contour_of, FlatContoursBuffer}
 use Rattle.i_shape.proofs.buffers.CleanedShapes.{grown_held, held_slices}
 use Rattle.i_shape.proofs.flat.buffer.cleaning.cleaned_parts.Goals as goal
 

@@ -1,6 +1,5 @@
 use Rattle.std.proofs.Common.{◌≡◌, ◌+◌, ◌≤◌, ◌++◌, length, map, vec_len, vec_capacity}
-use Rattle.i_shape_source.specs.Paths.{path_of, concatenated}
-use Rattle.i_shape.specs.Flat.{end_to_end}
+use Rattle.i_shape.proofs.Common.{path_of, concatenated, end_to_end}
 use Rattle.i_shape.proofs.flat.float.fill.append_paths.Given as goal
 
 abbrev pub invariant-loop-path : goal.invariant-loop-path

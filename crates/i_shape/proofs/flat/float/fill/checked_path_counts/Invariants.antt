@@ -1,5 +1,5 @@
 use Rattle.std.proofs.Common.{◌≡◌, length, map}
-use Rattle.i_shape_source.specs.Paths.{path_of, concatenated}
+use Rattle.i_shape.proofs.Common.{path_of, concatenated}
 use Rattle.i_shape.proofs.flat.float.fill.checked_path_counts.Given as goal
 
 abbrev pub invariant-loop-path : goal.invariant-loop-path

@@ -1,8 +1,5 @@
 use Rattle.std.proofs.Common.{◌∙◌, ap, subst, sym}
-use Rattle.std.specs.Int.{int_wrap}
-use Rattle.i_shape.specs.IntPoint.{contour_of}
-use Rattle.i_shape.specs.Edges.{shoelace}
-use Rattle.i_shape.specs.ShapeAnswers.{HasPoints}
+use Rattle.i_shape.proofs.Common.{int_wrap, contour_of, shoelace, HasPoints}
 use Rattle.i_shape.proofs.lists.Surviving.{mapped-read}
 use Rattle.i_shape.proofs.lists.WrappedSums.{sum-more}
 use Rattle.i_shape.proofs.int.area.RefSliceIntContourArea.area_two.Goals as goal

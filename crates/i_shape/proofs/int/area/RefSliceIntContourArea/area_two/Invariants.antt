@@ -1,5 +1,4 @@
-use Rattle.i_shape.specs.IntPoint.{contour_of}
-use Rattle.i_shape.specs.Edges.{shoelace}
+use Rattle.i_shape.proofs.Common.{contour_of, shoelace}
 use Rattle.i_shape.proofs.lists.WrappedSums.{IsSummedUp}
 use Rattle.i_shape.proofs.int.area.RefSliceIntContourArea.area_two.Given as goal
 

@@ -1,8 +1,5 @@
-use Rattle.std.proofs.Common.{◌∙◌, ap, subst, sym}
-use Rattle.std.specs.Int.{int_wrap}
-use Rattle.std.specs.List.{All}
-use Rattle.i_shape.specs.ShapeLists.{shape_of}
-use Rattle.i_shape.specs.ShapeAnswers.{HasPoints, shape_shoelace}
+use Rattle.std.proofs.Common.{◌∙◌, ap, subst, sym, All}
+use Rattle.i_shape.proofs.Common.{int_wrap, shape_of, HasPoints, shape_shoelace}
 use Rattle.i_shape.proofs.lists.Surviving.{mapped-read}
 use Rattle.i_shape.proofs.lists.WrappedSums.{sum-more}
 use Rattle.i_shape.proofs.int.area.RefSliceIntShapeArea.area_two.Goals as goal

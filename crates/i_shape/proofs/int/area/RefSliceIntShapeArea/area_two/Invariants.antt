@@ -1,5 +1,4 @@
-use Rattle.i_shape.specs.ShapeLists.{shape_of}
-use Rattle.i_shape.specs.ShapeAnswers.{shape_shoelace}
+use Rattle.i_shape.proofs.Common.{shape_of, shape_shoelace}
 use Rattle.i_shape.proofs.lists.WrappedSums.{IsSummedUp}
 use Rattle.i_shape.proofs.int.area.RefSliceIntShapeArea.area_two.Given as goal
 

@@ -1,5 +1,4 @@
-use Rattle.std.proofs.Common.{vec_len}
-use Rattle.std.specs.List.{sum_by}
+use Rattle.std.proofs.Common.{vec_len, sum_by}
 use Rattle.i_shape.proofs.lists.WrappedSums.{IsCounted}
 use Rattle.i_shape.proofs.int.count.RefSliceIntShapePointsCount.points_count.Given as goal
 

@@ -1,5 +1,5 @@
 use Rattle.std.proofs.Common.{arith, ap}
-use Rattle.i_shape_core.specs.IntPoint.{contour_of}
+use Rattle.i_shape.proofs.Common.{contour_of}
 use Rattle.i_shape_core.proofs.plane.Contours.{refuted_by_test}
 use Rattle.i_shape.proofs.in_place.Spikes.{spikeless_stays_in_place, spikes_collapse}
 use Rattle.i_shape.proofs.int.despike.IntContourDeSpike.remove_spikes.Goals as goal

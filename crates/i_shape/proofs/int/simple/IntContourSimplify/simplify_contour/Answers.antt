@@ -1,8 +1,6 @@
 use Rattle.std.proofs.Common.{rules, arith, ap}
 use Rattle.std.proofs.lemmas.Grind.{common_steps}
-use Rattle.i_shape_core.specs.IntPoint.{contour_of}
-use Rattle.i_shape_core.specs.Contour.{IsSimple}
-use Rattle.i_shape_core.specs.Cleaners.{SimpleAnswer}
+use Rattle.i_shape.proofs.Common.{contour_of, IsSimple, SimpleAnswer}
 use Rattle.i_shape_core.proofs.answers.Kept.{keeps_itself, collapsed_flat}
 use Rattle.i_shape_core.proofs.walks.Found.{simple_stays}
 use Rattle.i_shape_core.proofs.plane.Contours.{refuted_by_test}

@@ -1,8 +1,7 @@
-use Rattle.std.proofs.Common.{◌≡◌, ◌∙◌, [], ap, subst, sym, refl, map, get_or, IsTrue, arith, inl, inr}
-use Rattle.std.specs.List.{All}
+use Rattle.std.proofs.Common.{◌≡◌, ◌∙◌, [], ap, subst, sym, refl, map, get_or, IsTrue, arith, inl, inr, All}
 use Rattle.std.proofs.lemmas.Bool.{cases_eq}
 use Rattle.std.proofs.lemmas.List.{get_or-map, length-map}
-use Rattle.i_shape.specs.IntPoint.{point_of, contour_of, IsSafe}
+use Rattle.i_shape.proofs.Common.{point_of, contour_of, IsSafe}
 use Rattle.i_shape.specs.Boundary.{IsOnEdge}
 use Rattle.i_shape.proofs.lists.Surviving.{mapped-read}
 use Rattle.i_shape.proofs.int.winding.RefSliceIntContourShapeExtension.is_on_boundary.Goals as goal

@@ -1,6 +1,5 @@
 use Rattle.std.proofs.Common.{ℕ, ◌<◌, [], get_or}
-use Rattle.i_shape.specs.IntPoint.{point_of}
-use Rattle.i_shape.specs.ShapeLists.{shape_of}
+use Rattle.i_shape.proofs.Common.{point_of, shape_of}
 use Rattle.i_shape.specs.Boundary.{IsOnEdge}
 use Rattle.i_shape.proofs.int.winding.RefSliceIntContourShapeExtension.is_on_boundary.Given as goal
 

@@ -1,5 +1,4 @@
-use Rattle.i_shape.specs.IntPoint.{point_of, contour_of}
-use Rattle.i_shape.specs.Winding.{winding}
+use Rattle.i_shape.proofs.Common.{point_of, contour_of, winding}
 use Rattle.i_shape.proofs.lists.WrappedSums.{IsSummedFar}
 use Rattle.i_shape.proofs.int.winding.RefSliceIntContourShapeExtension.winding_number.Given as goal
 

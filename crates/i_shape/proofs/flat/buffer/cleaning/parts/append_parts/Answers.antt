@@ -1,13 +1,8 @@
-use Rattle.std.proofs.Common.{◌≡◌, ℕ, ◌++◌, ◌∙◌, ap, get_or, option_map}
-use Rattle.std.specs.List.{All}
-use Rattle.std.specs.Option.{option_to_list}
-use Rattle.std.specs.declared.ops.Range.{Range}
+use Rattle.std.proofs.Common.{◌≡◌, ℕ, ◌++◌, ◌∙◌, ap, get_or, option_map, All, option_to_list}
+use Rattle.i_shape.proofs.Common.{Range, contour_of, IsSafe, Survivors, contours_of}
 use Rattle.std.proofs.lemmas.List.{get_or_default, map-append}
-use Rattle.i_shape_core.specs.IntPoint.{contour_of, IsSafe}
-use Rattle.i_shape.specs.ShapeAnswers.{Survivors}
 use Rattle.i_shape.proofs.buffers.CleanedContours.{contour_at, contour-read, contours-all, map-option_to_list}
 use Rattle.i_shape.proofs.lists.Surviving.{survivors-more}
-use Rattle.i_shape.specs.Buffers.{contours_of}
 use Rattle.i_shape.proofs.buffers.CleanedShapes.{grows_chain}
 use Rattle.i_shape.proofs.flat.buffer.cleaning.parts.append_parts.Goals as goal
 

@@ -1,9 +1,6 @@
 use Rattle.std.proofs.Common.{map, take, List}
-use Rattle.i_shape_core.specs.declared.point.IntPoint.{IntPoint}
-use Rattle.i_shape.specs.ShapeAnswers.{Survivors}
+use Rattle.i_shape.proofs.Common.{IntPoint, Survivors, contours_of, Grows}
 use Rattle.i_shape.proofs.buffers.CleanedContours.{contour_at}
-use Rattle.i_shape.specs.Buffers.{contours_of}
-use Rattle.i_shape.specs.AppendedAnswers.{Grows}
 use Rattle.i_shape.proofs.flat.buffer.cleaning.parts.append_parts.Given as goal
 
 abbrev pub invariant-loop-range : goal.invariant-loop-range

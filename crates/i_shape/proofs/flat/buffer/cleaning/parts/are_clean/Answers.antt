@@ -1,6 +1,5 @@
-use Rattle.std.proofs.Common.{rules, refl, IsTrue}
-use Rattle.std.specs.List.{All}
-use Rattle.i_shape_core.specs.IntPoint.{IsSafe}
+use Rattle.std.proofs.Common.{rules, refl, IsTrue, All}
+use Rattle.i_shape.proofs.Common.{IsSafe}
 use Rattle.i_shape.proofs.buffers.CleanedContours.{contour-read, contours-more, contours-all}
 use Rattle.i_shape.proofs.flat.buffer.cleaning.parts.are_clean.Goals as goal
 

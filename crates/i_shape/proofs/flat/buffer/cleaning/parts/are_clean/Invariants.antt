@@ -1,5 +1,4 @@
-use Rattle.std.proofs.Common.{map, take}
-use Rattle.std.specs.List.{All}
+use Rattle.std.proofs.Common.{map, take, All}
 use Rattle.i_shape.proofs.buffers.CleanedContours.{contour_at}
 use Rattle.i_shape.proofs.flat.buffer.cleaning.parts.are_clean.Given as goal
 

@@ -1,6 +1,5 @@
-use Rattle.std.proofs.Common.{◌≡◌, take}
-use Rattle.std.specs.List.{sum_by}
-use Rattle.i_shape.specs.Buffers.{range_len}
+use Rattle.std.proofs.Common.{◌≡◌, take, sum_by}
+use Rattle.i_shape.proofs.Common.{range_len}
 use Rattle.i_shape.proofs.flat.buffer.cleaning.parts.checked_total.Given as goal
 
 abbrev pub invariant-loop-range : goal.invariant-loop-range

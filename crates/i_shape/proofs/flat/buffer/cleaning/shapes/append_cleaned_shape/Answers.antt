@@ -1,10 +1,6 @@
-use Rattle.std.proofs.Common.{◌≡◌, ◌∙◌, true, false, length, refl, subst}
-use Rattle.std.specs.List.{All}
-use Rattle.std.specs.Option.{is_some}
+use Rattle.std.proofs.Common.{◌≡◌, ◌∙◌, true, false, length, refl, subst, All, is_some}
 use Rattle.std.proofs.lemmas.List.Elements.{All-head, All-tail}
-use Rattle.i_shape_core.specs.IntPoint.{contour_of, IsSafe}
-use Rattle.i_shape.specs.Flat.{InOrder, part_of, slices}
-use Rattle.i_shape.specs.Buffers.{contours_of}
+use Rattle.i_shape.proofs.Common.{contour_of, IsSafe, InOrder, part_of, slices, contours_of}
 use Rattle.i_shape.proofs.buffers.CleanedShapes.{appends-empty, appends-none, appends-whole}
 use Rattle.i_shape.proofs.flat.buffer.cleaning.shapes.append_cleaned_shape.Goals as goal
 

@@ -1,6 +1,5 @@
-use Rattle.std.proofs.Common.{rules, refl, IsTrue}
-use Rattle.std.specs.List.{All}
-use Rattle.i_shape_core.specs.IntPoint.{IsSafe}
+use Rattle.std.proofs.Common.{rules, refl, IsTrue, All}
+use Rattle.i_shape.proofs.Common.{IsSafe}
 use Rattle.i_shape.proofs.buffers.CleanedShapes.{shape-read, shapes-more, shapes-all}
 use Rattle.i_shape.proofs.flat.buffer.cleaning.shapes.are_clean_shapes.Goals as goal
 

@@ -1,5 +1,4 @@
-use Rattle.std.proofs.Common.{map, take}
-use Rattle.std.specs.List.{All}
+use Rattle.std.proofs.Common.{map, take, All}
 use Rattle.i_shape.proofs.buffers.CleanedShapes.{named_at}
 use Rattle.i_shape.proofs.flat.buffer.cleaning.shapes.are_clean_shapes.Given as goal
 

@@ -1,5 +1,5 @@
 use Rattle.std.proofs.Common.{◌≡◌, take}
-use Rattle.i_shape.specs.Buffers.{named_points, named_contours}
+use Rattle.i_shape.proofs.Common.{named_points, named_contours}
 use Rattle.i_shape.proofs.flat.buffer.cleaning.shapes.checked_named.Given as goal
 
 abbrev pub invariant-loop-range : goal.invariant-loop-range

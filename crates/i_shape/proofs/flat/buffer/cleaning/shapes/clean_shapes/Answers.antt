@@ -1,8 +1,6 @@
 use Rattle.std.proofs.Common.{rules, ◌≡◌, ap, ◌∙◌, IsTrue, Err}
 use Rattle.std.proofs.lemmas.Result.{err_from_is_err_and}
-use Rattle.i_shape_core.specs.declared.error.ShapeError.TheVariants.{TooManyPoints}
-use Rattle.i_shape.specs.ShapeAnswers.{ShapeClean, EachContour, EachShape}
-use Rattle.i_shape.specs.Buffers.{named_shapes}
+use Rattle.i_shape.proofs.Common.{TooManyPoints, ShapeClean, EachContour, EachShape, named_shapes}
 use Rattle.i_shape.proofs.lists.Surviving.{survivors_stay}
 use Rattle.i_shape.proofs.shapes.Kept.{shape_stays, list_keeps, list_safe}
 use Rattle.i_shape.proofs.flat.buffer.cleaning.shapes.clean_shapes.Goals as goal

@@ -1,9 +1,5 @@
-use Rattle.std.proofs.Common.{ap}
-use Rattle.i_shape.specs.Flat.{slices}
-use Rattle.std.specs.List.{All}
-use Rattle.i_shape_core.specs.IntPoint.{IsSafe}
-use Rattle.i_shape.specs.ShapeAnswers.{ListClean}
-use Rattle.i_shape.specs.Buffers.{named_shapes}
+use Rattle.std.proofs.Common.{ap, All}
+use Rattle.i_shape.proofs.Common.{slices, IsSafe, ListClean, named_shapes}
 use Rattle.i_shape.proofs.buffers.CleanedShapes.{shape-read, shapes-all, held-more, clean-more, held-none, clean-none, named_there}
 use Rattle.i_shape.proofs.flat.buffer.cleaning.shapes.cleaned_shapes.Goals as goal
 

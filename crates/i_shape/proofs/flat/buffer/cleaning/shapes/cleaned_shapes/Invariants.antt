@@ -1,6 +1,5 @@
 use Rattle.std.proofs.Common.{map, take}
-use Rattle.i_shape.specs.Buffers.{HoldsShapes, shapes_in, named_shapes}
-use Rattle.i_shape.specs.ShapeAnswers.{ListClean}
+use Rattle.i_shape.proofs.Common.{HoldsShapes, shapes_in, named_shapes, ListClean}
 use Rattle.i_shape.proofs.buffers.CleanedShapes.{named_at}
 use Rattle.i_shape.proofs.flat.buffer.cleaning.shapes.cleaned_shapes.Given as goal
 
