@@ -21,6 +21,7 @@ pub fn count_paths<'a, I: IntNumber + 'a, R: IntShapeResource<'a, I> + Copy>(res
 }
 
 /// Returns all points, end to end, by a loop.
+#[tactic(auto, using(std::proofs::lemmas::Grind::common_steps))]
 pub fn all_points<'a, I: IntNumber + 'a, R: IntShapeResource<'a, I> + Copy>(
     resource: R,
     alloc: Global,

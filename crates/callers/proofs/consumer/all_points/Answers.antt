@@ -1,6 +1,0 @@
-use Rattle.std.proofs.Common.{arith}
-use Rattle.std.proofs.lemmas.Grind.{common_steps}
-use Rattle.callers.proofs.consumer.all_points.Goals as goal
-
-pub loop-path-preserved : goal.loop-path-preserved
-loop-path-preserved g c = grind (arith, common_steps)
