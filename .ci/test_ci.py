@@ -213,7 +213,7 @@ class PagesTest(Case):
 
 DOUBLES = """#![tactic(auto)]
 
-ghost use Rattle.std.specs.Prelude.{◌≡◌, ◌+◌, ◌<◌};
+ghost use Rattle.std.specs.Prelude.{◌≡◌, ◌+◌, ◌*◌, ◌<◌};
 
 pub fn doubled(number: u32) -> u32
     requires { number < 1000 }
@@ -229,6 +229,20 @@ pub fn quadrupled(number: u32) -> u32
 {
     doubled(doubled(number))
 }
+
+pub fn tripled(number: u32) -> u32
+    requires { number < 1000 }
+    ensures thrice { result ≡ number * 3 }
+    ensures small { result < 3000 }
+{
+    number * 3
+}
+"""
+ANSWERS = """use Rattle.std.proofs.Common.{arith}
+use Rattle.doubles.proofs.tripled.Goals as goal
+
+pub returns-clause-thrice : goal.returns-clause-thrice
+returns-clause-thrice c = omega arith
 """
 SUM = "    number + number"
 # Wrong bodies of these: a name, the function, an old and a new text, and what is said of each.
@@ -236,6 +250,7 @@ EDITS = (
     ("forgets_half", "doubled", SUM, "    number", "refused at doubled: returns-clause-twice"),
     ("names_a_clause", "doubled\nclause: twice", SUM, "    number", "refused at doubled: returns-clause-twice"),
     ("names_another", "doubled\nclause: small", SUM, "    number", "NOT REFUSED by the clause small of doubled, but at returns-clause-twice"),
+    ("fails_an_answer_too", "tripled\nclause: small", "    number * 3", "    number + 3000", "refused at tripled: returns-clause-small, returns-clause-thrice"),
     ("turns_nothing", "doubled", SUM, "    number.wrapping_add(number)", "NOT REFUSED at doubled"),
     ("turns_the_callee", "quadrupled", SUM, "    number", "NOT REFUSED at quadrupled, but at doubled"),
     ("text_is_not_there", "doubled", "number * 2", "number * 3", "BAD EDIT: its old text stands in src/lib.rt 0 times"),
@@ -253,13 +268,14 @@ class WrongTest(Case):
     def test_wrong(self):
         write(f"{self.room}/crates.txt", "doubles:\n")
         write(f"{self.room}/crates/doubles/src/lib.rt", DOUBLES)
+        write(f"{self.room}/crates/doubles/proofs/tripled/Answers.antt", ANSWERS)
         write(f"{self.room}/.ci/wrong.py", pages.read(f"{TOP}/.ci/wrong.py"))
         for name, function, old, new, _ in EDITS:
             write(f"{self.room}/crates/doubles/wrong/{name}.edit", f"file: src/lib.rt\nrefused: {function}\nold: {old}\nnew: {new}\n")
         status, said = self.run_wrong()
         for name, *_, what in EDITS:
             self.assertIn(f"wrong doubles/{name}: {what}", said)
-        self.assertEqual((status, said.splitlines()[-1]), (1, "wrong bodies: 2 passed, 5 failed"))
+        self.assertEqual((status, said.splitlines()[-1]), (1, "wrong bodies: 3 passed, 5 failed"))
         # What passed is noted, and tried again where something changes that it was judged by.
         note = "wrong doubles/forgets_half: refused at doubled by an earlier run: returns-clause-twice"
         self.assertIn(note, self.run_wrong("--only", "forgets_half", "--write")[1])

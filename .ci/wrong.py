@@ -101,6 +101,13 @@ class Found:
 
     def __init__(self, crate, said):
         self.lines = said.splitlines()
+        # the goals that a search left open are told of before the line of their function, also where an answer of it fails
+        self.noted, noted = {}, []
+        for line in self.lines:
+            if at := re.match(r"note: src/\S+: it is not proved that .*? \(`([^`]+)`\)", line):
+                noted.append(at[1])
+            elif at := re.match(rf"\w+ {crate}::(\S+): ", line):
+                self.noted[at[1]], noted = noted, []
         self.told = dict(re.findall(rf"^fn {crate}::(\S+): (.*)$", said, re.M))
         self.has_ended = bool(re.search(r"^only=\d+ proved=\d+$", said, re.M))
         self.at_fault = {name for name, what in self.told.items() if self.is_at_fault(name, what)}
@@ -118,10 +125,9 @@ class Found:
 
     def goals_of(self, function):
         """Returns the goals of the function's own that are open, but for those whose answers name what is gone."""
-        listed = re.search(r"`search` did not prove ((?:`[^`]+`(?:, )?)+)", self.told[function])
         answered = [it for it in self.errors_of(function) if not re.search(GONE, it)]
         named = [it[1] for it in (re.match(r"`([^`]+)`:", it) for it in answered) if it]
-        return list(dict.fromkeys([*re.findall(r"`([^`]+)`", listed[1] if listed else ""), *named]))
+        return list(dict.fromkeys([*self.noted.get(function, []), *named]))
 
     def unread(self, paths):
         """Returns a line that tells that the code in one of these files could not be read, or None."""
