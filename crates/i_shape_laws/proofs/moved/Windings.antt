@@ -13,6 +13,7 @@ use Rattle.i_shape_core.proofs.plane.CrossProducts.{Place, coordinates, cross_te
 use Rattle.i_shape_core.proofs.arithmetic.WholeNumbers.{alike_scaled, drop_last, not_positive_of, one-mul, zero_not_above, zero_not_below}
 use Rattle.i_shape_core.proofs.measure.Inside.{right_when}
 use Rattle.i_shape_core.proofs.measure.Edges.{sum_alike}
+use Rattle.i_shape_core.proofs.measure.Windings.{bit}
 use Rattle.i_shape_core.proofs.removal.Places.{after_is, Follows}
 use Rattle.i_shape_core.proofs.moved.ZeroTurns.{cross_moved}
 use Rattle.i_shape_core.proofs.plane.Back.{way_squared, square_term, dot_same-first}
@@ -249,17 +250,14 @@ by_any l p c some off =
 abbrev swapped : Point → Point → Edge → ℤ
 swapped l p e = crossing (tall l p e.start) (tall l p e.end) (int_lt (neg_ℤ (cross e.start p e.end)) (pos 0)) (int_lt (cross e.start p e.end) (pos 0))
 
-abbrev one_if : Bool → ℤ
-one_if s = cond s (pos 1) (pos 0)
-
-edge_swapped : (l p a b : Point) → Off p (edge a b) → swapped l p (edge a b) ≡ neg_ℤ (crossing_along l p (edge a b)) +ℤ (one_if (tall l p b) -ℤ one_if (tall l p a))
+edge_swapped : (l p a b : Point) → Off p (edge a b) → swapped l p (edge a b) ≡ neg_ℤ (crossing_along l p (edge a b)) +ℤ (bit (tall l p b) -ℤ bit (tall l p a))
 edge_swapped l p a b off = go (tall l p a) (tall l p b) (int_lt (cross a p b) (pos 0)) (int_lt (neg_ℤ (cross a p b)) (pos 0)) refl refl refl refl
   where
     same : (s t : Bool) → tall l p a ≡ s → tall l p b ≡ t → int_lt (cross a p b) (pos 0) ≡ false → int_lt (neg_ℤ (cross a p b)) (pos 0) ≡ false → s ≡ t
     same s t e f g h = let z : cross a p b ≡ pos 0 = omega (arith, ints) in sym e ∙ same_side l a p b z off ∙ f
 
     go : (s t n q : Bool) → tall l p a ≡ s → tall l p b ≡ t → int_lt (cross a p b) (pos 0) ≡ n → int_lt (neg_ℤ (cross a p b)) (pos 0) ≡ q
-        → crossing s t q n ≡ neg_ℤ (crossing s t n q) +ℤ (one_if t -ℤ one_if s)
+        → crossing s t q n ≡ neg_ℤ (crossing s t n q) +ℤ (bit t -ℤ bit s)
     go s t true true e f g h = absurd (omega (arith, ints))
     go true true n q e f g h = refl
     go false false n q e f g h = refl
@@ -275,7 +273,7 @@ sum_negated f [] = refl
 sum_negated f (e ∷ es) = let rest = sum_negated f es in omega (arith, ints)
 
 contour_swapped : (l p : Point) (c : List Point) → AllOff p (edges c) → sum_of (swapped l p) (edges c) ≡ neg_ℤ (sum_of (crossing_along l p) (edges c))
-contour_swapped l p c off = around (swapped l p) (λ e. neg_ℤ (crossing_along l p e)) (λ q. one_if (tall l p q)) p (edge_swapped l p) c off ∙ sum_negated (crossing_along l p) (edges c)
+contour_swapped l p c off = around (swapped l p) (λ e. neg_ℤ (crossing_along l p e)) (λ q. bit (tall l p q)) p (edge_swapped l p) c off ∙ sum_negated (crossing_along l p) (edges c)
 
 -- ---- the moved contour
 -- the direction in which heights were measured before the move
