@@ -36,10 +36,7 @@ pub between_two : (a p q b : Point) → cross a q b ≡ pos 0 → IsBetween a p 
 between_two a p q b z w = by_lt_z (pos 0) (way_squared a p) apart (λ h. inl (subst (λ (x : Point). IsBetween a x q) (no_way a p h) (at_start a q)))
   where
     back : a ≡ b → pos 0 <ℤ way_squared a p → ⊥
-    back e h = let f = subst (λ (x : Point). pos 0 ≤ℤ dot a p x) (sym e) w.ahead in let g = back_again a p in sign (dot a p a) (way_squared a p) f g h
-      where
-        sign : (x y : ℤ) → pos 0 ≤ℤ x → x ≡ neg_ℤ y → pos 0 <ℤ y → ⊥
-        sign x y f g h = omega (arith, ints)
+    back e h = let f = subst (λ (x : Point). pos 0 ≤ℤ dot a p x) (sym e) w.ahead in let g = back_again a p in omega (arith, ints)
 
     line : cross p a b ≡ pos 0
     line = triangle_identity p a b ∙ triangle_identity a b p ∙ zero_reversed a p b w.straight
@@ -53,14 +50,13 @@ between_two a p q b z w = by_lt_z (pos 0) (way_squared a p) apart (λ h. inl (su
         on_line : (a ≡ b) ⊎ ((cross p b q ≡ pos 0) × (cross p a q ≡ pos 0)) → IsBetween a p q ⊎ IsBetween q p b
         on_line (inl e) = absurd (back e h)
         on_line (inr s) = by_lt_z (dot a p q) (pos 0)
-            (λ l. inr (record { straight = triangle_identity q p b ∙ s.0; ahead = negated (dot q p b) (not_positive_of (dot a p b) (way_squared a p) (dot a p q) (neg_ℤ (dot q p b)) w.ahead h (sym (drop_last _ (dot a p b *ℤ dot a p q) (cross a p q) (cross a p b) (sym (two_ways a p q b)) w.straight)) (weak (dot a p q) l)) }))
+            (λ l. inr (record { straight = triangle_identity q p b ∙ s.0; ahead = negated l }))
             (λ l. inl (record { straight = triangle_identity a p q ∙ triangle_identity p q a ∙ zero_reversed p a q s.1; ahead = l }))
           where
-            negated : (x : ℤ) → neg_ℤ x ≤ℤ pos 0 → pos 0 ≤ℤ x
-            negated x g = omega (arith, ints)
-
-            weak : (x : ℤ) → x <ℤ pos 0 → x ≤ℤ pos 0
-            weak x g = omega (arith, ints)
+            negated : dot a p q <ℤ pos 0 → pos 0 ≤ℤ dot q p b
+            negated l =
+                let low = not_positive_of (dot a p b) (way_squared a p) (dot a p q) (neg_ℤ (dot q p b)) w.ahead h (sym (drop_last _ (dot a p b *ℤ dot a p q) (cross a p q) (cross a p b) (sym (two_ways a p q b)) w.straight)) (omega (arith, ints)) in
+                omega (arith, ints)
 
 -- ---- removals
 without_point : (c : List Point) (k : ℕ) (p : Point) → IsZeroTurn (point_at c (place_before (length c) k)) (point_at c k) (point_at c (place_after (length c) k)) → k < length c → IsOnEdge (remove c k) p → IsOnEdge c p

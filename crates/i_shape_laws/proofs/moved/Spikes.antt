@@ -76,15 +76,12 @@ module _ (f : Point → Point) (apart : Apart f) (carries : Carries f IsReversed
       ended = end_mapped f turns turns_too s.ended;
       enough = omega (arith, length-map d f, s.enough);
       spikeless = (spikeless_mapped d).0 s.spikeless;
-      uncollapsed = λ e w. let r = end_back f zero zero_too c e w in subst (λ (l : List Point). 3 ≤ length l) (sym r.2) (long r.0 (s.uncollapsed r.0 r.1));
+      uncollapsed = λ e w. let r = end_back f zero zero_too c e w in omega (arith, ap length r.2, length-map r.0 f, s.uncollapsed r.0 r.1);
       ends = λ e g w v.
           let r = end_back f zero zero_too c e w in
           let q = end_back f zero zero_too d g v in
           subst (λ (l : List Point). Rotation l g) (sym r.2) (subst (Rotation (map f r.0)) (sym q.2) (rotation_mapped f (s.ends r.0 q.0 r.1 q.1)));
     }
-      where
-        long : (l : List Point) → 3 ≤ length l → 3 ≤ length (map f l)
-        long l h = omega (arith, length-map l f)
 
     despiked_back : (c d : List Point) → IsDespiked (map f c) (map f d) → IsDespiked c d
     despiked_back c d s = record {

@@ -77,13 +77,7 @@ sides l m a p b = by_polynomials (coordinates (l ∷ m ∷ a ∷ p ∷ b ∷ [])
 -- ---- orders and products
 -- two numbers are in the order of two others whose difference is theirs
 same_order : (x y u v : ℤ) → y -ℤ x ≡ v -ℤ u → int_lt x y ≡ int_lt u v
-same_order x y u v e = go (int_lt x y) (int_lt u v) refl refl
-  where
-    go : (s t : Bool) → int_lt x y ≡ s → int_lt u v ≡ t → int_lt x y ≡ int_lt u v
-    go true true f g = f ∙ sym g
-    go false false f g = f ∙ sym g
-    go true false f g = absurd (omega (arith, ints))
-    go false true f g = absurd (omega (arith, ints))
+same_order x y u v e = grind (arith, ints)
 
 -- a number that isn't below 0, times one that isn't above it
 not_above : (q d e : ℤ) → pos 0 ≤ℤ q → d ≤ℤ pos 0 → q *ℤ d ≡ e → e ≤ℤ pos 0
@@ -159,10 +153,7 @@ on_left l m p a b d k = go (tall l p a) (tall m p a) (tall l p b) (tall m p b) r
         below x y z h e f = let sign = (alike_scaled x (pos 1) z y h (omega (arith, ints)) (one-mul z ∙ sym f)).below ∙ e in omega (arith, ints)
 
     wrong : pos 0 ≤ℤ (rise m p a *ℤ rise l p b) → (rise l p a *ℤ rise m p b) ≤ℤ pos 0 → ⊥
-    wrong f g = no _ _ f g side
-      where
-        no : (x y : ℤ) → pos 0 ≤ℤ x → y ≤ℤ pos 0 → (x -ℤ y) <ℤ pos 0 → ⊥
-        no x y f g h = omega (arith, ints)
+    wrong f g = omega (arith, ints, side)
 
     go : (u v s t : Bool) → tall l p a ≡ u → tall m p a ≡ v → tall l p b ≡ s → tall m p b ≡ t → crossing u s true false ≡ crossing v t true false +ℤ (corner s t -ℤ corner u v)
     go false false false false e f g h = refl
