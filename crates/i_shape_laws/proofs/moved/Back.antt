@@ -1,5 +1,5 @@
 -- Points at which a way turns back, where the plane is moved by an affine map.
-use Rattle.std.proofs.Common.{◌≡◌, ◌≢◌, [], ◌∷◌, ℤ, pos, negsuc, ◌+ℤ◌, ◌-ℤ◌, ◌*ℤ◌, ◌≤ℤ◌, ◌<ℤ◌, int_lt, true, refl, sym, ap, subst, ◌∙◌, arith}
+use Rattle.std.proofs.Common.{◌≡◌, ◌≢◌, [], ◌∷◌, ℤ, pos, ◌+ℤ◌, ◌-ℤ◌, ◌*ℤ◌, ◌≤ℤ◌, ◌<ℤ◌, int_lt, refl, sym, ap, subst, ◌∙◌, arith}
 use Rattle.std.proofs.lemmas.Int.{ints, by_lt_z}
 use Rattle.i_shape_core.specs.Point.{Point, cross, dot, IsBack}
 use Rattle.i_shape_core.specs.Moves.{Move, determinant, moved_point}
@@ -34,10 +34,7 @@ dot_moved m a b c = by_polynomials (numbers_of_move a b c m)
 
 -- two points whose squared distance is at most 0 are the same
 pub no_way : (a p : Point) → way_squared a p ≤ℤ pos 0 → a ≡ p
-no_way a p h = plane.no_way a p (least (way_squared a p) (square_at_least a p) h)
-  where
-    least : (x : ℤ) → pos 0 ≤ℤ x → x ≤ℤ pos 0 → x ≡ pos 0
-    least x f g = omega (arith, ints)
+no_way a p h = plane.no_way a p (omega (arith, ints, square_at_least a p))
 
 dot_standing_still : (a b c : Point) → a ≡ b → dot a b c ≤ℤ pos 0
 dot_standing_still a b c e = subst (λ (x : Point). dot a x c ≤ℤ pos 0) e (low_of_zero (dot a a c) (dot_same-first a c))
@@ -70,8 +67,7 @@ same_sign : (m : Move) (a b c : Point) → cross a b c ≡ pos 0 → pos 0 <ℤ 
 same_sign m a b c z g h = (alike_scaled (way_squared (moved_point m a) (moved_point m b)) (way_squared a b) (dot (moved_point m a) (moved_point m b) (moved_point m c)) (dot a b c) h g (drop_last _ _ _ _ (dot_moved m a b c) z)).below
 
 below : (x y : ℤ) → int_lt x (pos 0) ≡ int_lt y (pos 0) → y <ℤ pos 0 → x <ℤ pos 0
-below x (negsuc n) e h = let u : int_lt x (pos 0) ≡ true = e in omega (arith, ints)
-below x (pos n) e h = absurd (omega (arith, ints))
+below x y e h = grind (arith, ints)
 
 no_square : (a b : Point) → a ≡ b → pos 0 <ℤ way_squared a b → ⊥
 unfolding way_squared

@@ -52,10 +52,7 @@ crossing_along l p e = crossing_by (tall l p e.start) (tall l p e.end) (cross e.
 
 -- 1 between the two directions in which nothing is counted
 abbrev corner : Bool → Bool → ℤ
-corner true true = pos 0
-corner true false = pos 1
-corner false true = pos 0
-corner false false = pos 0
+corner s t = cond t (pos 0) (bit s)
 
 -- heights above p
 abbrev rise : Point → Point → Point → ℤ
