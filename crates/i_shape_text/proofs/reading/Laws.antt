@@ -23,18 +23,13 @@ same_points (x ∷ y ∷ words) (p ∷ c) [] says again = absurd again
 same_points (x ∷ y ∷ words) (p ∷ c) (q ∷ d) says again =
     λ i. record { x = (says.0.2 ∙ sym again.0.2) i; y = (says.1.2 ∙ sym again.1.2) i } ∷ same_points words c d says.2 again.2 i
 
--- a decimal isn't empty
-decimal_nonempty : (word : List ℕ) (z : ℤ) → IsDecimal word z → 0 < length word
-decimal_nonempty [] z is = absurd (omega (arith, is.0.0))
-decimal_nonempty (b ∷ bs) z is = omega arith
-
 -- an empty line is made of no words
 no_words : (line : List ℕ) (words : List (List ℕ)) (c : List Point) → length line ≡ 0 → line ≡ join_with_byte space words → SayPoints words c → c ≡ []
 no_words line [] [] empty is says = refl
 no_words line [] (p ∷ c) empty is says = absurd says
 no_words line (x ∷ []) c empty is says = absurd says
 no_words line (x ∷ y ∷ words) [] empty is says = absurd says
-no_words line ([] ∷ y ∷ words) (p ∷ c) empty is says = absurd (omega (arith, decimal_nonempty [] p.x says.0))
+no_words line ([] ∷ y ∷ words) (p ∷ c) empty is says = absurd (omega (arith, says.0.0.0))
 no_words line ((b ∷ bs) ∷ y ∷ words) (p ∷ c) empty is says = absurd (omega (arith, ap length is))
 
 -- a line reads one contour at most

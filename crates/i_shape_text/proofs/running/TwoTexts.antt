@@ -23,10 +23,6 @@ ends b = b == newline
 abbrev parts : List ℕ → List (List ℕ)
 parts text = slice_split ends text
 
--- a text has a part
-some_part : (text : List ℕ) → 0 < length (parts text)
-some_part text = omega (arith, length-slice_split ends text)
-
 onto_first-append : (b : ℕ) (list more : List (List ℕ)) → 0 < length list → onto_first b (list ++ more) ≡ onto_first b list ++ more
 onto_first-append b [] more some = absurd (omega arith)
 onto_first-append b (part ∷ list) more some = refl
@@ -39,7 +35,7 @@ parts-append (b ∷ front) more = go (ends b) (parts-append front more)
     go : (e : Bool) → parts (front ++ newline ∷ more) ≡ parts front ++ parts more
         → cond e ([] ∷ parts (front ++ newline ∷ more)) (onto_first b (parts (front ++ newline ∷ more))) ≡ cond e ([] ∷ parts front) (onto_first b (parts front)) ++ parts more
     go true is = ap (λ l. [] ∷ l) is
-    go false is = ap (onto_first b) is ∙ onto_first-append b (parts front) (parts more) (some_part front)
+    go false is = ap (onto_first b) is ∙ onto_first-append b (parts front) (parts more) (omega (arith, length-slice_split ends front))
 
 -- parts that others follow are lines
 lines-append : (list more : List (List ℕ)) → 0 < length more → lines_of_parts (list ++ more) ≡ list ++ lines_of_parts more
@@ -48,7 +44,7 @@ lines-append (part ∷ list) more some =
     line_before_more part (list ++ more) (omega (arith, length-append list more)) ∙ ap (λ l. part ∷ l) (lines-append list more some)
 
 lines_after : (front more : List ℕ) → lines_of (front ++ newline ∷ more) ≡ parts front ++ lines_of more
-lines_after front more = ap lines_of_parts (parts-append front more) ∙ lines-append (parts front) (parts more) (some_part more)
+lines_after front more = ap lines_of_parts (parts-append front more) ∙ lines-append (parts front) (parts more) (omega (arith, length-slice_split ends more))
 
 -- the lines of two texts, of which the first ends its lines
 pub lines_of_both : (text more : List ℕ) → EndsItsLines text → lines_of (text ++ more) ≡ lines_of text ++ lines_of more
