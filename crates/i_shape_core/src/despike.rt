@@ -399,14 +399,13 @@ pub fn has_no_spikes<P: ContourPoint>(points: &[P]) -> bool
     let mut edge = here - behind;
     for given in points {
         let point = given.to_point();
-        if are_same(here, point) {
-            continue;
+        if !are_same(here, point) {
+            let next = point - here;
+            if goes_back(edge, next) {
+                return false;
+            }
+            edge = next;
         }
-        let next = point - here;
-        if goes_back(edge, next) {
-            return false;
-        }
-        edge = next;
         here = point;
     }
     true

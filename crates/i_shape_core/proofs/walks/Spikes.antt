@@ -152,8 +152,8 @@ pub record Walking (c : List Point) (e p : Point) (rest : List Point) : Type 0 w
   pub met : Told IsReversed c ⊥ from p rest
 
 -- a repeated point changes nothing
-pub walking_skip : (c : List Point) (e p q : Point) (rest : List Point) → is_same p q ≡ true → Walking c e p (q ∷ rest) → Walking c e p rest
-walking_skip c e p q rest f w = record { from = w.from; edge = w.edge; differ = w.differ; met = told-skip IsReversed c ⊥ w.from p q rest f w.met }
+pub walking_skip : (c : List Point) (e p q : Point) (rest : List Point) → is_same p q ≡ true → Walking c e p (q ∷ rest) → Walking c e q rest
+walking_skip c e p q rest f w = subst (λ (r : Point). Walking c e r rest) (same_yes p q f) (record { from = w.from; edge = w.edge; differ = w.differ; met = told-skip IsReversed c ⊥ w.from p q rest f w.met })
 
 -- a test of two edges tells whether the way over three points reverses
 reverses : (e v o p q : Point) (b : Bool) → e ≡ vector o p → v ≡ vector p q → IsTrue b ↔ (cross_of e v ≡ pos 0) × (dot_of e v <ℤ pos 0) → IsTrue b ↔ IsReversed o p q
