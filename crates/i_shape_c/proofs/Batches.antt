@@ -1,13 +1,10 @@
 -- Contours in one array of points, parted by offsets.
-use Rattle.std.proofs.Common.{◌≡◌, ◌↔◌, inl, inr, ℕ, ℤ, ◌+◌, ◌-◌, ◌≤◌, ◌<◌, List, map, length, take, drop, slice_range, ap, sym, subst, ◌∙◌, arith, Option}
+use Rattle.std.proofs.Common.{◌≡◌, ◌↔◌, inl, inr, ℕ, ℤ, ◌+◌, ◌-◌, ◌≤◌, ◌<◌, List, map, length, take, drop, slice_range, ap, sym, subst, ◌∙◌, arith, Option, All, Result, Ok, Err, IsOk, IfOk, OnErr}
 use Rattle.std.specs.Int.{Width}
-use Rattle.std.specs.List.{All}
-use Rattle.std.specs.Prelude.{Result, Ok, Err, IsOk, IfOk, OnErr}
 use Rattle.std.proofs.lemmas.Bool.{cases_lt}
 use Rattle.std.proofs.lemmas.List.{take-take, drop-take, drop-drop, length-map}
 use Rattle.std.proofs.lemmas.List.Elements.{All-take, All-drop}
-use Rattle.i_shape.specs.Point.{Point}
-use Rattle.i_shape.specs.IntPoint.{point_of, contour_of, IsSafe}
+use Rattle.i_shape_core.proofs.Common.{Point, point_of, contour_of, IsSafe}
 use Rattle.i_shape.specs.IntPoints.{IntPoint}
 use Rattle.i_shape_core.specs.Rings.{AreSafeRings, HaveRoom, Leaves, AreCleanedRings}
 use Rattle.i_shape_core.proofs.lists.Rings.{rises_to}

@@ -1,12 +1,10 @@
 -- Points of C, and what cleaning leaves of them.
-use Rattle.std.proofs.Common.{◌≡◌, ℕ, ℤ, List, Option, map, take, ap, ◌∙◌}
+use Rattle.std.proofs.Common.{◌≡◌, ℕ, ℤ, List, Option, map, take, ap, ◌∙◌, All}
 use Rattle.std.specs.Int.{Width}
-use Rattle.std.specs.List.{All}
 use Rattle.std.proofs.lemmas.Simd.{map-map}
 use Rattle.std.proofs.lemmas.List.Elements.{All-map}
-use Rattle.i_shape.specs.IntPoint.{point_of, contour_of, IsSafe}
+use Rattle.i_shape_core.proofs.Common.{point_of, contour_of, IsSafe, Point}
 use Rattle.i_shape.specs.IntPoints.{IntPoint}
-use Rattle.i_shape.specs.Point.{Point}
 use Rattle.i_shape.specs.Written.{IsWritten}
 use Rattle.i_shape_c.specs.Cleaned.{AreSafe}
 

@@ -6,8 +6,7 @@ use Rattle.std.specs.List.{range_with_len}
 use Rattle.std.proofs.lemmas.Int.{ints}
 use Rattle.i_shape_core.proofs.arithmetic.Products.{reach-fits}
 use Rattle.i_shape_c.specs.Windings.{no_winding}
-use Rattle.i_shape.specs.Edges.{sum_of}
-use Rattle.i_shape.specs.Winding.{IsWithinHalf}
+use Rattle.i_shape_core.proofs.Common.{sum_of, IsWithinHalf}
 
 -- one place more is summed up
 sum_more : (f : ℕ → ℤ) (a n : ℕ) → sum_of f (range_with_len a (suc n)) ≡ sum_of f (range_with_len a n) +ℤ f (a + n)

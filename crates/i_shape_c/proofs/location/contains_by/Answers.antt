@@ -1,9 +1,7 @@
-use Rattle.std.proofs.Common.{◌≡◌, ◌∙◌, ap, map, sym, subst, refl, IsTrue, false, Option, Some, IfSome, pos, FitsSigned, to_z, of_z, arith}
-use Rattle.std.specs.Int.{w32, w64}
+use Rattle.std.proofs.Common.{◌≡◌, ◌∙◌, ap, map, sym, subst, refl, IsTrue, false, Option, Some, IfSome, pos, FitsSigned, to_z, of_z, arith, w32, w64}
 use Rattle.std.proofs.lemmas.Int.{to_z-of_z}
 use Rattle.i_shape.specs.Filling.{IsFilled}
-use Rattle.i_shape.specs.IntPoint.{point_of, IsSafe}
-use Rattle.i_shape.specs.Winding.{winding}
+use Rattle.i_shape_core.proofs.Common.{point_of, IsSafe, winding}
 use Rattle.i_shape_core.specs.declared.fill_rule.FillRule.{FillRule}
 use Rattle.i_shape_c.specs.Cleaned.{AreSafe}
 use Rattle.i_shape_c.specs.Locations.{rule_of}

@@ -1,5 +1,4 @@
-use Rattle.std.proofs.Common.{◌≡◌, ◌∙◌, refl, ap, sym, subst, Option, Some, IfSome}
-use Rattle.std.specs.Int.{w32}
+use Rattle.std.proofs.Common.{◌≡◌, ◌∙◌, refl, ap, sym, subst, Option, Some, IfSome, w32}
 use Rattle.std.proofs.lemmas.Int.{to_z-of_z}
 use Rattle.i_shape.specs.IntPoint.{point_of}
 use Rattle.i_shape_core.specs.declared.fill_rule.FillRule.{FillRule}

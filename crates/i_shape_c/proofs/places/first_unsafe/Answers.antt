@@ -1,5 +1,4 @@
-use Rattle.std.proofs.Common.{◌<◌, ◌+◌, ◌∙◌, IsTrue, false, subst, sym, refl, arith}
-use Rattle.std.proofs.lemmas.List.{get_or-take, length-take-le}
+use Rattle.std.proofs.Common.{◌<◌, ◌+◌, ◌∙◌, IsTrue, false, subst, sym, refl, arith, get_or-take, length-take-le}
 use Rattle.std.proofs.lemmas.List.Elements.{All-more}
 use Rattle.i_shape.specs.IntPoint.{point_of, IsSafe}
 use Rattle.i_shape_c.proofs.places.first_unsafe.Goals as goal

@@ -1,9 +1,7 @@
-use Rattle.std.proofs.Common.{◌≡◌, ◌+◌, ◌-◌, ◌++◌, ◌∙◌, [], ◌∷◌, List, ℕ, length, map, take, drop, slice_range, Some, sym, ap, refl, subst, arith}
+use Rattle.std.proofs.Common.{◌≡◌, ◌+◌, ◌-◌, ◌++◌, ◌∙◌, [], ◌∷◌, List, ℕ, length, map, take, drop, slice_range, Some, sym, ap, refl, subst, arith, take-append-drop}
 use Rattle.std.specs.List.{range_with_len}
-use Rattle.std.proofs.lemmas.List.{take-append-drop}
 use Rattle.std.proofs.lemmas.List.FromFn.{map-range_with_len_more, take-map-range_with_len}
-use Rattle.i_shape.specs.Point.{Point}
-use Rattle.i_shape.specs.IntPoint.{point_of, contour_of}
+use Rattle.i_shape_core.proofs.Common.{Point, point_of, contour_of}
 use Rattle.i_shape_c.specs.Appended.{AppendsRingLeft, AppendsShapeLeft}
 use Rattle.i_shape_c.specs.Batch.{offset, nth_contour}
 use Rattle.i_shape_c.specs.Polygons.{parts}

@@ -1,8 +1,6 @@
-use Rattle.std.proofs.Common.{◌≡◌, ◌+◌, ◌-◌, ◌++◌, ◌∙◌, ◌∷◌, [], ℕ, List, length, slice_range, set, sym, ap, subst, arith}
-use Rattle.std.proofs.lemmas.List.{length-set}
+use Rattle.std.proofs.Common.{◌≡◌, ◌+◌, ◌-◌, ◌++◌, ◌∙◌, ◌∷◌, [], ℕ, List, length, slice_range, set, sym, ap, subst, arith, length-set}
 use Rattle.std.proofs.lemmas.List.FromFn.{map-range_with_len_more}
-use Rattle.i_shape.specs.IntPoint.{point_of, contour_of}
-use Rattle.i_shape.specs.Point.{Point}
+use Rattle.i_shape_core.proofs.Common.{point_of, contour_of, Point}
 use Rattle.i_shape.specs.ShapeAnswers.{ShapeClean}
 use Rattle.i_shape_core.proofs.lists.Rings.{rises_to}
 use Rattle.i_shape_core.proofs.lists.Survivors.{survivors-none}

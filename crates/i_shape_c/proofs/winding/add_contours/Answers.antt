@@ -1,9 +1,6 @@
 use Rattle.std.proofs.Common.{◌≡◌, ◌∙◌, ℕ, ◌+◌, ◌+ℤ◌, ◌-◌, suc, length, map, slice_range, ap, sym, refl, arith}
 use Rattle.std.specs.List.{range_with_len}
-use Rattle.i_shape.specs.Point.{Point}
-use Rattle.i_shape.specs.IntPoint.{point_of, contour_of}
-use Rattle.i_shape.specs.Edges.{sum_of}
-use Rattle.i_shape.specs.Winding.{winding}
+use Rattle.i_shape_core.proofs.Common.{Point, point_of, contour_of, sum_of, winding}
 use Rattle.i_shape_core.specs.Heights.{asked_points}
 use Rattle.i_shape_core.proofs.measure.Heights.{added_as, added_more, none_added_yet}
 use Rattle.i_shape_c.specs.Batch.{offset, nth_contour}

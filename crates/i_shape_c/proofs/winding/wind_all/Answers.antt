@@ -1,9 +1,7 @@
 use Rattle.std.proofs.Common.{◌≡◌, ◌∙◌, ℕ, ◌+◌, ◌+ℤ◌, ◌-◌, ◌^◌, ◌<◌, suc, length, map, slice_range, ap, ap₂, sym, subst, FitsSigned, w64, to_z, arith, rules}
-use Rattle.std.specs.List.{range_with_len}
 use Rattle.std.proofs.lemmas.Int.{to_z-of_z}
-use Rattle.i_shape.specs.IntPoint.{point_of}
-use Rattle.i_shape.specs.Edges.{sum_of}
-use Rattle.i_shape.specs.Winding.{winding, IsWithinHalf}
+use Rattle.std.specs.List.{range_with_len}
+use Rattle.i_shape_core.proofs.Common.{point_of, sum_of, winding, IsWithinHalf}
 use Rattle.i_shape_c.specs.Batch.{offset, nth_contour}
 use Rattle.i_shape_core.proofs.lists.Rings.{rises_to}
 use Rattle.i_shape_c.proofs.Batches.{safe_part}

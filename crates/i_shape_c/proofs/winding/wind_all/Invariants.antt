@@ -1,8 +1,6 @@
 use Rattle.std.proofs.Common.{◌≡◌, ◌-◌, map}
 use Rattle.std.specs.List.{range_with_len}
-use Rattle.i_shape.specs.IntPoint.{point_of}
-use Rattle.i_shape.specs.Edges.{sum_of}
-use Rattle.i_shape.specs.Winding.{winding, IsWithinHalf}
+use Rattle.i_shape_core.proofs.Common.{point_of, sum_of, winding, IsWithinHalf}
 use Rattle.i_shape_c.specs.Batch.{offset, nth_contour}
 use Rattle.i_shape_c.proofs.winding.wind_all.Given as goal
 

@@ -1,7 +1,6 @@
 use Rattle.std.proofs.Common.{◌∙◌, ◌^◌, ◌<◌, length, map, ap, refl, w64, rules}
 use Rattle.std.proofs.lemmas.Int.{to_z-of_z}
-use Rattle.i_shape.specs.IntPoint.{point_of, IsSafe}
-use Rattle.i_shape.specs.Winding.{winding}
+use Rattle.i_shape_core.proofs.Common.{point_of, IsSafe, winding}
 use Rattle.i_shape_c.proofs.Boundary.{copied_points, safe_contour}
 use Rattle.i_shape_c.proofs.Windings.{half_apart}
 use Rattle.i_shape_c.proofs.winding.winding.Goals as goal

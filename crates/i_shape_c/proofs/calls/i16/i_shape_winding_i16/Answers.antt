@@ -1,5 +1,5 @@
 -- Made by scripts/widths.sh from that at 32 bits.
-use Rattle.std.specs.Int.{w16, w64}
+use Rattle.std.proofs.Common.{w16, w64}
 use Rattle.std.proofs.lemmas.Int.{to_z-of_z}
 use Rattle.i_shape_c.proofs.calls.i16.i_shape_winding_i16.Goals as goal
 

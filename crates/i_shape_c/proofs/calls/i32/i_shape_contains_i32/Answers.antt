@@ -1,4 +1,4 @@
-use Rattle.std.specs.Int.{w32}
+use Rattle.std.proofs.Common.{w32}
 use Rattle.std.proofs.lemmas.Int.{to_z-of_z}
 use Rattle.i_shape_c.proofs.Refusals.{same_32}
 use Rattle.i_shape_c.proofs.calls.i32.i_shape_contains_i32.Goals as goal

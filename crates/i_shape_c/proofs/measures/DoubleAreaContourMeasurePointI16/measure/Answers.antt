@@ -1,4 +1,4 @@
-use Rattle.std.specs.Int.{w32}
+use Rattle.std.proofs.Common.{w32}
 use Rattle.std.proofs.lemmas.Int.{to_z-of_z}
 use Rattle.i_shape_c.specs.Points.{point_i16}
 use Rattle.i_shape_c.proofs.Areas.{area_or_zero}
