@@ -225,11 +225,13 @@ all_written_out list points rings shapes old_points new_points old_contours new_
     let contours_count = all.rings.contours_count in
     let shapes_count = all.shapes_count in
     record {
-      points_are = all.rings.points;
-      contours_are = subst (λ w. IsPut 0 w old_contours new_contours) (sym (offsets-ends_from 0 (concatenated list)))
-          (put_more 0 1 (0 ∷ []) (ends_from 0 (concatenated list)) old_contours (set old_contours 0 0) new_contours (put_one old_contours 0 0 some_contours) all.rings.contours refl (omega arith));
-      shapes_are = subst (λ w. IsPut 0 w old_shapes new_shapes) (sym (offsets-ends_from 0 list))
-          (put_more 0 1 (0 ∷ []) (ends_from 0 list) old_shapes (set old_shapes 0 0) new_shapes (put_one old_shapes 0 0 some_shapes) all.shapes refl (omega arith));
+      held = record {
+        points_are = all.rings.points;
+        contours_are = subst (λ w. IsPut 0 w old_contours new_contours) (sym (offsets-ends_from 0 (concatenated list)))
+            (put_more 0 1 (0 ∷ []) (ends_from 0 (concatenated list)) old_contours (set old_contours 0 0) new_contours (put_one old_contours 0 0 some_contours) all.rings.contours refl (omega arith));
+        shapes_are = subst (λ w. IsPut 0 w old_shapes new_shapes) (sym (offsets-ends_from 0 list))
+            (put_more 0 1 (0 ∷ []) (ends_from 0 list) old_shapes (set old_shapes 0 0) new_shapes (put_one old_shapes 0 0 some_shapes) all.shapes refl (omega arith));
+      };
       count = omega (arith, shapes_count);
       fewer_points = omega (arith, points_count, fewer_points);
       fewer_contours = omega (arith, contours_count, fewer_contours);

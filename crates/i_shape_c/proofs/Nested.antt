@@ -1,15 +1,21 @@
 -- Lists that lie end to end, which are read, sorted and written.
-use Rattle.std.proofs.Common.{◌≡◌, ℕ, ◌+◌, ◌-◌, ◌≤◌, ◌<◌, ◌++◌, List, [], ◌∷◌, length, take, drop, get_or, map, slice_range, append-nil, length-append, sym, ap, ◌∙◌, subst, arith}
+use Rattle.std.specs.List.{AllZip, range_with_len}
+use Rattle.std.proofs.Common.{◌≡◌, ℕ, ◌+◌, ◌-◌, ◌≤◌, ◌<◌, ◌++◌, List, [], ◌∷◌, length, take, drop, get_or, map, slice_range, append-nil, length-append, sym, ap, ◌∙◌, subst, arith, zero, suc}
 use Rattle.std.proofs.lemmas.List.{map_more, length-map, take-take, drop-take, drop_all}
 use Rattle.std.proofs.lemmas.List.FromFn.{length-map-range_with_len}
 use Rattle.i_shape_c.specs.Batch.{offset, nth_contour, AreRising}
 use Rattle.i_shape_c.specs.Appended.{IsPut}
 use Rattle.i_shape_c.specs.Polygons.{parts, offsets_of}
 use Rattle.i_shape.specs.Paths.{concatenated}
-use Rattle.i_shape_c.specs.Sorted.{SortsRest, SortsEachRest}
+use Rattle.i_shape_c.specs.Sorted.{SortsRest}
 use Rattle.i_shape_core.proofs.lists.Rings.{rises_to, each_more}
 use Rattle.i_shape_c.proofs.Appended.{put_front, offsets-ends_from, ends-append}
 use Rattle.i_shape.proofs.lists.EndToEnd.{concatenated-append, length_concatenated_take}
+
+-- what holds at each number holds of all that is made of numbers
+pub zip_from : {X Y : Type 0} (R : X → Y → Type 0) (f : ℕ → X) (g : ℕ → Y) (s n : ℕ) → ((k : ℕ) → s ≤ k → k < s + n → R (f k) (g k)) → AllZip R (map f (range_with_len s n)) (map g (range_with_len s n))
+zip_from R f g s zero each = tt
+zip_from R f g s (suc n) each = (each s (omega arith) (omega arith), zip_from R f g (s + 1) n (λ k low high. each k (omega (arith, low)) (omega (arith, high))))
 
 -- a part of what is the same is the same
 same_part : {X : Type 0} (xs ys : List X) (n a b : ℕ) → a ≤ b → b ≤ n → take n xs ≡ take n ys → slice_range xs a b ≡ slice_range ys a b
@@ -20,10 +26,10 @@ same_part xs ys n a b some within same =
 
 -- one part more whose items are sorted but the first
 pub rest_more : {X : Type 0} (Sorted : List X → Type 0) (given old new : List X) (offsets : List ℕ) (place : ℕ) → AreRising offsets (length offsets) → 0 < place → place < length offsets
-    → SortsEachRest Sorted given old offsets place → drop (offset offsets (place - 1)) old ≡ drop (offset offsets (place - 1)) given
+    → ((k : ℕ) → k + 1 < place → SortsRest Sorted (nth_contour given offsets k) (nth_contour old offsets k)) → drop (offset offsets (place - 1)) old ≡ drop (offset offsets (place - 1)) given
     → take (offset offsets (place - 1)) new ≡ take (offset offsets (place - 1)) old
     → SortsRest Sorted (slice_range old (offset offsets (place - 1)) (offset offsets place)) (slice_range new (offset offsets (place - 1)) (offset offsets place))
-    → SortsEachRest Sorted given new offsets (place + 1)
+    → (k : ℕ) → k + 1 < place + 1 → SortsRest Sorted (nth_contour given offsets k) (nth_contour new offsets k)
 rest_more Sorted given old new offsets place order some within done behind before here =
     let a = offset offsets (place - 1) in
     let next : place - 1 + 1 ≡ place = omega (arith, some) in

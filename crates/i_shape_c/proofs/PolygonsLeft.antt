@@ -1,11 +1,11 @@
 -- What is left of polygons, where each contour is cleaned.
-use Rattle.std.proofs.Common.{◌≡◌, Bool, ℕ, zero, suc, ◌+◌, ◌-◌, ◌≤◌, ◌<◌, ◌⊎◌, ◌++◌, List, [], ◌∷◌, map, length, slice_range, refl, sym, ap, ap₂, subst, subst₂, ◌∙◌, arith, Option, Some, None, inl, inr}
+use Rattle.std.proofs.Common.{◌≡◌, Bool, ℕ, zero, suc, ◌+◌, ◌-◌, ◌^◌, ◌≤◌, ◌<◌, ◌⊎◌, ◌++◌, List, [], ◌∷◌, map, length, slice_range, refl, sym, ap, ap₂, subst, subst₂, ◌∙◌, arith, Option, Some, None, inl, inr, option_map, option_to_list, w32, w64, to_z, of_z}
 use Rattle.std.specs.List.{All, range_with_len}
-use Rattle.std.specs.Option.{option_map, option_to_list}
 use Rattle.std.specs.Int.{Width}
 use Rattle.std.proofs.lemmas.Bool.{cases_lt}
 use Rattle.std.proofs.lemmas.List.{length-map, map-append}
 use Rattle.std.proofs.lemmas.List.FromFn.{length-map-range_with_len, get_or-map-range_with_len}
+use Rattle.std.proofs.lemmas.Int.{to_z_pos}
 use Rattle.std.proofs.lemmas.Simd.{map-map}
 use Rattle.i_shape.specs.Point.{Point}
 use Rattle.i_shape.specs.Paths.{concatenated}
@@ -13,14 +13,18 @@ use Rattle.i_shape.specs.ShapeAnswers.{ShapeClean, ListClean, EachShape}
 use Rattle.i_shape.proofs.buffers.ShapeRanges.{slice_range-map}
 use Rattle.i_shape_core.proofs.lists.Rings.{rises_to}
 use Rattle.i_shape_core.proofs.lists.Survivors.{survivors-none, survivors-push}
-use Rattle.i_shape_c.specs.Appended.{HasPolygonsRoom, IsPut, IsReady, AppendsRings, AppendsPolygons, AppendsRingLeft, AppendsShapeLeft, WritesLeft, rings_at, polygons_of}
+use Rattle.i_shape_c.specs.Appended.{HasPolygonsRoom, HoldsPolygons, IsReady, AppendsRings, AppendsPolygons, AppendsRingLeft, AppendsShapeLeft, WritesLeft, rings_at, polygons_of}
 use Rattle.i_shape_c.specs.Batch.{offset, nth_contour, PartsPoints, AreSafeContours}
 use Rattle.i_shape_c.specs.Cleaned.{AreSafe}
-use Rattle.i_shape_c.specs.Polygons.{parts, polygons, offsets_of, HasShapesRoom, AreShapesLeft}
+use Rattle.i_shape_c.specs.Codes.{code_of, no_memory_code, IsRefusal}
+use Rattle.i_shape_c.specs.Polygons.{parts, polygons, offsets_of, PartsPolygons, HasShapesRoom, AreShapesLeft, ShapesAnswer, CleansPolygons}
+use Rattle.i_shape_c.specs.declared.codes.Refusal.{Refusal}
+use Rattle.i_shape_c.specs.declared.codes.Refusal.TheVariants.{NoMemory}
 use Rattle.i_shape_c.specs.declared.polygons.Counts.{Counts}
 use Rattle.i_shape_c.proofs.Appended.{offset_part, nth_part, length_part, parted_part, put_none, put_front, rings_more, polygons_more, length-offsets}
 use Rattle.i_shape_c.proofs.Batches.{safe_part}
 use Rattle.i_shape_c.proofs.PolygonLists.{polygon_at, concatenated-map, offsets-map}
+use Rattle.i_shape_c.proofs.Refusals.{each_code, code_of_64, refused, refused_memory, not_refused}
 
 -- a list without items
 no_items : {X : Type 0} (xs : List X) → length xs ≡ 0 → xs ≡ []
@@ -153,14 +157,14 @@ module _ {P : Type 0} (at : P → Point) (list : List (List (List P))) where
 
   -- arrays that hold what is made of polygons are what a call leaves
   pub polygons_written : (Gives : List (List (List Point)) → List (List (List Point)) → Type 0) (points : List P) (contours shapes : List ℕ) (old_points new_points : List P) (old_contours new_contours old_shapes new_shapes : List ℕ) (n : ℕ)
-      → Gives (polygons (map at points) contours shapes) made → IsPut 0 (concatenated (concatenated list)) old_points new_points → IsPut 0 (offsets_of 0 (concatenated list)) old_contours new_contours → IsPut 0 (offsets_of 0 list) old_shapes new_shapes
+      → Gives (polygons (map at points) contours shapes) made → HoldsPolygons list old_points new_points old_contours new_contours old_shapes new_shapes
       → length list ≡ n → length (concatenated (concatenated list)) ≤ length points → length (concatenated list) < length contours → length list < length shapes
       → AreShapesLeft Gives at points contours shapes old_points new_points old_contours new_contours old_shapes new_shapes n
-  polygons_written Gives points contours shapes old_points new_points old_contours new_contours old_shapes new_shapes n gives points_are contours_are shapes_are count fewer_points fewer_contours fewer_shapes =
+  polygons_written Gives points contours shapes old_points new_points old_contours new_contours old_shapes new_shapes n gives held count fewer_points fewer_contours fewer_shapes =
       let counts = read_counts in
-      let points_put = put_front (concatenated (concatenated list)) old_points new_points points_are in
-      let contours_put = put_front (offsets_of 0 (concatenated list)) old_contours new_contours contours_are in
-      let shapes_put = put_front (offsets_of 0 list) old_shapes new_shapes shapes_are in
+      let points_put = put_front (concatenated (concatenated list)) old_points new_points held.points_are in
+      let contours_put = put_front (offsets_of 0 (concatenated list)) old_contours new_contours held.contours_are in
+      let shapes_put = put_front (offsets_of 0 list) old_shapes new_shapes held.shapes_are in
       let contour_offsets : offsets_of 0 (concatenated made) ≡ offsets_of 0 (concatenated list) = ap (offsets_of 0) made_rings ∙ offsets-map at 0 (concatenated list) in
       let shape_offsets : offsets_of 0 made ≡ offsets_of 0 list = offsets-map (map at) 0 list in
       record {
@@ -190,7 +194,7 @@ offsets_rise {n} {offsets} part k less = (
 )
 
 -- the contours of polygons, of which those from the first polygon's on are `rings`
-module _ {P : Type 0} (at : P → Point) (points : List P) (contours shapes : List ℕ) (contours_parted : PartsPoints (length points) contours) (shapes_parted : PartsPoints (length contours - 1) shapes) where
+module _ {P : Type 0} (points : List P) {contours shapes : List ℕ} (parted : PartsPolygons (length points) contours shapes) where
   abbrev pub low : ℕ
   low = offset shapes 0
 
@@ -202,108 +206,135 @@ module _ {P : Type 0} (at : P → Point) (points : List P) (contours shapes : Li
 
   pub count_rings : length rings ≡ high + 1 - low
   count_rings =
-      length_part contours low (high + 1) (omega (arith, spans shapes_parted)) (omega (arith, shapes_parted.last, contours_parted.some))
-
-  -- each contour of each polygon is one of them
-  ring_is : (i : ℕ) → low + i < high → nth_contour (map at points) contours (low + i) ≡ map at (nth_contour points rings i)
-  ring_is i less = slice_range-map at points (offset contours (low + i)) (offset contours (low + i + 1)) ∙ ap (map at) (sym (nth_part contours low (high + 1) points i (omega (arith, less))))
+      length_part contours low (high + 1) (omega (arith, spans parted.shapes_parted)) (omega (arith, parted.shapes_parted.last, parted.contours_parted.some))
 
   -- they part the points
   pub rings_parted : PartsPoints (length points) rings
   rings_parted =
-      parted_part contours low (high + 1) (length points) contours_parted (omega (arith, spans shapes_parted)) (omega (arith, shapes_parted.last, contours_parted.some))
+      parted_part contours low (high + 1) (length points) parted.contours_parted (omega (arith, spans parted.shapes_parted)) (omega (arith, parted.shapes_parted.last, parted.contours_parted.some))
 
   -- they begin and end where the contours of the polygons do
   pub rings_ends : (offset rings 0 ≡ offset contours low) × (offset rings (length rings - 1) ≡ offset contours high)
   rings_ends =
       let total = count_rings in
       let first : low + 0 ≡ low = omega arith in
-      let last : low + (length rings - 1) ≡ high = omega (arith, total, spans shapes_parted) in (
-        offset_part contours low (high + 1) 0 (omega (arith, spans shapes_parted)) ∙ ap (offset contours) first,
+      let last : low + (length rings - 1) ≡ high = omega (arith, total, spans parted.shapes_parted) in (
+        offset_part contours low (high + 1) 0 (omega (arith, spans parted.shapes_parted)) ∙ ap (offset contours) first,
         offset_part contours low (high + 1) (length rings - 1) (omega (arith, last)) ∙ ap (offset contours) last,
       )
-
-  -- where all the points are safe, theirs are
-  pub rings_safe : (width : Width) → AreSafeContours width at points contours → AreSafeContours width at points rings
-  rings_safe width safe =
-      subst₂ (λ a b. AreSafe width at (slice_range points a b)) (sym rings_ends.0) (sym rings_ends.1) (safe_part width at points contours low high contours_parted.order (spans shapes_parted) (omega (arith, shapes_parted.last, contours_parted.some)) safe)
 
   -- there is room for them where there is for all
   pub room_for_polygons : (out_points out_contours out_shapes : ℕ) → HasShapesRoom (length points) (length contours) (length shapes) out_points out_contours out_shapes → HasPolygonsRoom contours shapes out_points out_contours out_shapes
   room_for_polygons out_points out_contours out_shapes room =
-      let up = rises_to contours (length contours) high (length contours - 1) contours_parted.order (omega (arith, shapes_parted.last)) (omega (arith, contours_parted.some)) in
+      let up = rises_to contours (length contours) high (length contours - 1) parted.contours_parted.order (omega (arith, parted.shapes_parted.last)) (omega (arith, parted.contours_parted.some)) in
       record {
-        points_room = omega (arith, up, contours_parted.last, room.contours_fit.points_room);
-        contours_room = omega (arith, shapes_parted.last, contours_parted.some, room.contours_fit.offsets_room);
+        points_room = omega (arith, up, parted.contours_parted.last, room.contours_fit.points_room);
+        contours_room = omega (arith, parted.shapes_parted.last, parted.contours_parted.some, room.contours_fit.offsets_room);
         shapes_room = room.shapes_room;
       }
 
-  -- the polygons are parted by them
-  polygons_are : polygons (map at points) contours shapes ≡ map (map (map at)) (polygons_of points rings shapes (length shapes - 1))
-  polygons_are = same_ranges (nth_contour (parts (map at points) contours) shapes) (λ k. map (map at) (parts points (rings_at rings shapes k))) 0 0 (length shapes - 1) (λ k less. shape k (0 + k) (omega arith) (omega (arith, less)))
-      ∙ sym (map-map (map (map at)) (λ k. parts points (rings_at rings shapes k)) (range_with_len 0 (length shapes - 1)))
-    where
-      shape : (k j : ℕ) → j ≡ k → k + 1 < length shapes → nth_contour (parts (map at points) contours) shapes j ≡ map (map at) (parts points (rings_at rings shapes j))
-      shape k j is less =
-          let up = offsets_rise shapes_parted k less in
-          let from = offset shapes k - low in
-          let to = offset shapes (k + 1) - low + 1 in
-          let total = count_rings in
-          let count : length (rings_at rings shapes k) ≡ to - from = length_part rings from to (omega (arith, up.1)) (omega (arith, total, up.0, up.1, up.2)) in
-          let n : ℕ = offset shapes (k + 1) - offset shapes k in
-          let as_many : length (rings_at rings shapes k) - 1 ≡ n = omega (arith, count, up.0, up.1) in
-          rw (is, polygon_at (map at points) contours shapes k up.1 (omega (arith, up.2, shapes_parted.last)), as_many)
-          (same_ranges (nth_contour (map at points) contours) (λ i. map at (nth_contour points (rings_at rings shapes k) i)) (offset shapes k) 0 n (λ j below. ring k up j below)
-          ∙ sym (map-map (map at) (nth_contour points (rings_at rings shapes k)) (range_with_len 0 n)))
-        where
-          ring : (k : ℕ) → (low ≤ offset shapes k) × (offset shapes k ≤ offset shapes (k + 1)) × (offset shapes (k + 1) ≤ high) → (j : ℕ) → j < offset shapes (k + 1) - offset shapes k
-              → nth_contour (map at points) contours (offset shapes k + j) ≡ map at (nth_contour points (rings_at rings shapes k) (0 + j))
-          ring k up j below =
-              let from = offset shapes k - low in
-              let to = offset shapes (k + 1) - low + 1 in
-              let total = count_rings in
-              let here : 0 + j ≡ j = omega arith in
-              let there : low + (from + j) ≡ offset shapes k + j = omega (arith, up.0) in
-              let given : nth_contour (map at points) contours (offset shapes k + j) ≡ map at (nth_contour points rings (from + j)) = ap (nth_contour (map at points) contours) (sym there) ∙ ring_is (from + j) (omega (arith, there, below, up.2)) in
-              given ∙ rw (here, nth_part rings from to points j (omega (arith, below, up.0, up.1))) refl
+  module _ (at : P → Point) where
+    -- each contour of each polygon is one of them
+    ring_is : (i : ℕ) → low + i < high → nth_contour (map at points) contours (low + i) ≡ map at (nth_contour points rings i)
+    ring_is i less = slice_range-map at points (offset contours (low + i)) (offset contours (low + i + 1)) ∙ ap (map at) (sym (nth_part contours low (high + 1) points i (omega (arith, less))))
 
-  -- the polygon that a contour belongs to
-  shape_of : (n x : ℕ) → n < length shapes → low ≤ x → x < offset shapes n → (k : ℕ) × (k < n) × (offset shapes k ≤ x) × (x < offset shapes (k + 1))
-  shape_of zero x within above below = absurd (omega (arith, above, below))
-  shape_of (suc n) x within above below = go (cases_lt x (offset shapes n)) (λ less. shape_of n x (omega (arith, within)) above less)
-    where
-      go : (x < offset shapes n) ⊎ (offset shapes n ≤ x) → (x < offset shapes n → (k : ℕ) × (k < n) × (offset shapes k ≤ x) × (x < offset shapes (k + 1))) → (k : ℕ) × (k < suc n) × (offset shapes k ≤ x) × (x < offset shapes (k + 1))
-      go (inl less) before = let found = before less in (found.0, omega (arith, found.1), found.2, found.3)
-      go (inr more) before = let next : suc n ≡ n + 1 = omega arith in (n, omega arith, more, subst (λ m. x < offset shapes m) next below)
+    -- where all the points are safe, theirs are
+    pub rings_safe : (width : Width) → AreSafeContours width at points contours → AreSafeContours width at points rings
+    rings_safe width safe =
+        subst₂ (λ a b. AreSafe width at (slice_range points a b)) (sym rings_ends.0) (sym rings_ends.1) (safe_part width at points contours low high parted.contours_parted.order (spans parted.shapes_parted) (omega (arith, parted.shapes_parted.last, parted.contours_parted.some)) safe)
 
-  -- where the polygons are clean, so is each of them
-  pub rings_clean : (Clean : List Point → Type 0) → EachShape Clean (polygons (map at points) contours shapes) → (i : ℕ) → i + 1 < length rings → Clean (map at (nth_contour points rings i))
-  rings_clean Clean clean i less =
-      let total = count_rings in
-      let below : low + i < high = omega (arith, less, total) in
-      let found = shape_of (length shapes - 1) (low + i) (omega (arith, shapes_parted.some)) (omega arith) below in
-      let k = found.0 in
-      let up = offsets_rise shapes_parted k (omega (arith, found.1)) in
-      let j = low + i - offset shapes k in
-      let n = offset shapes (k + 1) - offset shapes k in
-      let whole = polygons (map at points) contours shapes in
-      let as_many : length whole ≡ length shapes - 1 = length-map-range_with_len (nth_contour (parts (map at points) contours) shapes) 0 (length shapes - 1) in
-      let shape_read = get_or-map-range_with_len (nth_contour (parts (map at points) contours) shapes) 0 (length shapes - 1) k k [] found.1 (omega arith) in
-      let shape_is = polygon_at (map at points) contours shapes k up.1 (omega (arith, up.2, shapes_parted.last)) in
-      let shape_clean : All Clean (map (nth_contour (map at points) contours) (range_with_len (offset shapes k) n)) = rw (shape_read, shape_is) at (clean k [] (omega (arith, found.1, as_many))) in
-      let fits : j < n = omega (arith, found.2, found.3) in
-      let many : length (map (nth_contour (map at points) contours) (range_with_len (offset shapes k) n)) ≡ n = length-map-range_with_len (nth_contour (map at points) contours) (offset shapes k) n in
-      let ring_read = get_or-map-range_with_len (nth_contour (map at points) contours) (offset shapes k) n j (low + i) [] fits (omega (arith, found.2)) in
-      rw (ring_read, ring_is i below) at (shape_clean j [] (omega (arith, fits, many)))
+    -- the polygons are parted by them
+    polygons_are : polygons (map at points) contours shapes ≡ map (map (map at)) (polygons_of points rings shapes (length shapes - 1))
+    polygons_are = same_ranges (nth_contour (parts (map at points) contours) shapes) (λ k. map (map at) (parts points (rings_at rings shapes k))) 0 0 (length shapes - 1) (λ k less. shape k (0 + k) (omega arith) (omega (arith, less)))
+        ∙ sym (map-map (map (map at)) (λ k. parts points (rings_at rings shapes k)) (range_with_len 0 (length shapes - 1)))
+      where
+        shape : (k j : ℕ) → j ≡ k → k + 1 < length shapes → nth_contour (parts (map at points) contours) shapes j ≡ map (map at) (parts points (rings_at rings shapes j))
+        shape k j is less =
+            let up = offsets_rise parted.shapes_parted k less in
+            let from = offset shapes k - low in
+            let to = offset shapes (k + 1) - low + 1 in
+            let total = count_rings in
+            let count : length (rings_at rings shapes k) ≡ to - from = length_part rings from to (omega (arith, up.1)) (omega (arith, total, up.0, up.1, up.2)) in
+            let n : ℕ = offset shapes (k + 1) - offset shapes k in
+            let as_many : length (rings_at rings shapes k) - 1 ≡ n = omega (arith, count, up.0, up.1) in
+            rw (is, polygon_at (map at points) contours shapes k up.1 (omega (arith, up.2, parted.shapes_parted.last)), as_many)
+            (same_ranges (nth_contour (map at points) contours) (λ i. map at (nth_contour points (rings_at rings shapes k) i)) (offset shapes k) 0 n (λ j below. ring k up j below)
+            ∙ sym (map-map (map at) (nth_contour points (rings_at rings shapes k)) (range_with_len 0 n)))
+          where
+            ring : (k : ℕ) → (low ≤ offset shapes k) × (offset shapes k ≤ offset shapes (k + 1)) × (offset shapes (k + 1) ≤ high) → (j : ℕ) → j < offset shapes (k + 1) - offset shapes k
+                → nth_contour (map at points) contours (offset shapes k + j) ≡ map at (nth_contour points (rings_at rings shapes k) (0 + j))
+            ring k up j below =
+                let from = offset shapes k - low in
+                let to = offset shapes (k + 1) - low + 1 in
+                let total = count_rings in
+                let here : 0 + j ≡ j = omega arith in
+                let there : low + (from + j) ≡ offset shapes k + j = omega (arith, up.0) in
+                let given : nth_contour (map at points) contours (offset shapes k + j) ≡ map at (nth_contour points rings (from + j)) = ap (nth_contour (map at points) contours) (sym there) ∙ ring_is (from + j) (omega (arith, there, below, up.2)) in
+                given ∙ rw (here, nth_part rings from to points j (omega (arith, below, up.0, up.1))) refl
 
-  -- the arrays hold what is left of the polygons
-  pub left_written : (Answer : List Point → Option (List Point) → Type 0) (given_rings : List ℕ) (old_points new_points : List P) (old_contours new_contours old_shapes new_shapes : List ℕ) (n : ℕ)
-      → given_rings ≡ rings
-      → WritesLeft Answer at (polygons_of points given_rings shapes (length shapes - 1)) (length points) (length given_rings) (length shapes) old_points new_points old_contours new_contours old_shapes new_shapes n
-      → AreShapesLeft (ListClean Answer) at points contours shapes old_points new_points old_contours new_contours old_shapes new_shapes n
-  left_written Answer given_rings old_points new_points old_contours new_contours old_shapes new_shapes n same wrote_given =
-      let wrote = subst (λ w. WritesLeft Answer at (polygons_of points w shapes (length shapes - 1)) (length points) (length w) (length shapes) old_points new_points old_contours new_contours old_shapes new_shapes n) same wrote_given in
-      let total = count_rings in
-      polygons_written at wrote.left (ListClean Answer) points contours shapes old_points new_points old_contours new_contours old_shapes new_shapes n (rw polygons_are wrote.answer)
-      wrote.written.points_are wrote.written.contours_are wrote.written.shapes_are wrote.written.count wrote.written.fewer_points
-      (omega (arith, wrote.written.fewer_contours, total, shapes_parted.last, contours_parted.some)) wrote.written.fewer_shapes
+    -- the polygon that a contour belongs to
+    shape_of : (n x : ℕ) → n < length shapes → low ≤ x → x < offset shapes n → (k : ℕ) × (k < n) × (offset shapes k ≤ x) × (x < offset shapes (k + 1))
+    shape_of zero x within above below = absurd (omega (arith, above, below))
+    shape_of (suc n) x within above below = go (cases_lt x (offset shapes n)) (λ less. shape_of n x (omega (arith, within)) above less)
+      where
+        go : (x < offset shapes n) ⊎ (offset shapes n ≤ x) → (x < offset shapes n → (k : ℕ) × (k < n) × (offset shapes k ≤ x) × (x < offset shapes (k + 1))) → (k : ℕ) × (k < suc n) × (offset shapes k ≤ x) × (x < offset shapes (k + 1))
+        go (inl less) before = let found = before less in (found.0, omega (arith, found.1), found.2, found.3)
+        go (inr more) before = let next : suc n ≡ n + 1 = omega arith in (n, omega arith, more, subst (λ m. x < offset shapes m) next below)
+
+    -- where the polygons are clean, so is each of them
+    pub rings_clean : (Clean : List Point → Type 0) → EachShape Clean (polygons (map at points) contours shapes) → (i : ℕ) → i + 1 < length rings → Clean (map at (nth_contour points rings i))
+    rings_clean Clean clean i less =
+        let total = count_rings in
+        let below : low + i < high = omega (arith, less, total) in
+        let found = shape_of (length shapes - 1) (low + i) (omega (arith, parted.shapes_parted.some)) (omega arith) below in
+        let k = found.0 in
+        let up = offsets_rise parted.shapes_parted k (omega (arith, found.1)) in
+        let j = low + i - offset shapes k in
+        let n = offset shapes (k + 1) - offset shapes k in
+        let whole = polygons (map at points) contours shapes in
+        let as_many : length whole ≡ length shapes - 1 = length-map-range_with_len (nth_contour (parts (map at points) contours) shapes) 0 (length shapes - 1) in
+        let shape_read = get_or-map-range_with_len (nth_contour (parts (map at points) contours) shapes) 0 (length shapes - 1) k k [] found.1 (omega arith) in
+        let shape_is = polygon_at (map at points) contours shapes k up.1 (omega (arith, up.2, parted.shapes_parted.last)) in
+        let shape_clean : All Clean (map (nth_contour (map at points) contours) (range_with_len (offset shapes k) n)) = rw (shape_read, shape_is) at (clean k [] (omega (arith, found.1, as_many))) in
+        let fits : j < n = omega (arith, found.2, found.3) in
+        let many : length (map (nth_contour (map at points) contours) (range_with_len (offset shapes k) n)) ≡ n = length-map-range_with_len (nth_contour (map at points) contours) (offset shapes k) n in
+        let ring_read = get_or-map-range_with_len (nth_contour (map at points) contours) (offset shapes k) n j (low + i) [] fits (omega (arith, found.2)) in
+        rw (ring_read, ring_is i below) at (shape_clean j [] (omega (arith, fits, many)))
+
+    -- the arrays hold what is left of the polygons
+    pub left_written : (Answer : List Point → Option (List Point) → Type 0) (given_rings : List ℕ) (old_points new_points : List P) (old_contours new_contours old_shapes new_shapes : List ℕ) (n : ℕ)
+        → given_rings ≡ rings
+        → WritesLeft Answer at (polygons_of points given_rings shapes (length shapes - 1)) (length points) (length given_rings) (length shapes) old_points new_points old_contours new_contours old_shapes new_shapes n
+        → AreShapesLeft (ListClean Answer) at points contours shapes old_points new_points old_contours new_contours old_shapes new_shapes n
+    left_written Answer given_rings old_points new_points old_contours new_contours old_shapes new_shapes n same wrote_given =
+        let wrote = subst (λ w. WritesLeft Answer at (polygons_of points w shapes (length shapes - 1)) (length points) (length w) (length shapes) old_points new_points old_contours new_contours old_shapes new_shapes n) same wrote_given in
+        let total = count_rings in
+        polygons_written at wrote.left (ListClean Answer) points contours shapes old_points new_points old_contours new_contours old_shapes new_shapes n (rw polygons_are wrote.answer)
+        wrote.written.held wrote.written.count wrote.written.fewer_points
+        (omega (arith, wrote.written.fewer_contours, total, parted.shapes_parted.last, parted.contours_parted.some)) wrote.written.fewer_shapes
+
+-- why a call on polygons is refused, or none where it isn't
+abbrev AreRefused : {P : Type 0} → Width → (P → Point) → List P → List ℕ → List ℕ → List P → List ℕ → List ℕ → Option Refusal → Type 0
+AreRefused width at points contours shapes old_points old_contours old_shapes =
+    IsRefusal (PartsPolygons (length points) contours shapes) (HasShapesRoom (length points) (length contours) (length shapes) (length old_points) (length old_contours) (length old_shapes)) (AreSafeContours width at points contours)
+
+-- what a call that cleans polygons answers
+module _ {P : Type 0} {Spares : List (List (List Point)) → Type 0} {Gives : List (List (List Point)) → List (List (List Point)) → Type 0} {width : Width} {at : P → Point} {points : List P} {contours shapes : List ℕ} {old_points : List P} {old_contours old_shapes : List ℕ} where
+  -- a refusal's code
+  pub polygons_refused : (r : Refusal) → AreRefused width at points contours shapes old_points old_contours old_shapes (Some r)
+      → CleansPolygons Spares Gives width at points contours shapes old_points old_points old_contours old_contours old_shapes old_shapes (to_z w64 (of_z w64 (to_z w32 (of_z w32 (code_of r)))))
+  polygons_refused r why = rw (code_of_64 r) (record {
+    answer = each_code (ShapesAnswer Gives at points contours shapes old_points old_points old_contours old_contours old_shapes old_shapes) r (λ n few. (few, refl, refl, refl));
+    refuses = refused r why;
+  })
+
+  module _ {new_points : List P} {new_contours new_shapes : List ℕ} (fit : AreRefused width at points contours shapes old_points old_contours old_shapes None) where
+    -- how many are left
+    pub polygons_counted : (n : ℕ) → length old_shapes < 2 ^ 63 → AreShapesLeft Gives at points contours shapes old_points new_points old_contours new_contours old_shapes new_shapes n
+        → CleansPolygons Spares Gives width at points contours shapes old_points new_points old_contours new_contours old_shapes new_shapes (to_z w64 n)
+    polygons_counted n few left = rw (to_z_pos w64 n (omega (arith, left.fewer_shapes, fit.1.shapes_room, few))) (record { answer = left; refuses = not_refused fit n })
+
+    -- or that an allocation failed
+    pub polygons_without_memory : (new_points ≡ old_points) × (new_contours ≡ old_contours) × (new_shapes ≡ old_shapes) → (Spares (polygons (map at points) contours shapes) → ⊥)
+        → CleansPolygons Spares Gives width at points contours shapes old_points new_points old_contours new_contours old_shapes new_shapes (to_z w64 (of_z w64 (to_z w32 (of_z w32 no_memory_code))))
+    polygons_without_memory kept unspared = rw (code_of_64 NoMemory) (record { answer = (omega arith, kept.0, kept.1, kept.2); refuses = refused_memory fit unspared })

@@ -1,6 +1,5 @@
 -- Why a call is refused, and what it answers then.
-use Rattle.std.proofs.Common.{◌≡◌, ◌↔◌, ◌<◌, ℕ, ℤ, pos, negsuc, Option, Some, None, refl, arith, to_z, of_z, FitsSigned}
-use Rattle.std.specs.Int.{w32, w64}
+use Rattle.std.proofs.Common.{◌≡◌, ◌↔◌, ◌<◌, ℕ, ℤ, pos, negsuc, Option, Some, None, refl, arith, to_z, of_z, FitsSigned, w32, w64}
 use Rattle.std.proofs.lemmas.Int.{to_z-of_z}
 use Rattle.i_shape_c.specs.Codes.{code_of, no_memory_code, IsRefusal, Refuses}
 use Rattle.i_shape_c.specs.declared.codes.Refusal.{Refusal}
@@ -43,14 +42,9 @@ refusal_as None p r a why = (p.0 why.0, r.0 why.1, a.0 why.2)
 pub as_is : {P : Type 0} → P ↔ P
 as_is = (λ p. p, λ p. p)
 
--- so a call is refused
-pub refuses_as : {P Q R S A B M N : Type 0} {z : ℤ} → P ↔ Q → R ↔ S → A ↔ B → M ↔ N → Refuses P R A M z → Refuses Q S B N z
-refuses_as p r a m why = record {
-  bad_offsets = (λ is q. why.bad_offsets.0 is (p.1 q), λ not. why.bad_offsets.1 (λ x. not (p.0 x)));
-  no_room = (λ is. let told = why.no_room.0 is in (p.0 told.0, λ s. told.1 (r.1 s)), λ both. why.no_room.1 (p.1 both.0, λ x. both.1 (r.0 x)));
-  unsafe_points = (λ is. let told = why.unsafe_points.0 is in (p.0 told.0, r.0 told.1, λ b. told.2 (a.1 b)), λ all. why.unsafe_points.1 (p.1 all.0, r.1 all.1, λ x. all.2 (a.0 x)));
-  memory = λ is n. why.memory is (m.1 n);
-}
+-- a call that takes no memory takes none where more is said
+pub refuses_more : {Parted Room Safe Spared More : Type 0} {z : ℤ} → (More → Spared) → Refuses Parted Room Safe Spared z → Refuses Parted Room Safe More z
+refuses_more more why = record { bad_offsets = why.bad_offsets; no_room = why.no_room; unsafe_points = why.unsafe_points; memory = λ is said. why.memory is (more said) }
 
 module _ {Parted Room Safe Spared : Type 0} where
   -- a refusal is answered with its code

@@ -1,26 +1,23 @@
 -- The form of polygons: the cleaned polygons, sorted, with the holes of each sorted.
-use Rattle.std.proofs.Common.{◌≡◌, ℕ, ℤ, zero, suc, ◌+◌, ◌-◌, ◌≤◌, ◌<◌, List, [], ◌∷◌, length, drop, map, Option, Some, None, IsPermutation, IsSorted, refl, sym, ap, ap₂, ◌∙◌, subst, subst₂, arith}
+use Rattle.std.specs.Option.{option_cmp}
+use Rattle.std.proofs.Common.{◌≡◌, ℕ, ℤ, ◌+◌, List, [], ◌∷◌, length, drop, map, Option, Some, None, IsPermutation, IsSorted, refl, sym, ap, ap₂, ◌∙◌, subst, subst₂, arith, Ordering, IsSortedByKey, get_or, slice_get, option_and_then, is_lt, Less, Equal, Greater}
 use Rattle.std.specs.Cmp.{IsTotalOrder}
 use Rattle.std.specs.Cmp.Lexicographic.{slice_cmp}
-use Rattle.std.specs.Ordering.{MatchOrdering, int_cmp}
-use Rattle.std.specs.declared.cmp.Ordering.{Ordering}
-use Rattle.std.specs.List.{AllZip, AllPairs, range_with_len, sum_by, filter_map}
+use Rattle.std.specs.Ordering.{MatchOrdering, int_cmp, ordering_then}
+use Rattle.std.specs.List.{AllZip, AllPairs, sum_by, filter_map}
 use Rattle.std.proofs.lemmas.Cmp.{on_total, lists_total}
 use Rattle.std.proofs.lemmas.List.{take-map, drop-map, length-map}
 use Rattle.std.proofs.lemmas.List.Sorted.{IsPermutation-map, sum_by-IsPermutation}
 use Rattle.std.proofs.lemmas.List.Sums.{sum_by-cons, sum_by-take-drop}
 use Rattle.std.proofs.lemmas.Simd.{map-map}
 use Rattle.i_shape_core.proofs.forms.ContourOrder.{point_cmp, points_told, Tells, IsContourBefore, contours_told, contour_told}
-use Rattle.i_shape.specs.Point.{Point}
-use Rattle.i_shape.specs.IntPoint.{point_of}
+use Rattle.i_shape_core.proofs.Common.{Point, point_of, IsBefore, IsAtMost}
 use Rattle.i_shape.specs.IntPoints.{IntPoint}
 use Rattle.i_shape.specs.Paths.{concatenated}
-use Rattle.i_shape.specs.Canonical.{IsBefore, IsAtMost}
 use Rattle.i_shape.specs.CanonicalShapes.{ShapeForm, ListForm, IsShapeAtMost}
 use Rattle.i_shape.specs.ShapeAnswers.{Survivors, ShapeClean, ListClean}
 use Rattle.i_shape.proofs.lists.Fewer.{sum_by-one, sum_by-length, sum_by-concatenated}
 use Rattle.i_shape.proofs.shapes.SortedOrders.{shape_told, sorted_pairs}
-use Rattle.i_shape_c.specs.Batch.{nth_contour}
 use Rattle.i_shape_c.specs.Polygons.{parts, polygons}
 use Rattle.i_shape_c.specs.Sorted.{SortsRest, SortsEachRest, SortsPolygons}
 use Rattle.i_shape_c.proofs.PolygonLists.{concatenated-map, parts-map}
@@ -91,10 +88,12 @@ sorted_counts s t sorts =
       omega (arith, points, sum_by-concatenated length s, sum_by-concatenated length t, sum_by-length (concatenated s), sum_by-length (concatenated t)),
     )
 
--- what holds at each number holds of all that is made of numbers
-zip_from : {X Y : Type 0} (R : X → Y → Type 0) (f : ℕ → X) (g : ℕ → Y) (s n : ℕ) → ((k : ℕ) → s ≤ k → k < s + n → R (f k) (g k)) → AllZip R (map f (range_with_len s n)) (map g (range_with_len s n))
-zip_from R f g s zero each = tt
-zip_from R f g s (suc n) each = (each s (omega arith) (omega arith), zip_from R f g (s + 1) n (λ k low high. each k (omega (arith, low)) (omega (arith, high))))
+-- lists whose items are paired stay so when both are made into others
+zip_map : {X Y : Type 0} (R : X → X → Type 0) (S : Y → Y → Type 0) (f : X → Y) → ((x y : X) → R x y → S (f x) (f y)) → (xs ys : List X) → AllZip R xs ys → AllZip S (map f xs) (map f ys)
+zip_map R S f made [] [] h = tt
+zip_map R S f made [] (y ∷ ys) h = absurd h
+zip_map R S f made (x ∷ xs) [] h = absurd h
+zip_map R S f made (x ∷ xs) (y ∷ ys) h = (made x y h.0, zip_map R S f made xs ys h.1)
 
 -- points of C are in the order of the points that they represent
 pub points_in_order : {P I : Type 0} (value : I → ℤ) (point : P → IntPoint I) (coordinate_cmp : I → I → Ordering) (order : (a b : I) → coordinate_cmp a b ≡ int_cmp (value a) (value b)) (cmp : P → P → Ordering)
@@ -107,6 +106,10 @@ map-map₂ : {X Y Z : Type 0} (f : Y → Z) (g : X → Y) (lists : List (List X)
 map-map₂ f g [] = refl
 map-map₂ f g (x ∷ xs) = ap₂ ◌∷◌ (map-map f g x) (map-map₂ f g xs)
 
+-- a polygon behind the first point of its outer ring
+abbrev pub keyed : {P B D : Type 0} → (B → List P) → (D → List B) → D → Option P × D
+keyed ring rings d = (option_and_then (λ b. slice_get (ring b) 0) (slice_get (rings d) 0), d)
+
 -- lists of rings, and lists of these, as the program has them
 module _ {P B D : Type 0} (ring : B → List P) (rings : D → List B) (at : P → Point) (cmp : P → P → Ordering) (told : Tells cmp at IsBefore) (total : IsTotalOrder cmp) where
   abbrev read : B → List Point
@@ -117,6 +120,35 @@ module _ {P B D : Type 0} (ring : B → List P) (rings : D → List B) (at : P �
 
   abbrev pub shape_cmp : D → D → Ordering
   shape_cmp x y = slice_cmp ring_cmp (rings x) (rings y)
+
+  -- polygons that are sorted by that point, and then by all, are sorted
+  pub sorted_by_first : (sorted : List D) → IsSortedByKey (keyed ring rings) (λ x y. ordering_then (option_cmp cmp x.0 y.0) (shape_cmp x.1 y.1)) sorted → IsSorted shape_cmp sorted
+  sorted_by_first sorted up k d low high = ap is_lt (sym (by_rings (rings (get_or sorted (k + 1) d)) (rings (get_or sorted k d)))) ∙ up k d low high
+    where
+      again : (o r s : Ordering) → ordering_then o (ordering_then (ordering_then o r) s) ≡ ordering_then (ordering_then o r) s
+      again Less r s = refl
+      again Equal r s = refl
+      again Greater r s = refl
+
+      by_points : (x y : List P) (o : Ordering) → ordering_then (option_cmp cmp (slice_get x 0) (slice_get y 0)) (ordering_then (slice_cmp cmp x y) o) ≡ ordering_then (slice_cmp cmp x y) o
+      by_points [] [] o = refl
+      by_points [] (q ∷ y) o = refl
+      by_points (p ∷ x) [] o = refl
+      by_points (p ∷ x) (q ∷ y) o = again (cmp p q) (slice_cmp cmp x y) o
+
+      none_first : (y : List P) → ordering_then (option_cmp cmp None (slice_get y 0)) Less ≡ Less
+      none_first [] = refl
+      none_first (q ∷ y) = refl
+
+      none_second : (x : List P) → ordering_then (option_cmp cmp (slice_get x 0) None) Greater ≡ Greater
+      none_second [] = refl
+      none_second (p ∷ x) = refl
+
+      by_rings : (xs ys : List B) → ordering_then (option_cmp cmp (option_and_then (λ b. slice_get (ring b) 0) (slice_get xs 0)) (option_and_then (λ b. slice_get (ring b) 0) (slice_get ys 0))) (slice_cmp ring_cmp xs ys) ≡ slice_cmp ring_cmp xs ys
+      by_rings [] [] = refl
+      by_rings [] (y ∷ ys) = none_first (ring y)
+      by_rings (x ∷ xs) [] = none_second (ring x)
+      by_rings (x ∷ xs) (y ∷ ys) = by_points (ring x) (ring y) (slice_cmp ring_cmp xs ys)
 
   ring_told : Tells ring_cmp read IsContourBefore
   ring_told x y = contours_told cmp at told (ring x) (ring y)
@@ -132,25 +164,20 @@ module _ {P B D : Type 0} (ring : B → List P) (rings : D → List B) (at : P �
   }
 
   -- where the rings of each polygon are sorted but the first, and then the polygons, the polygons are sorted
-  pub polygons_sorted : (old new : List B) (offsets : List ℕ) (made sorted : List D) → SortsEachRest (IsSorted ring_cmp) old new offsets (length offsets) → map rings made ≡ parts new offsets → IsPermutation made sorted → IsSorted shape_cmp sorted
+  pub polygons_sorted : (old new : List B) (offsets : List ℕ) (made sorted : List D) → SortsEachRest (IsSorted ring_cmp) old new offsets → map rings made ≡ parts new offsets → IsPermutation made sorted → IsSorted shape_cmp sorted
       → SortsPolygons (map (map read) (parts old offsets)) (map (λ d. map read (rings d)) sorted)
   polygons_sorted old new offsets made sorted each are same up =
-      let f = λ (k : ℕ). map read (nth_contour old offsets k) in
-      let g = λ (k : ℕ). map read (nth_contour new offsets k) in
-      let all = range_with_len 0 (length offsets - 1) in
       let shape = λ (d : D). map read (rings d) in
       let is : map shape made ≡ map (map read) (parts new offsets) = sym (map-map (map read) rings made) ∙ ap (map (map read)) are in
-      let zipped : AllZip (SortsRest (AllPairs IsAtMost)) (map f all) (map g all) = zip_from (SortsRest (AllPairs IsAtMost)) f g 0 (length offsets - 1)
-      (λ k low high. rest_sorted (nth_contour old offsets k) (nth_contour new offsets k) (each k (omega (arith, high)))) in
       record {
         holes = map (map read) (parts new offsets);
-        holes_sorted = rw (map-map (map read) (nth_contour old offsets) all, map-map (map read) (nth_contour new offsets) all) zipped;
+        holes_sorted = zip_map (SortsRest (IsSorted ring_cmp)) (SortsRest (AllPairs IsAtMost)) (map read) rest_sorted (parts old offsets) (parts new offsets) each.each;
         same = rw is at (IsPermutation-map shape made sorted same);
         in_order = sorted_pairs shape_cmp shape IsShapeAtMost (on_total rings (lists_total ring_total)) (λ x y less. shape_told ring_cmp read ring_told (rings x) (rings y) less) sorted up;
       }
 
   -- so they are, as they are read from arrays, with as many contours and points
-  pub made_sorted : (points : List P) (contours shapes : List ℕ) (old new : List B) (made sorted : List D) → map ring old ≡ parts points contours → SortsEachRest (IsSorted ring_cmp) old new shapes (length shapes) → map rings made ≡ parts new shapes → IsPermutation made sorted
+  pub made_sorted : (points : List P) (contours shapes : List ℕ) (old new : List B) (made sorted : List D) → map ring old ≡ parts points contours → SortsEachRest (IsSorted ring_cmp) old new shapes → map rings made ≡ parts new shapes → IsPermutation made sorted
       → IsSorted shape_cmp sorted → SortsPolygons (map (map (map at)) (polygons points contours shapes)) (map (map (map at)) (map (map ring) (map rings sorted)))
       × (length (concatenated (map rings sorted)) ≡ length (concatenated (polygons points contours shapes)))
       × (length (concatenated (map ring (concatenated (map rings sorted)))) ≡ length (concatenated (concatenated (polygons points contours shapes))))

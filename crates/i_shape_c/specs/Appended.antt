@@ -74,11 +74,15 @@ pub record AppendsShapeLeft {P : Type 0} (Answer : List Point → Option (List P
   pub answer : ShapeClean Answer (map (map point) shape) (option_map (map (map point)) left)
   pub appended : AppendsPolygons (option_to_list left) old_points new_points old_contours new_contours old_shapes new_shapes before after
 
--- the three arrays hold the polygons, which are n, from the start on; there are no more of them, of their contours and of their points than so many
-pub record WritesPolygons {P : Type 0} (list : List (List (List P))) (points rings shapes : ℕ) (old_points new_points : List P) (old_contours new_contours old_shapes new_shapes : List ℕ) (n : ℕ) : Type 0 where
+-- the three arrays hold the polygons from the start on
+pub record HoldsPolygons {P : Type 0} (list : List (List (List P))) (old_points new_points : List P) (old_contours new_contours old_shapes new_shapes : List ℕ) : Type 0 where
   pub points_are : IsPut 0 (concatenated (concatenated list)) old_points new_points
   pub contours_are : IsPut 0 (offsets_of 0 (concatenated list)) old_contours new_contours
   pub shapes_are : IsPut 0 (offsets_of 0 list) old_shapes new_shapes
+
+-- they hold the polygons, which are n; there are no more of them, of their contours and of their points than so many
+pub record WritesPolygons {P : Type 0} (list : List (List (List P))) (points rings shapes : ℕ) (old_points new_points : List P) (old_contours new_contours old_shapes new_shapes : List ℕ) (n : ℕ) : Type 0 where
+  pub held : HoldsPolygons list old_points new_points old_contours new_contours old_shapes new_shapes
   pub count : length list ≡ n
   pub fewer_points : length (concatenated (concatenated list)) ≤ points
   pub fewer_contours : length (concatenated list) < rings

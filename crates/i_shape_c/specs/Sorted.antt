@@ -1,13 +1,12 @@
 -- How polygons are sorted, and then written. Private functions alone speak of it.
-use Rattle.std.specs.Prelude.{◌≡◌, ℕ, ◌+◌, ◌<◌, List, map, take, drop, IsPermutation}
+use Rattle.std.specs.Prelude.{◌≡◌, ℕ, ◌-◌, List, map, length, take, drop, IsPermutation}
 use Rattle.std.specs.List.{AllZip, AllPairs}
 use Rattle.i_shape.specs.Point.{Point}
-use Rattle.i_shape.specs.Paths.{concatenated}
 use Rattle.i_shape.specs.Canonical.{IsAtMost}
 use Rattle.i_shape.specs.CanonicalShapes.{IsShapeAtMost}
-use Rattle.i_shape_c.specs.Appended.{IsPut}
-use Rattle.i_shape_c.specs.Batch.{nth_contour}
-use Rattle.i_shape_c.specs.Polygons.{offsets_of}
+use Rattle.i_shape_c.specs.Appended.{HoldsPolygons}
+use Rattle.i_shape_c.specs.Batch.{offset}
+use Rattle.i_shape_c.specs.Polygons.{parts}
 
 -- the first item stays, and the others are sorted
 pub record SortsRest {X : Type 0} (Sorted : List X → Type 0) (old new : List X) : Type 0 where
@@ -15,9 +14,11 @@ pub record SortsRest {X : Type 0} (Sorted : List X → Type 0) (old new : List X
   pub same : IsPermutation (drop 1 old) (drop 1 new)
   pub sorted : Sorted (drop 1 new)
 
--- so are the items of each part between the first n offsets
-abbrev pub SortsEachRest : {X : Type 0} → (List X → Type 0) → List X → List X → List ℕ → ℕ → Type 0
-SortsEachRest Sorted old new offsets n = (k : ℕ) → k + 1 < n → SortsRest Sorted (nth_contour old offsets k) (nth_contour new offsets k)
+-- so are the items of each part that the offsets give, and those outside stay
+pub record SortsEachRest {X : Type 0} (Sorted : List X → Type 0) (old new : List X) (offsets : List ℕ) : Type 0 where
+  pub each : AllZip (SortsRest Sorted) (parts old offsets) (parts new offsets)
+  pub before : take (offset offsets 0) new ≡ take (offset offsets 0) old
+  pub behind : drop (offset offsets (length offsets - 1)) new ≡ drop (offset offsets (length offsets - 1)) old
 
 -- the holes of each polygon are sorted, and then the polygons
 pub record SortsPolygons (given sorted : List (List (List Point))) : Type 0 where
@@ -30,6 +31,4 @@ pub record SortsPolygons (given sorted : List (List (List Point))) : Type 0 wher
 pub record WritesSorted {P : Type 0} (point : P → Point) (given : List (List (List P))) (old_points new_points : List P) (old_contours new_contours old_shapes new_shapes : List ℕ) : Type 0 where
   pub list : List (List (List P))
   pub sorted : SortsPolygons (map (map (map point)) given) (map (map (map point)) list)
-  pub points_are : IsPut 0 (concatenated (concatenated list)) old_points new_points
-  pub contours_are : IsPut 0 (offsets_of 0 (concatenated list)) old_contours new_contours
-  pub shapes_are : IsPut 0 (offsets_of 0 list) old_shapes new_shapes
+  pub held : HoldsPolygons list old_points new_points old_contours new_contours old_shapes new_shapes

@@ -1,9 +1,9 @@
 //! Canonical forms of polygons.
 
-ghost use Rattle.std.specs.Prelude.{◌≡◌, ◌+◌, ◌-◌, ◌^◌, ◌<◌, ◌≤◌, length, map, IfOk, OnOk, OnErr};
+ghost use Rattle.std.specs.Prelude.{◌≡◌, ◌+◌, ◌-◌, ◌^◌, ◌<◌, ◌≤◌, length, map, option_and_then, slice_get, IfOk, OnOk, OnErr};
 ghost use Rattle.i_shape.specs.CanonicalShapes.{ListForm};
 ghost use Rattle.i_shape.specs.Paths.{concatenated};
-ghost use Rattle.i_shape_c.specs.Batch.{PartsPoints, AreSafeContours};
+ghost use Rattle.i_shape_c.specs.Batch.{AreSafeContours};
 ghost use Rattle.i_shape_c.specs.Points.{point_by};
 ghost use Rattle.i_shape_c.specs.Polygons.{polygons, HaveNoContours, PartsPolygons, HasShapesRoom, AreShapesLeft, CleansPolygons};
 ghost use Rattle.i_shape_c.specs.Sorted.{WritesSorted};
@@ -12,10 +12,10 @@ use crate::batch::part;
 use crate::codes::Refusal;
 use crate::lists::{slices, sort_each_rest, write_lists};
 use crate::point::CPoint;
-use crate::polygons::{refusal, write_cleaned};
+use crate::polygons::{clean_shapes, refusal, write_cleaned};
 use i_shape::ShapeError;
 use i_shape::int::cleaner::ContourCleaner;
-use std::alloc::Global;
+use std::alloc::{AllocError, Global};
 
 /// Writes the form of the polygons to the front of the three arrays. `C` computes the form of a contour. Returns how
 /// many polygons the form has, or a code below 0.
@@ -44,7 +44,19 @@ pub fn form_shapes<P: CPoint, C: ContourCleaner>(
     ) {
         return refusal.code() as isize;
     }
-    match write_forms::<P, C>(
+    // A polygon without contours is its form, and takes no memory.
+    if shapes[0] == shapes[shapes.len() - 1] {
+        return clean_shapes::<P, C>(
+            alloc,
+            points,
+            contours,
+            shapes,
+            out_points,
+            out_contours,
+            out_shapes,
+        );
+    }
+    match write_sorted_forms::<P, C>(
         alloc,
         points,
         contours,
@@ -58,55 +70,8 @@ pub fn form_shapes<P: CPoint, C: ContourCleaner>(
     }
 }
 
-/// Writes the form of the polygons to the front of the three arrays. Returns how many polygons it has. Allocates before
-/// it writes, so an error leaves the arrays unchanged. Allocates nothing where no polygon has a contour.
-fn write_forms<P: CPoint, C: ContourCleaner>(
-    alloc: Global,
-    points: &[P],
-    contours: &[usize],
-    shapes: &[usize],
-    out_points: &mut [P],
-    out_contours: &mut [usize],
-    out_shapes: &mut [usize],
-) -> Result<usize, ShapeError>
-    requires parted { PartsPolygons (length points.now) contours.now shapes.now }
-    requires room { HasShapesRoom (length points.now) (length contours.now) (length shapes.now)
-        (length out_points.old) (length out_contours.old) (length out_shapes.old) }
-    requires points_safe { AreSafeContours P.Coordinate.width
-        (point_by P.Coordinate.value P.point) points.now contours.now }
-    ensures ok { IfOk result
-        (λ n. AreShapesLeft (ListForm C.answers) (point_by P.Coordinate.value P.point)
-        points.now contours.now shapes.now out_points.old out_points.new
-        out_contours.old out_contours.new out_shapes.old out_shapes.new n) }
-    ensures err { OnErr result ((out_points.new ≡ out_points.old)
-        × (out_contours.new ≡ out_contours.old) × (out_shapes.new ≡ out_shapes.old)) }
-    ensures memory { OnErr result (HaveNoContours (polygons
-        (map (point_by P.Coordinate.value P.point) points.now) contours.now shapes.now) → ⊥) }
-{
-    if shapes[0] == shapes[shapes.len() - 1] {
-        return write_cleaned::<P, C>(
-            alloc,
-            points,
-            contours,
-            shapes,
-            out_points,
-            out_contours,
-            out_shapes,
-        );
-    }
-    write_sorted_forms::<P, C>(
-        alloc,
-        points,
-        contours,
-        shapes,
-        out_points,
-        out_contours,
-        out_shapes,
-    )
-}
-
-/// Does the same by way of lists of its own, which hold the cleaned polygons. Allocates before it writes, so an error
-/// leaves the arrays unchanged.
+/// Writes the form of the polygons to the front of the three arrays, by way of lists that hold the cleaned polygons.
+/// Returns how many polygons it has. Allocates before it writes, so an error leaves the arrays unchanged.
 fn write_sorted_forms<P: CPoint, C: ContourCleaner>(
     alloc: Global,
     points: &[P],
@@ -130,7 +95,7 @@ fn write_sorted_forms<P: CPoint, C: ContourCleaner>(
 {
     let first = shapes[0];
     let last = shapes[shapes.len() - 1];
-    let mut cleaned_points = vec![in alloc; P::ZERO; contours[last] - contours[first]]?;
+    let mut cleaned_points = Vec::from_slice(alloc, part(points, contours[first], contours[last]))?;
     let mut cleaned_contours = vec![in alloc; 0usize; last - first + 1]?;
     let mut cleaned_shapes = vec![in alloc; 0usize; shapes.len()]?;
     let count = write_cleaned::<P, C>(
@@ -166,9 +131,8 @@ fn write_sorted<P: CPoint>(
     out_points: &mut [P],
     out_contours: &mut [usize],
     out_shapes: &mut [usize],
-) -> Result<(), ShapeError>
-    requires contours_parted { PartsPoints (length points.now) contours.now }
-    requires shapes_parted { PartsPoints (length contours.now - 1) shapes.now }
+) -> Result<(), AllocError>
+    requires parted { PartsPolygons (length points.now) contours.now shapes.now }
     requires whole { length (concatenated (polygons points.now contours.now shapes.now)) + 1
         ≡ length contours.now }
     requires points_room { length (concatenated (concatenated
@@ -184,10 +148,28 @@ fn write_sorted<P: CPoint>(
     let mut rings = slices(alloc, points, contours)?;
     sort_each_rest(&mut rings, shapes);
     let mut polygons = slices(alloc, &rings, shapes)?;
-    polygons.sort_unstable();
+    polygons.sort_by_cached_key(keyed)?;
     // One place for each contour. All of them are written below.
     let mut sorted = slices(alloc, points, contours)?;
     write_lists(&polygons, &mut sorted, out_shapes);
     write_lists(&sorted, out_points, out_contours);
     Ok(())
+}
+
+/// Returns the polygon behind the first point of its outer contour, which decides most comparisons of two.
+fn keyed<'a, P: Copy>(polygon: &&'a [&'a [P]]) -> (Option<P>, &'a [&'a [P]])
+    ensures { result ≡ (
+      option_and_then (λ contour. slice_get contour.now 0)
+          (slice_get polygon.now.now 0),
+      polygon.now,
+    ) }
+{
+    (first_point(polygon), *polygon)
+}
+
+/// Returns the first point of the outer contour.
+fn first_point<P: Copy>(polygon: &[&[P]]) -> Option<P>
+    ensures { result ≡ option_and_then (λ contour. slice_get contour.now 0) (slice_get polygon.now 0) }
+{
+    polygon.first()?.first().copied()
 }

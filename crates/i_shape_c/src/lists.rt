@@ -8,15 +8,14 @@ ghost use Rattle.i_shape_c.specs.Polygons.{parts, offsets_of};
 ghost use Rattle.i_shape_c.specs.Sorted.{SortsRest, SortsEachRest};
 
 use crate::batch::part;
-use i_shape::ShapeError;
-use std::alloc::Global;
+use std::alloc::{AllocError, Global};
 
 /// Returns the lists into which the offsets divide the items.
 pub fn slices<'a, T: Copy>(
     alloc: Global,
     items: &'a [T],
     offsets: &[usize],
-) -> Result<Vec<&'a [T]>, ShapeError>
+) -> Result<Vec<&'a [T]>, AllocError>
     requires { PartsPoints (length items.now) offsets.now }
     ensures { IfOk result (λ lists. map (λ list. list.now) lists.items ≡ parts items.now offsets.now) }
 {
@@ -27,10 +26,10 @@ pub fn slices<'a, T: Copy>(
     Ok(lists)
 }
 
-/// Sorts the items of each list into which the offsets divide them, except for its first item.
+/// Sorts the items of each list into which the offsets divide them, except for its first item. The items outside stay.
 pub fn sort_each_rest<T: Ord>(items: &mut [T], offsets: &[usize])
     requires { PartsPoints (length items.old) offsets.now }
-    ensures sorted { SortsEachRest (IsSorted T.cmp) items.old items.new offsets.now (length offsets.now) }
+    ensures sorted { SortsEachRest (IsSorted T.cmp) items.old items.new offsets.now }
     ensures len { length items.new ≡ length items.old }
 {
     for place in 1..offsets.len() {

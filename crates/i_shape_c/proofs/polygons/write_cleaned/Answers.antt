@@ -1,6 +1,5 @@
 use Rattle.std.proofs.Common.{arith}
-use Rattle.i_shape.specs.Point.{Point}
-use Rattle.i_shape.specs.IntPoint.{point_of, contour_of}
+use Rattle.i_shape_core.proofs.Common.{Point, point_of, contour_of}
 use Rattle.i_shape_core.specs.Rings.{AreSafeRings}
 use Rattle.i_shape_c.specs.Batch.{AreSpared}
 use Rattle.i_shape_c.specs.Cleaned.{TakesNoMemory}
@@ -15,41 +14,32 @@ pub part-rings-requires-clause-within : goal.part-rings-requires-clause-within
 part-rings-requires-clause-within g c = omega (arith, c.requires.parted.shapes_parted.last, c.requires.parted.contours_parted.some)
 
 pub make_room-requires-clause-parted : goal.make_room-requires-clause-parted
-make_room-requires-clause-parted g c =
-    let at : g.row.P.Denot → Point = λ p. point_of g.P.Coordinate.IntNumber.value (g.P.ContourPoint.point p) in
-    rw (c.part-rings.ensures.part)
-    (rings_parted at c.args.points.now c.args.contours.now c.args.shapes.now c.requires.parted.contours_parted c.requires.parted.shapes_parted)
+make_room-requires-clause-parted g c = rw c.part-rings.ensures.part (rings_parted c.args.points.now c.requires.parted)
 
 pub write_polygons-requires-clause-points_room : goal.write_polygons-requires-clause-points_room
 write_polygons-requires-clause-points_room g c =
-    let at : g.row.P.Denot → Point = λ p. point_of g.P.Coordinate.IntNumber.value (g.P.ContourPoint.point p) in
-    let ends = rings_ends at c.args.points.now c.args.contours.now c.args.shapes.now c.requires.parted.contours_parted c.requires.parted.shapes_parted in
+    let ends = rings_ends c.args.points.now c.requires.parted in
     rw (c.part-rings.ensures.part) (omega (arith, ends.0, ends.1, c.requires.room.points_room))
 
 pub write_polygons-requires-clause-contours_room : goal.write_polygons-requires-clause-contours_room
 write_polygons-requires-clause-contours_room g c =
-    let at : g.row.P.Denot → Point = λ p. point_of g.P.Coordinate.IntNumber.value (g.P.ContourPoint.point p) in
-    let count = count_rings at c.args.points.now c.args.contours.now c.args.shapes.now c.requires.parted.contours_parted c.requires.parted.shapes_parted in
+    let count = count_rings c.args.points.now c.requires.parted in
     rw (c.part-rings.ensures.part) (omega (arith, count, c.requires.room.contours_room))
 
 pub write_polygons-requires-clause-parted : goal.write_polygons-requires-clause-parted
-write_polygons-requires-clause-parted g c =
-    let at : g.row.P.Denot → Point = λ p. point_of g.P.Coordinate.IntNumber.value (g.P.ContourPoint.point p) in
-    rw (c.part-rings.ensures.part)
-    (rings_parted at c.args.points.now c.args.contours.now c.args.shapes.now c.requires.parted.contours_parted c.requires.parted.shapes_parted)
+write_polygons-requires-clause-parted g c = rw c.part-rings.ensures.part (rings_parted c.args.points.now c.requires.parted)
 
 pub make_room-requires-clause-points_safe : goal.make_room-requires-clause-points_safe
 make_room-requires-clause-points_safe g c =
     let at : g.row.P.Denot → Point = λ p. point_of g.P.Coordinate.IntNumber.value (g.P.ContourPoint.point p) in
-    let points = c.args.points.now in
     rw (c.part-rings.ensures.part)
-    (safe_rings g.P.Coordinate.IntNumber.width g.P.Coordinate.IntNumber.value g.P.ContourPoint.point g.P.ContourPoint.points g.P.ContourPoint.each points (rings at c.args.points.now c.args.contours.now c.args.shapes.now c.requires.parted.contours_parted c.requires.parted.shapes_parted) (rings_parted at c.args.points.now c.args.contours.now c.args.shapes.now c.requires.parted.contours_parted c.requires.parted.shapes_parted).order (rings_safe at c.args.points.now c.args.contours.now c.args.shapes.now c.requires.parted.contours_parted c.requires.parted.shapes_parted g.P.Coordinate.IntNumber.width c.requires.points_safe))
+    (safe_rings g.P.Coordinate.IntNumber.width g.P.Coordinate.IntNumber.value g.P.ContourPoint.point g.P.ContourPoint.points g.P.ContourPoint.each c.args.points.now (rings c.args.points.now c.requires.parted) (rings_parted c.args.points.now c.requires.parted).order (rings_safe c.args.points.now c.requires.parted at g.P.Coordinate.IntNumber.width c.requires.points_safe))
 
 pub write_polygons-requires-clause-ready : goal.write_polygons-requires-clause-ready
 write_polygons-requires-clause-ready g c = λ k less.
     let at : g.row.P.Denot → Point = λ p. point_of g.P.Coordinate.IntNumber.value (g.P.ContourPoint.point p) in
     let safe : AreSafeRings g.P.Coordinate.IntNumber.width (λ list. contour_of g.P.Coordinate.IntNumber.value (g.P.ContourPoint.points list)) c.args.points.now c.part-rings.result.now = rw (c.part-rings.ensures.part)
-    (safe_rings g.P.Coordinate.IntNumber.width g.P.Coordinate.IntNumber.value g.P.ContourPoint.point g.P.ContourPoint.points g.P.ContourPoint.each c.args.points.now (rings at c.args.points.now c.args.contours.now c.args.shapes.now c.requires.parted.contours_parted c.requires.parted.shapes_parted) (rings_parted at c.args.points.now c.args.contours.now c.args.shapes.now c.requires.parted.contours_parted c.requires.parted.shapes_parted).order (rings_safe at c.args.points.now c.args.contours.now c.args.shapes.now c.requires.parted.contours_parted c.requires.parted.shapes_parted g.P.Coordinate.IntNumber.width c.requires.points_safe)) in
+    (safe_rings g.P.Coordinate.IntNumber.width g.P.Coordinate.IntNumber.value g.P.ContourPoint.point g.P.ContourPoint.points g.P.ContourPoint.each c.args.points.now (rings c.args.points.now c.requires.parted) (rings_parted c.args.points.now c.requires.parted).order (rings_safe c.args.points.now c.requires.parted at g.P.Coordinate.IntNumber.width c.requires.points_safe)) in
     record { safe = safe k less; clean = λ all. c.in_ok-all_clean.ensures.clean.0 all k less; reserved = c.in_ok-all_clean.ensures.memory.takes_room k less }
 
 pub returns-in_err-all_clean-clause-memory : goal.returns-in_err-all_clean-clause-memory
@@ -58,7 +48,7 @@ returns-in_err-all_clean-clause-memory g c =
     let rings_now = c.part-rings.result.now in
     let Spares = TakesNoMemory g.C.ContourCleaner.fewest g.C.ContourCleaner.clean in
     on_err c.from_residual.result (λ each.
-    let none : AreSpared Spares at c.args.points.now rings_now = rw (c.part-rings.ensures.part) (rings_clean at c.args.points.now c.args.contours.now c.args.shapes.now c.requires.parted.contours_parted c.requires.parted.shapes_parted Spares each) in
+    let none : AreSpared Spares at c.args.points.now rings_now = rw (c.part-rings.ensures.part) (rings_clean c.args.points.now c.requires.parted at Spares each) in
     let told = c.in_err-all_clean.ensures.memory.reserved (have_room g.P.Coordinate.IntNumber.width g.P.Coordinate.IntNumber.value g.P.ContourPoint.point g.P.ContourPoint.points g.P.ContourPoint.each g.C.ContourCleaner.fewest g.C.ContourCleaner.clean
     (g.C.ContourCleaner.has_room c.new-cleaner.result) (g.met.C.ContourCleaner.spares c.new-cleaner.result) c.args.points.now rings_now none) in
     absurd (cc))
@@ -66,6 +56,6 @@ returns-in_err-all_clean-clause-memory g c =
 pub returns-clause-ok : goal.returns-clause-ok
 returns-clause-ok g c =
     let at : g.row.P.Denot → Point = λ p. point_of g.P.Coordinate.IntNumber.value (g.P.ContourPoint.point p) in
-    left_written at c.args.points.now c.args.contours.now c.args.shapes.now c.requires.parted.contours_parted c.requires.parted.shapes_parted g.C.ContourCleaner.answers c.part-rings.result.now
+    left_written c.args.points.now c.requires.parted at g.C.ContourCleaner.answers c.part-rings.result.now
     c.args.out_points.now c.write_polygons.new.out_points c.args.out_contours.now c.write_polygons.new.out_contours c.args.out_shapes.now c.write_polygons.new.out_shapes c.write_polygons.result
     c.part-rings.ensures.part c.write_polygons.ensures
