@@ -150,7 +150,7 @@ static void AT(test_shapes)(void) {
 }
 
 static void AT(test_shapes_codes)(void) {
-    const size_t contours[3] = {0, 3, 6}, outside[2] = {0, 7}, shapes[2] = {0, 2}, backwards[3] = {0, 2, 1}, beyond[2] = {0, 3}, none[1] = {1}, hollow[3] = {1, 1, 1};
+    const size_t contours[3] = {0, 3, 6}, outside[2] = {0, 7}, shapes[2] = {0, 2}, halves[3] = {0, 1, 2}, backwards[3] = {0, 2, 1}, beyond[2] = {0, 3}, none[1] = {1}, hollow[3] = {1, 1, 1};
     for (int k = 0; k < CLEANERS; k++) {
         POINT given[6] = {{0, 0}, {2, 0}, {0, 4}, {0, 0}, {4, 0}, {0, 4}}, out[6];
         size_t out_contours[3], out_shapes[3];
@@ -173,9 +173,9 @@ static void AT(test_shapes_codes)(void) {
         check(CLEAN(contours, 3, shapes, 2, 6, 3, 3) == I_SHAPE_UNSAFE, W, name, "polygons with a point that isn't safe");
         check(IS_UNTOUCHED, W, name, "codes leave the arrays of polygons as they were");
         given[5].y = 4;
-        /* Two clean contours of a polygon: for a canonical form the points and offsets of what is left, two lists of its contours and one
-           of its polygons. */
-        WITH_EACH_GROWTH_REFUSED(CLEAN(contours, 3, shapes, 2, 6, 3, 3), IS_UNTOUCHED, growths == (is_form(k) ? 6 : 0), W, name);
+        /* Two polygons of a clean contour each: for a canonical form the points and offsets of what is left, two lists of its contours and
+           one of its polygons, and two lists to sort these. */
+        WITH_EACH_GROWTH_REFUSED(CLEAN(contours, 3, halves, 3, 6, 3, 3), IS_UNTOUCHED, growths == (is_form(k) ? 8 : 0), W, name);
         /* Of no polygon, and of polygons without a contour, no memory is taken. */
         WITH_EACH_GROWTH_REFUSED(CLEAN(contours, 3, none, 1, 6, 3, 3), 1, growths == 0, W, name);
         WITH_EACH_GROWTH_REFUSED(CLEAN(contours, 3, hollow, 3, 6, 3, 3), 1, growths == 0, W, name);
@@ -469,11 +469,18 @@ static void AT(test_refusals)(void) {
 #ifdef REFUSES
 /* How many bytes the calls ask for: one place for each point of the longest contour of which a point is removed. A canonical form of
    polygons also copies their points and offsets, and makes two slices for each contour and one for each polygon. A slice is a
-   pointer and a length. */
+   pointer and a length. To sort two polygons or more it takes what each is sorted by, and one slice more for each. */
 static void AT(test_sizes)(void) {
+    struct sorted_by {
+        struct {
+            unsigned char is_there;
+            POINT first;
+        } key;
+        size_t slice[2], place;
+    };
     enum { SQUARES = 64, CORNERS = 5, COUNT = SQUARES * CORNERS };
     const size_t places = CORNERS * sizeof(size_t), halves[3] = {0, SQUARES / 2, SQUARES};
-    const size_t lists = COUNT * sizeof(POINT) + (5 * SQUARES + 3 * 2 + 2) * sizeof(size_t);
+    const size_t lists = COUNT * sizeof(POINT) + (5 * SQUARES + 5 * 2 + 2) * sizeof(size_t) + 2 * sizeof(struct sorted_by);
     const POINT square[CORNERS] = {{0, 0}, {4, 0}, {4, 0}, {4, 4}, {0, 4}};
     POINT given[COUNT], out[COUNT];
     size_t offsets[SQUARES + 1] = {0}, out_offsets[SQUARES + 1], out_shapes[3];
@@ -490,7 +497,7 @@ static void AT(test_sizes)(void) {
         growths = asked = 0;
         check(AT(polygons)[k](given, COUNT, offsets, SQUARES + 1, halves, 3, out, COUNT, out_offsets, SQUARES + 1, out_shapes, 3) == 2, W,
               cleaner_names[k], "64 squares of two polygons");
-        check(growths == (is_form(k) ? 7 : k == 0), W, cleaner_names[k], "how often it takes memory for polygons");
+        check(growths == (is_form(k) ? 9 : k == 0), W, cleaner_names[k], "how often it takes memory for polygons");
         /* Of simplify, the first, and of despike, which cleans nothing, since no square has a spike. */
         check(asked == (is_form(k) ? lists + places : k == 0 ? places : 0), W, cleaner_names[k], "how much it asks for of polygons");
     }
