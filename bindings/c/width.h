@@ -469,7 +469,7 @@ static void AT(test_refusals)(void) {
 #ifdef REFUSES
 /* How many bytes the calls ask for: one place for each point of the longest contour of which a point is removed. A canonical form of
    polygons also copies their points and offsets, and makes two slices for each contour and one for each polygon. A slice is a
-   pointer and a length. To sort two polygons or more it takes what each is sorted by, and one slice more for each. */
+   pointer and a length. To sort more than 20 polygons it takes two rows of what each is sorted by, and one slice more for each. */
 static void AT(test_sizes)(void) {
     struct sorted_by {
         struct {
@@ -478,15 +478,17 @@ static void AT(test_sizes)(void) {
         } key;
         size_t slice[2], place;
     };
-    enum { SQUARES = 64, CORNERS = 5, COUNT = SQUARES * CORNERS };
-    const size_t places = CORNERS * sizeof(size_t), halves[3] = {0, SQUARES / 2, SQUARES};
-    const size_t lists = COUNT * sizeof(POINT) + (5 * SQUARES + 5 * 2 + 2) * sizeof(size_t) + 2 * sizeof(struct sorted_by);
+    enum { SQUARES = 64, POLYGONS = 32, CORNERS = 5, COUNT = SQUARES * CORNERS };
+    const size_t places = CORNERS * sizeof(size_t);
+    const size_t lists = COUNT * sizeof(POINT) + (5 * SQUARES + 5 * POLYGONS + 2) * sizeof(size_t) + 2 * POLYGONS * sizeof(struct sorted_by);
     const POINT square[CORNERS] = {{0, 0}, {4, 0}, {4, 0}, {4, 4}, {0, 4}};
     POINT given[COUNT], out[COUNT];
-    size_t offsets[SQUARES + 1] = {0}, out_offsets[SQUARES + 1], out_shapes[3];
+    size_t offsets[SQUARES + 1] = {0}, shapes[POLYGONS + 1] = {0}, out_offsets[SQUARES + 1], out_shapes[POLYGONS + 1];
     for (int k = 0; k < COUNT; k++) {
         given[k] = square[k % CORNERS];
+        given[k].x = (COORDINATE)(given[k].x + k / (2 * CORNERS) % 2 * 8);
         offsets[k / CORNERS + 1] = (size_t)(k + 1);
+        shapes[k / (2 * CORNERS) + 1] = (size_t)(k / CORNERS + 1);
     }
     for (int k = 0; k < CLEANERS; k++) {
         asked = 0;
@@ -494,10 +496,11 @@ static void AT(test_sizes)(void) {
         asked = 0;
         check(AT(batches)[k](given, COUNT, offsets, SQUARES + 1, out, COUNT, out_offsets, SQUARES + 1) == 4 * SQUARES && asked == places, W,
               cleaner_names[k], "how much it asks for of many contours");
-        growths = asked = 0;
-        check(AT(polygons)[k](given, COUNT, offsets, SQUARES + 1, halves, 3, out, COUNT, out_offsets, SQUARES + 1, out_shapes, 3) == 2, W,
-              cleaner_names[k], "64 squares of two polygons");
-        check(growths == (is_form(k) ? 9 : k == 0), W, cleaner_names[k], "how often it takes memory for polygons");
+#define CLEAN() AT(polygons)[k](given, COUNT, offsets, SQUARES + 1, shapes, POLYGONS + 1, out, COUNT, out_offsets, SQUARES + 1, out_shapes, POLYGONS + 1)
+        WITH_EACH_GROWTH_REFUSED(CLEAN(), 1, growths == (is_form(k) ? 10 : k == 0), W, cleaner_names[k]);
+        asked = 0;
+        check(CLEAN() == POLYGONS, W, cleaner_names[k], "32 polygons of two squares");
+#undef CLEAN
         /* Of simplify, the first, and of despike, which cleans nothing, since no square has a spike. */
         check(asked == (is_form(k) ? lists + places : k == 0 ? places : 0), W, cleaner_names[k], "how much it asks for of polygons");
     }

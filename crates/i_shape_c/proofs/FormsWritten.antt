@@ -1,7 +1,5 @@
 -- Cleaned polygons read back from arrays, and their form as it is written.
-use Rattle.i_shape_c.proofs.Refusals.{refuses_more}
-use Rattle.std.specs.Int.{Width}
-use Rattle.std.proofs.Common.{◌≡◌, ℕ, zero, suc, ◌+◌, ◌-◌, ◌≤◌, ◌<◌, ◌++◌, List, [], ◌∷◌, length, take, drop, get_or, map, slice_range, append-nil, append_assoc, length-append, refl, sym, ap, ap₂, subst, ◌∙◌, arith, Option, Some, ℤ, pos, negsuc}
+use Rattle.std.proofs.Common.{◌≡◌, ℕ, zero, suc, ◌+◌, ◌-◌, ◌≤◌, ◌<◌, ◌++◌, List, [], ◌∷◌, length, take, drop, get_or, map, slice_range, append-nil, append_assoc, length-append, refl, sym, ap, ap₂, subst, ◌∙◌, arith, Option, Some, Result, Ok, Err, OnErr}
 use Rattle.std.specs.List.{All, AllZip, AllPairs, range_with_len}
 use Rattle.std.proofs.lemmas.List.{length-map, map-append, take_at, drop_at, take-append-drop}
 use Rattle.std.proofs.lemmas.List.Elements.{All-nil, All-head, All-tail}
@@ -13,7 +11,7 @@ use Rattle.i_shape.specs.CanonicalShapes.{ListForm, IsShapeAtMost}
 use Rattle.i_shape.specs.ShapeAnswers.{ShapeClean, ListClean, EachShape}
 use Rattle.i_shape.proofs.lists.Surviving.{survivors_have}
 use Rattle.i_shape_c.specs.Batch.{offset, nth_contour, AreRising, PartsPoints}
-use Rattle.i_shape_c.specs.Polygons.{parts, polygons, offsets_of, HaveNoContours, AreShapesLeft, ShapesAnswer, CleansPolygons}
+use Rattle.i_shape_c.specs.Polygons.{parts, polygons, offsets_of, HaveNoContours, AreShapesLeft}
 use Rattle.i_shape_c.specs.Sorted.{SortsRest, SortsPolygons, WritesSorted}
 use Rattle.i_shape_c.proofs.Appended.{length-offsets}
 use Rattle.i_shape_c.proofs.PolygonLists.{polygon_at, polygons-map, all_from}
@@ -167,6 +165,15 @@ module _ {P : Type 0} (Form : List Point → Option (List Point) → Type 0) {at
         in_order = λ i j d low high. subst (λ w. IsShapeAtMost w (get_or left.list j d)) (sym (own i d (omega (arith, low, high)))) tt;
       }
 
+-- what follows from what a failed call answers
+pub if_err : {A E : Type 0} {P Q : Type 0} (r : Result A E) → (P → Q) → OnErr r P → OnErr r Q
+if_err (Ok a) f h = h
+if_err (Err e) f h = f h
+
+-- polygons without a contour take no memory
+pub none_spared : (Passes : List Point → Type 0) (list : List (List (List Point))) → HaveNoContours list → EachShape Passes list
+none_spared Passes list none = λ k d less. subst (All Passes) (sym (none k d less)) (All-nil Passes)
+
 module _ {X : Type 0} (points : List X) (contours : List ℕ) {shapes : List ℕ} (parted : PartsPoints (length contours - 1) shapes) where
   -- between equal offsets no polygon has a contour
   pub level_none : offset shapes 0 ≡ offset shapes (length shapes - 1) → (k : ℕ) (d : List (List X)) → k < length (polygons points contours shapes) → get_or (polygons points contours shapes) k d ≡ []
@@ -196,17 +203,3 @@ module _ {X : Type 0} (points : List X) (contours : List ℕ) {shapes : List ℕ
       go (suc k) less =
           let next : k + 1 ≡ suc k = omega arith in
           go k (omega (arith, less)) ∙ subst (λ j. offset shapes k ≡ offset shapes j) next (step k (omega (arith, less)))
-
--- so between them a call that cleans polygons gives their form, and takes no memory
-pub form_of_level : {P : Type 0} (Passes : List Point → Type 0) (Form : List Point → Option (List Point) → Type 0) (width : Width) (at : P → Point) (points : List P) (contours shapes : List ℕ) (old_points new_points : List P) (old_contours new_contours old_shapes new_shapes : List ℕ) (z : ℤ)
-    → PartsPoints (length contours - 1) shapes → offset shapes 0 ≡ offset shapes (length shapes - 1)
-    → CleansPolygons (EachShape Passes) (ListClean Form) width at points contours shapes old_points new_points old_contours new_contours old_shapes new_shapes z
-    → CleansPolygons HaveNoContours (ListForm Form) width at points contours shapes old_points new_points old_contours new_contours old_shapes new_shapes z
-form_of_level {P} Passes Form width at points contours shapes old_points new_points old_contours new_contours old_shapes new_shapes z parted level cleans = record {
-  answer = answer z cleans.answer;
-  refuses = refuses_more (λ none k d less. subst (All Passes) (sym (none k d less)) (All-nil Passes)) cleans.refuses;
-}
-  where
-    answer : (z : ℤ) → ShapesAnswer (ListClean Form) at points contours shapes old_points new_points old_contours new_contours old_shapes new_shapes z → ShapesAnswer (ListForm Form) at points contours shapes old_points new_points old_contours new_contours old_shapes new_shapes z
-    answer (pos n) left = none_written Form left (level_none (map at points) contours parted level)
-    answer (negsuc n) kept = kept

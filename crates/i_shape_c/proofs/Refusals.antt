@@ -42,10 +42,6 @@ refusal_as None p r a why = (p.0 why.0, r.0 why.1, a.0 why.2)
 pub as_is : {P : Type 0} → P ↔ P
 as_is = (λ p. p, λ p. p)
 
--- a call that takes no memory takes none where more is said
-pub refuses_more : {Parted Room Safe Spared More : Type 0} {z : ℤ} → (More → Spared) → Refuses Parted Room Safe Spared z → Refuses Parted Room Safe More z
-refuses_more more why = record { bad_offsets = why.bad_offsets; no_room = why.no_room; unsafe_points = why.unsafe_points; memory = λ is said. why.memory is (more said) }
-
 module _ {Parted Room Safe Spared : Type 0} where
   -- a refusal is answered with its code
   pub refused : (r : Refusal) → IsRefusal Parted Room Safe (Some r) → Refuses Parted Room Safe Spared (code_of r)

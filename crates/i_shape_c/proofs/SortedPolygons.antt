@@ -106,7 +106,7 @@ map-map₂ : {X Y Z : Type 0} (f : Y → Z) (g : X → Y) (lists : List (List X)
 map-map₂ f g [] = refl
 map-map₂ f g (x ∷ xs) = ap₂ ◌∷◌ (map-map f g x) (map-map₂ f g xs)
 
--- a polygon behind the first point of its outer ring
+-- what a polygon is sorted by: the first point of its outer ring, and then itself
 abbrev pub keyed : {P B D : Type 0} → (B → List P) → (D → List B) → D → Option P × D
 keyed ring rings d = (option_and_then (λ b. slice_get (ring b) 0) (slice_get (rings d) 0), d)
 

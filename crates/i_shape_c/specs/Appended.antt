@@ -80,7 +80,7 @@ pub record HoldsPolygons {P : Type 0} (list : List (List (List P))) (old_points 
   pub contours_are : IsPut 0 (offsets_of 0 (concatenated list)) old_contours new_contours
   pub shapes_are : IsPut 0 (offsets_of 0 list) old_shapes new_shapes
 
--- they hold the polygons, which are n; there are no more of them, of their contours and of their points than so many
+-- the three arrays hold the polygons, which are n; there are no more of them, of their contours and of their points than so many
 pub record WritesPolygons {P : Type 0} (list : List (List (List P))) (points rings shapes : ℕ) (old_points new_points : List P) (old_contours new_contours old_shapes new_shapes : List ℕ) (n : ℕ) : Type 0 where
   pub held : HoldsPolygons list old_points new_points old_contours new_contours old_shapes new_shapes
   pub count : length list ≡ n

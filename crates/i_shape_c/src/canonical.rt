@@ -12,7 +12,7 @@ use crate::batch::part;
 use crate::codes::Refusal;
 use crate::lists::{slices, sort_each_rest, write_lists};
 use crate::point::CPoint;
-use crate::polygons::{clean_shapes, refusal, write_cleaned};
+use crate::polygons::{refusal, write_cleaned};
 use i_shape::ShapeError;
 use i_shape::int::cleaner::ContourCleaner;
 use std::alloc::{AllocError, Global};
@@ -44,19 +44,7 @@ pub fn form_shapes<P: CPoint, C: ContourCleaner>(
     ) {
         return refusal.code() as isize;
     }
-    // A polygon without contours is its form, and takes no memory.
-    if shapes[0] == shapes[shapes.len() - 1] {
-        return clean_shapes::<P, C>(
-            alloc,
-            points,
-            contours,
-            shapes,
-            out_points,
-            out_contours,
-            out_shapes,
-        );
-    }
-    match write_sorted_forms::<P, C>(
+    match write_forms::<P, C>(
         alloc,
         points,
         contours,
@@ -70,8 +58,55 @@ pub fn form_shapes<P: CPoint, C: ContourCleaner>(
     }
 }
 
-/// Writes the form of the polygons to the front of the three arrays, by way of lists that hold the cleaned polygons.
-/// Returns how many polygons it has. Allocates before it writes, so an error leaves the arrays unchanged.
+/// Writes the form of the polygons to the front of the three arrays. Returns how many polygons it has. Allocates before
+/// it writes, so an error leaves the arrays unchanged. Allocates nothing where no polygon has a contour.
+fn write_forms<P: CPoint, C: ContourCleaner>(
+    alloc: Global,
+    points: &[P],
+    contours: &[usize],
+    shapes: &[usize],
+    out_points: &mut [P],
+    out_contours: &mut [usize],
+    out_shapes: &mut [usize],
+) -> Result<usize, ShapeError>
+    requires parted { PartsPolygons (length points.now) contours.now shapes.now }
+    requires room { HasShapesRoom (length points.now) (length contours.now) (length shapes.now)
+        (length out_points.old) (length out_contours.old) (length out_shapes.old) }
+    requires points_safe { AreSafeContours P.Coordinate.width
+        (point_by P.Coordinate.value P.point) points.now contours.now }
+    ensures ok { IfOk result
+        (λ n. AreShapesLeft (ListForm C.answers) (point_by P.Coordinate.value P.point)
+        points.now contours.now shapes.now out_points.old out_points.new
+        out_contours.old out_contours.new out_shapes.old out_shapes.new n) }
+    ensures err { OnErr result ((out_points.new ≡ out_points.old)
+        × (out_contours.new ≡ out_contours.old) × (out_shapes.new ≡ out_shapes.old)) }
+    ensures memory { OnErr result (HaveNoContours (polygons
+        (map (point_by P.Coordinate.value P.point) points.now) contours.now shapes.now) → ⊥) }
+{
+    if shapes[0] == shapes[shapes.len() - 1] {
+        return write_cleaned::<P, C>(
+            alloc,
+            points,
+            contours,
+            shapes,
+            out_points,
+            out_contours,
+            out_shapes,
+        );
+    }
+    write_sorted_forms::<P, C>(
+        alloc,
+        points,
+        contours,
+        shapes,
+        out_points,
+        out_contours,
+        out_shapes,
+    )
+}
+
+/// Does the same by way of lists that hold the cleaned polygons. Allocates before it writes, so an error leaves the
+/// arrays unchanged.
 fn write_sorted_forms<P: CPoint, C: ContourCleaner>(
     alloc: Global,
     points: &[P],
@@ -95,6 +130,7 @@ fn write_sorted_forms<P: CPoint, C: ContourCleaner>(
 {
     let first = shapes[0];
     let last = shapes[shapes.len() - 1];
+    // Room for the cleaned points, which overwrite this copy.
     let mut cleaned_points = Vec::from_slice(alloc, part(points, contours[first], contours[last]))?;
     let mut cleaned_contours = vec![in alloc; 0usize; last - first + 1]?;
     let mut cleaned_shapes = vec![in alloc; 0usize; shapes.len()]?;
@@ -156,7 +192,7 @@ fn write_sorted<P: CPoint>(
     Ok(())
 }
 
-/// Returns the polygon behind the first point of its outer contour, which decides most comparisons of two.
+/// Returns what a polygon is sorted by: the first point of its outer contour, which mostly decides, and then itself.
 fn keyed<'a, P: Copy>(polygon: &&'a [&'a [P]]) -> (Option<P>, &'a [&'a [P]])
     ensures { result ≡ (
       option_and_then (λ contour. slice_get contour.now 0)
@@ -167,7 +203,7 @@ fn keyed<'a, P: Copy>(polygon: &&'a [&'a [P]]) -> (Option<P>, &'a [&'a [P]])
     (first_point(polygon), *polygon)
 }
 
-/// Returns the first point of the outer contour.
+/// Returns the first point of the outer contour, or `None` where there is none.
 fn first_point<P: Copy>(polygon: &[&[P]]) -> Option<P>
     ensures { result ≡ option_and_then (λ contour. slice_get contour.now 0) (slice_get polygon.now 0) }
 {
