@@ -1,4 +1,4 @@
--- The words of shapes and buffers that most proofs name.
+-- The words of points, contours, shapes and buffers that proofs name.
 pub use Rattle.std.specs.List.{AllZip}
 pub use Rattle.std.specs.Global.{Vec}
 pub use Rattle.std.specs.Int.{Width, int_wrap, w128}

@@ -1,4 +1,4 @@
--- the words of shapes and buffers that most proofs name
+-- the words of points, contours, shapes and buffers that proofs name
 mod Common
 -- lists: end to end, in order, permuted, what cleaning leaves of them
 pub mod lists

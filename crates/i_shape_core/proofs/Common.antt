@@ -1,5 +1,5 @@
 -- The words of contours that most proofs name.
-pub use Rattle.i_shape_core.specs.Point.{Point, IsBack, IsZeroTurn, vector, origin, cross, dot, cross_of, dot_of}
+pub use Rattle.i_shape_core.specs.Point.{Point, IsBack, IsZeroTurn, vector, origin, cross, dot, cross_of}
 pub use Rattle.i_shape_core.specs.IntPoint.{IsSafe, IsSafeCoordinate, point_of, contour_of, answered}
 pub use Rattle.i_shape_core.specs.declared.point.IntPoint.{IntPoint}
 pub use Rattle.i_shape_core.specs.Contour.{IsRemovable, Reach, stay, step, point_at, place_before, place_after, Test, Rotation, Sublist, RotatedSublist, SublistEitherWay, End, Step, SameEnd, collapsed, rotated, IsSimple, IsCollapsed}

@@ -3,7 +3,7 @@ use Rattle.std.specs.Prelude.{ℕ, ℤ, ◌+◌, ◌<◌, List, ◌⊎◌}
 use Rattle.i_shape_core.specs.Point.{Point, IsZeroTurn}
 use Rattle.i_shape_core.specs.Contour.{point_at}
 
--- the point with two coordinates
+-- the point at two coordinates
 abbrev pub at : ℤ → ℤ → Point
 at x y = record { x = x; y = y }
 

@@ -1,14 +1,13 @@
 //! Contours without spikes: the tests, the cleaned copy, and the cleaner.
 
-ghost use Rattle.std.specs.Prelude.{◌≡◌, ◌↔◌, ◌+◌, ◌-◌, ◌*◌, ◌^◌, ◌<◌, ◌<ℤ◌, ◌≤◌, pos, List, Some, length, map, option_map, false, IsTrue, IsNone, IfOk, OnOk, IsOk, IsOkUnless, vec_capacity};
-ghost use Rattle.std.specs.Option.{IfSome};
+ghost use Rattle.std.specs.Prelude.{◌≡◌, ◌↔◌, ◌+◌, ◌-◌, ◌*◌, ◌<◌, ◌<ℤ◌, ◌≤◌, pos, List, Some, length, map, false, IsTrue, IfOk, OnOk, IsOk, IsOkUnless, vec_capacity};
 ghost use Rattle.std.specs.List.{All};
-ghost use Rattle.i_shape_core.specs.IntPoint.{contour_of, point_of, IsSafe, answered, IsSafeContour};
+ghost use Rattle.i_shape_core.specs.IntPoint.{contour_of, point_of, answered, IsSafeContour};
 ghost use Rattle.i_shape_core.specs.Point.{Point, IsBack, cross_of, dot_of};
 ghost use Rattle.i_shape_core.specs.Contour.{Sublist, point_at};
 ghost use Rattle.i_shape_core.specs.Convex.{NoSpikes};
 ghost use Rattle.i_shape_core.specs.Cleaners.{IsDespikedAlready, SpikelessAnswer, KeptAnswer, VisitsAnswer};
-ghost use Rattle.i_shape_core.specs.Walks.{RisingPlaces, WalkAnswer, Finds, Falls, FirstAnswer, IsRingState, PassesAtPlace, from_contour_first, ring_of_all};
+ghost use Rattle.i_shape_core.specs.Walks.{RisingPlaces, Finds, Falls, FirstAnswer, IsRingState, PassesAtPlace, from_contour_first, ring_of_all};
 ghost use Rattle.i_shape_core.specs.Refusals.{OkUnlessMemory};
 ghost use Rattle.i_shape_core.specs.Written.{CleansInOrder, CleansInto, IsWritten};
 ghost use Rattle.i_shape_core.specs.Room.{HoldsNoMemoryToDespike, HasRoomToDespike, KeepsRoomToDespike};

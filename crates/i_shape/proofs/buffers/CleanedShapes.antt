@@ -17,10 +17,6 @@ onto_zero : (n : ℕ) → n ≡ n + 0
 onto_zero n = omega arith
 
 module _ {T : Type 0} where
-  -- lists that have not changed have grown by nothing
-  pub grows_none : (points : List (IntPoint T)) (ranges : List (Range ℕ)) → Grows points points ranges ranges []
-  grows_none points ranges = record { points_are = sym (append-nil points); ranges_are = sym (append-nil ranges) }
-
   -- lists that grew by some contours and then by others grew by both
   pub grows_chain : (p q t : List (IntPoint T)) (r s u : List (Range ℕ)) (xs ys : List (List (IntPoint T))) → Grows p q r s xs → Grows q t s u ys → Grows p t r u (xs ++ ys)
   grows_chain p q t r s u xs ys a b =

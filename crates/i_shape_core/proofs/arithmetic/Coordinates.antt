@@ -1,5 +1,5 @@
 -- What comparisons of numbers tell, and the bounds of the safe range.
-use Rattle.std.proofs.Common.{◌≡◌, ◌↔◌, ℕ, suc, ◌+◌, ◌-◌, ◌*◌, ◌/◌, ◌^◌, ◌<◌, ◌≤◌, ℤ, pos, negsuc, ◌-ℤ◌, ◌<ℤ◌, neg_ℤ, FitsSigned, Bool, ◌&&◌, IsTrue, Option, Some, rules, ap, sym, subst, subst₂, ◌∙◌, arith, int_div, Ordering, pow-add, pow_pos}
+use Rattle.std.proofs.Common.{◌≡◌, ◌↔◌, ℕ, suc, ◌+◌, ◌-◌, ◌*◌, ◌/◌, ◌^◌, ◌<◌, ◌≤◌, ℤ, pos, negsuc, ◌-ℤ◌, ◌<ℤ◌, neg_ℤ, FitsSigned, Bool, ◌&&◌, IsTrue, Option, Some, rules, ap, sym, subst, ◌∙◌, arith, int_div, Ordering, pow-add, pow_pos}
 use Rattle.std.specs.Ordering.{int_cmp, is_lt, is_some_and}
 use Rattle.std.proofs.Math.Nat.{mul-div_cancel_left, mul-le-mul_left, mul-le-mul_right}
 use Rattle.std.proofs.lemmas.Bool.Decides.{Decides-and}
@@ -89,8 +89,3 @@ safe_vector-above w some split a b v least s t l is e =
 -- the difference of two safe points fits
 pub safe_points-apart : (w : Width) → 2 ≤ hbits w → bits w ≡ hbits w + 1 → (a b : Point) → IsSafe w a → IsSafe w b → FitsSigned w (a.x -ℤ b.x) × FitsSigned w (a.y -ℤ b.y)
 safe_points-apart w some split a b s t = (safe-difference w some split a.x b.x s.0 t.0, safe-difference w some split a.y b.y s.1 t.1)
-
--- a product that was told to be below zero
-pub below-told : {W : Type 0} (value : W → ℤ) (product zero : W) (b : Bool) (p : Option Ordering) (d : ℤ) → b ≡ is_some_and is_lt p → p ≡ Some (int_cmp (value product) (value zero))
-    → value zero ≡ pos 0 → value product ≡ d → IsTrue b ↔ (d <ℤ pos 0)
-below-told value product zero b p d e f z same = subst₂ (λ (x y : ℤ). IsTrue b ↔ (x <ℤ y)) same z (lt-tells b p (value product) (value zero) e f)

@@ -1,7 +1,7 @@
 -- What is told of each item of a list: of those that a loop has read so far, and of the items of a mapped list.
 use Rattle.std.proofs.Common.{◌≡◌, ◌↔◌, ◌∙◌, ℕ, ◌+◌, ◌<◌, ◌≤◌, List, [], ◌∷◌, ◌++◌, length, take, get_or, map, Bool, ◌&&◌, IsTrue, Some, refl, subst, sym, ap, All}
 use Rattle.std.proofs.lemmas.Bool.Decides.{Decides-and}
-use Rattle.std.proofs.lemmas.List.{map-append, take_all, take_more}
+use Rattle.std.proofs.lemmas.List.{take_all, take_more}
 use Rattle.std.proofs.lemmas.List.Elements.{All-nil, All-cons, All-head, All-tail, All-push, All-pop, All-map}
 
 module _ {X : Type 0} where
@@ -27,8 +27,3 @@ module _ {X Y : Type 0} (P : X → Type 0) (f : Y → X) where
   -- what holds of each member, read through a function, is what holds of each member of the mapped list
   pub all_mapped : (ys : List Y) → All (λ y. P (f y)) ys ↔ All P (map f ys)
   all_mapped ys = (All-map P f ys, unmapped ys)
-
--- what holds of each member, read through a function, and of one more holds of all
-pub all_pushed : {X Y : Type 0} (f : X → Y) (P : Y → Type 0) (xs ys : List X) (x : X) → ys ≡ xs ++ x ∷ [] → All P (map f xs) → P (f x) → All P (map f ys)
-all_pushed {X} f P xs ys x e holds one =
-    subst (λ (zs : List X). All P (map f zs)) (sym e) (subst (All P) (sym (map-append f xs (x ∷ []))) (All-push P (map f xs) (f x) holds one))

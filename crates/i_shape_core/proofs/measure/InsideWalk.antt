@@ -35,7 +35,7 @@ flipped true false n m e = omega arith
 flipped false true n m e = omega arith
 flipped false false n m e = omega arith
 
--- ---- the same over the points of a program
+-- ---- over the points of a program
 last_item : {I : Type 0} (value : I → ℤ) (x : IntPoint I) (xs : List (IntPoint I)) (d : IntPoint I) → point_of value (get_or (x ∷ xs) (length xs) d) ≡ last_of (point_of value x) (contour_of value xs)
 last_item value x [] d = refl
 last_item value x (y ∷ xs) d = last_item value y xs d

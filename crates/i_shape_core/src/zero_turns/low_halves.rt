@@ -42,7 +42,7 @@ impl ZeroTurns for i64 {
     }
 }
 
-/// Returns whether the low halves of `a` times `b` and of `c` times `d` are equal, as those of equal products are.
+/// Returns true where `a` times `b` equals `c` times `d`, since it compares the low halves of the products.
 #[inline(always)]
 fn are_low_halves_equal(a: i64, b: i64, c: i64, d: i64) -> bool
     ensures { a *ℤ b ≡ c *ℤ d → IsTrue result }
@@ -50,7 +50,7 @@ fn are_low_halves_equal(a: i64, b: i64, c: i64, d: i64) -> bool
     a.wrapping_mul(b) == c.wrapping_mul(d)
 }
 
-/// Whether the low halves of the two products of a turn are equal, as those of a zero turn are.
+/// Returns true where a turn is a zero turn, since it compares the low halves of its two products.
 #[inline(always)]
 fn may_be_zero(a: (i64, i64), b: (i64, i64), c: (i64, i64)) -> bool
     requires { IsSafe w64 (at a.0 a.1) × IsSafe w64 (at b.0 b.1) × IsSafe w64 (at c.0 c.1) }

@@ -75,7 +75,7 @@ impl<'a, P> Iterator for FloatContoursBufferResourceIterator<'a, P> {
     }
 }
 
-/// Iterates over the points of each contour range of a shapes buffer, as that of a contours buffer does.
+/// A `FloatContoursBufferResourceIterator` over the contour ranges of a shapes buffer.
 pub type FloatShapesBufferResourceIterator<'a, P> = FloatContoursBufferResourceIterator<'a, P>;
 
 impl<'a, P: ShapePoint + 'a> ShapeResource<'a, P> for &'a FloatFlatContoursBuffer<P> {
