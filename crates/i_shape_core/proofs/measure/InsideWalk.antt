@@ -1,9 +1,9 @@
 -- The walk over a contour that starts from its last point, and counts the edges that pass a point on its right.
-use Rattle.std.proofs.Common.{◌≡◌, ℕ, ◌+◌, ◌%◌, ◌<◌, ◌≤◌, List, [], ◌∷◌, ◌++◌, length, drop, get_or, ℤ, pos, ◌+ℤ◌, int_lt, refl, sym, ap, ◌∙◌, arith, ◌↔◌, Bool, true, false, not, cond, ◌&&◌, count_by, IsTrue, ◌-◌}
+use Rattle.std.proofs.Common.{◌≡◌, ℕ, ◌+◌, ◌%◌, ◌<◌, ◌≤◌, List, [], ◌∷◌, ◌++◌, length, drop, get_or, ℤ, pos, int_lt, refl, sym, ap, ◌∙◌, arith, ◌↔◌, Bool, true, false, not, cond, ◌&&◌, count_by, IsTrue, ◌-◌}
 use Rattle.i_shape_core.proofs.Common.{point_of, contour_of, IntPoint, Point, origin, cross, last_of}
 use Rattle.std.proofs.lemmas.List.Sums.{sum_by-cons}
 use mathlib.Core.Bool.{beq}
-use Rattle.std.proofs.lemmas.Int.{ints}
+use Rattle.std.proofs.Math.IntN.{+ℤ_comm}
 use Rattle.i_shape_core.specs.Edges.{Edge, edges_between, edges, sum_of, is_right, Inside}
 use Rattle.i_shape_core.proofs.plane.Contours.{rest-read, rest-none}
 use Rattle.i_shape_core.proofs.plane.CrossProducts.{edge}
@@ -53,12 +53,9 @@ walk_sum value f (x ∷ xs) last h e =
     let q = point_of value x in
     let ps = contour_of value xs in
     ap (λ (r : Point). sum_of f (path_over r (q ∷ ps))) (last_point value (x ∷ xs) last h e)
-    ∙ swap (f (edge (last_of q ps) q)) (sum_of f (path_over q ps))
+    ∙ +ℤ_comm (f (edge (last_of q ps) q)) (sum_of f (path_over q ps))
     ∙ sym (sum_push f (path_over q ps) (edge (last_of q ps) q))
     ∙ ap (sum_of f) (sym (between_is q ps q))
-  where
-    swap : (a b : ℤ) → a +ℤ b ≡ b +ℤ a
-    swap a b = omega (arith, ints)
 
 -- what the walk over a contour tells so far, at q with the rest still to come: whether an odd number of edges were right of p
 abbrev pub IsCounted : List Point → Point → Bool → Point → List Point → Type 0

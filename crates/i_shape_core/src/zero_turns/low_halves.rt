@@ -1,7 +1,7 @@
 //! Coordinates of 64 bits: the low halves of the products first, which cost half as much and are equal where the products are.
 
 ghost use Rattle.std.specs.Prelude.{◌≡◌, ◌↔◌, ◌*ℤ◌, [], ◌∷◌, IsTrue};
-ghost use Rattle.std.specs.Int.{w64};
+ghost use Rattle.std.specs.Int.{int_wrap, w64};
 ghost use Rattle.i_shape_core.specs.FourTurns.{at, HasZeroTurnFrom};
 ghost use Rattle.i_shape_core.specs.SafeCoordinates.{IsSafe};
 ghost use Rattle.i_shape_core.specs.Point.{IsZeroTurn};
@@ -42,10 +42,10 @@ impl ZeroTurns for i64 {
     }
 }
 
-/// Returns true where `a` times `b` equals `c` times `d`, since it compares the low halves of the products.
+/// Returns whether the low halves of `a` times `b` and of `c` times `d` are equal, as those of equal products are.
 #[inline(always)]
 fn are_low_halves_equal(a: i64, b: i64, c: i64, d: i64) -> bool
-    ensures { a *ℤ b ≡ c *ℤ d → IsTrue result }
+    ensures { IsTrue result ↔ (int_wrap w64 (a *ℤ b) ≡ int_wrap w64 (c *ℤ d)) }
 {
     a.wrapping_mul(b) == c.wrapping_mul(d)
 }
