@@ -67,7 +67,7 @@ pub trait ContourCleaner: Drop {
         ensures { IsTrue result ↔ clean (contour_of P.Coordinate.value (P.points contour.now)) };
 
     /// Returns the cleaned contour, or `None` if it collapses. Makes room for a contour that isn't clean, and keeps it. The only error is
-    /// `OutOfMemory`, which can't occur below three points.
+    /// `OutOfMemory`, which can't occur below three points, nor below `fewest` if the contour isn't clean.
     fn cleaned<I: IntNumber>(
         &mut self,
         contour: &[IntPoint<I>],
@@ -76,6 +76,8 @@ pub trait ContourCleaner: Drop {
         ensures answer { let c = contour_of I.value contour.now in
             OkUnlessMemory result (CleansTo answers keeps I.width I.value c) }
         ensures short { length contour.now < 3 → result ≡ Ok None }
+        ensures spared { (clean (contour_of I.value contour.now) → ⊥)
+            → length contour.now < fewest → IsOk result }
         ensures keeps_room { (n : ℕ) → has_room self.old n → has_room self.new n }
         ensures takes_room { OnOk result ((clean (contour_of I.value contour.now) → ⊥)
             → has_room self.new (length contour.now)) };
@@ -90,6 +92,7 @@ pub trait ContourCleaner: Drop {
         ensures answer { let c = contour_of I.value contour.now in
             OkUnlessMemory result (CleansTo answers keeps I.width I.value c) }
         ensures short { length contour.now < 3 → result ≡ Ok None }
+        ensures spared { length contour.now < fewest → IsOk result }
         ensures keeps_room { (n : ℕ) → has_room self.old n → has_room self.new n }
         ensures takes_room { OnOk result (has_room self.new (length contour.now)) }
     {

@@ -40,12 +40,15 @@ pub trait DeSpikeContour<I: IntNumber> {
     /// Returns `None` exactly where removing zero turns in any order leaves fewer than three points. Otherwise removing zero turns from
     /// the result leads to the same contour, up to rotation, as removing them from the input. Double area, containment and winding
     /// numbers stay the same, and the points are safe again.
-    /// The only error is `OutOfMemory`. Below three points the call allocates nothing and can't fail.
+    /// The only error is `OutOfMemory`. Below three points, and at three of which one is removed, the call allocates nothing and can't
+    /// fail.
     fn despiked_contour(&self, alloc: Global) -> Result<Option<IntContour<I>>, ShapeError>
         requires { IsSafeContour I.width (contour self.now) }
         ensures answer { OkUnlessMemory result
             (CleansInOrder SpikelessAnswer I.width I.value (contour self.now)) }
-        ensures short { length (contour self.now) < 3 → result ≡ Ok None };
+        ensures short { length (contour self.now) < 3 → result ≡ Ok None }
+        ensures spared { (IsDespikedAlready (contour self.now) → ⊥)
+            → length (contour self.now) < 4 → IsOk result };
 
     /// Does the same as `despiked_contour`, and also returns the number of vertices visited. For n points this is from n to 3n, or from n
     /// - 2 to 3n if the contour collapses. It is n if no point is removed, and 0 below three points.
@@ -57,7 +60,9 @@ pub trait DeSpikeContour<I: IntNumber> {
             (λ r. VisitsAnswer (contour self.now) (answered (contour_of I.value) r.0) r.1) }
         ensures clean_visits { IfOk result
             (λ r. IsDespikedAlready (contour self.now) → r.1 ≡ length (contour self.now)) }
-        ensures short { length (contour self.now) < 3 → result ≡ Ok (None, 0) };
+        ensures short { length (contour self.now) < 3 → result ≡ Ok (None, 0) }
+        ensures spared { (IsDespikedAlready (contour self.now) → ⊥)
+            → length (contour self.now) < 4 → IsOk result };
 }
 
 impl<I: IntNumber> DeSpikeContour<I> for &[IntPoint<I>] {
@@ -117,7 +122,7 @@ impl ContourDeSpiker {
 
     /// Returns the contour without spikes and repeated points, as `DeSpikeContour::despiked_contour` does. Earlier calls don't affect the
     /// result, even if they failed. Makes room for a contour with spikes or repeated points, and keeps it. The only error is
-    /// `OutOfMemory`, which can't occur below three points.
+    /// `OutOfMemory`, which can't occur below three points, nor at three of which one is removed.
     pub fn despike_contour<I: IntNumber>(
         &mut self,
         contour: &[IntPoint<I>],
@@ -126,6 +131,8 @@ impl ContourDeSpiker {
         ensures answer { let c = contour_of I.value contour.now in
             OkUnlessMemory result (CleansInOrder SpikelessAnswer I.width I.value c) }
         ensures short { length contour.now < 3 → result ≡ Ok None }
+        ensures spared { (IsDespikedAlready (contour_of I.value contour.now) → ⊥)
+            → length contour.now < 4 → IsOk result }
         ensures keeps_room { KeepsRoomToDespike self.old self.new }
         ensures takes_room { OnOk result ((IsDespikedAlready (contour_of I.value contour.now) → ⊥)
             → HasRoomToDespike self.new (length contour.now)) }
@@ -149,6 +156,8 @@ impl ContourDeSpiker {
         ensures clean_visits { let c = contour_of I.value contour.now in
             IfOk result (λ r. IsDespikedAlready c → r.1 ≡ length c) }
         ensures short { length contour.now < 3 → result ≡ Ok (None, 0) }
+        ensures spared { (IsDespikedAlready (contour_of I.value contour.now) → ⊥)
+            → length contour.now < 4 → IsOk result }
         ensures keeps_room { KeepsRoomToDespike self.old self.new }
         ensures takes_room { OnOk result ((IsDespikedAlready (contour_of I.value contour.now) → ⊥)
             → HasRoomToDespike self.new (length contour.now)) }

@@ -1,6 +1,6 @@
 //! Points sorted by height, and the winding numbers of contours about them.
 
-ghost use Rattle.std.specs.Prelude.{◌≡◌, ◌<◌, ◌≤◌, ◌≤ℤ◌, ◌+ℤ◌, ◌++◌, true, false, ℤ, List, length, map, drop, IfOk, OnOk, OnErr};
+ghost use Rattle.std.specs.Prelude.{◌≡◌, ◌<◌, ◌≤◌, ◌≤ℤ◌, ◌+ℤ◌, ◌++◌, true, false, ℤ, List, length, map, drop, IfOk, IsOk, OnOk, OnErr, []};
 ghost use Rattle.std.specs.Int.{int_wrap, w64};
 ghost use Rattle.std.specs.List.{All};
 ghost use Rattle.std.specs.List.Sorted.{IsPermutation};
@@ -178,13 +178,14 @@ pub fn add_contour<P: ContourPoint>(
     }
 }
 
-/// Returns the points with their places, sorted by height. The only error is `AllocError`.
+/// Returns the points with their places, sorted by height. The only error is `AllocError`, which can't occur where there is no point.
 pub fn by_height<Q: ContourPoint>(
     alloc: Global,
     points: &[Q],
 ) -> Result<Vec<Asked<Q::Coordinate>>, AllocError>
     ensures all { IfOk result (λ v. IsPermutation (asks 0 (Q.points points.now)) v.items) }
     ensures rising { IfOk result (λ v. IsRising (asked_points Q.Coordinate.value v.items)) }
+    ensures none { points.now ≡ [] → IsOk result }
 {
     let mut asked = Vec::with_capacity(alloc, points.len())?;
     for (place, given) in points.iter().enumerate() {
@@ -212,7 +213,8 @@ pub fn write_totals<I: IntNumber>(asked: &[Asked<I>], totals: &[isize], out: &mu
 /// Writes the winding number about each of the points to the front of `out`, as `windings_about` does.
 /// `out` is at least as long as `points`. The rest of it stays as it was.
 /// It takes the time to sort the points, and time linear in the points, the edges, and how many of the points' heights each edge passes.
-/// It allocates a copy of the points and a total for each. The only error is `AllocError`, which leaves `out` as it was.
+/// It allocates a copy of the points and a total for each. The only error is `AllocError`, which can't occur where there is no point, and
+/// leaves `out` as it was.
 pub fn windings_by_height<P: ContourPoint, Q: ContourPoint<Coordinate = P::Coordinate>>(
     alloc: Global,
     contour: &[P],
@@ -227,7 +229,11 @@ pub fn windings_by_height<P: ContourPoint, Q: ContourPoint<Coordinate = P::Coord
     ensures answer { OnOk result (out.new ≡ map (winding (contour_of P.Coordinate.value (P.points contour.now)))
         (contour_of P.Coordinate.value (Q.points points.now)) ++ drop (length points.now) out.old) }
     ensures refused { OnErr result (out.new ≡ out.old) }
+    ensures none { points.now ≡ [] → IsOk result }
 {
+    if points.is_empty() {
+        return Ok(());
+    }
     let asked = by_height(alloc, points)?;
     let mut totals = vec![in alloc; 0isize; asked.len()]?;
     add_contour(&asked, &mut totals, contour);

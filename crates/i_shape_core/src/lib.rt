@@ -12,6 +12,7 @@ pub mod canonical;
 pub mod cleaner;
 mod comparer;
 pub mod contour;
+pub mod copies;
 pub mod despike;
 pub mod equality;
 pub mod error;

@@ -1,6 +1,6 @@
 //! A view of a contour for a cleaner's walk, which counts its visits.
 
-ghost use Rattle.std.specs.Prelude.{◌≡◌, ◌+◌, ◌<◌, ◌≤◌, Some, map, option_map, length, slice_get, IfOk, IsOkUnless};
+ghost use Rattle.std.specs.Prelude.{◌≡◌, ◌+◌, ◌<◌, ◌≤◌, [], Some, map, option_map, length, slice_get, IfOk, IsOk, IsOkUnless};
 ghost use Rattle.std.specs.Option.{IfSome};
 ghost use Rattle.std.specs.List.{All};
 ghost use Rattle.i_shape_core.specs.IntPoint.{contour_of, answered, IsSafeContour};
@@ -8,6 +8,7 @@ ghost use Rattle.i_shape_core.specs.Contour.{point_at};
 ghost use Rattle.i_shape_core.specs.Walks.{Seen};
 ghost use Rattle.i_shape_core.specs.Turn.{IsTurn};
 
+use crate::copies::copied;
 use crate::error::ShapeError;
 use crate::number::IntNumber;
 use crate::point::{ContourPoint, IntPoint};
@@ -81,22 +82,25 @@ impl<'a, I: IntNumber, P: ContourPoint<Coordinate = I>> Probe<'a, I, P> {
         self.count
     }
 
-    /// Returns all points, and the number of visits. The only error is `OutOfMemory`.
+    /// Returns all points, and the number of visits. The only error is `OutOfMemory`, which can't occur where there is no point.
     pub fn keep_all(self, alloc: Global) -> Result<(Vec<P>, u128), ShapeError>
         ensures points { IfOk result (λ kept. P.points kept.0.items ≡ self.entry.contour) }
         ensures visits { IfOk result (λ kept. kept.1 ≡ self.entry.visits) }
+        ensures none { self.entry.contour ≡ [] → IsOk result }
         ensures memory { IsOkUnless result ShapeError.OutOfMemory }
     {
-        let kept = Vec::from_slice(alloc, self.points)?;
+        let kept = copied(alloc, self.points)?;
         Ok((kept, self.visits()))
     }
 
-    /// Returns the points at these places, in the given order, and the number of visits. The only error is `OutOfMemory`.
+    /// Returns the points at these places, in the given order, and the number of visits. The only error is `OutOfMemory`, which can't occur
+    /// where there is no place.
     pub fn keep(self, alloc: Global, indices: &[usize]) -> Result<(Vec<P>, u128), ShapeError>
         requires { All (λ k. k < length self.contour) indices.now }
         ensures points { IfOk result (λ kept. map (λ p. Some p) (P.points kept.0.items)
             ≡ map (slice_get self.entry.contour) indices.now) }
         ensures visits { IfOk result (λ kept. kept.1 ≡ self.entry.visits) }
+        ensures none { indices.now ≡ [] → IsOk result }
         ensures memory { IsOkUnless result ShapeError.OutOfMemory }
     {
         let mut kept = Vec::with_capacity(alloc, indices.len())?;

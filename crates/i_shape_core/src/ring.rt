@@ -66,11 +66,12 @@ impl Ring {
     pub fn before(&self) -> usize
         ensures { result ≡ slice_index self.now.places (length self.now.places - 1) }
     {
-        if self.behind > 0 {
-            self.places[self.behind - 1]
+        let end = if self.behind > 0 {
+            self.behind
         } else {
-            self.places[self.end - 1]
-        }
+            self.end
+        };
+        self.places[end - 1]
     }
 
     /// Returns the walk's place.
@@ -85,11 +86,8 @@ impl Ring {
         requires { 1 < length self.now.places }
         ensures { result ≡ slice_index self.now.places 1 }
     {
-        if self.ahead + 1 < self.end {
-            self.places[self.ahead + 1]
-        } else {
-            self.places[0]
-        }
+        let next = self.ahead + 1;
+        self.places[if next < self.end { next } else { 0 }]
     }
 
     /// Keeps the walk's place as tested, and moves on.

@@ -48,21 +48,6 @@ impl<'a, I: IntNumber + 'a, T: IntResourceMember<'a, I>> IntShapeResource<'a, I>
     }
 }
 
-impl<'a, I: IntNumber + 'a, T: IntResourceMember<'a, I>> IntShapeResource<'a, I>
-    for &'a &'a Vec<T> {
-    type ResourceIter = T::MemberIter;
-
-    ghost paths = { λ members. T.member_paths members.now.now.items };
-
-    ghost safe = { λ members. HoldsOfEqual T.safe members.now.now.items };
-
-    ghost begins = { λ members iter. T.begins members.now.now.items iter };
-
-    fn iter_paths(self) -> T::MemberIter {
-        T::lend(self.as_slice())
-    }
-}
-
 impl<'a, I: IntNumber + 'a, T: IntResourceMember<'a, I>, const N: usize> IntShapeResource<'a, I>
     for &'a [T; N] {
     type ResourceIter = T::MemberIter;
@@ -78,17 +63,21 @@ impl<'a, I: IntNumber + 'a, T: IntResourceMember<'a, I>, const N: usize> IntShap
     }
 }
 
-impl<'a, I: IntNumber + 'a, T: IntResourceMember<'a, I>, const N: usize> IntShapeResource<'a, I>
-    for &'a &'a [T; N] {
-    type ResourceIter = T::MemberIter;
+impl<'a, I: IntNumber + 'a, R: 'a> IntShapeResource<'a, I> for &'a &'a R
+where
+    &'a R: IntShapeResource<'a, I>,
+{
+    type ResourceIter = <&'a R as IntShapeResource<'a, I>>::ResourceIter;
 
-    ghost paths = { λ members. T.member_paths members.now.now };
+    ghost paths = { λ r. ⟦<&'a R as IntShapeResource<'a, I>>⟧.paths r.now };
 
-    ghost safe = { λ members. HoldsOfEqual T.safe members.now.now };
+    ghost safe = { λ r. ⟦<&'a R as IntShapeResource<'a, I>>⟧.safe r.now };
 
-    ghost begins = { λ members iter. T.begins members.now.now iter };
+    ghost begins = { λ r iter. ⟦<&'a R as IntShapeResource<'a, I>>⟧.begins r.now iter };
 
-    fn iter_paths(self) -> T::MemberIter {
-        T::lend(self.as_slice())
+    ghost can_read = { λ r. ⟦<&'a R as IntShapeResource<'a, I>>⟧.can_read r.now };
+
+    fn iter_paths(self) -> <&'a R as IntShapeResource<'a, I>>::ResourceIter {
+        (*self).iter_paths()
     }
 }

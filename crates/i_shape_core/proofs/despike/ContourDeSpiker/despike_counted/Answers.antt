@@ -148,3 +148,9 @@ returns-in_default-clause-takes_room g c =
     let none = rw (c.in_default.is, c.new.ensures.contour) at c.first_back-probe.ensures.answer in
     let already = despiked_stays _ (omega (arith, length-contour g.I.IntNumber.value c.args.contour.now, c.if-contour-lt3.false)) none.0 in
     IfOk-weaker c.keep_whole.result _ _ (λ r w unclean. absurd (unclean already)) c.keep_whole.ensures.kept
+
+pub returns-in_default-clause-spared : goal.returns-in_default-clause-spared
+returns-in_default-clause-spared g c =
+    let none = rw (c.in_default.is, c.new.ensures.contour) at c.first_back-probe.ensures.answer in
+    let already = despiked_stays _ (omega (arith, length-contour g.I.IntNumber.value c.args.contour.now, c.if-contour-lt3.false)) none.0 in
+    λ unclean. absurd (unclean already)
