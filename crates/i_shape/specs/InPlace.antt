@@ -36,6 +36,8 @@ pub record DespikesContour (old new : List Point) (r : Result Bool ShapeError) :
   pub contour : CleansContour NoSpikes DespikeAnswer old new r
   -- a second call finds the contour clean exactly where it isn't empty
   pub again : (b : Bool) → r ≡ Ok b → NoSpikes new ↔ (0 < length new)
+  -- a contour of fewer than four points needs no memory
+  pub spared : length old < 4 → IsOk r
 
 -- a shape is cleaned in place; where a contour is left, the contours together keep what AreKept says
 pub record CleansShape (Passes : List Point → Type 0) (Answer : List Point → Option (List Point) → Type 0) (old new : List (List Point)) (r : Result Bool ShapeError) : Type 0 where

@@ -37,6 +37,11 @@ pub record IsOnBoundary (contours : List (List Point)) (p : Point) : Type 0 wher
 abbrev pub HasPoints : List Point → Type 0
 HasPoints c = 0 < length c
 
+-- there is an outer contour, and it has fewer than three points
+abbrev pub HasShortOuter : List (List Point) → Type 0
+HasShortOuter [] = ⊥
+HasShortOuter (outer ∷ holes) = length outer < 3
+
 -- a shape is left out where its outer contour collapses; otherwise its holes that collapse are left out; an empty shape
 -- stays empty
 abbrev pub ShapeClean : (List Point → Option (List Point) → Type 0) → List (List Point) → Option (List (List Point)) → Type 0

@@ -1,5 +1,5 @@
 -- What the removal of spikes in place leaves.
-use Rattle.std.proofs.Common.{◌≡◌, true, false, Ok, List, [], length, ap, arith}
+use Rattle.std.proofs.Common.{◌≡◌, true, false, Ok, List, [], length, ap, arith, refl}
 use Rattle.i_shape.proofs.Common.{Point, NoSpikes, EachEndCollapses, DespikeAnswer, DespikesContour}
 use Rattle.i_shape_core.proofs.answers.Kept.{collapsed_flat, spikeless_long, spikeless_stays}
 use Rattle.i_shape.proofs.in_place.Contours.{contour_stays, contour_collapses}
@@ -9,6 +9,7 @@ pub spikeless_stays_in_place : (c : List Point) → NoSpikes c → DespikesConto
 spikeless_stays_in_place c s = record {
   contour = contour_stays NoSpikes DespikeAnswer c s (spikeless_stays c s) (spikeless_long c s);
   again = λ b e. (λ t. omega (arith, spikeless_long c t), λ h. s);
+  spared = λ few. refl;
 }
 
 -- where it collapses, none is left
@@ -16,4 +17,5 @@ pub spikes_collapse : (c d : List Point) → (NoSpikes c → ⊥) → EachEndCol
 spikes_collapse c d n ends e = record {
   contour = contour_collapses NoSpikes DespikeAnswer c d n (record { clean = λ t. absurd (n t); cleaned = λ t. ends }) (collapsed_flat c ends) e;
   again = λ b f. (λ t. omega (arith, spikeless_long d t), λ h. absurd (omega (arith, ap length e)));
+  spared = λ few. refl;
 }

@@ -76,14 +76,28 @@ pub fn append_contours<P: Copy>(
     }
 }
 
-/// Returns a copy of some ranges.
+/// Appends ranges. The list must have room.
+pub fn append_ranges(list: &mut Vec<Range<usize>>, ranges: &[Range<usize>])
+    requires { vec_len list.old + length ranges.now ≤ vec_capacity list.old }
+    ensures items { list.new.items ≡ list.old.items ++ ranges.now }
+    ensures capacity { vec_capacity list.old ≤ vec_capacity list.new }
+{
+    for range in ranges {
+        list.push_reserved(range.start..range.end);
+    }
+}
+
+/// Returns a copy of some ranges. The only error is `AllocError`, which can't occur where there is no range.
 pub fn copied_ranges(
     alloc: Global,
     ranges: &[Range<usize>],
 ) -> Result<Vec<Range<usize>>, AllocError>
-    ensures { IfOk result (λ copy. copy.items ≡ ranges.now) }
+    ensures items { IfOk result (λ copy. copy.items ≡ ranges.now) }
+    ensures none { ranges.now ≡ [] → IsOk result }
 {
-    Vec::from_clones(alloc, ranges)
+    let mut copy = Vec::with_capacity(alloc, ranges.len())?;
+    append_ranges(&mut copy, ranges);
+    Ok(copy)
 }
 
 /// The numbers of points and contours of some shapes.
@@ -139,6 +153,7 @@ pub fn copied_parts<P: Copy>(
 ) -> Result<Vec<Vec<P>>, ShapeError>
     requires { All (InOrder (length points.now)) ranges.now }
     ensures ok { IfOk result (λ parts. paths_of_shape parts.items ≡ slices points.now ranges.now) }
+    ensures none { ranges.now ≡ [] → IsOk result }
     ensures memory { IsOkUnless result ShapeError.OutOfMemory }
 {
     let mut parts = Vec::with_capacity(alloc, ranges.len())?;
@@ -243,6 +258,7 @@ pub fn copied_shapes<P: Copy>(
     requires { All (IsReadableShape (length points.now) contour_ranges.now) shape_ranges.now }
     ensures ok { IfOk result (λ list. shape_lists list.items
         ≡ shapes points.now contour_ranges.now shape_ranges.now) }
+    ensures none { shape_ranges.now ≡ [] → IsOk result }
     ensures memory { IsOkUnless result ShapeError.OutOfMemory }
 {
     let mut list = Vec::with_capacity(alloc, shape_ranges.len())?;

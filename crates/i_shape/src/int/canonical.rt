@@ -1,10 +1,10 @@
 //! Canonical forms of shapes and shape lists, with or without regard to the direction of each contour.
 
-ghost use Rattle.std.specs.Prelude.{◌≡◌, List, [], IsOk};
+ghost use Rattle.std.specs.Prelude.{◌≡◌, List, [], Ok, None, IsOk};
 ghost use Rattle.i_shape_core.specs.Point.{Point};
 ghost use Rattle.i_shape_core.specs.Canonical.{CanonicalAnswer, UnorientedAnswer};
 ghost use Rattle.i_shape.specs.ShapeLists.{shape_of, shapes_of, IsSafeShape, IsSafeList};
-ghost use Rattle.i_shape.specs.ShapeAnswers.{AreKept};
+ghost use Rattle.i_shape.specs.ShapeAnswers.{AreKept, HasShortOuter};
 ghost use Rattle.i_shape.specs.CanonicalShapes.{AreKeptEitherWay, FormsShapeTo, FormsListTo};
 ghost use Rattle.i_shape_core.specs.Refusals.{OkUnlessMemory};
 
@@ -30,24 +30,26 @@ pub trait CanonicalShape<I: IntNumber> {
     /// insertions of zero turns lead from one first contour to the other, and so do they for the other contours that
     /// don't collapse, paired one to one in some order.
     /// The form keeps the double area, containment and winding numbers, and its points are safe. The only error is
-    /// `OutOfMemory`, which can't occur for an empty shape.
+    /// `OutOfMemory`, which can't occur for an empty shape, nor where the first contour has fewer than three points.
     fn canonical(&self, alloc: Global) -> Result<Option<IntShape<I>>, ShapeError>
         requires { IsSafeShape I.width (shape self.now) }
         ensures answer { OkUnlessMemory result
             (FormsShapeTo CanonicalAnswer AreKept I.width I.value (shape self.now)) }
-        ensures none { shape self.now ≡ [] → IsOk result };
+        ensures none { shape self.now ≡ [] → IsOk result }
+        ensures short { HasShortOuter (shape self.now) → result ≡ Ok None };
 
     /// Returns the canonical form without regard to the direction of each contour, or `None` where the first contour
     /// collapses. Two shapes that have forms have equal forms exactly where they are the same polygon up to the
     /// direction of each contour.
     /// The form keeps the sum of the contours' absolute double areas. About each point it keeps the sum of their
     /// absolute winding numbers, and how many contours the point is inside of. Its points are safe. The only error is
-    /// `OutOfMemory`, which can't occur for an empty shape.
+    /// `OutOfMemory`, which can't occur for an empty shape, nor where the first contour has fewer than three points.
     fn canonical_unoriented(&self, alloc: Global) -> Result<Option<IntShape<I>>, ShapeError>
         requires { IsSafeShape I.width (shape self.now) }
         ensures answer { OkUnlessMemory result
             (FormsShapeTo UnorientedAnswer AreKeptEitherWay I.width I.value (shape self.now)) }
-        ensures none { shape self.now ≡ [] → IsOk result };
+        ensures none { shape self.now ≡ [] → IsOk result }
+        ensures short { HasShortOuter (shape self.now) → result ≡ Ok None };
 }
 
 /// The canonical forms of a list of shapes of safe points.

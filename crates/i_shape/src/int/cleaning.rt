@@ -1,6 +1,6 @@
 //! Cleaning of shapes and shape lists by any cleaner of contours.
 
-ghost use Rattle.std.specs.Prelude.{◌≡◌, ◌↔◌, ◌<◌, ◌++◌, List, [], length, Option, Some, None, IsTrue, IsOk, OnOk, IsOkUnless};
+ghost use Rattle.std.specs.Prelude.{◌≡◌, ◌↔◌, ◌<◌, ◌++◌, List, [], length, Option, Some, None, IsTrue, Ok, IsOk, OnOk, IsOkUnless};
 ghost use Rattle.std.specs.Int.{Width};
 ghost use Rattle.std.specs.List.{All};
 ghost use Rattle.std.specs.Option.{option_to_list};
@@ -10,7 +10,7 @@ ghost use Rattle.i_shape_core.specs.Cleaners.{KeptAnswer};
 ghost use Rattle.i_shape_core.proofs.walks.Found.{simple_stays};
 ghost use Rattle.i_shape_core.proofs.answers.Kept.{simple_kept, despike_kept, spikeless_stays};
 ghost use Rattle.i_shape_core.proofs.answers.Cleaners.{simple_safe, simple_short, despike_safe, despike_short, canonical_safe, unoriented_safe};
-ghost use Rattle.i_shape.specs.ShapeAnswers.{Survivors, ShapeClean, EachContour, EachShape, CleansShapeTo, CleansListTo};
+ghost use Rattle.i_shape.specs.ShapeAnswers.{HasShortOuter, Survivors, ShapeClean, EachContour, EachShape, CleansShapeTo, CleansListTo};
 ghost use Rattle.i_shape.specs.ShapeLists.{shape_of, shapes_of, IsSafeShape, IsSafeList};
 ghost use Rattle.i_shape_core.specs.Refusals.{OkUnlessMemory};
 
@@ -151,6 +151,7 @@ pub fn clean_shape<I: IntNumber, C: InPlaceCleaner>(
     ensures answer { OkUnlessMemory result
         (CleansShapeTo C.answers I.width I.value (shape_of I.value shape.now)) }
     ensures none { shape_of I.value shape.now ≡ [] → IsOk result }
+    ensures short { HasShortOuter (shape_of I.value shape.now) → result ≡ Ok None }
 {
     let Some((outer, holes)) = shape.split_first() else {
         return Ok(Some(Vec::new(alloc)));

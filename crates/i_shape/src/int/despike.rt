@@ -37,8 +37,8 @@ pub trait DeSpike {
         ensures safe { can_despike self.new };
 }
 
-/// A contour that collapses becomes empty. A contour of fewer than three points collapses without allocation. After a
-/// call without an error, a second call returns false exactly where the contour isn't empty.
+/// A contour that collapses becomes empty. A contour of fewer than four points needs no allocation. After a call without
+/// an error, a second call returns false exactly where the contour isn't empty.
 impl<I: IntNumber> DeSpike for IntContour<I> {
     ghost can_despike = { λ contour. IsSafeContour I.width (contour_of I.value contour.items) };
 

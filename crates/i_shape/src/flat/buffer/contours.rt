@@ -14,6 +14,7 @@ use crate::flat::lists::{
 };
 use crate::int::IntPoint;
 use crate::int::shape::{IntContour, IntShape};
+use i_shape_core::copies::copied;
 use i_shape_core::number::IntNumber;
 use std::alloc::Global;
 use std::ops::Range;
@@ -40,10 +41,12 @@ impl<T: IntNumber> FlatContoursBuffer<T> {
         }
     }
 
-    /// Returns an empty buffer with room for at least `capacity` points. The only error is `OutOfMemory`.
+    /// Returns an empty buffer with room for at least `capacity` points. The only error is `OutOfMemory`, which can't occur
+    /// at capacity 0.
     pub fn with_capacity(alloc: Global, capacity: usize) -> Result<Self, ShapeError>
         ensures ok { IfOk result (λ buffer. HoldsContours buffer []) }
         ensures room { IfOk result (λ buffer. capacity ≤ vec_capacity buffer.points) }
+        ensures none { capacity ≡ 0 → IsOk result }
         ensures memory { IsOkUnless result ShapeError.OutOfMemory }
     {
         Ok(FlatContoursBuffer {
@@ -52,14 +55,16 @@ impl<T: IntNumber> FlatContoursBuffer<T> {
         })
     }
 
-    /// Returns a buffer with the same points and ranges. The only error is `OutOfMemory`.
+    /// Returns a buffer with the same points and ranges. The only error is `OutOfMemory`, which can't occur where there
+    /// are none.
     pub fn clone(&self) -> Result<Self, ShapeError>
         ensures ok { IfOk result (λ copy. SameLists self.now copy) }
+        ensures none { HoldsContours self.now [] → IsOk result }
         ensures memory { IsOkUnless result ShapeError.OutOfMemory }
     {
         let alloc = *self.points.allocator();
         Ok(FlatContoursBuffer {
-            points: Vec::from_slice(alloc, self.points.as_slice())?,
+            points: copied(alloc, self.points.as_slice())?,
             ranges: copied_ranges(alloc, self.ranges.as_slice())?,
         })
     }
@@ -194,11 +199,12 @@ impl<T: IntNumber> FlatContoursBuffer<T> {
 /// Readers.
 impl<T: IntNumber> FlatContoursBuffer<T> {
     /// Returns a copy of each contour, in the order of the ranges. Requires what `can_read_contours` tests. The only
-    /// error is `OutOfMemory`.
+    /// error is `OutOfMemory`, which can't occur where there is no range.
     pub fn to_contours(&self) -> Result<IntShape<T>, ShapeError>
         requires { CanReadContours self.now }
         ensures ok { IfOk result (λ contours. paths_of_shape contours.items
             ≡ slices self.now.points.items self.now.ranges.items) }
+        ensures none { self.now.ranges.items ≡ [] → IsOk result }
         ensures memory { IsOkUnless result ShapeError.OutOfMemory }
     {
         copied_parts(

@@ -14,6 +14,7 @@ use crate::flat::lists::{
 };
 use crate::int::IntPoint;
 use crate::int::shape::{IntContour, IntShape, IntShapes};
+use i_shape_core::copies::copied;
 use i_shape_core::number::IntNumber;
 use std::alloc::Global;
 use std::ops::Range;
@@ -45,7 +46,7 @@ impl<T: IntNumber> FlatShapesBuffer<T> {
     }
 
     /// Returns an empty buffer with room for at least `points` points, `contours` contours and `shapes` shapes. The
-    /// only error is `OutOfMemory`.
+    /// only error is `OutOfMemory`, which can't occur where all three are 0.
     pub fn with_capacity(
         alloc: Global,
         points: usize,
@@ -54,6 +55,7 @@ impl<T: IntNumber> FlatShapesBuffer<T> {
     ) -> Result<Self, ShapeError>
         ensures ok { IfOk result (λ buffer. HoldsShapes buffer []) }
         ensures room { IfOk result (λ buffer. HasShapesRoom buffer points contours shapes) }
+        ensures none { points ≡ 0 → contours ≡ 0 → shapes ≡ 0 → IsOk result }
         ensures memory { IsOkUnless result ShapeError.OutOfMemory }
     {
         Ok(FlatShapesBuffer {
@@ -63,14 +65,16 @@ impl<T: IntNumber> FlatShapesBuffer<T> {
         })
     }
 
-    /// Returns a buffer with the same points and ranges. The only error is `OutOfMemory`.
+    /// Returns a buffer with the same points and ranges. The only error is `OutOfMemory`, which can't occur where there
+    /// are none.
     pub fn clone(&self) -> Result<Self, ShapeError>
         ensures ok { IfOk result (λ copy. SameShapeLists self.now copy) }
+        ensures none { HoldsShapes self.now [] → IsOk result }
         ensures memory { IsOkUnless result ShapeError.OutOfMemory }
     {
         let alloc = *self.points.allocator();
         Ok(FlatShapesBuffer {
-            points: Vec::from_slice(alloc, self.points.as_slice())?,
+            points: copied(alloc, self.points.as_slice())?,
             contour_ranges: copied_ranges(alloc, self.contour_ranges.as_slice())?,
             shape_ranges: copied_ranges(alloc, self.shape_ranges.as_slice())?,
         })
@@ -227,11 +231,12 @@ impl<T: IntNumber> FlatShapesBuffer<T> {
 /// Readers.
 impl<T: IntNumber> FlatShapesBuffer<T> {
     /// Returns a copy of each contour, in the order of the contour ranges. Requires what `can_read_contours` tests. The
-    /// only error is `OutOfMemory`.
+    /// only error is `OutOfMemory`, which can't occur where there is no contour range.
     pub fn to_contours(&self) -> Result<IntShape<T>, ShapeError>
         requires { All (InOrder (length self.now.points.items)) self.now.contour_ranges.items }
         ensures ok { IfOk result (λ contours. paths_of_shape contours.items
             ≡ slices self.now.points.items self.now.contour_ranges.items) }
+        ensures none { self.now.contour_ranges.items ≡ [] → IsOk result }
         ensures memory { IsOkUnless result ShapeError.OutOfMemory }
     {
         copied_parts(
@@ -242,10 +247,12 @@ impl<T: IntNumber> FlatShapesBuffer<T> {
     }
 
     /// Returns a copy of each shape, in the order of the shape ranges. An empty or reversed range gives an empty shape.
-    /// Requires what `can_read_shapes` tests. The only error is `OutOfMemory`.
+    /// Requires what `can_read_shapes` tests. The only error is `OutOfMemory`, which can't occur where there is no shape
+    /// range.
     pub fn to_shapes(&self) -> Result<IntShapes<T>, ShapeError>
         requires { CanReadShapes self.now }
         ensures ok { IfOk result (λ list. shape_lists list.items ≡ shapes_in self.now) }
+        ensures none { self.now.shape_ranges.items ≡ [] → IsOk result }
         ensures memory { IsOkUnless result ShapeError.OutOfMemory }
     {
         copied_shapes(

@@ -7,12 +7,13 @@ ghost use Rattle.i_shape_source.specs.Paths.{paths_of_shape, concatenated};
 ghost use Rattle.i_shape.specs.Flat.{InOrder, slices, behind};
 ghost use Rattle.i_shape.specs.FloatBuffers.{HasLists, LieEndToEnd, HasListsRoom, KeepsListsRoom};
 
-use super::fill::{append_items, append_paths, append_ranges, checked_path_counts, greatest_end};
+use super::fill::{append_items, append_paths, checked_path_counts, greatest_end};
 use crate::ShapeError;
 use crate::base::data::Contour;
 use crate::flat::lists::{
-    all_in_order, append_contour, copied_parts, copied_ranges, reserve_total,
+    all_in_order, append_contour, append_ranges, copied_parts, copied_ranges, reserve_total,
 };
+use i_shape_core::copies::copied;
 use i_shape_source::float::resource::{ShapePoint, ShapeResource};
 use std::alloc::Global;
 use std::ops::Range;
@@ -40,10 +41,11 @@ impl<P: Copy> FloatFlatContoursBuffer<P> {
     }
 
     /// Returns an empty buffer with room for at least `points` points and `contours` contours. The only error is
-    /// `OutOfMemory`.
+    /// `OutOfMemory`, which can't occur where both are 0.
     pub fn with_capacity(alloc: Global, points: usize, contours: usize) -> Result<Self, ShapeError>
         ensures ok { IfOk result (λ buffer. HasLists buffer [] []) }
         ensures room { IfOk result (λ buffer. HasListsRoom buffer points contours) }
+        ensures none { points ≡ 0 → contours ≡ 0 → IsOk result }
         ensures memory { IsOkUnless result ShapeError.OutOfMemory }
     {
         Ok(FloatFlatContoursBuffer {
@@ -52,15 +54,17 @@ impl<P: Copy> FloatFlatContoursBuffer<P> {
         })
     }
 
-    /// Returns a buffer with the same points and ranges. The only error is `OutOfMemory`.
+    /// Returns a buffer with the same points and ranges. The only error is `OutOfMemory`, which can't occur where there
+    /// are none.
     pub fn clone(&self) -> Result<Self, ShapeError>
         ensures ok { IfOk result
             (λ copy. HasLists copy self.now.points.items self.now.ranges.items) }
+        ensures none { HasLists self.now [] [] → IsOk result }
         ensures memory { IsOkUnless result ShapeError.OutOfMemory }
     {
         let alloc = *self.points.allocator();
         Ok(FloatFlatContoursBuffer {
-            points: Vec::from_slice(alloc, self.points.as_slice())?,
+            points: copied(alloc, self.points.as_slice())?,
             ranges: copied_ranges(alloc, self.ranges.as_slice())?,
         })
     }
@@ -80,11 +84,13 @@ impl<P: Copy> FloatFlatContoursBuffer<P> {
         all_in_order(self.ranges.as_slice(), self.points.len())
     }
 
-    /// Returns a copy of each range's points. Requires what `can_read_contours` tests. The only error is `OutOfMemory`.
+    /// Returns a copy of each range's points. Requires what `can_read_contours` tests. The only error is `OutOfMemory`,
+    /// which can't occur where there is no range.
     pub fn to_contours(&self) -> Result<Vec<Contour<P>>, ShapeError>
         requires { All (InOrder (length self.now.points.items)) self.now.ranges.items }
         ensures ok { IfOk result (λ contours. paths_of_shape contours.items
             ≡ slices self.now.points.items self.now.ranges.items) }
+        ensures none { self.now.ranges.items ≡ [] → IsOk result }
         ensures memory { IsOkUnless result ShapeError.OutOfMemory }
     {
         let alloc = *self.points.allocator();

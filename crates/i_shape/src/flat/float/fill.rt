@@ -19,17 +19,6 @@ pub fn greatest_end(ranges: &[Range<usize>]) -> usize
     ranges.iter().map(|range| range.end).max().unwrap_or(0)
 }
 
-/// Appends ranges. The list must have room.
-pub fn append_ranges(list: &mut Vec<Range<usize>>, ranges: &[Range<usize>])
-    requires { vec_len list.old + length ranges.now ≤ vec_capacity list.old }
-    ensures items { list.new.items ≡ list.old.items ++ ranges.now }
-    ensures capacity { vec_capacity list.old ≤ vec_capacity list.new }
-{
-    for range in ranges {
-        list.push_reserved(range.start..range.end);
-    }
-}
-
 /// Appends all items of an iterator. The only error is `OutOfMemory`, which leaves the points unchanged.
 pub fn append_items<P: Copy, I: Iterator<Item = P> + Drop>(
     points: &mut Vec<P>,

@@ -7,13 +7,14 @@ ghost use Rattle.i_shape_source.specs.Paths.{paths_of_shape, shape_lists, concat
 ghost use Rattle.i_shape.specs.Flat.{InOrder, IsReadableShape, slices, shapes, behind};
 ghost use Rattle.i_shape.specs.FloatBuffers.{HasShapeLists, LieEndToEnd, FormOneShape, SameGroups, HasGroupsRoom, KeepsGroupsRoom};
 
-use super::fill::{append_items, append_paths, append_ranges, checked_path_counts, greatest_end};
+use super::fill::{append_items, append_paths, checked_path_counts, greatest_end};
 use crate::ShapeError;
 use crate::base::data::{Contour, Shapes};
 use crate::flat::lists::{
-    all_in_order, append_contour, copied_parts, copied_ranges, copied_shapes, reserve_total,
-    shape_in_order,
+    all_in_order, append_contour, append_ranges, copied_parts, copied_ranges, copied_shapes,
+    reserve_total, shape_in_order,
 };
+use i_shape_core::copies::copied;
 use i_shape_source::float::resource::{ShapePoint, ShapeResource};
 use std::alloc::Global;
 use std::ops::Range;
@@ -45,7 +46,7 @@ impl<P: Copy> FloatFlatShapesBuffer<P> {
     }
 
     /// Returns an empty buffer with room for at least `points` points, `contours` contours and `shapes` shapes. The
-    /// only error is `OutOfMemory`.
+    /// only error is `OutOfMemory`, which can't occur where all three are 0.
     pub fn with_capacity(
         alloc: Global,
         points: usize,
@@ -54,6 +55,7 @@ impl<P: Copy> FloatFlatShapesBuffer<P> {
     ) -> Result<Self, ShapeError>
         ensures ok { IfOk result (λ buffer. HasShapeLists buffer [] [] []) }
         ensures room { IfOk result (λ buffer. HasGroupsRoom buffer points contours shapes) }
+        ensures none { points ≡ 0 → contours ≡ 0 → shapes ≡ 0 → IsOk result }
         ensures memory { IsOkUnless result ShapeError.OutOfMemory }
     {
         Ok(FloatFlatShapesBuffer {
@@ -63,14 +65,16 @@ impl<P: Copy> FloatFlatShapesBuffer<P> {
         })
     }
 
-    /// Returns a buffer with the same points and ranges. The only error is `OutOfMemory`.
+    /// Returns a buffer with the same points and ranges. The only error is `OutOfMemory`, which can't occur where there
+    /// are none.
     pub fn clone(&self) -> Result<Self, ShapeError>
         ensures ok { IfOk result (λ copy. SameGroups self.now copy) }
+        ensures none { HasShapeLists self.now [] [] [] → IsOk result }
         ensures memory { IsOkUnless result ShapeError.OutOfMemory }
     {
         let alloc = *self.points.allocator();
         Ok(FloatFlatShapesBuffer {
-            points: Vec::from_slice(alloc, self.points.as_slice())?,
+            points: copied(alloc, self.points.as_slice())?,
             contour_ranges: copied_ranges(alloc, self.contour_ranges.as_slice())?,
             shape_ranges: copied_ranges(alloc, self.shape_ranges.as_slice())?,
         })
@@ -104,11 +108,12 @@ impl<P: Copy> FloatFlatShapesBuffer<P> {
     }
 
     /// Returns a copy of each contour range's points. Requires what `can_read_contours` tests. The only error is
-    /// `OutOfMemory`.
+    /// `OutOfMemory`, which can't occur where there is no contour range.
     pub fn to_contours(&self) -> Result<Vec<Contour<P>>, ShapeError>
         requires { All (InOrder (length self.now.points.items)) self.now.contour_ranges.items }
         ensures ok { IfOk result (λ contours. paths_of_shape contours.items
             ≡ slices self.now.points.items self.now.contour_ranges.items) }
+        ensures none { self.now.contour_ranges.items ≡ [] → IsOk result }
         ensures memory { IsOkUnless result ShapeError.OutOfMemory }
     {
         let alloc = *self.points.allocator();
@@ -117,7 +122,8 @@ impl<P: Copy> FloatFlatShapesBuffer<P> {
     }
 
     /// Returns a copy of each shape, in the order of the shape ranges. An empty or reversed range gives an empty shape.
-    /// Requires what `can_read_shapes` tests. The only error is `OutOfMemory`.
+    /// Requires what `can_read_shapes` tests. The only error is `OutOfMemory`, which can't occur where there is no shape
+    /// range.
     pub fn to_shapes(&self) -> Result<Shapes<P>, ShapeError>
         requires { All
             (IsReadableShape (length self.now.points.items) self.now.contour_ranges.items)
@@ -125,6 +131,7 @@ impl<P: Copy> FloatFlatShapesBuffer<P> {
         ensures ok { IfOk result (λ list. shape_lists list.items
             ≡ shapes self.now.points.items self.now.contour_ranges.items
             self.now.shape_ranges.items) }
+        ensures none { self.now.shape_ranges.items ≡ [] → IsOk result }
         ensures memory { IsOkUnless result ShapeError.OutOfMemory }
     {
         copied_shapes(

@@ -1,11 +1,12 @@
 //! The forms of shapes and shape lists, given a cleaner that returns the forms of contours.
 
-ghost use Rattle.std.specs.Prelude.{◌≡◌, ◌++◌, List, [], Option, Some, IsOk, IfOk, IfSome, OnOk, IsOkUnless};
+ghost use Rattle.std.specs.Prelude.{◌≡◌, ◌++◌, List, [], Option, Some, None, Ok, IsOk, IfOk, IfSome, OnOk, IsOkUnless};
 ghost use Rattle.std.specs.Option.{option_to_list};
 ghost use Rattle.i_shape_core.specs.Point.{Point};
 ghost use Rattle.i_shape_core.specs.IntPoint.{answered};
 ghost use Rattle.i_shape_core.specs.Canonical.{IsAtMost};
 ghost use Rattle.i_shape.specs.ShapeLists.{shape_of, shapes_of, IsSafeShape, IsSafeList};
+ghost use Rattle.i_shape.specs.ShapeAnswers.{HasShortOuter};
 ghost use Rattle.i_shape.specs.CanonicalShapes.{SortedForms, ShapeForm, ListForm};
 
 use crate::int::cleaning::{CleanerLaws, append_contour};
@@ -47,6 +48,7 @@ pub fn shape_form<I: IntNumber, C: CleanerLaws>(
         (λ r. IfSome r (λ form. IsSafeShape I.width (shape_of I.value form.items))) }
     ensures memory { IsOkUnless result ShapeError.OutOfMemory }
     ensures none { shape_of I.value shape.now ≡ [] → IsOk result }
+    ensures short { HasShortOuter (shape_of I.value shape.now) → result ≡ Ok None }
 {
     let Some((outer, holes)) = shape.split_first() else {
         return Ok(Some(Vec::new(alloc)));

@@ -1,11 +1,11 @@
 //! Removal of spikes from shapes and shape lists: tests, and cleaned copies.
 
-ghost use Rattle.std.specs.Prelude.{◌≡◌, ◌↔◌, List, [], IsTrue, IsOk};
+ghost use Rattle.std.specs.Prelude.{◌≡◌, ◌↔◌, List, [], Ok, None, IsTrue, IsOk};
 ghost use Rattle.i_shape_core.specs.Point.{Point};
 ghost use Rattle.i_shape_core.specs.Convex.{NoSpikes};
 ghost use Rattle.i_shape_core.specs.Cleaners.{DespikeAnswer};
 ghost use Rattle.i_shape.specs.ShapeLists.{shape_of, shapes_of, IsSafeShape, IsSafeList};
-ghost use Rattle.i_shape.specs.ShapeAnswers.{EachContour, EachShape, CleansShapeTo, CleansListTo};
+ghost use Rattle.i_shape.specs.ShapeAnswers.{HasShortOuter, EachContour, EachShape, CleansShapeTo, CleansListTo};
 ghost use Rattle.i_shape_core.specs.Refusals.{OkUnlessMemory};
 
 use crate::int::cleaning::{
@@ -29,12 +29,13 @@ pub trait DeSpikeShape<I: IntNumber> {
 
     /// Returns a copy without spikes, or `None` where the first contour collapses. Later contours that collapse are
     /// left out. A contour without spikes is copied unchanged, and an empty shape stays empty. The only error is
-    /// `OutOfMemory`, which can't occur for an empty shape.
+    /// `OutOfMemory`, which can't occur for an empty shape, nor where the first contour has fewer than three points.
     fn despiked_shape(&self, alloc: Global) -> Result<Option<IntShape<I>>, ShapeError>
         requires { IsSafeShape I.width (shape self.now) }
         ensures answer { OkUnlessMemory result
             (CleansShapeTo DespikeAnswer I.width I.value (shape self.now)) }
-        ensures none { shape self.now ≡ [] → IsOk result };
+        ensures none { shape self.now ≡ [] → IsOk result }
+        ensures short { HasShortOuter (shape self.now) → result ≡ Ok None };
 }
 
 /// Tests a list of shapes of safe points for spikes, and copies it without them.

@@ -75,8 +75,46 @@ impl<'a, P> Iterator for FloatContoursBufferResourceIterator<'a, P> {
     }
 }
 
-/// A `FloatContoursBufferResourceIterator` over the contour ranges of a shapes buffer.
-pub type FloatShapesBufferResourceIterator<'a, P> = FloatContoursBufferResourceIterator<'a, P>;
+/// Iterates over the points of each contour range of a shapes buffer. Skips ranges that are reversed or reach beyond the
+/// points.
+#[derive(Drop)]
+pub struct FloatShapesBufferResourceIterator<'a, P> {
+    contours: FloatContoursBufferResourceIterator<'a, P>,
+}
+
+impl<'a, P> Model for FloatShapesBufferResourceIterator<'a, P> {
+    ghost use Rattle.std.specs.Prelude.{List};
+
+    ghost Value = { List (List P) };
+
+    ghost view = { λ s. s.contours };
+}
+
+impl<'a, P> FloatShapesBufferResourceIterator<'a, P> {
+    #[tactic(auto, using(i_shape_source::proofs::Lent::lends_from_list))]
+    pub(crate) fn with_ranges(points: &'a [P], ranges: &'a [Range<usize>]) -> Self
+        ensures left { result ≡ readable_slices points.now ranges.now }
+        ensures lends { LendsExactly (TakesFirst deref)
+            result (readable_slices points.now ranges.now) }
+        ensures runs { RunsThrough (TakesFirst deref) result
+            (readable_slices points.now ranges.now) }
+    {
+        let contours = FloatContoursBufferResourceIterator::with_ranges(points, ranges);
+        FloatShapesBufferResourceIterator { contours }
+    }
+}
+
+impl<'a, P> Iterator for FloatShapesBufferResourceIterator<'a, P> {
+    type Item = &'a [P];
+
+    ghost next_gives = { TakesFirst deref };
+
+    ghost remaining = { λ s. at_most (length s) };
+
+    fn next(&mut self) -> Option<&'a [P]> {
+        self.contours.next()
+    }
+}
 
 impl<'a, P: ShapePoint + 'a> ShapeResource<'a, P> for &'a FloatFlatContoursBuffer<P> {
     type ResourceIter = FloatContoursBufferResourceIterator<'a, P>;
@@ -92,19 +130,6 @@ impl<'a, P: ShapePoint + 'a> ShapeResource<'a, P> for &'a FloatFlatContoursBuffe
     }
 }
 
-impl<'a, P: ShapePoint + 'a> ShapeResource<'a, P> for &'a &'a FloatFlatContoursBuffer<P> {
-    type ResourceIter = FloatContoursBufferResourceIterator<'a, P>;
-
-    ghost paths = { λ buffer. readable_slices buffer.now.now.points.items buffer.now.now.ranges.items };
-
-    ghost begins = { λ buffer iter. iter ≡ readable_slices buffer.now.now.points.items buffer.now.now.ranges.items };
-
-    fn iter_paths(self) -> FloatContoursBufferResourceIterator<'a, P> {
-        let buffer = *self;
-        buffer.iter_paths()
-    }
-}
-
 impl<'a, P: ShapePoint + 'a> ShapeResource<'a, P> for &'a FloatFlatShapesBuffer<P> {
     type ResourceIter = FloatShapesBufferResourceIterator<'a, P>;
 
@@ -115,18 +140,6 @@ impl<'a, P: ShapePoint + 'a> ShapeResource<'a, P> for &'a FloatFlatShapesBuffer<
     #[tactic(auto, using(i_shape_source::proofs::Lent::runs_from_lends))]
     fn iter_paths(self) -> FloatShapesBufferResourceIterator<'a, P> {
         let ranges = self.contour_ranges.as_slice();
-        FloatContoursBufferResourceIterator::with_ranges(self.points.as_slice(), ranges)
-    }
-}
-
-impl<'a, P: ShapePoint + 'a> ShapeResource<'a, P> for &'a &'a FloatFlatShapesBuffer<P> {
-    type ResourceIter = FloatShapesBufferResourceIterator<'a, P>;
-
-    ghost paths = { λ buffer. readable_slices buffer.now.now.points.items buffer.now.now.contour_ranges.items };
-
-    ghost begins = { λ buffer iter. iter ≡ readable_slices buffer.now.now.points.items buffer.now.now.contour_ranges.items };
-
-    fn iter_paths(self) -> FloatShapesBufferResourceIterator<'a, P> {
-        (*self).iter_paths()
+        FloatShapesBufferResourceIterator::with_ranges(self.points.as_slice(), ranges)
     }
 }

@@ -97,23 +97,6 @@ impl<'a, I: IntNumber + 'a> IntShapeResource<'a, I> for &'a FlatContoursBuffer<I
     }
 }
 
-impl<'a, I: IntNumber + 'a> IntShapeResource<'a, I> for &'a &'a FlatContoursBuffer<I> {
-    type ResourceIter = IntBufferResourceIterator<'a, I>;
-
-    ghost paths = { λ buffer. slices buffer.now.now.points.items buffer.now.now.ranges.items };
-
-    ghost safe = { λ buffer. IsSafeShape I.width (contours_in I.value buffer.now.now) };
-
-    ghost begins = { λ buffer iter. iter ≡ slices buffer.now.now.points.items buffer.now.now.ranges.items };
-
-    ghost can_read = { λ buffer. All (InOrder (length buffer.now.now.points.items)) buffer.now.now.ranges.items };
-
-    fn iter_paths(self) -> IntBufferResourceIterator<'a, I> {
-        let buffer = *self;
-        buffer.iter_paths()
-    }
-}
-
 impl<'a, I: IntNumber + 'a> IntShapeResource<'a, I> for &'a FlatShapesBuffer<I> {
     type ResourceIter = IntBufferResourceIterator<'a, I>;
 
@@ -129,21 +112,5 @@ impl<'a, I: IntNumber + 'a> IntShapeResource<'a, I> for &'a FlatShapesBuffer<I> 
     fn iter_paths(self) -> IntBufferResourceIterator<'a, I> {
         let ranges = self.contour_ranges.as_slice();
         IntBufferResourceIterator::with_ranges(self.points.as_slice(), ranges)
-    }
-}
-
-impl<'a, I: IntNumber + 'a> IntShapeResource<'a, I> for &'a &'a FlatShapesBuffer<I> {
-    type ResourceIter = IntBufferResourceIterator<'a, I>;
-
-    ghost paths = { λ buffer. slices buffer.now.now.points.items buffer.now.now.contour_ranges.items };
-
-    ghost safe = { λ buffer. AreSafePaths I.width I.value (slices buffer.now.now.points.items buffer.now.now.contour_ranges.items) };
-
-    ghost begins = { λ buffer iter. iter ≡ slices buffer.now.now.points.items buffer.now.now.contour_ranges.items };
-
-    ghost can_read = { λ buffer. All (InOrder (length buffer.now.now.points.items)) buffer.now.now.contour_ranges.items };
-
-    fn iter_paths(self) -> IntBufferResourceIterator<'a, I> {
-        (*self).iter_paths()
     }
 }

@@ -1,5 +1,5 @@
 use Rattle.std.proofs.Common.{◌≡◌, ◌+◌, ◌≤◌, ◌++◌, take, vec_len, vec_capacity}
-use Rattle.i_shape.proofs.flat.float.fill.append_ranges.Given as goal
+use Rattle.i_shape.proofs.flat.lists.append_ranges.Given as goal
 
 abbrev pub invariant-loop-range : goal.invariant-loop-range
 invariant-loop-range l = record {
