@@ -1,7 +1,7 @@
-pub use Rattle.i_shape_text.specs.Points
-pub use Rattle.i_shape_text.specs.Command
-pub use Rattle.i_shape_text.specs.Text
-pub use Rattle.i_shape_text.specs.Numeral
-pub use Rattle.i_shape_text.specs.Run
-pub use Rattle.i_shape_text.specs.Serve
-pub use Rattle.i_shape_text.specs.PartedTexts
+pub mod Points
+pub mod Command
+pub mod Text
+pub mod Numeral
+pub mod Run
+pub mod Serve
+pub mod PartedTexts

@@ -1,7 +1,7 @@
 //! Cleans the contours on standard input.
 #![tactic(auto)]
 
-use i_shape_text::{Complaint, serve};
+use i_shape_tool::{Complaint, serve};
 use std::process::ExitCode;
 use std::{env, io};
 

@@ -1,5 +1,0 @@
--- A text, line by line, and one run of the program.
-pub mod Lines
-pub mod Compacting
-pub mod Serving
-pub mod TwoTexts

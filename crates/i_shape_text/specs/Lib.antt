@@ -1,7 +1,0 @@
-pub mod Points
-pub mod Command
-pub mod Text
-pub mod Numeral
-pub mod Run
-pub mod Serve
-pub mod PartedTexts

@@ -1,0 +1,5 @@
+use Rattle.i_shape_tool.proofs.running.TwoTexts.{first_of_first, first_of_second, first_of_both}
+use Rattle.i_shape_tool.proofs.laws.fault_concatenated.Goals as goal
+
+pub returns : goal.returns
+returns c = record { first = first_of_first; second = first_of_second; one = first_of_both }

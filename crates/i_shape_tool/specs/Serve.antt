@@ -1,0 +1,71 @@
+-- One run of the program: its arguments, its input and its two outputs.
+use Rattle.std.specs.Prelude.{◌≡◌, ℕ, List, [], ◌∷◌, Option, IfSome, string_bytes, ◌⊎◌, ◌++◌, codes, decimal}
+use Rattle.std.specs.Str.{IsUtf8}
+use Rattle.std.specs.declared.string.String.{String}
+use Rattle.std.specs.declared.alloc.Global.{Global}
+use Rattle.std.specs.Io.KnownBytes.{Appends, Keeps}
+use Rattle.i_shape_tool.specs.declared.command.Command.{Command}
+use Rattle.i_shape_tool.specs.declared.fault.ToolFault.TheVariants as faults
+use Rattle.i_shape_tool.specs.declared.program.Complaint.{Complaint}
+use Rattle.i_shape_tool.specs.declared.program.Complaint.TheVariants.{Usage, NotUtf8, Fault, Input, Output}
+use Rattle.i_shape_tool.specs.Command.{word_of}
+use Rattle.i_shape_tool.specs.Run.{AnswersText, IsFirstFault}
+
+-- there is exactly one word, and it names the command
+abbrev pub Asks : List (String Global) → Command → Type 0
+Asks words command = (word : String Global) × (words ≡ word ∷ []) × (string_bytes word ≡ word_of command)
+
+-- the exit status for a complaint
+abbrev pub status_of : Complaint → ℕ
+status_of Usage = 2
+status_of NotUtf8 = 1
+status_of (Fault (faults.NotAContour n)) = 1
+status_of (Fault (faults.OutOfRange n)) = 1
+status_of (Fault faults.OutOfMemory) = 3
+status_of Input = 4
+status_of Output = 4
+
+-- the text of a complaint
+abbrev pub told : Complaint → List ℕ
+told Usage = codes "usage: i_shape_tool simplify|despike|area|canonical|compact"
+told NotUtf8 = codes "input is not UTF-8"
+told (Fault (faults.NotAContour n)) = codes "line " ++ decimal n ++ codes ": not a contour"
+told (Fault (faults.OutOfRange n)) = codes "line " ++ decimal n ++ codes ": out of range"
+told (Fault faults.OutOfMemory) = codes "out of memory"
+told Input = codes "input or output failed"
+told Output = codes "input or output failed"
+
+-- the command is asked for, and the output gained its answer to the input, where those are known
+abbrev pub IsServed : List (String Global) → Option (List ℕ) → Option (List ℕ) → Option (List ℕ) → Type 0
+IsServed words input before after =
+    (command : Command) × Asks words command
+    × IfSome input (λ text. (answer : List ℕ) × AnswersText command text answer × Appends before after answer)
+
+-- the command has an answer to the text
+abbrev pub HasAnswer : Command → List ℕ → Type 0
+HasAnswer command text = (answer : List ℕ) × AnswersText command text answer
+
+-- the complaint is true of the words and of the input, if that is known; a fault is one of the text that was read, and the output fails
+-- only if there is an answer to write
+abbrev pub IsTrueComplaint : List (String Global) → Option (List ℕ) → Complaint → Type 0
+IsTrueComplaint words input Usage = (command : Command) → Asks words command → ⊥
+IsTrueComplaint words input NotUtf8 = (command : Command) × Asks words command × IfSome input (λ text. IsUtf8 text → ⊥)
+IsTrueComplaint words input (Fault fault) =
+    (command : Command) × Asks words command × IfSome input (λ text. IsFirstFault command text fault)
+IsTrueComplaint words input Input = (command : Command) × Asks words command
+IsTrueComplaint words input Output = (command : Command) × Asks words command × IfSome input (HasAnswer command)
+
+-- unless the output failed, it holds what it held, if that is known
+abbrev pub KeepsOutput : Complaint → Option (List ℕ) → Option (List ℕ) → Type 0
+KeepsOutput Usage before after = Keeps before after
+KeepsOutput NotUtf8 before after = Keeps before after
+KeepsOutput (Fault fault) before after = Keeps before after
+KeepsOutput Input before after = Keeps before after
+KeepsOutput Output before after = Unit {0}
+
+-- one run of the program: the status is 0 and the output answers the input, or the status is that of a true complaint, and nothing was
+-- written unless the output failed
+abbrev pub EndsWith : List (String Global) → Option (List ℕ) → Option (List ℕ) → Option (List ℕ) → ℕ → Type 0
+EndsWith words input before after status =
+    ((status ≡ 0) × IsServed words input before after)
+    ⊎ ((complaint : Complaint) × (status ≡ status_of complaint) × IsTrueComplaint words input complaint × KeepsOutput complaint before after)
