@@ -40,6 +40,7 @@ mod small_grid;
 #[cfg(test)]
 mod texts;
 #[cfg(test)]
+#[cfg(test)]
 mod tool;
 #[cfg(test)]
 mod worked;

@@ -157,25 +157,28 @@ macro_rules! lend_points {
     };
 }
 
-/// A list of the points, of no point and of the last point, all borrowed, lends these three.
+/// A list of the points, of no point and of the last point, all borrowed, lends these three, behind one reference and behind two.
 macro_rules! lend_borrowed {
     ($lends:ident, $lends_vector:ident, $row:ident, $points:ident) => {
         let wanted = some_paths($row.alloc, $points)?;
         let array = [$points, &$points[..0], &$points[1.min($points.len())..]];
         $lends($row, &array, &wanted);
+        $lends($row, &&array, &wanted);
         $lends($row, array.as_slice(), &wanted);
+        $lends($row, &array.as_slice(), &wanted);
         let vector = Vec::from_array($row.alloc, array)?;
         $lends_vector($row, &vector, &wanted);
     };
 }
 
-/// A vector of borrowed paths lends them.
+/// A vector of borrowed paths lends them, behind one reference and behind two.
 fn lends_vector<I: IntNumber>(
     row: &Row<'_, impl Abort>,
     vector: &Vec<&[IntPoint<I>]>,
     wanted: &[Vec<IntPoint<I>>],
 ) {
     lends(row, vector, wanted);
+    lends(row, &vector, wanted);
 }
 
 fn lends_points_vector(
@@ -184,6 +187,7 @@ fn lends_points_vector(
     wanted: &[Vec<WholePoint>],
 ) {
     lends_points(row, vector, wanted);
+    lends_points(row, &vector, wanted);
 }
 
 fn borrowed_lend<I: IntNumber>(

@@ -62,11 +62,13 @@ fn shape_is_cleaned(
     let mut shape = texts::shape(row, given)?;
     let answer = shape.as_slice().simplified(row.alloc)?;
     let is_clean = simple.first() == Some(&shape);
+    row.equal(shape.as_slice().is_simple(), is_clean, "a simple shape");
     row.equal(shape.simplify_contour()?, !is_clean, "a shape told");
     row.holds(is_of(answer, &shape, simple), "a simplified shape");
     let mut shape = texts::shape(row, given)?;
     let answer = shape.despiked_shape(row.alloc)?;
     let is_clean = blunt.first() == Some(&shape);
+    row.equal(shape.has_no_spikes(), is_clean, "no spikes of a shape");
     row.equal(shape.remove_spikes()?, !is_clean, "its spikes told");
     row.holds(is_of(answer, &shape, blunt), "a despiked shape");
     Ok(())
@@ -94,8 +96,8 @@ const LISTS: &str = "\
 0 0 1 0 1 0 2 0 2 2 0 2 0 0;/|2 0 2 2 0 2 0 0;/|0 0 1 0 1 0 2 0 2 2 0 2 0 0;/
 0 0 2 0 4 0 2 0 2 2 0 2; 1 1 2 2 3 3;/|0 0 2 0 2 2 0 2;/|0 0 2 0 2 2 0 2;/
 -10 -10 -10 10 10 10 -10 10 -10 -10 10 -10; -5 -5 5 -5 5 5 -5 5; -5 -5 5 -5 5 5 -5 5;/||
--10 -10 -10 10 10 10 -10 10 -10 -10 10 -10; -5 -5 5 -5 5 5 -5 5;/-10 -10 -10 10 10 10 10 -10;/|-10 -10 -10 10 10 10 10 -10;/|-10 -10 -10 10 10 10 10 -10;/
--10 -10 -10 10 10 10 -10 10 -10 -10 10 -10; -5 -5 5 -5 5 5 -5 5;/-10 -10 -10 10 10 10 -10 10 -10 -10 10 -10; -5 -5 5 -5 5 5 -5 5;/||
+-10 -10 -10 10 10 10 -10 10 -10 -10 10 -10; -5 -5 5 -5 5 5 -5 5; -5 -5 5 -5 5 5 -5 5;/-10 -10 -10 10 10 10 10 -10;/|-10 -10 -10 10 10 10 10 -10;/|-10 -10 -10 10 10 10 10 -10;/
+-10 -10 -10 10 10 10 -10 10 -10 -10 10 -10; -5 -5 5 -5 5 5 -5 5; -5 -5 5 -5 5 5 -5 5;/-10 -10 -10 10 10 10 -10 10 -10 -10 10 -10; -5 -5 5 -5 5 5 -5 5; -5 -5 5 -5 5 5 -5 5;/||
 ;/||
 /0 0 0 512 0 1;/0 0 4 0 4 4;/|/0 0 4 0 4 4;/|/0 0 4 0 4 4;/
 0 0 1 0 1 1;/5 5 6 5 6 6; 7 7 8 7 8 8;/|0 0 1 0 1 1;/5 5 6 5 6 6; 7 7 8 7 8 8;/|0 0 1 0 1 1;/5 5 6 5 6 6; 7 7 8 7 8 8;/";

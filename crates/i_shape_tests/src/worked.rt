@@ -14,7 +14,7 @@ use std::alloc::Global;
 use std::process::Abort;
 use std::test::Fail;
 
-/// In each row: a name, the points, twice the area, what is left without zero turns and the visits that this takes, what the despiker leaves and its visits,
+/// In each row: a name, the points, twice the area, also of what is left, what is left without zero turns and the visits that this takes, what the despiker leaves and its visits,
 /// whether there are spikes, and the canonical form. Nothing is left where the contour collapses.
 const ROWS: &str = "\
 a square|0 0 10 0 10 10 0 10|200|0 0 10 0 10 10 0 10|4|0 0 10 0 10 10 0 10|4|no spikes|0 0 10 0 10 10 0 10
@@ -36,6 +36,7 @@ a straight point|0 0 2 0 4 0 4 4 0 4|32|0 0 4 0 4 4 0 4|5|0 0 2 0 4 0 4 4 0 4|5|
 a spike there and back|0 0 8 0 4 0 6 0 6 4 0 4|48|0 0 6 0 6 4 0 4|6|0 0 4 0 6 0 6 4 0 4|7|spikes|0 0 6 0 6 4 0 4
 a triangle of half a square|0 0 1 0 0 1|1|0 0 1 0 0 1|3|0 0 1 0 0 1|3|no spikes|0 0 1 0 0 1
 the triangle backwards|0 1 1 0 0 0|-1|0 1 1 0 0 0|3|0 1 1 0 0 0|3|no spikes|0 0 0 1 1 0
+the unit square from zero|0 0 1 0 1 1 0 1|2|0 0 1 0 1 1 0 1|4|0 0 1 0 1 1 0 1|4|no spikes|0 0 1 0 1 1 0 1
 a unit square, clockwise|0 0 0 1 1 1 1 0|-2|0 0 0 1 1 1 1 0|4|0 0 0 1 1 1 1 0|4|no spikes|0 0 0 1 1 1 1 0
 the unit square|1 0 1 1 0 1 0 0|2|1 0 1 1 0 1 0 0|4|1 0 1 1 0 1 0 0|4|no spikes|0 0 1 0 1 1 0 1
 there and back over a repeated point|0 0 2 0 2 0 0 0|0||2||2|spikes|
@@ -48,6 +49,7 @@ a square about zero|-1 -1 1 -1 1 1 -1 1|8|-1 -1 1 -1 1 1 -1 1|4|-1 -1 1 -1 1 1 -
 a spike across the start|0 -1 0 1 1 1 1 0 0 0|-2|0 1 1 1 1 0 0 0|6|0 1 1 1 1 0 0 0|5|spikes|0 0 0 1 1 1 1 0
 a square with a point on each edge|0 -10 10 -10 10 0 10 10 0 10 -10 10 -10 0 -10 -10|800|10 -10 10 10 -10 10 -10 -10|12|0 -10 10 -10 10 0 10 10 0 10 -10 10 -10 0 -10 -10|8|no spikes|-10 -10 10 -10 10 10 -10 10
 a clockwise square|-10 -10 -10 10 10 10 10 -10|-800|-10 -10 -10 10 10 10 10 -10|4|-10 -10 -10 10 10 10 10 -10|4|no spikes|-10 -10 -10 10 10 10 10 -10
+that square backwards|10 -10 10 10 -10 10 -10 -10|800|10 -10 10 10 -10 10 -10 -10|4|10 -10 10 10 -10 10 -10 -10|4|no spikes|-10 -10 10 -10 10 10 -10 10
 two ways there and back|-10 -10 -10 10 10 10 -10 10 -10 -10 10 -10|0||5||7|spikes|";
 
 /// The double area of the contour is `two`, and the area half of it towards zero, as a slice and as an iterator.
@@ -82,7 +84,9 @@ fn is_simplified(
     row.equal(walked, visits, "visits");
     texts::leaves(row, kept, left, "simplify_counted")?;
     let kept = simplifier.simplify_contour(contour.as_slice())?;
-    texts::leaves(row, kept, left, "simplify_contour")
+    texts::leaves(row, kept, left, "simplify_contour")?;
+    let kept = simplifier.simplify_contour(contour.as_slice())?;
+    texts::leaves(row, kept, left, "simplify_contour again")
 }
 
 /// In place it becomes that too, where a second call changes nothing.
@@ -148,9 +152,12 @@ fn each_call_answers_each_row(rt: HostRuntime) -> Result<(), Fail> {
             return Err(Fail::new("a row has nine columns"));
         };
         let row = Row::new(&rt, alloc, *name);
-        let points = texts::contour(&row, *given)?;
-        if !points.is_empty() {
-            has_area(&row, points.as_slice(), two.parse::<i64>()?);
+        let two = two.parse::<i64>()?;
+        for list in [*given, *simple, *despiked] {
+            let points = texts::contour(&row, list)?;
+            if !points.is_empty() {
+                has_area(&row, points.as_slice(), two);
+            }
         }
         let visits = visits.parse::<u128>()?;
         is_simplified(&row, &mut simplifier, [*given, *simple], visits)?;

@@ -1,7 +1,7 @@
 //! The cleaners of one contour.
 
 use crate::given::{FLAT, SPIKED, SQUARE, contour, safe};
-use crate::told::{begun, call, ended, on};
+use crate::told::{begun, call, compared, ended, on};
 use i_shape::int::despike::{ContourDeSpiker, DeSpike, DeSpikeContour};
 use i_shape::int::simple::{ContourSimplifier, SimpleContour, Simplify};
 
@@ -27,7 +27,7 @@ fn of_a_new_cleaner(rt: HostRuntime) {
     call!(rt, "ContourDeSpiker::despike_counted" => ContourDeSpiker::new(alloc).despike_counted(points));
 }
 
-/// A simplifier that has cleaned a shorter contour before, and one that was refused is used again.
+/// A simplifier that has cleaned a shorter contour before. It is used again after a refusal, and answers as a new one.
 #[test]
 fn of_a_used_cleaner(rt: HostRuntime) {
     let points = safe(&rt, SPIKED.as_slice());
@@ -35,6 +35,13 @@ fn of_a_used_cleaner(rt: HostRuntime) {
     if simplifier.simplify_counted(safe(&rt, &SPIKED[..5])).is_ok() {
         call!(rt, "ContourSimplifier::simplify_counted" => simplifier.simplify_counted(points));
         call!(rt, "ContourSimplifier::simplify_counted again" => simplifier.simplify_counted(points));
+        let fresh = ContourSimplifier::new(rt.alloc()).simplify_counted(points);
+        compared(
+            &rt,
+            "a used cleaner",
+            (simplifier.simplify_counted(points), fresh),
+            true,
+        );
     }
 }
 

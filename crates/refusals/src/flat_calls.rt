@@ -5,7 +5,7 @@ use crate::flat_buffers::{
 };
 use crate::given::{MARK, SPIKED, SQUARE, TRIANGLE, shape};
 use crate::spots::{self, PAIR, Repeated, Spot, TRIPLE};
-use crate::told::{begun, call, ended, on};
+use crate::told::{begun, call, compared, ended, on};
 use i_shape::flat::buffer::{FlatContoursBuffer, FlatShapesBuffer};
 use i_shape::flat::float::{FloatFlatContoursBuffer, FloatFlatShapesBuffer};
 
@@ -25,6 +25,31 @@ fn cloned(rt: HostRuntime) {
     on!(rt, shapes(alloc, &SQUARE, &[0..4, 0..3]), "FlatShapesBuffer::clone", it => it.clone());
     on!(rt, spot_contours(alloc, &spots::BOTH, &[0..2, 2..5]), "FloatFlatContoursBuffer::clone", it => it.clone());
     on!(rt, spot_shapes(alloc, &spots::BOTH, &[0..2, 2..5]), "FloatFlatShapesBuffer::clone", it => it.clone());
+}
+
+/// Nothing takes no memory.
+#[test]
+fn new_and_cloned_of_nothing(rt: HostRuntime) {
+    let alloc = rt.alloc();
+    call!(rt, "FlatContoursBuffer::with_capacity of nothing" => FlatContoursBuffer::<i32>::with_capacity(alloc, 0));
+    call!(rt, "FlatShapesBuffer::with_capacity of nothing" => FlatShapesBuffer::<i32>::with_capacity(alloc, 0, 0, 0));
+    call!(rt, "FloatFlatContoursBuffer::with_capacity of nothing" => FloatFlatContoursBuffer::<Spot>::with_capacity(alloc, 0, 0));
+    call!(rt, "FloatFlatShapesBuffer::with_capacity of nothing" => FloatFlatShapesBuffer::<Spot>::with_capacity(alloc, 0, 0, 0));
+    call!(rt, "FlatContoursBuffer::clone of nothing" => FlatContoursBuffer::<i32>::new(alloc).clone());
+    call!(rt, "FlatShapesBuffer::clone of nothing" => FlatShapesBuffer::<i32>::new(alloc).clone());
+    call!(rt, "FloatFlatContoursBuffer::clone of nothing" => FloatFlatContoursBuffer::<Spot>::new(alloc).clone());
+    call!(rt, "FloatFlatShapesBuffer::clone of nothing" => FloatFlatShapesBuffer::<Spot>::new(alloc).clone());
+}
+
+#[test]
+fn set_with_nothing(rt: HostRuntime) {
+    let alloc = rt.alloc();
+    on!(rt, contours(alloc, &[], &[]), "FlatContoursBuffer::clear_and_reserve of nothing", it => it.clear_and_reserve(0, 0));
+    on!(rt, shapes(alloc, &[], &[]), "FlatShapesBuffer::clear_and_reserve of nothing", it => it.clear_and_reserve(0, 0, 0));
+    on!(rt, contours(alloc, &[], &[]), "FlatContoursBuffer::set_with_shapes of nothing", it => it.set_with_shapes(&[]));
+    on!(rt, shapes(alloc, &[], &[]), "FlatShapesBuffer::set_with_shapes of nothing", it => it.set_with_shapes(&[]));
+    on!(rt, spot_contours(alloc, &[], &[]), "FloatFlatContoursBuffer::set_flat of nothing", it => it.set_flat(&[], &[]));
+    on!(rt, spot_shapes(alloc, &[], &[]), "FloatFlatShapesBuffer::set_flat of nothing", it => it.set_flat(&[], &[], &[]));
 }
 
 #[test]
@@ -78,13 +103,13 @@ fn added_by_an_iterator(rt: HostRuntime) {
 fn set_by_an_iterator(rt: HostRuntime) {
     let alloc = rt.alloc();
     on!(rt, spot_contours(alloc, &spots::MARK, &[]), "FloatFlatContoursBuffer::set_with_iter",
-        it => it.set_with_iter(Repeated { left: 5 }, &[0..1, 1..2]));
+        it => it.set_with_iter(Repeated { left: 5 }, &[0..1, 1..2]), refused => spot_contours(alloc, &[], &[]));
     on!(rt, spot_shapes(alloc, &spots::MARK, &[]), "FloatFlatShapesBuffer::set_with_iter",
-        it => it.set_with_iter(Repeated { left: 5 }, &[0..1, 1..2], &[0..1, 1..2]));
+        it => it.set_with_iter(Repeated { left: 5 }, &[0..1, 1..2], &[0..1, 1..2]), refused => spot_shapes(alloc, &[], &[]));
     on!(rt, spot_contours(alloc, &spots::MARK, &[]), "FloatFlatContoursBuffer::set_with_iter of a counted iterator",
-        it => it.set_with_iter(spots::BOTH.as_slice().iter().copied(), &[0..1, 1..2]));
+        it => it.set_with_iter(spots::BOTH.as_slice().iter().copied(), &[0..1, 1..2]), refused => spot_contours(alloc, &[], &[]));
     on!(rt, spot_shapes(alloc, &spots::MARK, &[]), "FloatFlatShapesBuffer::set_with_iter of a counted iterator",
-        it => it.set_with_iter(spots::BOTH.as_slice().iter().copied(), &[0..1, 1..2], &[0..1, 1..2]));
+        it => it.set_with_iter(spots::BOTH.as_slice().iter().copied(), &[0..1, 1..2], &[0..1, 1..2]), refused => spot_shapes(alloc, &[], &[]));
 }
 
 #[test]
@@ -131,10 +156,10 @@ fn read_of_points_of_any_kind(rt: HostRuntime) {
 /// The buffer of contours is cleaned without zero turns, or without spikes, by a call of this name.
 macro_rules! cleans {
     ($rt:ident, $given:ident($($list:expr),*) after $test:ident, $name:expr => $call:ident) => {
-        if let Ok(mut it) = $given($rt.alloc(), $($list),*) {
+        on!($rt, $given($rt.alloc(), $($list),*), $name, it => {
             $test(&$rt, &it);
-            call!($rt, $name => it.$call());
-        }
+            it.$call()
+        });
     };
 }
 

@@ -1,5 +1,6 @@
 //! Calls whose growths are refused one by one. A test makes one call after another, and prints `NAME begins` before each and `NAME done` or `NAME refused`
-//! behind it; where what a call is given can't be had, there is no call. Without a refusal each call is done. What a call answers and leaves its clauses say.
+//! behind it; where what a call is given can't be had, there is no call. Without a refusal each call is done. A refused call leaves what it
+//! was given, and each answers and leaves the same as a second one that isn't refused.
 #![tactic(auto)]
 
 #[cfg(test)]

@@ -3,7 +3,7 @@
 use crate::flat_buffers::{contours, shapes, spot_contours, spot_shapes};
 use crate::given::{SQUARE, TRIANGLE, one_shape, safe, shape};
 use crate::spots;
-use crate::told::{begun, call, ended, on};
+use crate::told::{begun, call, compared, ended, on};
 use i_shape::int::IntPoint;
 use i_shape::int::area::{Area, IteratorArea, UnsafeArea};
 use i_shape::int::count::PointsCount;
@@ -33,12 +33,19 @@ fn tests_of_a_contour(rt: HostRuntime) {
     call!(rt, "FillRule::fills" => Ok(FillRule::Negative.fills(-1)));
 }
 
+/// The numbers that are written over. They take no memory.
+fn numbers() -> Result<[isize; 5], ShapeError> {
+    Ok([7; 5])
+}
+
 #[test]
 fn windings_of_a_contour_by_height(rt: HostRuntime) {
     let points = safe(&rt, SQUARE.as_slice());
-    let mut numbers = [7; 5];
-    assert!(rt; points.len() <= numbers.len());
-    call!(rt, "windings_by_height" => windings_by_height(rt.alloc(), points, points, &mut numbers).or(Err(ShapeError::OutOfMemory)));
+    assert!(rt; points.len() <= 5);
+    on!(rt, numbers(), "windings_by_height", out => windings_by_height(rt.alloc(), points, points, &mut out).or(Err(ShapeError::OutOfMemory)));
+    let none = safe(&rt, &SQUARE[..0]);
+    assert!(rt; none.is_empty());
+    on!(rt, numbers(), "windings_by_height of no point", out => windings_by_height(rt.alloc(), points, none, &mut out).or(Err(ShapeError::OutOfMemory)));
 }
 
 #[test]

@@ -2,27 +2,49 @@ use i_shape_tool::{Command, ToolFault, run, serve};
 use std::alloc::{AllocError, Global};
 use std::test::Fail;
 
-/// The commands, each with a text, and the words behind its name.
-const TEXTS: [(Command, &str, &str); 7] = [
-    (Command::Simplify, "0 0 2 0 4 0 4 4\n", ""),
-    (Command::Simplify, "0 0 4 0 4 4\n", " of a clean line"),
+/// The commands, each with a text, its answer, and the words behind its name.
+const TEXTS: [(Command, [&str; 2], &str); 7] = [
     (
         Command::Simplify,
-        "0 0 2 0 4 0 4 4\n0 0 2 0 4 0 4 4\n",
+        ["0 0 2 0 4 0 4 4\n", "0 0 4 0 4 4\n"],
+        "",
+    ),
+    (
+        Command::Simplify,
+        ["0 0 4 0 4 4\n", "0 0 4 0 4 4\n"],
+        " of a clean line",
+    ),
+    (
+        Command::Simplify,
+        [
+            "0 0 2 0 4 0 4 4\n0 0 2 0 4 0 4 4\n",
+            "0 0 4 0 4 4\n0 0 4 0 4 4\n",
+        ],
         " of two lines",
     ),
-    (Command::Despike, "0 0 4 0 8 0 4 0 4 4\n", ""),
-    (Command::Area, "0 0 1 0 0 1\n", ""),
-    (Command::Canonical, "4 0 4 4 0 0 2 0\n", ""),
-    (Command::Compact, "0 0 2 0 4 0 4 4\n", ""),
+    (
+        Command::Despike,
+        ["0 0 4 0 8 0 4 0 4 4\n", "0 0 4 0 4 4\n"],
+        "",
+    ),
+    (Command::Area, ["0 0 1 0 0 1\n", "1\n"], ""),
+    (
+        Command::Canonical,
+        ["4 0 4 4 0 0 2 0\n", "0 0 4 0 4 4\n"],
+        "",
+    ),
+    (Command::Compact, ["0 0 2 0 4 0 4 4\n", "0 0 4 0 4 4\n"], ""),
 ];
 
 #[test]
 fn runs(rt: HostRuntime) -> Result<(), Fail> {
-    for (command, text, kind) in TEXTS {
+    for (command, [text, wanted], kind) in TEXTS {
         println!(rt; "run of {command:?}{kind} begins")?;
         match run(rt.alloc(), command, text) {
-            Ok(_) => println!(rt; "run of {command:?}{kind} done")?,
+            Ok(answer) => {
+                println!(rt; "run of {command:?}{kind} done")?;
+                assert_eq!(rt; answer.as_str(), wanted);
+            }
             Err(fault) => {
                 println!(rt; "run of {command:?}{kind} refused")?;
                 assert!(rt; matches!(fault, ToolFault::OutOfMemory));

@@ -8,32 +8,69 @@ pub fn begun(rt: &(impl Abort + Print), name: &str) {
     println!(rt; "{name} begins").expect(rt, name);
 }
 
-/// Tells how a call ended. The test stops at a refusal for anything but memory.
-pub fn ended<T: Drop>(rt: &(impl Abort + Print), name: &str, outcome: Result<T, ShapeError>) {
+/// Tells how a call ended. The test stops at a refusal for anything but memory, and at one that changed what the call was given.
+pub fn ended<T>(
+    rt: &(impl Abort + Print),
+    name: &str,
+    outcome: &Result<T, ShapeError>,
+    is_unchanged: bool,
+) {
     let end = match outcome {
         Ok(_) => "done",
         Err(error) => {
             assert!(rt; matches!(error, ShapeError::OutOfMemory), "{name}");
+            assert!(rt; is_unchanged, "{name}: a refusal changed what was given");
             "refused"
         }
     };
     println!(rt; "{name} {end}").expect(rt, name);
 }
 
-/// A call, told by its name.
+/// Compares a call with a second one of an equal value. A run refuses one growth, so it refuses at most one of them. Where it refuses none, both answer and leave
+/// the same.
+pub fn compared<T: PartialEq + Drop>(
+    rt: &impl Abort,
+    name: &str,
+    outcomes: (Result<T, ShapeError>, Result<T, ShapeError>),
+    leave_the_same: bool,
+) {
+    let (first, second) = outcomes;
+    let is_same = match (&first, &second) {
+        (Ok(answer), Ok(again)) => answer == again && leave_the_same,
+        (first, second) => first.is_ok() || second.is_ok(),
+    };
+    assert!(rt; is_same, "{name}: a second call differs");
+}
+
+/// A call, told by its name. It is made a second time, and both answers are compared. One written as `Ok`, which nothing refuses, is made once.
 macro_rules! call {
+    ($rt:ident, $name:expr => Ok($answer:expr)) => {{
+        begun(&$rt, $name);
+        let outcome = Ok($answer);
+        ended(&$rt, $name, &outcome, true);
+    }};
     ($rt:ident, $name:expr => $outcome:expr) => {{
         begun(&$rt, $name);
-        let outcome = $outcome;
-        ended(&$rt, $name, outcome);
+        let first = $outcome;
+        ended(&$rt, $name, &first, true);
+        compared(&$rt, $name, (first, $outcome), true);
     }};
 }
 
-/// A call of what is given. Where that can't be had, there is no call.
+/// A call of what is given, which it may change. Refused, it leaves that as it was, or as `refused` has it. Where what is given can't be had, there is no call.
 macro_rules! on {
     ($rt:ident, $given:expr, $name:expr, $value:ident => $outcome:expr) => {
-        if let Ok(mut $value) = $given {
-            call!($rt, $name => $outcome);
+        on!($rt, $given, $name, $value => $outcome, refused => $given)
+    };
+    ($rt:ident, $given:expr, $name:expr, $value:ident => $outcome:expr, refused => $refused:expr) => {
+        if let (Ok(mut $value), Ok(equal), Ok(unchanged)) = ($given, $given, $refused) {
+            begun(&$rt, $name);
+            let first = $outcome;
+            ended(&$rt, $name, &first, $value == unchanged);
+            let left = $value;
+            let mut $value = equal;
+            let second = $outcome;
+            compared(&$rt, $name, (first, second), left == $value);
         }
     };
 }

@@ -3,7 +3,7 @@
 use crate::flat_buffers::{contours, shapes, spot_contours, spot_shapes};
 use crate::given::{FLAT, MARK, SQUARE, TRIANGLE, one_shape, safe};
 use crate::spots::{self, PAIR, Spot, TRIPLE};
-use crate::told::{begun, call, ended};
+use crate::told::{begun, call, compared, ended};
 use i_shape::IntNumber;
 use i_shape::flat::buffer::{FlatContoursBuffer, FlatShapesBuffer};
 use i_shape::flat::float::{FloatFlatContoursBuffer, FloatFlatShapesBuffer};
@@ -56,7 +56,7 @@ fn probes(rt: HostRuntime) {
     call!(rt, "Probe::turn" => Ok(probe.turn(0, 1, 2)));
     call!(rt, "Probe::skip" => Ok(probe.skip()));
     call!(rt, "Probe::visits" => Ok(probe.visits()));
-    call!(rt, "Probe::keep" => probe.keep(rt.alloc(), &[2, 0, 2]));
+    call!(rt, "Probe::keep" => Probe::new(points).keep(rt.alloc(), &[2, 0, 2]));
 }
 
 #[test]

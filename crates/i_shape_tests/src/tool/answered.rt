@@ -2,6 +2,7 @@
 
 use crate::row::Row;
 use crate::tool::given::serves;
+use i_shape_tool::{Command, run};
 use std::test::Fail;
 
 /// A command, a text, and what the command answers to it.
@@ -56,6 +57,33 @@ fn each_text_is_answered(rt: HostRuntime) -> Result<(), Fail> {
     for (command, text, wanted) in ANSWERED {
         let row = Row::new(&rt, rt.alloc(), text);
         serves(&row, (&[command], text.as_bytes()), (0, wanted, ""))?;
+    }
+    Ok(())
+}
+
+/// The line of a clean contour, and what each command answers to it.
+const LINE: &str = "0 0 4 0 4 4\n";
+
+const ANSWERS: [(Command, &str); 5] = [
+    (Command::Simplify, LINE),
+    (Command::Despike, LINE),
+    (Command::Canonical, LINE),
+    (Command::Compact, LINE),
+    (Command::Area, "16\n"),
+];
+
+/// Memory is refused at no line where there is enough.
+#[test]
+fn a_long_text_is_answered(rt: HostRuntime) -> Result<(), Fail> {
+    let row = Row::new(&rt, rt.alloc(), "3,000 lines");
+    let text = LINE.repeat(row.alloc, 3_000)?;
+    for (command, answer) in ANSWERS {
+        let wanted = answer.repeat(row.alloc, 3_000)?;
+        let is_answered = match run(row.alloc, command, text.as_str()) {
+            Ok(output) => output == wanted,
+            Err(_fault) => false,
+        };
+        row.holds(is_answered, "the output");
     }
     Ok(())
 }

@@ -79,10 +79,15 @@ fn a_read_fails(rt: HostRuntime) -> Result<(), Fail> {
 #[test]
 fn a_write_or_flush_fails(rt: HostRuntime) -> Result<(), Fail> {
     let row = Row::new(&rt, rt.alloc(), "a write");
-    for (room, kept) in [(0, ""), (4, "none"), (5, "none\n")] {
+    for (text, room, kept) in [
+        ("\n", 0, ""),
+        ("\n", 4, "none"),
+        ("\n", 5, "none\n"),
+        ("", 0, ""),
+    ] {
         let mut output = BrokenWriter::new(row.alloc, room);
         let mut errors = Vec::new(row.alloc);
-        let mut input = b"\n".as_slice();
+        let mut input = text.as_bytes();
         let ended = status_of(&row, &["simplify"], &mut input, &mut output, &mut errors)?;
         row.equal(ended, 4, "the status");
         row.equal(output.kept.as_slice(), kept.as_bytes(), "the output");
