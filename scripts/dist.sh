@@ -1,6 +1,6 @@
 #!/usr/bin/env bash
 # Packs what a release holds into a folder: the C library for each Linux, in an archive and in a wheel, the program for each, the package for JavaScript, the
-# crate for Rust in source with the libraries, the site, and SHA256SUMS. What isn't built yet is built first; the C library and the program for each processor of their machine. Two runs over one commit give the same bytes:
+# crate for Rust in source, the site, and SHA256SUMS. What isn't built yet is built first; the C library and the program for each processor of their machine. Two runs over one commit give the same bytes:
 # names are sorted, and each time is that of the commit, or SOURCE_DATE_EPOCH.
 #
 # usage: dist.sh FOLDER [PART..]
@@ -101,26 +101,20 @@ pack_javascript() {
     pack package "i_shape-$version-javascript.tgz"
 }
 
-# The static library of the folder $2, as that for $1, in the folder $3/lib.
-add_static() {
-    local to=$3/lib/linux-$1
-    mkdir -p "$to"
-    cp "$2/libi_shape.a" "$to"
-    print_proof "$2/build.log" > "$to/PROOF"
-}
-
-# The crate with the library for each machine. The example that it shares with C lies in it.
+# The crate, with the Rust that its build script leaves of the proved source, and so without that script. The example that it shares with C lies in it.
 pack_rust() {
-    local its=$top/bindings/rust name=i_shape-$version-rust machine
-    for machine in x86_64 aarch64; do
-        build_library $machine
-        add_static $machine "$library" "$work/$name"
-    done
-    build_default
-    add_static x86_64-v2 "$default" "$work/$name"
-    cp -R "$its"/{Cargo.lock,README.md,build.rs,examples,src,tests} "$top/LICENSE" "$work/$name"
-    cp "$top/examples/clean.rs" "$work/$name/examples"
-    sed 's|"../../examples/clean.rs"|"examples/clean.rs"|' "$its/Cargo.toml" > "$work/$name/Cargo.toml"
+    local its=$top/rust/i_shape name=i_shape-$version-rust erased
+    erased=$(cargo build --quiet --offline --locked --manifest-path "$its/Cargo.toml" --target-dir "$work/target" --message-format json |
+        sed -nE '/"build-script-executed"/s|.*rust/i_shape#.*"out_dir":"([^"]*)".*|\1/erased|p')
+    mkdir "$work/$name"
+    cp -R "$its"/{README.md,examples,src,tests} "$top"/{LICENSE,examples/clean.rs} "$work/$name"
+    mv "$work/$name/clean.rs" "$work/$name/examples"
+    cp -R "$erased" "$work/$name/src"
+    sed -e "/^include!/{r $erased/mod.rs" -e 'd}' "$its/src/erased.rs" > "$work/$name/src/erased.rs"
+    rm "$work/$name/src/erased/mod.rs"
+    awk 'FNR == NR { told[$1] = $0; next } sub(/[.]workspace = true$/, "") { $0 = told[$0] } /^.build-dependencies/, /^$/ { next }
+        { sub("../../examples", "examples"); print }' "$top/rust/Cargo.toml" "$its/Cargo.toml" > "$work/$name/Cargo.toml"
+    (cd "$work/$name" && cargo generate-lockfile --quiet --offline)
     pack "$name" "$name.tar.gz"
 }
 

@@ -23,10 +23,8 @@ GENERATE_XML = YES
 OUTPUT_DIRECTORY = "$work/doxygen"
 END
 
-# The crate's build script needs a library; an empty one is enough for documentation.
-mkdir "$work/library" "$work/extra"
-ar rc "$work/library/libi_shape.a"
-I_SHAPE_C_DIR=$work/library cargo doc --quiet --offline --no-deps --manifest-path bindings/rust/Cargo.toml --target-dir "$work/target"
+mkdir "$work/extra"
+cargo doc --quiet --offline --no-deps --manifest-path rust/i_shape/Cargo.toml --target-dir "$work/target"
 mv "$work/target/doc" "$work/extra/rust"
 
 mkdir "$work/source"

@@ -1,7 +1,8 @@
 #!/usr/bin/env bash
 # Builds the C library into bindings/c/out: libi_shape.a, libi_shape.so as links to the file that has its version in its name, and for installing them
-# i_shape.pc.in and i_shape-config-version.cmake. It is proved first, where it isn't built yet or its sources are newer, and standard error tells how far that is. Both libraries hold the allocator of the C library; a
-# program that defines rattle_alloc, rattle_realloc and rattle_dealloc itself takes its own with libi_shape.a.
+# i_shape.pc.in and i_shape-config-version.cmake. It is proved first, where it isn't built yet or its sources are newer, and standard error says how far that is. Where
+# there is no rt, cargo builds it of the same source without its contracts, and the file by_cargo lies beside it. Both libraries hold the allocator of the C library;
+# a program that defines rattle_alloc, rattle_realloc and rattle_dealloc itself takes its own with libi_shape.a.
 #
 # usage: build.sh [--is-built] [--target aarch64|windows] [--cpu NAME] [--backend rattle]
 #
@@ -48,10 +49,22 @@ is_proved() {
     [ -e "$proved" ] && ! is_older_than_one_of "$proved" "$top/crates" "$top/crates.txt"
 }
 
+# What the libraries are made of: the proved archive, or what cargo builds, where there is neither rt nor a proved archive of these sources.
+made=$proved
+[ -n "$kind" ] || command -v rt > /dev/null || is_proved || made=$out/by_cargo
+
+is_made() {
+    if [ "$made" = "$proved" ]; then
+        is_proved && [ ! -e "$out/by_cargo" ]
+    else
+        [ -e "$made" ] && ! is_older_than_one_of "$made" "$top/crates" "$top/crates.txt" "$top"/rust/{Cargo.toml,c_library,erase,fallible}
+    fi
+}
+
 is_built() {
-    is_proved && [ -e "$out/libi_shape.a" ] && [ -e "$out/libi_shape.so" ] && [ -e "$out/libi_shape.so.$version" ] &&
+    is_made && [ -e "$out/libi_shape.a" ] && [ -e "$out/libi_shape.so" ] && [ -e "$out/libi_shape.so.$version" ] &&
         [ -e "$out/i_shape-config-version.cmake" ] && [ -e "$out/i_shape.pc.in" ] &&
-        ! is_older_than_one_of "$out/i_shape.pc.in" "$proved" "$top/include" "$here/build.sh" "$here"/allocator.[ch] "$here/i_shape.pc.in" "$here/cmake"
+        ! is_older_than_one_of "$out/i_shape.pc.in" "$made" "$top/include" "$here/build.sh" "$here"/allocator.[ch] "$here/i_shape.pc.in" "$here/cmake"
 }
 
 # Each library after those that it uses. Sources that are changed meanwhile are newer than the archive.
@@ -100,8 +113,38 @@ link_shared() {
     echo '{ global: i_shape_*; local: *; };' > "$out/names"
     rm -f "$out"/libi_shape.so*
     "${linker[@]}" -shared -Wl,-soname,"$soname" -Wl,--version-script,"$out/names" -o "$out/libi_shape.so.$version" "$out"/objects/*.o
-    ln -s "libi_shape.so.$version" "$out/$soname"
-    ln -s "$soname" "$out/libi_shape.so"
+    link_names
+}
+
+# The words for an installed library. They are written last, and are newer than all that they go with.
+configure() {
+    sed "s|@VERSION@|$version|" "$here/cmake/i_shape-config-version.cmake.in" > "$out/i_shape-config-version.cmake"
+    sed "s|@VERSION@|$version|" "$here/i_shape.pc.in" > "$out/i_shape.pc.in"
+}
+
+# The links by which programs find the shared library.
+link_names() {
+    ln -sf "libi_shape.so.$version" "$out/libi_shape.so.${version%%.*}"
+    ln -sf "libi_shape.so.${version%%.*}" "$out/libi_shape.so"
+}
+
+build_by_cargo() {
+    local built=$top/rust/target/release
+    if ! command -v cargo > /dev/null; then
+        echo 'make c: cargo from 1.85 on builds the C library, and the Rattle kit proves it: neither cargo nor rt is on the path. Once it is built, its folder' >&2
+        echo 'bindings/c/out serves without them: set I_SHAPE_C_DIR to a copy of it for `make wheel`.' >&2
+        exit 1
+    fi
+    echo 'make c: there is no rt, which proves the C library; cargo builds it, of the same source without its contracts' >&2
+    touch "$out/build.started"
+    env -u CARGO_BUILD_TARGET cargo build --release --offline --locked --quiet --manifest-path "$top/rust/Cargo.toml" --target-dir "$top/rust/target" \
+        -p i_shape_c_library < /dev/null >&2
+    rm -f "$out"/libi_shape.so*
+    cp "$built/libi_shape.a" "$out"
+    cp "$built/libi_shape.so" "$out/libi_shape.so.$version"
+    link_names
+    touch -r "$out/build.started" "$made"
+    configure
 }
 
 if [ -n "$only_asks" ]; then
@@ -121,9 +164,12 @@ restore_default
 if is_built; then
     exit
 fi
-if ! command -v rt > /dev/null; then
-    echo 'make c: the C library is proved and built by the Rattle kit, and there is no rt of it on the path. Once it is built, its folder' >&2
-    echo 'bindings/c/out serves without the kit: set I_SHAPE_C_DIR to a copy of it for `make wheel` and for the crate for Rust.' >&2
+if [ "$made" != "$proved" ]; then
+    build_by_cargo
+    exit
+fi
+if ! is_proved && ! command -v rt > /dev/null; then
+    echo "make c: the Rattle kit's rt, which builds the C library for ${target:-$cpu$backend}, isn't on the path" >&2
     exit 1
 fi
 if [ "$target" = aarch64 ] && ! command -v aarch64-linux-gnu-gcc > /dev/null; then
@@ -144,5 +190,5 @@ rm -f "$out"/objects/* "$out/libi_shape.a"
 (cd "$out/objects" && "$kit/toolchain/bin/llvm-ar" x "$proved" && add_allocator)
 "$kit/toolchain/bin/llvm-ar" rcs "$out/libi_shape.a" "$out"/objects/*.o
 link_shared
-sed "s|@VERSION@|$version|" "$here/cmake/i_shape-config-version.cmake.in" > "$out/i_shape-config-version.cmake"
-sed "s|@VERSION@|$version|" "$here/i_shape.pc.in" > "$out/i_shape.pc.in"
+rm -f "$out/by_cargo"
+configure

@@ -215,6 +215,26 @@ static void AT(test_tests)(void) {
 }
 
 /* The same of the tests and areas, of all worked contours and of the inner ones. */
+/* Corners of a parabola, and the middle of one edge at each place in turn. */
+static void AT(test_one_zero_turn)(void) {
+    enum { CORNERS = 40 };
+    POINT corners[CORNERS], given[CORNERS + 1], out[CORNERS + 1];
+    for (int k = 0; k < CORNERS; k++) {
+        corners[k].x = (COORDINATE)(2 * (k - 20));
+        corners[k].y = (COORDINATE)(2 * (k - 20) * (k - 20));
+    }
+    check(CALL(is_simple)(corners, CORNERS) == 1, W, "is_simple", "a parabola");
+    for (int place = 0; place <= CORNERS; place++) {
+        const POINT before = corners[(place + CORNERS - 1) % CORNERS], behind = corners[place % CORNERS];
+        for (int k = 0; k < CORNERS; k++)
+            given[k + (k >= place)] = corners[k];
+        given[place].x = (COORDINATE)((before.x + behind.x) / 2);
+        given[place].y = (COORDINATE)((before.y + behind.y) / 2);
+        check(CALL(is_simple)(given, CORNERS + 1) == 0, W, "is_simple", "one zero turn");
+        check(CALL(simplify)(given, CORNERS + 1, out, CORNERS + 1) == CORNERS && memcmp(out, corners, sizeof corners) == 0, W, "simplify", "one zero turn");
+    }
+}
+
 static void AT(test_all_rows)(void) {
     POINT given[ROWS * MOST];
     size_t offsets[ROWS + 1];
@@ -563,6 +583,7 @@ static void AT(test_width)(void) {
     AT(test_shapes_codes)();
     AT(test_named)();
     AT(test_tests)();
+    AT(test_one_zero_turn)();
     AT(test_all_rows)();
     AT(test_codes_of_tests)();
     AT(test_codes_of_areas)();

@@ -36,7 +36,7 @@ out=$crate/out/$target$cpu
 
 is_default_built() {
     [ -x "$default" ] && [ ! -e "$started" ] &&
-        [ -z "$(find "$top"/crates/i_shape_{core,text,tool_main} "$top/crates.txt" -path '*/out' -prune -o -type f \
+        [ -z "$(find "$top"/crates/i_shape{,_core,_source,_tool,_tool_main} "$top/crates.txt" -path '*/out' -prune -o -type f \
             \( -name '*.rt' -o -name '*.antt' -o -name crates.txt \) -newer "$default" -print -quit)" ]
 }
 
@@ -52,8 +52,8 @@ build_default() {
     has_room 4000
     touch "$started"
     : > "$log"
-    echo "$name: proving and building the program with its two libraries: some nine minutes" >&2
-    for library in i_shape_core i_shape_text; do
+    echo "$name: proving and building the program with its four libraries" >&2
+    for library in i_shape_core i_shape_source i_shape i_shape_tool; do
         prove "$library" lib --jobs $jobs
     done
     prove i_shape_tool_main run --jobs $jobs -- simplify

@@ -1,0 +1,135 @@
+/* The hashes of the calls at one width. hashes.c, which includes it, defines W (16, 32 or 64), AREA, and MIX_AREAS. */
+#define JOINED(a, b, c) a##b##c
+#define JOIN(a, b, c) JOINED(a, b, c)
+#define AT(name) JOIN(name, _i, W)
+#define CALL(name) AT(i_shape_##name)
+#define POINT AT(i_shape_point)
+#define COORDINATE JOIN(int, W, _t)
+#define LIMIT ((int64_t)1 << (W - 2))
+
+static POINT AT(points)[MOST], AT(about)[MOST_ABOUT], AT(out)[MOST + 4];
+static AREA AT(areas)[MOST_OFFSETS + 4];
+
+/* A coordinate from few, from all that are safe, or near the greatest. */
+static COORDINATE AT(coordinate)(size_t kind) {
+    const int64_t sign = one_in(2) ? 1 : -1;
+    switch (kind) {
+    case 0: return (COORDINATE)(sign * (int64_t)below(2));
+    case 1: return (COORDINATE)(sign * (int64_t)below(100));
+    case 2: return (COORDINATE)(sign * (int64_t)(any() % (uint64_t)LIMIT));
+    default: return (COORDINATE)(sign * (LIMIT - 1 - (int64_t)below(3)));
+    }
+}
+
+/* Points of which some repeat those before them, and in one of forty runs one isn't safe. */
+static void AT(make)(void) {
+    const size_t kind = below(4);
+    count = below(one_in(8) ? MOST : 24);
+    for (size_t k = 0; k < count; k++) {
+        if (k > 1 && one_in(5)) {
+            AT(points)[k] = AT(points)[k - 1 - below(2)];
+        } else {
+            AT(points)[k].x = AT(coordinate)(kind);
+            AT(points)[k].y = AT(coordinate)(kind);
+        }
+    }
+    if (count > 0 && one_in(40)) AT(points)[below(count)].x = (COORDINATE)LIMIT;
+    about_count = below(one_in(4) ? MOST_ABOUT : 6);
+    for (size_t k = 0; k < about_count; k++) {
+        AT(about)[k].x = AT(coordinate)(kind);
+        AT(about)[k].y = AT(coordinate)(kind);
+        if (count > 0 && one_in(3)) AT(about)[k] = AT(points)[below(count)];
+    }
+    if (about_count > 0 && one_in(40)) AT(about)[below(about_count)].y = (COORDINATE)-LIMIT;
+    offset_count = make_offsets(offsets, count);
+    shape_count = make_offsets(shapes, offset_count ? offset_count - 1 : 0);
+}
+
+static void AT(clear)(void) {
+    clear();
+    memset(AT(out), 0, sizeof AT(out));
+    memset(AT(areas), 0, sizeof AT(areas));
+}
+
+static uint64_t AT(written)(uint64_t hash) {
+    for (size_t k = 0; k < MOST + 4; k++) hash = mixed(mixed(hash, (uint64_t)(int64_t)AT(out)[k].x), (uint64_t)(int64_t)AT(out)[k].y);
+    MIX_AREAS(hash, AT(areas), MOST_OFFSETS + 4);
+    return written(hash);
+}
+
+/* Prints the hash of a call with these words in parentheses, over all rounds. Its points, rooms and rule are made anew for each. */
+#define HASH(NAME, WORDS) \
+    do { \
+        uint64_t hash = 0; \
+        for (size_t round = 0; round < rounds; round++) { \
+            AT(make)(); \
+            AT(clear)(); \
+            make_rooms(); \
+            const int32_t rule = (int32_t)below(7) - 1; \
+            const COORDINATE x = count ? AT(points)[below(count)].x : 0, y = AT(coordinate)(1); \
+            (void)rule, (void)x, (void)y; \
+            hash = AT(written)(mixed(hash, answer_of((int64_t)CALL(NAME) WORDS))); \
+        } \
+        print(TEXT(CALL(NAME)), hash); \
+    } while (0)
+#define TEXT_OF(name) #name
+#define TEXT(name) TEXT_OF(name)
+
+#define POINTS AT(points), count
+#define BATCH POINTS, offsets, offset_count
+#define ABOUT BATCH, AT(about), about_count
+#define CLEANED (POINTS, AT(out), room_of.points)
+#define CLEANED_BATCH (BATCH, AT(out), room_of.points, out_offsets[0], room_of.offsets)
+#define CLEANED_SHAPES (BATCH, shapes, shape_count, AT(out), room_of.points, out_offsets[0], room_of.offsets, out_offsets[1], room_of.shapes)
+
+static void AT(hash)(size_t rounds) {
+    HASH(simplify, CLEANED);
+    HASH(despike, CLEANED);
+    HASH(canonical, CLEANED);
+    HASH(canonical_unoriented, CLEANED);
+    HASH(simplify_contours, CLEANED_BATCH);
+    HASH(despike_contours, CLEANED_BATCH);
+    HASH(canonical_contours, CLEANED_BATCH);
+    HASH(canonical_unoriented_contours, CLEANED_BATCH);
+    HASH(simplify_shapes, CLEANED_SHAPES);
+    HASH(despike_shapes, CLEANED_SHAPES);
+    HASH(canonical_shapes, CLEANED_SHAPES);
+    HASH(canonical_unoriented_shapes, CLEANED_SHAPES);
+    HASH(is_simple, (POINTS));
+    HASH(has_no_spikes, (POINTS));
+    HASH(is_convex, (POINTS));
+    HASH(is_safe, (POINTS));
+    HASH(first_unsafe, (POINTS));
+    HASH(contains, (POINTS, x, y));
+    HASH(contains_by, (POINTS, x, y, rule));
+    HASH(winding, (POINTS, x, y));
+    HASH(windings, (ABOUT, numbers, room_of.about));
+    HASH(contains_points, (ABOUT, rule, bytes, room_of.about));
+    HASH(locate, (ABOUT, rule, places, room_of.about));
+    HASH(area_two, (POINTS, AT(areas)));
+    HASH(area_two_contours, (BATCH, AT(areas), room_of.contours));
+    HASH(is_simple_contours, (BATCH, bytes, room_of.contours));
+    HASH(has_no_spikes_contours, (BATCH, bytes, room_of.contours));
+    HASH(is_convex_contours, (BATCH, bytes, room_of.contours));
+    HASH(is_safe_contours, (BATCH, bytes, room_of.contours));
+}
+
+#undef JOINED
+#undef JOIN
+#undef AT
+#undef CALL
+#undef POINT
+#undef COORDINATE
+#undef LIMIT
+#undef HASH
+#undef TEXT_OF
+#undef TEXT
+#undef POINTS
+#undef BATCH
+#undef ABOUT
+#undef CLEANED
+#undef CLEANED_BATCH
+#undef CLEANED_SHAPES
+#undef MIX_AREAS
+#undef AREA
+#undef W

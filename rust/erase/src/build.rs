@@ -1,0 +1,47 @@
+//! What the build scripts of the workspace call.
+
+use crate::crates::{Crates, write};
+use crate::fault::Stop;
+use crate::lending::lending;
+use std::env;
+use std::path::PathBuf;
+
+/// Erases a crate of the clone, and those that it uses, into the folder that cargo gives the build script, for
+/// `include!(concat!(env!("OUT_DIR"), "/erased/mod.rs"))`. Modules that are left out are named as `crate::module`.
+pub fn build(name: &str, left_out: &[&str]) {
+    build_all(&[name], left_out);
+}
+
+/// Does the same for several crates.
+pub fn build_all(names: &[&str], left_out: &[&str]) {
+    stop_at(try_build(names, left_out, false));
+}
+
+/// Does the same, with a module `lending` that lends the crate's calls the pointers of C.
+pub fn build_library(name: &str) {
+    stop_at(try_build(&[name], &[], true));
+}
+
+fn stop_at(built: Result<(), Stop>) {
+    if let Err(stop) = built {
+        println!("cargo::error={stop}");
+    }
+}
+
+fn try_build(names: &[&str], left_out: &[&str], lends: bool) -> Result<(), Stop> {
+    let top = told("CARGO_MANIFEST_DIR").join("../..");
+    let top = top.canonicalize().map_err(Stop::of_file(&top))?;
+    let crates = Crates::of(&top, names)?.without(left_out);
+    for source in crates.sources() {
+        println!("cargo::rerun-if-changed={}", source.display());
+    }
+    let mut erased = crates.erase()?;
+    if lends {
+        erased.push(lending(&erased));
+    }
+    write(erased, &told("OUT_DIR"))
+}
+
+fn told(name: &str) -> PathBuf {
+    env::var_os(name).map(PathBuf::from).unwrap_or_default()
+}

@@ -1,0 +1,196 @@
+//! A list whose growth can be refused.
+
+use super::rust_alloc::vec;
+use crate::alloc::{AllocError, AllocFailed, Global};
+use core::fmt;
+use core::ops::{Deref, DerefMut, Range};
+use core::slice;
+
+/// Rattle's `Vec`: Rust's, but each call that grows it returns an error if memory is refused, and leaves it as it was.
+/// It is a type of its own, since a method of Rust's `Vec` would go before one of a trait.
+#[derive(PartialEq, Eq, PartialOrd, Ord, Hash)]
+#[repr(transparent)]
+pub struct Vec<T>(vec::Vec<T>);
+
+impl<T> Vec<T> {
+    /// Rattle's `Vec::new`: an empty list that holds no memory.
+    pub const fn new(_alloc: Global) -> Vec<T> {
+        Vec(vec::Vec::new())
+    }
+
+    /// Rattle's `Vec::with_capacity`: an empty list with room for that many items, and no more.
+    pub fn with_capacity(_alloc: Global, capacity: usize) -> Result<Vec<T>, AllocError> {
+        let mut items = vec::Vec::new();
+        items.try_reserve_exact(capacity)?;
+        Ok(Vec(items))
+    }
+
+    /// Rattle's `Vec::from_slice`: a copy of the items.
+    pub fn from_slice(alloc: Global, items: &[T]) -> Result<Vec<T>, AllocError>
+    where
+        T: Copy,
+    {
+        Vec::from_clones(alloc, items)
+    }
+
+    /// Rattle's `Vec::from_clones`: a clone of each item.
+    pub fn from_clones(alloc: Global, items: &[T]) -> Result<Vec<T>, AllocError>
+    where
+        T: Clone,
+    {
+        let mut list = Vec::with_capacity(alloc, items.len())?;
+        list.0.extend_from_slice(items);
+        Ok(list)
+    }
+
+    /// Rattle's `Vec::from_array`, which `vec![in alloc; x, y]` calls: these items.
+    pub fn from_array<const N: usize>(alloc: Global, items: [T; N]) -> Result<Vec<T>, AllocError> {
+        let mut list = Vec::with_capacity(alloc, N)?;
+        list.0.extend(items);
+        Ok(list)
+    }
+
+    /// Rattle's `Vec::from_elem`, which `vec![in alloc; x; n]` calls: `count` clones of the item.
+    pub fn from_elem(alloc: Global, item: T, count: usize) -> Result<Vec<T>, AllocError>
+    where
+        T: Clone,
+    {
+        let mut list = Vec::with_capacity(alloc, count)?;
+        list.0.resize(count, item);
+        Ok(list)
+    }
+
+    /// Rattle's `Vec::allocator`.
+    pub fn allocator(&self) -> &Global {
+        &Global
+    }
+
+    /// Rattle's `Vec::push`: appends the item. An error holds it.
+    pub fn push(&mut self, value: T) -> Result<(), AllocFailed<T>> {
+        if self.0.try_reserve(1).is_err() {
+            return Err(AllocFailed { value });
+        }
+        self.0.push(value);
+        Ok(())
+    }
+
+    /// Rattle's `Vec::push_reserved`, which asks for room: appends the item, and panics if there is no room.
+    #[inline]
+    pub fn push_reserved(&mut self, value: T) {
+        // Rust's `push` may grow the list, so without this test each loop would read its address and its room again.
+        assert!(self.0.len() < self.0.capacity());
+        self.0.push(value);
+    }
+
+    /// Rattle's `Vec::insert`: puts the item at `at`, in front of those from there on. An error holds it.
+    pub fn insert(&mut self, at: usize, value: T) -> Result<(), AllocFailed<T>> {
+        if self.0.try_reserve(1).is_err() {
+            return Err(AllocFailed { value });
+        }
+        self.0.insert(at, value);
+        Ok(())
+    }
+
+    /// Rattle's `Vec::slice_mut`, for `&mut list[range]`.
+    pub fn slice_mut(&mut self, range: Range<usize>) -> &mut [T] {
+        &mut self.0[range]
+    }
+
+    /// Rattle's `Vec::reserve`: makes room for so many more items.
+    pub fn reserve(&mut self, additional: usize) -> Result<(), AllocError> {
+        Ok(self.0.try_reserve(additional)?)
+    }
+
+    /// Rattle's `Vec::extend_from_slice`: appends copies of all items or, with an error, none.
+    pub fn extend_from_slice(&mut self, items: &[T]) -> Result<(), AllocError>
+    where
+        T: Copy,
+    {
+        self.reserve(items.len())?;
+        self.0.extend_from_slice(items);
+        Ok(())
+    }
+
+    /// Rattle's `Vec::sort_by_cached_key`: sorts by a key that is computed once for each item. Items of equal keys stay in
+    /// order. It takes as much memory as Rattle's, so that both are refused at the same calls.
+    pub fn sort_by_cached_key<K: Ord>(&mut self, key: impl FnMut(&T) -> K) -> Result<(), AllocError>
+    where
+        T: Copy,
+    {
+        const SORTED_IN_PLACE: usize = 20;
+        let len = self.len();
+        if len < 2 {
+            return Ok(());
+        }
+        let mut keys = Vec::with_capacity(Global, len)?;
+        keys.extend(self.iter().map(key).zip(0..));
+        if len > SORTED_IN_PLACE {
+            Vec::<(K, usize)>::with_capacity(Global, len)?;
+        }
+        keys.sort_unstable();
+        let items = Vec::from_slice(Global, self)?;
+        for (place, (_key, from)) in self.iter_mut().zip(keys) {
+            *place = items[from];
+        }
+        Ok(())
+    }
+}
+
+impl<T> Deref for Vec<T> {
+    type Target = vec::Vec<T>;
+
+    fn deref(&self) -> &vec::Vec<T> {
+        &self.0
+    }
+}
+
+impl<T> DerefMut for Vec<T> {
+    fn deref_mut(&mut self) -> &mut vec::Vec<T> {
+        &mut self.0
+    }
+}
+
+impl<T: fmt::Debug> fmt::Debug for Vec<T> {
+    fn fmt(&self, f: &mut fmt::Formatter<'_>) -> fmt::Result {
+        self.0.fmt(f)
+    }
+}
+
+impl<T> From<vec::Vec<T>> for Vec<T> {
+    fn from(items: vec::Vec<T>) -> Vec<T> {
+        Vec(items)
+    }
+}
+
+impl<T> From<Vec<T>> for vec::Vec<T> {
+    fn from(list: Vec<T>) -> vec::Vec<T> {
+        list.0
+    }
+}
+
+impl<T> IntoIterator for Vec<T> {
+    type Item = T;
+    type IntoIter = vec::IntoIter<T>;
+
+    fn into_iter(self) -> vec::IntoIter<T> {
+        self.0.into_iter()
+    }
+}
+
+impl<'a, T> IntoIterator for &'a Vec<T> {
+    type Item = &'a T;
+    type IntoIter = slice::Iter<'a, T>;
+
+    fn into_iter(self) -> slice::Iter<'a, T> {
+        self.0.iter()
+    }
+}
+
+impl<'a, T> IntoIterator for &'a mut Vec<T> {
+    type Item = &'a mut T;
+    type IntoIter = slice::IterMut<'a, T>;
+
+    fn into_iter(self) -> slice::IterMut<'a, T> {
+        self.0.iter_mut()
+    }
+}

@@ -1,0 +1,326 @@
+//! The proved functions over slices, with their codes as errors. Each tests whatever it requires of
+//! its arguments, but for `try_clean_into`, before which its conditions are tested here.
+
+use crate::erased::i_shape_c::codes::{NO_WINDING, Refusal};
+use crate::erased::i_shape_c::contour::clean_contour;
+use crate::erased::i_shape_c::location::{self, Telling, tell_points};
+use crate::erased::i_shape_c::measures::{ContourMeasure, measure_contours};
+use crate::erased::i_shape_c::places;
+use crate::erased::i_shape_c::point::CPoint;
+use crate::erased::i_shape_c::predicates::{self, ContourTest, test_contour};
+use crate::erased::i_shape_c::version::i_shape_version;
+use crate::erased::i_shape_c::{area, winding as about};
+use crate::erased::i_shape_core::area::UnsafeArea;
+use crate::erased::i_shape_core::cleaner::ContourCleaner;
+use crate::erased::i_shape_core::fill_rule as proved_rule;
+use crate::erased::i_shape_core::point::{self as proved, ContourPoint};
+use crate::int::{IntNumber, IntPoint, WideIntNumber};
+use crate::memory::{copied, try_filled};
+use crate::{Error, FillRule, Location};
+use alloc::vec::Vec;
+use core::iter;
+
+pub(crate) use crate::erased::fallible::alloc::Global;
+pub(crate) use crate::erased::i_shape_c::batch::clean_contours;
+pub(crate) use crate::erased::i_shape_c::canonical::form_shapes;
+pub(crate) use crate::erased::i_shape_c::measures::{SafeRange, Tested};
+pub(crate) use crate::erased::i_shape_c::polygons::clean_shapes;
+pub(crate) use crate::erased::i_shape_c::predicates::{Bulging, Simple, Spikeless};
+pub(crate) use crate::erased::i_shape_core::cleaner::{
+    Canonicalizer, SpikeRemover, UnorientedCanonicalizer,
+};
+pub(crate) use crate::erased::i_shape_core::despike::ContourDeSpiker;
+pub(crate) use crate::erased::i_shape_core::safe_range::are_safe;
+pub(crate) use crate::erased::i_shape_core::simplifier::ContourSimplifier;
+
+impl<I: IntNumber> ContourPoint for IntPoint<I> {
+    type Coordinate = I::Proved;
+
+    #[inline(always)]
+    fn to_point(self) -> proved::IntPoint<I::Proved> {
+        proved::IntPoint::new(self.x.proved(), self.y.proved())
+    }
+}
+
+impl<I: IntNumber> CPoint for IntPoint<I> {}
+
+/// A call that cleans contours.
+pub(crate) type CleanMany<I> =
+    fn(Global, &[IntPoint<I>], &[usize], &mut [IntPoint<I>], &mut [usize]) -> isize;
+
+/// A call that cleans polygons.
+pub(crate) type CleanShapes<I> = fn(
+    Global,
+    &[IntPoint<I>],
+    &[usize],
+    &[usize],
+    &mut [IntPoint<I>],
+    &mut [usize],
+    &mut [usize],
+) -> isize;
+
+/// The version of the library: its major, minor and patch number.
+pub fn library_version() -> (u32, u32, u32) {
+    let version = i_shape_version();
+    (version >> 16, version >> 8 & 0xff, version & 0xff)
+}
+
+/// The index of the first offset that doesn't divide so many items, `None` where each does.
+pub(crate) fn first_bad_offset(offsets: &[usize], count: usize) -> Option<usize> {
+    let place = places::first_bad_offset(count, offsets);
+    (place < offsets.len()).then_some(place)
+}
+
+/// Reads what a call on points returns: a number, or a code below 0. Offsets were tested before.
+fn number<I: IntNumber>(returned: isize, points: &[IntPoint<I>]) -> Result<usize, Error> {
+    let is = |refusal: Refusal| returned == refusal.code() as isize;
+    usize::try_from(returned).map_err(|_| {
+        if is(Refusal::Unsafe) {
+            Error::UnsafePoint(places::first_unsafe(points))
+        } else if is(Refusal::NoRoom) {
+            Error::NoRoom
+        } else if is(Refusal::NoMemory) {
+            Error::NoMemory
+        } else {
+            unreachable!("the offsets were tested")
+        }
+    })
+}
+
+/// Reads what a call on the points that the offsets divide returns.
+pub(crate) fn number_of_many<I: IntNumber>(
+    returned: isize,
+    points: &[IntPoint<I>],
+    offsets: &[usize],
+) -> Result<usize, Error> {
+    let (first, end) = (offsets[0], offsets[offsets.len() - 1]);
+    number(returned, &points[first..end]).map_err(|error| error.behind(first))
+}
+
+/// If a call has refused a point: the error of the first unsafe one of those that it is asked
+/// about, if there is one.
+fn check_about<I: IntNumber>(returned: isize, about: &[IntPoint<I>]) -> Result<(), Error> {
+    if returned != Refusal::Unsafe.code() as isize {
+        return Ok(());
+    }
+    match places::first_unsafe(about) {
+        place if place < about.len() => Err(Error::UnsafeAbout(place)),
+        _ => Ok(()),
+    }
+}
+
+/// Cleans a contour to the front of `out`, and returns how many points it has written there.
+pub(crate) fn clean_one<C: ContourCleaner, I: IntNumber>(
+    points: &[IntPoint<I>],
+    out: &mut [IntPoint<I>],
+) -> Result<usize, Error> {
+    number(clean_contour::<_, C>(Global, points, out), points)
+}
+
+/// What a cleaner leaves of the contour, `None` if it collapses. The cleaner keeps its memory.
+pub(crate) fn cleaned_by<C: ContourCleaner, I: IntNumber>(
+    cleaner: &mut C,
+    points: &[IntPoint<I>],
+) -> Result<Option<Vec<IntPoint<I>>>, Error> {
+    if !are_safe(points) {
+        return Err(Error::UnsafePoint(places::first_unsafe(points)));
+    }
+    let mut left = copied(points)?;
+    let count = cleaner
+        .try_clean_into(points, &mut left)
+        .map_err(|_| Error::NoMemory)?;
+    left.truncate(count);
+    Ok((count > 0).then_some(left))
+}
+
+/// What a cleaner of its own leaves of the contour, `None` if it collapses.
+pub(crate) fn cleaned<C: ContourCleaner, I: IntNumber>(
+    points: &[IntPoint<I>],
+) -> Result<Option<Vec<IntPoint<I>>>, Error> {
+    cleaned_by(&mut C::new(Global), points)
+}
+
+/// Cleans contours to the front of `out_points` and `out_offsets`, and returns how many points it
+/// has written there.
+pub(crate) fn clean_many<I: IntNumber>(
+    call: CleanMany<I>,
+    points: &[IntPoint<I>],
+    offsets: &[usize],
+    out_points: &mut [IntPoint<I>],
+    out_offsets: &mut [usize],
+) -> Result<usize, Error> {
+    let returned = call(Global, points, offsets, out_points, out_offsets);
+    number_of_many(returned, points, offsets)
+}
+
+/// Whether the contour passes a test.
+pub(crate) fn passes<I: IntNumber>(
+    points: &[IntPoint<I>],
+    test: impl ContourTest<I::Proved>,
+) -> Result<bool, Error> {
+    number(test_contour(points, test) as isize, points).map(|one| one == 1)
+}
+
+/// Whether the point is inside, by the even-odd rule.
+pub(crate) fn contains<I: IntNumber>(
+    points: &[IntPoint<I>],
+    point: IntPoint<I>,
+) -> Result<bool, Error> {
+    let returned = predicates::contains(points, point) as isize;
+    check_about(returned, &[point])?;
+    number(returned, points).map(|one| one == 1)
+}
+
+/// Whether the rule fills the point, by how often the contour winds about it.
+pub(crate) fn contains_by<I: IntNumber>(
+    points: &[IntPoint<I>],
+    point: IntPoint<I>,
+    rule: FillRule,
+) -> Result<bool, Error> {
+    let returned = location::contains_by(points, point, rule as i32) as isize;
+    check_about(returned, &[point])?;
+    number(returned, points).map(|one| one == 1)
+}
+
+/// How often the contour winds about the point.
+pub(crate) fn winding<I: IntNumber>(
+    points: &[IntPoint<I>],
+    point: IntPoint<I>,
+) -> Result<isize, Error> {
+    let winding = about::winding(points, point);
+    if winding == NO_WINDING {
+        let unsafe_point = Refusal::Unsafe.code() as isize;
+        check_about(unsafe_point, &[point])?;
+        number(unsafe_point, points)?;
+    }
+    Ok(winding)
+}
+
+/// Writes how often the contours together wind about each point to the front of `out`.
+pub(crate) fn windings<I: IntNumber>(
+    points: &[IntPoint<I>],
+    offsets: &[usize],
+    about: &[IntPoint<I>],
+    out: &mut [isize],
+) -> Result<(), Error> {
+    let returned = about::windings(Global, points, offsets, about, out) as isize;
+    check_about(returned, about)?;
+    number_of_many(returned, points, offsets).map(drop)
+}
+
+/// Whether a rule fills a point.
+#[derive(Clone, Copy)]
+pub(crate) struct Filled {}
+
+impl<P: CPoint> Telling<P> for Filled {
+    type Answer = bool;
+
+    fn tell(
+        rule: proved_rule::FillRule,
+        points: &[P],
+        offsets: &[usize],
+        point: proved::IntPoint<P::Coordinate>,
+        turns: isize,
+    ) -> bool {
+        <location::Filled as Telling<P>>::tell(rule, points, offsets, point, turns) == 1
+    }
+}
+
+/// Where a point lies.
+#[derive(Clone, Copy)]
+pub(crate) struct Located {}
+
+impl<P: CPoint> Telling<P> for Located {
+    type Answer = Location;
+
+    fn tell(
+        rule: proved_rule::FillRule,
+        points: &[P],
+        offsets: &[usize],
+        point: proved::IntPoint<P::Coordinate>,
+        turns: isize,
+    ) -> Location {
+        match <location::Located as Telling<P>>::tell(rule, points, offsets, point, turns) {
+            0 => Location::OnBoundary,
+            1 => Location::Inside,
+            _ => Location::Outside,
+        }
+    }
+}
+
+/// Writes what is told of each point of `about` to the front of `out`.
+pub(crate) fn tell<T: Telling<IntPoint<I>>, I: IntNumber>(
+    points: &[IntPoint<I>],
+    offsets: &[usize],
+    about: &[IntPoint<I>],
+    rule: FillRule,
+    out: &mut [T::Answer],
+) -> Result<(), Error> {
+    let code = rule as i32;
+    let returned = tell_points::<_, T>(Global, points, offsets, about, code, out) as isize;
+    check_about(returned, about)?;
+    number_of_many(returned, points, offsets).map(drop)
+}
+
+/// Twice the signed area, `None` if there is no point.
+pub(crate) fn area_two<I: IntNumber>(points: &[IntPoint<I>]) -> Option<I::Wide> {
+    area::area_two(points)
+}
+
+/// Twice the signed area of the points that are left, `None` if there is none.
+pub(crate) fn area_two_of<I: IntNumber>(
+    mut points: impl Iterator<Item = IntPoint<I>>,
+) -> Option<I::Wide> {
+    let first = points.next()?;
+    Some(
+        iter::once(first)
+            .chain(points)
+            .map(IntPoint::to_point)
+            .unsafe_area(),
+    )
+}
+
+/// Whether a contour passes a test.
+#[derive(Clone, Copy)]
+pub(crate) struct Passes<M>(pub M);
+
+impl<P: CPoint, M: ContourMeasure<P, Answer = u8>> ContourMeasure<P> for Passes<M> {
+    type Answer = bool;
+
+    fn admits(self, points: &[P]) -> bool {
+        self.0.admits(points)
+    }
+
+    fn measure(self, contour: &[P]) -> bool {
+        self.0.measure(contour) == 1
+    }
+}
+
+/// Twice the signed area of a contour, 0 if there is no point.
+#[derive(Clone, Copy)]
+pub(crate) struct DoubleArea {}
+
+impl<I: IntNumber> ContourMeasure<IntPoint<I>> for DoubleArea {
+    type Answer = I::Wide;
+
+    fn admits(self, _points: &[IntPoint<I>]) -> bool {
+        true
+    }
+
+    fn measure(self, contour: &[IntPoint<I>]) -> I::Wide {
+        area_two(contour).unwrap_or(I::Wide::ZERO)
+    }
+}
+
+/// The measure of each contour, in order. `blank` is any value of its type.
+pub(crate) fn measured<M: ContourMeasure<IntPoint<I>>, I: IntNumber>(
+    points: &[IntPoint<I>],
+    offsets: &[usize],
+    measure: M,
+    blank: M::Answer,
+) -> Result<Vec<M::Answer>, Error> {
+    let mut measures = try_filled(blank, offsets.len() - 1)?;
+    let returned = measure_contours(points, offsets, measure, &mut measures) as isize;
+    number_of_many(returned, points, offsets)?;
+    Ok(measures)
+}

@@ -1,0 +1,67 @@
+//! Tests and areas of many contours.
+
+use super::Contours;
+use crate::Error;
+use crate::calls::{Bulging, DoubleArea, Passes, SafeRange, Simple, Spikeless, Tested, measured};
+use crate::int::{IntNumber, WideIntNumber};
+use crate::twins::twins;
+use alloc::vec::Vec;
+
+impl<I: IntNumber> Contours<'_, I> {
+    twins! {
+        /// Of each contour, in order, whether it has at least three points, and none of them is a
+        /// zero turn.
+        are_simple;
+        /// Returns [`Error::UnsafePoint`] if a point of a contour isn't safe, [`Error::NoMemory`]
+        /// if there is none for the result.
+        pub fn try_are_simple(self) -> Result<Vec<bool>, Error> {
+            let test = Passes(Tested { test: Simple {} });
+            measured(self.points, self.offsets, test, false)
+        }
+
+        /// Of each contour, in order, whether at least three points are left without repeated ones,
+        /// and the way over them nowhere turns back.
+        have_no_spikes;
+        /// Returns [`Error::UnsafePoint`] if a point of a contour isn't safe, [`Error::NoMemory`]
+        /// if there is none for the result.
+        pub fn try_have_no_spikes(self) -> Result<Vec<bool>, Error> {
+            let test = Passes(Tested { test: Spikeless {} });
+            measured(self.points, self.offsets, test, false)
+        }
+
+        /// Of each contour, in order, whether at most two points are left without repeated ones, or
+        /// the way over them nowhere turns back or bends to both sides.
+        are_convex;
+        /// Returns [`Error::UnsafePoint`] if a point of a contour isn't safe, [`Error::NoMemory`]
+        /// if there is none for the result.
+        pub fn try_are_convex(self) -> Result<Vec<bool>, Error> {
+            let test = Passes(Tested { test: Bulging {} });
+            measured(self.points, self.offsets, test, false)
+        }
+
+        /// Of each contour, in order, whether each of its points is safe.
+        are_in_safe_range;
+        /// Returns [`Error::NoMemory`] if there is none for the result.
+        pub fn try_are_in_safe_range(self) -> Result<Vec<bool>, Error> {
+            measured(self.points, self.offsets, Passes(SafeRange {}), false)
+        }
+
+        /// Twice the area of each contour, in order: positive if it runs counterclockwise, 0 if it
+        /// has no point. The points needn't be safe; a sum that doesn't fit the wide type wraps.
+        ///
+        /// ```
+        /// use i_shape::flat::Contours;
+        /// use i_shape::int::IntPoint;
+        ///
+        /// let points = [[0, 0], [4, 0], [4, 4], [0, 0], [0, 3], [3, 0]];
+        /// let points = points.map(|[x, y]| IntPoint::<i32>::new(x, y));
+        /// let contours = Contours::new(&points, &[0, 3, 3, 6]);
+        /// assert_eq!(contours.areas_two(), [16, 0, -9]);
+        /// ```
+        areas_two;
+        /// Returns [`Error::NoMemory`] if there is none for the result.
+        pub fn try_areas_two(self) -> Result<Vec<I::Wide>, Error> {
+            measured(self.points, self.offsets, DoubleArea {}, I::Wide::ZERO)
+        }
+    }
+}

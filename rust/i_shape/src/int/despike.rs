@@ -1,0 +1,154 @@
+//! The removal of spikes: of points at which a contour turns back or stands still. Points at which
+//! it goes straight on stay.
+
+use super::count::PointsCount;
+use super::shape::{IntContour, IntShape, IntShapes};
+use super::simple::each;
+use super::{IntNumber, IntPoint};
+use crate::Error;
+use crate::calls::{ContourDeSpiker, Spikeless, clean_one, cleaned, passes};
+use crate::flat::OwnedShapes;
+use crate::twins::twins;
+use alloc::vec::Vec;
+
+/// The test and the removal of spikes.
+///
+/// Each call returns [`Error::UnsafePoint`] if a point isn't safe. Those that return a contour, and
+/// those that clean a contour which isn't clean, return [`Error::NoMemory`] if an allocation fails.
+pub trait DeSpikeContour<I: IntNumber> {
+    twins! {
+        /// Whether at least three points are left without those that equal the one before them on
+        /// the cycle, and the way over them nowhere turns back.
+        has_no_spikes;
+        fn try_has_no_spikes(&self) -> Result<bool, Error>;
+
+        /// The contour without the points at which it turns back or stands still, `None` if it
+        /// collapses.
+        despiked_contour;
+        fn try_despiked_contour(&self) -> Result<Option<IntContour<I>>, Error>;
+
+        /// Writes the contour without spikes, as
+        /// [`despiked_contour`](DeSpikeContour::despiked_contour) returns it, to the front of
+        /// `out`. Returns how many points these are, 0 if the contour collapses.
+        despike_into;
+        /// Returns [`Error::NoRoom`] if `out` is shorter than the contour. A contour with nothing
+        /// to remove or with fewer than three points takes no memory.
+        fn try_despike_into(&self, out: &mut [IntPoint<I>]) -> Result<usize, Error>;
+    }
+}
+
+impl<I: IntNumber> DeSpikeContour<I> for [IntPoint<I>] {
+    fn try_has_no_spikes(&self) -> Result<bool, Error> {
+        passes(self, Spikeless {})
+    }
+
+    fn try_despiked_contour(&self) -> Result<Option<IntContour<I>>, Error> {
+        cleaned::<ContourDeSpiker, I>(self)
+    }
+
+    fn try_despike_into(&self, out: &mut [IntPoint<I>]) -> Result<usize, Error> {
+        clean_one::<ContourDeSpiker, I>(self, out)
+    }
+}
+
+/// The test and the removal of spikes, of a shape. Calls return the errors of [`DeSpikeContour`];
+/// the test ends at the first contour that fails it, and reads none behind it.
+pub trait DeSpikeShape<I: IntNumber> {
+    twins! {
+        /// Whether each contour passes [`DeSpikeContour::has_no_spikes`].
+        has_no_spikes;
+        fn try_has_no_spikes(&self) -> Result<bool, Error>;
+
+        /// The shape with each contour despiked that has spikes, and without the holes that
+        /// collapse; `None` if its outer contour does. A contour without spikes stays as it is, and
+        /// so does an empty shape.
+        despiked_shape;
+        fn try_despiked_shape(&self) -> Result<Option<IntShape<I>>, Error>;
+    }
+}
+
+impl<I: IntNumber> DeSpikeShape<I> for [IntContour<I>] {
+    fn try_has_no_spikes(&self) -> Result<bool, Error> {
+        each(self, Vec::len, |contour| contour.try_has_no_spikes())
+    }
+
+    fn try_despiked_shape(&self) -> Result<Option<IntShape<I>>, Error> {
+        let left = OwnedShapes::try_from_shapes(&[self])?
+            .as_shapes()
+            .try_spikes_removed()?;
+        Ok(left.try_to_shapes()?.pop())
+    }
+}
+
+/// The test and the removal of spikes, of a list of shapes. Calls return the errors of
+/// [`DeSpikeShape`].
+pub trait DeSpikeShapes<I: IntNumber> {
+    twins! {
+        /// Whether each contour of each shape passes [`DeSpikeContour::has_no_spikes`].
+        has_no_spikes;
+        fn try_has_no_spikes(&self) -> Result<bool, Error>;
+
+        /// The shapes that are left, in order, each as [`DeSpikeShape::despiked_shape`] returns it.
+        despiked_shapes;
+        fn try_despiked_shapes(&self) -> Result<IntShapes<I>, Error>;
+    }
+}
+
+impl<I: IntNumber> DeSpikeShapes<I> for [IntShape<I>] {
+    fn try_has_no_spikes(&self) -> Result<bool, Error> {
+        each(
+            self,
+            |shape| shape.points_count(),
+            |shape| shape.try_has_no_spikes(),
+        )
+    }
+
+    fn try_despiked_shapes(&self) -> Result<IntShapes<I>, Error> {
+        OwnedShapes::try_from_shapes(self)?
+            .as_shapes()
+            .try_spikes_removed()?
+            .try_to_shapes()
+    }
+}
+
+/// The removal of spikes in place, of a contour, a shape or a list of shapes.
+pub trait DeSpike {
+    twins! {
+        /// Removes spikes. A contour that collapses, and a shape whose outer contour does, is empty
+        /// afterwards; holes that collapse, and such shapes of a list, are taken out. Returns
+        /// `false` if each contour passes [`DeSpikeContour::has_no_spikes`]: then nothing changes.
+        remove_spikes;
+        /// Returns the errors of [`DeSpikeContour`], and changes nothing then.
+        fn try_remove_spikes(&mut self) -> Result<bool, Error>;
+    }
+}
+
+impl<I: IntNumber> DeSpike for IntContour<I> {
+    fn try_remove_spikes(&mut self) -> Result<bool, Error> {
+        if self.try_has_no_spikes()? {
+            return Ok(false);
+        }
+        *self = self.try_despiked_contour()?.unwrap_or_default();
+        Ok(true)
+    }
+}
+
+impl<I: IntNumber> DeSpike for IntShape<I> {
+    fn try_remove_spikes(&mut self) -> Result<bool, Error> {
+        if self.try_has_no_spikes()? {
+            return Ok(false);
+        }
+        *self = self.try_despiked_shape()?.unwrap_or_default();
+        Ok(true)
+    }
+}
+
+impl<I: IntNumber> DeSpike for IntShapes<I> {
+    fn try_remove_spikes(&mut self) -> Result<bool, Error> {
+        if self.try_has_no_spikes()? {
+            return Ok(false);
+        }
+        *self = self.try_despiked_shapes()?;
+        Ok(true)
+    }
+}

@@ -1,0 +1,244 @@
+//! Each growth of memory that a call asks for is refused in turn: the call returns `Error::NoMemory`.
+//! Where none is refused it succeeds.
+
+#[allow(dead_code)]
+#[path = "calls/shared.rs"]
+mod shared;
+
+use i_shape::Error;
+use i_shape::FillRule;
+use i_shape::flat::{Contours, OwnedContours, OwnedShapes, Shapes, offsets};
+use i_shape::int::IntPoint;
+use i_shape::int::canonical::{CanonicalShape, CanonicalShapes};
+use i_shape::int::despike::{DeSpike, DeSpikeContour, DeSpikeShape, DeSpikeShapes};
+use i_shape::int::path::ContourExtension;
+use i_shape::int::simple::{ContourSimplifier, SimpleContour, SimpleShape, SimpleShapes, Simplify};
+use i_shape::int::winding::ShapeExtension;
+use shared::{
+    FLAT, Growing, HOLE, Number, SPIKED, SQUARE, STRAIGHT, at_each_width, contour, point, shapes,
+};
+use std::alloc::{GlobalAlloc, Layout, System};
+use std::cell::{Cell, RefCell};
+use std::panic::{AssertUnwindSafe, catch_unwind};
+use std::ptr;
+
+at_each_width!(contours, shapes_and_lists, batches);
+
+thread_local! {
+    /// How many growths of this thread succeed before one is refused.
+    static GRANTED: Cell<usize> = const { Cell::new(usize::MAX) };
+}
+
+/// Whether a growth of this thread is granted.
+fn is_granted() -> bool {
+    let left = GRANTED.get();
+    if left != usize::MAX {
+        GRANTED.set(left.wrapping_sub(1));
+    }
+    left != 0
+}
+
+struct Refusing;
+
+// SAFETY: each call is passed on, or refused as the trait allows.
+unsafe impl GlobalAlloc for Refusing {
+    unsafe fn alloc(&self, layout: Layout) -> *mut u8 {
+        if is_granted() {
+            unsafe { System.alloc(layout) }
+        } else {
+            ptr::null_mut()
+        }
+    }
+
+    unsafe fn dealloc(&self, block: *mut u8, layout: Layout) {
+        unsafe { System.dealloc(block, layout) }
+    }
+
+    unsafe fn realloc(&self, block: *mut u8, layout: Layout, size: usize) -> *mut u8 {
+        if is_granted() {
+            unsafe { System.realloc(block, layout, size) }
+        } else {
+            ptr::null_mut()
+        }
+    }
+}
+
+#[global_allocator]
+static ALLOCATOR: Refusing = Refusing;
+
+/// Refuses the growths of a call one by one, until it succeeds with this many.
+#[track_caller]
+fn growths<T>(call: impl Fn() -> Result<T, Error>) -> usize {
+    for granted in 0..100 {
+        GRANTED.set(granted);
+        let answer = call();
+        GRANTED.set(usize::MAX);
+        match answer {
+            Ok(_) => return granted,
+            Err(error) => assert_eq!(error, Error::NoMemory),
+        }
+    }
+    panic!("it takes more than a hundred growths");
+}
+
+type CleanInto<I> = fn(&[IntPoint<I>], &mut [IntPoint<I>]) -> Result<usize, Error>;
+
+/// The growths of a call that writes into a slice, which is as it was where the call refuses.
+fn growths_of_written<I: Number>(given: &[IntPoint<I>], clean_into: CleanInto<I>) -> usize {
+    let before = [point([9, 9]); 6];
+    growths(|| {
+        let mut out = before;
+        let answer = clean_into(given, &mut out);
+        assert!(answer.is_ok() || out == before);
+        answer
+    })
+}
+
+fn contours<I: Number>() {
+    let [clean, straight, spiked] = [&SQUARE[..], &STRAIGHT, &SPIKED].map(contour::<I>);
+    let about = [point([1, 1])];
+    // the answer alone
+    assert_eq!(growths(|| clean.try_simplified()), 1);
+    assert_eq!(growths(|| straight.try_despiked_contour()), 1);
+    assert_eq!(growths(|| clean.try_winding_numbers(&about)), 1);
+    assert_eq!(
+        growths(|| clean.try_contains_points(&about, FillRule::EvenOdd)),
+        1
+    );
+    assert_eq!(growths(|| clean.try_locate(&about, FillRule::EvenOdd)), 1);
+    // the answer and what the cleaner needs
+    assert!(growths(|| straight.try_simplified()) > 1);
+    assert!(growths(|| straight.try_canonical()) > 1);
+    assert!(growths(|| straight.try_canonical_unoriented()) > 1);
+    assert!(growths(|| spiked.try_despiked_contour()) > 1);
+    // the answer alone, once the cleaner has what it needs
+    let mut simplifier = ContourSimplifier::default();
+    assert_eq!(
+        simplifier.simplify_contour(&straight),
+        straight.simplified()
+    );
+    let simplifier = RefCell::new(simplifier);
+    let again = || simplifier.borrow_mut().try_simplify_contour(&straight);
+    assert_eq!(growths(again), 1);
+    // what the cleaner needs
+    assert_eq!(growths_of_written(&clean, <[_]>::try_simplify_into), 0);
+    assert_eq!(growths_of_written(&straight, <[_]>::try_despike_into), 0);
+    assert!(growths_of_written(&straight, <[_]>::try_simplify_into) > 0);
+    assert!(growths_of_written(&straight, <[_]>::try_canonical_into) > 0);
+    assert!(growths_of_written(&straight, <[_]>::try_canonical_unoriented_into) > 0);
+    assert!(growths_of_written(&spiked, <[_]>::try_despike_into) > 0);
+    // tests take none
+    assert_eq!(growths(|| straight.try_is_simple()), 0);
+    assert_eq!(growths(|| spiked.try_has_no_spikes()), 0);
+    assert_eq!(growths(|| spiked.try_is_convex()), 0);
+    assert_eq!(growths(|| spiked.try_contains_point(about[0])), 0);
+    assert_eq!(growths(|| spiked.try_winding_number(about[0])), 0);
+    // nor does one that could do with some
+    assert_eq!(growths(|| spiked.try_is_on_boundary(about[0])), 0);
+}
+
+fn shapes_and_lists<I: Number>() {
+    let given = shapes::<I>(&[&[&STRAIGHT, &FLAT, &HOLE], &[&SPIKED]]);
+    assert!(growths(|| given.try_simplified()) > 0);
+    assert!(growths(|| given.try_despiked_shapes()) > 0);
+    assert!(growths(|| given.try_canonical()) > 0);
+    assert!(growths(|| given.try_canonical_unoriented()) > 0);
+    assert!(growths(|| given[0].try_simplified()) > 0);
+    assert!(growths(|| given[1].try_despiked_shape()) > 0);
+    assert!(growths(|| given[0].try_canonical()) > 0);
+    assert!(growths(|| given[0].try_canonical_unoriented()) > 0);
+    let about = [point([1, 1])];
+    assert_eq!(growths(|| given[0].try_winding_numbers(&about)), 3);
+    assert_eq!(growths(|| given[0].try_winding_number(about[0])), 0);
+    assert_eq!(growths(|| given.try_is_simple()), 0);
+    assert_eq!(growths(|| given.try_has_no_spikes()), 0);
+}
+
+#[test]
+fn in_place_changes_nothing() {
+    let given = shapes::<i32>(&[&[&STRAIGHT, &FLAT, &HOLE], &[&SPIKED]]);
+    let mut left = given.clone();
+    GRANTED.set(2);
+    let answer = left.try_simplify_contour();
+    GRANTED.set(usize::MAX);
+    assert_eq!((answer, &left), (Err(Error::NoMemory), &given));
+    let mut left = given[1][0].clone();
+    GRANTED.set(0);
+    let answer = left.try_remove_spikes();
+    GRANTED.set(usize::MAX);
+    assert_eq!((answer, &left), (Err(Error::NoMemory), &given[1][0]));
+}
+
+#[test]
+fn other_forms_panic_with_the_text() {
+    let given = contour::<i32>(&STRAIGHT);
+    let panics = |call: &dyn Fn()| {
+        GRANTED.set(0);
+        let panic = catch_unwind(AssertUnwindSafe(call));
+        GRANTED.set(usize::MAX);
+        panic.is_err_and(|panic| {
+            panic.downcast_ref::<String>() == Some(&Error::NoMemory.to_string())
+        })
+    };
+    assert!(panics(&|| drop(given.simplified())));
+    assert!(panics(&|| drop(given.winding_numbers(&given))));
+    assert!(panics(&|| drop(Contours::new(&given, &[0, 5]).canonical())));
+    assert!(panics(&|| drop(
+        Shapes::new(&given, &[0, 5], &[0, 1]).spikes_removed()
+    )));
+}
+
+fn batches<I: Number>() {
+    let rings = [&SQUARE[..], &STRAIGHT, &SPIKED].map(contour::<I>);
+    let flat = OwnedContours::from_contours(&rings);
+    let all = flat.as_contours();
+    let clean = Contours::new(flat.points(), &flat.offsets()[..2]);
+    assert_eq!(growths(|| clean.try_simplified()), 2);
+    assert!(growths(|| all.try_simplified()) > 2);
+    assert!(growths(|| all.try_despiked()) > 2);
+    assert!(growths(|| all.try_canonical()) > 2);
+    assert!(growths(|| all.try_canonical_unoriented()) > 2);
+    let behind = Contours::new(flat.points(), &flat.offsets()[1..]);
+    assert!(growths(|| behind.try_simplified()) > 3);
+    let about = [point([1, 1]); 3];
+    assert_eq!(growths(|| all.try_are_simple()), 1);
+    assert_eq!(growths(|| all.try_have_no_spikes()), 1);
+    assert_eq!(growths(|| all.try_are_convex()), 1);
+    assert_eq!(growths(|| all.try_are_in_safe_range()), 1);
+    assert_eq!(growths(|| all.try_areas_two()), 1);
+    assert_eq!(growths(|| all.try_winding_numbers(&about)), 1);
+    assert_eq!(
+        growths(|| all.try_winding_numbers_into(&about, &mut [0; 3])),
+        0
+    );
+
+    let polygons = Shapes::new(flat.points(), flat.offsets(), &[1, 3]);
+    assert!(growths(|| polygons.try_simplified()) > 3);
+    assert!(growths(|| polygons.try_canonical_unoriented()) > 3);
+    let owned = polygons.simplified();
+    assert_eq!(growths(|| owned.try_to_shapes()), 4);
+
+    assert_eq!(growths(|| OwnedContours::try_from_contours(&rings)), 2);
+    assert_eq!(growths(|| OwnedShapes::try_from_shapes(&[&rings[..]])), 3);
+    // of points, of offsets, and of the points that come between two looks
+    let grown = || OwnedContours::try_from_contours(&[(); 2].map(|_| Growing::new(&rings[0])));
+    assert_eq!(growths(grown), 3);
+    let grown = || OwnedShapes::try_from_shapes(&[(); 2].map(|_| Growing::new(&rings)));
+    assert!(growths(grown) > 3);
+    assert_eq!(growths(|| offsets::try_from_lengths([1, 2, 3])), 1);
+    assert_eq!(growths(|| offsets::try_from_ranges(&[0..2, 2..5])), 1);
+    let extended = || {
+        let mut joined = OwnedContours::try_from_contours(&[] as &[&[_]])?;
+        let answer = joined.try_extend(all);
+        assert!(answer.is_ok() || joined.as_contours().is_empty());
+        answer
+    };
+    assert_eq!(growths(extended), 3);
+    let extended = || {
+        let mut joined = OwnedShapes::try_from_shapes(&[] as &[&[_]])?;
+        let answer = joined.try_extend(polygons);
+        assert!(answer.is_ok() || joined.as_shapes().is_empty());
+        answer
+    };
+    assert_eq!(growths(extended), 5);
+}

@@ -1,0 +1,10 @@
+//! The tests of `crates/i_shape_tests`, and of `crates/callers` through them, over erased Rust; and those of
+//! `crates/refusals`, with each growth of memory refused in turn.
+#![cfg(test)]
+#![deny(unsafe_code)]
+
+#[macro_use]
+mod host;
+mod erased;
+mod growths;
+mod refusals;

@@ -1,0 +1,5 @@
+//! Erases the program's source.
+
+fn main() {
+    erase::build("i_shape_tool", &[]);
+}
