@@ -61,7 +61,7 @@ def add(store: sqlite3.Connection, file: str, features: io.Features,
                      (file,)).fetchone():
         raise ValueError(f"{file} is in the store already")
     whole = io.features_to_grid(features, io.Grid(step))
-    keys = i_shape.canonical_keys(*whole.polygons, oriented=False)
+    keys = i_shape.canonical_keys(*whole.polygons)
     count = len(keys)
     ones = np.arange(count + 1)
     texts = io.to_wkt(io.Features(features.polygons, ones,

@@ -52,7 +52,7 @@ def cut(shores: list[geometry.Polygon], place: int, grid: io.Grid) -> Tile:
                 for part in getattr(found, "geoms", [found])
                 if isinstance(part, geometry.Polygon) and not part.is_empty]
     given = io.features_to_grid(io.from_shapely(polygons), grid, np.int32)
-    return Tile(given, io.simplify_features(given))
+    return Tile(given, io.simplify_features(given, collapsed="empty"))
 
 
 def edges(features: io.Features) -> np.ndarray:

@@ -44,7 +44,7 @@ def geometries(whole: io.Features) -> Geometries:
 
 def despike(given: Geometries) -> Geometries:
     whole = io.features_to_grid(io.from_shapely(given), GRID)
-    return geometries(io.despike_features(whole))
+    return geometries(io.despike_features(whole, collapsed="empty"))
 
 
 WAYS: dict[str, Callable[[Geometries], Geometries]] = {

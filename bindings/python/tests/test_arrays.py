@@ -22,13 +22,13 @@ CALLS = (
     lambda points: i_shape.despike_rings(points, [0, len(points)],
                                          threads=2),
     lambda points: i_shape.canonical_rings(points, [0, len(points)]),
-    lambda points: i_shape.canonical(points, oriented=False),
+    lambda points: i_shape.canonical(points, oriented=True),
     lambda points: i_shape.canonical_rings(points, [0, len(points)],
-                                           oriented=False),
+                                           oriented=True),
     lambda points: i_shape.simplify_polygons(points, [0, len(points)],
                                              [0, 1]),
     lambda points: i_shape.canonical_polygons(points, [0, len(points)],
-                                              [0, 1], oriented=False),
+                                              [0, 1], oriented=True),
 )
 
 

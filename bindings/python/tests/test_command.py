@@ -73,11 +73,12 @@ class Cleaned(CommandCase):
                 ("simplify", [left, HOLE]),
                 ("despike", [[SPIKED[0], *left[:0], SPIKED[1], *left[1:]],
                              HOLE]),
-                ("canonical", [left, HOLE])):
+                ("canonical", [left[:1] + left[:0:-1], HOLE])):
             with self.subTest(cleaner=cleaner):
                 told = self.run_command(cleaner, self.given, self.out,
                                         "--step", "0.1")
-                self.assertEqual(told, ("", ""))
+                self.assertEqual(told, ("", "i_shape: 1 of 1 features changed,"
+                                        " 0 collapsed\n"))
                 self.assertEqual(self.geometries(),
                                  [samples.polygon(*rings)])
 
@@ -90,11 +91,15 @@ class Cleaned(CommandCase):
             "type": "MultiPolygon",
             "coordinates": [samples.polygon(*rings)["coordinates"]
                             for rings in moved]}))
-        self.run_command("canonical", self.given, self.out, "--step", "0.1")
         right = [[SQUARE, other, small], [[(1, 1), (2, 1), (3, 3)]]]
-        self.assertEqual(
-            self.geometries()[0]["coordinates"],
-            [samples.polygon(*rings)["coordinates"] for rings in right])
+        either_way = [[min(ring, ring[:1] + ring[:0:-1]) for ring in rings]
+                      for rings in right]
+        for words, forms in ((["--oriented"], right), ([], either_way)):
+            self.run_command("canonical", self.given, self.out, "--step",
+                             "0.1", *words)
+            self.assertEqual(
+                self.geometries()[0]["coordinates"],
+                [samples.polygon(*rings)["coordinates"] for rings in forms])
 
     def test_what_stays_of_a_document(self):
         document = samples.geojson(samples.polygon(SPIKED), None,
@@ -103,7 +108,8 @@ class Cleaned(CommandCase):
                                        samples.polygon(FLAT)["coordinates"]]})
         document["name"] = "R\u00fcgen \ud83d"
         self.write(document)
-        self.run_command("simplify", self.given, self.out, "--step", "0.1")
+        self.run_command("simplify", self.given, self.out, "--step", "0.1",
+                         "--collapsed", "empty")
         right = json.loads(json.dumps(document))
         for feature, geometry in zip(right["features"], (
                 samples.polygon(SQUARE), None,
@@ -128,10 +134,11 @@ class Cleaned(CommandCase):
         given = self.write("POLYGON ((0 0, 2 0, 4 0, 4 4.5, 0 0))\n\n"
                            "MULTIPOLYGON (((0 0, 1 1, 2 2, 0 0)))\n", "a.wkt")
         out = self.folder / "b.WKT"
-        self.run_command("simplify", given, out, "--step", "0.5")
+        words = ("--step", "0.5", "--collapsed", "empty")
+        self.run_command("simplify", given, out, *words)
         right = "POLYGON ((0 0, 4 0, 4 4.5, 0 0))\nMULTIPOLYGON EMPTY\n"
         self.assertEqual(out.read_text(), right)
-        self.run_command("simplify", given, self.out, "--step", "0.5")
+        self.run_command("simplify", given, self.out, *words)
         again = self.folder / "c.wkt"
         self.run_command("simplify", self.out, again, "--step", "0.5")
         self.assertEqual(again.read_text(), right)

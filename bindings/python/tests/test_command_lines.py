@@ -49,9 +49,9 @@ class Lines(CommandCase):
         right = [feature(samples.polygon(SQUARE), id=7), feature(None),
                  feature({"type": "Polygon", "coordinates": []})]
         for name in ("a.geojsonl", "a.geojsons", "a.ndjson", "a.jsonl"):
-            self.clean(given, out=name)
+            self.clean(given, "--collapsed", "empty", out=name)
             self.assertEqual((self.folder / name).read_text(), "".join(right))
-        self.clean(given, out="out.geojson")
+        self.clean(given, "--collapsed", "empty", out="out.geojson")
         self.assertEqual(json.loads(self.out.read_text()), {
             "type": "FeatureCollection", "features": list(
                 map(json.loads, right))})
@@ -82,13 +82,16 @@ class Lines(CommandCase):
             env={**os.environ, "LC_ALL": "C", "PYTHONCOERCECLOCALE": "0"})
         self.assertEqual(run.stdout.decode(), right)
         self.assertIn(b"points: 14 before, 8 after", run.stderr)
+        self.assertEqual(run.stderr.splitlines()[-1],
+                         b"i_shape: 2 of 2 features changed, 0 collapsed")
         for text in (given + "{", ""):
             with mock.patch.object(sys, "stdin", text_io.TextIOWrapper(
                     text_io.BytesIO(text.encode()))):
                 told, error = self.run_command(
                     "simplify", "-", "-", "--step", "0.1", status=bool(text))
             self.assertEqual(told, "")
-        self.assertEqual(error, "")
+        self.assertEqual(error, "i_shape: 0 of 0 features changed,"
+                         " 0 collapsed\n")
 
     def run_command(self, *words, status=0):
         """The bytes that it writes to standard output are told too."""
@@ -125,14 +128,15 @@ class Lines(CommandCase):
         document["features"][2]["properties"] = {"geometry": [], "n": 12345}
         text = json.dumps(document, indent=1)
         self.write(text)
-        self.clean(self.given, "--others", "keep", out="whole.geojson")
+        words = ("--others", "keep", "--collapsed", "empty")
+        self.clean(self.given, *words, out="whole.geojson")
         right = (self.folder / "whole.geojson").read_text()
         for length in (1, 2, 7, 100):
             with mock.patch.object(json_text, "_PIECE", length):
-                self.clean(self.given, "--others", "keep", out="out.geojson")
+                self.clean(self.given, *words, out="out.geojson")
                 self.assertEqual(self.out.read_text(), right)
                 self.write(text[:-40])
-                told = self.clean(self.given, "--others", "keep", status=1)
+                told = self.clean(self.given, *words, status=1)
                 self.assertIn("Unterminated string starting at: line", told)
                 self.write(text)
 
@@ -216,6 +220,14 @@ class Others(CommandCase):
                             else list(map(json.loads, text.splitlines())))
                 self.assertEqual([one["geometry"] for one in features], right)
 
+    def test_a_lone_feature_that_is_dropped_leaves_an_empty_collection(self):
+        for document in (POINT, json.loads(feature(POINT))):
+            self.write(document)
+            self.run_command("simplify", self.given, self.out, "--step", "1",
+                             "--others", "drop")
+            self.assertEqual(json.loads(self.out.read_text()),
+                             samples.geojson())
+
     def test_others_of_wkt(self):
         square = "POLYGON ((0 0, 4 0, 4 4, 0 4, 0 0))"
         others = ["POINT (1 2)", "polygon z ((0 0 1, 1 0 1, 1 1 1, 0 0 1))",
@@ -253,7 +265,9 @@ class Others(CommandCase):
                 (["simplify", self.given, self.out, "--layer", "a"],
                  "--layer is for"),
                 (["simplify", self.given, self.out, "--oriented"],
-                 "--oriented is for")):
+                 "--oriented is for"),
+                (["dedup", self.given, self.out, "--collapsed", "drop"],
+                 "--collapsed isn't for")):
             self.assertIn(told, self.run_command(
                 *words, "--step", "1", status=2)[1])
 

@@ -151,7 +151,8 @@ class Refused(CommandCase):
             {"type": "MultiPolygon", "coordinates": []},
             {"type": "MultiPolygon", "coordinates": [[]]}))
         for cleaner in ("simplify", "despike", "canonical"):
-            self.run_command(cleaner, self.given, self.out, "--step", "1")
+            self.run_command(cleaner, self.given, self.out, "--step", "1",
+                             "--collapsed", "empty")
             self.assertEqual(
                 [geometry["coordinates"] for geometry in self.geometries()],
                 [[]] * 6 + [[[]]])
@@ -189,7 +190,7 @@ class Refused(CommandCase):
                 with mock.patch.object(text_files, "coordinate_texts",
                                        stops(error)):
                     told = self.assert_nothing_is_written(
-                        "simplify", self.given, self.out, "--step", "1",
+                        "simplify", self.given, self.out, "--step", "0.1",
                         status=status)
                 self.assertIn(words, told)
 
@@ -199,7 +200,7 @@ class Refused(CommandCase):
             with mock.patch.object(_command.report.Cleaning, "lines",
                                    side_effect=error):
                 self.assert_nothing_is_written(
-                    "simplify", self.given, self.out, "--step", "1",
+                    "simplify", self.given, self.out, "--step", "0.1",
                     "--report")
 
     def test_nothing_is_written_where_standard_output_is_closed(self):
@@ -208,7 +209,7 @@ class Refused(CommandCase):
         with mock.patch.object(sys, "stdout", None), \
                 contextlib.redirect_stderr(text_io.StringIO()) as error:
             status = command.main(["simplify", str(self.given), str(self.out),
-                                   "--step", "1", "--report"])
+                                   "--step", "0.1", "--report"])
         self.assertEqual(status, 1)
         self.assertRegex(error.getvalue(), "^i_shape: .*standard output")
         self.assertEqual(self.out.read_text(), "as it was")
@@ -224,7 +225,7 @@ class Refused(CommandCase):
             with contextlib.redirect_stderr(text_io.StringIO()) as error:
                 statuses.append(command.main(
                     ["simplify", str(self.given), str(self.out), "--step",
-                     "1"]))
+                     "0.1"]))
             if statuses[-1] == 0:
                 self.assertEqual(self.out.read_text(), text)
             else:
@@ -266,7 +267,7 @@ class Refused(CommandCase):
         with mock.patch.multiple(os, fsync=calls.fsync,
                                  replace=calls.replace):
             self.assert_nothing_is_written("simplify", self.given, self.out,
-                                           "--step", "1", status=0)
+                                           "--step", "0.1", status=0)
         self.assertEqual([call[0] for call in calls.mock_calls],
                          ["fsync", "replace"])
 
@@ -274,7 +275,7 @@ class Refused(CommandCase):
         self.write(samples.geojson(samples.polygon(SPIKED)))
         old = self.folder / f".{self.out.name}.{os.getpid()}.part"
         old.write_text("of another run")
-        self.run_command("simplify", self.given, self.out, "--step", "1")
+        self.run_command("simplify", self.given, self.out, "--step", "0.1")
         self.assertEqual(old.read_text(), "of another run")
 
     def test_signals_leave_nothing_behind(self):
@@ -309,7 +310,7 @@ class Refused(CommandCase):
                               (signal.SIGINT, signal.SIGINT)):
             with self.subTest(first=first, second=second), subprocess.Popen(
                     [sys.executable, "-c", program, "simplify", self.given,
-                     self.out, "--step", "1"], stdout=subprocess.PIPE,
+                     self.out, "--step", "0.1"], stdout=subprocess.PIPE,
                     stderr=subprocess.PIPE, text=True) as run:
                 self.assertEqual(run.stdout.readline(), "it writes\n")
                 self.assertNotEqual(sorted(self.folder.iterdir()), before)
@@ -323,7 +324,7 @@ class Refused(CommandCase):
                 self.assertEqual(self.out.read_text(), "as it was")
         with subprocess.Popen(
                 [sys.executable, "-c", program, "despike", self.given,
-                 self.out, "--step", "1"], stdout=subprocess.PIPE) as run:
+                 self.out, "--step", "0.1"], stdout=subprocess.PIPE) as run:
             self.assertEqual(run.stdout.readline(), b"it cleans\n")
             run.send_signal(signal.SIGTERM)
             run.communicate(timeout=30)

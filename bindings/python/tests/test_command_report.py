@@ -30,7 +30,8 @@ class Reports(CommandCase):
                 samples.polygon(ring)["coordinates"]
                 for ring in (SQUARE, FLAT)]}))
         told, _ = self.run_command("simplify", self.given, self.out,
-                                   "--step", "0.1", "--report")
+                                   "--step", "0.1", "--report",
+                                   "--collapsed", "empty")
         self.assertEqual(told, """\
 features with polygons: 3 before, 2 after
 polygons: 4 before, 2 after
@@ -67,7 +68,8 @@ collapsed: feature 2, polygon 1, ring 0
     def test_holes_go_with_the_ring_around_them(self):
         self.write(samples.geojson(samples.polygon(FLAT, HOLE)))
         told, _ = self.run_command("simplify", self.given, self.out,
-                                   "--step", "0.1", "--report")
+                                   "--step", "0.1", "--report",
+                                   "--collapsed", "empty")
         self.assertIn("area as given: -0.005\n"
                       "area before: -0.005, -0.5 cells of the grid\n"
                       "area after: 0, 0 cells of the grid\n", told)
@@ -82,15 +84,17 @@ collapsed: feature 2, polygon 1, ring 0
         self.assertAlmostEqual(float(area), 0.09, places=8)
 
     def test_areas_beyond_the_floats(self):
-        self.write(samples.geojson(samples.polygon(
-            [(1e200 * x, 1e200 * y) for x, y in samples.SQUARE])))
-        with warnings.catch_warnings():
-            warnings.simplefilter("error")
-            told, _ = self.run_command("simplify", self.given, self.out,
-                                       "--step", "1e200", "--report")
-        self.assertIn("area as given: too great for a float\n"
-                      "area before: too great for a float, 16 cells of the"
-                      " grid\n", told)
+        for step, least in (("1e200", 0), ("6e307", -2)):
+            self.write(samples.geojson(samples.polygon(
+                [((least + x) * float(step), (least + y) * float(step))
+                 for x, y in samples.SQUARE])))
+            with warnings.catch_warnings():
+                warnings.simplefilter("error")
+                told, _ = self.run_command("simplify", self.given, self.out,
+                                           "--step", step, "--report")
+            self.assertIn("area as given: too great for a float\n"
+                          "area before: too great for a float, 16 cells of"
+                          " the grid\n", told)
 
     def test_great_areas_are_exact(self):
         far = 2 ** 61
@@ -145,7 +149,8 @@ collapsed: feature 2, polygon 1, ring 0
             with mock.patch.dict(sys.modules, module):
                 _, told = self.run_command("simplify", self.given, self.out,
                                            "--step", "0.1", "--report")
-            self.assertEqual(told, "")
+            self.assertEqual(told, "i_shape: 1 of 1 features changed,"
+                             " 0 collapsed\n")
 
 
 class Plots(CommandCase):
@@ -157,7 +162,7 @@ class Plots(CommandCase):
                             ("pdf", b"%PDF")):
             path = self.folder / f"plot.{kind}"
             self.run_command("simplify", self.given, self.out, "--step",
-                             "0.1", "--plot", path)
+                             "0.1", "--collapsed", "empty", "--plot", path)
             self.assertTrue(path.read_bytes().startswith(start))
             self.assertEqual(self.geometries()[0], samples.polygon(SQUARE))
         self.assertIn("before: 10 points", self.texts("plot.svg"))

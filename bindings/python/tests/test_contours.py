@@ -11,9 +11,9 @@ import i_shape
 import plain
 
 ROUNDS = 2000
-canonical_unoriented = functools.partial(i_shape.canonical, oriented=False)
+canonical_oriented = functools.partial(i_shape.canonical, oriented=True)
 CLEANERS = (i_shape.simplify, i_shape.despike, i_shape.canonical,
-            canonical_unoriented)
+            canonical_oriented)
 TESTS = (i_shape.is_simple, i_shape.has_no_spikes, i_shape.is_convex)
 
 # A contour, and its form where it may be read backwards too.
@@ -76,7 +76,7 @@ class Contours(unittest.TestCase):
 
     def test_canonical_answers_the_least_rotation(self):
         for numbers, dtype, ring, points in rings_of_each_dtype():
-            left = plain.tuples(i_shape.canonical(points))
+            left = plain.tuples(canonical_oriented(points))
             self.assertEqual(left, plain.canonical(ring, numbers), ring)
 
     def test_canonical_read_either_way(self):
@@ -84,16 +84,16 @@ class Contours(unittest.TestCase):
             for dtype in plain.DTYPES:
                 for given in (ring, ring[::-1]):
                     with self.subTest(name, dtype=dtype, given=given):
-                        left = canonical_unoriented(plain.array(given, dtype))
+                        left = i_shape.canonical(plain.array(given, dtype))
                         self.assertEqual(plain.tuples(left), form)
 
     def test_canonical_unoriented_answers_the_lesser_of_both_ways(self):
         for numbers, dtype, ring, points in rings_of_each_dtype():
-            form = plain.tuples(canonical_unoriented(points))
+            form = plain.tuples(i_shape.canonical(points))
             self.assertEqual(form, plain.canonical_unoriented(ring, numbers),
                              ring)
             turned = np.roll(points[::-1], numbers.randrange(13), axis=0)
-            self.assertEqual(plain.tuples(canonical_unoriented(turned)), form)
+            self.assertEqual(plain.tuples(i_shape.canonical(turned)), form)
 
     def test_canonical_of_a_long_contour(self):
         side = 8000
@@ -105,7 +105,7 @@ class Contours(unittest.TestCase):
                             axis=1).astype(dtype)
             for given in (walk, walk[::-1]):
                 self.assertEqual(
-                    canonical_unoriented(given).tolist(),
+                    i_shape.canonical(given).tolist(),
                     [[0, 0], [0, side], [side, side], [side, 0]])
 
     def test_canonical_forgets_the_start(self):

@@ -52,7 +52,7 @@ class Documents(unittest.TestCase):
                     for its in inspect.signature(item).parameters.values():
                         self.assertEqual(
                             its.kind is its.KEYWORD_ONLY,
-                            its.name in ("halves", "others", "oriented",
+                            its.name in ("collapsed", "halves", "others", "oriented",
                                          "rule", "threads"),
                             (name, its.name))
 

@@ -1,6 +1,7 @@
 """GeoPackages through the command, made by sqlite3 here, and hostile ones."""
 
 import contextlib
+import errno
 import os
 import shutil
 import sqlite3
@@ -51,6 +52,12 @@ def polygons(*lists):
     return samples.arrays([(False, [list(rings)]) for rings in lists])
 
 
+def without_progress(error):
+    """What is said beside the progress of a slow run."""
+    return "".join(line for line in error.splitlines(True)
+                   if not line.startswith(("features of ", "changes of ")))
+
+
 def blob(wkb, srs=4326, order="<", flags=0):
     return (b"GP\0" + bytes([flags | (order == "<")])
             + struct.pack(order + "i", srs) + wkb)
@@ -94,6 +101,18 @@ class GeoPackageCase(CommandCase):
         with contextlib.closing(sqlite3.connect(self.given)) as store:
             return list(store.iterdump())
 
+    def fill_out(self):
+        self.out.unlink(missing_ok=True)
+        self.change("CREATE TABLE other AS SELECT 'as it was'", path=self.out)
+
+    def mode_of(self, path):
+        """The journal mode of a file, which each new program reads."""
+        with contextlib.closing(sqlite3.connect(path)) as store:
+            return store.execute("PRAGMA journal_mode").fetchone()[0]
+
+    def bytes_of_files(self):
+        return {path: path.read_bytes() for path in self.folder.iterdir()}
+
     def rows(self, path, layer="parcels"):
         return self.change(f"SELECT * FROM {layer}", path=path)
 
@@ -108,8 +127,10 @@ class GeoPackageCase(CommandCase):
                 for fid, _, one in self.rows(path or self.out, layer)}
 
     def run_clean(self, *words, call="simplify", status=0, out=None):
-        return self.run_command(call, self.given, out or self.out, "--step",
-                                "0.1", *words, status=status)
+        told, error = self.run_command(
+            call, self.given, out or self.out, "--step", "0.1", *words,
+            status=status)
+        return told, without_progress(error)
 
 
 class Cleaned(GeoPackageCase):
@@ -117,7 +138,7 @@ class Cleaned(GeoPackageCase):
     def test_only_what_changes_is_written(self):
         self.fill(SPIKED_BLOB, SQUARE_BLOB, None, FLAT_BLOB, BIG_ENDIAN,
                   HIGH_BLOB)
-        told, _ = self.run_clean("--report")
+        told, _ = self.run_clean("--report", "--collapsed", "empty")
         self.assertIn("collapsed: layer 'parcels', fid 9, polygon 0", told)
         square = io.to_wkt(polygons([SQUARE]))[0]
         self.assertEqual(self.geometries(), {
@@ -145,7 +166,7 @@ class Cleaned(GeoPackageCase):
         for call in ("simplify", "despike", "canonical"):
             self.given.unlink(missing_ok=True)
             self.fill(SPIKED_BLOB, SQUARE_BLOB, FLAT_BLOB, BIG_ENDIAN)
-            self.run_clean(call=call, out=self.given)
+            self.run_clean("--collapsed", "empty", call=call, out=self.given)
             before = self.dump()
             self.run_clean(call=call, out=self.given)
             self.assertEqual(self.dump(), before)
@@ -217,15 +238,21 @@ gone: layer 'parcels', fid 13, equal to layer 'parcels', fid 3
 
 class Refused(GeoPackageCase):
 
-    def assert_refused(self, *words, told, out=None, call="simplify"):
-        """It fails and says this, and each file stays as it was."""
-        self.out.write_text("as it was")
-        before = {path: path.read_bytes() for path in self.folder.iterdir()}
-        _, error = self.run_clean(*words, call=call, status=1, out=out)
-        self.assertIn(told, error)
-        self.assertEqual(error.count("\n"), 1, error)
-        self.assertEqual({path: path.read_bytes()
-                          for path in self.folder.iterdir()}, before)
+    def assert_refused(self, *words, told, call="simplify"):
+        """It fails and says this, and each file stays as it was.
+
+        OUT is new, is there, or is IN.
+        """
+        for out, is_there in ((self.out, False), (self.out, True),
+                              (self.given, True)):
+            self.out.unlink(missing_ok=True)
+            if is_there:
+                self.fill_out()
+            before = self.bytes_of_files()
+            _, error = self.run_clean(*words, call=call, status=1, out=out)
+            self.assertIn(told.replace(str(self.out), str(out)), error)
+            self.assertEqual(error.count("\n"), 1, error)
+            self.assertEqual(self.bytes_of_files(), before)
 
     def test_faulty_geometries_name_layer_and_fid(self):
         self.fill(SQUARE_BLOB, SQUARE_BLOB)
@@ -289,48 +316,137 @@ class Refused(GeoPackageCase):
         self.assert_refused(told=f"i_shape: {self.out}: layer 'parcels': no"
                             " such function: strange")
 
-    def test_a_trigger_that_keeps_rows_as_they_are(self):
-        self.fill(SPIKED_BLOB, SPIKED_BLOB)
-        for call, change in ("simplify", "UPDATE"), ("dedup", "DELETE"):
-            self.change(f"CREATE TRIGGER other BEFORE {change} ON parcels"
-                        " WHEN OLD.fid = 5 BEGIN SELECT RAISE(IGNORE); END")
-            self.assert_refused(call=call, told="layer 'parcels': a trigger"
-                                " keeps rows as they are")
+    def test_a_trigger_that_undoes_or_changes_what_was_written(self):
+        self.fill(SPIKED_BLOB, SPIKED_BLOB, SQUARE_BLOB)
+        for call, when, then in (
+                ("simplify", "BEFORE UPDATE", "SELECT RAISE(IGNORE)"),
+                ("simplify", "AFTER UPDATE OF geom", "UPDATE parcels"
+                 " SET geom = OLD.geom WHERE fid = OLD.fid"),
+                ("simplify", "AFTER UPDATE", "DELETE FROM parcels"
+                 " WHERE fid = OLD.fid"),
+                ("dedup", "BEFORE DELETE", "SELECT RAISE(IGNORE)"),
+                ("dedup", "AFTER DELETE", "INSERT INTO parcels"
+                 " VALUES (OLD.fid, OLD.name, NULL)")):
+            self.change(f"CREATE TRIGGER other {when} ON parcels"
+                        f" WHEN OLD.fid = 5 BEGIN {then}; END")
+            self.assert_refused(call=call, told=f"{self.out}: layer 'parcels',"
+                                " fid 5: a trigger undid or changed what was"
+                                " written\n")
             self.change("DROP TRIGGER other")
 
-    def test_a_file_that_another_program_writes(self):
+    def test_a_feature_without_a_key(self):
+        self.fill()
+        for words in ("DROP TABLE parcels", "CREATE TABLE parcels ("
+                      "fid INTEGER PRIMARY KEY DESC, name TEXT, geom BLOB)",
+                      "INSERT INTO parcels VALUES (NULL, '', NULL)"):
+            self.change(words)
+        self.assert_refused(told="layer 'parcels' has a feature without a key")
+
+    def test_a_file_by_another_name(self):
         self.fill(SPIKED_BLOB)
-        other = sqlite3.connect(self.given, isolation_level=None)
-        self.addCleanup(other.close)
-        other.execute("BEGIN EXCLUSIVE")
-        with mock.patch.object(geopackage, "_PATIENCE", 0.0):
-            self.assert_refused(told=f"{self.given}: database is locked")
-        other.execute("ROLLBACK")
-        log = self.folder / "out.gpkg-wal"
-        log.write_text("of another program")
-        self.assert_refused(told="out.gpkg-wal beside it says that another")
-        log.unlink()
-        self.out.unlink()
-        other.execute("PRAGMA journal_mode = wal")
-        other.execute("UPDATE parcels SET name = 'new'")
-        add_functions = geopackage._add_functions
-        add_functions(other)
+        os.link(self.given, self.out)
+        before = self.bytes_of_files()
+        self.assertIn(f"{self.out}: it is a hard link to {self.given}\n",
+                      self.run_clean(status=1)[1])
+        self.assertEqual(self.bytes_of_files(), before)
 
-        def write_between(store):
-            """Between the copy and the reading."""
-            add_functions(store)
-            other.execute("UPDATE parcels SET geom = ?", (HIGH_BLOB,))
-
-        with mock.patch.object(geopackage, "_add_functions", write_between):
-            self.run_clean()
-        self.assertEqual(self.rows(self.out)[0][:2], (3, "new"))
-        self.assertEqual(self.geometries(), {
-            3: io.to_wkt(polygons([SQUARE]))[0]})
-        other.close()
-        before = sorted(self.folder.iterdir())
-        self.assertNotIn(self.folder / "given.gpkg-wal", before)
+    def test_an_out_that_is_no_database(self):
+        self.fill(SPIKED_BLOB)
+        self.out.write_text("as it was")
+        before = self.bytes_of_files()
+        self.assertIn("out.gpkg: file is not a database",
+                      self.run_clean(status=1)[1])
+        self.assertEqual(self.bytes_of_files(), before)
+        self.out.write_text("")
         self.run_clean()
-        self.assertEqual(sorted(self.folder.iterdir()), before)
+        self.assertEqual(len(self.rows(self.out)), 1)
+
+    def test_an_out_with_pages_of_another_size(self):
+        self.fill(SPIKED_BLOB)
+        for mode in "delete", "wal":
+            self.out.unlink(missing_ok=True)
+            with contextlib.closing(sqlite3.connect(self.out)) as store:
+                store.execute("PRAGMA page_size = 1024")
+                store.execute(f"PRAGMA journal_mode = {mode}")
+                store.execute("CREATE TABLE other (number)")
+            before = self.bytes_of_files()
+            if mode == "delete":
+                self.run_clean()
+                self.assertEqual(len(self.rows(self.out)), 1)
+            else:
+                self.assertIn("its pages have 1024 bytes, which can't change"
+                              " in WAL mode", self.run_clean(status=1)[1])
+                self.assertEqual(self.bytes_of_files(), before)
+
+    def test_journal_modes_of_in_and_of_out(self):
+        self.fill(SPIKED_BLOB)
+        for given in "wal", "delete":
+            self.change(f"PRAGMA journal_mode = {given}")
+            self.run_clean()
+            self.assertEqual(self.mode_of(self.out), given)
+            for mode in "wal", "delete":
+                self.change(f"PRAGMA journal_mode = {mode}", path=self.out)
+                self.run_clean()
+                self.assertEqual(self.mode_of(self.out), mode)
+            self.out.unlink()
+
+    def test_an_out_that_another_makes_meanwhile(self):
+        """As late as while the new file is stored, or takes its name."""
+        self.fill(SPIKED_BLOB)
+        for of, name in ((geopackage.GeoPackage, "end"), (os, "fsync"),
+                         (os, "link")):
+            call = getattr(of, name)
+
+            def make_and_call(*words):
+                self.fill_out()
+                return call(*words)
+
+            self.out.unlink(missing_ok=True)
+            with self.subTest(name=name), mock.patch.object(
+                    of, name, make_and_call):
+                self.assertEqual(
+                    self.run_clean(status=1)[1], f"i_shape: [Errno 17] File"
+                    f" exists: '{self.out}'\n")
+                self.assertEqual(
+                    self.change("SELECT * FROM other", path=self.out),
+                    [("as it was",)])
+                self.assertEqual(sorted(self.folder.glob(".*")), [])
+
+    def test_a_log_that_another_makes_while_the_new_file_is_stored(self):
+        self.fill(SPIKED_BLOB)
+        log = self.folder / "out.gpkg-wal"
+        with mock.patch.object(os, "fsync", lambda _: log.write_text("")):
+            self.assertIn("out.gpkg-wal beside it says that another",
+                          self.run_clean(status=1)[1])
+        self.assertFalse(self.out.exists())
+
+    def test_a_new_file_where_there_are_no_links(self):
+        self.fill(SPIKED_BLOB)
+        error = OSError(errno.EPERM, os.strerror(errno.EPERM))
+        with mock.patch.object(os, "link", side_effect=error):
+            self.run_clean()
+            self.assertEqual(len(self.rows(self.out)), 1)
+            self.out.unlink()
+
+            def make(*_):
+                self.fill_out()
+                raise error
+
+            with mock.patch.object(os, "link", make):
+                self.assertIn("File exists", self.run_clean(status=1)[1])
+        self.assertEqual(self.change("SELECT * FROM other", path=self.out),
+                         [("as it was",)])
+
+    def test_a_new_file_where_the_log_of_another_is(self):
+        self.fill(SPIKED_BLOB)
+        for end, text in ("-wal", ""), ("-shm", ""), ("-journal", "as it was"):
+            log = self.folder / f"out.gpkg{end}"
+            log.write_text(text)
+            before = self.bytes_of_files()
+            self.assertIn(f"out.gpkg{end} beside it says that another",
+                          self.run_clean(status=1)[1])
+            self.assertEqual(self.bytes_of_files(), before)
+            log.unlink()
 
     def test_a_file_that_may_only_be_read(self):
         self.fill(SPIKED_BLOB)
@@ -348,7 +464,7 @@ class Refused(GeoPackageCase):
             resource.setrlimit(resource.RLIMIT_FSIZE, (limit, limit))
             runpy.run_module("i_shape", run_name="__main__", alter_sys=True)
         """)
-        self.out.write_text("as it was")
+        self.fill_out()
         lines = self.folder / "out.geojson"
         given = self.folder / "given.geojsonl"
         for path, out in ((self.given, self.out), (given, lines)):
@@ -357,15 +473,14 @@ class Refused(GeoPackageCase):
                     "".join(f'{{"type": "Feature", "geometry": {one}}}\n'
                             for one in ["null"] * 9000))
                 lines.write_text("as it was")
-            before = sorted(self.folder.iterdir())
+            before = self.bytes_of_files()
             run = subprocess.run(
                 [sys.executable, "-c", program, "150000", "simplify", path,
                  out, "--step", "0.1"], capture_output=True, text=True,
                 check=False)
             self.assertEqual(run.returncode, 1, run.stderr)
-            self.assertRegex(run.stderr, "^i_shape: .*(full|disk|large)")
-            self.assertEqual(out.read_text(), "as it was")
-            self.assertEqual(sorted(self.folder.iterdir()), before)
+            self.assertRegex(run.stderr, "(?m)^i_shape: .*(full|disk|large)")
+            self.assertEqual(self.bytes_of_files(), before)
 
 
 @unittest.skipUnless(HAS_GDAL, WHY_NOT)
@@ -376,7 +491,7 @@ class OfGdal(GeoPackageCase):
             samples.polygon(SPIKED), None, samples.polygon(FLAT)))
         subprocess.run(["ogr2ogr", "-f", "GPKG", self.given, document,
                         "-nln", "parcels"], check=True, capture_output=True)
-        self.run_clean()
+        self.run_clean("--collapsed", "empty")
         told = subprocess.run(
             ["ogrinfo", "-al", "-q", self.out], check=True, text=True,
             capture_output=True).stdout

@@ -20,7 +20,7 @@ SPIKED = [(0.5, 0), (0.7, 0), (0.9, 0), (0.9, 0.4), (0.9, 0.8), (0.9, 0.4),
 SQUARE = [(0.5, 0), (0.9, 0), (0.9, 0.4), (0.5, 0.4)]
 FLAT = [(0.6, 0.1), (0.7, 0.1), (0.8, 0.1)]
 CALLS = {"simplify": SQUARE, "despike": [SQUARE[0], (0.7, 0), *SQUARE[1:]],
-         "canonical": SQUARE}
+         "canonical": SQUARE[:1] + SQUARE[:0:-1]}
 
 
 @unittest.skipIf(WHY_NOT, WHY_NOT)
@@ -42,7 +42,7 @@ class GeoSeries(unittest.TestCase):
         for name, right in CALLS.items():
             call = getattr(io, f"{name}_geoseries")
             for step in (0.1, io.Grid(0.1)):
-                left = call(given, step)
+                left = call(given, step, collapsed="empty")
                 self.assertEqual(left.index.tolist(), given.index.tolist())
                 self.assertEqual((left.crs, left.name), (given.crs, "parcels"))
                 self.assertEqual(self.rings(left.iloc[0]), right)
@@ -61,7 +61,8 @@ class GeoSeries(unittest.TestCase):
             with self.assertRaisesRegex(io.FeatureError, words) as told:
                 io.simplify_geoseries(given, 0.1)
             self.assertEqual(told.exception.feature, 5)
-            left = io.simplify_geoseries(given, 0.1, others="keep")
+            left = io.simplify_geoseries(given, 0.1, collapsed="empty",
+                                         others="keep")
             self.assertEqual(left.iloc[5:].tolist(), list(others))
             self.assertEqual(self.rings(left.iloc[0]), SQUARE)
 

@@ -310,7 +310,8 @@ class Cleaners(unittest.TestCase):
                     right = self.cleaned(given, lambda ring: plain.tuples(
                         one(plain.array(ring, dtype))))
                     for threads in (1, 3):
-                        left = call(features, threads=threads)
+                        left = call(features, collapsed="empty",
+                                    threads=threads)
                         self.assertEqual(samples.lists(left), right)
                         self.assertEqual(left.polygons.points.dtype, dtype)
 
@@ -319,7 +320,7 @@ class Cleaners(unittest.TestCase):
         for _ in range(150):
             features = samples.arrays(
                 self.random_features(numbers, np.int32), np.int32)
-            left = io.simplify_features(features).polygons
+            left = io.simplify_features(features, collapsed="empty").polygons
             right = i_shape.simplify_polygons(*features.polygons)
             for one, other in zip(left, right):
                 np.testing.assert_array_equal(one, other)
@@ -330,7 +331,7 @@ class Cleaners(unittest.TestCase):
             for _ in range(150):
                 features = samples.arrays(
                     self.random_features(numbers, dtype), dtype)
-                left = io.canonical_features(features)
+                left = io.canonical_features(features, collapsed="empty")
                 offsets = features.feature_offsets.tolist()
                 parts = features.polygons.polygon_offsets
                 for place, (a, b) in enumerate(zip(offsets, offsets[1:])):

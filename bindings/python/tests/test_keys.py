@@ -55,9 +55,9 @@ class OfRings(unittest.TestCase):
     def test_the_numbers_of_a_key(self):
         given = plain.flat([[(4, 4), (0, 4), (-1, 0), (4, 0)]], np.int16)
         for key, right in (
-                (i_shape.canonical_keys(*given),
+                (i_shape.canonical_keys(*given, oriented=True),
                  [-1, 0, 4, 0, 4, 4, 0, 4]),
-                (i_shape.canonical_keys(*given, [0, 1]),
+                (i_shape.canonical_keys(*given, [0, 1], oriented=True),
                  [2**62 + 1, 4, -1, 0, 4, 0, 4, 4, 0, 4])):
             self.assertEqual(np.frombuffer(key[0], "<i8").tolist(), right)
 
@@ -99,7 +99,7 @@ class OfRings(unittest.TestCase):
     def test_groups_by_numpy_and_by_a_dictionary(self):
         numbers = random.Random(33)
         rings = [numbers.choice(RINGS) for _ in range(500)]
-        forms = [plain.canonical(ring, numbers) for ring in rings]
+        forms = [plain.canonical_unoriented(ring, numbers) for ring in rings]
         keys = i_shape.canonical_keys(*plain.flat(rings, np.int32))
         _, first, group = np.unique(keys, return_index=True,
                                     return_inverse=True)
@@ -243,8 +243,40 @@ class Golden(unittest.TestCase):
             step, oriented, text, wanted = line.split("\t")
             whole = io.features_to_grid(io.from_wkt([text]),
                                         io.Grid(float(step)))
-            keys = io.feature_keys(whole, oriented=oriented == "t")
-            self.assertEqual([key.hex() for key in keys], [wanted])
+            words = [{"oriented": oriented == "t"}]
+            if oriented == "f":
+                words.append({})  # that is how SQL has it by default, too
+            for its in words:
+                keys = io.feature_keys(whole, **its)
+                self.assertEqual([key.hex() for key in keys], [wanted])
+                if not text.startswith("MULTI"):
+                    keys = i_shape.canonical_keys(*whole.polygons, **its)
+                    self.assertEqual([key.hex() for key in keys], [wanted])
+
+    def test_directions_are_told_apart_where_that_is_asked(self):
+        """Each call, at its default and with either word."""
+        points = np.array([(0, 0), (4, 0), (4, 4)])
+        ring, back = (points, [0, 3]), (points[::-1], [0, 3])
+        polygon, turned = (*ring, [0, 1]), (*back, [0, 1])
+        features, others = map(io.features_of, (polygon, turned))
+        for words, is_same in (({}, True), ({"oriented": False}, True),
+                               ({"oriented": True}, False)):
+            for call, ours, theirs in (
+                    (i_shape.canonical, ring[:1], back[:1]),
+                    (i_shape.canonical_rings, ring, back),
+                    (i_shape.canonical_polygons, polygon, turned),
+                    (i_shape.canonical_keys, ring, back),
+                    (i_shape.canonical_keys, polygon, turned),
+                    (io.canonical_features, [features], [others]),
+                    (io.feature_keys, [features], [others])):
+                self.assertIs(
+                    repr(call(*ours, **words)) == repr(call(*theirs, **words)),
+                    is_same, (call, words))
+            self.assertIs(i_shape.same_polygons(polygon, turned, **words),
+                          is_same)
+            self.assertEqual(
+                i_shape.same_rings(ring, back, **words).tolist(),
+                [0 if is_same else -1])
 
 
 class SameRings(unittest.TestCase):

@@ -22,9 +22,7 @@ if not KLAYOUT:
 
 def form(ring):
     """The ring from one certain start, whichever way it is read."""
-    forms = [i_shape.canonical(np.array(way, np.int64))
-             for way in (ring, ring[::-1])]
-    return min(one.tolist() for one in forms)
+    return i_shape.canonical(np.array(ring, np.int64)).tolist()
 
 
 def is_clean(ring):

@@ -54,7 +54,7 @@ class Leaks(unittest.TestCase):
         calls = [i_shape.simplify, i_shape.despike, i_shape.canonical,
                  i_shape.is_simple, i_shape.has_no_spikes, i_shape.is_convex,
                  i_shape.is_safe, i_shape.area_two,
-                 lambda points: i_shape.canonical(points, oriented=False),
+                 lambda points: i_shape.canonical(points, oriented=True),
                  lambda points: i_shape.contains(points, (1, 1))]
         count = 0
 
@@ -70,7 +70,7 @@ class Leaks(unittest.TestCase):
         calls = [i_shape.simplify_rings, i_shape.despike_rings,
                  i_shape.canonical_rings,
                  lambda *given: i_shape.canonical_rings(*given,
-                                                        oriented=False)]
+                                                        oriented=True)]
         count = 0
 
         def one_of_them():
@@ -110,10 +110,10 @@ class Refusals(unittest.TestCase):
             offsets = np.array([0, len(points)])
             calls = [lambda: i_shape.simplify(points),
                      lambda: i_shape.canonical(points),
-                     lambda: i_shape.canonical(points, oriented=False),
+                     lambda: i_shape.canonical(points, oriented=True),
                      lambda: i_shape.simplify_rings(points, offsets),
                      lambda: i_shape.canonical_rings(points, offsets,
-                                                     oriented=False)]
+                                                     oriented=True)]
             right = [call() for call in calls]
             soft, hard = resource.getrlimit(resource.RLIMIT_AS)
             for call, answer in zip(calls, right):

@@ -127,10 +127,10 @@ class Polygons(unittest.TestCase):
         for dtype in plain.DTYPES:
             numbers.shuffle(holes)
             left = i_shape.canonical_polygons(
-                *flat([[holes[0], *holes]], dtype))
+                *flat([[holes[0], *holes]], dtype), oriented=True)
             self.assertEqual(parted(*left)[0][1:], sorted(holes))
             left = i_shape.canonical_polygons(
-                *flat([[hole] for hole in holes], dtype))
+                *flat([[hole] for hole in holes], dtype), oriented=True)
             self.assertEqual(parted(*left), [[hole] for hole in sorted(holes)])
 
     def test_the_same_polygons_after_moves(self):

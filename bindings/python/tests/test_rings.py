@@ -16,8 +16,8 @@ from i_shape import _library, _rings
 PAIRS = ((i_shape.simplify_rings, i_shape.simplify),
          (i_shape.despike_rings, i_shape.despike),
          (i_shape.canonical_rings, i_shape.canonical),
-         (functools.partial(i_shape.canonical_rings, oriented=False),
-          functools.partial(i_shape.canonical, oriented=False)))
+         (functools.partial(i_shape.canonical_rings, oriented=True),
+          functools.partial(i_shape.canonical, oriented=True)))
 CALLS = [many for many, _ in PAIRS]
 
 

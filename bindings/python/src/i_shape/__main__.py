@@ -14,20 +14,22 @@ import os
 import re
 import signal
 import sys
-from contextlib import ExitStack
+from contextlib import ExitStack, suppress
 from pathlib import Path
 from typing import Any, Iterable, NoReturn, Optional, Sequence
 
 from ._command import decimals, dedup, files, plot, report
+from ._command.report import Told
+from ._command.tally import Tally
 from ._library import version
-from ._rings import canonical_rings, despike_rings, simplify_rings
-from .io import Grid, features_from_grid, features_to_grid
-from .io._cleaners import Cleaner, clean, in_order
+from ._rings import despike_rings, simplify_rings
+from .io import Features, Grid, features_from_grid, features_to_grid
+from .io._cleaners import Cleaned, Cleaner, clean, forms
 
 _CLEANERS: dict[str, Cleaner] = {
-    "simplify": simplify_rings, "despike": despike_rings,
-    "canonical": canonical_rings}
+    "simplify": simplify_rings, "despike": despike_rings}
 _PICTURES = ("pdf", "png", "svg")
+_signals: list[int] = []  # the one that ends the program, if any
 
 
 def _file(text: str) -> Path:
@@ -53,12 +55,11 @@ def _parser() -> argparse.ArgumentParser:
     parser = argparse.ArgumentParser(
         prog="i_shape" if is_script else "python -m i_shape",
         description="Cleans the polygons of a file on a grid. Properties"
-        " stay, and a feature of which nothing is left is empty. OUT is"
-        " written whole or not at all.")
+        " stay. OUT is written whole or not at all.")
     # -1e6 is a number too, and no option begins with a digit.
     parser._negative_number_matcher = re.compile(r"-\.?\d")
     parser.add_argument(
-        "call", choices=[*_CLEANERS, "dedup"],
+        "call", choices=[*_CLEANERS, "canonical", "dedup"],
         help="what is removed: points on straight edges, repeated points and"
         " spikes; repeated points and spikes alone; or the first, with each"
         " feature in its canonical form; or features whose form is that of"
@@ -73,7 +74,8 @@ def _parser() -> argparse.ArgumentParser:
                         help="the file to write; it may be IN, and - is"
                         " standard output")
     parser.add_argument("--step", type=float, required=True,
-                        help="how far neighbours on the grid are apart")
+                        help="how far neighbours on the grid are apart, in"
+                        " the unit of the coordinates")
     parser.add_argument("--origin", type=float, nargs=2, default=(0.0, 0.0),
                         metavar=("X", "Y"), help="where (0, 0) of the grid"
                         " lies; 0 0 unless told")
@@ -82,12 +84,16 @@ def _parser() -> argparse.ArgumentParser:
                         " that is no polygon, or has more than two"
                         " coordinates a point; one without a geometry stays"
                         " but with drop")
+    parser.add_argument("--collapsed", choices=("error", "empty", "drop"),
+                        default="error", help="what becomes of a feature of"
+                        " which nothing is left, as where the step is in"
+                        " another unit than the coordinates")
     parser.add_argument("--layer", action="append", default=[],
                         metavar="NAME", help="a layer of the GeoPackage, and"
                         " no other; it may be given again")
     parser.add_argument("--oriented", action="store_true",
-                        help="dedup: a ring that turns the other way is"
-                        " another one")
+                        help="canonical and dedup: a ring that turns the"
+                        " other way is another one")
     parser.add_argument("--report", action="store_true",
                         help="print what was removed and what collapsed, and"
                         " the areas before and after, or which features went"
@@ -110,10 +116,13 @@ def _fault(options: argparse.Namespace) -> Optional[str]:
         return "--layer is for GeoPackages"
     if options.others == "keep" and (given == "WKT") != (out == "WKT"):
         return "--others keep doesn't turn GeoJSON into WKT, nor WKT into it"
-    if options.oriented and options.call != "dedup":
-        return "--oriented is for dedup"
-    if options.plot and options.call == "dedup":
-        return "--plot isn't for dedup"
+    if options.oriented and options.call not in ("canonical", "dedup"):
+        return "--oriented is for canonical and dedup"
+    if options.call == "dedup":
+        if options.plot:
+            return "--plot isn't for dedup"
+        if options.collapsed != "error":
+            return "--collapsed isn't for dedup, where what collapses stays"
     return None
 
 
@@ -131,23 +140,31 @@ def _options(words: Optional[Sequence[str]]) -> argparse.Namespace:
     return options
 
 
+def _cleaned(whole: Features, options: argparse.Namespace) -> Cleaned:
+    if options.call == "canonical":
+        return forms(whole, options.oriented)
+    return clean(whole, _CLEANERS[options.call])
+
+
 def _clean(pair: files.Pair, options: argparse.Namespace,
-           picture: plot.Picture) -> Iterable[str]:
-    """Clean the features, and answer the lines of the report."""
-    told = report.Cleaning(options.grid)
+           picture: plot.Picture) -> Told:
+    """Clean the features, and answer what is told of that."""
+    told, tally = report.Cleaning(options.grid), Tally()
     for block in pair.blocks():
         with block.naming():
             whole = features_to_grid(block.features, options.grid)
-        left, gone = clean(whole, _CLEANERS[options.call])
-        if options.call == "canonical":
-            left = in_order(left)
+        left, gone = _cleaned(whole, options)
         answer = features_from_grid(left, options.grid)
-        pair.write(block, answer)
+        collapsed = tally.add(block, answer)
+        is_dropped = options.collapsed == "drop"
+        pair.write(block, answer, set(collapsed) if is_dropped else set())
         if options.report:
             told.add(block, whole, left, gone)
         if options.plot:
             picture.add(block, answer)
-    return told.lines()
+    if options.collapsed == "error":
+        tally.require_uncollapsed()
+    return Told(told.lines(), tally.line())
 
 
 def _print(lines: Iterable[str], is_beside: bool) -> None:
@@ -161,20 +178,23 @@ def _print(lines: Iterable[str], is_beside: bool) -> None:
     stream.flush()
 
 
-def _run(options: argparse.Namespace) -> None:
+def _run(options: argparse.Namespace) -> str:
+    """Do what the words ask for, and answer what is said at the end."""
     picture = plot.Picture()
     with files.opened(
             options.given, options.out, options.others, options.layer,
             decimals.places_of(options.grid)) as pair, ExitStack() as last:
         if options.call == "dedup":
-            lines = dedup.run(pair, options.grid, options.oriented)
+            told = dedup.run(pair, options.grid, options.oriented)
         else:
-            lines = _clean(pair, options, picture)
+            told = _clean(pair, options, picture)
+        pair.end()
         if options.plot:
             beside = last.enter_context(files.replacing(options.plot))
             picture.draw(beside, options.plot.suffix[1:].lower())
         if options.report:
-            _print(lines, options.out == files.STANDARD)
+            _print(told.lines, options.out == files.STANDARD)
+    return told.last
 
 
 def main(words: Optional[Sequence[str]] = None) -> int:
@@ -182,25 +202,30 @@ def main(words: Optional[Sequence[str]] = None) -> int:
 
     It is 0 where all went well, 1 after an error, which is told of on
     standard error, and 130 where it was interrupted. Words that aren't
-    understood end the program with 2. OUT is replaced last.
+    understood end the program with 2. OUT is replaced last, and then a line
+    on standard error says how many features changed.
     """
     options = _options(words)
     try:
-        _run(options)
+        last = _run(options)
     except OSError as error:
-        return _told(str(error))
+        # SQLite makes an error of its own of what ends a function of ours.
+        return 128 + _signals[0] if _signals else _told(str(error))
     except ValueError as error:
         return _told(f"{options.given}: {error}")
     except MemoryError:
         return _told(f"{options.given}: there is not enough memory")
     except KeyboardInterrupt:
         return 130
-    return 0
+    return _told(last, 0)
 
 
-def _told(text: str) -> int:
-    print(f"i_shape: {text}", file=sys.stderr)
-    return 1
+def _told(text: str, status: int = 1) -> int:
+    """Tell of it where that can be read, and answer the status."""
+    if sys.stderr is not None:  # as where it was closed from the start
+        with suppress(OSError):
+            print(f"i_shape: {text}", file=sys.stderr)
+    return status
 
 
 def _stop(number: int, _: Any) -> NoReturn:
@@ -208,6 +233,7 @@ def _stop(number: int, _: Any) -> NoReturn:
 
     Another signal doesn't stop that.
     """
+    _signals.append(number)
     for each in (signal.SIGINT, signal.SIGTERM):
         signal.signal(each, lambda *_: None)
     sys.exit(128 + number)

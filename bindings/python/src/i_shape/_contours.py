@@ -115,19 +115,20 @@ def despike(points: npt.NDArray[Int]) -> Optional[npt.NDArray[Int]]:
 
 
 def canonical(points: npt.NDArray[Int], *,
-              oriented: bool = True) -> Optional[npt.NDArray[Int]]:
-    """Return the least rotation of the simplified contour.
+              oriented: bool = False) -> Optional[npt.NDArray[Int]]:
+    """Return the least rotation of the simplified contour, read either way.
 
     Lists are compared point by point, and points by x and then by y. Two
     contours have equal answers exactly where one becomes the other by
-    turning it to another start and by removing or adding zero turns.
+    turning it to another start, by removing or adding zero turns, and by
+    reading it backwards.
 
     Parameters
     ----------
     points : array of shape (n, 2), int16, int32 or int64
         The contour, as for :func:`simplify`.
     oriented : bool
-        False lets the contour be read backwards too: its form is then the
+        True doesn't read the contour backwards. Otherwise its form is the
         lesser of those of both ways.
 
     Returns
@@ -146,9 +147,9 @@ def canonical(points: npt.NDArray[Int], *,
     >>> from i_shape import canonical
     >>> contour = np.array([(4, 4), (0, 4), (0, 0), (2, 0), (4, 0)])
     >>> canonical(contour).tolist()
-    [[0, 0], [4, 0], [4, 4], [0, 4]]
-    >>> canonical(contour, oriented=False).tolist()
     [[0, 0], [0, 4], [4, 4], [4, 0]]
+    >>> canonical(contour, oriented=True).tolist()
+    [[0, 0], [4, 0], [4, 4], [0, 4]]
     """
     return _clean("canonical" if oriented else "canonical_unoriented", points)
 

@@ -112,15 +112,16 @@ def _as_array(keys: Sequence[bytes]) -> npt.NDArray[np.object_]:
 
 def canonical_keys(points: npt.NDArray[Int], ring_offsets: npt.ArrayLike,
                    polygon_offsets: Optional[npt.ArrayLike] = None, *,
-                   oriented: bool = True,
+                   oriented: bool = False,
                    threads: int = 1) -> npt.NDArray[np.object_]:
     """Return a key of each ring, or of each polygon.
 
-    Two keys are equal where the canonical forms are: of rings those of
-    :func:`canonical_rings`, and of polygons those that
-    :func:`canonical_polygons` answers of each alone. So a dictionary, a set,
-    ``numpy.unique``, pandas or a table of a database finds equal ones among
-    many. The dtypes of ``points`` may differ from call to call.
+    Two keys are equal where the unoriented forms are, or with ``oriented``
+    the canonical forms: of rings those of :func:`canonical_rings`, and of
+    polygons those that :func:`canonical_polygons` returns of each alone. So
+    a dictionary, a set, ``numpy.unique``, pandas or a table of a database
+    finds equal ones among many. The dtypes of ``points`` may differ from
+    call to call.
 
     Parameters
     ----------
@@ -131,8 +132,9 @@ def canonical_keys(points: npt.NDArray[Int], ring_offsets: npt.ArrayLike,
         As for :func:`simplify_polygons`. None asks for the keys of the
         rings.
     oriented : bool
-        False lets each ring be read backwards too, as for
-        :func:`canonical`.
+        True reads no ring backwards, as for :func:`canonical`. It is the
+        same word, and as here false by default, that ``i_shape_key`` in
+        PostgreSQL has.
     threads : int
         How many threads make the forms of a part of the rings each, at most
         as many as there are processors. The answer is the same.
@@ -159,7 +161,7 @@ def canonical_keys(points: npt.NDArray[Int], ring_offsets: npt.ArrayLike,
     >>> import numpy as np
     >>> from i_shape import canonical_keys
     >>> points = np.array([(0, 0), (4, 0), (4, 4),
-    ...                    (4, 4), (0, 0), (2, 0), (4, 0),
+    ...                    (4, 4), (4, 0), (2, 0), (0, 0),
     ...                    (0, 0), (9, 0), (0, 9)])
     >>> keys = canonical_keys(points, [0, 3, 7, 10])
     >>> keys[0] == keys[1], keys[0] == keys[2]
@@ -178,20 +180,20 @@ def canonical_keys(points: npt.NDArray[Int], ring_offsets: npt.ArrayLike,
     return _as_array(keys)
 
 
-def same_rings(a: Pair, b: Pair, *, oriented: bool = True,
+def same_rings(a: Pair, b: Pair, *, oriented: bool = False,
                threads: int = 1) -> npt.NDArray[np.intp]:
     """Return for each ring of one list where the same ring is in another.
 
-    Rings are the same where their canonical forms are equal, as
-    :func:`canonical_rings` returns them. A ring that collapses leaves
-    nothing, so all these are the same.
+    Rings are the same where their unoriented forms are equal, or with
+    ``oriented`` their canonical forms, as :func:`canonical_rings` returns
+    them. A ring that collapses leaves nothing, so all these are the same.
 
     Parameters
     ----------
     a, b : Rings, or a tuple (points, offsets)
         As for :func:`simplify_rings`. Their dtypes may differ.
     oriented : bool
-        False lets a ring be read backwards too.
+        True reads no ring backwards.
     threads : int
         As for :func:`canonical_keys`.
 

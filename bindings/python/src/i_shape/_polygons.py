@@ -246,7 +246,7 @@ def despike_polygons(points: npt.NDArray[Int], ring_offsets: npt.ArrayLike,
 
 def canonical_polygons(points: npt.NDArray[Int], ring_offsets: npt.ArrayLike,
                        polygon_offsets: npt.ArrayLike, *,
-                       oriented: bool = True, threads: int = 1) -> Polygons:
+                       oriented: bool = False, threads: int = 1) -> Polygons:
     """Return the canonical form of a list of polygons.
 
     The form of a polygon is the canonical form of its outer ring, and after
@@ -256,9 +256,9 @@ def canonical_polygons(points: npt.NDArray[Int], ring_offsets: npt.ArrayLike,
     points by x and then by y. A polygon without rings is its own form.
 
     Two lists have equal forms exactly where one becomes the other by these
-    moves: a ring is turned to another start, loses a zero turn or gains
-    one; holes or polygons are put in another order; a hole that collapses,
-    or a polygon whose outer ring does, goes or comes.
+    moves: a ring is turned to another start, is read backwards, loses a
+    zero turn or gains one; holes or polygons are put in another order; a
+    hole that collapses, or a polygon whose outer ring does, goes or comes.
 
     The answer is that of a proved call.
 
@@ -269,7 +269,7 @@ def canonical_polygons(points: npt.NDArray[Int], ring_offsets: npt.ArrayLike,
     polygon_offsets : array of shape (p + 1,), of whole numbers
         As for :func:`simplify_polygons`.
     oriented : bool
-        False lets a ring be read backwards too: its form is then the
+        True reads no ring backwards. Otherwise the form of each is the
         lesser of those of both ways.
     threads : int
         At least 1. One thread makes the form, however many are allowed.
@@ -293,7 +293,7 @@ def canonical_polygons(points: npt.NDArray[Int], ring_offsets: npt.ArrayLike,
     ...                    (1, 0), (0, 1), (0, 0)])
     >>> form = canonical_polygons(points, [0, 5, 8], [0, 1, 2])
     >>> form.points.tolist()
-    [[0, 0], [1, 0], [0, 1], [0, 0], [4, 0], [4, 4], [0, 4]]
+    [[0, 0], [0, 1], [1, 0], [0, 0], [0, 4], [4, 4], [4, 0]]
     >>> form.ring_offsets.tolist()
     [0, 3, 7]
     """
@@ -302,19 +302,19 @@ def canonical_polygons(points: npt.NDArray[Int], ring_offsets: npt.ArrayLike,
     return _clean_whole(canonical_cleaner(oriented), given)
 
 
-def same_polygons(a: Triple, b: Triple, *, oriented: bool = True,
+def same_polygons(a: Triple, b: Triple, *, oriented: bool = False,
                   threads: int = 1) -> bool:
     """Return whether two lists of polygons are the same.
 
-    They are where their canonical forms are equal, of which
-    :func:`canonical_polygons` tells.
+    They are where their unoriented forms are equal, or with ``oriented``
+    their canonical forms: see :func:`canonical_polygons`.
 
     Parameters
     ----------
     a, b : Polygons, or a tuple (points, ring_offsets, polygon_offsets)
         As for :func:`simplify_polygons`. Their dtypes may differ.
     oriented : bool
-        False lets a ring be read backwards too.
+        True reads no ring backwards.
     threads : int
         At least 1. With more, each of the two forms has a thread, if there
         is more than one processor.
@@ -337,9 +337,9 @@ def same_polygons(a: Triple, b: Triple, *, oriented: bool = True,
     >>> same_polygons(a, b)
     True
     >>> same_polygons(a, (b[0][::-1], *b[1:]))
-    False
-    >>> same_polygons(a, (b[0][::-1], *b[1:]), oriented=False)
     True
+    >>> same_polygons(a, (b[0][::-1], *b[1:]), oriented=True)
+    False
     """
     def form(place: int) -> Polygons:
         return canonical_polygons(*(a, b)[place], oriented=oriented)

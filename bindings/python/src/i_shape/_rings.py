@@ -219,7 +219,7 @@ def despike_rings(points: npt.NDArray[Int], offsets: npt.ArrayLike, *,
 
 
 def canonical_rings(points: npt.NDArray[Int], offsets: npt.ArrayLike, *,
-                    threads: int = 1, oriented: bool = True) -> Rings:
+                    threads: int = 1, oriented: bool = False) -> Rings:
     """Return the canonical form of each ring, as :func:`canonical` does.
 
     Parameters
@@ -229,8 +229,7 @@ def canonical_rings(points: npt.NDArray[Int], offsets: npt.ArrayLike, *,
     threads : int
         As for :func:`simplify_rings`.
     oriented : bool
-        False lets each ring be read backwards too, as for
-        :func:`canonical`.
+        True reads no ring backwards, as for :func:`canonical`.
 
     Returns
     -------
@@ -248,8 +247,8 @@ def canonical_rings(points: npt.NDArray[Int], offsets: npt.ArrayLike, *,
     >>> from i_shape import canonical_rings
     >>> points = np.array([(4, 4), (0, 4), (0, 0), (2, 0), (4, 0)])
     >>> canonical_rings(points, [0, 5]).points.tolist()
-    [[0, 0], [4, 0], [4, 4], [0, 4]]
-    >>> canonical_rings(points, [0, 5], oriented=False).points.tolist()
     [[0, 0], [0, 4], [4, 4], [4, 0]]
+    >>> canonical_rings(points, [0, 5], oriented=True).points.tolist()
+    [[0, 0], [4, 0], [4, 4], [0, 4]]
     """
     return clean_rings(canonical_cleaner(oriented), points, offsets, threads)

@@ -3,13 +3,12 @@
 from __future__ import annotations
 
 import hashlib
-from typing import Iterable
-
 from ..io import Grid, feature_keys, features_to_grid
 from .files import Pair
+from .report import Told
 
 
-def run(pair: Pair, grid: Grid, oriented: bool) -> Iterable[str]:
+def run(pair: Pair, grid: Grid, oriented: bool) -> Told:
     """Leave out features that equal one before, and answer the report."""
     firsts: dict[tuple[str, bytes], str] = {}
     count = 0
@@ -17,7 +16,7 @@ def run(pair: Pair, grid: Grid, oriented: bool) -> Iterable[str]:
     for block in pair.blocks():
         with block.naming():
             whole = features_to_grid(block.features, grid)
-        its: list[int] = []
+        its: set[int] = set()
         keys = feature_keys(whole, oriented=oriented)
         for place, (key, record) in enumerate(
                 zip(keys, block.polygon_records)):
@@ -25,9 +24,10 @@ def run(pair: Pair, grid: Grid, oriented: bool) -> Iterable[str]:
             digest = block.group, hashlib.sha256(key).digest()
             first = firsts.setdefault(digest, record.name)
             if key and first != record.name:
-                its.append(place)
+                its.add(place)
                 gone.append(f"gone: {record.name}, equal to {first}")
         count += len(keys)
         pair.write(block, gone=its)
-    return [f"features with polygons: {count} before,"
-            f" {count - len(gone)} after", *gone]
+    return Told([f"features with polygons: {count} before,"
+                 f" {count - len(gone)} after", *gone],
+                f"{len(gone)} of {count} features dropped")

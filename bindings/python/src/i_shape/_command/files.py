@@ -9,12 +9,13 @@ import shutil
 import stat
 import sys
 import tempfile
-from contextlib import contextmanager, nullcontext, suppress
+from contextlib import ExitStack, contextmanager, nullcontext, suppress
 from pathlib import Path
 from typing import (Any, BinaryIO, ContextManager, Iterator, Optional,
                     Sequence, TextIO, Union)
 
-from .geopackage import GeoPackage, copied
+from .geopackage import (GeoPackage, created, in_place, replaced,
+                         require_closed)
 from .text_files import TextPair
 
 LINES, GEOPACKAGE = "GeoJSON lines", "GeoPackage"
@@ -119,20 +120,63 @@ def replacing(path: Path) -> Iterator[Path]:
             _copy(beside, path)
 
 
+def _link(beside: Path, goal: Path) -> None:
+    """Give a new file its name, which no other may have got by now."""
+    try:
+        os.link(beside, goal)
+    except OSError as error:
+        if isinstance(error, FileExistsError) or os.path.lexists(goal):
+            raise FileExistsError(errno.EEXIST, os.strerror(errno.EEXIST),
+                                  str(goal)) from None
+        os.replace(beside, goal)  # the file system has no links
+
+
+@contextmanager
+def _making(path: Path) -> Iterator[Path]:
+    """A path of a new file, which takes a free path at the end.
+
+    Where something fails, nothing is there; where another program has made a
+    file there by then, that one stays, and that is an error.
+    """
+    require_closed(path)
+    goal = Path(os.path.realpath(path))
+    with _hidden_folder(goal.parent) as folder:
+        beside = folder / goal.name
+        yield beside
+        _store(beside)
+        require_closed(path)
+        _link(beside, goal)
+
+
+def _package(given: Path, out: Path, others: str, layers: Sequence[str],
+             last: ExitStack) -> GeoPackage:
+    """A GeoPackage, changed in place, or into the place of a file."""
+    words = others, layers
+    if given.exists() and out.exists() and given.samefile(out):
+        if os.path.realpath(given) != os.path.realpath(out):
+            raise OSError(f"{out}: it is a hard link to {given}")
+        return last.enter_context(in_place(out, *words))
+    if out.is_file():
+        goal = Path(os.path.realpath(out))
+        folder = last.enter_context(_hidden_folder(goal.parent))
+        return last.enter_context(
+            replaced(given, folder / goal.name, out, *words))
+    placed = replacing if out.exists() else _making
+    beside = last.enter_context(placed(out))
+    return last.enter_context(created(given, beside, out, *words))
+
+
 @contextmanager
 def opened(given: Path, out: Path, others: str, layers: Sequence[str],
            places: Optional[int] = None) -> Iterator[Pair]:
     """What is read and what is written, which takes its place at the end."""
     given_format, out_format = format_of(given), format_of(out)
     assert given_format and out_format
-    with replacing(out) as beside:
+    with ExitStack() as last:
         if given_format == GEOPACKAGE:
-            with copied(given, beside, out, others, layers) as package:
-                yield package
+            yield _package(given, out, others, layers, last)
             return
-        with _given_text(given) as text, open(
-                beside, "w", encoding="utf-8") as file:
-            pair = TextPair(text, given_format, file, out_format, others,
-                            places)
-            yield pair
-            pair.end()
+        beside = last.enter_context(replacing(out))
+        text = last.enter_context(_given_text(given))
+        file = last.enter_context(open(beside, "w", encoding="utf-8"))
+        yield TextPair(text, given_format, file, out_format, others, places)

@@ -1,6 +1,7 @@
-"""GeoPackages by the standard library's sqlite3: OUT is a copy of IN.
+"""GeoPackages by the standard library's sqlite3.
 
-Only the geometries that change are written into it.
+A run reads all features before it writes the geometries that change, in one
+transaction: of IN itself where OUT is IN, and else of a copy of IN.
 """
 
 from __future__ import annotations
@@ -23,19 +24,38 @@ from .progress import track
 _POLYGONS = {"GEOMETRY", "GEOMETRYCOLLECTION", "SURFACE", "CURVEPOLYGON",
              "POLYGON", "MULTISURFACE", "MULTIPOLYGON"}
 _ENVELOPES = (0, 32, 48, 48, 64)  # bytes
-_PATIENCE = 5.0  # seconds to wait for a file that another program writes
+_PATIENCE = 5.0  # seconds to wait for a file that another program locks
+_OPERATIONS = 100_000  # of SQLite's, after which a signal may end a statement
+_PAGES = 4096  # of a file that is copied, after which a signal may end it
+_GROWTH = 4, 1 << 26  # how many times its size, and bytes more, a file may get
+_CACHE = 1 << 18  # KiB of changed pages before SQLite locks readers out
+_BUSY = 5  # SQLite's code for a file that another program locks
 _BOXES, _EMPTY, _EXTENDED = 0x0e, 0x10, 0x20
 _NUMBERS = (struct.Struct(">d").unpack_from, struct.Struct("<d").unpack_from)
 _FULL_HEAD, _EMPTY_HEAD = b"GP\0\3", b"GP\0\x11"  # with a box; without one
 
 
+def _quoted(name: str) -> str:
+    return '"' + name.replace('"', '""') + '"'
+
+
 class Layer(NamedTuple):
-    """A table of features."""
+    """A table of features, and the number of that of its changes."""
 
     name: str
     column: str
     fid: str
     srs: int
+    number: int
+
+    @property
+    def table(self) -> str:
+        return f"main.{_quoted(self.name)}"
+
+    @property
+    def changes(self) -> str:
+        """The table of the new geometry of each FID, or none if it goes."""
+        return f"temp.changes_{self.number}"
 
 
 class Row(NamedTuple):
@@ -148,20 +168,16 @@ def _is_same(wkb: bytes, new: bytes) -> bool:
                           and to_wkb(from_wkb([wkb]))[0] == new)
 
 
-def _changed(rows: Sequence[Row],
-             left: Features) -> Iterator[tuple[bytes, int]]:
-    """The new blob and the fid of each row whose geometry changes."""
+def _changed(rows: Sequence[Row], left: Features,
+             gone: Collection[int]) -> Iterator[tuple[bytes, int]]:
+    """The new blob and the fid of each row that stays and changes."""
     are_full, boxes = _boxes(left)
     for place, (row, new) in enumerate(zip(rows, _wkb.blobs_of(left))):
-        if not _is_same(row.wkb, new):
+        if place not in gone and not _is_same(row.wkb, new):
             srs = struct.pack("<i", row.layer.srs)
             box = boxes[32 * place:32 * place + 32]
             yield (_FULL_HEAD + srs + box + new if are_full[place]
                    else _EMPTY_HEAD + srs + new), row.fid
-
-
-def _quoted(name: str) -> str:
-    return '"' + name.replace('"', '""') + '"'
 
 
 @contextmanager
@@ -175,55 +191,66 @@ def _naming(path: Path, what: str = "") -> Iterator[None]:
 
 
 class GeoPackage:
-    """A GeoPackage that is read, and its copy, which is written into."""
+    """A GeoPackage within a transaction, which is read and then written.
 
-    def __init__(self, given: Path, source: sqlite3.Connection, out: Path,
-                 store: sqlite3.Connection, others: str,
-                 layers: Sequence[str]) -> None:
-        self._given, self._source = given, source
-        self._out, self._store = out, store
+    Changes wait in temporary tables, which no SQL of the file can see. So
+    what triggers do to later rows changes nothing that is still to be read.
+    """
+
+    def __init__(self, given: Path, out: Path, store: sqlite3.Connection,
+                 others: str, layers: Sequence[str]) -> None:
+        self._given, self._out, self._store = given, out, store
         self._others = others
+        _add_functions(store)
         with _naming(given, "it is no GeoPackage: "):
             self._layers = self._found_layers(layers)
+        with _naming(out):
+            for layer in self._layers:
+                store.execute(f"CREATE TABLE {layer.changes} (fid, blob)")
 
     def _found_layers(self, names: Sequence[str]) -> list[Layer]:
         """The layers of these names, or those that may have polygons."""
-        rows = self._source.execute(
+        rows = self._store.execute(
             "SELECT table_name, column_name, srs_id,"
-            " upper(geometry_type_name) FROM gpkg_geometry_columns"
+            " upper(geometry_type_name) FROM main.gpkg_geometry_columns"
         ).fetchall()
         strange = set(names) - {row[0] for row in rows}
         if strange:
             raise ValueError(
                 f"there is no layer {min(strange)!r}: those there are"
                 f" {', '.join(short(row[0]) for row in rows)}")
-        return [self._layer(name, column, srs)
-                for name, column, srs, kind in rows
-                if name in names or not names and kind in _POLYGONS]
+        return [self._layer(number, *row[:3]) for number, row
+                in enumerate(rows)
+                if row[0] in names or not names and row[3] in _POLYGONS]
 
-    def _layer(self, name: Any, column: Any, srs: Any) -> Layer:
+    def _layer(self, number: int, name: Any, column: Any,
+               srs: Any) -> Layer:
         if [type(one) for one in (name, column, srs)] != [str, str, int]:
             raise ValueError(f"layer {short(name)} has column"
                              f" {short(column)} and SRS {short(srs)}")
-        kind = self._source.execute(
-            "SELECT type FROM sqlite_master WHERE name = ? COLLATE NOCASE"
-            " AND type IN ('table', 'view')", (name,)).fetchone()
+        kind = self._store.execute(
+            "SELECT type FROM main.sqlite_master WHERE name = ?"
+            " COLLATE NOCASE AND type IN ('table', 'view')",
+            (name,)).fetchone()
         if kind != ("table",):
             raise ValueError(f"layer {name!r} is "
                              + ("a view, which isn't written to: name others"
                                 " by --layer" if kind else "no table"))
-        keys = self._source.execute(
+        keys = self._store.execute(
             "SELECT name, upper(type) FROM pragma_table_info(?) WHERE pk > 0",
             (name,)).fetchall()
         if len(keys) != 1 or keys[0][1] != "INTEGER":
             raise ValueError(f"layer {name!r} has no integer primary key")
-        return Layer(name, column, keys[0][0], srs)
+        return Layer(name, column, keys[0][0], srs, number)
 
     def _rows(self, layer: Layer) -> Iterator[Row]:
         with _naming(self._given, f"layer {layer.name!r}: "):
-            for fid, blob in self._source.execute(
+            for fid, blob in self._store.execute(
                     f"SELECT {_quoted(layer.fid)}, {_quoted(layer.column)}"
-                    f" FROM {_quoted(layer.name)} ORDER BY 1"):
+                    f" FROM {layer.table} ORDER BY 1"):
+                if fid is None:
+                    raise ValueError(f"layer {layer.name!r} has a feature"
+                                     " without a key")
                 yield Row(layer, fid, blob)
 
     def blocks(self) -> Iterator[Block]:
@@ -233,67 +260,214 @@ class GeoPackage:
 
     def write(self, block: Block, left: Optional[Features] = None,
               gone: Collection[int] = ()) -> None:
-        """Write what is left of a block's features where it differs.
+        """Note what is left of a block's features where it differs.
 
-        Features that are gone, and dropped ones, are deleted.
+        Features that are gone, and dropped ones, are to be deleted.
         """
         rows = block.polygon_records
         deleted = block.dropped + [rows[place] for place in gone]
-        changed = [] if left is None else list(_changed(rows, left))
-        if not changed and not deleted:
+        changes: list[tuple[Optional[bytes], int]] = [
+            (None, row.fid) for row in deleted]
+        if left is not None:
+            changes += _changed(rows, left, gone)
+        if not changes:
             return
         layer = (block.records + deleted)[0].layer
-        table, fid = _quoted(layer.name), _quoted(layer.fid)
-        with _naming(self._out, f"layer {layer.name!r}: "):
-            self._change(f"UPDATE {table} SET {_quoted(layer.column)} = ?"
-                         f" WHERE {fid} = ?", changed)
-            self._change(f"DELETE FROM {table} WHERE {fid} = ?",
-                         [(row.fid,) for row in deleted])
-            self._store.execute(
-                "UPDATE gpkg_contents SET last_change ="
+        with _naming(self._out):
+            self._store.executemany(f"INSERT INTO {layer.changes}"
+                                    " (blob, fid) VALUES (?, ?)", changes)
+
+    def end(self) -> None:
+        """Write what has been noted, and require that it is there then."""
+        for layer in self._layers:
+            with _naming(self._out, f"layer {layer.name!r}: "):
+                self._change(layer)
+        for layer in self._layers:
+            self._require_changed(layer)
+
+    def _change(self, layer: Layer) -> None:
+        """Write the changes of a layer."""
+        execute, many = self._store.execute, self._store.executemany
+        if not execute(f"SELECT 1 FROM {layer.changes}").fetchone():
+            return
+        fid, column = _quoted(layer.fid), _quoted(layer.column)
+        many(f"UPDATE {layer.table} SET {column} = ? WHERE {fid} = ?",
+             track(execute(f"SELECT blob, fid FROM {layer.changes}"
+                           " WHERE blob NOT NULL"),
+                   f"changes of {layer.name}"))
+        many(f"DELETE FROM {layer.table} WHERE {fid} = ?",
+             execute(f"SELECT fid FROM {layer.changes} WHERE blob IS NULL"))
+        execute("UPDATE main.gpkg_contents SET last_change ="
                 " strftime('%Y-%m-%dT%H:%M:%fZ', 'now')"
                 " WHERE table_name = ?", (layer.name,))
 
-    def _change(self, words: str, values: Sequence[Any]) -> None:
-        """Run a statement for each of the values, which changes a row."""
-        count = self._store.executemany(words, values).rowcount
-        if count != len(values):
-            raise sqlite3.Error("a trigger keeps rows as they are, or they"
-                                " have no key")
+    def _require_changed(self, layer: Layer) -> None:
+        """Refuse a row that isn't as written, as a trigger may change it."""
+        fid, column = (f"row.{_quoted(name)}"
+                       for name in (layer.fid, layer.column))
+        with _naming(self._out, f"layer {layer.name!r}: "):
+            kept = self._store.execute(
+                f"SELECT change.fid FROM {layer.changes} AS change"
+                f" LEFT JOIN {layer.table} AS row ON {fid} = change.fid"
+                f" WHERE ({fid} IS NULL) <> (change.blob IS NULL)"
+                f" OR {column} IS NOT change.blob").fetchone()
+        if kept:
+            raise OSError(f"{self._out}: layer {layer.name!r}, fid {kept[0]}:"
+                          " a trigger undid or changed what was written")
 
 
-def _require_closed(out: Path) -> None:
-    """Refuse to replace a file that has a log: another program writes it."""
-    for end in ("-wal", "-journal"):
+def _connected(path: Path, mode: str = "rw") -> sqlite3.Connection:
+    """A file, whose statements a signal may end.
+
+    Without the right to write, an IN that is only read would keep the files
+    of a write-ahead log.
+    """
+    with _naming(path):
+        store = sqlite3.connect(
+            f"{path.absolute().as_uri()}?mode={mode}", uri=True,
+            timeout=_PATIENCE, isolation_level=None)
+    # Python runs the handlers of signals only where it runs code of its own.
+    store.set_progress_handler(lambda: None, _OPERATIONS)
+    return store
+
+
+def _pragma(store: sqlite3.Connection, name: str) -> Any:
+    return store.execute(f"PRAGMA {name}").fetchone()[0]
+
+
+def _bound_growth(store: sqlite3.Connection) -> None:
+    """Refuse to write very much more than there is, as triggers may."""
+    times, more = _GROWTH
+    most = (times * _pragma(store, "page_count")
+            + more // _pragma(store, "page_size"))
+    store.execute(f"PRAGMA max_page_count = {most}")
+
+
+def _bring(source: sqlite3.Connection, goal: sqlite3.Connection) -> None:
+    """Make a database a copy of another, in one transaction."""
+    def ask(status: int, *_: int) -> None:
+        if status == _BUSY:  # for as long as the connection has patience
+            raise sqlite3.OperationalError("database is locked")
+
+    source.backup(goal, pages=_PAGES, progress=ask)
+
+
+def _require_exists(path: Path) -> None:
+    with open(path, "rb"):
+        pass  # an error names what isn't there
+
+
+class _Identity(NamedTuple):
+    """What a file keeps where it is moved."""
+
+    device: int
+    number: int
+
+    @classmethod
+    def of(cls, path: Path) -> _Identity:
+        its = os.stat(path)
+        return cls(its.st_dev, its.st_ino)
+
+    def require(self, path: Path) -> None:
+        """Refuse to write a file whose path no longer names it.
+
+        In WAL mode, SQLite doesn't ask, and its log would stay beside
+        another file.
+        """
+        try:
+            is_there = self == _Identity.of(path)
+        except FileNotFoundError:
+            is_there = False
+        if not is_there:
+            raise OSError(f"{path}: it was moved, deleted or replaced"
+                          " meanwhile")
+
+
+def require_closed(out: Path) -> None:
+    """Refuse a new file where the logs of another are, which it would get."""
+    for end in ("-wal", "-shm", "-journal"):
         log = Path(os.path.realpath(out) + end)
-        if log.exists() and log.stat().st_size:
+        if log.exists() and (end != "-journal" or log.stat().st_size):
             raise OSError(f"{out}: {log.name} beside it says that another"
                           " program writes it, or was stopped then")
 
 
 @contextmanager
-def copied(given: Path, beside: Path, out: Path, others: str,
-           layers: Sequence[str]) -> Iterator[GeoPackage]:
-    """A GeoPackage, and a copy of it that is to take the place of another."""
-    _require_closed(out)
-    with open(given, "rb"):
-        pass  # an error names what isn't there
-    # It is only read. A connection that may not write would leave the files of
-    # a write-ahead log behind.
-    with closing(sqlite3.connect(
-            f"{given.absolute().as_uri()}?mode=rw", uri=True,
-            timeout=_PATIENCE, isolation_level=None)) as source, closing(
-            sqlite3.connect(beside, isolation_level=None)) as store:
-        with _naming(given):
-            # Nobody writes while it is read: a backup waits for its end.
+def _copied(given: Path, beside: Path,
+            out: Path) -> Iterator[tuple[sqlite3.Connection, str]]:
+    """A copy of a GeoPackage within a transaction, and IN's journal mode."""
+    _require_exists(given)
+    with closing(_connected(beside, "rwc")) as store:
+        with closing(_connected(given)) as source, _naming(given):
+            # Nobody writes while it is read: a backup would begin again.
             source.execute("BEGIN")
+            mode: str = _pragma(source, "journal_mode")
             source.execute("SELECT count(*) FROM sqlite_master").fetchone()
+            with _naming(out):
+                _bring(source, store)
         with _naming(out):
-            source.backup(store)
             store.execute("PRAGMA journal_mode = off")
             store.execute("PRAGMA synchronous = off")
+            _bound_growth(store)
             store.execute("BEGIN")
-        _add_functions(store)
-        yield GeoPackage(given, source, out, store, others, layers)
+        yield store, mode
+
+
+@contextmanager
+def created(given: Path, beside: Path, out: Path, others: str,
+            layers: Sequence[str]) -> Iterator[GeoPackage]:
+    """A GeoPackage whose copy is to become a new file, or goes to a device."""
+    with _copied(given, beside, out) as (store, mode):
+        yield GeoPackage(given, out, store, others, layers)
         with _naming(out):
             store.execute("COMMIT")
+            store.execute(f"PRAGMA journal_mode = {mode}")
+
+
+@contextmanager
+def replaced(given: Path, beside: Path, out: Path, others: str,
+             layers: Sequence[str]) -> Iterator[GeoPackage]:
+    """A GeoPackage whose copy SQLite brings into a file at the end.
+
+    So its locks hold, and other programs that have the file open go on.
+    """
+    identity = _Identity.of(out)
+    with closing(_connected(out)) as goal:
+        with _naming(out):
+            mode = _pragma(goal, "journal_mode")
+            size = _pragma(goal, "page_size")
+        with _copied(given, beside, out) as (store, _):
+            if mode == "wal" and size != _pragma(store, "page_size"):
+                raise OSError(f"{out}: its pages have {size} bytes, which"
+                              " can't change in WAL mode")
+            yield GeoPackage(given, out, store, others, layers)
+            with _naming(out):
+                store.execute("COMMIT")
+                identity.require(out)
+                _bring(store, goal)
+
+
+@contextmanager
+def in_place(path: Path, others: str,
+            layers: Sequence[str]) -> Iterator[GeoPackage]:
+    """A GeoPackage that is changed in place, in one transaction."""
+    _require_exists(path)
+    identity = _Identity.of(path)
+    with closing(_connected(path)) as store:
+        with _naming(path):
+            # Changed pages that no longer fit lock readers out, or wait in
+            # memory while they read; without patience, they don't wait long.
+            store.execute(f"PRAGMA cache_size = {-_CACHE}")
+            store.execute("BEGIN IMMEDIATE")
+            store.execute("PRAGMA busy_timeout = 0")
+            _bound_growth(store)
+        try:
+            yield GeoPackage(path, path, store, others, layers)
+            with _naming(path):
+                store.execute(f"PRAGMA busy_timeout = {1000 * _PATIENCE:.0f}")
+                identity.require(path)
+                store.execute("COMMIT")
+        finally:
+            if store.in_transaction:
+                with _naming(path):
+                    store.execute("ROLLBACK")

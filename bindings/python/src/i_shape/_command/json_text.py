@@ -123,7 +123,8 @@ def _strange_name(text: str, at: int) -> tuple[str, int, int]:
     name, at = scan(text, start)
     colon = _COLON(text, at)
     if not colon:
-        raise json.JSONDecodeError("Expecting ':' delimiter", text, at)
+        raise json.JSONDecodeError("Expecting ':' delimiter", text,
+                                   skip(text, at))
     return name, start, colon.end()
 
 
@@ -242,10 +243,17 @@ class Pieces:
         self._at = 0
         return True
 
-    def _is_sure(self, error: json.JSONDecodeError) -> bool:
+    def _is_sure(self, place: int) -> bool:
+        """Whether what follows gives no other meaning to what ends here.
+
+        A number may go on behind the end of what is held.
+        """
+        return place < len(self._text) - _UNSURE
+
+    def _is_fault(self, error: json.JSONDecodeError) -> bool:
         """Whether what follows can't mend an error."""
         return (not error.msg.startswith("Unterminated")
-                and error.pos < len(self._text) - _UNSURE)
+                and self._is_sure(error.pos))
 
     def _placed(self, error: json.JSONDecodeError) -> ValueError:
         """The error with its place in the whole text."""
@@ -260,10 +268,10 @@ class Pieces:
             try:
                 item, end = parsed(parse, self._text, self._at)
             except json.JSONDecodeError as error:
-                if self._is_sure(error) or not self._more():
+                if self._is_fault(error) or not self._more():
                     raise self._placed(error) from None
             else:
-                if end < len(self._text) or not self._more():
+                if self._is_sure(end) or not self._more():
                     self._at = end
                     return item
 

@@ -3,7 +3,7 @@
 from __future__ import annotations
 
 import math
-from typing import Iterator, Sequence, TypeVar
+from typing import Iterable, Iterator, NamedTuple, Sequence, TypeVar
 
 import numpy as np
 
@@ -13,6 +13,13 @@ from ..io import Features, Grid
 from .blocks import Block
 
 Number = TypeVar("Number", int, float)
+
+
+class Told(NamedTuple):
+    """The lines of the report, and what is always said at the end."""
+
+    lines: Iterable[str]
+    last: str
 
 
 def _are_outer(features: Features) -> Array:
@@ -32,12 +39,14 @@ def _float_areas(features: Features, step: float) -> list[float]:
     if not len(full):
         return []
     starts = ends[:-1][full]
-    moved = (points - np.repeat(points[starts], lengths[full], axis=0)) / step
     following = np.arange(1, len(points) + 1)
     following[ends[1:][full] - 1] = starts
-    after = moved[following]
-    areas[full] = np.add.reduceat(
-        moved[:, 0] * after[:, 1] - moved[:, 1] * after[:, 0], starts)
+    firsts = np.repeat(points[starts], lengths[full], axis=0)
+    with np.errstate(over="ignore", invalid="ignore"):
+        moved = (points - firsts) / step
+        after = moved[following]
+        areas[full] = np.add.reduceat(
+            moved[:, 0] * after[:, 1] - moved[:, 1] * after[:, 0], starts)
     return list(areas.tolist())
 
 

@@ -14,6 +14,7 @@ from .progress import track
 _FRAMES = tuple(
     (f'{FEATURE[0]}{{"type": "{kind}", "coordinates": ', f"}}{FEATURE[1]}")
     for kind in ("Polygon", "MultiPolygon"))
+_COLLECTION = '{"type": "FeatureCollection", "features": [\n', "\n]}\n"
 
 
 def _wkt_records(file: TextIO) -> Iterator[Record]:
@@ -86,21 +87,28 @@ class TextPair:
 
     def _put(self, text: str) -> None:
         if self._out_format == "GeoJSON":
-            self._out.write(",\n" if self._is_begun else self._head())
+            self._out.write(",\n" if self._is_begun else self._frame()[0])
             self._out.write(text)
             self._is_begun = True
         else:
             self._out.write(text.replace("\n", " ") + "\n")
 
-    def _head(self) -> str:
+    def _frame(self) -> tuple[str, str]:
+        """What stands before the features, and behind them."""
         if self._document:
-            return self._document.head
-        return '{"type": "FeatureCollection", "features": [\n'
+            return self._document.head, self._document.tail
+        return _COLLECTION
 
     def end(self) -> None:
-        """Write what stands behind the features."""
+        """Write what stands behind the features.
+
+        Where the lone feature of a document is dropped, an empty collection
+        is left.
+        """
         if self._out_format == "GeoJSON":
-            self._out.write("" if self._is_begun else self._head())
-            self._out.write(self._document.tail if self._document
-                            else "\n]}\n")
+            head, tail = self._frame()
+            if not self._is_begun:
+                head, tail = (head, tail) if head else _COLLECTION
+                self._out.write(head)
+            self._out.write(tail)
         self._out.flush()

@@ -2,6 +2,7 @@
 
 from __future__ import annotations
 
+from functools import partial
 from typing import Callable, NamedTuple
 
 import numpy as np
@@ -12,6 +13,7 @@ from .._library import Array
 from .._polygons import (Polygons, canonical_polygons, left_polygons,
                          which_left)
 from .._rings import Rings, canonical_rings, despike_rings, simplify_rings
+from ._collapse import check_collapsed, require_uncollapsed
 from ._features import Features, as_features
 
 Cleaner = Callable[..., Rings]
@@ -41,7 +43,7 @@ def clean(features: Features, cleaner: Cleaner, threads: int = 1) -> Cleaned:
         np.diff(rings.offsets) == 0)
 
 
-def in_order(features: Features, oriented: bool = True) -> Features:
+def _in_order(features: Features, oriented: bool) -> Features:
     """Put the rings and polygons of each feature in canonical order.
 
     Their rings are canonical already, so that only a feature with several
@@ -63,18 +65,40 @@ def in_order(features: Features, oriented: bool = True) -> Features:
     return features._replace(polygons=Polygons(points, ends, parts))
 
 
-def simplify_features(features: Features, *, threads: int = 1) -> Features:
+def forms(features: Features, oriented: bool, threads: int = 1) -> Cleaned:
+    """The canonical form of each feature, and which rings collapsed."""
+    cleaned = clean(features, partial(canonical_rings, oriented=oriented),
+                    threads)
+    return cleaned._replace(features=_in_order(cleaned.features, oriented))
+
+
+def _left(features: Features, collapsed: str,
+          cleaned: Callable[[Features], Cleaned]) -> Features:
+    """What is left of features, or an error where that is nothing of one."""
+    check_collapsed(collapsed)
+    features = as_features(features)
+    left = cleaned(features).features
+    if collapsed == "raise":
+        require_uncollapsed(features, left)
+    return left
+
+
+def simplify_features(features: Features, *, collapsed: str = "raise",
+                      threads: int = 1) -> Features:
     """Return each feature without the zero turns of its rings.
 
     A hole that collapses is left out, and so is a polygon whose outer ring
-    does. A feature of which nothing is left is empty and keeps its place.
-    Where polygons share a border, one may lose a vertex on it that the
+    does. Where polygons share a border, one may lose a vertex on it that the
     other keeps: :func:`despike_features` keeps both.
 
     Parameters
     ----------
     features : Features
         Of whole numbers, as :func:`features_to_grid` answers them.
+    collapsed : "raise" or "empty"
+        What becomes of a feature that has points and of which nothing is
+        left: an error, as where the step was given in another unit than the
+        coordinates, or an empty feature, which keeps its place.
     threads : int
         As for :func:`i_shape.simplify_rings`.
 
@@ -85,9 +109,14 @@ def simplify_features(features: Features, *, threads: int = 1) -> Features:
 
     Raises
     ------
+    FeatureError
+        A feature collapses and ``collapsed`` is "raise": ``feature`` is the
+        first one, and the message says how many do. Also as :func:`to_wkt`
+        does.
     UnsafePointError, TypeError, ValueError, MemoryError
-        As :func:`i_shape.simplify_rings` does.
-    OffsetsError, FeatureError
+        As :func:`i_shape.simplify_rings` does. A ValueError is also raised
+        where ``collapsed`` is another word.
+    OffsetsError
         As :func:`to_wkt` does.
 
     Examples
@@ -96,13 +125,16 @@ def simplify_features(features: Features, *, threads: int = 1) -> Features:
     ...                         simplify_features, to_wkt)
     >>> features = from_wkt(["POLYGON ((0 0, 2 0, 4 0, 4 4, 0 0))",
     ...                      "POLYGON ((0 0, 4 0, 8 0, 0 0))"])
-    >>> to_wkt(simplify_features(features_to_grid(features, Grid(1))))
+    >>> whole = features_to_grid(features, Grid(1))
+    >>> to_wkt(simplify_features(whole, collapsed="empty"))
     ['POLYGON ((0 0, 4 0, 4 4, 0 0))', 'POLYGON EMPTY']
     """
-    return clean(features, simplify_rings, threads).features
+    return _left(features, collapsed, lambda its: clean(
+        its, simplify_rings, threads))
 
 
-def despike_features(features: Features, *, threads: int = 1) -> Features:
+def despike_features(features: Features, *, collapsed: str = "raise",
+                     threads: int = 1) -> Features:
     """Return each feature without the back points of its rings.
 
     These are repeated points and spikes. Vertices that lie on an edge stay,
@@ -113,6 +145,7 @@ def despike_features(features: Features, *, threads: int = 1) -> Features:
     Parameters
     ----------
     features : Features
+    collapsed : "raise" or "empty"
     threads : int
         As for :func:`simplify_features`.
 
@@ -136,10 +169,12 @@ def despike_features(features: Features, *, threads: int = 1) -> Features:
     >>> to_wkt(despike_features(features_to_grid(spiked, Grid(1))))
     ['POLYGON ((0 0, 2 0, 4 0, 4 4, 0 0))']
     """
-    return clean(features, despike_rings, threads).features
+    return _left(features, collapsed, lambda its: clean(
+        its, despike_rings, threads))
 
 
-def canonical_features(features: Features, *, threads: int = 1) -> Features:
+def canonical_features(features: Features, *, collapsed: str = "raise",
+                       oriented: bool = False, threads: int = 1) -> Features:
     """Return the canonical form of each feature.
 
     It is the form of the list of its polygons, as
@@ -148,6 +183,11 @@ def canonical_features(features: Features, *, threads: int = 1) -> Features:
     Parameters
     ----------
     features : Features
+    collapsed : "raise" or "empty"
+        As for :func:`simplify_features`.
+    oriented : bool
+        True reads no ring backwards, as for
+        :func:`i_shape.canonical_polygons`.
     threads : int
         As for :func:`simplify_features`.
 
@@ -167,14 +207,15 @@ def canonical_features(features: Features, *, threads: int = 1) -> Features:
     --------
     >>> from i_shape.io import (Grid, canonical_features, features_to_grid,
     ...                         from_wkt, to_wkt)
-    >>> turned = from_wkt(["POLYGON ((4 4, 0 0, 2 0, 4 0, 4 4))"])
+    >>> turned = from_wkt(["POLYGON ((4 4, 4 0, 2 0, 0 0, 4 4))"])
     >>> to_wkt(canonical_features(features_to_grid(turned, Grid(1))))
     ['POLYGON ((0 0, 4 0, 4 4, 0 0))']
     """
-    return in_order(clean(features, canonical_rings, threads).features)
+    return _left(features, collapsed, lambda its: forms(
+        its, oriented, threads))
 
 
-def feature_keys(features: Features, *, oriented: bool = True,
+def feature_keys(features: Features, *, oriented: bool = False,
                  threads: int = 1) -> npt.NDArray[np.object_]:
     """Return a key of each feature.
 
@@ -188,8 +229,7 @@ def feature_keys(features: Features, *, oriented: bool = True,
     features : Features
         Of whole numbers, as :func:`features_to_grid` answers them.
     oriented : bool
-        False lets each ring be read backwards too, as for
-        :func:`i_shape.canonical_keys`.
+        True reads no ring backwards, as for :func:`canonical_features`.
     threads : int
         As for :func:`i_shape.simplify_rings`.
 
@@ -211,16 +251,15 @@ def feature_keys(features: Features, *, oriented: bool = True,
     --------
     >>> from i_shape.io import Grid, feature_keys, features_to_grid, from_wkt
     >>> features = from_wkt(["POLYGON ((0 0, 4 0, 4 4, 0 0))",
-    ...                      "MULTIPOLYGON (((4 4, 0 0, 2 0, 4 0, 4 4)))"])
+    ...                      "MULTIPOLYGON (((4 4, 4 0, 2 0, 0 0, 4 4)))"])
     >>> one, other = feature_keys(features_to_grid(features, Grid(1)))
     >>> one == other
     True
     """
-    left = clean(features, canonical_rings, threads).features
-    forms = in_order(left, oriented)
-    keys = canonical_keys(*forms.polygons, oriented=oriented, threads=threads)
-    keys[np.diff(forms.polygons.polygon_offsets) == 0] = b""
-    ends = forms.feature_offsets.tolist()
+    left = forms(features, oriented, threads).features
+    keys = canonical_keys(*left.polygons, oriented=oriented, threads=threads)
+    keys[np.diff(left.polygons.polygon_offsets) == 0] = b""
+    ends = left.feature_offsets.tolist()
     joined = np.empty(len(ends) - 1, object)
     joined[:] = [b"".join(keys[start:end])
                  for start, end in zip(ends, ends[1:])]

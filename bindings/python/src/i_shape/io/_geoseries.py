@@ -2,6 +2,7 @@
 
 from __future__ import annotations
 
+from functools import partial
 from typing import Any, Callable, Union
 
 import numpy as np
@@ -10,6 +11,7 @@ from .._library import Array
 from ._builder import short
 from ._cleaners import (canonical_features, despike_features,
                         simplify_features)
+from ._collapse import check_collapsed, require_uncollapsed
 from ._features import FeatureError, Features
 from ._grid import Grid, features_from_grid, features_to_grid
 from ._shapely import fault_of, from_shapely, to_shapely
@@ -30,18 +32,22 @@ def _places(geometries: Any, others: str) -> Array:
 
 
 def _cleaned(series: Any, step: Union[float, Grid],
-             cleaner: Callable[..., Features], others: str,
-             threads: int) -> Any:
+             cleaner: Callable[..., Features], collapsed: str,
+             others: str) -> Any:
     import geopandas
     if not isinstance(series, geopandas.GeoSeries):
         raise TypeError("a GeoSeries is needed, as frame.geometry, not a"
                         f" {type(series).__name__}")
+    check_collapsed(collapsed)
     grid = step if isinstance(step, Grid) else Grid(step)
     answer = series.array.copy()
     places = _places(answer, others)
     try:
         whole = features_to_grid(from_shapely(answer[places]), grid)
-        left = features_from_grid(cleaner(whole, threads=threads), grid)
+        left = cleaner(whole, collapsed="empty")
+        if collapsed == "raise":
+            require_uncollapsed(whole, left, "polygons")
+        left = features_from_grid(left, grid)
     except FeatureError as error:
         assert error.feature is not None
         raise error.of(int(places[error.feature])) from None
@@ -51,7 +57,8 @@ def _cleaned(series: Any, step: Union[float, Grid],
 
 
 def simplify_geoseries(series: Any, step: Union[float, Grid], *,
-                       others: str = "raise", threads: int = 1) -> Any:
+                       collapsed: str = "raise", others: str = "raise",
+                       threads: int = 1) -> Any:
     """Return a GeoSeries whose polygons are rounded onto a grid and cleaned.
 
     Each is what :func:`simplify_features` leaves of it. Where neighbours
@@ -64,6 +71,10 @@ def simplify_geoseries(series: Any, step: Union[float, Grid], *,
     step : float or Grid
         How far neighbours on the grid are apart, in the unit of the
         series, or the grid.
+    collapsed : "raise" or "empty"
+        What becomes of a geometry that isn't empty and of which nothing is
+        left: an error, as where ``step`` is in another unit than the series,
+        or an empty geometry, which keeps its place.
     others : "raise" or "keep"
         What becomes of a geometry that is no Polygon or MultiPolygon, or
         has three coordinates a point. None stays in either case.
@@ -73,17 +84,17 @@ def simplify_geoseries(series: Any, step: Union[float, Grid], *,
     Returns
     -------
     geopandas.GeoSeries
-        With the same index, name and CRS. One of which nothing is left is
-        empty and keeps its place.
+        With the same index, name and CRS.
 
     Raises
     ------
     ImportError
         There is no geopandas.
     FeatureError
-        A geometry is another one and ``others`` is "raise", or a coordinate
-        isn't finite or is too far from the origin. ``feature`` is its place
-        in the series, from 0 on, whatever the index is.
+        A geometry is another one and ``others`` is "raise", one collapses
+        and ``collapsed`` is "raise", or a coordinate isn't finite or is too
+        far from the origin. ``feature`` is the first place of such a one in
+        the series, from 0 on, whatever the index is.
     TypeError
         ``series`` is no GeoSeries; neither is a frame.
     ValueError, TypeError, MemoryError
@@ -95,11 +106,13 @@ def simplify_geoseries(series: Any, step: Union[float, Grid], *,
     >>> def cleaned(frame):
     ...     return frame.set_geometry(simplify_geoseries(frame.geometry, 1e-7))
     """
-    return _cleaned(series, step, simplify_features, others, threads)
+    return _cleaned(series, step, partial(
+        simplify_features, threads=threads), collapsed, others)
 
 
 def despike_geoseries(series: Any, step: Union[float, Grid], *,
-                      others: str = "raise", threads: int = 1) -> Any:
+                      collapsed: str = "raise", others: str = "raise",
+                      threads: int = 1) -> Any:
     """Return a GeoSeries whose polygons are rounded and have no spikes.
 
     Each is what :func:`despike_features` leaves of it.
@@ -108,6 +121,7 @@ def despike_geoseries(series: Any, step: Union[float, Grid], *,
     ----------
     series : geopandas.GeoSeries
     step : float or Grid
+    collapsed : "raise" or "empty"
     others : "raise" or "keep"
     threads : int
         As for :func:`simplify_geoseries`.
@@ -128,10 +142,12 @@ def despike_geoseries(series: Any, step: Union[float, Grid], *,
     >>> def without_spikes(frame):
     ...     return frame.set_geometry(despike_geoseries(frame.geometry, 1e-7))
     """
-    return _cleaned(series, step, despike_features, others, threads)
+    return _cleaned(series, step, partial(
+        despike_features, threads=threads), collapsed, others)
 
 
 def canonical_geoseries(series: Any, step: Union[float, Grid], *,
+                        collapsed: str = "raise", oriented: bool = False,
                         others: str = "raise", threads: int = 1) -> Any:
     """Return a GeoSeries of the canonical forms of its rounded polygons.
 
@@ -141,6 +157,10 @@ def canonical_geoseries(series: Any, step: Union[float, Grid], *,
     ----------
     series : geopandas.GeoSeries
     step : float or Grid
+    collapsed : "raise" or "empty"
+        As for :func:`simplify_geoseries`.
+    oriented : bool
+        True reads no ring backwards, as for :func:`canonical_features`.
     others : "raise" or "keep"
     threads : int
         As for :func:`simplify_geoseries`.
@@ -161,4 +181,6 @@ def canonical_geoseries(series: Any, step: Union[float, Grid], *,
     >>> def forms(frame):
     ...     return frame.set_geometry(canonical_geoseries(frame.geometry, 1))
     """
-    return _cleaned(series, step, canonical_features, others, threads)
+    return _cleaned(series, step, partial(
+        canonical_features, oriented=oriented, threads=threads), collapsed,
+        others)
