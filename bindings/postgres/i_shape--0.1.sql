@@ -48,3 +48,36 @@ RETURN i_shape_wkb_area_two(ST_AsEWKB(geom), step);
 CREATE FUNCTION i_shape_winding(geom geometry, point geometry, step float8) RETURNS int8
 LANGUAGE sql IMMUTABLE STRICT PARALLEL SAFE COST 500
 RETURN i_shape_wkb_winding(ST_AsEWKB(geom), ST_AsEWKB(point), step);
+
+-- Another role that may create in the extension's schema can have put traps there, where names are looked up before PostGIS's schema. So the script fails
+-- unless all that its functions are bound to is PostGIS's, the extension's, or the server's own, which pg_depend leaves out. It also fails if another function
+-- has the name of a call: with a closer type, such as numeric for the literal 1e-7, that one would be called.
+SET LOCAL search_path = pg_catalog, pg_temp;
+DO $$
+DECLARE
+    strange text;
+BEGIN
+    WITH member AS (
+        SELECT extname, classid, objid FROM pg_depend JOIN pg_extension ON refobjid = pg_extension.oid
+        WHERE refclassid = 'pg_extension'::regclass AND deptype = 'e' AND extname IN ('i_shape', 'postgis')
+    )
+    SELECT string_agg(DISTINCT pg_describe_object(refclassid, refobjid, 0), ', ') INTO strange FROM member JOIN pg_depend USING (classid, objid)
+    WHERE extname = 'i_shape' AND deptype <> 'e' AND refclassid <> 'pg_namespace'::regclass AND (refclassid, refobjid) NOT IN (SELECT classid, objid FROM member);
+    IF strange IS NOT NULL THEN
+        RAISE invalid_object_definition USING
+            MESSAGE = 'i_shape: its calls would be bound to what is outside pg_catalog, PostGIS and i_shape: ' || strange,
+            HINT = 'Drop it, or create the extension in the schema of PostGIS.';
+    END IF;
+
+    WITH call AS (
+        SELECT pg_proc.oid, pronamespace, proname FROM pg_proc JOIN pg_depend ON classid = 'pg_proc'::regclass AND objid = pg_proc.oid
+        JOIN pg_extension ON refclassid = 'pg_extension'::regclass AND refobjid = pg_extension.oid WHERE deptype = 'e' AND extname = 'i_shape'
+    )
+    SELECT string_agg(pg_describe_object('pg_proc'::regclass, oid, 0), ', ') INTO strange FROM pg_proc
+    WHERE (pronamespace, proname) IN (SELECT pronamespace, proname FROM call) AND oid NOT IN (SELECT oid FROM call);
+    IF strange IS NOT NULL THEN
+        RAISE duplicate_function USING
+            MESSAGE = 'i_shape: functions outside the extension have the names of its calls: ' || strange,
+            HINT = 'Drop them, or create the extension in a schema in which no other role may create.';
+    END IF;
+END $$;

@@ -10,6 +10,7 @@ CREATE EXTENSION IF NOT EXISTS i_shape CASCADE;
 CREATE VIEW golden AS SELECT part[1]::float8 AS step, part[2]::bool AS oriented, part[3]::geometry AS geom, decode(part[4], 'hex') AS key
 FROM regexp_split_to_table(:'golden', E'\n') AS line, regexp_split_to_array(line, E'\t') AS part WHERE line NOT LIKE '#%';
 SELECT ST_AsText(geom), i_shape_key(geom, step, oriented) FROM golden WHERE i_shape_key(geom, step, oriented) IS DISTINCT FROM key;
+SELECT ST_AsText(geom), i_shape_key(geom, step) FROM golden WHERE NOT oriented AND i_shape_key(geom, step) IS DISTINCT FROM key;
 SELECT count(*) FROM golden;
 
 \echo other polygons with the same key: those that differ

@@ -1,5 +1,6 @@
 #!/usr/bin/env python3
-"""Random polygons for COPY, as lines of their EWKB and of the keys that Python's canonical_keys makes of them, oriented or not.
+"""Random polygons for COPY, as lines of their EWKB and of the keys that Python's canonical_keys makes of them, oriented and as it
+does by default.
 
 usage: keys.py COUNT
 """
@@ -34,7 +35,7 @@ def main():
     polygons = [[ring() for _ in range(NUMBERS.randrange(1, 6))] for _ in range(int(sys.argv[1]))]
     rings = [its for polygon in polygons for its in polygon]
     given = (np.array([point for its in rings for point in its]), np.cumsum([0, *map(len, rings)]), np.cumsum([0, *map(len, polygons)]))
-    keys = [i_shape.canonical_keys(*given, oriented=oriented) for oriented in (True, False)]
+    keys = [i_shape.canonical_keys(*given, oriented=True), i_shape.canonical_keys(*given)]
     for polygon, oriented, unoriented in zip(polygons, *keys):
         print(rf"\\x{ewkb(polygon).hex()}", rf"\\x{oriented.hex()}", rf"\\x{unoriented.hex()}", sep="\t")
 
