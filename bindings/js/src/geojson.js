@@ -4,9 +4,19 @@ import { UnsafePointError } from "./errors.js";
 
 const CHILDREN = { __proto__: null, FeatureCollection: "features", GeometryCollection: "geometries" };
 
+/** Answers the text of a value in a message, also where JSON has none. */
+function shown(value) {
+    try {
+        return String(JSON.stringify(value, (_, item) => (typeof item === "bigint" ? `${item}n` : item)));
+    } catch {
+        return Object.prototype.toString.call(value);
+    }
+}
+
+/** Answers an array, whose holes are undefined. */
 function listOf(what, value) {
-    if (!Array.isArray(value)) throw new TypeError(`GeoJSON: ${JSON.stringify(value)} is no list of ${what}`);
-    return value;
+    if (!Array.isArray(value)) throw new TypeError(`GeoJSON: ${shown(value)} is no list of ${what}`);
+    return Array.from(value);
 }
 
 /** Answers the polygons of an object of GeoJSON, each an array of rings of positions. */
@@ -23,8 +33,8 @@ function polygonsOf(object) {
 function openedRing(positions) {
     const ring = listOf("positions", positions);
     for (const position of ring) {
-        if (!Array.isArray(position) || position.length < 2 || !position.slice(0, 2).every(Number.isFinite)) {
-            throw new TypeError(`GeoJSON: ${JSON.stringify(position)} is no position`);
+        if (!Array.isArray(position) || ![0, 1].every((axis) => Number.isFinite(position[axis]))) {
+            throw new TypeError(`GeoJSON: ${shown(position)} is no position`);
         }
     }
     const [first, last] = [ring[0], ring.at(-1)];

@@ -192,16 +192,16 @@ export interface IShape {
     canonicalUnorientedRings<P extends Points>(points: P, offsets: Offsets): Rings<P>;
 
     /**
-     * A key of each ring, or of each polygon where there are `polygonOffsets`: two are equal exactly where the canonical forms are, for points of any of the
-     * types. It is empty where the ring, or the outer ring of the polygon, collapses. Other versions may make other keys. `oriented: false`
-     * lets each ring be read backwards too.
+     * A key of each ring, or of each polygon where there are `polygonOffsets`: two are equal exactly where the unoriented forms are, or with `oriented: true`
+     * the canonical ones, which read no ring backwards, for points of any of the types. It is empty where the ring, or the outer ring of the polygon,
+     * collapses. Other versions may make other keys.
      */
     canonicalKeys(points: Points, ringOffsets: Offsets, polygonOffsets?: Offsets, options?: { oriented?: boolean }): string[];
 
     /** For each ring of `a` the least number of a ring of `b` that has the same key, and -1 where none has. */
     sameRings(a: { points: Points; offsets: Offsets }, b: { points: Points; offsets: Offsets }, options?: { oriented?: boolean }): Int32Array;
 
-    /** Whether two lists of polygons have equal canonical forms. */
+    /** Whether two lists of polygons have equal unoriented forms, or with `oriented: true` equal canonical ones. */
     samePolygons(a: GivenPolygons, b: GivenPolygons, options?: { oriented?: boolean }): boolean;
 
     /** The sum of what `areaTwo` answers of the rings of each polygon, which wraps as it does: a hole counts against an outer ring that turns the other way. */

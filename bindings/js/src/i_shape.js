@@ -216,7 +216,7 @@ class IShape {
         return this.#cleanRings("canonical_unoriented_contours", points, offsets);
     }
 
-    canonicalKeys(points, ringOffsets, polygonOffsets, { oriented = true } = {}) {
+    canonicalKeys(points, ringOffsets, polygonOffsets, { oriented = false } = {}) {
         const forms = oriented ? this.canonicalRings(points, ringOffsets) : this.canonicalUnorientedRings(points, ringOffsets);
         const ends = forms.offsets;
         const keys = Array.from({ length: ends.length - 1 }, (_, k) => forms.points.subarray(2 * ends[k], 2 * ends[k + 1]).join(" "));
@@ -230,7 +230,7 @@ class IShape {
         return Int32Array.from(ours, (key) => places.get(key) ?? -1);
     }
 
-    samePolygons(a, b, { oriented = true } = {}) {
+    samePolygons(a, b, { oriented = false } = {}) {
         const [ours, theirs] = [a, b].map(({ points, ringOffsets, polygonOffsets }) =>
             this.#cleanPolygons(oriented ? "canonical_shapes" : "canonical_unoriented_shapes", points, ringOffsets, polygonOffsets));
         const areEqual = (name) => ours[name].length === theirs[name].length && ours[name].every((item, k) => item == theirs[name][k]); // a bigint too

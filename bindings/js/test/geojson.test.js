@@ -1,10 +1,13 @@
 /** GeoJSON in and out, and what is worked out by keys. */
 import assert from "node:assert/strict";
+import { readFileSync } from "node:fs";
 import { describe, test } from "node:test";
 import { fromGeoJson, toGeoJson } from "../src/i_shape.js";
 import { describeWidths } from "./support/modules.js";
 
 const SQUARE = { type: "Polygon", coordinates: [[[0, 0, 7], [0.4, 0, 7], [0.4, 0.4, 7], [0, 0.4, 7], [0, 0, 7]], [[0.1, 0.1], [0.1, 0.3], [0.3, 0.3], [0.1, 0.1]]] };
+const cycle = [];
+cycle.push(cycle);
 
 describe("GeoJSON", () => {
     test("polygons of a collection, on a grid and back", () => {
@@ -46,6 +49,12 @@ describe("GeoJSON", () => {
         ["a ring that is no list", { type: "Polygon", coordinates: [3] }, /3 is no list of positions/],
         ["a position of one number", { type: "Polygon", coordinates: [[[1]]] }, /\[1\] is no position/],
         ["a coordinate that is no number", { type: "Polygon", coordinates: [[[1, null]]] }, /\[1,null\] is no position/],
+        ["a position with a hole", { type: "Polygon", coordinates: [[[, 1]]] }, /\[null,1\] is no position/],
+        ["a coordinate that is a BigInt", { type: "Polygon", coordinates: [[[1n, 1]]] }, /\["1n",1\] is no position/],
+        ["a ring that is a BigInt", { type: "Polygon", coordinates: [3n] }, /"3n" is no list of positions/],
+        ["a ring with a hole", { type: "Polygon", coordinates: [[, [1, 1]]] }, /undefined is no position/],
+        ["a polygon with a hole in its list", { type: "Polygon", coordinates: [, [[1, 1]]] }, /undefined is no list of positions/],
+        ["a position within itself", { type: "Polygon", coordinates: [[cycle]] }, /\[object Array\] is no position/],
     ]) {
         test(`${name} isn't read`, () => assert.throws(() => fromGeoJson(object), { name: "TypeError", message }));
     }
@@ -60,11 +69,13 @@ describeWidths((shapes, { points }) => {
 
     test("keys of rings", () => {
         const keys = shapes.canonicalKeys(RINGS, OFFSETS);
-        assert.equal(new Set(keys).size, 3);
+        assert.equal(new Set(keys).size, 2);
         assert.equal(keys[0], keys[1]);
+        assert.equal(keys[0], keys[2]);
         assert.equal(keys[3], "");
         assert.equal(keys[0], shapes.canonicalKeys(Int16Array.of(0, 0, 4, 0, 4, 4, 0, 4), [0, 4])[0]);
-        assert.equal(new Set(shapes.canonicalKeys(RINGS, OFFSETS, undefined, { oriented: false })).size, 2);
+        assert.deepEqual(shapes.canonicalKeys(RINGS, OFFSETS, undefined, { oriented: false }), keys);
+        assert.equal(new Set(shapes.canonicalKeys(RINGS, OFFSETS, undefined, { oriented: true })).size, 3);
     });
 
     test("keys of polygons", () => {
@@ -78,15 +89,29 @@ describeWidths((shapes, { points }) => {
         assert.notEqual(shapes.canonicalKeys(holes, [0, 3], [0, 1])[0], shapes.canonicalKeys(holes, [0, 3])[0]);
     });
 
+    // The keys of Python and PostgreSQL are other bytes.
+    test("keys are equal where those of other languages are, by default too", () => {
+        const lines = readFileSync(new URL("../../keys.txt", import.meta.url), "utf8").split("\n").map((line) => line.split("\t"));
+        const found = lines.filter(([, , text]) => text?.startsWith("POLYGON")).map(([step, oriented, text, key]) => {
+            const coordinates = text.match(/[^()]+(?=\))/g).map((ring) => ring.split(",").map((position) => position.split(" ").map(Number)));
+            const polygons = fromGeoJson({ type: "Polygon", coordinates }, { step: Number(step), Points: BigInt64Array });
+            const words = oriented === "t" ? [{ oriented: true }] : [];
+            return [key, shapes.canonicalKeys(polygons.points, polygons.ringOffsets, polygons.polygonOffsets, ...words)[0]];
+        });
+        assert.equal(found.length, 11);
+        const firsts = (keys) => keys.map((key) => keys.indexOf(key));
+        assert.deepEqual(firsts(found.map(([, ours]) => ours)), firsts(found.map(([theirs]) => theirs)));
+    });
+
     test("the same rings and polygons", () => {
         const rings = { points: RINGS, offsets: OFFSETS };
         const one = { points: Int32Array.of(9, 9, 9, 0, 0, 9, 4, 4, 4, 0, 0, 0, 0, 4), offsets: [0, 3, 7] };
-        assert.deepEqual(shapes.sameRings(rings, one), Int32Array.of(-1, -1, 1, -1));
-        assert.deepEqual(shapes.sameRings(rings, one, { oriented: false }), Int32Array.of(1, 1, 1, -1));
+        assert.deepEqual(shapes.sameRings(rings, one), Int32Array.of(1, 1, 1, -1));
+        assert.deepEqual(shapes.sameRings(rings, one, { oriented: true }), Int32Array.of(-1, -1, 1, -1));
         const polygons = (offsets) => ({ points: RINGS, ringOffsets: OFFSETS, polygonOffsets: offsets });
         assert.equal(shapes.samePolygons(polygons([0, 1]), { points: Int16Array.of(4, 0, 4, 4, 0, 4, 0, 0), ringOffsets: [0, 4], polygonOffsets: [0, 1] }), true);
-        assert.equal(shapes.samePolygons(polygons([0, 1]), polygons([2, 3])), false);
-        assert.equal(shapes.samePolygons(polygons([0, 1]), polygons([2, 3]), { oriented: false }), true);
+        assert.equal(shapes.samePolygons(polygons([0, 1]), polygons([2, 3])), true);
+        assert.equal(shapes.samePolygons(polygons([0, 1]), polygons([2, 3]), { oriented: true }), false);
     });
 
     test("areas of polygons", () => {

@@ -35,7 +35,7 @@ async function keys(): Promise<void> {
     await load(new URL("i_shape32.wasm", "https://example.org/"));
     const polygons: Polygons<Int32Array> = fromGeoJson({ type: "Polygon", coordinates: [] }, { step: 0.5 });
     const wide: Polygons<BigInt64Array> = fromGeoJson({}, { Points: BigInt64Array });
-    const told: string[] = shapes.canonicalKeys(wide.points, wide.ringOffsets, undefined, { oriented: false });
+    const told: string[] = shapes.canonicalKeys(wide.points, wide.ringOffsets, undefined, { oriented: true });
     const places: Int32Array = shapes.sameRings({ points: polygons.points, offsets: [0] }, { points: wide.points, offsets: [0n] });
     const areSame: boolean = shapes.samePolygons(polygons, wide);
     const areas: bigint[] = shapes.areaTwoPolygons(polygons.points, polygons.ringOffsets, polygons.polygonOffsets);
