@@ -16,7 +16,7 @@ PROGRAM := crates/i_shape_tool_main/out/$(if $(TARGET)$(CPU),$(TARGET)$(CPU)/i_s
 
 .PHONY: test gate help check fmt program c wasm page wheel postgres dist site pictures install install-program install-c install-postgres uninstall uninstall-program uninstall-c clean
 
-# The tests of behaviour, without a proof, in about a minute. What isn't built is skipped.
+# The tests of behaviour, without a proof, by cargo. What isn't built is skipped.
 test:
 	@python3 .ci/parts.py test
 
@@ -118,4 +118,4 @@ install-postgres: c
 
 # Removes what is built and the kept work of the proofs.
 clean:
-	rm -rf crates/*/out bindings/c/out bindings/js/out bindings/postgres/out bindings/python/out bindings/rust/target docs/out examples/page/out dist
+	rm -rf crates/*/out bindings/c/out bindings/js/out bindings/postgres/out bindings/python/out rust/target docs/out examples/page/out dist

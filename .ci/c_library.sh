@@ -1,6 +1,6 @@
 #!/usr/bin/env bash
 # Builds the C library and tests it, with allocators that refuse each growth in turn, and under the address sanitizer and valgrind; i_shape.hpp by two compilers;
-# what is built, installed and found by CMake; the programs of the pages; and the crate for Rust.
+# what is built, installed and found by CMake; and the programs of the pages.
 . "$(dirname "$0")/part.sh" || exit 1
 library=bindings/c/out
 archive=crates/i_shape_c/out/libi_shape_c.a
@@ -28,13 +28,10 @@ test_build() {
     mv "$library/libi_shape.so" "$work"
     check 'a library that is gone' fails bash bindings/c/build.sh --is-built
     mv "$work/libi_shape.so" "$library"
-    check 'what a killed build has left' restores_default "$left"
+    [ -e "$library/by_cargo" ] || check 'what a killed build has left' restores_default "$left"
     [ ! -e "$left/default.a" ] || mv "$left/default.a" "$archive"
-    rmdir "$left"
+    rm -rf "$left"
 }
-
-# What the page $1 says that the command with $2 in it prints.
-shown() { awk -v name="$2" '/^```$/ || /^\$ / { is_its = 0 } is_its { print } /^\$ / && index($0, name) { is_its = 1 }' "$1"; }
 
 # The program $2 prints what the page $1 says. It is compiled by the words from $3 on.
 test_program() {
@@ -113,21 +110,6 @@ test_install() {
     count $? 'make uninstall-c'
 }
 
-in_crate() { (cd bindings/rust && "$@"); }
-
-# The crate for Rust passes its tests, its example prints what the page says, and there is no warning of rustdoc, clippy or rustfmt. Its edition asks for cargo 1.85.
-test_rust() {
-    local words
-    export CARGO_NET_OFFLINE=true CARGO_TARGET_DIR=$work/target RUSTDOCFLAGS='-D warnings'
-    needs 'the crate for Rust' 'there is no cargo from 1.85 on' bash -c '[[ $(cargo --version) =~ ^cargo\ 1\.([0-9]+) ]] && [ "${BASH_REMATCH[1]}" -ge 85 ]' || return
-    add 'the crate for Rust' in_crate test_crate
-    prints 'examples/clean.rs' "$(shown docs/C.md examples/clean.c)" in_crate cargo run --locked --quiet --example clean
-    for words in 'doc --no-deps --locked --quiet' 'clippy --all-targets --locked --quiet -- -D warnings' 'fmt --check'; do
-        needs "the crate for Rust, cargo $words" 'there is no such command' cargo "${words%% *}" --help &&
-            check "the crate for Rust, cargo $words" in_crate cargo $words
-    done
-}
-
 has_built 'c library' bindings/c/build.sh || end_part
 test_names
 test_build
@@ -139,7 +121,6 @@ test_cpp clang++ -O0
 test_refused_points
 test_cmake
 test_install
-test_rust
 tests=("${c[@]}" bindings/c/test.c)
 other=bindings/c/allocator.c
 test_as 'C11' "${tests[@]}" "$library/libi_shape.a"

@@ -192,18 +192,23 @@ try {
 PROGRAM
 }
 
-# The crate passes its tests over the library that lies in its archive, with no variable.
+# Whether each of the files is a module of the file that has the name of its folder.
+are_modules() {
+    local file
+    for file; do
+        grep -qE "^(pub(\(crate\))? )?mod $(basename "$file" .rs);" "$(dirname "$file").rs" || { echo "no module: $file" && return 1; }
+    done
+}
+
+# The crate passes its tests, with what its build script leaves of the proved source in place of that script.
 test_rust() {
-    local example=(--offline --locked --quiet --example corners)
-    unpack rust "i_shape-$version-rust.tar.gz" LICENSE README.md Cargo.{lock,toml} build.rs examples/{batch,clean,corners,own_points}.rs \
-        src/{base,calls,error,fill_rule,flat,int,lib,location,macros,memory,source}.rs src/flat/{buffer,contours,measures,offsets,shapes}.rs \
-        src/int/{area,canonical,cleaned,count,despike,number,path,point,safe_range,shape,simple,winding}.rs src/source/int/resource.rs \
-        tests/calls/{contours,errors,flat,main,original_examples,own_points,shapes,shared}.rs tests/refused_memory.rs \
-        lib/linux-{x86_64,x86_64-v2,aarch64}/{PROOF,libi_shape.a} && has 'rust: its tests' cargo || return
+    local archive=i_shape-$version-rust.tar.gz its erased
+    its=$(cd rust/i_shape && find examples src tests -type f)
+    erased=$(tar -tzf "$work/dist/$archive" | sed -nE 's|^[^/]*/(src/erased/.*[.]rs)$|\1|p')
+    unpack rust "$archive" LICENSE README.md Cargo.{lock,toml} examples/clean.rs $its $erased && has 'rust: its tests' cargo || return
+    check 'rust: each erased file is a module' are_modules $erased
     add 'the crate for Rust' test_crate
-    prints 'rust: its example' "$corners" cargo run "${example[@]}"
-    RUSTFLAGS='-C target-cpu=x86-64-v2' cargo build "${example[@]}" --target x86_64-unknown-linux-gnu --message-format json > "$work/told"
-    check 'rust: the library for x86-64-v2' grep -q 'lib/linux-x86_64-v2"' "$work/told"
+    prints 'rust: its example' "$corners" cargo run --offline --locked --quiet --example corners
 }
 
 parts=()
@@ -215,7 +220,7 @@ done
 has_built javascript bindings/js/build.sh && parts+=(javascript)
 # Building the site fails if a link is broken.
 if [ "$only_built" = --if-built ]; then skip site 'it is not built'; else needs site 'scripts/site.sh has not what it needs' bash scripts/site.sh --has-tools && parts+=(site); fi
-needs rust 'its library is not packed' is_packed linux-x86_64 && needs rust 'its library is not packed' is_packed linux-aarch64 && parts+=(rust)
+needs rust 'there is no cargo from 1.85 on' cargo metadata --offline --no-deps --format-version 1 --manifest-path rust/Cargo.toml && parts+=(rust)
 [ ${#parts[@]} != 0 ] || end_part
 bash scripts/dist.sh "$work/dist" "${parts[@]}" > "$work/log" 2>&1 || { cat "$work/log" && count 1 'scripts/dist.sh' && end_part; }
 another_user=(unshare --user --map-user=1000 --map-group=1000)

@@ -1,8 +1,10 @@
 #!/usr/bin/env bash
 # Runs the tests of the C library for other processors and systems, and under the thread sanitizer. The program for aarch64 answers a thousand texts by the bytes
-# of the one for x86-64, and builds by two compilers, for two processors, and for Windows answer random calls the same.
+# of the one for x86-64, and builds by two compilers, for two processors, and for Windows answer random calls the same. The library that cargo builds is tested
+# where bytes lie the other way round, at 32 bits, and for Windows.
 . "$(dirname "$0")/part.sh" || exit 1
 trap end EXIT
+export WINEPREFIX=$work/wine
 tests=bindings/c/test.c
 build=bindings/c/build.sh
 of_aarch64=/usr/aarch64-linux-gnu
@@ -107,7 +109,6 @@ answer_contours() {
 test_windows() {
     local library=bindings/c/out/windows c=(x86_64-w64-mingw32-gcc -std=c11 -static)
     has Windows "${c[0]}" wine && has_built Windows $build --target windows || return
-    export WINEPREFIX=$work/wine
     runner=(by_wine)
     cp $library/i_shape.dll "$work"
     test_archive 'Windows' $library/libi_shape.a "${c[@]}"
@@ -126,6 +127,36 @@ PROGRAM
     count $? 'Windows: the answers to random contours'
 }
 
+# Cargo builds the C library for the target $1, and Rust's core and alloc for it, of Debian's sources. Sums that overflow would abort.
+build_by_cargo() {
+    (cd rust && RUSTC=/usr/bin/rustc RUSTC_BOOTSTRAP=1 CARGO_PROFILE_DEV_DEBUG=0 CARGO_TARGET_DIR=$by_cargo nice -n 5 cargo --offline \
+        --config 'source.crates-io.replace-with="debian"' --config "source.debian.directory='$rust_library/vendor'" \
+        --config profile.dev.package.i_shape_c_library.opt-level=1 rustc -Zbuild-std=core,alloc --locked --quiet -p i_shape_c_library --lib --crate-type staticlib --target "$1")
+}
+
+# The tests over the library that cargo builds for the target $2, by the C compiler $3. The words of the array runner run them, by the program $4.
+test_target() {
+    local name="cargo for $1" library=$by_cargo/$2/debug/libi_shape.a c=("$3" -std=c11 -static)
+    has "$name" "$3" "$4" || return
+    rm -f "$library"
+    check "$name: the library" build_by_cargo "$2"
+    test_as "$name" "${c[@]}" $tests "$library"
+    # a program brings its own allocator where names can be weak
+    [[ $2 = *windows* ]] || test_as "$name, each growth refused" "${c[@]}" -DOWN_ALLOCATOR $tests "$library"
+}
+
+# $1 is --if-built where nothing is to be built.
+test_targets() {
+    local by_cargo=$PWD/rust/target/elsewhere rust_library=/usr/lib/rustlib/src/rust/library
+    needs 'cargo for other targets' 'the gate builds them' [ "$1" != --if-built ] &&
+        needs 'cargo for other targets' "Debian's rustc-web and rust-web-src aren't installed" dpkg -s rustc-web rust-web-src &&
+        has 'cargo for other targets' cargo /usr/bin/rustc || return
+    runner=(qemu-s390x) && test_target 's390x, big-endian' s390x-unknown-linux-gnu s390x-linux-gnu-gcc qemu-s390x
+    runner=(qemu-i386) && test_target 'i686, 32 bits' i686-unknown-linux-gnu i686-linux-gnu-gcc qemu-i386
+    runner=(by_wine) && test_target Windows x86_64-pc-windows-gnu x86_64-w64-mingw32-gcc wine
+}
+
+test_targets "${1-}"
 has_built elsewhere $build || end_part
 test_aarch64
 test_program

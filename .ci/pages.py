@@ -27,7 +27,7 @@ import parts  # noqa: E402
 
 TOP = parts.TOP
 PAGES = ["README.md", "CHANGELOG.md", "docs/*.md", "docs/develop/*.md", "examples/*/README.md", "bench/*/README.md"]
-RUST = ["crates/*/src/**/*.rt", "bindings/rust/**/*.rs", "examples/**/*.rs", "bench/**/*.rs"]
+RUST = ["crates/*/src/**/*.rt", "rust/**/*.rs", "examples/**/*.rs", "bench/**/*.rs"]
 C = ["bindings/c/*.c", "bindings/c/*.cpp", "bindings/c/*.h", "examples/**/*.c", "bench/**/*.c", "include/*.h", "include/*.hpp"]
 JAVASCRIPT = ["bindings/js/*.js", "examples/*.mjs"]
 # What shows that something is there, and what is said where it isn't.
@@ -45,7 +45,7 @@ NEEDED = {
     "clipper": ("test -e /usr/include/polyclipping/clipper.hpp", "there is no clipper"),
     "python": ("/usr/bin/python3 -c 'import numpy.typing, setuptools, wheel, venv, ensurepip'", "Debian's Python has no numpy, setuptools, wheel or venv"),
     "postgres": ("test -n \"$PGHOST\" && psql -Atc 'SELECT 1' && test -w \"$(pg_config --sharedir)/extension\"", "there is no server of PostgreSQL to install into"),
-    "cargo": ("cargo metadata --offline --no-deps --format-version 1 --manifest-path bindings/rust/Cargo.toml", "there is no cargo from 1.85 on"),
+    "cargo": ("cargo metadata --offline --no-deps --format-version 1 --manifest-path rust/Cargo.toml", "there is no cargo from 1.85 on"),
 }
 LONGEST = 600  # seconds that a command of a page may take
 LEFT_OUT = re.compile(r"\s*(///|//!|#!?\[|ensures\b|↔|×)|\s*$")
@@ -189,7 +189,7 @@ def fault_of_version():
     major, minor, patch = map(int, version.split("."))
     told = {
         "crates/i_shape_c/src/version.rt": rf"MAJOR: u32 = {major};.*MINOR: u32 = {minor};.*PATCH: u32 = {patch};",
-        "bindings/rust/Cargo.toml": rf'^version = "{version}"$',
+        "rust/Cargo.toml": rf'^version = "{version}"$',
         "bindings/js/package.json": rf'^ *"version": "{version}",$',
         "bindings/python/src/i_shape/_library.py": rf"^_VERSION = 0x{major:02x}{minor:02x}\b",
         "CHANGELOG.md": rf"\A(?:(?!\n## ).)*\n## {version}\n",
@@ -209,7 +209,7 @@ def fault_of_gate():
 def fault_of_edits():
     """The table of docs/develop/README.md names each edit of must-fail/ and no other."""
     edits = {tuple(name.removesuffix(".edit").split("/")[-3::2]) for name in files(["crates/*/must-fail/*.edit"])}
-    rows = re.findall(r"^\| (`\w+`(?:, `\w+`)*) \| (core|source|shape|text)\b", read(f"{TOP}/docs/develop/README.md"), re.MULTILINE)
+    rows = re.findall(r"^\| (`\w+`(?:, `\w+`)*) \| (core|source|shape|tool)\b", read(f"{TOP}/docs/develop/README.md"), re.MULTILINE)
     named = {("i_shape" if crate == "shape" else f"i_shape_{crate}", name) for names, crate in rows for name in re.findall(r"`(\w+)`", names)}
     faults = [f"{crate}'s {name} isn't named" for crate, name in edits - named]
     return "; ".join(sorted(faults + [f"{crate} has no edit {name} in must-fail/" for crate, name in named - edits])) or None

@@ -71,10 +71,19 @@ has() {
 has_python() { needs "$1" "$python has no numpy, setuptools, wheel or venv" "$python" -c 'import numpy.typing, setuptools, wheel, venv, ensurepip'; }
 has_node() { needs "$1" 'there is no Node from 20.6 on' node --input-type=module -e 'import.meta.resolve("node:fs")'; }
 
+# Whether cargo builds what the script and its words build, since there is no rt, which would prove it.
+takes_cargo() { [ "$*" = bindings/c/build.sh ] && ! command -v rt > /dev/null && command -v cargo > /dev/null; }
+
 # Whether the script $2, with the words from $3 on, builds what the tests $1 need, or has built it. They are skipped where it may not, and fail where it can't.
 has_built() {
-    [ "$only_built" != --if-built ] || needs "$1" "$2 has not built what it needs" bash "$2" --is-built "${@:3}" || return
+    [ "$only_built" != --if-built ] || takes_cargo "${@:2}" || needs "$1" "$2 has not built what it needs" bash "$2" --is-built "${@:3}" || return
     bash "$2" "${@:3}" > "$work/log" 2>&1 || { cat "$work/log" && count 1 "$1: what it needs isn't built" && return 1; }
+}
+
+# Whether the C library of `make c` is built for the tests $1; where there is no rt, cargo builds it first.
+has_c_library() {
+    ! takes_cargo bindings/c/build.sh || bash bindings/c/build.sh > "$work/log" 2>&1 || cat "$work/log"
+    needs "$1" '`make c` builds the library that it takes' bash bindings/c/build.sh --is-built
 }
 
 # Ends the part with the line that counts its tests.
@@ -105,7 +114,10 @@ declared() {
     "${CC:-cc}" -E -Iinclude include/i_shape.h | grep -v '^static inline' | grep -oE '\bi_shape_[a-z0-9_]+ ?\(' | tr -d ' (' | sort
 }
 
-# The tests of the crate for Rust in this folder.
+# What the page $1 says that the command with $2 in it prints.
+shown() { awk -v name="$2" '/^```$/ || /^\$ / { is_its = 0 } is_its { print } /^\$ / && index($0, name) { is_its = 1 }' "$1"; }
+
+# The tests of the crate or workspace of Rust in this folder.
 test_crate() {
     cargo test --offline --locked --quiet > "$work/told" 2>&1
     local status=$?

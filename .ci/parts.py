@@ -25,17 +25,21 @@ import time
 TOP = os.path.dirname(os.path.dirname(os.path.realpath(__file__)))
 COUNTS = re.compile(r"^(?:[a-z. ]+: |test result: .*\. )?(\d+) passed[,;] (\d+) failed(?:, (\d+) skipped$|;.*$|$)", re.MULTILINE)
 LEFT_OUT = shutil.ignore_patterns(".git", "out", "target", "dist", "environment", "__pycache__")
-# The tests of crates/i_shape_tests, without a proof, and beside them, one after another, the parts of what may be built, which they share. A page runs the program
-# by rt try where it isn't built, which is done before the tests are, if it leaves the processors to these.
-TRIED = "bash -c 'set -o pipefail; cd crates/i_shape_tests && rt try --test | grep -v \"^test .* ok$\"'"
+# What cargo builds and tests, and beside it, one after another, the parts of what may be built.
+BY_CARGO = ".ci/cargo.sh"
 OF_WHAT_IS_BUILT = (".ci/c_library.sh --if-built", ".ci/elsewhere.sh --if-built", ".ci/python_package.sh", ".ci/javascript.sh --if-built",
                     ".ci/dist.sh --if-built", ".ci/scaling.sh", ".ci/pictures.sh", "nice -n 5 python3 .ci/pages.py")
-# The parts of the gate, before and after the proofs.
+# The parts of the gate, before and after the proofs. Those after them rest on the C library, and run in two lanes once it has been tested.
 BEFORE_PROOFS = ("python3 .ci/test_ci.py", "scripts/widths.sh --check")
-AFTER_PROOFS = (".ci/long_tests.sh", ".ci/c_library.sh", ".ci/elsewhere.sh", ".ci/python_package.sh", ".ci/postgres.sh", ".ci/javascript.sh", ".ci/dist.sh",
-                "python3 .ci/refusals.py", ".ci/scaling.sh", ".ci/pictures.sh", "python3 .ci/pages.py")
-# It proves first what the C library is built from, and tries the wrong bodies over that. Two crates at once leave memory to rt ci.
-WRONG_BODIES = "nice -n 10 sh -c '(cd crates/i_shape_c && rt lib --jobs 2) && exec python3 .ci/wrong.py --lanes 2'"
+C_LIBRARY = ".ci/c_library.sh"
+LANES = ((BY_CARGO, ".ci/elsewhere.sh", ".ci/long_tests.sh"),
+         (".ci/python_package.sh", ".ci/postgres.sh", ".ci/javascript.sh", ".ci/dist.sh", "python3 .ci/refusals.py", ".ci/scaling.sh", ".ci/pictures.sh",
+          "python3 .ci/pages.py"))
+AFTER_PROOFS = (C_LIBRARY, *LANES[0], *LANES[1])
+# The wrong bodies of the core, below which there is no library, are tried beside rt ci. Those of the other crates are tried over the libraries that rt ci has
+# built, and so is the C library built, since theirs are tried over what it keeps.
+WRONG_BODIES_OF_CORE = "nice -n 10 python3 .ci/wrong.py --lanes 1 --only i_shape_core"
+OTHER_WRONG_BODIES = "sh -c 'python3 .ci/mark_proved.py; (cd crates/i_shape_c && rt lib --jobs 2) && exec python3 .ci/wrong.py --except i_shape_core'"
 
 
 def counts_of(said, status):
@@ -112,6 +116,10 @@ class Parts:
         print(f"processor minutes: {(used.ru_utime + used.ru_stime) / 60:.1f} ({command})", flush=True)
         self.add(command, *counts_of("".join(lines), part.returncode))
 
+    def run_all(self, commands, folder):
+        for command in commands:
+            self.run(command, folder)
+
     def add(self, what, counts, fault=None):
         if fault:
             print(f"{fault}: {what}", flush=True)
@@ -148,16 +156,15 @@ class Parts:
 
 
 def run_tests(parts):
-    tried = parts.beside(Parts.run, TRIED if shutil.which("rt") else "echo 'tests without rt: 0 passed, 0 failed, 1 skipped'", TOP)
-    for command in OF_WHAT_IS_BUILT:
-        parts.run(command, TOP)
-    tried.join()
+    by_cargo = parts.beside(Parts.run, BY_CARGO, TOP)
+    parts.run_all(OF_WHAT_IS_BUILT, TOP)
+    by_cargo.join()
 
 
-def try_wrong_bodies(parts, copy):
-    """The wrong bodies, in a copy of the crates. It stands to the end of the gate: the C library is built from what is proved there."""
+def try_wrong_bodies_of_core(parts, copy):
+    """In a copy of the crates, since rt ci moves what other commands keep in its checkout out of the way."""
     shutil.copytree(TOP, copy, symlinks=True, ignore=LEFT_OUT)
-    parts.run(WRONG_BODIES, copy)
+    parts.run(WRONG_BODIES_OF_CORE, copy)
 
 
 def run_gate(parts):
@@ -166,11 +173,13 @@ def run_gate(parts):
     shutil.copytree(TOP, checkout, symlinks=True, ignore=LEFT_OUT)
     for command in BEFORE_PROOFS:
         parts.run(command, checkout)
-    tried = parts.beside(try_wrong_bodies, f"{parts.work}/copy")
+    tried = parts.beside(try_wrong_bodies_of_core, f"{parts.work}/copy")
     parts.run("rt ci", checkout)
+    parts.run(OTHER_WRONG_BODIES, checkout)
     tried.join()
-    for command in AFTER_PROOFS:
-        parts.run(command, checkout)
+    parts.run(C_LIBRARY, checkout)
+    for lane in [parts.beside(Parts.run_all, commands, checkout) for commands in LANES]:
+        lane.join()
 
 
 def run_both(parts):

@@ -8,7 +8,7 @@ here=bindings/postgres
 sanitizers=(-fsanitize=address,undefined -fno-sanitize-recover=undefined)
 needs postgres 'there is no server of PostgreSQL 15 with its headers' [ -e "$("$config" --includedir-server 2> /dev/null)/postgres.h" ] || end_part
 needs postgres 'there is no PostGIS for PostgreSQL 15' [ -e "$("$config" --sharedir)/extension/postgis.control" ] || end_part
-needs postgres '`make c` builds the library that it takes' bash bindings/c/build.sh --is-built || end_part
+has_c_library postgres || end_part
 
 # Runs what follows as whom the server runs as, which may not be root.
 as_server() { if [ "$(id -u)" = 0 ]; then setpriv --reuid=nobody --regid=nogroup --clear-groups "$@"; else "$@"; fi; }
@@ -67,15 +67,15 @@ test_restore() {
     prints 'a restore' 100 ask -d restored -c 'SELECT count(*) FROM kept WHERE digest = sha256(i_shape_key(ST_Reverse(geom), 1))'
 }
 
-# Keys of the package for Python, made of the same polygons.
+# Keys of the package for Python, made of the same polygons: oriented, and with what both have by default.
 test_python_keys() {
     has_python "keys beside Python's" || return
     I_SHAPE_C_DIR=$library PYTHONPATH=bindings/python/src "$python" "$here/tests/keys.py" 20000 > "$work/keys"
-    ask -c 'CREATE TABLE python_keys (wkb bytea, oriented bytea, unoriented bytea)' -c "\\copy python_keys FROM '$work/keys'"
+    ask -c 'CREATE TABLE python_keys (wkb bytea, oriented bytea, by_default bytea)' -c "\\copy python_keys FROM '$work/keys'"
     prints "keys beside Python's" '20000|20000|20000|20000' ask -c "SELECT count(*),
         count(*) FILTER (WHERE i_shape_wkb_key(wkb, 0.25, true) IS NOT DISTINCT FROM nullif(oriented, '')),
-        count(*) FILTER (WHERE i_shape_wkb_key(wkb, 0.25) IS NOT DISTINCT FROM nullif(unoriented, '')),
-        count(*) FILTER (WHERE i_shape_key(ST_GeomFromEWKB(wkb), 0.25) IS NOT DISTINCT FROM nullif(unoriented, '')) FROM python_keys"
+        count(*) FILTER (WHERE i_shape_wkb_key(wkb, 0.25) IS NOT DISTINCT FROM nullif(by_default, '')),
+        count(*) FILTER (WHERE i_shape_key(ST_GeomFromEWKB(wkb), 0.25) IS NOT DISTINCT FROM nullif(by_default, '')) FROM python_keys"
 }
 
 # Each growth of memory in each call, refused; and answers above what a server takes, which this module has lowered to 1000 bytes.

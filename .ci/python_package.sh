@@ -16,7 +16,7 @@ run_tests() {
 }
 
 has_python 'python package' || end_part
-[ -n "${I_SHAPE_C_DIR-}" ] || needs 'python package' '`make c` builds the library that it takes' bash bindings/c/build.sh --is-built || end_part
+[ -n "${I_SHAPE_C_DIR-}" ] || has_c_library 'python package' || end_part
 install_package > "$work/log" 2>&1 || { cat "$work/log" && count 1 'the wheel' && end_part; }
 unset I_SHAPE_C_DIR
 add 'the tests' run_tests

@@ -93,67 +93,94 @@ run.end()
         """Ctrl-C ends the gate while rt ci and the wrong bodies run, and nothing is left of it."""
         checkout = f"{self.room}/checkout"
         write(f"{checkout}/.ci/parts.py", pages.read(f"{TOP}/.ci/parts.py"))
-        for name in (".ci/test_ci.py", "scripts/widths.sh", "crates/i_shape_c/src/lib.rt"):
+        for name in (".ci/test_ci.py", "scripts/widths.sh"):
             write(f"{checkout}/{name}", "")
+        write(f"{checkout}/.ci/wrong.py", "import time\ntime.sleep(300)\n")
         write(f"{self.room}/bin/rt", '#!/bin/sh\necho started >> "$STAND_IN/started"\nwhile :; do sleep 300; done\n')
         how = {"env": self.environment, "start_new_session": True, "stdout": subprocess.DEVNULL, "stderr": subprocess.DEVNULL}
         gate = subprocess.Popen([sys.executable, f"{checkout}/.ci/parts.py", "gate"], **how)
         self.addCleanup(lambda: [os.kill(pid, signal.SIGKILL) for pid in self.in_session(gate.pid)])
         deadline = time.time() + 30
-        while len(self.started()) < 2 and time.time() < deadline:
+        while not self.started() and time.time() < deadline:
             time.sleep(0.1)
-        self.assertEqual(self.started(), ["started"] * 2)
+        self.assertEqual(self.started(), ["started"])
         os.killpg(gate.pid, signal.SIGINT)
         self.assertEqual(gate.wait(5), 130)
         self.assertEqual(self.in_session(gate.pid), [])
 
 
 class ToolTest(Case):
-    # It answers by rt try as it is told to, and builds one at a time.
+    # rt proves and builds, one at a time.
     RT = """#!/bin/sh
 echo "$1" >> "$STAND_IN/started"
-case $1 in
-try) cat > "$STAND_IN/given"; cat "$STAND_IN/answer"; cat "$STAND_IN/told" >&2; exit "$(cat "$STAND_IN/status")" ;;
-run) printf '#!/bin/sh\\necho built\\n' > out/i_shape_tool_main && chmod +x out/i_shape_tool_main ;;
-esac
+[ "$1" != run ] || { printf '#!/bin/sh\\necho proved\\n' > out/i_shape_tool_main && chmod +x out/i_shape_tool_main; }
 mkdir "$STAND_IN/one" && sleep 0.1 && rmdir "$STAND_IN/one"
+"""
+    # cargo builds a program that answers as it is told to.
+    CARGO = """#!/bin/sh
+echo cargo >> "$STAND_IN/started"
+[ -e "$STAND_IN/answer" ] || { echo 'error: no rustc' >&2; exit 101; }
+for word; do
+    its=$word/${CARGO_BUILD_TARGET:+$CARGO_BUILD_TARGET/}release
+    [ "$before" != --target-dir ] || { mkdir -p "$its" && cp "$STAND_IN/program" "$its/i_shape_tool"; }
+    before=$word
+done
+"""
+    PROGRAM = """#!/bin/sh
+cat > "$STAND_IN/given"; cat "$STAND_IN/answer"; echo "$1" >&2; exit "$(cat "$STAND_IN/status")"
 """
 
     def setUp(self):
         super().setUp()
         self.top = f"{self.room}/top"
-        for file in ("crates.txt", *(f"crates/i_shape_{crate}/src/lib.rt" for crate in ("core", "text", "tool_main"))):
+        for file in ("crates.txt", *(f"crates/i_shape{crate}/src/lib.rt" for crate in ("", "_core", "_source", "_tool", "_tool_main"))):
             write(f"{self.top}/{file}", "")
         shutil.copy(f"{TOP}/i_shape_tool", self.top)
         shutil.copytree(f"{TOP}/scripts", f"{self.top}/scripts")
-        write(f"{self.room}/bin/rt", self.RT)
+        for name, text in (("bin/rt", self.RT), ("bin/cargo", self.CARGO), ("program", self.PROGRAM)):
+            write(f"{self.room}/{name}", text)
 
-    def tool(self, text="", answer="", told="run=ended status=0 runners=1 proved=no\n", status=0):
-        for name, what in (("answer", answer), ("told", told), ("status", str(status))):
-            write(f"{self.room}/{name}", what)
+    def tool(self, text="", answer=None, status=0):
+        if answer is not None:
+            for name, what in (("answer", answer), ("status", str(status))):
+                write(f"{self.room}/{name}", what)
         ran = self.run_in("/", f"{self.top}/i_shape_tool", "area", input=text)
         return ran.returncode, ran.stdout, ran.stderr
 
-    def test_tried(self):
-        status, answer, told = self.tool("1 2 3\n", "some\n", "line 1: not a contour\nchecked: ended status=1\nrun=ended status=1 runners=1 proved=no\n", 1)
+    def test_by_cargo(self):
+        """Where it isn't proved and built, cargo's program runs, and one line says so. Where cargo can't build it, the status is 4."""
+        status, answer, told = self.tool("1 2 3\n", "some\n", 1)
         self.assertEqual((status, answer, pages.read(f"{self.room}/given")), (1, "some\n", "1 2 3\n"))
-        self.assertRegex(told, r"\Ai_shape_tool: not built from these sources; .*`make program` proves and builds it\nline 1: not a contour\n\Z")
-        line = told.splitlines(True)[0]
-        self.assertEqual(self.tool(told="error\nrun=none proved=no\n", status=2), (4, "", f"{line}error\nrun=none proved=no\n"))
-        # A text that is too long for rt try is refused.
-        before = self.started()
-        self.assertEqual(self.tool("\n" * 174763), (4, "", line))
-        self.assertEqual(self.started(), before)
-        self.assertEqual(self.tool("\n" * 174762)[0], 0)
+        self.assertRegex(told, r"\Ai_shape_tool: built by cargo, .*`make program` proves and builds it by the Rattle kit\narea\n\Z")
+        os.remove(f"{self.room}/answer")
+        self.assertEqual(self.tool(), (4, "", told.replace("area\n", "error: no rustc\n")))
+
+    def test_by_cargo_for_another_target(self):
+        """The program is built for this machine, whatever cargo builds for otherwise."""
+        self.environment["CARGO_BUILD_TARGET"] = "wasm32-unknown-unknown"
+        self.assertEqual(self.tool("1 2 3\n", "some\n")[:2], (0, "some\n"))
+
+    def test_wrong_words(self):
+        """Without a built program too the usage comes at once: nothing is read or compiled, whatever the input is."""
+        for words in ((), ("",), ("simplified",), ("simplify\n",), ("sim.*",), ("simplify", "area")):
+            for stdin in (subprocess.PIPE, None):
+                program = (f"{self.top}/i_shape_tool", *words)
+                how = {"stdin": stdin, "stdout": subprocess.PIPE, "stderr": subprocess.PIPE, "env": self.environment, "text": True}
+                ran = subprocess.Popen(program if stdin else ("sh", "-c", 'exec "$@" <&-', "sh", *program), **how)
+                status = ran.wait(10)
+                self.assertEqual((status, *ran.communicate()), (2, "", "usage: i_shape_tool simplify|despike|area|canonical|compact\n"), words)
+        ran = self.run_in("/", f"{self.top}/i_shape_tool", b"\xff")
+        self.assertEqual((ran.returncode, ran.stdout, ran.stderr), (4, "", "input or output failed\n"))
+        self.assertEqual(self.started(), [])
 
     def test_built(self):
         """Of two builds at once one builds. The program of these sources runs then, and one of older sources doesn't."""
         builds = [subprocess.Popen(["bash", f"{self.top}/scripts/program/build.sh"], env=self.environment, stderr=subprocess.DEVNULL) for _ in range(2)]
         self.assertEqual([build.wait(60) for build in builds], [0, 0])
-        self.assertEqual(self.started(), ["lib"] * 2 + ["run"])
-        self.assertEqual(self.tool(), (0, "built\n", ""))
+        self.assertEqual(self.started(), ["lib"] * 4 + ["run"])
+        self.assertEqual(self.tool(), (0, "proved\n", ""))
         os.utime(f"{self.top}/crates/i_shape_core/src/lib.rt", (time.time() + 5,) * 2)
-        self.assertEqual(self.tool(answer="tried\n")[:2], (0, "tried\n"))
+        self.assertEqual(self.tool(answer="by cargo\n")[:2], (0, "by cargo\n"))
 
 
 SAMPLE = "use " + pages.read(f"{TOP}/crates/callers/src/corners.rt").partition("use ")[2]
@@ -230,7 +257,7 @@ pub fn quadrupled(number: u32) -> u32
     doubled(doubled(number))
 }
 
-pub fn tripled(number: u32) -> u32
+pub fn tripled_by_a_function_with_so_long_a_name_that_messages_are_broken(number: u32) -> u32
     requires { number < 1000 }
     ensures thrice { result ≡ number * 3 }
     ensures small { result < 3000 }
@@ -238,8 +265,9 @@ pub fn tripled(number: u32) -> u32
     number * 3
 }
 """
-ANSWERS = """use Rattle.std.proofs.Common.{arith}
-use Rattle.doubles.proofs.tripled.Goals as goal
+LONG = "tripled_by_a_function_with_so_long_a_name_that_messages_are_broken"
+ANSWERS = f"""use Rattle.std.proofs.Common.{{arith}}
+use Rattle.doubles.proofs.{LONG}.Goals as goal
 
 pub returns-clause-thrice : goal.returns-clause-thrice
 returns-clause-thrice c = omega arith
@@ -250,7 +278,9 @@ EDITS = (
     ("forgets_half", "doubled", SUM, "    number", "refused at doubled: returns-clause-twice"),
     ("names_a_clause", "doubled\nclause: twice", SUM, "    number", "refused at doubled: returns-clause-twice"),
     ("names_another", "doubled\nclause: small", SUM, "    number", "NOT REFUSED by the clause small of doubled, but at returns-clause-twice"),
-    ("fails_an_answer_too", "tripled\nclause: small", "    number * 3", "    number + 3000", "refused at tripled: returns-clause-small, returns-clause-thrice"),
+    ("fails_an_answer_too", f"{LONG}\nclause: small", "    number * 3", "    number + 3000", f"refused at {LONG}: returns-clause-small, returns-clause-thrice"),
+    ("lists_its_goals", "doubled\ngoals: returns-clause-twice", SUM, "    number", "refused at doubled: returns-clause-twice"),
+    ("loses_a_goal", LONG, "    number * 3", "    if number == 0 { 0 } else { number * 3 }", f"NOT REFUSED at a goal of {LONG}: its proof names what the edit took away"),
     ("turns_nothing", "doubled", SUM, "    number.wrapping_add(number)", "NOT REFUSED at doubled"),
     ("turns_the_callee", "quadrupled", SUM, "    number", "NOT REFUSED at quadrupled, but at doubled"),
     ("text_is_not_there", "doubled", "number * 2", "number * 3", "BAD EDIT: its old text stands in src/lib.rt 0 times"),
@@ -268,18 +298,18 @@ class WrongTest(Case):
     def test_wrong(self):
         write(f"{self.room}/crates.txt", "doubles:\n")
         write(f"{self.room}/crates/doubles/src/lib.rt", DOUBLES)
-        write(f"{self.room}/crates/doubles/proofs/tripled/Answers.antt", ANSWERS)
+        write(f"{self.room}/crates/doubles/proofs/{LONG}/Answers.antt", ANSWERS)
         write(f"{self.room}/.ci/wrong.py", pages.read(f"{TOP}/.ci/wrong.py"))
         for name, function, old, new, _ in EDITS:
             write(f"{self.room}/crates/doubles/wrong/{name}.edit", f"file: src/lib.rt\nrefused: {function}\nold: {old}\nnew: {new}\n")
         status, said = self.run_wrong()
         for name, *_, what in EDITS:
             self.assertIn(f"wrong doubles/{name}: {what}", said)
-        self.assertEqual((status, said.splitlines()[-1]), (1, "wrong bodies: 3 passed, 5 failed"))
+        self.assertEqual((status, said.splitlines()[-1]), (1, "wrong bodies: 4 passed, 6 failed"))
         # What passed is noted, and tried again where something changes that it was judged by.
         note = "wrong doubles/forgets_half: refused at doubled by an earlier run: returns-clause-twice"
         self.assertIn(note, self.run_wrong("--only", "forgets_half", "--write")[1])
-        self.assertIn("\nclause: twice\n", pages.read(f"{self.room}/crates/doubles/wrong/forgets_half.edit"))
+        self.assertIn("\nclause: twice\ngoals: returns-clause-twice\n", pages.read(f"{self.room}/crates/doubles/wrong/forgets_half.edit"))
         write(f"{self.room}/crates/doubles/src/lib.rt", f"{DOUBLES}// changed\n")
         status, said = self.run_wrong("--only", "forgets_half")
         self.assertNotIn(note, said)

@@ -6,8 +6,12 @@ checks kept. An edit passes where the prover leaves a goal of its own function o
 'returns-clause-NAME', say, or the goal NAME itself. A fault of a function that it calls, or a text that cannot be read, is not enough. Rounds go on until each
 edit is judged. The libraries below a crate whose edits are tried are proved first, where they aren't.
 
+The goals that the line 'goals' of an edit lists, those that were open when it was written, are given the answer `search rules` in the copy, where its function
+has none: Rattle's own attempt at such a goal fails three times as slowly, and is made again to print what is open. --whole leaves these answers out.
+
 An edit that passed is noted in ~/.cache/raspochre, or below $XDG_CACHE_HOME, by a sum of what it was judged by: the kit, this script, the edit, its crate's line
-in crates.txt, and the code, contracts and proofs of its crate and of those below. While none of these changes, it passes again without a check, in any clone.
+in crates.txt, the code, contracts and proofs of its crate, and what the libraries below state. While none of these changes, it passes again without a check, in
+any clone.
 """
 import argparse
 import contextlib
@@ -53,8 +57,8 @@ class Edit:
             words += f"{word} "
             if word == "new":
                 self.pairs.append((told.get("file"), told.get("old"), told["new"]))
-        self.is_well_formed = self.pairs and re.fullmatch("(file |refused |clause |old new )+", words)
-        self.function, self.clause = told.get("refused"), told.get("clause")
+        self.is_well_formed = self.pairs and re.fullmatch("(file |refused |clause |goals |old new )+", words)
+        self.function, self.clause, self.open = told.get("refused"), told.get("clause"), told.get("goals", "").split()
 
     def fault(self, folder):
         """Returns what keeps it from being tried on the crate in this folder, or None."""
@@ -79,12 +83,29 @@ class Edit:
         """Whether the goal is of the clause that the edit names, or the edit names none."""
         return self.clause in (None, goal) or goal.endswith(f"-clause-{self.clause}")
 
-    def write_clause(self, goal):
-        """Writes into its file that it is excluded by the clause that this goal is of."""
-        self.clause = goal.rpartition("-clause-")[2]
-        self.text = re.sub(r"^(refused:.*\n)", rf"\1clause: {self.clause}\n", self.text, count=1, flags=re.M)
+    def write_goals(self, goals):
+        """Writes into its file which goals were open, and, where it names no clause, that of the first."""
+        self.open, self.clause = goals, self.clause or goals[0].rpartition("-clause-")[2]
+        bare = re.sub(r"^(clause|goals):.*\n", "", self.text, flags=re.M)
+        self.text = re.sub(r"^(refused:.*\n)", rf"\1clause: {self.clause}\ngoals: {' '.join(goals)}\n", bare, count=1, flags=re.M)
         with open(self.file, "w", encoding="utf-8") as out:
             out.write(self.text)
+
+    def answer(self, room):
+        """Answers the goals that it lists and that have no answer in this copy of its crate."""
+        place = f"{room}/proofs/{self.function.replace('::', '/')}/Answers.antt"
+        answers = read(place) if os.path.isfile(place) else ""
+        lacking = [it for it in self.open if not re.search(rf"^(?:pub )?{re.escape(it)} :", answers, re.M)]
+        if lacking:
+            os.makedirs(os.path.dirname(place), exist_ok=True)
+            goals = f"Rattle.{self.crate}.proofs.{self.function.replace('::', '.')}.Goals"
+            # a file brings a module in under one name
+            named = re.search(rf"^use {re.escape(goals)} as (\S+)$", answers, re.M)
+            uses = "" if named else f"use {goals} as goal\n"
+            uses += "" if re.search(r"\brules\b", answers) else "use Rattle.std.proofs.Common.{rules}\n"
+            name = named[1] if named else "goal"
+            with open(place, "w", encoding="utf-8") as out:
+                out.write(uses + answers + "".join(f"\npub {it} : {name}.{it}\n{it} = search rules\n" for it in lacking))
 
     def stays_inside(self, folder):
         """Whether each old text lies in the function itself, so that it can turn no other. A constant can, where others read it."""
@@ -100,7 +121,8 @@ class Found:
     """What a check said of a copy of a crate with some edits in it."""
 
     def __init__(self, crate, said):
-        self.lines = said.splitlines()
+        # a long message goes on in lines that begin with blanks
+        self.lines = re.sub(r"\n +", " ", said).splitlines()
         # the goals that a search left open are told of before the line of their function, also where an answer of it fails
         self.noted, noted = {}, []
         for line in self.lines:
@@ -151,11 +173,22 @@ def tell(edit, what):
     print(f"wrong {edit.crate}/{edit.name}: {what}", flush=True)
 
 
+def stamp_of(crate):
+    """Returns a sum of what a check of the crate reads: its files, and the statements of the libraries below it, which are built."""
+    folders = [f"{below.rlib}/{part}" for below in crate.below() for part in ("interface", "lang")]
+    stated = [f"{at}/{name}" for folder in folders for at, _, names in os.walk(folder) for name in names]
+    total = hashlib.sha256(repr((crate.said, crate.has_c, read(f"{KIT.KIT}/WHAT"))).encode())
+    for file in [*KIT.files_of(crate.folder), *sorted(stated)]:
+        with open(file, "rb") as it:
+            total.update(repr((os.path.relpath(file), it.read())).encode())
+    return total.hexdigest()
+
+
 class Notes:
     """The wrong bodies of one crate that passed on this machine: a file for each, named for the sum of all that it was judged by."""
 
     def __init__(self, crate):
-        self.crate, self.stamp = crate, crate.stamp()
+        self.crate, self.stamp = crate, stamp_of(crate)
 
     def place(self, edit):
         judges = read(os.path.realpath(__file__)), read(KIT.__file__), self.stamp, edit.name, edit.text
@@ -169,7 +202,7 @@ class Notes:
 
     def add(self, edits):
         """Notes that these passed, unless the crate has changed since the run began, or there is no room for a note."""
-        if edits and self.stamp == self.crate.stamp():
+        if edits and self.stamp == stamp_of(self.crate):
             with contextlib.suppress(OSError):
                 os.makedirs(NOTES, exist_ok=True)
                 for edit in edits:
@@ -180,8 +213,8 @@ class Notes:
 class Trial:
     """The wrong bodies of one crate, tried in rounds on one copy of it."""
 
-    def __init__(self, crate, edits, writes):
-        self.crate, self.left, self.notes, self.writes, self.passed = crate, edits, Notes(crate), writes, []
+    def __init__(self, crate, edits, writes, is_whole):
+        self.crate, self.left, self.notes, self.writes, self.is_whole, self.passed = crate, edits, Notes(crate), writes, is_whole, []
 
     def sort_out(self, is_anew):
         """Judges the edits that can't be tried, and those that are noted unless all are tried anew, and tells which of the others are tried alone."""
@@ -217,8 +250,8 @@ class Trial:
         self.passed.append(edit)
         edit.goals = goals
         tell(edit, f"refused at {edit.function}{when}: {', '.join(goals)}")
-        if self.writes and goals and not edit.clause:
-            edit.write_clause(goals[0])
+        if self.writes and goals and not (edit.clause and edit.open):
+            edit.write_goals(goals)
 
     def lay_round(self, room):
         """Lays a copy of the crate with as many of the edits that are left as can be tried beside one another, and returns those."""
@@ -232,6 +265,8 @@ class Trial:
             texts, _ = edit.edited(room)
             if texts and all(self.can_stand_beside(edit, other) for other in taken):
                 taken.append(edit)
+                if not self.is_whole:
+                    edit.answer(room)
                 for path, text in texts.items():
                     with open(f"{room}/{path}", "w", encoding="utf-8") as out:
                         out.write(text)
@@ -277,13 +312,19 @@ def main():
     parser.add_argument("--lanes", type=int, default=processors, metavar="N", help="try the edits of as many crates at once")
     parser.add_argument("--anew", action="store_true", help="try the edits that are noted too")
     parser.add_argument("--write", action="store_true", help="write the line 'clause' into edits that pass and have none: read it, as it only says what was open")
+    parser.add_argument("--whole", action="store_true", help="try the edits that are noted too, and all without answers to the goals that they list")
     parser.add_argument("--only", nargs="+", default=[], metavar="WORD", help="try the edits of these crates, and those with one of these words in their names")
+    parser.add_argument("--except", nargs="+", default=[], metavar="CRATE", dest="left_out", help="try no edit of these crates")
     asked = parser.parse_args()
     root = os.path.dirname(os.path.dirname(os.path.realpath(__file__)))
     os.chdir(root)
     listed = {it.name: it for it in KIT.crates_below(root)}
     every = [Edit(file) for file in sorted(glob.glob(f"{root}/crates/*/wrong/*.edit"))]
     chosen = [it for it in every if not asked.only or any(word == it.crate or word in it.name for word in asked.only)]
+    chosen = [it for it in chosen if it.crate not in asked.left_out]
+    for word in asked.left_out:
+        if word not in listed:
+            parser.error(f"no crate is named {word}")
     for word in asked.only:
         if word not in listed and not any(word in it.name for it in every):
             parser.error(f"no crate and no wrong body is named {word}")
@@ -291,12 +332,13 @@ def main():
         if edit.crate not in listed:
             tell(edit, "BAD EDIT: crates.txt does not list its crate")
     edits = {crate: [it for it in chosen if it.crate == name] for name, crate in listed.items()}
-    trials = [Trial(crate, its, asked.write).sort_out(asked.anew) for crate, its in edits.items() if its]
-    open_ones = sorted((it for it in trials if it.left), key=lambda it: -len(it.left))
     # its first call sets a signal's handler, which only the main thread may
     KIT.guarded()
-    libraries = dict.fromkeys(below for it in open_ones for below in it.crate.below())
+    trials = []
+    libraries = dict.fromkeys(below for crate, its in edits.items() if its for below in crate.below())
     if all(it.build_rlib(["--jobs", str(processors)], anew=False) == 0 for it in libraries):
+        trials = [Trial(crate, its, asked.write, asked.whole).sort_out(asked.anew or asked.whole) for crate, its in edits.items() if its]
+        open_ones = sorted((it for it in trials if it.left), key=lambda it: -len(it.left))
         with ThreadPoolExecutor(asked.lanes) as pool:
             list(pool.map(Trial.run, open_ones))
     passed = sum(len(it.passed) for it in trials)
