@@ -25,6 +25,7 @@ WORDS = {
     "str::from_utf8": "core::str::from_utf8",
     "str::from_utf8_unchecked": "core::str::from_utf8_unchecked",
     ".cast_unsigned()": ".to_unsigned()",
+    ".read_to_end(&mut bytes)": ".read_to_end(bytes.as_read_buffer())",
     "fn fmt<W: fmt::Write>(&self, f: &mut fmt::Formatter<W>)": "fn fmt(&self, f: &mut fmt::Formatter<'_>)",
 } | {f"std::{part}": f"core::{part}" for part in ("cmp", "error", "fmt", "iter", "mem", "ops", "slice")}
 BALANCED = r"\{(?:[^{}]|\{(?:[^{}]|\{(?:[^{}]|\{[^{}]*\})*\})*\})*\}"

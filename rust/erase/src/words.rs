@@ -13,7 +13,7 @@ pub const MODULE: &str = "erased";
 pub const SHIM: &str = "fallible";
 
 /// What the source has, and what the Rust has for it. `SHIM` is the path of the shim.
-const WORDS: [(&str, &str); 24] = [
+const WORDS: [(&str, &str); 25] = [
     ("std::alloc::", "SHIM::alloc::"),
     ("std::simd::", "SHIM::simd::"),
     ("std::vec::Vec", "$SHIM::Vec"),
@@ -27,6 +27,10 @@ const WORDS: [(&str, &str); 24] = [
     ("str::from_utf8", "core::str::from_utf8"),
     ("str::from_utf8_unchecked", "core::str::from_utf8_unchecked"),
     (".cast_unsigned()", ".to_unsigned()"),
+    (
+        ".read_to_end(&mut bytes)",
+        ".read_to_end(bytes.as_read_buffer())",
+    ),
     (
         "fn fmt<W: fmt::Write>(&self, f: &mut fmt::Formatter<W>)",
         "fn fmt(&self, f: &mut fmt::Formatter<'_>)",

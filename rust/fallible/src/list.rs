@@ -7,7 +7,8 @@ use core::ops::{Deref, DerefMut, Range};
 use core::slice;
 
 /// Rattle's `Vec`: Rust's, but each call that grows it returns an error if memory is refused, and leaves it as it was.
-/// It is a type of its own, since a method of Rust's `Vec` would go before one of a trait.
+/// It is a type of its own, since a method of Rust's `Vec` would go before one of a trait. It lends its items as a slice, and
+/// never as Rust's `Vec`, which grows without an error.
 #[derive(PartialEq, Eq, PartialOrd, Ord, Hash)]
 #[repr(transparent)]
 pub struct Vec<T>(vec::Vec<T>);
@@ -91,6 +92,51 @@ impl<T> Vec<T> {
         Ok(())
     }
 
+    /// Rattle's `Vec::capacity`: how many items the list has room for.
+    pub fn capacity(&self) -> usize {
+        self.0.capacity()
+    }
+
+    /// Rattle's `Vec::as_slice`: the items.
+    pub fn as_slice(&self) -> &[T] {
+        &self.0
+    }
+
+    /// Rattle's `Vec::as_mut_slice`: the items, to change.
+    pub fn as_mut_slice(&mut self) -> &mut [T] {
+        &mut self.0
+    }
+
+    /// Rust's list, for `Read::read_to_end` alone, which returns an error where it can't grow by `try_reserve`.
+    pub fn as_read_buffer(&mut self) -> &mut vec::Vec<T> {
+        &mut self.0
+    }
+
+    /// Rattle's `Vec::clear`: removes all items, and keeps their memory.
+    pub fn clear(&mut self) {
+        self.0.clear();
+    }
+
+    /// Rattle's `Vec::truncate`: removes the items from `len` on, and keeps their memory.
+    pub fn truncate(&mut self, len: usize) {
+        self.0.truncate(len);
+    }
+
+    /// Rattle's `Vec::pop`: removes the last item, if there is one, and returns it.
+    pub fn pop(&mut self) -> Option<T> {
+        self.0.pop()
+    }
+
+    /// Rattle's `Vec::remove`: removes the item at `at`, and returns it. Those behind it move up.
+    pub fn remove(&mut self, at: usize) -> T {
+        self.0.remove(at)
+    }
+
+    /// Rattle's `Vec::retain`: removes the items of which the test is false. The others stay in order.
+    pub fn retain(&mut self, test: impl FnMut(&T) -> bool) {
+        self.0.retain(test);
+    }
+
     /// Rattle's `Vec::slice_mut`, for `&mut list[range]`.
     pub fn slice_mut(&mut self, range: Range<usize>) -> &mut [T] {
         &mut self.0[range]
@@ -112,7 +158,8 @@ impl<T> Vec<T> {
     }
 
     /// Rattle's `Vec::sort_by_cached_key`: sorts by a key that is computed once for each item. Items of equal keys stay in
-    /// order. It takes as much memory as Rattle's, so that both are refused at the same calls.
+    /// order. It takes as much memory as Rattle's, so that both are refused at the same calls: for more than 20 items also
+    /// the room into which Rattle's sort merges, though Rust's sorts in place.
     pub fn sort_by_cached_key<K: Ord>(&mut self, key: impl FnMut(&T) -> K) -> Result<(), AllocError>
     where
         T: Copy,
@@ -123,7 +170,7 @@ impl<T> Vec<T> {
             return Ok(());
         }
         let mut keys = Vec::with_capacity(Global, len)?;
-        keys.extend(self.iter().map(key).zip(0..));
+        keys.0.extend(self.iter().map(key).zip(0..));
         if len > SORTED_IN_PLACE {
             Vec::<(K, usize)>::with_capacity(Global, len)?;
         }
@@ -137,15 +184,15 @@ impl<T> Vec<T> {
 }
 
 impl<T> Deref for Vec<T> {
-    type Target = vec::Vec<T>;
+    type Target = [T];
 
-    fn deref(&self) -> &vec::Vec<T> {
+    fn deref(&self) -> &[T] {
         &self.0
     }
 }
 
 impl<T> DerefMut for Vec<T> {
-    fn deref_mut(&mut self) -> &mut vec::Vec<T> {
+    fn deref_mut(&mut self) -> &mut [T] {
         &mut self.0
     }
 }

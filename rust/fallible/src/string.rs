@@ -5,7 +5,8 @@ use crate::alloc::{AllocError, Global};
 use core::fmt::{self, Write};
 use core::ops::Deref;
 
-/// Rattle's `String`: Rust's, but each call that grows it returns an error if memory is refused.
+/// Rattle's `String`: Rust's, but each call that grows it returns an error if memory is refused. It lends its text, and never
+/// Rust's `String`, which grows without an error.
 #[derive(PartialEq, Eq, PartialOrd, Ord, Hash, Debug)]
 #[repr(transparent)]
 pub struct String(string::String);
@@ -35,6 +36,16 @@ impl String {
         Ok(())
     }
 
+    /// Rattle's `String::capacity`: how many bytes the text has room for.
+    pub fn capacity(&self) -> usize {
+        self.0.capacity()
+    }
+
+    /// Rattle's `String::as_str`: the text.
+    pub fn as_str(&self) -> &str {
+        &self.0
+    }
+
     /// What Rattle's `write!` calls: appends what is shown, in parts, so that an error leaves those before it. Refused
     /// memory is the only error, unless what is shown fails by itself.
     pub fn write_fmt(&mut self, shown: fmt::Arguments<'_>) -> Result<(), AllocError> {
@@ -51,9 +62,9 @@ impl Write for Growing<'_> {
 }
 
 impl Deref for String {
-    type Target = string::String;
+    type Target = str;
 
-    fn deref(&self) -> &string::String {
+    fn deref(&self) -> &str {
         &self.0
     }
 }

@@ -5,6 +5,7 @@ use fallible::{String, Vec};
 use std::alloc::{GlobalAlloc, Layout, System};
 use std::cell::Cell;
 use std::fmt::Debug;
+use std::ops::Deref;
 use std::ptr;
 
 thread_local! {
@@ -152,6 +153,14 @@ fn growth_doubles_the_room() {
     let mut text = String::from_str(Global, &"x".repeat(100)).expect("memory");
     text.push_str("x").expect("memory");
     assert_eq!(text.capacity(), 200);
+}
+
+/// Neither lends Rust's own, which grows without an error.
+#[test]
+fn a_list_lends_a_slice_and_a_text_a_str() {
+    fn lends<L: Deref<Target = T>, T: ?Sized>() {}
+    lends::<Vec<usize>, [usize]>();
+    lends::<String, str>();
 }
 
 #[test]
