@@ -10,7 +10,7 @@ use i_shape::base::data::{Contour, Path, Paths, Shape, Shapes};
 use i_shape::flat::buffer::{FlatContoursBuffer, FlatShapesBuffer};
 use i_shape::flat::float::{FloatFlatContoursBuffer, FloatFlatShapesBuffer};
 use i_shape::int::area::{Area, IteratorArea, UnsafeArea};
-use i_shape::int::count::PointsCount;
+use i_shape::int::count::{self, PointsCount};
 use i_shape::int::despike::{DeSpikeContour, DeSpikeShape, DeSpikeShapes};
 use i_shape::int::path::{ContourExtension, IntPath, IntPaths};
 use i_shape::int::safe_range::IntSafeRange;
@@ -36,6 +36,12 @@ pub fn doubled<I: IntNumber>(a: I, b: I) -> (I::Wide, I::Wide) {
     let product = a.to_wide().wrapping_mul(b.to_wide());
     let twice = product.wrapping_add(product).wrapping_sub(I::Wide::ZERO);
     (twice, twice.signum())
+}
+
+/// Returns the least number of a type, half of one less than the greatest, and the bits of the type.
+pub fn limits<I: IntNumber>() -> (I::Wide, I::Wide, u32) {
+    let below_max = I::MAX.minus(I::ONE).to_wide();
+    (I::MIN.to_wide(), below_max.divide(I::Wide::TWO), I::BITS)
 }
 
 /// Returns the point with both coordinates zero.
@@ -200,6 +206,13 @@ pub fn points_of_paths<I: IntNumber>(paths: &IntPaths<I>) -> usize
     paths.as_slice().points_count()
 }
 
+/// Returns the number of points of a list, which must fit `usize`, by the name of the list where points are counted.
+pub fn points_of_list<I: IntNumber>(shapes: &count::IntShapes<I>) -> usize
+    requires { sum_by (λ shape. sum_by (λ path. vec_len path) shape.items) shapes.now.items ≤ usize.MAX }
+{
+    shapes.as_slice().points_count()
+}
+
 /// Changes the first contour of a buffer in place: its first point becomes `point`. Returns whether it could.
 pub fn change_first<I: IntNumber>(buffer: &mut FlatContoursBuffer<I>, point: IntPoint<I>) -> bool {
     if buffer.is_empty() || !buffer.is_single_contour() || !buffer.can_read_first() {
@@ -293,14 +306,22 @@ pub fn lent_by_buffer<I: IntNumber>(buffer: &FlatContoursBuffer<I>) -> Option<us
 pub fn lent_of_any_kind<'a, P: ShapePoint>(
     path: &'a [P],
     shape: &'a [Vec<P>],
+    list: &'a [Vec<Vec<P>>],
     contours: &'a FloatFlatContoursBuffer<P>,
     shapes: &'a FloatFlatShapesBuffer<P>,
-) -> [Option<&'a [P]>; 4] {
+) -> [Option<&'a [P]>; 5] {
     let mut path: float::contour::ContourResourceIterator<'a, P> = path.iter_paths();
     let mut shape: float::shape::ShapeResourceIterator<'a, P> = shape.iter_paths();
+    let mut list: float::shapes::ShapesResourceIterator<'a, P> = list.iter_paths();
     let mut contours: FloatContoursBufferResourceIterator<'a, P> = contours.iter_paths();
     let mut shapes: FloatShapesBufferResourceIterator<'a, P> = shapes.iter_paths();
-    [path.next(), shape.next(), contours.next(), shapes.next()]
+    [
+        path.next(),
+        shape.next(),
+        list.next(),
+        contours.next(),
+        shapes.next(),
+    ]
 }
 
 /// Returns the double area of the points of a nonempty iterator, by either name.
