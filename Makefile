@@ -14,7 +14,7 @@ TO_MAN = $(DESTDIR)$(MANDIR)/man1
 C_OUT := bindings/c/out$(if $(TARGET)$(CPU),/$(TARGET)$(if $(TARGET),$(if $(CPU),-))$(CPU))
 PROGRAM := crates/i_shape_tool_main/out/$(if $(TARGET)$(CPU),$(TARGET)$(CPU)/i_shape_tool,i_shape_tool_main)
 
-.PHONY: test gate help check fmt program c wasm page wheel postgres dist site pictures install install-program install-c install-postgres uninstall uninstall-program uninstall-c clean
+.PHONY: test gate help check check-c fmt program c wasm page wheel postgres dist site pictures install install-program install-c install-postgres uninstall uninstall-program uninstall-c clean
 
 # The tests of behaviour, without a proof, by cargo. What isn't built is skipped.
 test:
@@ -31,6 +31,12 @@ help:
 # Checks each crate, over the work that earlier checks kept.
 check:
 	rt all check
+
+# Compares what the calls of the C library, as it is built here, return and write with the hashes of the proved one.
+check-c: c
+	@mkdir -p bindings/c/out
+	@$(CC) -std=c11 -O2 -Iinclude bindings/c/check/hashes.c $(C_OUT)/libi_shape.a -o bindings/c/out/hashes
+	@bindings/c/out/hashes -c bindings/c/check/hashes.txt
 
 # Formats each crate.
 fmt:

@@ -124,6 +124,7 @@ test_install
 tests=("${c[@]}" bindings/c/test.c)
 other=bindings/c/allocator.c
 test_as 'C11' "${tests[@]}" "$library/libi_shape.a"
+test_hashes 'C11' "$library/libi_shape.a" "${CC:-cc}"
 test_as 'C++17' "${CXX:-c++}" -std=c++17 -x c++ bindings/c/test.c -x none "$library/libi_shape.a"
 test_as 'C11, shared' "${tests[@]}" "$library/libi_shape.so" "-Wl,-rpath,$PWD/$library"
 test_as 'the allocator for other machines' "${tests[@]}" $other "$library/libi_shape.a"

@@ -63,8 +63,19 @@ test_changes() {
     check 'a folder without an erased file is found' fails python3 .ci/erased.py "$work/empty"
 }
 
-# A hash of the answers of each call of the library $1.
-hashes_of() { "${CC:-cc}" -std=c11 -O2 "${warnings[@]}" -Iinclude bindings/c/hashes.c "$1" -o "$work/hashes" && "$work/hashes"; }
+# Hashes of more answers of each call of the library $1 than are recorded.
+hashes_of() { "${CC:-cc}" -std=c11 -O2 -Iinclude bindings/c/check/hashes.c "$1" -o "$work/hashes" && "$work/hashes" 2 5000; }
+
+# The recorded hashes find that the call $1 takes contours of seven points for what they aren't.
+test_wrong_call() {
+    local wrong="#include <i_shape.h>
+        int8_t __real_$1(const i_shape_point_i32 *points, size_t count);
+        int8_t __wrap_$1(const i_shape_point_i32 *points, size_t count) { return (int8_t)(__real_$1(points, count) ^ (count == 7)); }"
+    echo "$wrong" | "${CC:-cc}" -Iinclude -c -x c - -o "$work/wrong.o"
+    compare_hashes "$library/libi_shape.a" "${CC:-cc}" "-Wl,--wrap=$1" "$work/wrong.o" > "$work/log"
+    [ $? = 1 ] && grep -q "^failed: [0-9a-f]* $1: " "$work/log" && grep -qx '89 passed, 1 failed' "$work/log" || { cat "$work/log" && false; }
+    count $? "the recorded hashes: wrong answers of $1"
+}
 
 # What the library asks of the program that it is linked into.
 asks() { nm -D --undefined-only "$library/libi_shape.so" | awk '$1 == "U" { sub(/@.*/, "", $2); print $2 }' | sort | tr '\n' ' '; }
@@ -78,7 +89,10 @@ test_library() {
     prints 'the C library of cargo: its calls' "$(declared)" defined
     prints 'the C library of cargo: its name' "[libi_shape.so.$(scripts/version.sh | cut -d. -f1)]" bash -c "readelf -d '$library/libi_shape.so' | grep -o '\[libi_shape.*\]'"
     needs "the kit's C library beside it" "it isn't built" bash bindings/c/build.sh --is-built &&
-        prints 'the C library of cargo: the hashes of its answers' "$(hashes_of bindings/c/out/libi_shape.a)" hashes_of "$library/libi_shape.a"
+        prints 'the C library of cargo: the hashes of more of its answers' "$(hashes_of bindings/c/out/libi_shape.a)" hashes_of "$library/libi_shape.a"
+    check 'the recorded hashes: their calls' diff <(declared) <(cut -d ' ' -f 2- bindings/c/check/hashes.txt | sort)
+    test_hashes 'the C library of cargo' "$library/libi_shape.a" "${CC:-cc}"
+    test_wrong_call i_shape_is_convex_i32
     ln -sf libi_shape.so "$library/libi_shape.so.0"
     test_as 'the C library of cargo' "${c[@]}" $tests "$library/libi_shape.a"
     test_as 'the C library of cargo, shared' "${c[@]}" $tests "$library/libi_shape.so" "-Wl,-rpath,$library"

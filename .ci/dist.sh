@@ -86,7 +86,7 @@ test_page() {
 test_linux() {
     local faster=()
     [ "$1" != x86_64 ] || faster=(PROOF.x86-64-v2 lib/glibc-hwcaps/x86-64-v2/libi_shape.so.{"$major","$version"})
-    unpack "linux-$1" "i_shape-$version-linux-$1.tar.gz" CMakeLists.txt LICENSE PROOF README.md include/i_shape.{h,hpp} lib/libi_shape.{a,so{,."$major",."$version"}} \
+    unpack "linux-$1" "i_shape-$version-linux-$1.tar.gz" CMakeLists.txt LICENSE Makefile PROOF README.md check/{CMakeLists.txt,hashes.{c,h,txt}} include/i_shape.{h,hpp} lib/libi_shape.{a,so{,."$major",."$version"}} \
         lib/cmake/i_shape/i_shape-{config,config-version,targets}.cmake lib/pkgconfig/i_shape.pc sample/{consumer/CMakeLists.txt,sample.c,sample.cpp} "${faster[@]}" || return
     check "linux-$1: what the kit said of the proof" is_proved "$1"
     check "linux-$1: what its library asks for" needs_glibc lib/libi_shape.so 17
@@ -98,10 +98,12 @@ test_x86_64() {
     test_linux x86_64 || return
     test_faster
     test_page
+    add 'linux-x86_64: make check' make -s check
     has 'linux-x86_64: CMake' cmake || return
     for program in {i_shape,static,shared}_in_{c,cpp}; do
         prints "linux-x86_64: CMake: $program" "$corners" "build/$program"
     done
+    check 'linux-x86_64: ctest' bash -c 'cmake -S . -B own && cmake --build own && ctest --test-dir own --no-tests=error'
     cmake -S sample/consumer -B fetched -DI_SHAPE_ARCHIVE="$work/dist/i_shape-$version-linux-x86_64.tar.gz" > "$work/log" 2>&1 &&
         cmake --build fetched >> "$work/log" 2>&1 || cat "$work/log"
     prints 'linux-x86_64: CMake, by FetchContent' "$corners" fetched/shared_in_c
@@ -113,6 +115,8 @@ test_aarch64() {
     runner=("${aarch64[@]}")
     prints_corners 'linux-aarch64: C' "${c[@]}" lib/libi_shape.a
     prints_corners 'linux-aarch64: C, shared' "${c[@]}" lib/libi_shape.so
+    make -s check CC=aarch64-linux-gnu-gcc > /dev/null 2>&1
+    add 'linux-aarch64: make check' "${runner[@]}" check/hashes -c check/hashes.txt
 }
 
 # The program for the machine $1 prints the corners, by the command of its page. It is run by the words from $2 on.

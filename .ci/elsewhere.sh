@@ -18,6 +18,7 @@ test_archive() {
     prints "$1: the sample" "$corners" "${runner[@]}" "$work/sample"
     test_as "$1" "${@:3}" $tests "$2"
     test_as "$1, each growth refused" "${@:3}" -DOWN_ALLOCATOR $tests "$2"
+    test_hashes "$1" "$2" "${@:3}"
 }
 
 has_aarch64() { needs "$1" "there is no C library for it in $of_aarch64" [ -e $of_aarch64/lib/libc.so.6 ] && has "$1" aarch64-linux-gnu-gcc qemu-aarch64; }
@@ -95,7 +96,7 @@ print(f"{len(tests) - len(failed)} passed, {len(failed)} failed")
 PROGRAM
 }
 
-by_wine() { (cd "$work" && set -o pipefail && wine "$1.exe" 2> /dev/null | tr -d '\r'); }
+by_wine() { (cd "$work" && set -o pipefail && wine "$1.exe" "${@:2}" 2> /dev/null | tr -d '\r'); }
 
 # The answers of the library $2 to random contours at each width, into the folder $1, by a program that the words from $3 on compile.
 answer_contours() {
@@ -141,6 +142,7 @@ test_target() {
     rm -f "$library"
     check "$name: the library" build_by_cargo "$2"
     test_as "$name" "${c[@]}" $tests "$library"
+    test_hashes "$name" "$library" "${c[@]}"
     # a program brings its own allocator where names can be weak
     [[ $2 = *windows* ]] || test_as "$name, each growth refused" "${c[@]}" -DOWN_ALLOCATOR $tests "$library"
 }

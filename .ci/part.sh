@@ -104,6 +104,13 @@ test_as() {
     add "$1" compile_and_run "${@:2}"
 }
 
+# Compares the answers of the library $1 with those that are recorded, by a program that the words from $2 on compile, and that the words of the array runner run.
+compare_hashes() {
+    "${@:2}" -std=c11 -O2 "${warnings[@]}" -Iinclude bindings/c/check/hashes.c "$1" -o "$work/hashes" && "${runner[@]}" "$work/hashes" -c "$PWD/bindings/c/check/hashes.txt"
+}
+
+test_hashes() { add "$1, the hashes of its answers" compare_hashes "${@:2}"; }
+
 # Compiles the program $3 that answers as the library $2 does at the width $1, by the words from $4 on.
 compile_answers() {
     "${@:4}" -std=c11 -O2 -Wall -Wextra -Werror "-DWIDTH=$1" "-DWIDTH_TWICE=$((2 * $1))" -Iinclude bindings/js/test/native/answers.c "$2" -o "$3"

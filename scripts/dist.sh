@@ -50,6 +50,8 @@ pack_linux() {
     # so that the folder may lie anywhere
     sed 's|@PREFIX@|${pcfiledir}/../..|; s|@INCLUDEDIR@|${prefix}/include|; s|@LIBDIR@|${prefix}/lib|' "$library/i_shape.pc.in" > "$work/$name/lib/pkgconfig/i_shape.pc"
     cp "$top/bindings/c/archive.cmake" "$work/$name/CMakeLists.txt"
+    cp "$top/bindings/c/archive.mk" "$work/$name/Makefile"
+    cp -R "$top/bindings/c/check" "$work/$name"
     mkdir "$work/$name/sample"
     cp -R "$top"/bindings/c/{sample.c,sample.cpp,consumer} "$work/$name/sample"
     cp "$top/LICENSE" "$work/$name"

@@ -57,7 +57,7 @@ static uint64_t AT(written)(uint64_t hash) {
     return written(hash);
 }
 
-/* Prints the hash of a call with these words in parentheses, over all rounds. Its points, rooms and rule are made anew for each. */
+/* Tells the hash of a call with these words in parentheses, over all rounds. Its points, rooms and rule are made anew for each. */
 #define HASH(NAME, WORDS) \
     do { \
         uint64_t hash = 0; \
@@ -70,7 +70,7 @@ static uint64_t AT(written)(uint64_t hash) {
             (void)rule, (void)x, (void)y; \
             hash = AT(written)(mixed(hash, answer_of((int64_t)CALL(NAME) WORDS))); \
         } \
-        print(TEXT(CALL(NAME)), hash); \
+        tell(TEXT(CALL(NAME)), hash); \
     } while (0)
 #define TEXT_OF(name) #name
 #define TEXT(name) TEXT_OF(name)

@@ -1,5 +1,12 @@
-/* hashes [SEED [ROUNDS]]: calls each function of i_shape.h with points, offsets and rooms that the seed determines, some of them wrong, and prints a hash of all
- * that each returns and writes. Two builds that print the same answer alike. */
+/* Calls each function of i_shape.h with points, offsets and rooms that a seed determines, some of them wrong, and hashes all that each returns and writes. Builds whose
+ * calls return and write the same have the same hashes, whatever their compiler, order of bytes and size of a size_t.
+ *
+ *     hashes -c FILE           compares with the hashes in the file, and ends with status 1 where one differs
+ *     hashes [SEED [ROUNDS]]   prints them
+ *
+ * hashes.txt holds those of the library that Rattle's kit proves and builds: `make c`, and then
+ *
+ *     cc -Iinclude bindings/c/check/hashes.c bindings/c/out/libi_shape.a -o hashes && ./hashes > bindings/c/check/hashes.txt */
 #include "i_shape.h"
 
 #include <inttypes.h>
@@ -48,7 +55,10 @@ static size_t make_offsets(size_t *offsets, size_t end) {
     }
     if (!one_in(4)) offsets[0] = 0;
     if (!one_in(4)) offsets[count - 1] = end;
-    if (one_in(20)) offsets[below(count)] = below(end + 4);
+    if (one_in(20)) {
+        const size_t at = below(count);
+        offsets[at] = below(end + 4);
+    }
     return one_in(60) ? 0 : count;
 }
 
@@ -90,7 +100,26 @@ static uint64_t written(uint64_t hash) {
     return hash;
 }
 
-static void print(const char *name, uint64_t hash) { printf("%016" PRIx64 " %s\n", hash, name); }
+/* The file to compare with, if there is one, and how many of its lines are those of this run. */
+static FILE *recorded;
+static int passed, failed;
+
+/* Prints the line of a call, or compares it with the next one of the file. */
+static void tell(const char *name, uint64_t hash) {
+    char line[80], wanted[80] = "";
+    snprintf(line, sizeof line, "%016" PRIx64 " %s", hash, name);
+    if (recorded == NULL) {
+        puts(line);
+        return;
+    }
+    if (fgets(wanted, sizeof wanted, recorded) != NULL) wanted[strcspn(wanted, "\r\n")] = 0;
+    if (strcmp(line, wanted) == 0) {
+        passed++;
+    } else {
+        failed++;
+        printf("failed: %s: another line than the file's: %s\n", line, wanted);
+    }
+}
 
 #define W 16
 #define AREA int32_t
@@ -120,17 +149,37 @@ static void hash_offsets(size_t rounds) {
                                                                     out_offsets[1], room_of.shapes, out_offsets[2], room_of.offsets));
         compact = written(compact);
     }
-    print("i_shape_first_bad_offset", first_bad);
-    print("i_shape_compact_shapes", compact);
+    tell("i_shape_first_bad_offset", first_bad);
+    tell("i_shape_compact_shapes", compact);
 }
 
-int main(int argc, char **argv) {
-    const size_t rounds = argc > 2 ? (size_t)strtoul(argv[2], NULL, 10) : 3000;
-    state = (argc > 1 ? strtoull(argv[1], NULL, 10) : 1) * UINT64_C(0x9e3779b97f4a7c15) + 1;
-    print("i_shape_version", i_shape_version());
+static void tell_all(uint64_t seed, size_t rounds) {
+    state = seed * UINT64_C(0x9e3779b97f4a7c15) + 1;
+    /* whether the library has the version of its header, and not which that is */
+    tell("i_shape_version", i_shape_version() == I_SHAPE_VERSION);
     hash_offsets(rounds);
     hash_i16(rounds);
     hash_i32(rounds);
     hash_i64(rounds);
-    return 0;
+}
+
+int main(int argc, char **argv) {
+    const int compares = argc == 3 && strcmp(argv[1], "-c") == 0;
+    if (!compares) {
+        tell_all(argc > 1 ? strtoull(argv[1], NULL, 10) : 1, argc > 2 ? (size_t)strtoul(argv[2], NULL, 10) : 1000);
+        return 0;
+    }
+    recorded = fopen(argv[2], "r");
+    if (recorded == NULL) {
+        perror(argv[2]);
+        return 2;
+    }
+    tell_all(1, 1000);
+    if (fgetc(recorded) != EOF) {
+        failed++;
+        puts("failed: the file has more lines");
+    }
+    fclose(recorded);
+    printf("%d passed, %d failed\n", passed, failed);
+    return failed != 0;
 }
