@@ -1,5 +1,5 @@
-//! The tests of `crates/i_shape_tests`, and of `crates/callers` through them, over erased Rust; and those of
-//! `crates/refusals`, with each growth of memory refused in turn.
+//! The tests of `crates/i_shape_tests`, and of `crates/callers` through them, over erased Rust; those of `crates/refusals`,
+//! with each growth of memory refused in turn; and those of lists that the kit can't check.
 #![cfg(test)]
 #![deny(unsafe_code)]
 
@@ -8,3 +8,4 @@ mod host;
 mod erased;
 mod growths;
 mod refusals;
+mod too_many_points;
