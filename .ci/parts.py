@@ -39,7 +39,7 @@ AFTER_PROOFS = (C_LIBRARY, *LANES[0], *LANES[1])
 # The wrong bodies of the core, below which there is no library, are tried beside rt ci. Those of the other crates are tried over the libraries that rt ci has
 # built, and so is the C library built, since theirs are tried over what it keeps.
 WRONG_BODIES_OF_CORE = "nice -n 10 python3 .ci/wrong.py --lanes 1 --only i_shape_core"
-OTHER_WRONG_BODIES = "sh -c 'python3 .ci/mark_proved.py; (cd crates/i_shape_c && rt lib --jobs 2) && exec python3 .ci/wrong.py --except i_shape_core'"
+OTHER_WRONG_BODIES = "sh -c 'python3 .ci/mark_proved.py; bash bindings/c/build.sh && exec python3 .ci/wrong.py --except i_shape_core'"
 
 
 def counts_of(said, status):
