@@ -1,4 +1,4 @@
-//! `TooManyPoints`, over points of no size, of which a list can have `usize::MAX`. Rattle's checker has too little stack for such a list.
+//! `TooManyPoints` of the generic flat buffers, over points of no size, of which a list can have `usize::MAX`.
 
 use crate::erased::callers::copies::copied_paths;
 use crate::erased::fallible::alloc::Global;
