@@ -207,7 +207,7 @@ are_modules() {
 # The crate passes its tests, with what its build script leaves of the proved source in place of that script.
 test_rust() {
     local archive=i_shape-$version-rust.tar.gz its erased
-    its=$(cd rust/i_shape && find examples src tests -type f)
+    its=$(cd "$top/rust/i_shape" && find examples src tests -type f)
     erased=$(tar -tzf "$work/dist/$archive" | sed -nE 's|^[^/]*/(src/erased/.*[.]rs)$|\1|p')
     unpack rust "$archive" LICENSE README.md Cargo.{lock,toml} examples/clean.rs $its $erased && has 'rust: its tests' cargo || return
     check 'rust: each erased file is a module' are_modules $erased

@@ -24,8 +24,10 @@ OUTPUT_DIRECTORY = "$work/doxygen"
 END
 
 mkdir "$work/extra"
-cargo doc --quiet --offline --no-deps --manifest-path rust/i_shape/Cargo.toml --target-dir "$work/target"
-mv "$work/target/doc" "$work/extra/rust"
+# The pages of the erased source have the folder in their names where cargo built it, so that it is the same each time.
+rm -rf rust/target/site
+cargo doc --quiet --offline --no-deps --manifest-path rust/i_shape/Cargo.toml --target-dir rust/target/site
+mv rust/target/site/doc "$work/extra/rust"
 
 mkdir "$work/source"
 ln -s "$TOP"/* "$TOP"/docs/site/{conf.py,*.rst} "$work/source"
