@@ -19,7 +19,12 @@ awk -F: -v crate="$crate" '
         print line[name]
     }
     END { add(crate) }' "$top/crates.txt" > "$folder/crates.txt"
-cp -a "$top/crates/$crate" "$folder/crates"
+# What is kept of the C library changes while bindings/c/build.sh proves it for another machine.
+if [ "$crate" = i_shape_c ]; then
+    flock "$top/bindings/c/out/build.lock" cp -a "$top/crates/$crate" "$folder/crates"
+else
+    cp -a "$top/crates/$crate" "$folder/crates"
+fi
 for library in $(sed -E 's/[ :].*//' "$folder/crates.txt"); do
     [ "$library" != "$crate" ] || continue
     mkdir -p "$folder/crates/$library/out"
