@@ -12,7 +12,7 @@ pub mod removal
 pub mod measure
 -- contours that are moved by an affine map
 pub mod moved
--- convexity, and the walk that tells it
+-- convexity, and the walk that tests it
 pub mod convex
 -- the walks of the cleaners and of the tests
 pub mod walks

@@ -3,5 +3,5 @@ pub mod WholeNumbers
 pub mod Polynomials
 pub mod Products
 pub mod Coordinates
-pub mod Lanes
+pub mod WiderProducts
 pub mod Comparisons

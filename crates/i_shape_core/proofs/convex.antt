@@ -1,4 +1,4 @@
--- Convexity, and the walk that tells it.
+-- Convexity, and the walk that tests it.
 pub mod Removal
 pub mod Ends
 pub mod Laws

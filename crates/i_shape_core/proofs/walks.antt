@@ -7,5 +7,5 @@ pub mod Gaps
 pub mod Ring
 pub mod RingStates
 pub mod Spikes
-pub mod FourTurns
+pub mod Turning
 pub mod RisingPlaces

@@ -74,8 +74,8 @@ abbrev pub UnorientedAnswer : List Point → Option (List Point) → Type 0
 UnorientedAnswer c None = EachEndCollapses c
 UnorientedAnswer c (Some l) = IsUnoriented c l
 
--- e has the opposite double area of c, the same points inside, and the opposite winding number about each point, also if both are scaled
--- by any n
+-- e has the opposite double area of c, the same points inside, and the opposite winding number about each point, also
+-- if both are scaled by any n
 pub record IsKeptBackwards (c e : List Point) : Type 0 where
   pub area : shoelace e ≡ neg_ℤ (shoelace c)
   pub inside : (p : Point) → Inside e p ↔ Inside c p

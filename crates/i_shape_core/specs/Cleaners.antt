@@ -7,7 +7,8 @@ use Rattle.i_shape_core.specs.Edges.{shoelace, Inside}
 use Rattle.i_shape_core.specs.Winding.{winding}
 use Rattle.i_shape_core.specs.Moves.{moved, scaling}
 
--- e is the one end of c up to rotation, and has at least three points; as an end it lists points of c in their order in c
+-- e is the one end of c up to rotation, and has at least three points; as an end it lists points of c in their order in
+-- c
 pub record IsOneEnd (c e : List Point) : Type 0 where
   pub ended : End IsZeroTurn c e
   pub enough : 3 ≤ length e
@@ -26,7 +27,8 @@ SimpleAnswer c (Some e) = IsOneEnd c e
 pub record IsKept (c e : List Point) : Type 0 where
   pub area : shoelace e ≡ shoelace c
   pub inside : (p : Point) → Inside e p ↔ Inside c p
-  -- also scaled by any n: for n above 0 these are the winding numbers about the point with the rational coordinates p.x / n and p.y / n
+  -- also scaled by any n: for n above 0 these are the winding numbers about the point with the rational coordinates p.x
+  -- / n and p.y / n
   pub between : (n : ℤ) (p : Point) → winding (moved (scaling n) e) p ≡ winding (moved (scaling n) c) p
   pub winding : (p : Point) → winding e p ≡ winding c p
 
@@ -52,8 +54,8 @@ abbrev pub VisitsAnswer : List Point → Option (List Point) → ℕ → Type 0
 VisitsAnswer c None visits = IsVisited (length c) (length c - 2) visits
 VisitsAnswer c (Some e) visits = IsVisited (length c) (length c) visits
 
--- d is what is left of c once points at which the path turns back or stands still are removed until there is none; d has no spikes, no
--- end of c has collapsed, and the ends of d are those of c
+-- d is what is left of c once points at which the path turns back or stands still are removed until there is none; d
+-- has no spikes, no end of c has collapsed, and the ends of d are those of c
 pub record IsDespiked (c d : List Point) : Type 0 where
   pub ended : End IsBack c d
   pub enough : 3 ≤ length d

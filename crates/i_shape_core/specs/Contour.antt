@@ -1,4 +1,5 @@
--- A contour is a list of points read as a cycle. What can be left of it if points that pass a test are removed one by one.
+-- A contour is a list of points read as a cycle. What can be left of it if points that pass a test are removed one by
+-- one.
 use Rattle.std.specs.Prelude.{◌≡◌, ℕ, ◌+◌, ◌-◌, ◌%◌, ◌<◌, ◌≤◌, List, ◌++◌, length, get_or, reverse, ◌⊎◌, [], ◌∷◌, remove}
 use Rattle.i_shape_core.specs.Point.{Point, origin, IsZeroTurn}
 
@@ -61,8 +62,8 @@ pub record IsSimple (c : List Point) : Type 0 where
   pub enough : 3 ≤ length c
   pub none : (k : ℕ) → IsRemovable IsZeroTurn c k → ⊥
 
--- d is a sublist of c: only the empty list is one of the empty list; those of a list that starts with a are those of its rest, with or
--- without a in front
+-- d is a sublist of c: only the empty list is one of the empty list; those of a list that starts with a are those of
+-- its rest, with or without a in front
 abbrev pub Sublist : {A : Type 0} → List A → List A → Type 0
 Sublist {A} [] d = d ≡ []
 Sublist {A} (a ∷ c) d = Sublist c d ⊎ ((e : List A) × (d ≡ a ∷ e) × Sublist c e)

@@ -1,4 +1,5 @@
--- The fill rules of overlays: whether a point is filled, by the sum of the winding numbers of a shape's contours about it.
+-- The fill rules of overlays: whether a point is filled, by the sum of the winding numbers of a shape's contours about
+-- it.
 use Rattle.std.specs.Prelude.{◌≢◌, ◌<ℤ◌, ℤ, pos}
 use Rattle.i_shape_core.specs.Winding.{IsOdd}
 use Rattle.i_shape_core.specs.declared.fill_rule.FillRule.{FillRule}

@@ -22,13 +22,15 @@ pub record Twice (c : List Point) : Type 0 where
   pub again : (e f : List Point) → End IsZeroTurn c e → End IsZeroTurn e f → f ≡ e
   pub simple : IsSimple c → (d : List Point) → Reach IsZeroTurn c d → d ≡ c
 
--- an end of at least three points is the end of every order up to rotation, every order collapses or none does, and there is an end
+-- an end of at least three points is the end of every order up to rotation, every order collapses or none does, and
+-- there is an end
 pub record EveryOrder (c : List Point) : Type 0 where
   pub some : (e f : List Point) → End IsZeroTurn c e → 3 ≤ length e → End IsZeroTurn c f → (3 ≤ length f) × Rotation e f
   pub none : (d f : List Point) → Reach IsZeroTurn c d → IsCollapsed d → End IsZeroTurn c f → IsCollapsed f
   pub exists : (e : List Point) × End IsZeroTurn c e
 
--- what is left of c if only back vertices are removed has collapsed exactly where the ends of c have, and otherwise has their ends
+-- what is left of c if only back vertices are removed has collapsed exactly where the ends of c have, and otherwise has
+-- their ends
 pub record Agreed (c : List Point) : Type 0 where
   pub alike : (d e : List Point) → End IsBack c d → End IsZeroTurn c e → IsCollapsed d ↔ IsCollapsed e
   pub ends : (d e f : List Point) → End IsBack c d → 3 ≤ length d → End IsZeroTurn c e → End IsZeroTurn d f → Rotation e f
@@ -42,8 +44,8 @@ pub record InsideKept (c d : List Point) : Type 0 where
   pub kept : Reach IsZeroTurn c d → (p : Point) → Inside c p ↔ Inside d p
   pub none : length c < 3 → (p : Point) → Inside c p → ⊥
 
--- without spikes no end collapses, and each is convex exactly where the contour is; rotation, reversal and repeating a point beside
--- itself keep convexity
+-- without spikes no end collapses, and each is convex exactly where the contour is; rotation, reversal and repeating a
+-- point beside itself keep convexity
 pub record ConvexKept (c : List Point) : Type 0 where
   pub ends : NoSpikes c → (e : List Point) → End IsZeroTurn c e → (3 ≤ length e) × (Convex c ↔ Convex e)
   pub rotated : (d : List Point) → Rotation c d → Convex c ↔ Convex d

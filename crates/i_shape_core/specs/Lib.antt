@@ -19,6 +19,7 @@ pub mod Refusals
 pub mod Canonical
 pub mod Walks
 pub mod Heights
-pub mod FourTurns
+pub mod Turning
 pub mod Unclean
 pub mod Rings
+pub mod Reading

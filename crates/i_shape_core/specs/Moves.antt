@@ -2,7 +2,8 @@
 use Rattle.std.specs.Prelude.{ℤ, pos, ◌+ℤ◌, ◌-ℤ◌, ◌*ℤ◌, List, map}
 use Rattle.i_shape_core.specs.Point.{Point}
 
--- the new x is xx times the old x, and xy times the old y, and the number x; the new y is yx times the old x, and yy times the old y, and the number y
+-- the new x is xx times the old x, and xy times the old y, and the number x; the new y is yx times the old x, and yy
+-- times the old y, and the number y
 pub record Move : Type 0 where
   pub xx : ℤ
   pub xy : ℤ

@@ -46,8 +46,8 @@ HaveRoom Clean read room points offsets n = (k : ℕ) → k + 1 < n → (Clean (
 abbrev pub AreShortOrClean : {P : Type 0} → (List Point → Type 0) → (List P → List Point) → List P → List ℕ → ℕ → Type 0
 AreShortOrClean Clean read points offsets n = (k : ℕ) → k + 1 < n → IsShortOrClean (λ j. Clean (read (nth_ring points offsets j))) (λ j. length (nth_ring points offsets j)) k
 
--- a call makes room for the longest ring that isn't clean: `had` and `has` hold of the numbers of points for which there is room before
--- and after
+-- a call makes room for the longest ring that isn't clean: `had` and `has` hold of the numbers of points for which
+-- there is room before and after
 pub record TakesRoom {P T : Type 0} (Clean : List Point → Type 0) (read : List P → List Point) (had has : ℕ → Type 0) (points : List P) (offsets : List ℕ) (result : Result T ShapeError) : Type 0 where
   -- `OutOfMemory` is the only error, and can't occur if each ring is clean or short, or if there is room
   pub memory : IsOkUnless result OutOfMemory
@@ -62,8 +62,8 @@ pub record Leaves {P : Type 0} (Answer Kept : List Point → Option (List Point)
   pub picked : Picks given left
   pub cleaned : IsCleaned Answer Kept width (read given) (slot (read left))
 
--- each ring into which the new offsets divide the points is what is left of the ring that was at its place; there are n points in total,
--- and what lies behind them and behind the offsets is as it was
+-- each ring into which the new offsets divide the points is what is left of the ring that was at its place; there are n
+-- points in total, and what lies behind them and behind the offsets is as it was
 pub record AreCleanedRings {P : Type 0} (Left : List P → List P → Type 0) (points : List P) (offsets : List ℕ) (old_points new_points : List P) (old_offsets new_offsets : List ℕ) (n : ℕ) : Type 0 where
   pub first : offset new_offsets 0 ≡ 0
   pub order : AreRising new_offsets (length offsets)

@@ -1,4 +1,5 @@
--- What cleaning leaves of the members of a list, if `Answer` relates each member to its cleaned one, or to none if it collapses.
+-- What cleaning leaves of the members of a list, if `Answer` relates each member to its cleaned one, or to none if it
+-- collapses.
 use Rattle.std.specs.Prelude.{◌≡◌, List, Option}
 use Rattle.std.specs.List.{AllZip, filter_map}
 use Rattle.i_shape_core.specs.Point.{Point}

@@ -30,7 +30,7 @@ pub record Falls (P : Test) (c : List Point) (visits : ℕ) : Type 0 where
   pub least : length c - 2 ≤ visits
   pub most : visits ≤ 3 * length c
 
--- what a walk answers, after so many visits: an end, or that it fell below three points
+-- what a walk returns, after so many visits: an end, or that it fell below three points
 abbrev pub WalkAnswer : Test → List Point → Option (List Point) → ℕ → Type 0
 WalkAnswer P c None visits = Falls P c visits
 WalkAnswer P c (Some e) visits = Finds P c e visits
@@ -40,7 +40,7 @@ pub record IsFirst (P : Test) (c : List Point) (k : ℕ) : Type 0 where
   pub here : IsRemovable P c k
   pub earlier : (j : ℕ) → j < k → IsRemovable P c j → ⊥
 
--- what a search for the first removable place answers, after so many visits
+-- what a search for the first removable place returns, after so many visits
 abbrev pub FirstAnswer : Test → List Point → Option ℕ → ℕ → Type 0
 FirstAnswer P c None visits = ((k : ℕ) → IsRemovable P c k → ⊥) × (visits ≡ length c)
 FirstAnswer P c (Some k) visits = IsFirst P c k × (visits ≡ k + 1)
@@ -67,11 +67,12 @@ pub record IsStacked (P : Point → Point → Point → Type 0) (c : List Point)
 -- the stack of a walk that has read the places before `place`, with bounds on the vertices visited so far
 pub record IsWalked (P : Point → Point → Point → Type 0) (c : List Point) (stack : List ℕ) (place visits : ℕ) : Type 0 where
   pub stacked : IsStacked P c stack place
-  pub short : length stack ≤ place
+  pub fewer : length stack ≤ place
   pub most : visits + length stack ≤ 2 * place
   pub least : place ≤ visits + min (length stack) 2
 
--- a walk that has removed one place at the most, after so many visits: on its stack are the places from `first` on and before `end`, and `place` comes next
+-- a walk that has removed one place at the most, after so many visits: on its stack are the places from `first` on and
+-- before `end`, and `place` comes next
 pub record IsStart (P : Point → Point → Point → Type 0) (c : List Point) (first end place visits : ℕ) : Type 0 where
   pub rising : first ≤ end
   pub end_within : end ≤ length c
@@ -82,7 +83,7 @@ pub record IsStart (P : Point → Point → Point → Type 0) (c : List Point) (
 abbrev pub IsSettled : (Point → Point → Point → Type 0) → List Point → List ℕ → ℕ → Type 0
 IsSettled P c stack place = (j k : ℕ) → length stack ≡ k + 1 → k ≡ j + 1 → ¬ (P (stacked_point c stack j) (stacked_point c stack k) (point_at c place))
 
--- a ring in the order of the contour: lead is how many of it stand ahead of the contour's first
+-- a ring in the order of the contour: lead is how many of it are ahead of the contour's first
 abbrev pub from_contour_first : {X : Type 0} → List X → ℕ → List X
 from_contour_first ring lead = drop lead ring ++ take lead ring
 
@@ -95,8 +96,8 @@ pub record IsRingWalk (P : Test) (c ring : List Point) (untested lead : ℕ) : T
   pub reached : Reach P c (from_contour_first ring lead)
   pub tested : (k : ℕ) → untested ≤ k → IsRemovable P ring k → ⊥
 
--- a ring of places, from the walk's place on: how many of them, from the first on, are still to be tested, how many stand ahead of the contour's
--- first, and for how many there is memory
+-- a ring of places, from the walk's place on: how many of them, from the first on, are still to be tested, how many are
+-- ahead of the contour's first, and for how many there is memory
 pub record PlacedRing : Type 0 where
   pub places : List ℕ
   pub untested : ℕ
@@ -132,7 +133,8 @@ LeadRemoved n before after = ((before ≡ n) × (after ≡ 1)) ⊎ ((before < n)
 unfoldable pub around_gap : List ℕ → ℕ → ℕ → ℕ → List ℕ
 around_gap places behind ahead end = drop ahead (take end places) ++ take behind places
 
--- how many of a ring of n stand ahead of the contour's first, which stands at `first` where the second part is put before the first
+-- how many of a ring of n are ahead of the contour's first, which is at `first` if the second part is put before the
+-- first
 unfoldable pub lead_over_gap : ℕ → ℕ → ℕ → ℕ
 lead_over_gap n first behind = cond (nat_lt behind first) (first - behind) (first + n - behind)
 
@@ -176,7 +178,8 @@ point_round c k = get_or (c ++ c) k origin
 abbrev pub Agree : List Point → ℕ → ℕ → ℕ → Type 0
 Agree c i j k = (t : ℕ) → t < k → point_round c (i + t) ≡ point_round c (j + t)
 
--- the k-th points are the first in which the rotations that start at places i and j differ, and there the rotation from i comes first
+-- the k-th points are the first in which the rotations that start at places i and j differ, and there the rotation from
+-- i comes first
 pub record Precedes (c : List Point) (i j k : ℕ) : Type 0 where
   pub matched : ℕ
   pub last : k ≡ matched + 1

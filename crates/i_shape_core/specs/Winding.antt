@@ -7,7 +7,8 @@ use Rattle.i_shape_core.specs.Edges.{Edge, edges, sum_of, is_above, is_right}
 abbrev pub level : Point → Point → ℤ
 level p a = cond (is_above p a) (pos 1) (pos 0)
 
--- what an edge adds: 1 if it passes the height of p upward and strictly to the right of p, -1 if it does so downward, and otherwise 0
+-- what an edge adds: 1 if it passes the height of p upward and strictly to the right of p, -1 if it does so downward,
+-- and otherwise 0
 unfoldable pub winding_of_edge : Point → Edge → ℤ
 winding_of_edge p e = cond (is_right p e) (level p e.end -ℤ level p e.start) (pos 0)
 

@@ -15,7 +15,8 @@ abbrev pub slot : List Point → Option (List Point)
 slot [] = None
 slot (p ∷ ps) = Some (p ∷ ps)
 
--- r is a cleaner's result for the contour c: `Answer` relates contours to its results, and `Kept` states what these keep
+-- r is a cleaner's result for the contour c: `Answer` relates contours to its results, and `Kept` states what these
+-- keep
 pub record IsCleaned (Answer Kept : List Point → Option (List Point) → Type 0) (width : Width) (c : List Point) (r : Option (List Point)) : Type 0 where
   pub answer : Answer c r
   pub kept : Kept c r
@@ -33,20 +34,21 @@ CleansTo Answer Kept width value c r = IsCleaned Answer Kept width c (answered (
 abbrev pub CleansInOrder : {I : Type 0} → (List Point → Option (List Point) → Type 0) → Width → (I → ℤ) → List Point → Option (Vec (IntPoint I)) → Type 0
 CleansInOrder Answer width value c r = IsCleanedInOrder Answer width c (answered (contour_of value) r)
 
--- the first n points of `new` are the cleaner's result for the given ones, if `read` gives the points that a list represents; `Picks`
--- states which of the caller's points they are, and in which order; the rest is as in `old`
+-- the first n points of `new` are the cleaner's result for the given ones, if `read` gives the points that a list
+-- represents; `Picks` states which of the caller's points they are, and in which order; the rest is as in `old`
 pub record IsWritten {P : Type 0} (Answer Kept : List Point → Option (List Point) → Type 0) (Picks : List P → List P → Type 0) (width : Width) (read : List P → List Point) (given old new : List P) (n : ℕ) : Type 0 where
   pub fewer : n ≤ length given
   pub picked : Picks given (take n new)
   pub cleaned : IsCleaned Answer Kept width (read given) (slot (read (take n new)))
   pub rest : drop n new ≡ drop n old
 
--- the result and effect of a call that writes a cleaned contour to the front of a caller's list, and makes room if the contour isn't
--- clean: `had` and `has` hold of the numbers of points for which there is room before and after
+-- the result and effect of a call that writes a cleaned contour to the front of a caller's list, and makes room if the
+-- contour isn't clean: `had` and `has` hold of the numbers of points for which there is room before and after
 pub record CleansInto {P : Type 0} (Clean : List Point → Type 0) (Answer Kept : List Point → Option (List Point) → Type 0) (Picks : List P → List P → Type 0) (width : Width) (read : List P → List Point) (had has : ℕ → Type 0) (given old new : List P) (result : Result ℕ ShapeError) : Type 0 where
   pub written : IfOk result (IsWritten Answer Kept Picks width read given old new)
   pub len : length new ≡ length old
-  -- `OutOfMemory` is the only error, and can't occur if the contour is clean or there is room; after it nothing is written
+  -- `OutOfMemory` is the only error, and can't occur if the contour is clean or there is room; after it nothing is
+  -- written
   pub memory : IsOkUnless result OutOfMemory
   pub unclean : OnErr result (Clean (read given) → ⊥)
   pub reserved : had (length given) → IsOk result

@@ -4,6 +4,7 @@ ghost use Rattle.std.specs.Prelude.{◌≡◌, ◌+◌, ◌*◌, ◌<◌, ◌≤
 ghost use Rattle.std.specs.Int.{int_wrap};
 ghost use Rattle.std.specs.Iterator.{Drains, IsFinite};
 ghost use Rattle.i_shape_core.specs.IntPoint.{contour_of};
+ghost use Rattle.i_shape_core.specs.Reading.{read};
 ghost use Rattle.i_shape_core.specs.Edges.{shoelace};
 
 use crate::number::{IntNumber, WideIntNumber};
@@ -11,8 +12,9 @@ use crate::point::{ContourPoint, IntPoint};
 
 /// The double area of the points that an iterator has left.
 pub trait UnsafeArea<I: IntNumber>: Iterator<Item = IntPoint<I>> + Sized {
-    /// Returns the double area of the contour of the points left, positive if it is counterclockwise. The points needn't be safe: a sum
-    /// that doesn't fit wraps. At least one point is left, and the iterator ends. Makes one pass and allocates nothing.
+    /// Returns the double area of the contour of the points left, positive if it is counterclockwise. The points
+    /// needn't be safe: a sum that doesn't fit wraps. Requires an iterator that ends and has a point left. Makes one
+    /// pass and allocates nothing.
     fn unsafe_area(self) -> I::Wide
         requires can { Self.can_next self }
         requires ends { IsFinite (Self.remaining self) }
@@ -24,6 +26,7 @@ pub trait UnsafeArea<I: IntNumber>: Iterator<Item = IntPoint<I>> + Sized {
 impl<I: IntNumber, T: Iterator<Item = IntPoint<I>>> UnsafeArea<I> for T {
     fn unsafe_area(mut self) -> I::Wide {
         let Some(first) = self.next() else {
+            // a point is left, as the call requires
             unreachable!()
         };
         let mut area = I::Wide::ZERO;
@@ -66,12 +69,12 @@ impl<I: IntNumber, T: Iterator<Item = IntPoint<I>>> IteratorArea<I> for T {
     }
 }
 
-/// Returns the double area of the contour of the points, positive if it is counterclockwise, and zero without points. The points needn't
-/// be safe: a sum that doesn't fit wraps. Makes one pass and allocates nothing.
+/// Returns the double area of the contour of the points, positive if it is counterclockwise, and zero without points.
+/// The points needn't be safe: a sum that doesn't fit wraps. Makes one pass and allocates nothing.
 pub fn area_of<P: ContourPoint>(points: &[P]) -> <P::Coordinate as IntNumber>::Wide
     ensures { P.Coordinate.Wide.value result
         ≡ int_wrap P.Coordinate.Wide.width
-        (shoelace (contour_of P.Coordinate.value (P.points points.now))) }
+        (shoelace (read P.Coordinate.value P.points points.now)) }
 {
     if points.len() < 2 {
         return <P::Coordinate as IntNumber>::Wide::ZERO;

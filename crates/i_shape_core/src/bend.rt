@@ -22,7 +22,8 @@ pub enum Bend {
 }
 
 impl Bend {
-    /// Returns the bend of a path with this bend and then the next, or `None` if the two differ and neither is straight.
+    /// Returns the bend of a path with this bend and then the next, or `None` if the two differ and neither is
+    /// straight.
     pub fn followed_by(self, next: Bend) -> Option<Bend>
         ensures { result ≡ bend_of_both self next }
     {
@@ -37,7 +38,7 @@ impl Bend {
     }
 }
 
-/// Returns how a path bends from the edge `edge` to the edge `next`. The `x` of `next` isn't `I::MIN`.
+/// Returns how a path bends from the edge `edge` to the edge `next`. Requires that the `x` of `next` isn't `I::MIN`.
 pub fn bend_of<I: IntNumber>(edge: IntPoint<I>, next: IntPoint<I>) -> Bend
     requires { ¬ (next.x ≡ I.MIN) }
     ensures { (a b c : Point) → point_of I.value edge ≡ vector a b

@@ -1,7 +1,8 @@
 //! Whether a point lies on an edge of a contour, over points of any type.
 
 ghost use Rattle.std.specs.Prelude.{◌↔◌, IsTrue};
-ghost use Rattle.i_shape_core.specs.IntPoint.{point_of, contour_of, IsSafe, IsSafeContour};
+ghost use Rattle.i_shape_core.specs.IntPoint.{point_of, IsSafe, IsSafeContour};
+ghost use Rattle.i_shape_core.specs.Reading.{read};
 ghost use Rattle.i_shape_core.specs.Boundary.{IsBetween, IsOnEdge};
 
 use crate::number::{IntNumber, WideIntNumber};
@@ -10,9 +11,9 @@ use crate::point::{ContourPoint, IntPoint};
 /// Returns whether `point` lies on an edge of the contour, ends included. A contour without points has no edge.
 pub fn is_on_boundary<P: ContourPoint>(contour: &[P], point: IntPoint<P::Coordinate>) -> bool
     requires points_safe { IsSafeContour P.Coordinate.width
-        (contour_of P.Coordinate.value (P.points contour.now)) }
+        (read P.Coordinate.value P.points contour.now) }
     requires point_safe { IsSafe P.Coordinate.width (point_of P.Coordinate.value point) }
-    ensures { IsTrue result ↔ IsOnEdge (contour_of P.Coordinate.value (P.points contour.now))
+    ensures { IsTrue result ↔ IsOnEdge (read P.Coordinate.value P.points contour.now)
         (point_of P.Coordinate.value point) }
 {
     let Some(last) = contour.last() else {
@@ -20,7 +21,7 @@ pub fn is_on_boundary<P: ContourPoint>(contour: &[P], point: IntPoint<P::Coordin
     };
     let mut start = last.to_point();
     for given in contour {
-        let end = (*given).to_point();
+        let end = given.to_point();
         if is_between(start, point, end) {
             return true;
         }

@@ -3,6 +3,7 @@
 ghost use Rattle.std.specs.Prelude.{◌≡◌, ◌⊎◌, ℕ, ◌+◌, ◌-◌, ◌*◌, ◌<◌, ◌≤◌, min, max, length, OnOk};
 ghost use Rattle.std.specs.Ordering.{MatchOrdering};
 ghost use Rattle.i_shape_core.specs.IntPoint.{contour_of, IsSafeContour};
+ghost use Rattle.i_shape_core.specs.Reading.{read};
 ghost use Rattle.i_shape_core.specs.Contour.{IsSimple, point_at, RotatedSublist, Rotation};
 ghost use Rattle.i_shape_core.specs.Cleaners.{KeptAnswer};
 ghost use Rattle.i_shape_core.specs.Canonical.{IsBefore, IsLeast, CanonicalAnswer, started_at};
@@ -19,9 +20,12 @@ use crate::simplifier::ContourSimplifier;
 use std::cmp::Ordering;
 
 impl ContourSimplifier {
-    /// Returns the canonical form of a contour, as `SimpleContour::canonical` does. Earlier calls don't affect the result, even if they
-    /// failed. Makes room for a contour with zero turns, and keeps it. The only error is `OutOfMemory`, which can't occur below three
-    /// points.
+    /// Returns the canonical form of a contour, as `SimpleContour::canonical` does. Earlier calls don't affect the
+    /// result, even if they failed. Makes room for a contour with zero turns, and keeps it.
+    ///
+    /// # Errors
+    ///
+    /// `OutOfMemory`, which can't occur below three points.
     pub fn canonical<I: IntNumber>(
         &mut self,
         contour: &[IntPoint<I>],
@@ -41,21 +45,24 @@ impl ContourSimplifier {
         Ok(Some(kept))
     }
 
-    /// Writes the canonical form to the front of `out`, for points of any type. Returns the number of points written, 0 if the contour
-    /// collapses.
-    /// `out` is at least as long as the contour. The rest of it stays as it was, and after an error all of it.
-    /// A contour without zero turns needs no memory. For another the call makes room for as many places as there are points, and keeps
-    /// it. The only error is `OutOfMemory`, which can't occur if there is room.
+    /// Writes the canonical form to the front of `out`, for points of any type. Returns the number of points written, 0
+    /// if the contour collapses. Requires an `out` at least as long as the contour. The rest of it stays as it was, and
+    /// after an error all of it. A contour without zero turns needs no memory. For another the call makes room for as
+    /// many places as there are points, and keeps it.
+    ///
+    /// # Errors
+    ///
+    /// `OutOfMemory`, which can't occur if there is room.
     pub fn canonical_into<P: ContourPoint>(
         &mut self,
         contour: &[P],
         out: &mut [P],
     ) -> Result<usize, ShapeError>
         requires points_safe { IsSafeContour P.Coordinate.width
-            (contour_of P.Coordinate.value (P.points contour.now)) }
+            (read P.Coordinate.value P.points contour.now) }
         requires room { length contour.now ≤ length out.old }
         ensures answer { CleansInto IsSimple CanonicalAnswer KeptAnswer RotatedSublist
-            P.Coordinate.width (λ list. contour_of P.Coordinate.value (P.points list))
+            P.Coordinate.width (read P.Coordinate.value P.points)
             (HasRoomToSimplify self.old) (HasRoomToSimplify self.new)
             contour.now out.old out.new result }
     {
@@ -67,11 +74,11 @@ impl ContourSimplifier {
     }
 }
 
-/// Rotates a contour in place to its least rotation.
+/// Rotates a contour in place to its least rotation. Requires a point.
 pub(crate) fn rotate_to_least<P: ContourPoint>(contour: &mut [P])
     requires { 0 < length contour.old }
-    ensures least { IsLeast (contour_of P.Coordinate.value (P.points contour.old))
-        (contour_of P.Coordinate.value (P.points contour.new)) }
+    ensures least { IsLeast (read P.Coordinate.value P.points contour.old)
+        (read P.Coordinate.value P.points contour.new) }
     ensures rotated { Rotation contour.old contour.new }
     ensures len { length contour.new ≡ length contour.old }
 {
@@ -79,22 +86,22 @@ pub(crate) fn rotate_to_least<P: ContourPoint>(contour: &mut [P])
     contour.rotate_left(start);
 }
 
-/// Returns where the least rotation of a contour starts.
+/// Returns where the least rotation of a contour starts. Requires a point.
 pub(crate) fn least_start<P: ContourPoint>(contour: &[P]) -> usize
     requires { 0 < length contour.now }
     ensures within { result < length contour.now }
-    ensures least { let c = contour_of P.Coordinate.value
-        (P.points contour.now) in IsLeast c (started_at c result) }
+    ensures least { let c = read P.Coordinate.value P.points contour.now in IsLeast c (started_at c result) }
 {
     let mut comparer = Comparer::new(contour);
     search_starts(&mut comparer)
 }
 
-/// Returns a place where the least rotation of a nonempty contour starts, and how many pairs of points were compared: for n points from n
-/// - 1 to 3n - 4, for one point none. Rotations are compared point by point, and points by x, then by y.
+/// Returns a place where the least rotation of a contour starts, and how many pairs of points were compared. Requires a
+/// point. For n points this is at least n - 1 and at most 3n - 4, and 0 for one point. Rotations are compared point by
+/// point, and points by x, then by y.
 ///
-/// Two starts are compared point by point. The one that loses also rules out each start up to the point where it lost, as in Shiloach's
-/// algorithm for circular strings. The search takes linear time and allocates nothing.
+/// Two starts are compared point by point. The one that loses also rules out each start up to the point where it lost,
+/// as in Shiloach's algorithm for circular strings. The search takes linear time and allocates nothing.
 pub fn least_start_counted<I: IntNumber>(contour: &[IntPoint<I>]) -> (usize, u128)
     requires { 0 < length contour.now }
     ensures within { result.0 < length contour.now }
@@ -107,7 +114,7 @@ pub fn least_start_counted<I: IntNumber>(contour: &[IntPoint<I>]) -> (usize, u12
     (start, comparer.comparisons())
 }
 
-/// Returns where the least rotation starts. No points were compared before.
+/// Returns where the least rotation starts. Requires a comparer that has compared nothing yet.
 fn search_starts<P: ContourPoint>(comparer: &mut Comparer<'_, P>) -> usize
     requires some { 0 < length comparer.old.contour }
     requires fresh { comparer.old.comparisons ≡ 0 }
@@ -143,8 +150,8 @@ fn search_starts<P: ContourPoint>(comparer: &mut Comparer<'_, P>) -> usize
     kept
 }
 
-/// Returns the first place from `from` on whose point doesn't come after the one at `kept`, or the end of the contour if there is none,
-/// and how the two points are ordered.
+/// Returns the first place from `from` on whose point doesn't come after the one at `kept`, or the end of the contour
+/// if there is none, and how the two points are ordered.
 fn next_rival<P: ContourPoint>(
     comparer: &mut Comparer<'_, P>,
     kept: usize,
@@ -171,8 +178,8 @@ fn next_rival<P: ContourPoint>(
     (comparer.len(), Ordering::Less)
 }
 
-/// Compares the rotations that start at `kept` and at `rival`. Returns how many pairs of points were compared for that, and the order.
-/// The first pair was compared before; `first` is its order.
+/// Compares the rotations that start at `kept` and at `rival`. Returns how many pairs of points were compared for that,
+/// and the order. The first pair was compared before; `first` is its order.
 fn compare_starts<P: ContourPoint>(
     comparer: &mut Comparer<'_, P>,
     kept: usize,
@@ -208,8 +215,8 @@ fn compare_starts<P: ContourPoint>(
     (count, Ordering::Equal)
 }
 
-/// Returns how many pairs of points from two places on agree, among the first `most` and before the contour ends, and how the next pair
-/// is ordered.
+/// Returns how many pairs of points from two places on agree, among the first `most` and before the contour ends, and
+/// how the next pair is ordered.
 fn compare_runs<P: ContourPoint>(
     comparer: &mut Comparer<'_, P>,
     ours: usize,

@@ -4,6 +4,7 @@ ghost use Rattle.std.specs.Prelude.{◌≡◌, ◌↔◌, ◌<◌, ◌≤◌, �
 ghost use Rattle.std.proofs.Common.{rules, arith};
 ghost use Rattle.i_shape_core.specs.Point.{Point};
 ghost use Rattle.i_shape_core.specs.IntPoint.{contour_of, IsSafeContour};
+ghost use Rattle.i_shape_core.specs.Reading.{read};
 ghost use Rattle.i_shape_core.specs.Contour.{IsSimple, RotatedSublist, SublistEitherWay, Sublist};
 ghost use Rattle.i_shape_core.specs.Convex.{NoSpikes};
 ghost use Rattle.i_shape_core.specs.Cleaners.{IsDespikedAlready, SimpleAnswer, SpikelessAnswer, DespikeAnswer, KeptAnswer};
@@ -23,12 +24,16 @@ use crate::unoriented::rotate_to_lesser;
 use crate::write::write_whole;
 use std::alloc::Global;
 
-/// Cleans contours of safe points. One value cleans any number of them, and keeps its memory from one to the next. Where there is room
-/// for the longest contour that isn't clean, `clean_into` can't fail.
-/// Each result is one that `answers` allows. Only tests show that earlier calls don't affect which one it is.
+/// Cleans contours, whose points must be safe. One value cleans any number of them, and keeps its memory from one to
+/// the next. Where there is room for the longest contour that isn't clean, `clean_into` can't fail. No cleaner needs
+/// room for fewer than three points; those that remove only spikes and repeated points need none for three points
+/// either.
+///
+/// A contour may have several results, such as those of removing its spikes in another order. Only tests show that
+/// earlier calls don't affect which one is returned.
 pub trait ContourCleaner: Drop {
-    /// The contours of which no point is removed: for these `clean_into` needs no room. A canonical form still rotates them, and an
-    /// unoriented one may reverse them.
+    /// The contours of which no point is removed: for these `clean_into` needs no room. A canonical form still rotates
+    /// them, and an unoriented one may reverse them.
     ghost clean: { List Point → Type 0 };
 
     /// The results that are allowed for a contour: `None` if it collapses.
@@ -50,24 +55,31 @@ pub trait ContourCleaner: Drop {
     fn new(alloc: Global) -> Self
         ensures no_room { (n : ℕ) → has_room result n → n < fewest };
 
-    /// Makes room for contours of up to `points` points, and changes nothing below `fewest`. It never reduces the room.
-    /// The only error is `OutOfMemory`, which can't occur below `fewest` points or if there is room.
+    /// Makes room for contours of up to `points` points, and changes nothing where these need none. It never reduces
+    /// the room.
+    ///
+    /// # Errors
+    ///
+    /// `OutOfMemory`, which can't occur where they need none or if there is room.
     fn reserve(&mut self, points: usize) -> Result<(), ShapeError>
         ensures room { IfOk result (λ _. has_room self.new points) }
         ensures reserved { has_room self.old points → IsOk result }
         ensures short { points < 3 → IsOk result }
-        ensures spared { points < fewest → self.new ≡ self.old }
+        ensures untouched { points < fewest → self.new ≡ self.old }
         ensures keeps_room { (n : ℕ) → has_room self.old n → has_room self.new n }
         ensures memory { IsOkUnless result ShapeError.OutOfMemory };
 
     /// Returns whether the contour is clean. Allocates nothing.
     fn is_clean<P: ContourPoint>(contour: &[P]) -> bool
-        requires { IsSafeContour P.Coordinate.width
-            (contour_of P.Coordinate.value (P.points contour.now)) }
-        ensures { IsTrue result ↔ clean (contour_of P.Coordinate.value (P.points contour.now)) };
+        requires { IsSafeContour P.Coordinate.width (read P.Coordinate.value P.points contour.now) }
+        ensures { IsTrue result ↔ clean (read P.Coordinate.value P.points contour.now) };
 
-    /// Returns the cleaned contour, or `None` if it collapses. Makes room for a contour that isn't clean, and keeps it. The only error is
-    /// `OutOfMemory`, which can't occur below three points, nor below `fewest` if the contour isn't clean.
+    /// Returns the cleaned contour, or `None` if it collapses. Makes room for a contour that isn't clean, and keeps it.
+    ///
+    /// # Errors
+    ///
+    /// `OutOfMemory`, which can't occur below three points, nor where the contour isn't clean and has so few points
+    /// that it needs no room.
     fn cleaned<I: IntNumber>(
         &mut self,
         contour: &[IntPoint<I>],
@@ -82,7 +94,11 @@ pub trait ContourCleaner: Drop {
         ensures takes_room { OnOk result ((clean (contour_of I.value contour.now) → ⊥)
             → has_room self.new (length contour.now)) };
 
-    /// Does the same as `cleaned` for a contour that isn't clean, without testing it first.
+    /// Returns what `cleaned` does, without testing the contour first. Requires one that isn't clean.
+    ///
+    /// # Errors
+    ///
+    /// `OutOfMemory`, which can't occur where the contour needs no room.
     fn cleaned_unchecked<I: IntNumber>(
         &mut self,
         contour: &[IntPoint<I>],
@@ -99,47 +115,45 @@ pub trait ContourCleaner: Drop {
         self.cleaned(contour)
     }
 
-    /// Writes the result for a clean contour to the front of `out`, and returns its number of points, which is that of the contour.
-    /// Allocates nothing.
+    /// Writes the result for a clean contour to the front of `out`, and returns its number of points, which is that of
+    /// the contour. Requires a clean contour, and an `out` at least as long. Allocates nothing.
     fn write_clean<P: ContourPoint>(contour: &[P], out: &mut [P]) -> usize
         requires points_safe { IsSafeContour P.Coordinate.width
-            (contour_of P.Coordinate.value (P.points contour.now)) }
+            (read P.Coordinate.value P.points contour.now) }
         requires room { length contour.now ≤ length out.old }
-        requires clean { clean (contour_of P.Coordinate.value (P.points contour.now)) }
+        requires clean { clean (read P.Coordinate.value P.points contour.now) }
         ensures written { IsWritten answers keeps (picks P) P.Coordinate.width
-            (λ list. contour_of P.Coordinate.value (P.points list))
-            contour.now out.old out.new result }
+            (read P.Coordinate.value P.points) contour.now out.old out.new result }
         ensures len { length out.new ≡ length out.old }
         ensures count { result ≡ length contour.now }
         ensures enough { 3 ≤ length contour.now };
 
-    /// Writes what is left of a contour that isn't clean to the front of `out`, and returns its number of points, 0 if the contour
-    /// collapses. There is room for the contour, so this allocates nothing.
+    /// Writes what is left of a contour that isn't clean to the front of `out`, and returns its number of points, 0 if
+    /// the contour collapses. Requires a contour that isn't clean, room for it, and an `out` at least as long.
+    /// Allocates nothing.
     fn write_left<P: ContourPoint>(&mut self, contour: &[P], out: &mut [P]) -> usize
         requires points_safe { IsSafeContour P.Coordinate.width
-            (contour_of P.Coordinate.value (P.points contour.now)) }
+            (read P.Coordinate.value P.points contour.now) }
         requires room { length contour.now ≤ length out.old }
-        requires unclean { clean (contour_of P.Coordinate.value (P.points contour.now)) → ⊥ }
+        requires unclean { clean (read P.Coordinate.value P.points contour.now) → ⊥ }
         requires reserved { has_room self.old (length contour.now) }
         ensures written { IsWritten answers keeps (picks P) P.Coordinate.width
-            (λ list. contour_of P.Coordinate.value (P.points list))
-            contour.now out.old out.new result }
+            (read P.Coordinate.value P.points) contour.now out.old out.new result }
         ensures len { length out.new ≡ length out.old }
         ensures short { length contour.now < 3 → result ≡ 0 }
         ensures keeps_room { (n : ℕ) → has_room self.old n → has_room self.new n };
 
-    /// Writes the cleaned contour to the front of `out`. Returns the number of points written, 0 if the contour collapses.
-    /// `out` is at least as long as the contour. The rest of it stays as it was. The contour is clean or there is room for it, so this
-    /// allocates nothing and can't fail.
+    /// Writes the cleaned contour to the front of `out`. Returns the number of points written, 0 if the contour
+    /// collapses. The rest of `out` stays as it was. Requires an `out` at least as long as the contour, and room for a
+    /// contour that isn't clean. Allocates nothing and can't fail.
     fn clean_into<P: ContourPoint>(&mut self, contour: &[P], out: &mut [P]) -> usize
         requires points_safe { IsSafeContour P.Coordinate.width
-            (contour_of P.Coordinate.value (P.points contour.now)) }
+            (read P.Coordinate.value P.points contour.now) }
         requires room { length contour.now ≤ length out.old }
-        requires reserved { (clean (contour_of P.Coordinate.value (P.points contour.now)) → ⊥)
+        requires reserved { (clean (read P.Coordinate.value P.points contour.now) → ⊥)
             → has_room self.old (length contour.now) }
         ensures written { IsWritten answers keeps (picks P) P.Coordinate.width
-            (λ list. contour_of P.Coordinate.value (P.points list))
-            contour.now out.old out.new result }
+            (read P.Coordinate.value P.points) contour.now out.old out.new result }
         ensures len { length out.new ≡ length out.old }
         ensures short { length contour.now < 3 → result ≡ 0 }
         ensures keeps_room { (n : ℕ) → has_room self.old n → has_room self.new n }
@@ -151,18 +165,22 @@ pub trait ContourCleaner: Drop {
         }
     }
 
-    /// Does the same as `clean_into`, but first makes room for a contour that isn't clean, and keeps it. The only error is `OutOfMemory`,
-    /// which can't occur if there is room, and leaves `out` as it was.
+    /// Writes the cleaned contour as `clean_into` does, but first makes room for a contour that isn't clean, and keeps
+    /// it. Requires an `out` at least as long as the contour.
+    ///
+    /// # Errors
+    ///
+    /// `OutOfMemory`, which can't occur if there is room, and leaves `out` as it was.
     fn try_clean_into<P: ContourPoint>(
         &mut self,
         contour: &[P],
         out: &mut [P],
     ) -> Result<usize, ShapeError>
         requires points_safe { IsSafeContour P.Coordinate.width
-            (contour_of P.Coordinate.value (P.points contour.now)) }
+            (read P.Coordinate.value P.points contour.now) }
         requires room { length contour.now ≤ length out.old }
         ensures { CleansInto clean answers keeps (picks P) P.Coordinate.width
-            (λ list. contour_of P.Coordinate.value (P.points list))
+            (read P.Coordinate.value P.points)
             (has_room self.old) (has_room self.new) contour.now out.old out.new result }
     {
         if Self::is_clean(contour) {

@@ -3,6 +3,7 @@
 ghost use Rattle.std.specs.Prelude.{◌≡◌, ◌<◌, ◌↔◌, ◌≤◌, ◌≤ℤ◌, ◌++◌, pos, false, List, length, map, drop, IsTrue};
 ghost use Rattle.std.specs.Int.{int_wrap};
 ghost use Rattle.i_shape_core.specs.IntPoint.{point_of, contour_of, IsSafe, IsSafeContour};
+ghost use Rattle.i_shape_core.specs.Reading.{read};
 ghost use Rattle.i_shape_core.specs.Point.{Point};
 ghost use Rattle.i_shape_core.specs.Edges.{shoelace, Inside};
 ghost use Rattle.i_shape_core.specs.Winding.{winding};
@@ -19,25 +20,25 @@ use crate::point::{ContourPoint, IntPoint};
 use crate::same::{are_same, last_other};
 use crate::winding::{passes_right, winding_about, windings_about};
 
-/// Tests of a contour as a whole. Each allocates nothing, and takes time linear in the points; `winding_numbers_into` takes it for each
-/// point asked about.
+/// Tests of a contour as a whole. Each allocates nothing, and takes time linear in the points; `winding_numbers_into`
+/// takes it for each point asked about.
 pub trait ContourExtension<I: IntNumber> {
     /// The contour in unbounded integers.
     ghost contour: { Self → List Point };
 
-    /// Returns whether the contour is convex: it has at most two points, or it never turns back on itself and doesn't turn left at one
-    /// point and right at another. Consecutive duplicates count once, also across the closing edge.
+    /// Returns whether the contour is convex: it has at most two points, or it never turns back on itself and doesn't
+    /// turn left at one point and right at another. Consecutive duplicates count once, also across the closing edge.
     fn is_convex(&self) -> bool
         requires { IsSafeContour I.width (contour self.now) }
         ensures { IsTrue result ↔ Convex (contour self.now) };
 
-    /// Returns whether the double area, wrapped as by `UnsafeArea::unsafe_area`, is at most zero. The contour has a point.
+    /// Returns whether the double area, wrapped as by `UnsafeArea::unsafe_area`, is at most zero. Requires a point.
     fn is_clockwise_ordered(&self) -> bool
         requires { 0 < length (contour self.now) }
         ensures { IsTrue result ↔ (int_wrap I.Wide.width (shoelace (contour self.now)) ≤ℤ pos 0) };
 
-    /// Returns whether `point` is inside by the even-odd rule: an odd number of edges pass its height strictly to the right of it. A
-    /// contour without points contains none.
+    /// Returns whether `point` is inside by the even-odd rule: an odd number of edges pass its height strictly to the
+    /// right of it. A contour without points contains none.
     fn contains_point(&self, point: IntPoint<I>) -> bool
         requires points_safe { IsSafeContour I.width (contour self.now) }
         requires point_safe { IsSafe I.width (point_of I.value point) }
@@ -49,28 +50,29 @@ pub trait ContourExtension<I: IntNumber> {
         requires point_safe { IsSafe I.width (point_of I.value point) }
         ensures { IsTrue result ↔ IsOnEdge (contour self.now) (point_of I.value point) };
 
-    /// Returns the winding number about `point`, counterclockwise positive: how many edges pass its height upward and strictly to the
-    /// right of it, less those that do so downward. For a contour without points it is 0.
+    /// Returns the winding number about `point`, counterclockwise positive: how many edges pass its height upward and
+    /// strictly to the right of it, less those that do so downward. For a contour without points it is 0.
     fn winding_number(&self, point: IntPoint<I>) -> isize
         requires points_safe { IsSafeContour I.width (contour self.now) }
         requires point_safe { IsSafe I.width (point_of I.value point) }
         ensures { result ≡ winding (contour self.now) (point_of I.value point) };
 
-    /// Returns whether a fill rule fills `point`, by the winding number about it. For `EvenOdd` this is `contains_point`.
+    /// Returns whether a fill rule fills `point`, by the winding number about it. For `EvenOdd` this is
+    /// `contains_point`.
     fn contains_by(&self, point: IntPoint<I>, rule: FillRule) -> bool
         requires points_safe { IsSafeContour I.width (contour self.now) }
         requires point_safe { IsSafe I.width (point_of I.value point) }
         ensures { IsTrue result
             ↔ IsFilled rule (winding (contour self.now) (point_of I.value point)) };
 
-    /// Writes the winding number about each of the points, which may be of any type, to the front of `out`. `out` is at least as long as
-    /// `points`. The rest of it stays as it was.
+    /// Writes the winding number about each of the points, which may be of any type, to the front of `out`. Requires an
+    /// `out` at least as long as `points`. The rest of it stays as it was.
     fn winding_numbers_into<P: ContourPoint<Coordinate = I>>(&self, points: &[P], out: &mut [isize])
         requires contour_safe { IsSafeContour I.width (contour self.now) }
-        requires points_safe { IsSafeContour I.width (contour_of I.value (P.points points.now)) }
+        requires points_safe { IsSafeContour I.width (read I.value P.points points.now) }
         requires room { length points.now ≤ length out.old }
         ensures { out.new ≡ map (winding (contour self.now))
-            (contour_of I.value (P.points points.now)) ++ drop (length points.now) out.old };
+            (read I.value P.points points.now) ++ drop (length points.now) out.old };
 }
 
 impl<I: IntNumber> ContourExtension<I> for &[IntPoint<I>] {
@@ -122,21 +124,20 @@ impl<I: IntNumber> ContourExtension<I> for &[IntPoint<I>] {
 
     fn winding_numbers_into<P: ContourPoint<Coordinate = I>>(&self, points: &[P], out: &mut [isize])
         requires contour_safe { IsSafeContour I.width (contour_of I.value self.now.now) }
-        requires points_safe { IsSafeContour I.width (contour_of I.value (P.points points.now)) }
+        requires points_safe { IsSafeContour I.width (read I.value P.points points.now) }
         requires room { length points.now ≤ length out.old }
         ensures { out.new ≡ map (winding (contour_of I.value self.now.now))
-            (contour_of I.value (P.points points.now)) ++ drop (length points.now) out.old }
+            (read I.value P.points points.now) ++ drop (length points.now) out.old }
     {
         windings_about(*self, points, out);
     }
 }
 
-/// Returns whether the contour is convex: it has at most two points, or it never turns back on itself and doesn't turn left at one point
-/// and right at another. Consecutive duplicates count once, also across the closing edge.
+/// Returns whether the contour is convex: it has at most two points, or it never turns back on itself and doesn't turn
+/// left at one point and right at another. Consecutive duplicates count once, also across the closing edge.
 pub fn is_convex<P: ContourPoint>(points: &[P]) -> bool
-    requires { IsSafeContour P.Coordinate.width
-        (contour_of P.Coordinate.value (P.points points.now)) }
-    ensures { IsTrue result ↔ Convex (contour_of P.Coordinate.value (P.points points.now)) }
+    requires { IsSafeContour P.Coordinate.width (read P.Coordinate.value P.points points.now) }
+    ensures { IsTrue result ↔ Convex (read P.Coordinate.value P.points points.now) }
 {
     let Some(last) = points.last() else {
         return true;
@@ -166,13 +167,13 @@ pub fn is_convex<P: ContourPoint>(points: &[P]) -> bool
     bend != Bend::Reversal || points.len() - repeats <= 2
 }
 
-/// Returns whether `point` is inside by the even-odd rule: an odd number of edges pass its height strictly to the right of it. A contour
-/// without points contains none.
+/// Returns whether `point` is inside by the even-odd rule: an odd number of edges pass its height strictly to the right
+/// of it. A contour without points contains none.
 pub fn contains_point<P: ContourPoint>(contour: &[P], point: IntPoint<P::Coordinate>) -> bool
     requires points_safe { IsSafeContour P.Coordinate.width
-        (contour_of P.Coordinate.value (P.points contour.now)) }
+        (read P.Coordinate.value P.points contour.now) }
     requires point_safe { IsSafe P.Coordinate.width (point_of P.Coordinate.value point) }
-    ensures { IsTrue result ↔ Inside (contour_of P.Coordinate.value (P.points contour.now))
+    ensures { IsTrue result ↔ Inside (read P.Coordinate.value P.points contour.now)
         (point_of P.Coordinate.value point) }
 {
     let Some(last) = contour.last() else {

@@ -3,11 +3,12 @@
 ghost use Rattle.std.specs.Prelude.{◌≡◌, ◌↔◌, ◌+◌, ◌-◌, ◌*◌, ◌<◌, ◌<ℤ◌, ◌≤◌, pos, List, Some, length, map, false, IsTrue, IfOk, OnOk, IsOk, IsOkUnless, vec_capacity};
 ghost use Rattle.std.specs.List.{All};
 ghost use Rattle.i_shape_core.specs.IntPoint.{contour_of, point_of, answered, IsSafeContour};
+ghost use Rattle.i_shape_core.specs.Reading.{read};
 ghost use Rattle.i_shape_core.specs.Point.{Point, IsBack, cross_of, dot_of};
 ghost use Rattle.i_shape_core.specs.Contour.{Sublist, point_at};
 ghost use Rattle.i_shape_core.specs.Convex.{NoSpikes};
 ghost use Rattle.i_shape_core.specs.Cleaners.{IsDespikedAlready, SpikelessAnswer, KeptAnswer, VisitsAnswer};
-ghost use Rattle.i_shape_core.specs.Walks.{RisingPlaces, Finds, Falls, FirstAnswer, IsRingState, PassesAtPlace, from_contour_first, ring_of_all};
+ghost use Rattle.i_shape_core.specs.Walks.{RisingPlaces, Finds, Falls, FirstAnswer, IsRingState, from_contour_first, ring_of_all};
 ghost use Rattle.i_shape_core.specs.Refusals.{OkUnlessMemory};
 ghost use Rattle.i_shape_core.specs.Written.{CleansInOrder, CleansInto, IsWritten};
 ghost use Rattle.i_shape_core.specs.Room.{HoldsNoMemoryToDespike, HasRoomToDespike, KeepsRoomToDespike};
@@ -15,7 +16,7 @@ ghost use Rattle.i_shape_core.specs.Room.{HoldsNoMemoryToDespike, HasRoomToDespi
 use crate::error::ShapeError;
 use crate::number::{IntNumber, WideIntNumber};
 use crate::point::{ContourPoint, IntContour, IntPoint};
-use crate::probe::Probe;
+use crate::probe::{HeldPoint, Probe};
 use crate::ring::Ring;
 use crate::same::{are_same, last_other};
 use crate::scan::{BackTurn, has_none};
@@ -29,19 +30,22 @@ pub trait DeSpikeContour<I: IntNumber> {
     /// The contour in unbounded integers.
     ghost contour: { Self → List Point };
 
-    /// Returns whether the contour has no spike and at least three points. At the tip of a spike it turns back on itself. Consecutive
-    /// duplicates count once, also across the closing edge. Allocates nothing.
+    /// Returns whether the contour has no spike and at least three points. At the tip of a spike it turns back on
+    /// itself. Consecutive duplicates count once, also across the closing edge. Allocates nothing.
     fn has_no_spikes(&self) -> bool
         requires { IsSafeContour I.width (contour self.now) }
         ensures { IsTrue result ↔ NoSpikes (contour self.now) };
 
-    /// Returns the contour without spikes and repeated points, in the order of the input: vertices at which the path turns back or stands
-    /// still are removed until none is left.
-    /// Returns `None` exactly where removing zero turns in any order leaves fewer than three points. Otherwise removing zero turns from
-    /// the result leads to the same contour, up to rotation, as removing them from the input. Double area, containment and winding
-    /// numbers stay the same, and the points are safe again.
-    /// The only error is `OutOfMemory`. Below three points, and at three of which one is removed, the call allocates nothing and can't
-    /// fail.
+    /// Returns the contour without spikes and repeated points, in the order of the input: vertices at which the path
+    /// turns back or stands still are removed until none is left. Returns `None` exactly where removing zero turns in
+    /// any order leaves fewer than three points. Otherwise removing zero turns from the result leads to the same
+    /// contour, up to rotation, as removing them from the input. Double area, containment and winding numbers stay the
+    /// same, and the points are safe again.
+    ///
+    /// # Errors
+    ///
+    /// `OutOfMemory`. It can't occur below three points, nor at three points that collapse: there the call allocates
+    /// nothing.
     fn despiked_contour(&self, alloc: Global) -> Result<Option<IntContour<I>>, ShapeError>
         requires { IsSafeContour I.width (contour self.now) }
         ensures answer { OkUnlessMemory result
@@ -50,8 +54,12 @@ pub trait DeSpikeContour<I: IntNumber> {
         ensures spared { (IsDespikedAlready (contour self.now) → ⊥)
             → length (contour self.now) < 4 → IsOk result };
 
-    /// Does the same as `despiked_contour`, and also returns the number of vertices visited. For n points this is from n to 3n, or from n
-    /// - 2 to 3n if the contour collapses. It is n if no point is removed, and 0 below three points.
+    /// Returns what `despiked_contour` does, and the number of vertices visited. For n points this is at least n, or
+    /// n - 2 if the contour collapses, and at most 3n. It is n if no point is removed, and 0 below three points.
+    ///
+    /// # Errors
+    ///
+    /// `OutOfMemory`. It can't occur below three points, nor at three points that collapse.
     fn despiked_counted(&self, alloc: Global) -> Result<(Option<IntContour<I>>, u128), ShapeError>
         requires { IsSafeContour I.width (contour self.now) }
         ensures answer { OkUnlessMemory result
@@ -120,9 +128,13 @@ impl ContourDeSpiker {
         *self.places.allocator()
     }
 
-    /// Returns the contour without spikes and repeated points, as `DeSpikeContour::despiked_contour` does. Earlier calls don't affect the
-    /// result, even if they failed. Makes room for a contour with spikes or repeated points, and keeps it. The only error is
-    /// `OutOfMemory`, which can't occur below three points, nor at three of which one is removed.
+    /// Returns the contour without spikes and repeated points, as `DeSpikeContour::despiked_contour` does. Earlier
+    /// calls don't affect the result, even if they failed. Makes room for a contour with spikes or repeated points, and
+    /// keeps it.
+    ///
+    /// # Errors
+    ///
+    /// `OutOfMemory`, which can't occur below three points, nor at three points that collapse.
     pub fn despike_contour<I: IntNumber>(
         &mut self,
         contour: &[IntPoint<I>],
@@ -141,8 +153,12 @@ impl ContourDeSpiker {
         Ok(kept)
     }
 
-    /// Does the same as `despike_contour`, and also returns the number of vertices visited. For n points this is from n to 3n, or from n
-    /// - 2 to 3n if the contour collapses. It is n if no point is removed, and 0 below three points.
+    /// Returns what `despike_contour` does, and the number of vertices visited. For n points this is at least n, or
+    /// n - 2 if the contour collapses, and at most 3n. It is n if no point is removed, and 0 below three points.
+    ///
+    /// # Errors
+    ///
+    /// `OutOfMemory`, which can't occur below three points, nor at three points that collapse.
     pub fn despike_counted<I: IntNumber>(
         &mut self,
         contour: &[IntPoint<I>],
@@ -176,19 +192,22 @@ impl ContourDeSpiker {
         self.reserve(contour.len())?;
         let mut ring = self.ring_at(contour.len(), place);
         ring.remove();
-        let (probe, uncollapsed) = self.walk(probe, ring);
-        if !uncollapsed {
+        let (probe, is_left) = self.walk(probe, ring);
+        if !is_left {
             return Ok((None, probe.visits()));
         }
         probe.keep_left(alloc, Some(self.places.as_slice()))
     }
 
     /// Makes room for contours of up to `points` points, and allocates nothing below four. It never reduces the room.
-    /// The only error is `OutOfMemory`, which can't occur if there is room.
+    ///
+    /// # Errors
+    ///
+    /// `OutOfMemory`, which can't occur if there is room.
     pub fn reserve(&mut self, points: usize) -> Result<(), ShapeError>
         ensures room { IfOk result (λ _. HasRoomToDespike self.new points) }
         ensures reserved { HasRoomToDespike self.old points → IsOk result }
-        ensures spared { points < 4 → self.new ≡ self.old }
+        ensures untouched { points < 4 → self.new ≡ self.old }
         ensures keeps_room { KeepsRoomToDespike self.old self.new }
         ensures memory { IsOkUnless result ShapeError.OutOfMemory }
     {
@@ -200,21 +219,25 @@ impl ContourDeSpiker {
         Ok(())
     }
 
-    /// Writes what `despike_contour` returns to the front of `out`, for points of any type. Returns the number of points written, 0 if
-    /// the contour collapses.
-    /// `out` is at least as long as the contour. The rest of it stays as it was, and after an error all of it.
-    /// A contour of fewer than four points needs no memory, nor does one without spikes and repeated points. For another the call makes
-    /// room for as many places as there are points, and keeps it. The only error is `OutOfMemory`, which can't occur if there is room.
+    /// Writes what `despike_contour` returns to the front of `out`, for points of any type. Returns the number of
+    /// points written, 0 if the contour collapses. Requires an `out` at least as long as the contour. The rest of it
+    /// stays as it was, and after an error all of it. A contour of fewer than four points needs no memory, nor does one
+    /// without spikes and repeated points. For another the call makes room for as many places as there are points, and
+    /// keeps it.
+    ///
+    /// # Errors
+    ///
+    /// `OutOfMemory`, which can't occur if there is room.
     pub fn despike_into<P: ContourPoint>(
         &mut self,
         contour: &[P],
         out: &mut [P],
     ) -> Result<usize, ShapeError>
         requires points_safe { IsSafeContour P.Coordinate.width
-            (contour_of P.Coordinate.value (P.points contour.now)) }
+            (read P.Coordinate.value P.points contour.now) }
         requires room { length contour.now ≤ length out.old }
         ensures answer { CleansInto IsDespikedAlready SpikelessAnswer KeptAnswer Sublist
-            P.Coordinate.width (λ list. contour_of P.Coordinate.value (P.points list))
+            P.Coordinate.width (read P.Coordinate.value P.points)
             (HasRoomToDespike self.old) (HasRoomToDespike self.new)
             contour.now out.old out.new result }
     {
@@ -225,17 +248,16 @@ impl ContourDeSpiker {
         Ok(self.walk_into(contour, out))
     }
 
-    /// Does the same for a contour that isn't clean. There is room for its places, so this allocates nothing and can't fail.
+    /// Writes what `despike_into` does, without testing the contour first. Requires a contour that isn't clean, and
+    /// room for its places, so it allocates nothing and can't fail.
     pub(crate) fn walk_into<P: ContourPoint>(&mut self, contour: &[P], out: &mut [P]) -> usize
         requires points_safe { IsSafeContour P.Coordinate.width
-            (contour_of P.Coordinate.value (P.points contour.now)) }
+            (read P.Coordinate.value P.points contour.now) }
         requires room { length contour.now ≤ length out.old }
-        requires unclean { IsDespikedAlready (contour_of P.Coordinate.value (P.points contour.now))
-            → ⊥ }
+        requires unclean { IsDespikedAlready (read P.Coordinate.value P.points contour.now) → ⊥ }
         requires reserved { HasRoomToDespike self.old (length contour.now) }
         ensures written { IsWritten SpikelessAnswer KeptAnswer Sublist P.Coordinate.width
-            (λ list. contour_of P.Coordinate.value (P.points list))
-            contour.now out.old out.new result }
+            (read P.Coordinate.value P.points) contour.now out.old out.new result }
         ensures len { length out.new ≡ length out.old }
         ensures short { length contour.now < 3 → result ≡ 0 }
         ensures keeps_room { KeepsRoomToDespike self.old self.new }
@@ -244,15 +266,15 @@ impl ContourDeSpiker {
             return 0;
         }
         let ring = self.ring_at(contour.len(), 0);
-        let (_probe, uncollapsed) = self.walk(Probe::new(contour), ring);
-        if !uncollapsed {
+        let (_probe, is_left) = self.walk(Probe::new(contour), ring);
+        if !is_left {
             return 0;
         }
         write_at(contour, self.places.as_slice(), out)
     }
 
-    /// Returns the ring of all places below `count`, with the walk at `place` and the places before it tested. There is room for them.
-    /// The ring takes the memory of `places`, which `walk` gives back.
+    /// Returns the ring of all places below `count`, with the walk at `place` and the places before it tested. Requires
+    /// room for them. The ring takes the memory of `places`, which `walk` gives back.
     fn ring_at(&mut self, count: usize, place: usize) -> Ring
         requires within { place < count }
         requires room { count ≤ vec_capacity self.old.places }
@@ -276,7 +298,7 @@ impl ContourDeSpiker {
             ring probe.visits }
         requires room { length probe.contour ≤ usize.MAX }
         ensures contour { result.0.contour ≡ probe.entry.contour }
-        ensures uncollapsed { let c = contour_of P.Coordinate.value probe.entry.contour in
+        ensures left { let c = contour_of P.Coordinate.value probe.entry.contour in
             IsTrue result.1
             → Finds IsBack c (map (point_at c) self.new.places.items) result.0.visits }
         ensures rising { IsTrue result.1
@@ -285,9 +307,9 @@ impl ContourDeSpiker {
             result.1 ≡ false → Falls IsBack c result.0.visits }
         ensures room { vec_capacity self.new.places ≡ ring.room }
     {
-        let (probe, uncollapsed) = walk_round(probe, &mut ring);
+        let (probe, is_left) = walk_round(probe, &mut ring);
         self.places = ring.into_order();
-        (probe, uncollapsed)
+        (probe, is_left)
     }
 }
 
@@ -335,20 +357,24 @@ fn is_back_between<P: ContourPoint>(
     probe.turn(previous, place, next) == Turn::Back
 }
 
-/// Returns whether the contour turns back or stands still at the ring's place. Counts one visit.
-fn is_back_at<P: ContourPoint>(probe: &mut Probe<'_, P::Coordinate, P>, ring: &Ring) -> bool
-    requires enough { 1 < length ring.now.places }
-    requires below { All (λ k. k < length probe.old.contour) ring.now.places }
-    requires room { probe.old.visits < u128.MAX }
-    ensures test { IsTrue result ↔ PassesAtPlace IsBack
-        (contour_of P.Coordinate.value probe.old.contour) ring.now.places }
+/// Returns whether the way from `before` over `here` to `after` turns back or stands still. Counts one visit.
+fn is_back_over<P: ContourPoint>(
+    probe: &mut Probe<'_, P::Coordinate, P>,
+    before: &HeldPoint<P::Coordinate>,
+    here: &HeldPoint<P::Coordinate>,
+    after: &HeldPoint<P::Coordinate>,
+) -> bool
+    requires { probe.old.visits < u128.MAX }
+    ensures test { let value = P.Coordinate.value in IsTrue result
+        ↔ IsBack (point_of value before.now) (point_of value here.now) (point_of value after.now) }
     ensures contour { probe.new.contour ≡ probe.old.contour }
     ensures visits { probe.new.visits ≡ probe.old.visits + 1 }
 {
-    is_back_between(probe, ring.before(), ring.place(), ring.after())
+    probe.turn_over(before, here, after) == Turn::Back
 }
 
-/// Walks around the ring until each of its places is tested, and removes those that turn back. Returns whether three are left.
+/// Walks around the ring until each of its places is tested, and removes those that turn back. Returns whether at least
+/// three are left.
 fn walk_round<'a, P: ContourPoint>(
     mut probe: Probe<'a, P::Coordinate, P>,
     ring: &mut Ring,
@@ -357,7 +383,7 @@ fn walk_round<'a, P: ContourPoint>(
         ring.old probe.visits }
     requires room { length probe.contour ≤ usize.MAX }
     ensures contour { result.0.contour ≡ probe.entry.contour }
-    ensures uncollapsed { let c = contour_of P.Coordinate.value probe.entry.contour in
+    ensures left { let c = contour_of P.Coordinate.value probe.entry.contour in
         IsTrue result.1
         → Finds IsBack c (map (point_at c) (from_contour_first ring.new.places ring.new.lead))
         result.0.visits }
@@ -367,11 +393,19 @@ fn walk_round<'a, P: ContourPoint>(
         → Falls IsBack (contour_of P.Coordinate.value probe.entry.contour) result.0.visits }
     ensures room { ring.new.room ≡ ring.old.room }
 {
+    let mut before = probe.hold(ring.before());
+    let mut here = probe.hold(ring.place());
+    let mut after = probe.hold(ring.after());
     while ring.untested() > 0 {
-        if !is_back_at(&mut probe, ring) {
+        if !is_back_over(&mut probe, &before, &here, &after) {
             ring.keep();
+            before = here;
+            here = after;
+            after = probe.hold(ring.after());
         } else if ring.len() > 3 {
             ring.remove();
+            here = before;
+            before = probe.hold(ring.before());
         } else {
             return (probe, false);
         }
@@ -379,23 +413,20 @@ fn walk_round<'a, P: ContourPoint>(
     (probe, true)
 }
 
-/// Returns whether there are at least three points, and the path over them never turns back or stands still. Despiking leaves such a
-/// contour as it is.
+/// Returns whether there are at least three points, and the path over them never turns back or stands still. Despiking
+/// leaves such a contour as it is.
 pub fn is_despiked<P: ContourPoint>(points: &[P]) -> bool
-    requires { IsSafeContour P.Coordinate.width
-        (contour_of P.Coordinate.value (P.points points.now)) }
-    ensures { IsTrue result
-        ↔ IsDespikedAlready (contour_of P.Coordinate.value (P.points points.now)) }
+    requires { IsSafeContour P.Coordinate.width (read P.Coordinate.value P.points points.now) }
+    ensures { IsTrue result ↔ IsDespikedAlready (read P.Coordinate.value P.points points.now) }
 {
     has_none::<P, BackTurn>(points)
 }
 
-/// Returns whether the contour has no spike, and has at least three points. Consecutive duplicates count once, also across the closing
-/// edge.
+/// Returns whether the contour has no spike, and has at least three points. Consecutive duplicates count once, also
+/// across the closing edge.
 pub fn has_no_spikes<P: ContourPoint>(points: &[P]) -> bool
-    requires { IsSafeContour P.Coordinate.width
-        (contour_of P.Coordinate.value (P.points points.now)) }
-    ensures { IsTrue result ↔ NoSpikes (contour_of P.Coordinate.value (P.points points.now)) }
+    requires { IsSafeContour P.Coordinate.width (read P.Coordinate.value P.points points.now) }
+    ensures { IsTrue result ↔ NoSpikes (read P.Coordinate.value P.points points.now) }
 {
     let Some(last) = points.last() else {
         return false;
@@ -419,7 +450,8 @@ pub fn has_no_spikes<P: ContourPoint>(points: &[P]) -> bool
     true
 }
 
-/// Returns whether a path that comes along `edge` goes back along `next`. The `x` of `next` isn't `I::MIN`.
+/// Returns whether a path that comes along `edge` goes back along `next`. Requires that the `x` of `next` isn't
+/// `I::MIN`.
 fn goes_back<I: IntNumber>(edge: IntPoint<I>, next: IntPoint<I>) -> bool
     requires { ¬ (next.x ≡ I.MIN) }
     ensures { IsTrue result ↔ (cross_of (point_of I.value edge) (point_of I.value next) ≡ pos 0)

@@ -1,5 +1,5 @@
-//! Laws of `==` and `clone`, in the form of those in `laws`: each function takes two values, does nothing, and has only the law as its
-//! clauses. The law of `==` of points is `laws::points_equal`.
+//! Laws of `==` and `clone`, in the form of those in `laws`: each function takes two values, does nothing, and has only
+//! the law as its clauses. The law of `==` of points is `laws::points_equal`.
 
 ghost use Rattle.std.specs.Prelude.{◌≡◌, ◌↔◌, IsTrue};
 
@@ -30,8 +30,8 @@ pub fn fill_rules_equal(_a: &FillRule, _b: &FillRule)
     ensures unrefused { ⟦<FillRule as Clone>⟧.is_infallible _a.now }
 {}
 
-/// The coordinates of a point's clone are clones of the point's, x of x and y of y. Cloning a point can't fail if cloning its coordinates
-/// can't.
+/// The coordinates of a point's clone are clones of the point's, x of x and y of y. Cloning a point can't fail if
+/// cloning its coordinates can't.
 pub fn points_cloned<I: IntNumber>(_a: &IntPoint<I>, _b: &IntPoint<I>)
     ensures cloned { ⟦<IntPoint<I> as Clone>⟧.is_clone _a.now _b.now
         ↔ (I.is_clone _a.now.x _b.now.x × I.is_clone _a.now.y _b.now.y) }

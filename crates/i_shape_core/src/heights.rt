@@ -6,6 +6,7 @@ ghost use Rattle.std.specs.List.{All};
 ghost use Rattle.std.specs.List.Sorted.{IsPermutation};
 ghost use Rattle.i_shape_core.specs.Point.{Point};
 ghost use Rattle.i_shape_core.specs.IntPoint.{point_of, contour_of, IsSafe, IsSafeContour};
+ghost use Rattle.i_shape_core.specs.Reading.{read};
 ghost use Rattle.i_shape_core.specs.Edges.{is_above};
 ghost use Rattle.i_shape_core.specs.Winding.{winding, winding_of_edge};
 ghost use Rattle.i_shape_core.specs.Heights.{asked_points, IsRising, IsPlaceOf, IsAdded, IsPassed, AllFit, asks};
@@ -22,8 +23,9 @@ pub struct Asked<I> {
     pub place: usize,
 }
 
-/// Adds to the total of each point what the edge from `start` up to `end` adds to the winding number about it. `start` lies above the
-/// first `from` points. Returns how many of them, from the first on, `end` lies above.
+/// Adds to the total of each point what the edge from `start` up to `end` adds to the winding number about it. Returns
+/// how many points, from the first on, `end` lies above. Requires points sorted by height, of which `start` lies above
+/// the first `from`, and a total for each.
 #[inline(always)]
 fn rise<I: IntNumber>(
     asked: &[Asked<I>],
@@ -52,7 +54,8 @@ fn rise<I: IntNumber>(
     place
 }
 
-/// Does the same for the edge from `start` down to `end`.
+/// Adds to the total of each point what the edge from `start` down to `end` adds to the winding number about it.
+/// Returns and requires what `rise` does.
 #[inline(always)]
 fn fall<I: IntNumber>(
     asked: &[Asked<I>],
@@ -73,7 +76,7 @@ fn fall<I: IntNumber>(
         (point_of I.value end) result totals.old totals.new }
 {
     let mut place = from;
-    while place > 0 && !(end.y > asked[place - 1].point.y) {
+    while place > 0 && end.y <= asked[place - 1].point.y {
         place -= 1;
         let turn = turn_of_fall(asked[place].point, start, end);
         totals[place] = plus(totals[place], turn);
@@ -81,7 +84,8 @@ fn fall<I: IntNumber>(
     place
 }
 
-/// Returns what an edge that rises from `start` to `end` past the height of `point` adds to the winding number about it.
+/// Returns what an edge that rises from `start` to `end` past the height of `point` adds to the winding number about
+/// it.
 #[inline(always)]
 fn turn_of_rise<I: IntNumber>(point: IntPoint<I>, start: IntPoint<I>, end: IntPoint<I>) -> isize
     requires point_safe { IsSafe I.width (point_of I.value point) }
@@ -99,7 +103,8 @@ fn turn_of_rise<I: IntNumber>(point: IntPoint<I>, start: IntPoint<I>, end: IntPo
     }
 }
 
-/// Returns what an edge that falls from `start` to `end` past the height of `point` adds to the winding number about it.
+/// Returns what an edge that falls from `start` to `end` past the height of `point` adds to the winding number about
+/// it.
 #[inline(always)]
 fn turn_of_fall<I: IntNumber>(point: IntPoint<I>, start: IntPoint<I>, end: IntPoint<I>) -> isize
     requires point_safe { IsSafe I.width (point_of I.value point) }
@@ -117,7 +122,7 @@ fn turn_of_fall<I: IntNumber>(point: IntPoint<I>, start: IntPoint<I>, end: IntPo
     }
 }
 
-/// Returns the sum of a total and what an edge adds to it, wrapped to 64 bits.
+/// Returns the sum of a total and what an edge adds to it, wrapped to the width of `isize`.
 #[inline(always)]
 #[tactic(auto, using(std::proofs::lemmas::Int::wrapping_add_is))]
 fn plus(total: isize, turn: isize) -> isize
@@ -126,7 +131,7 @@ fn plus(total: isize, turn: isize) -> isize
     total.wrapping_add(turn)
 }
 
-/// Returns how many of the points `start` lies above. These are the first ones.
+/// Returns how many points `start` lies above. Requires points sorted by height, so these are the first ones.
 fn place_of<I: IntNumber>(asked: &[Asked<I>], start: IntPoint<I>) -> usize
     requires { IsRising (asked_points I.value asked.now) }
     ensures { IsPlaceOf (asked_points I.value asked.now) (point_of I.value start) result }
@@ -144,7 +149,8 @@ fn place_of<I: IntNumber>(asked: &[Asked<I>], start: IntPoint<I>) -> usize
     low
 }
 
-/// Adds the winding number of the contour about each point to its total, wrapped to 64 bits. The points are sorted by height.
+/// Adds the winding number of the contour about each point to its total, wrapped to the width of `isize`. Requires
+/// points sorted by height, and a total for each.
 pub fn add_contour<P: ContourPoint>(
     asked: &[Asked<P::Coordinate>],
     totals: &mut [isize],
@@ -153,14 +159,14 @@ pub fn add_contour<P: ContourPoint>(
     requires asked_safe { All (IsSafe P.Coordinate.width)
         (asked_points P.Coordinate.value asked.now) }
     requires contour_safe { IsSafeContour P.Coordinate.width
-        (contour_of P.Coordinate.value (P.points contour.now)) }
+        (read P.Coordinate.value P.points contour.now) }
     requires rising { IsRising (asked_points P.Coordinate.value asked.now) }
     requires room { length totals.old ≡ length asked.now }
     requires fit { AllFit totals.old }
     ensures room { length totals.new ≡ length totals.old }
     ensures fit { AllFit totals.new }
     ensures added { IsAdded (asked_points P.Coordinate.value asked.now)
-        (winding (contour_of P.Coordinate.value (P.points contour.now))) totals.old totals.new }
+        (winding (read P.Coordinate.value P.points contour.now)) totals.old totals.new }
 {
     let Some(last) = contour.last() else {
         return;
@@ -168,7 +174,7 @@ pub fn add_contour<P: ContourPoint>(
     let mut start = last.to_point();
     let mut place = place_of(asked, start);
     for given in contour {
-        let end = (*given).to_point();
+        let end = given.to_point();
         place = if end.y > start.y {
             rise(asked, totals, place, start, end)
         } else {
@@ -178,7 +184,11 @@ pub fn add_contour<P: ContourPoint>(
     }
 }
 
-/// Returns the points with their places, sorted by height. The only error is `AllocError`, which can't occur where there is no point.
+/// Returns the points with their places, sorted by height.
+///
+/// # Errors
+///
+/// `AllocError`, which can't occur where there is no point.
 pub fn by_height<Q: ContourPoint>(
     alloc: Global,
     points: &[Q],
@@ -189,8 +199,8 @@ pub fn by_height<Q: ContourPoint>(
 {
     let mut asked = Vec::with_capacity(alloc, points.len())?;
     for (place, given) in points.iter().enumerate() {
-        let point = (*given).to_point();
-        asked.push(Asked { point, place })?;
+        let point = given.to_point();
+        asked.push_reserved(Asked { point, place });
     }
     asked.sort_unstable_by_key(|it| it.point.y);
     Ok(asked)
@@ -210,11 +220,14 @@ pub fn write_totals<I: IntNumber>(asked: &[Asked<I>], totals: &[isize], out: &mu
     }
 }
 
-/// Writes the winding number about each of the points to the front of `out`, as `windings_about` does.
-/// `out` is at least as long as `points`. The rest of it stays as it was.
-/// It takes the time to sort the points, and time linear in the points, the edges, and how many of the points' heights each edge passes.
-/// It allocates a copy of the points and a total for each. The only error is `AllocError`, which can't occur where there is no point, and
-/// leaves `out` as it was.
+/// Writes the winding number about each of the points to the front of `out`, as `windings_about` does. Requires an
+/// `out` at least as long as `points`. The rest of it stays as it was. It takes the time to sort the points, and time
+/// linear in the points, the edges, and how many of the points' heights each edge passes. It allocates a copy of the
+/// points and a total for each.
+///
+/// # Errors
+///
+/// `AllocError`, which can't occur where there is no point, and leaves `out` as it was.
 pub fn windings_by_height<P: ContourPoint, Q: ContourPoint<Coordinate = P::Coordinate>>(
     alloc: Global,
     contour: &[P],
@@ -222,12 +235,12 @@ pub fn windings_by_height<P: ContourPoint, Q: ContourPoint<Coordinate = P::Coord
     out: &mut [isize],
 ) -> Result<(), AllocError>
     requires contour_safe { IsSafeContour P.Coordinate.width
-        (contour_of P.Coordinate.value (P.points contour.now)) }
+        (read P.Coordinate.value P.points contour.now) }
     requires points_safe { IsSafeContour P.Coordinate.width
-        (contour_of P.Coordinate.value (Q.points points.now)) }
+        (read P.Coordinate.value Q.points points.now) }
     requires room { length points.now ≤ length out.old }
-    ensures answer { OnOk result (out.new ≡ map (winding (contour_of P.Coordinate.value (P.points contour.now)))
-        (contour_of P.Coordinate.value (Q.points points.now)) ++ drop (length points.now) out.old) }
+    ensures answer { OnOk result (out.new ≡ map (winding (read P.Coordinate.value P.points contour.now))
+        (read P.Coordinate.value Q.points points.now) ++ drop (length points.now) out.old) }
     ensures refused { OnErr result (out.new ≡ out.old) }
     ensures none { points.now ≡ [] → IsOk result }
 {

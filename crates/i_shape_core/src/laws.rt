@@ -1,7 +1,7 @@
-//! Laws of cleaning, of the comparison of points, and of safe coordinates. Each function takes the contours or points that its law names,
-//! or none if it is about all numbers, does nothing, and has only the law as its clauses. These are about definitions, and about every
-//! other list and point that they mention. The points needn't be safe. The crate `i_shape_laws` has further laws of orders, winding
-//! numbers, fill rules, edges and moves.
+//! Laws of cleaning, of the comparison of points, and of safe coordinates. Each function takes the contours or points
+//! that its law names, or none if it is about all numbers, does nothing, and has only the law as its clauses. These are
+//! about definitions, and about every other list and point that they mention. The points needn't be safe. The crate
+//! `i_shape_laws` has further laws of orders, winding numbers, fill rules, edges and moves.
 
 ghost use Rattle.std.specs.Prelude.{◌≡◌, ◌↔◌, ◌-ℤ◌, ◌*ℤ◌, ℤ, IsTrue, Some, FitsSigned};
 ghost use Rattle.std.specs.Ordering.{MatchOrdering, partial_lt};
@@ -45,8 +45,8 @@ pub fn twice<I: IntNumber>(_c: &[IntPoint<I>])
     ensures { Twice (contour_of I.value _c.now) }
 {}
 
-/// What is left if only back vertices (spikes and repeated points) are removed has collapsed exactly where the ends of the contour have.
-/// Otherwise it has their ends, up to rotation.
+/// What is left if only back vertices (spikes and repeated points) are removed has collapsed exactly where the ends of
+/// the contour have. Otherwise it has their ends, up to rotation.
 #[tactic(auto, using(crate::proofs::removal::ZeroTurns::ends_agree))]
 pub fn agreed<I: IntNumber>(_c: &[IntPoint<I>])
     ensures { Agreed (contour_of I.value _c.now) }
@@ -64,14 +64,14 @@ pub fn inside_kept<I: IntNumber>(_c: &[IntPoint<I>], _d: &[IntPoint<I>])
     ensures { InsideKept (contour_of I.value _c.now) (contour_of I.value _d.now) }
 {}
 
-/// A contour without spikes doesn't collapse, and is convex exactly where its ends are. Convexity stays under rotation, reversal, and
-/// repetition of a point beside itself.
+/// A contour without spikes doesn't collapse, and is convex exactly where its ends are. Convexity stays under rotation,
+/// reversal, and repetition of a point beside itself.
 pub fn convex_kept<I: IntNumber>(_c: &[IntPoint<I>])
     ensures { ConvexKept (contour_of I.value _c.now) }
 {}
 
-/// The ends of two contours that don't collapse have equal least rotations exactly where a chain joins the contours: of rotations, and of
-/// removals and insertions of zero turns, with at least three points in each contour.
+/// The ends of two contours that don't collapse have equal least rotations exactly where a chain joins the contours: of
+/// rotations, and of removals and insertions of zero turns, with at least three points in each contour.
 pub fn canonical_joined<I: IntNumber>(_c: &[IntPoint<I>], _d: &[IntPoint<I>])
     ensures { CanonicalJoined (contour_of I.value _c.now) (contour_of I.value _d.now) }
 {}
@@ -99,8 +99,8 @@ pub fn points_compared<I: IntNumber>(_a: &IntPoint<I>, _b: &IntPoint<I>)
         ↔ IsBefore (point_of I.value _a.now) (point_of I.value _b.now) }
 {}
 
-/// Why coordinates are called safe: the difference of two of them fits the type, and the product of two such differences fits the wider
-/// type.
+/// Why coordinates are called safe: the difference of two of them fits the type, and the product of two such
+/// differences fits the wider type.
 pub fn safe_differences_fit<I: IntNumber>()
     ensures differences { (a b : ℤ) → IsSafeCoordinate I.width a
         → IsSafeCoordinate I.width b → FitsSigned I.width (a -ℤ b) }

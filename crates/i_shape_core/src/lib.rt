@@ -1,8 +1,9 @@
-//! Contours with integer coordinates: numbers and points, turns, measures, the cleaners of one contour, its canonical form, and the laws
-//! of cleaning.
+//! Contours with integer coordinates: numbers and points, turns, measures, the cleaners of one contour, and its
+//! canonical form.
 //!
-//! A *zero turn* is a degenerate vertex: a collinear vertex, a repeated point, or the tip of a spike. A contour *collapses* if removing
-//! zero turns leaves fewer than three points. A point is *safe* if both coordinates lie strictly between -2^(BITS-2) and 2^(BITS-2).
+//! A *zero turn* is a degenerate vertex: a collinear vertex, a repeated point, or the tip of a spike. A contour
+//! *collapses* if removing zero turns leaves fewer than three points. A point is *safe* if both coordinates lie
+//! strictly between -2^(BITS-2) and 2^(BITS-2).
 #![tactic(auto)]
 
 pub mod area;
@@ -17,7 +18,6 @@ pub mod despike;
 pub mod equality;
 pub mod error;
 pub mod fill_rule;
-mod four_turns;
 pub mod heights;
 pub mod laws;
 pub mod number;
@@ -32,6 +32,7 @@ pub mod simple;
 pub mod simplifier;
 pub mod triangle;
 pub mod turn;
+mod turning;
 mod unoriented;
 pub mod winding;
 mod write;

@@ -20,6 +20,7 @@ pub struct IntPoint<I> {
 pub type IntContour<I> = Vec<IntPoint<I>>;
 
 impl<I: IntNumber> IntPoint<I> {
+    /// Returns the point with these coordinates.
     pub fn new(x: I, y: I) -> IntPoint<I>
         ensures { result ≡ record { x = x; y = y } }
     {
@@ -35,7 +36,8 @@ impl<I: IntNumber> IntPoint<I> {
         left.wrapping_sub(right)
     }
 
-    /// Returns whether the cross product of two vectors is zero: they have the same direction or opposite ones, or one of them is zero.
+    /// Returns whether the cross product of two vectors is zero: they have the same direction or opposite ones, or one
+    /// of them is zero.
     pub fn is_parallel_to(self, other: IntPoint<I>) -> bool
         ensures { IsTrue result
             ↔ (cross_of (point_of I.value self) (point_of I.value other) ≡ pos 0) }
@@ -61,7 +63,7 @@ impl<I: IntNumber> IntPoint<I> {
     }
 }
 
-/// A type with an origin. `IntPoint` has its own by this trait, whose contract gives its value.
+/// A type with an origin, as `IntPoint` has one: the point with both coordinates zero.
 pub trait Origin {
     ghost ZERO: { Self };
 
@@ -93,6 +95,7 @@ pub trait ContourPoint: Copy {
 
     ghost each: { (list : List Self) → points list ≡ map point list };
 
+    /// Returns the library's point with the same coordinates.
     fn to_point(self) -> IntPoint<Self::Coordinate>
         ensures { result ≡ point self };
 }

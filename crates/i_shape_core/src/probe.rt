@@ -3,7 +3,9 @@
 ghost use Rattle.std.specs.Prelude.{◌≡◌, ◌+◌, ◌<◌, ◌≤◌, [], Some, map, option_map, length, slice_get, IfOk, IsOk, IsOkUnless};
 ghost use Rattle.std.specs.Option.{IfSome};
 ghost use Rattle.std.specs.List.{All};
-ghost use Rattle.i_shape_core.specs.IntPoint.{contour_of, answered, IsSafeContour};
+ghost use Rattle.i_shape_core.specs.declared.point.IntPoint.{IntPoint};
+ghost use Rattle.i_shape_core.specs.IntPoint.{point_of, contour_of, answered, IsSafe, IsSafeContour};
+ghost use Rattle.i_shape_core.specs.Reading.{read};
 ghost use Rattle.i_shape_core.specs.Contour.{point_at};
 ghost use Rattle.i_shape_core.specs.Walks.{Seen};
 ghost use Rattle.i_shape_core.specs.Turn.{IsTurn};
@@ -12,15 +14,30 @@ use crate::copies::copied;
 use crate::error::ShapeError;
 use crate::number::IntNumber;
 use crate::point::{ContourPoint, IntPoint};
-use crate::turn::{Turn, turn_at};
+use crate::turn::{Turn, turn_at, turn_of};
 use std::alloc::Global;
 use std::marker::Model;
 
-/// The only view of a contour that a cleaner's walk gets. It counts the vertices visited.
+/// The only view of a contour that a cleaner's walk gets. It counts the vertices visited. Walks pass it by value, since
+/// `keep` ends it: once its points are out, nothing more can be visited.
 #[derive(Drop)]
 pub struct Probe<'a, I: IntNumber, P: ContourPoint<Coordinate = I> = IntPoint<I>> {
     points: &'a [P],
     count: u128,
+}
+
+/// A point of a probe's contour, which a walk keeps from one turn to the next. Only a probe sees its coordinates.
+#[derive(Drop)]
+pub(crate) struct HeldPoint<I: IntNumber> {
+    point: IntPoint<I>,
+}
+
+impl<I: IntNumber> Model for HeldPoint<I> {
+    ghost Value = { IntPoint I };
+
+    ghost view = { λ p. p.point };
+
+    ghost invariant = { λ p. IsSafe I.width (point_of I.value p.point) };
 }
 
 impl<'a, I: IntNumber, P: ContourPoint<Coordinate = I>> Model for Probe<'a, I, P> {
@@ -28,13 +45,13 @@ impl<'a, I: IntNumber, P: ContourPoint<Coordinate = I>> Model for Probe<'a, I, P
 
     ghost view = { λ p. record { contour = P.points p.points.now; visits = p.count } };
 
-    ghost invariant = { λ p. IsSafeContour I.width (contour_of I.value (P.points p.points.now)) };
+    ghost invariant = { λ p. IsSafeContour I.width (read I.value P.points p.points.now) };
 }
 
 impl<'a, I: IntNumber, P: ContourPoint<Coordinate = I>> Probe<'a, I, P> {
-    /// Returns a probe of a contour of safe points, with nothing visited.
+    /// Returns a probe of a contour, with nothing visited. Requires safe points.
     pub fn new(contour: &'a [P]) -> Probe<'a, I, P>
-        requires { IsSafeContour I.width (contour_of I.value (P.points contour.now)) }
+        requires { IsSafeContour I.width (read I.value P.points contour.now) }
         ensures contour { result.contour ≡ P.points contour.now }
         ensures visits { result.visits ≡ 0 }
     {
@@ -51,7 +68,8 @@ impl<'a, I: IntNumber, P: ContourPoint<Coordinate = I>> Probe<'a, I, P> {
         self.points.len()
     }
 
-    /// Returns how the contour turns at `place` between these neighbours, which may be any places. Counts one visit.
+    /// Returns how the contour turns at `place` between these neighbours, which may be any places of it. Counts one
+    /// visit.
     pub fn turn(&mut self, previous: usize, place: usize, next: usize) -> Turn
         requires previous_within { previous < length self.old.contour }
         requires place_within { place < length self.old.contour }
@@ -64,6 +82,34 @@ impl<'a, I: IntNumber, P: ContourPoint<Coordinate = I>> Probe<'a, I, P> {
     {
         self.count += 1;
         turn_at(self.points, previous, place, next)
+    }
+
+    /// Returns the point at `place` for `turn_over`. A walk sees nothing of it, so this counts no visit.
+    pub(crate) fn hold(&self, place: usize) -> HeldPoint<I>
+        requires { place < length self.now.contour }
+        ensures { point_of I.value result ≡ point_at (contour_of I.value self.now.contour) place }
+    {
+        let points = self.points;
+        HeldPoint {
+            point: points[place].to_point(),
+        }
+    }
+
+    /// Returns how the way from `before` over `here` to `after` turns. Counts one visit.
+    pub(crate) fn turn_over(
+        &mut self,
+        before: &HeldPoint<I>,
+        here: &HeldPoint<I>,
+        after: &HeldPoint<I>,
+    ) -> Turn
+        requires { self.old.visits < u128.MAX }
+        ensures turn { IsTurn (point_of I.value before.now) (point_of I.value here.now)
+            (point_of I.value after.now) result }
+        ensures contour { self.new.contour ≡ self.old.contour }
+        ensures visits { self.new.visits ≡ self.old.visits + 1 }
+    {
+        self.count += 1;
+        turn_of(before.point, here.point, after.point)
     }
 
     /// Counts one visit.
@@ -82,7 +128,11 @@ impl<'a, I: IntNumber, P: ContourPoint<Coordinate = I>> Probe<'a, I, P> {
         self.count
     }
 
-    /// Returns all points, and the number of visits. The only error is `OutOfMemory`, which can't occur where there is no point.
+    /// Returns all points, and the number of visits.
+    ///
+    /// # Errors
+    ///
+    /// `OutOfMemory`, which can't occur where there is no point.
     pub fn keep_all(self, alloc: Global) -> Result<(Vec<P>, u128), ShapeError>
         ensures points { IfOk result (λ kept. P.points kept.0.items ≡ self.entry.contour) }
         ensures visits { IfOk result (λ kept. kept.1 ≡ self.entry.visits) }
@@ -93,8 +143,11 @@ impl<'a, I: IntNumber, P: ContourPoint<Coordinate = I>> Probe<'a, I, P> {
         Ok((kept, self.visits()))
     }
 
-    /// Returns the points at these places, in the given order, and the number of visits. The only error is `OutOfMemory`, which can't occur
-    /// where there is no place.
+    /// Returns the points at these places of the contour, in the given order, and the number of visits.
+    ///
+    /// # Errors
+    ///
+    /// `OutOfMemory`, which can't occur where there is no place.
     pub fn keep(self, alloc: Global, indices: &[usize]) -> Result<(Vec<P>, u128), ShapeError>
         requires { All (λ k. k < length self.contour) indices.now }
         ensures points { IfOk result (λ kept. map (λ p. Some p) (P.points kept.0.items)
@@ -112,8 +165,7 @@ impl<'a, I: IntNumber, P: ContourPoint<Coordinate = I>> Probe<'a, I, P> {
 
     /// Returns all points, as what is left of the contour, and the number of visits. The only error is `OutOfMemory`.
     pub(crate) fn keep_whole(self, alloc: Global) -> Result<(Option<Vec<P>>, u128), ShapeError>
-        ensures kept { IfOk result
-            (λ kept. (answered (λ list. contour_of I.value (P.points list)) kept.0
+        ensures kept { IfOk result (λ kept. (answered (read I.value P.points) kept.0
             ≡ Some (contour_of I.value self.entry.contour)) × (kept.1 ≡ self.entry.visits)) }
         ensures memory { IsOkUnless result ShapeError.OutOfMemory }
     {
@@ -121,7 +173,8 @@ impl<'a, I: IntNumber, P: ContourPoint<Coordinate = I>> Probe<'a, I, P> {
         Ok((Some(kept), visits))
     }
 
-    /// Returns the points at the places left, or `None` if `left` is, and the number of visits. The only error is `OutOfMemory`.
+    /// Returns the points at the places left, or `None` if `left` is, and the number of visits. The only error is
+    /// `OutOfMemory`.
     pub(crate) fn keep_left(
         self,
         alloc: Global,
@@ -129,8 +182,7 @@ impl<'a, I: IntNumber, P: ContourPoint<Coordinate = I>> Probe<'a, I, P> {
     ) -> Result<(Option<Vec<P>>, u128), ShapeError>
         requires { IfSome left (λ places. All (λ k. k < length self.contour) places.now) }
         ensures kept { let c = contour_of I.value self.entry.contour
-            in IfOk result
-            (λ kept. (answered (λ list. contour_of I.value (P.points list)) kept.0
+            in IfOk result (λ kept. (answered (read I.value P.points) kept.0
             ≡ option_map (λ places. map (point_at c) places.now) left.entry)
             × (kept.1 ≡ self.entry.visits)) }
         ensures memory { IsOkUnless result ShapeError.OutOfMemory }

@@ -5,8 +5,8 @@ ghost use Rattle.i_shape_core.specs.Walks.{PlacedRing, LeadKept, LeadRemoved, ar
 
 use std::marker::Model;
 
-/// The places left, as a cycle from the walk's place on. They lie in one list with a gap: those from `ahead` to `end`, and then those
-/// before `behind`.
+/// The places left, as a cycle from the walk's place on. They lie in one list with a gap: those from `ahead` to `end`,
+/// and then those before `behind`.
 #[derive(Drop)]
 pub struct Ring {
     places: Vec<usize>,
@@ -27,7 +27,8 @@ impl Model for Ring {
 }
 
 impl Ring {
-    /// Returns the ring of all places below `count`, in this memory, with the walk at `place` and the places before it tested.
+    /// Returns the ring of all places below `count`, in this memory, with the walk at `place` and the places before it
+    /// tested. Requires memory for so many places.
     pub fn starting_at(memory: Vec<usize>, count: usize, place: usize) -> Ring
         requires within { place < count }
         requires room { count ≤ vec_capacity memory }
@@ -81,7 +82,7 @@ impl Ring {
         self.places[self.ahead]
     }
 
-    /// Returns the place after the walk's. The ring has at least two places.
+    /// Returns the place after the walk's. Requires at least two places.
     pub fn after(&self) -> usize
         requires { 1 < length self.now.places }
         ensures { result ≡ slice_index self.now.places 1 }
@@ -90,7 +91,7 @@ impl Ring {
         self.places[if next < self.end { next } else { 0 }]
     }
 
-    /// Keeps the walk's place as tested, and moves on.
+    /// Keeps the walk's place as tested, and moves on. Requires a place that is still to be tested.
     pub fn keep(&mut self)
         requires { 0 < self.old.untested }
         ensures places { self.new.places ≡ drop 1 self.old.places
@@ -110,7 +111,8 @@ impl Ring {
         }
     }
 
-    /// Removes the walk's place, and moves back. The new place and the one after it are to be tested.
+    /// Removes the walk's place, and moves back. The new place and the one after it are to be tested. Requires at least
+    /// two places.
     pub fn remove(&mut self)
         requires { 1 < length self.old.places }
         ensures places { self.new.places ≡ slice_index self.old.places (length self.old.places - 1)
@@ -145,8 +147,8 @@ impl Ring {
     }
 }
 
-/// Returns where the contour's first place lies once the walk's place, with `behind` places before it in the list, is removed and `left`
-/// are left.
+/// Returns where the contour's first place lies once the walk's place, with `behind` places before it in the list, is
+/// removed and `left` are left.
 fn first_without(first: usize, behind: usize, left: usize) -> usize
     requires some { 0 < left }
     requires first { first ≤ left }

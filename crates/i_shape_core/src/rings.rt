@@ -1,7 +1,8 @@
 //! Rings that lie end to end in one array of points, divided by offsets.
 
 ghost use Rattle.std.specs.Prelude.{◌≡◌, ◌↔◌, ◌+◌, ◌-◌, ◌≤◌, ℕ, length, take, drop, slice_range, IsTrue, IfOk, OnErr};
-ghost use Rattle.i_shape_core.specs.IntPoint.{contour_of, IsSafeContour};
+ghost use Rattle.i_shape_core.specs.IntPoint.{IsSafeContour};
+ghost use Rattle.i_shape_core.specs.Reading.{read};
 ghost use Rattle.i_shape_core.specs.Written.{IsWritten};
 ghost use Rattle.i_shape_core.specs.Rings.{PartsPoints, AreSafeRings, AreCleanRings, LongestUncleanRing, HaveRoom, TakesRoom, Leaves, AreCleanedRings};
 
@@ -9,11 +10,15 @@ use crate::cleaner::ContourCleaner;
 use crate::error::ShapeError;
 use crate::point::ContourPoint;
 
-/// Cleans each of the rings into which the offsets divide `points`. Writes what is left of them end to end to the front of `out`, and its
-/// offsets, from 0 on, to the front of `out_offsets`. Returns the total number of points written. A ring that collapses leaves none.
-/// `out` is at least as long as `points`, and `out_offsets` as `offsets`. The rest of both stays as it was.
-/// Room for the longest ring that isn't clean is made first. The only error is `OutOfMemory`, after which nothing was written. It occurs
-/// only if there is no room yet for some ring of at least three points that isn't clean.
+/// Cleans each of the rings into which the offsets divide `points`. Writes what is left of them end to end to the front
+/// of `out`, and its offsets, from 0 on, to the front of `out_offsets`. Returns the total number of points written. A
+/// ring that collapses leaves none. Requires an `out` at least as long as `points`, and an `out_offsets` at least as
+/// long as `offsets`. The rest of both stays as it was. Room for the longest ring that isn't clean is made first.
+///
+/// # Errors
+///
+/// `OutOfMemory`, after which nothing was written. It occurs only if there is no room yet for some ring of at least
+/// three points that isn't clean.
 pub fn try_clean_rings<P: ContourPoint, C: ContourCleaner>(
     cleaner: &mut C,
     points: &[P],
@@ -23,24 +28,27 @@ pub fn try_clean_rings<P: ContourPoint, C: ContourCleaner>(
 ) -> Result<usize, ShapeError>
     requires parted { PartsPoints (length points.now) offsets.now }
     requires points_safe { AreSafeRings P.Coordinate.width
-        (λ list. contour_of P.Coordinate.value (P.points list)) points.now offsets.now }
+        (read P.Coordinate.value P.points) points.now offsets.now }
     requires room { length points.now ≤ length out.old }
     requires offsets_room { length offsets.now ≤ length out_offsets.old }
     ensures cleaned { IfOk result (AreCleanedRings
         (Leaves C.answers C.keeps (C.picks P) P.Coordinate.width
-        (λ list. contour_of P.Coordinate.value (P.points list))) points.now offsets.now
+        (read P.Coordinate.value P.points)) points.now offsets.now
         out.old out.new out_offsets.old out_offsets.new) }
     ensures points_err { OnErr result (out.new ≡ out.old) }
     ensures offsets_err { OnErr result (out_offsets.new ≡ out_offsets.old) }
-    ensures memory { TakesRoom C.clean (λ list. contour_of P.Coordinate.value (P.points list))
+    ensures memory { TakesRoom C.clean (read P.Coordinate.value P.points)
         (C.has_room cleaner.old) (C.has_room cleaner.new) points.now offsets.now result }
 {
     let all_clean = make_room(cleaner, points, offsets)?;
     Ok(clean_rings(cleaner, points, offsets, all_clean, out, out_offsets))
 }
 
-/// Makes room for the longest ring that isn't clean, and so for each. Returns whether all are clean. The only error is `OutOfMemory`. It
-/// occurs only if there is no room yet for some ring of at least three points that isn't clean.
+/// Makes room for the longest ring that isn't clean, and so for each. Returns whether all are clean.
+///
+/// # Errors
+///
+/// `OutOfMemory`. It occurs only if there is no room yet for some ring of at least three points that isn't clean.
 pub fn make_room<P: ContourPoint, C: ContourCleaner>(
     cleaner: &mut C,
     points: &[P],
@@ -48,11 +56,11 @@ pub fn make_room<P: ContourPoint, C: ContourCleaner>(
 ) -> Result<bool, ShapeError>
     requires parted { PartsPoints (length points.now) offsets.now }
     requires points_safe { AreSafeRings P.Coordinate.width
-        (λ list. contour_of P.Coordinate.value (P.points list)) points.now offsets.now }
+        (read P.Coordinate.value P.points) points.now offsets.now }
     ensures clean { IfOk result (λ all_clean. IsTrue all_clean ↔ AreCleanRings C.clean
-        (λ list. contour_of P.Coordinate.value (P.points list)) points.now offsets.now
+        (read P.Coordinate.value P.points) points.now offsets.now
         (length offsets.now)) }
-    ensures memory { TakesRoom C.clean (λ list. contour_of P.Coordinate.value (P.points list))
+    ensures memory { TakesRoom C.clean (read P.Coordinate.value P.points)
         (C.has_room cleaner.old) (C.has_room cleaner.new) points.now offsets.now result }
 {
     let longest = longest_unclean::<P, C>(points, offsets);
@@ -67,8 +75,8 @@ pub fn longest_unclean<P: ContourPoint, C: ContourCleaner>(
 ) -> Option<usize>
     requires parted { PartsPoints (length points.now) offsets.now }
     requires points_safe { AreSafeRings P.Coordinate.width
-        (λ list. contour_of P.Coordinate.value (P.points list)) points.now offsets.now }
-    ensures { LongestUncleanRing C.clean (λ list. contour_of P.Coordinate.value (P.points list))
+        (read P.Coordinate.value P.points) points.now offsets.now }
+    ensures { LongestUncleanRing C.clean (read P.Coordinate.value P.points)
         points.now offsets.now (length offsets.now) result }
 {
     let mut longest = None;
@@ -81,8 +89,8 @@ pub fn longest_unclean<P: ContourPoint, C: ContourCleaner>(
     longest
 }
 
-/// Cleans each ring, as `try_clean_rings` does. There is room for each that isn't clean, so this allocates nothing and can't fail.
-/// No ring is tested if `all_clean` is true, as it may be only if all are clean.
+/// Cleans each ring, as `try_clean_rings` does. Requires room for each that isn't clean, so it allocates nothing and
+/// can't fail. `all_clean` may be true only if all are clean, as `make_room` returns it; no ring is tested then.
 pub fn clean_rings<P: ContourPoint, C: ContourCleaner>(
     cleaner: &mut C,
     points: &[P],
@@ -93,17 +101,16 @@ pub fn clean_rings<P: ContourPoint, C: ContourCleaner>(
 ) -> usize
     requires parted { PartsPoints (length points.now) offsets.now }
     requires points_safe { AreSafeRings P.Coordinate.width
-        (λ list. contour_of P.Coordinate.value (P.points list)) points.now offsets.now }
+        (read P.Coordinate.value P.points) points.now offsets.now }
     requires room { length points.now ≤ length out.old }
     requires offsets_room { length offsets.now ≤ length out_offsets.old }
     requires clean { IsTrue all_clean → AreCleanRings C.clean
-        (λ list. contour_of P.Coordinate.value (P.points list)) points.now offsets.now
+        (read P.Coordinate.value P.points) points.now offsets.now
         (length offsets.now) }
-    requires reserved { HaveRoom C.clean
-        (λ list. contour_of P.Coordinate.value (P.points list)) (C.has_room cleaner.old)
+    requires reserved { HaveRoom C.clean (read P.Coordinate.value P.points) (C.has_room cleaner.old)
         points.now offsets.now (length offsets.now) }
     ensures cleaned { AreCleanedRings (Leaves C.answers C.keeps (C.picks P) P.Coordinate.width
-        (λ list. contour_of P.Coordinate.value (P.points list))) points.now offsets.now
+        (read P.Coordinate.value P.points)) points.now offsets.now
         out.old out.new out_offsets.old out_offsets.new result }
     ensures keeps_room { (n : ℕ) → C.has_room cleaner.old n → C.has_room cleaner.new n }
 {
@@ -117,7 +124,9 @@ pub fn clean_rings<P: ContourPoint, C: ContourCleaner>(
     written
 }
 
-/// Writes what is left of a ring from place `at` on, and returns where it ends. The rest of `out` stays as it was.
+/// Writes what is left of a ring from place `at` on, and returns where it ends. Requires space there for the whole
+/// ring, and room for one that isn't clean. The rest of `out` stays as it was. `is_clean` may be true only for a clean
+/// ring, which isn't tested then.
 pub fn clean_at<P: ContourPoint, C: ContourCleaner>(
     cleaner: &mut C,
     ring: &[P],
@@ -126,16 +135,15 @@ pub fn clean_at<P: ContourPoint, C: ContourCleaner>(
     at: usize,
 ) -> usize
     requires points_safe { IsSafeContour P.Coordinate.width
-        (contour_of P.Coordinate.value (P.points ring.now)) }
+        (read P.Coordinate.value P.points ring.now) }
     requires room { at + length ring.now ≤ length out.old }
-    requires clean { IsTrue is_clean
-        → C.clean (contour_of P.Coordinate.value (P.points ring.now)) }
-    requires reserved { (C.clean (contour_of P.Coordinate.value (P.points ring.now)) → ⊥)
+    requires clean { IsTrue is_clean → C.clean (read P.Coordinate.value P.points ring.now) }
+    requires reserved { (C.clean (read P.Coordinate.value P.points ring.now) → ⊥)
         → C.has_room cleaner.old (length ring.now) }
     ensures above { at ≤ result }
     ensures under { result ≤ at + length ring.now }
     ensures left { Leaves C.answers C.keeps (C.picks P) P.Coordinate.width
-        (λ list. contour_of P.Coordinate.value (P.points list)) ring.now (slice_range out.new at result) }
+        (read P.Coordinate.value P.points) ring.now (slice_range out.new at result) }
     ensures before { take at out.new ≡ take at out.old }
     ensures after { drop result out.new ≡ drop result out.old }
     ensures len { length out.new ≡ length out.old }
@@ -145,7 +153,8 @@ pub fn clean_at<P: ContourPoint, C: ContourCleaner>(
     at + count
 }
 
-/// Cleans a ring, as `ContourCleaner::clean_into` does, without testing it if it is known to be clean.
+/// Cleans a ring, as `ContourCleaner::clean_into` does. `is_clean` may be true only for a clean ring, which isn't tested
+/// then.
 fn clean_ring<P: ContourPoint, C: ContourCleaner>(
     cleaner: &mut C,
     ring: &[P],
@@ -153,15 +162,13 @@ fn clean_ring<P: ContourPoint, C: ContourCleaner>(
     out: &mut [P],
 ) -> usize
     requires points_safe { IsSafeContour P.Coordinate.width
-        (contour_of P.Coordinate.value (P.points ring.now)) }
+        (read P.Coordinate.value P.points ring.now) }
     requires room { length ring.now ≤ length out.old }
-    requires clean { IsTrue is_clean
-        → C.clean (contour_of P.Coordinate.value (P.points ring.now)) }
-    requires reserved { (C.clean (contour_of P.Coordinate.value (P.points ring.now)) → ⊥)
+    requires clean { IsTrue is_clean → C.clean (read P.Coordinate.value P.points ring.now) }
+    requires reserved { (C.clean (read P.Coordinate.value P.points ring.now) → ⊥)
         → C.has_room cleaner.old (length ring.now) }
     ensures written { IsWritten C.answers C.keeps (C.picks P) P.Coordinate.width
-        (λ list. contour_of P.Coordinate.value (P.points list))
-        ring.now out.old out.new result }
+        (read P.Coordinate.value P.points) ring.now out.old out.new result }
     ensures len { length out.new ≡ length out.old }
     ensures keeps_room { (n : ℕ) → C.has_room cleaner.old n → C.has_room cleaner.new n }
 {

@@ -2,12 +2,13 @@
 
 ghost use Rattle.std.specs.Prelude.{◌↔◌, ℕ, ◌<◌, ◌≤◌, length, IsTrue};
 ghost use Rattle.i_shape_core.specs.Contour.{IsRemovable, IsSimple, Test, point_at};
-ghost use Rattle.i_shape_core.specs.IntPoint.{contour_of, IsSafeContour};
+ghost use Rattle.i_shape_core.specs.IntPoint.{IsSafeContour};
+ghost use Rattle.i_shape_core.specs.Reading.{read};
 ghost use Rattle.i_shape_core.specs.Point.{Point, IsBack, IsZeroTurn};
 
-use crate::four_turns::count_turning;
 use crate::point::ContourPoint;
 use crate::turn::{Turn, turn_at};
+use crate::turning::count_turning;
 
 /// Which turns a cleaner removes.
 pub(crate) trait TurnTest {
@@ -17,11 +18,11 @@ pub(crate) trait TurnTest {
     /// Returns whether it removes the point at `place`, between these neighbours.
     fn is_at<P: ContourPoint>(points: &[P], previous: usize, place: usize, next: usize) -> bool
         requires safe { IsSafeContour P.Coordinate.width
-            (contour_of P.Coordinate.value (P.points points.now)) }
+            (read P.Coordinate.value P.points points.now) }
         requires previous_within { previous < length points.now }
         requires place_within { place < length points.now }
         requires next_within { next < length points.now }
-        ensures { let c = contour_of P.Coordinate.value (P.points points.now) in IsTrue result
+        ensures { let c = read P.Coordinate.value P.points points.now in IsTrue result
             ↔ test (point_at c previous) (point_at c place) (point_at c next) };
 
     /// They are zero turns.
@@ -56,9 +57,8 @@ impl TurnTest for BackTurn {
 
 /// Returns whether there are at least three points, and none of them is removed. Makes one pass and allocates nothing.
 pub(crate) fn has_none<P: ContourPoint, T: TurnTest>(points: &[P]) -> bool
-    requires { IsSafeContour P.Coordinate.width
-        (contour_of P.Coordinate.value (P.points points.now)) }
-    ensures { let c = contour_of P.Coordinate.value (P.points points.now) in IsTrue result
+    requires { IsSafeContour P.Coordinate.width (read P.Coordinate.value P.points points.now) }
+    ensures { let c = read P.Coordinate.value P.points points.now in IsTrue result
         ↔ (3 ≤ length c) × ((k : ℕ) → IsRemovable T.test c k → ⊥) }
 {
     if points.len() < 3 {
@@ -79,11 +79,11 @@ pub(crate) fn has_none<P: ContourPoint, T: TurnTest>(points: &[P]) -> bool
     true
 }
 
-/// Returns whether there are at least three points and no zero turn, the closing edge included. Makes one pass and allocates nothing.
+/// Returns whether there are at least three points and no zero turn, the closing edge included. Makes one pass and
+/// allocates nothing.
 pub fn is_simple<P: ContourPoint>(contour: &[P]) -> bool
-    requires { IsSafeContour P.Coordinate.width
-        (contour_of P.Coordinate.value (P.points contour.now)) }
-    ensures { IsTrue result ↔ IsSimple (contour_of P.Coordinate.value (P.points contour.now)) }
+    requires { IsSafeContour P.Coordinate.width (read P.Coordinate.value P.points contour.now) }
+    ensures { IsTrue result ↔ IsSimple (read P.Coordinate.value P.points contour.now) }
 {
     has_none::<P, ZeroTurn>(contour)
 }

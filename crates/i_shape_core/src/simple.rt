@@ -21,42 +21,49 @@ pub trait SimpleContour<I: IntNumber> {
     /// The contour in unbounded integers.
     ghost contour: { Self → List Point };
 
-    /// Returns whether there are at least three points and no zero turn, the closing edge included. Makes one pass and allocates nothing.
+    /// Returns whether there are at least three points and no zero turn, the closing edge included. Makes one pass and
+    /// allocates nothing.
     fn is_simple(&self) -> bool
         requires { IsSafeContour I.width (contour self.now) }
         ensures { IsTrue result ↔ IsSimple (contour self.now) };
 
-    /// Returns the contour without zero turns, in the order of the input. If zero turns are removed one by one in any other order, the
-    /// same contour is left, up to rotation.
-    /// Returns `None` exactly where every order leaves fewer than three points. Double area, containment and winding numbers stay the
-    /// same, and the points are safe again.
-    /// The only error is `OutOfMemory`. Below three points the call allocates nothing and can't fail.
+    /// Returns the contour without zero turns, in the order of the input. If zero turns are removed one by one in any
+    /// other order, the same contour is left, up to rotation. Returns `None` exactly where every order leaves fewer
+    /// than three points. Double area, containment and winding numbers stay the same, and the points are safe again.
+    ///
+    /// # Errors
+    ///
+    /// `OutOfMemory`. Below three points the call allocates nothing and can't fail.
     fn simplified(&self, alloc: Global) -> Result<Option<IntContour<I>>, ShapeError>
         requires { IsSafeContour I.width (contour self.now) }
         ensures answer { OkUnlessMemory result
             (CleansInOrder SimpleAnswer I.width I.value (contour self.now)) }
         ensures short { length (contour self.now) < 3 → result ≡ Ok None };
 
-    /// Returns the canonical form: the least rotation of the contour without zero turns. Rotations are compared point by point, and
-    /// points by x, then by y.
-    /// Two contours that don't collapse have the same canonical form exactly where a chain of contours of at least three points joins
-    /// them, each a rotation of the one before it, or that contour with one zero turn removed or inserted.
-    /// Returns `None` exactly where `simplified` does. Double area, containment and winding numbers stay the same, and the points are
-    /// safe again.
-    /// The only error is `OutOfMemory`. Below three points the call allocates nothing and can't fail.
+    /// Returns the canonical form: the least rotation of the contour without zero turns. Rotations are compared point
+    /// by point, and points by x, then by y. Two contours that don't collapse have the same canonical form exactly
+    /// where a chain of contours of at least three points joins them, each a rotation of the one before it, or that
+    /// contour with one zero turn removed or inserted. Returns `None` exactly where `simplified` does. Double area,
+    /// containment and winding numbers stay the same, and the points are safe again.
+    ///
+    /// # Errors
+    ///
+    /// `OutOfMemory`. Below three points the call allocates nothing and can't fail.
     fn canonical(&self, alloc: Global) -> Result<Option<IntContour<I>>, ShapeError>
         requires { IsSafeContour I.width (contour self.now) }
         ensures answer { OkUnlessMemory result
             (CleansTo CanonicalAnswer KeptAnswer I.width I.value (contour self.now)) }
         ensures short { length (contour self.now) < 3 → result ≡ Ok None };
 
-    /// Returns the canonical form without regard to direction: the lesser of the canonical forms of the contour and of the contour
-    /// reversed.
-    /// Two contours that don't collapse have the same one exactly where a chain as for `canonical` joins them, or joins one to the other
-    /// reversed.
-    /// Returns `None` exactly where `simplified` does. Containment stays the same. Double area and winding numbers stay the same, or all
-    /// change sign. The points are safe again.
-    /// The only error is `OutOfMemory`. Below three points the call allocates nothing and can't fail.
+    /// Returns the canonical form without regard to direction: the lesser of the canonical forms of the contour and of
+    /// the contour reversed. Two contours that don't collapse have the same one exactly where a chain as for
+    /// `canonical` joins them, or joins one to the other reversed. Returns `None` exactly where `simplified` does.
+    /// Containment stays the same. Double area and winding numbers stay the same, or all change sign. The points are
+    /// safe again.
+    ///
+    /// # Errors
+    ///
+    /// `OutOfMemory`. Below three points the call allocates nothing and can't fail.
     fn canonical_unoriented(&self, alloc: Global) -> Result<Option<IntContour<I>>, ShapeError>
         requires { IsSafeContour I.width (contour self.now) }
         ensures answer { OkUnlessMemory result

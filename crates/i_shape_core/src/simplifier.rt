@@ -4,6 +4,7 @@ ghost use Rattle.std.specs.Prelude.{◌≡◌, ◌↔◌, ◌+◌, ◌-◌, ◌*
 ghost use Rattle.std.specs.Option.{IfSome};
 ghost use Rattle.std.specs.List.{range_with_len};
 ghost use Rattle.i_shape_core.specs.IntPoint.{contour_of, answered, IsSafeContour};
+ghost use Rattle.i_shape_core.specs.Reading.{read};
 ghost use Rattle.i_shape_core.specs.Point.{IsZeroTurn};
 ghost use Rattle.i_shape_core.specs.Contour.{IsSimple, Sublist, point_at};
 ghost use Rattle.i_shape_core.specs.Cleaners.{SimpleAnswer, KeptAnswer, VisitsAnswer};
@@ -42,9 +43,12 @@ impl ContourSimplifier {
         *self.stack.allocator()
     }
 
-    /// Returns the contour without zero turns, as `SimpleContour::simplified` does. Earlier calls don't affect the result, even if they
-    /// failed. Makes room for a contour with zero turns, and keeps it. The only error is `OutOfMemory`, which can't occur below three
-    /// points.
+    /// Returns the contour without zero turns, as `SimpleContour::simplified` does. Earlier calls don't affect the
+    /// result, even if they failed. Makes room for a contour with zero turns, and keeps it.
+    ///
+    /// # Errors
+    ///
+    /// `OutOfMemory`, which can't occur below three points.
     pub fn simplify_contour<I: IntNumber>(
         &mut self,
         contour: &[IntPoint<I>],
@@ -61,8 +65,12 @@ impl ContourSimplifier {
         Ok(kept)
     }
 
-    /// Does the same as `simplify_contour`, and also returns the number of vertices visited. For n points this is from n to 3n, or from n
-    /// - 2 to 3n if the contour collapses. It is n if there is no zero turn, and 0 below three points.
+    /// Returns what `simplify_contour` does, and the number of vertices visited. For n points this is at least n, or
+    /// n - 2 if the contour collapses, and at most 3n. It is n if there is no zero turn, and 0 below three points.
+    ///
+    /// # Errors
+    ///
+    /// `OutOfMemory`, which can't occur below three points.
     pub fn simplify_counted<I: IntNumber>(
         &mut self,
         contour: &[IntPoint<I>],
@@ -95,11 +103,14 @@ impl ContourSimplifier {
     }
 
     /// Makes room for contours of up to `points` points, and allocates nothing below three. It never reduces the room.
-    /// The only error is `OutOfMemory`, which can't occur if there is room.
+    ///
+    /// # Errors
+    ///
+    /// `OutOfMemory`, which can't occur if there is room.
     pub fn reserve(&mut self, points: usize) -> Result<(), ShapeError>
         ensures room { IfOk result (λ _. HasRoomToSimplify self.new points) }
         ensures reserved { HasRoomToSimplify self.old points → IsOk result }
-        ensures spared { points < 3 → self.new ≡ self.old }
+        ensures untouched { points < 3 → self.new ≡ self.old }
         ensures keeps_room { KeepsRoomToSimplify self.old self.new }
         ensures memory { IsOkUnless result ShapeError.OutOfMemory }
     {
@@ -111,21 +122,24 @@ impl ContourSimplifier {
         Ok(())
     }
 
-    /// Writes what `simplify_contour` returns to the front of `out`, for points of any type. Returns the number of points written, 0 if
-    /// the contour collapses.
-    /// `out` is at least as long as the contour. The rest of it stays as it was, and after an error all of it.
-    /// A contour without zero turns needs no memory. For another the call makes room for as many places as there are points, and keeps
-    /// it. The only error is `OutOfMemory`, which can't occur if there is room.
+    /// Writes what `simplify_contour` returns to the front of `out`, for points of any type. Returns the number of
+    /// points written, 0 if the contour collapses. Requires an `out` at least as long as the contour. The rest of it
+    /// stays as it was, and after an error all of it. A contour without zero turns needs no memory. For another the
+    /// call makes room for as many places as there are points, and keeps it.
+    ///
+    /// # Errors
+    ///
+    /// `OutOfMemory`, which can't occur if there is room.
     pub fn simplify_into<P: ContourPoint>(
         &mut self,
         contour: &[P],
         out: &mut [P],
     ) -> Result<usize, ShapeError>
         requires points_safe { IsSafeContour P.Coordinate.width
-            (contour_of P.Coordinate.value (P.points contour.now)) }
+            (read P.Coordinate.value P.points contour.now) }
         requires room { length contour.now ≤ length out.old }
         ensures answer { CleansInto IsSimple SimpleAnswer KeptAnswer Sublist
-            P.Coordinate.width (λ list. contour_of P.Coordinate.value (P.points list))
+            P.Coordinate.width (read P.Coordinate.value P.points)
             (HasRoomToSimplify self.old) (HasRoomToSimplify self.new)
             contour.now out.old out.new result }
     {
@@ -136,15 +150,15 @@ impl ContourSimplifier {
         Ok(self.walk_into(contour, out))
     }
 
-    /// Does the same without testing the contour first. There is room for its places, so this allocates nothing and can't fail.
+    /// Writes what `simplify_into` does, without testing the contour first. Requires room for its places, so it
+    /// allocates nothing and can't fail.
     pub(crate) fn walk_into<P: ContourPoint>(&mut self, contour: &[P], out: &mut [P]) -> usize
         requires points_safe { IsSafeContour P.Coordinate.width
-            (contour_of P.Coordinate.value (P.points contour.now)) }
+            (read P.Coordinate.value P.points contour.now) }
         requires room { length contour.now ≤ length out.old }
         requires reserved { HasRoomToSimplify self.old (length contour.now) }
         ensures written { IsWritten SimpleAnswer KeptAnswer Sublist P.Coordinate.width
-            (λ list. contour_of P.Coordinate.value (P.points list))
-            contour.now out.old out.new result }
+            (read P.Coordinate.value P.points) contour.now out.old out.new result }
         ensures len { length out.new ≡ length out.old }
         ensures short { length contour.now < 3 → result ≡ 0 }
         ensures keeps_room { KeepsRoomToSimplify self.old self.new }
@@ -152,7 +166,12 @@ impl ContourSimplifier {
         if contour.len() < 3 {
             return 0;
         }
-        let probe = stack_places(Probe::new(contour), &mut self.stack, (0, 0, 0));
+        let start = WalkStart {
+            first: 0,
+            end: 0,
+            next: 0,
+        };
+        let probe = stack_places(Probe::new(contour), &mut self.stack, start);
         let (_probe, left) = close(probe, self.stack.as_slice());
         let Some(places) = left else {
             return 0;
@@ -161,17 +180,25 @@ impl ContourSimplifier {
     }
 }
 
-/// Returns where the walk starts: the first place and the end of a stack of places, and the place that comes next. No place between two
-/// others of the stack is a zero turn. Returns `None` if there is no zero turn. Allocates nothing.
+/// Where the walk starts: with the places `first..end` on the stack, and `next` as the place to push.
+#[derive(Clone, Copy)]
+struct WalkStart {
+    first: usize,
+    end: usize,
+    next: usize,
+}
+
+/// Returns where the walk starts. No place between two others of the stack is a zero turn then. Returns `None` if there
+/// is no zero turn. Allocates nothing.
 fn start_of_walk<'a, P: ContourPoint>(
     probe: Probe<'a, P::Coordinate, P>,
-) -> (Probe<'a, P::Coordinate, P>, Option<(usize, usize, usize)>)
+) -> (Probe<'a, P::Coordinate, P>, Option<WalkStart>)
     requires fresh { probe.visits ≡ 0 }
     requires enough { 3 ≤ length probe.contour }
     ensures contour { result.0.contour ≡ probe.entry.contour }
     ensures start { IfSome result.1
         (λ s. IsStart IsZeroTurn (contour_of P.Coordinate.value probe.entry.contour)
-        s.0 s.1 s.2 result.0.visits) }
+        s.first s.end s.next result.0.visits) }
     ensures clean { let c = contour_of P.Coordinate.value probe.entry.contour in
         result.1 ≡ None → Finds IsZeroTurn c c result.0.visits }
     ensures counted { let c = contour_of P.Coordinate.value probe.entry.contour in
@@ -180,20 +207,35 @@ fn start_of_walk<'a, P: ContourPoint>(
     let (mut probe, place) = clean_prefix(probe);
     let count = probe.len();
     if place < count {
-        return (probe, Some((0, place - 1, place)));
+        let start = WalkStart {
+            first: 0,
+            end: place - 1,
+            next: place,
+        };
+        return (probe, Some(start));
     }
     let last = count - 1;
     if is_zero_at(&mut probe, last, 0, 1) {
-        return (probe, Some((1, count, count)));
+        let start = WalkStart {
+            first: 1,
+            end: count,
+            next: count,
+        };
+        return (probe, Some(start));
     }
     if is_zero_at(&mut probe, last - 1, last, 0) {
-        return (probe, Some((0, last, count)));
+        let start = WalkStart {
+            first: 0,
+            end: last,
+            next: count,
+        };
+        return (probe, Some(start));
     }
     (probe, None)
 }
 
-/// Returns the first place that makes the one before it a zero turn, or the number of points if there is none. The closing turns aren't
-/// tested.
+/// Returns the first place that makes the one before it a zero turn, or the number of points if there is none. The
+/// closing turns aren't tested.
 fn clean_prefix<'a, P: ContourPoint>(
     mut probe: Probe<'a, P::Coordinate, P>,
 ) -> (Probe<'a, P::Coordinate, P>, usize)
@@ -251,7 +293,7 @@ fn pop_zero_turns<'a, P: ContourPoint>(
         stack.new.items place }
     ensures settled { IsSettled IsZeroTurn (contour_of P.Coordinate.value probe.entry.contour)
         stack.new.items place }
-    ensures short { vec_len stack.new ≤ place }
+    ensures fewer { vec_len stack.new ≤ place }
     ensures room { vec_capacity stack.new ≡ vec_capacity stack.old }
     ensures most { result.visits + vec_len stack.new ≤ 2 * place + 1 }
     ensures least { place ≤ result.visits + min (vec_len stack.new) 1 }
@@ -272,19 +314,18 @@ fn pop_zero_turns<'a, P: ContourPoint>(
 fn stack_places<'a, P: ContourPoint>(
     mut probe: Probe<'a, P::Coordinate, P>,
     stack: &mut Vec<usize>,
-    start: (usize, usize, usize),
+    start: WalkStart,
 ) -> Probe<'a, P::Coordinate, P>
     requires start { IsStart IsZeroTurn (contour_of P.Coordinate.value probe.contour)
-        start.0 start.1 start.2 probe.visits }
+        start.first start.end start.next probe.visits }
     requires room { length probe.contour ≤ vec_capacity stack.old }
     ensures contour { result.contour ≡ probe.entry.contour }
     ensures walked { let c = contour_of P.Coordinate.value
         probe.entry.contour in IsWalked IsZeroTurn c stack.new.items (length c) result.visits }
     ensures room { vec_capacity stack.new ≡ vec_capacity stack.old }
 {
-    let (first, end, next) = start;
-    fill(stack, first, end);
-    for place in next..probe.len() {
+    fill(stack, start.first, start.end);
+    for place in start.next..probe.len() {
         probe = pop_zero_turns(probe, stack, place);
         stack.push_reserved(place);
     }
@@ -304,8 +345,8 @@ fn fill(stack: &mut Vec<usize>, first: usize, end: usize)
     }
 }
 
-/// Removes zero turns from both ends of the stack, where it closes to a cycle. Returns the places left, or `None` if they are fewer than
-/// three.
+/// Removes zero turns from both ends of the stack, where it closes to a cycle. Returns the places left, or `None` if
+/// they are fewer than three.
 fn close<'a, 's, P: ContourPoint>(
     mut probe: Probe<'a, P::Coordinate, P>,
     stack: &'s [usize],

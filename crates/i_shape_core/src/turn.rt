@@ -1,7 +1,8 @@
 //! The kinds of turn at a vertex.
 
 ghost use Rattle.std.specs.Prelude.{◌≡◌, ◌<◌, length};
-ghost use Rattle.i_shape_core.specs.IntPoint.{contour_of, point_of, IsSafe, IsSafeContour};
+ghost use Rattle.i_shape_core.specs.IntPoint.{point_of, IsSafe, IsSafeContour};
+ghost use Rattle.i_shape_core.specs.Reading.{read};
 ghost use Rattle.i_shape_core.specs.Contour.{point_at};
 ghost use Rattle.i_shape_core.specs.Turn.{IsTurn};
 
@@ -20,6 +21,7 @@ pub enum Turn {
 }
 
 /// How the way from `a` over `b` to `c` turns.
+#[inline(always)]
 #[tactic(auto, unfolding(crate::specs::Point::cross, crate::specs::Point::dot))]
 pub fn turn_of<I: IntNumber>(a: IntPoint<I>, b: IntPoint<I>, c: IntPoint<I>) -> Turn
     requires a_safe { IsSafe I.width (point_of I.value a) }
@@ -39,18 +41,18 @@ pub fn turn_of<I: IntNumber>(a: IntPoint<I>, b: IntPoint<I>, c: IntPoint<I>) -> 
 }
 
 /// Returns how a contour turns at `place` between these neighbours, which may be any places.
+#[inline(always)]
 pub(crate) fn turn_at<P: ContourPoint>(
     points: &[P],
     previous: usize,
     place: usize,
     next: usize,
 ) -> Turn
-    requires safe { IsSafeContour P.Coordinate.width
-        (contour_of P.Coordinate.value (P.points points.now)) }
+    requires safe { IsSafeContour P.Coordinate.width (read P.Coordinate.value P.points points.now) }
     requires previous_within { previous < length points.now }
     requires place_within { place < length points.now }
     requires next_within { next < length points.now }
-    ensures { let c = contour_of P.Coordinate.value (P.points points.now) in
+    ensures { let c = read P.Coordinate.value P.points points.now in
         IsTurn (point_at c previous) (point_at c place) (point_at c next) result }
 {
     turn_of(

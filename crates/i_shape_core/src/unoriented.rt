@@ -1,7 +1,9 @@
-//! The canonical form of a contour without regard to direction: the lesser of its canonical form and that of the contour reversed.
+//! The canonical form of a contour without regard to direction: the lesser of its canonical form and that of the
+//! contour reversed.
 
 ghost use Rattle.std.specs.Prelude.{◌≡◌, ◌⊎◌, ◌<◌, ◌≤◌, false, length, reverse, IsTrue, OnOk};
 ghost use Rattle.i_shape_core.specs.IntPoint.{contour_of, IsSafeContour};
+ghost use Rattle.i_shape_core.specs.Reading.{read};
 ghost use Rattle.i_shape_core.specs.Contour.{IsSimple, SublistEitherWay, Rotation};
 ghost use Rattle.i_shape_core.specs.Canonical.{IsAtMost, IsLesserWay, UnorientedAnswer, KeptEitherWay, started_at};
 ghost use Rattle.i_shape_core.specs.Refusals.{OkUnlessMemory};
@@ -17,9 +19,12 @@ use crate::simplifier::ContourSimplifier;
 use std::cmp::Ordering;
 
 impl ContourSimplifier {
-    /// Returns the unoriented form of a contour, as `SimpleContour::canonical_unoriented` does. Earlier calls don't affect the result,
-    /// even if they failed. Makes room for a contour with zero turns, and keeps it. The only error is `OutOfMemory`, which can't occur
-    /// below three points.
+    /// Returns the unoriented form of a contour, as `SimpleContour::canonical_unoriented` does. Earlier calls don't
+    /// affect the result, even if they failed. Makes room for a contour with zero turns, and keeps it.
+    ///
+    /// # Errors
+    ///
+    /// `OutOfMemory`, which can't occur below three points.
     pub fn canonical_unoriented<I: IntNumber>(
         &mut self,
         contour: &[IntPoint<I>],
@@ -39,21 +44,24 @@ impl ContourSimplifier {
         Ok(Some(kept))
     }
 
-    /// Writes the unoriented form to the front of `out`, for points of any type. Returns the number of points written, 0 if the contour
-    /// collapses.
-    /// `out` is at least as long as the contour. The rest of it stays as it was, and after an error all of it.
-    /// A contour without zero turns needs no memory. For another the call makes room for as many places as there are points, and keeps
-    /// it. The only error is `OutOfMemory`, which can't occur if there is room.
+    /// Writes the unoriented form to the front of `out`, for points of any type. Returns the number of points written,
+    /// 0 if the contour collapses. Requires an `out` at least as long as the contour. The rest of it stays as it was,
+    /// and after an error all of it. A contour without zero turns needs no memory. For another the call makes room for
+    /// as many places as there are points, and keeps it.
+    ///
+    /// # Errors
+    ///
+    /// `OutOfMemory`, which can't occur if there is room.
     pub fn canonical_unoriented_into<P: ContourPoint>(
         &mut self,
         contour: &[P],
         out: &mut [P],
     ) -> Result<usize, ShapeError>
         requires points_safe { IsSafeContour P.Coordinate.width
-            (contour_of P.Coordinate.value (P.points contour.now)) }
+            (read P.Coordinate.value P.points contour.now) }
         requires room { length contour.now ≤ length out.old }
         ensures answer { CleansInto IsSimple UnorientedAnswer KeptEitherWay SublistEitherWay
-            P.Coordinate.width (λ list. contour_of P.Coordinate.value (P.points list))
+            P.Coordinate.width (read P.Coordinate.value P.points)
             (HasRoomToSimplify self.old) (HasRoomToSimplify self.new)
             contour.now out.old out.new result }
     {
@@ -65,11 +73,12 @@ impl ContourSimplifier {
     }
 }
 
-/// Replaces a contour in place with the least rotation of the contour reversed, if that comes first; otherwise leaves it as it is.
+/// Replaces a contour in place with the least rotation of the contour reversed, if that comes first; otherwise leaves
+/// it as it is.
 pub(crate) fn rotate_to_lesser<P: ContourPoint>(contour: &mut [P])
     requires { 0 < length contour.old }
-    ensures lesser { IsLesserWay (contour_of P.Coordinate.value (P.points contour.old))
-        (contour_of P.Coordinate.value (P.points contour.new)) }
+    ensures lesser { IsLesserWay (read P.Coordinate.value P.points contour.old)
+        (read P.Coordinate.value P.points contour.new) }
     ensures picked { (contour.new ≡ contour.old) ⊎ Rotation (reverse contour.old) contour.new }
     ensures len { length contour.new ≡ length contour.old }
 {
@@ -85,9 +94,9 @@ pub(crate) fn rotate_to_lesser<P: ContourPoint>(contour: &mut [P])
 /// Returns whether the rotation of a contour that starts at `start` comes strictly before the contour reversed.
 fn comes_before_reversed<P: ContourPoint>(contour: &[P], start: usize) -> bool
     requires { start < length contour.now }
-    ensures before { let c = contour_of P.Coordinate.value (P.points contour.now) in IsTrue result
+    ensures before { let c = read P.Coordinate.value P.points contour.now in IsTrue result
         → IsAtMost (reverse c) (started_at c start) → ⊥ }
-    ensures not_before { let c = contour_of P.Coordinate.value (P.points contour.now) in result
+    ensures not_before { let c = read P.Coordinate.value P.points contour.now in result
         ≡ false → IsAtMost (reverse c) (started_at c start) }
 {
     let mut comparer = Comparer::new(contour);

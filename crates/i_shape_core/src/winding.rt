@@ -1,7 +1,8 @@
 //! Winding numbers of a contour, over points of any type.
 
 ghost use Rattle.std.specs.Prelude.{◌≡◌, ◌≤◌, ◌++◌, length, map, drop};
-ghost use Rattle.i_shape_core.specs.IntPoint.{point_of, contour_of, IsSafe, IsSafeContour};
+ghost use Rattle.i_shape_core.specs.IntPoint.{point_of, IsSafe, IsSafeContour};
+ghost use Rattle.i_shape_core.specs.Reading.{read};
 ghost use Rattle.i_shape_core.specs.Edges.{is_right};
 ghost use Rattle.i_shape_core.specs.Winding.{winding, winding_of_edge, IsWithinHalf};
 
@@ -9,47 +10,47 @@ use crate::number::IntNumber;
 use crate::point::{ContourPoint, IntPoint};
 use crate::triangle::Triangle;
 
-/// Returns the winding number of the contour about `point`, counterclockwise positive: how many edges pass its height upward and strictly
-/// to the right of it, less those that do so downward. Its absolute value is at most half the number of points. For a contour without
-/// points it is 0.
+/// Returns the winding number of the contour about `point`, counterclockwise positive: how many edges pass its height
+/// upward and strictly to the right of it, less those that do so downward. Its absolute value is at most half the
+/// number of points. For a contour without points it is 0.
 pub fn winding_about<P: ContourPoint>(contour: &[P], point: IntPoint<P::Coordinate>) -> isize
     requires points_safe { IsSafeContour P.Coordinate.width
-        (contour_of P.Coordinate.value (P.points contour.now)) }
+        (read P.Coordinate.value P.points contour.now) }
     requires point_safe { IsSafe P.Coordinate.width (point_of P.Coordinate.value point) }
-    ensures answer { result ≡ winding (contour_of P.Coordinate.value (P.points contour.now))
+    ensures answer { result ≡ winding (read P.Coordinate.value P.points contour.now)
         (point_of P.Coordinate.value point) }
     ensures half { IsWithinHalf (length contour.now) result }
 {
     let Some(last) = contour.last() else {
         return 0;
     };
-    let mut before = (*last).to_point();
+    let mut before = last.to_point();
     let mut total: isize = 0;
     for given in contour {
-        let end = (*given).to_point();
+        let end = given.to_point();
         total += edge_winding(point, before, end);
         before = end;
     }
     total
 }
 
-/// Writes the winding number about each of the points, as `winding_about` returns it, to the front of `out`. `out` is at least as long as
-/// `points`. The rest of it stays as it was. Each point takes one pass over the contour.
+/// Writes the winding number about each of the points, as `winding_about` returns it, to the front of `out`. Requires
+/// an `out` at least as long as `points`. The rest of it stays as it was. Each point takes one pass over the contour.
 pub fn windings_about<P: ContourPoint, Q: ContourPoint<Coordinate = P::Coordinate>>(
     contour: &[P],
     points: &[Q],
     out: &mut [isize],
 )
     requires contour_safe { IsSafeContour P.Coordinate.width
-        (contour_of P.Coordinate.value (P.points contour.now)) }
+        (read P.Coordinate.value P.points contour.now) }
     requires points_safe { IsSafeContour P.Coordinate.width
-        (contour_of P.Coordinate.value (Q.points points.now)) }
+        (read P.Coordinate.value Q.points points.now) }
     requires room { length points.now ≤ length out.old }
-    ensures { out.new ≡ map (winding (contour_of P.Coordinate.value (P.points contour.now)))
-        (contour_of P.Coordinate.value (Q.points points.now)) ++ drop (length points.now) out.old }
+    ensures { out.new ≡ map (winding (read P.Coordinate.value P.points contour.now))
+        (read P.Coordinate.value Q.points points.now) ++ drop (length points.now) out.old }
 {
     for (place, point) in points.iter().enumerate() {
-        out[place] = winding_about(contour, (*point).to_point());
+        out[place] = winding_about(contour, point.to_point());
     }
 }
 

@@ -25,8 +25,9 @@ pub(crate) fn write_at<T: Copy>(items: &[T], places: &[usize], out: &mut [T]) ->
     ensures rest { drop result out.new ≡ drop result out.old }
     ensures len { length out.new ≡ length out.old }
 {
+    let front = &mut out[..places.len()];
     for at in 0..places.len() {
-        out[at] = items[places[at]];
+        front[at] = items[places[at]];
     }
     places.len()
 }

@@ -26,6 +26,6 @@ unoriented_safe width = unoriented_left (IsSafe width)
 pub simple_short : (c : List Point) → length c < 3 → SimpleAnswer c None
 simple_short c few e ended = omega (arith, few, reach_shrinks ended.reached)
 
--- so it does where spikes are removed
+-- a contour of fewer than three points collapses if spikes are removed
 pub despike_short : (c : List Point) → length c < 3 → DespikeAnswer c None
 despike_short c few = record { clean = λ s. absurd (omega (arith, few, spikeless_long c s)); cleaned = λ n. simple_short c few }

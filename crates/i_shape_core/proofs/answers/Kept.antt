@@ -85,7 +85,7 @@ despike_kept c r a = go (spikes_decided c)
 pub simple_left : (Q : Point → Type 0) (c e : List Point) → SimpleAnswer c (Some e) → All Q c → All Q e
 simple_left Q c e a h = all_left Q a.ended.reached h
 
--- and of each that a despike answer lists
+-- what holds of each point of the contour holds of each that a despike answer lists
 pub despike_left : (Q : Point → Type 0) (c e : List Point) → DespikeAnswer c (Some e) → All Q c → All Q e
 despike_left Q c e a h = go (spikes_decided c)
   where
@@ -97,7 +97,7 @@ despike_left Q c e a h = go (spikes_decided c)
 pub spikeless_long : (c : List Point) → NoSpikes c → 3 ≤ length c
 spikeless_long c s = omega (arith, s.enough, reach_shrinks (dedup_leads c s.enough))
 
--- a contour that has no spikes is what the removal of spikes answers
+-- removing spikes returns a contour without spikes as it is
 pub spikeless_stays : (c : List Point) → NoSpikes c → DespikeAnswer c (Some c)
 spikeless_stays c s = record { clean = λ _. refl; cleaned = λ spiked. absurd (spiked s) }
 

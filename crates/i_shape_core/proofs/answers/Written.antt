@@ -15,7 +15,7 @@ use Rattle.i_shape_core.proofs.lists.Appended.{front_taken, back_left}
 use Rattle.i_shape_core.proofs.lists.Sublists.{sublist_refl, sublist_none}
 use Rattle.i_shape_core.proofs.forms.Unoriented.{unoriented_lesser_way, unoriented_kept, unoriented_left}
 
--- a list with a point stands for an answer
+-- a list with a point represents an answer
 pub slot_some : (e : List Point) → 0 < length e → slot e ≡ Some e
 slot_some [] some = absurd (omega (arith, some))
 slot_some (p ∷ e) some = refl
@@ -29,7 +29,7 @@ pub unless_memory : {T : Type 0} (result : Result T ShapeError) (Holds : T → T
 unless_memory (Ok t) Holds ok memory = ok
 unless_memory (Err e) Holds ok memory = memory
 
--- a walk by the test T gives what a cleaner answers in the contour's order
+-- a walk by the test T gives a cleaner's answer, in the contour's order
 pub walked : {X : Type 0} (width : Width) (T : Test) (Answer : List Point → Option (List Point) → Type 0) (c : List Point) (read : X → List Point) (r : Option X) (visits : ℕ)
     → (WalkAnswer T c (option_map read r) visits → Answer c (option_map read r)) → (WalkAnswer T c (option_map read r) visits → KeptAnswer c (option_map read r))
     → All (IsSafe width) c → WalkAnswer T c (option_map read r) visits → IsCleanedInOrder Answer width c (option_map read r)
@@ -49,7 +49,8 @@ collapse_written width read counts given old Answer answer flat = record {
   rest = refl;
 }
 
--- the points of a list are read from `given`, and a walk by the test T gives what `Answer` says and keeps what `KeptAnswer` says
+-- the points of a list are read from `given`, and a walk by the test T gives what `Answer` says and keeps what
+-- `KeptAnswer` says
 module _ {X : Type 0} (width : Width) (read : List X → List Point) (counts : (list : List X) → length (read list) ≡ length list) (given old : List X) (T : Test)
     (Answer : List Point → Option (List Point) → Type 0) (answers : (r : Option (List Point)) (visits : ℕ) → WalkAnswer T (read given) r visits → Answer (read given) r)
     (keeps : (r : Option (List Point)) (visits : ℕ) → WalkAnswer T (read given) r visits → KeptAnswer (read given) r) where
@@ -162,12 +163,12 @@ whole_written width read Answer Kept given old new n many is rest some answer ke
     }
 
 module _ {X : Type 0} {Clean : List Point → Type 0} {Answer Kept : List Point → Option (List Point) → Type 0} {Picks : List X → List X → Type 0} {width : Width} {read : List X → List Point} {had has : ℕ → Type 0} {given old new : List X} (keeps : (m : ℕ) → had m → has m) where
-  -- what a call answers that writes n points
+  -- the contract of a call that writes n points
   pub into : (n : ℕ) → IsWritten Answer Kept Picks width read given old new n → length new ≡ length old → (length given < 3 → n ≡ 0) → ((Clean (read given) → ⊥) → has (length given))
       → CleansInto Clean Answer Kept Picks width read had has given old new (Ok n)
   into n written len few takes = record { written = written; len = len; memory = tt; unclean = tt; reserved = λ _. refl; err = tt; short = λ h. ap (λ m. Ok m) (few h); keeps_room = keeps; takes_room = takes }
 
-  -- what it answers where memory is refused
+  -- the contract where memory is refused
   pub into_refused : (e : ShapeError) → e ≡ OutOfMemory → (Clean (read given) → ⊥) → 3 ≤ length given → (had (length given) → IsOk {T = ℕ} {E = ShapeError} (Err e)) → new ≡ old → CleansInto Clean Answer Kept Picks width read had has given old new (Err e)
   into_refused e memory unclean long reserved err =
       record { written = tt; len = ap length err; memory = memory; unclean = unclean; reserved = reserved; err = err; short = λ h. absurd (omega (arith, h, long)); keeps_room = keeps; takes_room = tt }

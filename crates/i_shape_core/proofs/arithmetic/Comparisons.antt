@@ -1,4 +1,4 @@
--- What comparisons of numbers of a bound tell, as tests of whole numbers.
+-- What comparisons of numbers of a bound decide, as tests of whole numbers.
 use Rattle.std.proofs.Common.{◌≡◌, ◌↔◌, ℤ, pos, ◌<ℤ◌, ◌≤ℤ◌, int_lt, Bool, true, false, cond, IsTrue, Option, Some, rules, refl, sym, ap, subst, ◌∙◌, arith, Ordering, Less, Equal, Greater}
 use Rattle.std.specs.Ordering.{int_cmp, is_gt, is_le, is_some_and}
 use Rattle.std.proofs.lemmas.Int.{ints}

@@ -1,4 +1,4 @@
--- What comparisons of numbers tell, and the bounds of the safe range.
+-- What comparisons of numbers decide, and the bounds of the safe range.
 use Rattle.std.proofs.Common.{◌≡◌, ◌↔◌, ℕ, suc, ◌+◌, ◌-◌, ◌*◌, ◌/◌, ◌^◌, ◌<◌, ◌≤◌, ℤ, pos, negsuc, ◌-ℤ◌, ◌<ℤ◌, neg_ℤ, FitsSigned, Bool, ◌&&◌, IsTrue, Option, Some, rules, ap, sym, subst, ◌∙◌, arith, int_div, Ordering, pow-add, pow_pos}
 use Rattle.std.specs.Ordering.{int_cmp, is_lt, is_some_and}
 use Rattle.std.proofs.Math.Nat.{mul-div_cancel_left, mul-le-mul_left, mul-le-mul_right}
@@ -31,7 +31,7 @@ half-of-least w some split least two low el et e =
     let q : suc (2 ^ hbits w - 1) / 2 ≡ 2 ^ k = ap (λ (n : ℕ). n / 2) top ∙ mul-div_cancel_left (2 ^ k) two_is in
     e ∙ ap (λ (z : ℤ). int_div z two) el ∙ ap (λ (z : ℤ). int_div (negsuc (2 ^ hbits w - 1)) z) et ∙ ap (λ (n : ℕ). neg_ℤ (pos n)) q
 
--- and its negation the upper one
+-- the negation of half the least number is the upper bound of the safe range
 pub safe-high : (w W : Width) → hbits W ≡ 2 * hbits w + 1 → 2 ≤ hbits w → bits w ≡ hbits w + 1 → (none low high : ℤ)
     → none ≡ pos 0 → low ≡ neg_ℤ (pos (2 ^ (bits w - 2))) → high ≡ int_wrap W (none -ℤ low) → high ≡ pos (2 ^ (bits w - 2))
 safe-high w W e some split none low high en el eh =
@@ -48,7 +48,7 @@ safe-high w W e some split none low high en el eh =
     let fits : FitsSigned W (pos (2 ^ k)) = record { sfits = omega arith } in
     eh ∙ ap (int_wrap W) same ∙ int_wrap_fits W (pos (2 ^ k)) fits
 
--- two comparisons tell whether a coordinate is safe
+-- two comparisons decide whether a coordinate is safe
 pub safe-tells : (w : Width) (z v low high : ℤ) (b d : Bool)
     → low ≡ neg_ℤ (pos (2 ^ (bits w - 2))) → high ≡ pos (2 ^ (bits w - 2)) → v ≡ z
     → IsTrue b ↔ (low <ℤ v) → IsTrue d ↔ (v <ℤ high) → IsTrue (b && d) ↔ IsSafeCoordinate w z
@@ -75,7 +75,7 @@ safe-difference w some split a b s t =
     within : (r q : ℕ) → r ≡ 2 * q → (a b : ℤ) → neg_ℤ (pos q) <ℤ a → a <ℤ pos q → neg_ℤ (pos q) <ℤ b → b <ℤ pos q → InReach r (a -ℤ b)
     within r q e a b h i j k = record { from = omega (arith, ints); below = omega (arith, ints) }
 
--- and the x of a vector between two safe points isn't the least number
+-- the x of a vector between two safe points isn't the least number
 pub safe_vector-above : (w : Width) → 2 ≤ hbits w → bits w ≡ hbits w + 1 → (a b v : Point) (least : ℤ) → IsSafe w a → IsSafe w b → least ≡ negsuc (2 ^ hbits w - 1) → v ≡ vector b a → v.x ≡ least → ⊥
 safe_vector-above w some split a b v least s t l is e =
     let k : ℕ = bits w - 2 in

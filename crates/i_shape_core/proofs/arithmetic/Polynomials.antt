@@ -1,5 +1,6 @@
--- Polynomial identities over ℤ, by computation. A `Term` is a polynomial as it is written, and `normal` brings it into a sum of
--- monomials with numbers before them, in which no monomial stands twice. Where that sum is empty, the term is 0 at all values.
+-- Polynomial identities over ℤ, by computation. A `Term` is a polynomial as it is written, and `normal` brings it into
+-- a sum of monomials with coefficients, in which no monomial occurs twice. If that sum is empty, the term is 0 at all
+-- values.
 use Rattle.std.proofs.Common.{T, ◌≡◌, ℕ, zero, suc, Bool, true, false, cond, eqb, ltb, List, [], ◌∷◌, get_or, ℤ, pos, negsuc, ◌+ℤ◌, ◌*ℤ◌, neg_ℤ, ap, refl, sym, subst, ◌∙◌, arith, eqb→eq}
 use Rattle.std.proofs.lemmas.Int.{ints}
 use Rattle.std.proofs.Math.IntN.{+ℤ_idl, +ℤ_assoc, *ℤ_comm, zero-*ℤ}
@@ -21,7 +22,7 @@ value v (plus s t) = value v s +ℤ value v t
 value v (times s t) = value v s *ℤ value v t
 value v (minus t) = neg_ℤ (value v t)
 
--- a number times a product of variables, whose numbers stand in order
+-- a number times a product of variables, whose numbers are in order
 pub record Monomial : Type 0 where
   pub factor : ℤ
   pub places : List ℕ

@@ -88,7 +88,7 @@ product-fits w W e a b fa fb =
     let p = product-of r a b (fits-reach w a fa) (fits-reach w b fb) in
     wide-fits w W (a *ℤ b) e (product-reach r (a *ℤ b) (pow_pos (hbits w)) p)
 
--- and so it isn't wrapped there
+-- a product of two coordinates isn't wrapped in the wider type
 wrapped-product : (w W : Width) → hbits W ≡ 2 * hbits w + 1 → (a b : ℤ) → FitsSigned w a → FitsSigned w b → int_wrap W (a *ℤ b) ≡ a *ℤ b
 wrapped-product w W e a b fa fb = int_wrap_fits W (a *ℤ b) (product-fits w W e a b fa fb)
 

@@ -42,7 +42,7 @@ pos_injective m n e = omega (arith, ints)
 pub equal_of_difference : (a b : ℤ) → a -ℤ b ≡ pos 0 → a ≡ b
 equal_of_difference a b e = omega (arith, ints)
 
--- and equal numbers have none
+-- equal numbers have no difference
 pub difference_of_equal : (a b : ℤ) → a ≡ b → a -ℤ b ≡ pos 0
 difference_of_equal a b e = omega (arith, ints)
 
@@ -73,7 +73,7 @@ low_of_zero x e = omega (arith, ints)
 pub zero_not_above : (x : ℤ) → x ≡ pos 0 → pos 0 <ℤ x → ⊥
 zero_not_above x e h = omega (arith, ints)
 
--- nor below it
+-- zero isn't below zero
 pub zero_not_below : (x : ℤ) → x ≡ pos 0 → x <ℤ pos 0 → ⊥
 zero_not_below x e h = omega (arith, ints)
 
@@ -133,7 +133,7 @@ below_negated (pos zero) = refl
 below_negated (pos (suc n)) = omega (arith, ints)
 below_negated (negsuc n) = sym (omega (arith, ints))
 
--- and above it where the number is below it
+-- the negative of a number is above 0 exactly if the number is below it
 pub above_negated : (x : ℤ) → int_lt (pos 0) (neg_ℤ x) ≡ int_lt x (pos 0)
 above_negated (pos zero) = refl
 above_negated (pos (suc n)) = omega (arith, ints)
@@ -148,7 +148,7 @@ pub record Alike (x y : ℤ) : Type 0 where
 pub alike_same : (x y : ℤ) → x ≡ y → Alike x y
 alike_same x y e = record { below = ap (λ (z : ℤ). int_lt z (pos 0)) e; above = ap (λ (z : ℤ). int_lt (pos 0) z) e }
 
--- and so have numbers of which positive multiples are equal
+-- numbers of which positive multiples are equal have the same sign
 pub alike_scaled : (u v x y : ℤ) → pos 0 <ℤ u → pos 0 <ℤ v → v *ℤ x ≡ u *ℤ y → Alike x y
 alike_scaled (pos zero) v x y h k e = absurd (omega (arith, ints))
 alike_scaled (negsuc u) v x y h k e = absurd (omega (arith, ints))

@@ -103,7 +103,7 @@ last_of_dedup c h = last_place (changes_after (last_of origin c) c) h ∙ change
     last_place [] h = absurd (omega arith)
     last_place (p ∷ ps) h = last_at p ps
 
--- a walk over a contour, which starts with its last two points that differ and leaves out repeated ones, meets the turns of the contour without repeated points
+-- a walk from the last two points that differ, without repeats, meets the turns of the contour without repeats
 pub has_met : (P : Test) (c : List Point) (o : Point) → 3 ≤ length (dedup c) → o ≡ point_at (dedup c) (length (dedup c) - 2) → Has P (dedup c) ↔ Met P o (last_of origin c) c
 unfolding dedup
 has_met P c o h e = (λ x. subst (λ (X : Type 0). X) (sym same) (has_passed P (dedup c) h x), λ x. passed_has P (dedup c) h (subst (λ (X : Type 0). X) same x))
@@ -132,7 +132,7 @@ changed_on c n p q rest e w = let kept : n + suc (length (changes_after q rest))
 pub changed_end : (c : List Point) (n : ℕ) (p : Point) → Changed c n p [] → n ≡ length (dedup c)
 changed_end c n p w = omega (arith, w)
 
--- so a walk can tell whether it bulges
+-- a walk can decide whether a contour bulges
 pub bulges_by_walk : (c : List Point) (o : Point) → 3 ≤ length (dedup c) → o ≡ point_at (dedup c) (length (dedup c) - 2)
     → Bulges (dedup c) ↔ ((Met IsReversed o (last_of origin c) c → ⊥) × (Met IsLeft o (last_of origin c) c → Met IsRight o (last_of origin c) c → ⊥))
 bulges_by_walk c o h e = (

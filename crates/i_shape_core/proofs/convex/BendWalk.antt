@@ -1,4 +1,4 @@
--- The walk that tells how a contour bends.
+-- The walk that finds how a contour bends.
 use Rattle.std.proofs.Common.{◌≡◌, ◌≢◌, ℕ, ◌+◌, ◌-◌, ◌<◌, ◌≤◌, ◌<ℤ◌, ◌≤ℤ◌, List, [], ◌∷◌, length, drop, get_or, Some, None, ℤ, pos, refl, sym, ap, subst, ◌∙◌, arith, ◌⊎◌, inl, inr, ◌↔◌, Bool, true, false, IsTrue, leb, cond, int_lt, tests}
 use Rattle.std.proofs.lemmas.Int.{ints}
 use Rattle.i_shape_core.specs.Point.{Point, origin, vector, cross, dot, cross_of, dot_of}
@@ -95,7 +95,7 @@ left_bends a b c l e = omega (arith, ints)
 right_bends : (a b c : Point) → IsRight a b c → cross a b c ≡ pos 0 → ⊥
 right_bends a b c l e = omega (arith, ints)
 
--- what a walk over the whole contour tells
+-- what a walk over the whole contour finds
 bulges_met : (c : List Point) → 3 ≤ length (dedup c)
     → Bulges (dedup c) ↔ ((Met IsReversed (first_behind c) (last_of origin c) c → ⊥) × (Met IsLeft (first_behind c) (last_of origin c) c → Met IsRight (first_behind c) (last_of origin c) c → ⊥))
 bulges_met c h = bulges_by_walk c (first_behind c) h (last_but_one_differs c (last_of origin c) (omega arith))
@@ -104,7 +104,8 @@ bulges_met c h = bulges_by_walk c (first_behind c) h (last_but_one_differs c (la
 abbrev IsKind : Bend → Test
 IsKind kind o p q = IsBend o p q kind
 
--- ---- the walk: n points have changed so far, o and p are the last two that differ, `seen` is how it has bent, and the rest is still to come
+-- ---- the walk: n points have changed so far, o and p are the last two that differ, `seen` is how it has bent, and the
+-- rest is still to come
 pub record Bending (c : List Point) (seen : Bend) (n : ℕ) (o p : Point) (rest : List Point) : Type 0 where
   pub changes : Changed c n p rest
   pub told : (kind : Bend) → kind ≢ Straight → Told (IsKind kind) c (seen ≡ kind) o p rest
@@ -181,7 +182,8 @@ bending_end c seen n o p w = (to, from)
     from (inl few) = inl (subst (λ (m : ℕ). m ≤ 2) (sym count) few)
     from (inr b) = bulging b (few_or_more (length (dedup c)))
 
--- ---- over the points of a program: what the walk knows at place i, after the edge e that leads to p, where so many of the i points repeat the one before
+-- ---- over the points of a program: what the walk knows at place i, after the edge e that leads to p, where so many of
+-- the i points repeat the one before
 pub record IsBending {I : Type 0} (value : I → ℤ) (cs : List (IntPoint I)) (seen : Bend) (repeats i : ℕ) (e p : Point) : Type 0 where
   pub behind : Point
   pub passed : ℕ
@@ -228,7 +230,7 @@ differ o p q b h n = go (is_same p q) refl
     go false e = e
     go true e = n (straight_still o p b (subst (λ (r : Point). IsBend o p r b) (sym (same_yes p q e)) h))
 
--- what a test of the way from the edge e to the edge n tells
+-- what a test of the way from the edge e to the edge n finds
 abbrev pub TellsBend : Point → Point → Bend → Type 0
 TellsBend e n b = (o p q : Point) → e ≡ vector o p → n ≡ vector p q → IsBend o p q b
 
@@ -245,7 +247,7 @@ by_products o p q Left h = h
 by_products o p q Right h = h
 by_products o p q Reversal h = h
 
--- the products of the edges tell the bend
+-- the products of the edges decide the bend
 pub tells_bend : (e n : Point) (b : Bend) → BendsBy (cross_of e n) (dot_of e n) b → TellsBend e n b
 unfolding cross dot
 tells_bend e n b h o p q f k = by_products o p q b
@@ -279,7 +281,7 @@ clash_item value cs seen b repeats i e n p x h r a tells k j w =
           (subst (Bending (contour_of value cs) seen w.passed w.behind (point_of value p)) (rest-read value cs i x h r) w.bending) s),
     )
 
--- after the last point the walk tells whether the contour is convex
+-- after the last point the walk has found whether the contour is convex
 pub bending_over : {I : Type 0} (value : I → ℤ) (cs : List (IntPoint I)) (seen : Bend) (repeats i : ℕ) (e p : Point) → i ≡ length cs
     → IsBending value cs seen repeats i e p → (repeats ≤ length cs) × (((length cs - repeats ≤ 2) ⊎ (seen ≢ Reversal)) ↔ Convex (contour_of value cs))
 bending_over value cs seen repeats i e p h w =

@@ -45,7 +45,7 @@ convex_of_end e h none = (to, λ w. inr (subst Bulges (sym same) (record { none 
     to (inl l) = absurd (omega (arith, ap length same))
     to (inr b) = (subst Bulges same b).bends
 
--- and so is a contour without spikes, once its repeated points are gone
+-- a contour without spikes is convex exactly if it turns to one side without its repeated points
 pub convex_of_spikeless : (c : List Point) → NoSpikes c → Convex c ↔ BendsOneWay (dedup c)
 convex_of_spikeless c h = (to, λ w. inr (record { none = h.none; bends = w }))
   where

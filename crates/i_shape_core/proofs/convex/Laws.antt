@@ -101,7 +101,7 @@ reverse_back c x = go (dedup_reversed c) x
     go (cycle a b r) (inr p) = inr (bulges_from_plain (dedup c) (omega (arith, length-reverse (dedup c), a))
         (plain_reversed (dedup c) (plain_rotated (dedup (reverse c)) (reverse (dedup c)) (rotation_sym r) (plain_from_bulges (dedup (reverse c)) p))))
 
--- nor on the direction
+-- convexity does not depend on the direction
 pub convex_reversed : (c : List Point) → Convex c ↔ Convex (reverse c)
 convex_reversed c = (λ x. reverse_back (reverse c) (subst Convex (sym (reverse-reverse c)) x), reverse_back c)
 

@@ -34,7 +34,8 @@ cross_in_a_row : (c : List Point) (q m s : ℕ) → q < length c → m < length 
 unfolding cross_at
 cross_in_a_row c q m s i l Q S = rw (before_from (length c) q m i l Q, after_from (length c) m s l S) refl
 
--- without a straight point: q, m and g are places and those of their neighbours that are left, s and t are the places after m and q
+-- without a straight point: q, m and g are places and those of their neighbours that are left, s and t are the places
+-- after m and q
 cross_alike : (c : List Point) (k a m g q s t : ℕ) → HasNoBack c → IsRemovable IsZeroTurn c k → m < length c → q < length c
     → Follows (length c) k a → Follows (length c) m s → Follows (length c) q t
     → ((s ≡ k) × (g ≡ a)) ⊎ ((s ≢ k) × (g ≡ s)) → ((t ≡ k) × (m ≡ a)) ⊎ ((t ≢ k) × (m ≡ t))
@@ -111,7 +112,7 @@ one_way_of_rest c k h r w = record { one_way = λ i j in_i in_j left right. go i
         (left_of (cross_at (remove c k) i) (cross_at c m) (cross_of_rest c k i m h r in_i M) left)
         (right_of (cross_at (remove c k) j) (cross_at c n) (cross_of_rest c k j n h r in_j N) right)
 
--- where a place other than k stands without k
+-- where a place other than k is once k is removed
 place_in_rest : (n l k m : ℕ) → l + 1 ≡ n → k < n → m < n → m ≢ k → (j : ℕ) × (j < l) × Stood k j m
 place_in_rest n l k m e h i apart = go (cases m k apart)
   where

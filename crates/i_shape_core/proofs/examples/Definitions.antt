@@ -34,7 +34,8 @@ box_edges : (Inside box (at 10 5) → ⊥) × Inside box (at 0 5)
 unfolding Inside is_right cross
 box_edges = (λ h. cc, refl)
 
--- to the left a contour winds once about a point inside, and to the right once the other way; twice around it winds twice, where evenly many edges are to the right
+-- to the left a contour winds once about a point inside, and to the right once the other way; twice around it winds
+-- twice, where evenly many edges are to the right
 box_winds : (winding box (at 5 5) ≡ pos 1) × (winding (reverse box) (at 5 5) ≡ negsuc 0) × (winding box (at 15 5) ≡ pos 0) × (winding (box ++ box) (at 5 5) ≡ pos 2) × (Inside (box ++ box) (at 5 5) → ⊥)
 unfolding winding winding_of_edge Inside is_right cross
 box_winds = (refl, refl, refl, refl, λ h. cc)

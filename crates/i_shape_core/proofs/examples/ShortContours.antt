@@ -1,4 +1,5 @@
--- The definitions at the empty list, at one, two and three points, at repeated points, and at the limits of the safe range.
+-- The definitions at the empty list, at one, two and three points, at repeated points, and at the limits of the safe
+-- range.
 use Rattle.std.proofs.Common.{◌≡◌, ◌<◌, ℕ, zero, suc, List, [], ◌∷◌, length, pos, negsuc, refl, lit≤, lit<, inl, inr, arith, w16, w32}
 use Rattle.i_shape_core.specs.Point.{Point, cross, dot, IsZeroTurn}
 use Rattle.i_shape_core.proofs.Common.{place_before, place_after, IsRemovable, Step, stay, End, IsSimple, IsSafeCoordinate, IsBefore, IsAtMost, started_at}
@@ -25,7 +26,8 @@ none_inside = (λ h. cc, λ h. cc, λ h. cc)
 neighbours : (place_before 4 0 ≡ 3) × (place_after 4 3 ≡ 0) × (place_before 4 2 ≡ 1) × (place_before 1 0 ≡ 0) × (place_after 1 0 ≡ 0)
 neighbours = (refl, refl, refl, refl, refl)
 
--- ---- fewer than three points: nothing is removable, so such a list is its own end and has collapsed, and it isn't simple
+-- ---- fewer than three points: nothing is removable, so such a list is its own end and has collapsed, and it isn't
+-- simple
 fewer_end : (c : List Point) → length c < 3 → End IsZeroTurn c c
 fewer_end c fewer = record { reached = stay; none_left = λ k removable. omega (arith, fewer, removable.enough) }
 

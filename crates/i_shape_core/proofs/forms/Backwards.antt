@@ -62,7 +62,7 @@ right_flipped p e = go (is_above p e.start) (is_above p e.end) (int_lt (cross e.
 count_reversed : (p : Point) (c : List Point) → count_by (is_right p) (edges (reverse c)) ≡ count_by (is_right p) (edges c)
 count_reversed p c = pos_injective _ _ (sym (count_as_sum p (edges (reverse c))) ∙ sum_reversed (λ e. pos (bit_of_edge p e)) c ∙ sum_alike _ _ (λ e. ap (λ b. pos (bit_of b)) (right_flipped p e)) (edges c) ∙ count_as_sum p (edges c))
 
--- and the same points inside
+-- read backwards, a contour has the same points inside
 pub inside_reversed : (c : List Point) (p : Point) → Inside (reverse c) p ↔ Inside c p
 unfolding Inside
 inside_reversed c p = let same = ap (λ (n : ℕ). n % 2) (count_reversed p c) in (λ h. sym same ∙ h, λ h. same ∙ h)

@@ -1,4 +1,4 @@
--- What comparisons of points and of lists of points tell.
+-- What comparisons of points and of lists of points decide.
 use Rattle.std.proofs.Common.{◌≡◌, inl, inr, ℤ, ◌<ℤ◌, List, [], ◌∷◌, map, false, true≢false, refl, sym, subst, Ordering, Less, Equal, Greater}
 use Rattle.std.specs.Cmp.{IsTotalOrder}
 use Rattle.std.specs.Cmp.Lexicographic.{slice_cmp}
@@ -7,7 +7,7 @@ use Rattle.std.proofs.lemmas.Cmp.{int_ranked, then_total, on_total}
 use Rattle.i_shape_core.proofs.Common.{Point, point_of, IntPoint, IsBefore, IsAtMost}
 use Rattle.i_shape_core.proofs.least_rotation.Order.{at_most_refl, before_clash}
 
--- what a comparison tells, where before is a strict order
+-- what a comparison decides, if before is a strict order
 abbrev pub Tells : {X Y : Type 0} → (X → X → Ordering) → (X → Y) → (Y → Y → Type 0) → Type 0
 Tells {X} cmp f Before = (x y : X) → MatchOrdering (cmp x y) (Before (f x) (f y)) (f x ≡ f y) (Before (f y) (f x))
 
@@ -25,7 +25,7 @@ module _ {X : Type 0} (cmp : X → X → Ordering) (f : X → Point) (told : Tel
   before_on : (p q : Point) (c d : List Point) → p ≡ q → IsContourBefore c d → IsContourBefore (p ∷ c) (q ∷ d)
   before_on p q c d e h = (inr (e, h.0), (λ k. h.1 cc))
 
-  -- the comparison of lists of points, item by item, tells the order of their contours
+  -- the comparison of lists of points, item by item, decides the order of their contours
   pub contours_told : Tells (slice_cmp cmp) (map f) IsContourBefore
   contours_told [] [] = refl
   contours_told [] (y ∷ ys) = longer y ys
@@ -57,7 +57,7 @@ module _ {I : Type 0} (value : I → ℤ) (cmp : I → I → Ordering) (order : 
   abbrev pub point_cmp : IntPoint I → IntPoint I → Ordering
   point_cmp p q = ordering_then (cmp p.x q.x) (cmp p.y q.y)
 
-  -- that comparison tells the order of points of the plane
+  -- that comparison decides the order of points of the plane
   pub points_told : Tells point_cmp (point_of value) IsBefore
   points_told p q = go (cmp p.x q.x) (int_ranked (value p.x) (value q.x) (cmp p.x q.x) (order p.x q.x)) (cmp p.y q.y) (int_ranked (value p.y) (value q.y) (cmp p.y q.y) (order p.y q.y))
     where

@@ -55,7 +55,7 @@ module _ (c : List Point) (s k a b : ℕ) (pair : IsPair c s k a b) where
   lengths : (length (started_at c s) ≡ length c) × (length (reverse c) ≡ length c)
   lengths = (length-started c s (omega (arith, pair.started)), length-reverse c)
 
-  -- or the lesser point tells which comes first
+  -- or the lesser point decides which comes first
   pub started_first : AgreeUpTo (started_at c s) (reverse c) k → IsBefore (point_at c a) (point_at c b) → IsAtMost (reverse c) (started_at c s) → ⊥
   started_first same h =
       greater_at k (reverse c) (started_at c s) (λ t l. sym (same t l)) (omega (arith, lengths.1, pair.within)) (omega (arith, lengths.0, pair.within)) (subst₂ IsBefore (sym ours) (sym theirs) h)

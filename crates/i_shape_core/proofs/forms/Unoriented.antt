@@ -1,4 +1,5 @@
--- The forms of contours, canonical and unoriented: where two are one, that there is one, that it is its own form, and what it keeps.
+-- The forms of contours, canonical and unoriented: where two are one, that there is one, that it is its own form, and
+-- what it keeps.
 use Rattle.std.proofs.Common.{◌≡◌, ◌↔◌, ◌⊎◌, ◌<◌, ◌≤◌, inl, inr, List, length, reverse, Option, Some, None, refl, sym, ap, ◌∙◌, subst, arith, All}
 use Rattle.std.proofs.lemmas.List.{reverse-reverse, length-reverse}
 use Rattle.std.proofs.lemmas.List.Sorted.{All-permutation, IsPermutation-reverse}
@@ -70,7 +71,7 @@ module _ (c d l m : List Point) (a : IsUnoriented c l) (b : IsUnoriented d m) wh
 pub unoriented_one : (c d l m : List Point) → UnorientedAnswer c (Some l) → UnorientedAnswer d (Some m) → (l ≡ m) ↔ JoinedEitherWay c d
 unoriented_one c d l m a b = (forms_joined c d l m a b a.one b.one, joined_forms c d l m a b)
 
--- what answers are made of
+-- what an unoriented form is made of
 pub unoriented_lesser : (c f b l : List Point) → IsCanonical c f → IsLeast (reverse f) b → (l ≡ f) ⊎ (l ≡ b) → IsAtMost l f → IsAtMost l b → IsUnoriented c l
 unoriented_lesser c f b l a turned one left right = record {
   forwards = f;

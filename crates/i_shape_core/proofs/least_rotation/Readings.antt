@@ -75,7 +75,7 @@ agree-on c i j m a b k ours theirs wa wb before run t l = go (cases_lt t m)
         ap (λ (u : ℕ). point_round c (i + u)) (sym e) ∙ sym (run-point c i m a (t - m) ours (omega arith))
         ∙ run (t - m) (omega arith) ∙ run-point c j m b (t - m) theirs (omega arith) ∙ ap (λ (u : ℕ). point_round c (j + u)) e
 
--- where they differ behind that run, the lesser point tells the lesser rotation
+-- where they differ behind that run, the lesser point decides the lesser rotation
 pub precedes-on : (c : List Point) (i j m a b k : ℕ) → IsStep (length c) i m a → IsStep (length c) j m b
     → a + k < length c → b + k < length c → m + k < length c → Agree c i j m → RunsAgree c a b k
     → IsBefore (point_at c (a + k)) (point_at c (b + k)) → Precedes c i j (m + k + 1)
@@ -103,7 +103,7 @@ pub least-written : {I : Type 0} (value : I → ℤ) (v : Vec (IntPoint I)) (rea
 least-written value v read ws same long least =
     rw (with_items_is v ws (long ∙ ap length same ∙ sym v.ok.0)) (rw same at least)
 
--- and so is one whose slice is rotated to the lesser of its two ways
+-- a contour whose slice is rotated to the lesser of its two ways is rotated to it
 pub lesser-written : {I : Type 0} (value : I → ℤ) (v : Vec (IntPoint I)) (read ws : List (IntPoint I)) → read ≡ v.items → length ws ≡ length read
     → IsLesserWay (contour_of value read) (contour_of value ws) → IsLesserWay (contour_of value v.items) (contour_of value (with_items v ws).items)
 lesser-written value v read ws same long lesser =

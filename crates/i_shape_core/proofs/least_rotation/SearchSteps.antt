@@ -1,4 +1,4 @@
--- One step of the search for the least rotation, as its comparer tells it: a rival is met, and two starts are compared.
+-- One step of the search for the least rotation, as its comparer sees it: a rival is met, and two starts are compared.
 use Rattle.std.proofs.Common.{◌≡◌, ℕ, Fits, w64, ◌+◌, ◌-◌, ◌*◌, ◌<◌, ◌≤◌, min, max, ℤ, List, length, ap, subst, sym, arith, Ordering, Less, Equal, Greater}
 use Rattle.std.specs.Ordering.{MatchOrdering}
 use Rattle.i_shape_core.proofs.Common.{Point, point_at, contour_of, Agree, Precedes, AreAfter, IsLeast, started_at, IntPoint}

@@ -1,11 +1,11 @@
--- One step of the comparison of two starts, as its comparer tells it: a first pair, and then runs of pairs that agree.
+-- One step of the comparison of two starts, as its comparer sees it: a first pair, and then runs of pairs that agree.
 use Rattle.std.proofs.Common.{◌≡◌, ℕ, Bool, true, false, not, ◌+◌, ◌-◌, ◌<◌, ◌≤◌, min, max, ℤ, List, length, ap, subst, sym, ◌∙◌, arith, ◌==◌, Ordering, Less, Equal, Greater}
 use Rattle.std.specs.Ordering.{MatchOrdering, ordering_index}
 use Rattle.i_shape_core.proofs.Common.{Point, point_at, contour_of, Agree, Precedes, IsOrder, IsBefore, IntPoint}
 use Rattle.i_shape_core.proofs.plane.Contours.{length-contour}
 use Rattle.i_shape_core.proofs.least_rotation.Readings.{IsStep, RunsAgree, first-agrees, first-tells, agree-on, precedes-on}
 
--- the first pair was compared, and `differs` tells whether it decides
+-- the first pair was compared, and `differs` is whether it decides
 module _ {I : Type 0} (value : I → ℤ) (points : List (IntPoint I)) (i j : ℕ) (order : Ordering) (differs : Bool) (told : differs ≡ not (ordering_index order == 1))
     (wi : i < length points) (wj : j < length points) (h : IsOrder (contour_of value points) i j order) where
   long : length (contour_of value points) ≡ length points

@@ -6,7 +6,7 @@ use Rattle.std.proofs.Math.Seq.{take-append_seam, drop-append_seam}
 pub front_taken : {A : Type 0} (n : ℕ) (xs ys : List A) → length xs ≡ n → take n (xs ++ ys) ≡ xs
 front_taken n xs ys many = subst (λ m. take m (xs ++ ys) ≡ xs) many (take-append_seam xs ys)
 
--- and the second is what is left
+-- the second of two lists is what is left behind the first's length
 pub back_left : {A : Type 0} (n : ℕ) (xs ys : List A) → length xs ≡ n → drop n (xs ++ ys) ≡ ys
 back_left n xs ys many = subst (λ m. drop m (xs ++ ys) ≡ ys) many (drop-append_seam xs ys)
 
@@ -14,7 +14,7 @@ back_left n xs ys many = subst (λ m. drop m (xs ++ ys) ≡ ys) many (drop-appen
 pub same_head : {A : Type 0} (a b : A) (x y : List A) → a ∷ x ≡ b ∷ y → a ≡ b
 same_head a b x y e = cc
 
--- and have the same members after it
+-- equal lists have the same members after the first
 pub same_tail : {A : Type 0} (a b : A) (x y : List A) → a ∷ x ≡ b ∷ y → x ≡ y
 same_tail a b x y e = cc
 

@@ -1,4 +1,4 @@
--- What is told of each item of a list: of those that a loop has read so far, and of the items of a mapped list.
+-- What holds of each item of a list: of those that a loop has read so far, and of the items of a mapped list.
 use Rattle.std.proofs.Common.{◌≡◌, ◌↔◌, ◌∙◌, ℕ, ◌+◌, ◌<◌, ◌≤◌, List, [], ◌∷◌, ◌++◌, length, take, get_or, map, Bool, ◌&&◌, IsTrue, Some, refl, subst, sym, ap, All}
 use Rattle.std.proofs.lemmas.Bool.Decides.{Decides-and}
 use Rattle.std.proofs.lemmas.List.{take_all, take_more}
@@ -9,13 +9,13 @@ module _ {X : Type 0} where
   pub take_one_more : (xs : List X) (i : ℕ) (x : X) → i < length xs → x ≡ get_or xs i x → take (i + 1) xs ≡ take i xs ++ x ∷ []
   take_one_more xs i x lt read = take_more xs i x lt ∙ ap (λ (y : X). take i xs ++ y ∷ []) (sym read)
 
-  -- what is told of the first items and of the next is told of one item more
+  -- if P holds of the first items and the next, it holds of one item more
   pub next_told : (P : X → Type 0) (xs : List X) (i : ℕ) (x : X) (s t : Bool) → i < length xs → x ≡ get_or xs i x → IsTrue s ↔ All P (take i xs) → IsTrue t ↔ P x → IsTrue (s && t) ↔ All P (take (i + 1) xs)
   next_told P xs i x s t lt read f g =
       let told = Decides-and s t f g in
       rw (take_one_more xs i x lt read) (λ h. let both = told.0 h in All-push P (take i xs) x both.0 both.1, λ h. told.1 (All-pop P (take i xs ++ x ∷ []) (take i xs) (Some x) refl h))
 
-  -- and of all of them is told of the list
+  -- if P holds of all items read, and that is the whole list, it holds of the list
   pub whole_told : (P : X → Type 0) (xs : List X) (i : ℕ) (s : Bool) → length xs ≤ i → IsTrue s ↔ All P (take i xs) → IsTrue s ↔ All P xs
   whole_told P xs i s over f = subst (λ (ys : List X). IsTrue s ↔ All P ys) (take_all i xs over) f
 

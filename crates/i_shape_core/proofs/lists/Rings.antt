@@ -21,17 +21,17 @@ module _ {X : Type 0} (old new part : List X) (at : ℕ) (within : at ≤ length
   behind : drop at new ≡ part
   behind = ap (drop at) anew ∙ subst (λ m. drop m (take at old ++ part) ≡ part) (length-take-le at old within) (drop-append_seam (take at old) part)
 
-  -- what stands there
+  -- what is there
   pub part_from : (n : ℕ) → slice_range new at (at + n) ≡ take n part
   part_from n =
       let count : at + n - at ≡ n = omega arith in
       rw (count, behind) refl
 
-  -- what stands as it was in the part stands as it was in the whole
+  -- what is unchanged in the part is unchanged in the whole
   pub rest_from : (n : ℕ) → drop n part ≡ drop n (take (length old - at) (drop at old)) → drop (at + n) new ≡ drop (at + n) old
   rest_from n same = sym (drop-drop n at new) ∙ ap (drop n) behind ∙ same ∙ ap (drop n) (take_rest old at) ∙ drop-drop n at old
 
--- what stands behind a place is the same further on too
+-- lists that agree from a place on agree from any later place on
 pub same_further : {X : Type 0} (xs ys : List X) (n m : ℕ) → n ≤ m → drop n xs ≡ drop n ys → drop m xs ≡ drop m ys
 same_further xs ys n m less same =
     let split : n + (m - n) ≡ m = omega (arith, less) in

@@ -31,7 +31,7 @@ path_by_places a (b ∷ bs) z =
     let first = area_from_first a b bs (length bs) in
     omega (arith, ints)
 
--- and so is a contour, over its places and the edge from the last one, which is k
+-- a contour is summed up over its places and the edge from the last one, which is k
 pub shoelace_by_places : (a : Point) (bs : List Point) (k : ℕ) → k ≡ length bs → shoelace (a ∷ bs) ≡ area_up_to (a ∷ bs) k +ℤ cross_of (point_at (a ∷ bs) k) a
 unfolding shoelace
 shoelace_by_places a bs k same =

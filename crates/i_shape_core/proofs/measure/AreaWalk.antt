@@ -24,7 +24,7 @@ area_push : (a : Point) (ps : List Point) (q : Point) → area_along a (ps ++ q 
 unfolding area_of_edge
 area_push a ps q = ap (sum_of area_of_edge) (path_push a ps q) ∙ sum_push area_of_edge (path_over a ps) (edge (last_of a ps) q)
 
--- and the edge that closes the contour
+-- the area of a contour is that along its points and of the edge that closes it
 area_closed : (a : Point) (ps : List Point) → shoelace (a ∷ ps) ≡ area_along a ps +ℤ cross_of (last_of a ps) a
 unfolding area_of_edge shoelace
 area_closed a ps = ap (sum_of area_of_edge) (between_is a ps a) ∙ sum_push area_of_edge (path_over a ps) (edge (last_of a ps) a)

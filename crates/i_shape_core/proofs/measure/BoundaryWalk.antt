@@ -39,7 +39,7 @@ on_none c p k all none w =
     let back : place_before n next ≡ w.place = before_from n w.place next w.within h (after_is n w.place w.within) in
     none next (omega (arith, h, all)) h (subst (λ j. IsBetween (point_at c j) p (point_at c next)) (sym back) w.between)
 
--- what the test of the edges tells
+-- what the test of the edges decides
 pub told_none : (c : List Point) (p : Point) (k : ℕ) → length c ≤ k → NoneEndsOn c p k → IsTrue false ↔ IsOnEdge c p
 told_none c p k all none = (λ e. absurd (cc), λ w. absurd (on_none c p k all none w))
 
@@ -54,7 +54,7 @@ module _ {I : Type 0} (value : I → ℤ) (cs : List (IntPoint I)) where
       let first = before_first (length (contour_of value cs)) (omega (arith, count, some)) in
       read-point value cs (length cs - 1) last (omega (arith, some)) e ∙ ap (point_at (contour_of value cs)) (ap (λ n. n - 1) (sym count) ∙ sym first)
 
-  -- and goes on from the point that it has come to
+  -- the walk goes on from the point that it has come to
   pub from_next : (k : ℕ) (x : IntPoint I) → k + 1 < length (contour_of value cs) → x ≡ get_or cs k x → point_of value x ≡ point_at (contour_of value cs) (place_before (length (contour_of value cs)) (k + 1))
   from_next k x h e =
       let count = length-contour value cs in

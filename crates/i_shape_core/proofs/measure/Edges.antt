@@ -45,7 +45,7 @@ later_point x bs j h = elim (eq-or-lt_of_le (let l : suc j ≤ length bs = h in 
   | inr l ↦ ap (λ (k : ℕ). point_at (x ∷ bs) k) (after_earlier (suc (length bs)) (suc j) (omega arith)) ∙ get_or_default bs (suc j) origin x l
 ]
 
--- the sums over the edges of a contour and of what is left without its point at place k differ by the edges at that point and the one that comes in their place
+-- removing the point at place k changes the sum over the edges by its two edges and the one in their place
 pub sum_without : (f : Edge → ℤ) (c : List Point) (k : ℕ) → 2 ≤ length c → k < length c
     → sum_of f (edges c) +ℤ f (edge (point_at c (place_before (length c) k)) (point_at c (place_after (length c) k)))
     ≡ sum_of f (edges (remove c k)) +ℤ (f (edge (point_at c (place_before (length c) k)) (point_at c k)) +ℤ f (edge (point_at c k) (point_at c (place_after (length c) k))))

@@ -43,7 +43,7 @@ pub rise_adds : (p a b : Point) (r : Bool) → is_above p a ≡ false → is_abo
 unfolding winding_of_edge
 rise_adds p a b r e f h = let passed = right_when p a b false true e f in rw (h, passed, e, f) refl
 
--- and one that falls takes 1 away
+-- one that falls past the height of p takes 1 away
 pub fall_adds : (p a b : Point) (r : Bool) → is_above p a ≡ true → is_above p b ≡ false → r ≡ int_lt (cross b p a) (pos 0) → winding_of_edge p (edge a b) ≡ cond r (negsuc 0) (pos 0)
 unfolding winding_of_edge
 fall_adds p a b r e f h = let passed = right_when p a b true false e f in rw (h, passed, e, f) refl
@@ -94,7 +94,7 @@ pub touched : (ps : List Point) (f : Point → ℤ) (before now : List ℤ) (k :
 touched ps f before now k r within e h =
     ap (int_wrap w64) (get_or-set_same now k r (pos 0) within ∙ h) ∙ wrapped _ ∙ ap (λ (z : ℤ). int_wrap w64 (z +ℤ f (point_at ps k))) e
 
--- and the others are kept
+-- the totals at other places are kept
 pub others : (ps : List Point) (f : Point → ℤ) (before now : List ℤ) (k j : ℕ) (r : ℤ) → (j ≡ k → ⊥) → IsSum ps f before now j → IsSum ps f before (set now k r) j
 others ps f before now k j r other h = ap (int_wrap w64) (get_or-set_other now k j r (pos 0) other) ∙ h
 
@@ -204,7 +204,7 @@ module _ {I : Type 0} (value : I → ℤ) (ps : List Point) (before : List ℤ) 
 pub none-told : {I : Type 0} (value : I → ℤ) (ps : List Point) (totals : List ℤ) (cs : List (IntPoint I)) → length cs ≤ 0 → IsAdded ps (winding (contour_of value cs)) totals totals
 none-told value ps totals cs none = record { each = λ k inside. ap (int_wrap w64) (none_more (get_or totals k (pos 0)) _ (sym (no_points value (point_at ps k) cs none))) }
 
--- what a comparison of two heights tells
+-- what a comparison of two heights decides
 pub goes_up : (a b : ℤ) (t : Bool) → t ≡ int_lt a b → t ≡ true → a ≤ℤ b
 goes_up a b t e h = let k : int_lt a b ≡ true = sym e ∙ h in omega (arith, ints)
 
@@ -238,7 +238,7 @@ module _ {I : Type 0} where
   asks-first : (ps : List (IntPoint I)) (k : ℕ) (d : Asked I) (e : IntPoint I) → k < length ps → get_or (asks 0 ps) k d ≡ record { point = get_or ps k e; place = k }
   asks-first ps k d e h = asks-read 0 ps k d e h ∙ ap (λ (m : ℕ). record { point = get_or ps k e; place = m }) (omega arith)
 
-  -- what stands in such a list, in any order
+  -- what is in such a list, in any order
   pub record IsOf (ps : List (IntPoint I)) (q : Asked I) : Type 0 where
     pub within : q.place < length ps
     pub is : (e : IntPoint I) → q.point ≡ get_or ps q.place e
@@ -251,7 +251,7 @@ module _ {I : Type 0} where
   pub asked-of : (ps : List (IntPoint I)) (asked : List (Asked I)) → IsPermutation (asks 0 ps) asked → All (IsOf ps) asked
   asked-of ps asked moved = All-permutation (IsOf ps) (asks 0 ps) asked moved (all-of ps)
 
-  -- each point stands in it with its place
+  -- each point is in it with its place
   pub each-asked : (ps : List (IntPoint I)) (asked : List (Asked I)) (k : ℕ) (e : IntPoint I) → IsPermutation (asks 0 ps) asked → k < length ps → Contains asked (record { point = get_or ps k e; place = k })
   each-asked ps asked k e moved inside =
       let at : get_or (asks 0 ps) k (record { point = e; place = k }) ≡ record { point = get_or ps k e; place = k } = asks-first ps k _ e inside in
@@ -275,7 +275,7 @@ rising_from_sorted value cmp order (q ∷ qs) sorted =
     not_less : (x y : ℤ) → is_lt (int_cmp x y) ≡ false → y ≤ℤ x
     not_less x y h = search rules
 
--- ---- the totals are told
+-- ---- the totals are known
 pub winding_fits : (c : List Point) (p : Point) → length c < 2 ^ 64 → FitsSigned w64 (winding c p)
 winding_fits c p room =
     let half = winding_half c p in

@@ -23,7 +23,7 @@ pub right_low : (a b c p : Point) → cross a b c ≡ pos 0 → a.y ≤ℤ p.y �
 right_low a b c p e f g h = (alike_scaled (c.y -ℤ a.y) (c.y -ℤ b.y) (cross a p c) (cross b p c) (omega (arith, ints)) (omega (arith, ints))
     (drop_last ((c.y -ℤ b.y) *ℤ cross a p c) ((c.y -ℤ a.y) *ℤ cross b p c) (c.y -ℤ p.y) (cross a b c) (height a b c p) e)).below
 
--- and the other way round
+-- on one line: a and b are above p, c is not
 pub right_high : (a b c p : Point) → cross a b c ≡ pos 0 → p.y <ℤ a.y → p.y <ℤ b.y → c.y ≤ℤ p.y → int_lt (cross c p a) (pos 0) ≡ int_lt (cross c p b) (pos 0)
 right_high a b c p e f g h = (alike_scaled (a.y -ℤ c.y) (b.y -ℤ c.y) (cross c p a) (cross c p b) (omega (arith, ints)) (omega (arith, ints)) turned).below
   where
@@ -43,11 +43,11 @@ bit_of t = cond t 1 0
 abbrev pub bit_of_edge : Point → Edge → ℕ
 bit_of_edge p e = bit_of (is_right p e)
 
--- a point is above p where it is told so
+-- a point is above p if the comparison says so
 pub above_by_test : (p a : Point) → int_lt p.y a.y ≡ true → p.y <ℤ a.y
 above_by_test p a e = omega (arith, ints)
 
--- and else it isn't
+-- a point isn't above p if the comparison says so
 pub not_above : (p a : Point) → int_lt p.y a.y ≡ false → a.y ≤ℤ p.y
 not_above p a e = omega (arith, ints)
 

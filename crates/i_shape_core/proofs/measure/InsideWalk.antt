@@ -57,7 +57,8 @@ walk_sum value f (x ∷ xs) last h e =
     ∙ sym (sum_push f (path_over q ps) (edge (last_of q ps) q))
     ∙ ap (sum_of f) (sym (between_is q ps q))
 
--- what the walk over a contour tells so far, at q with the rest still to come: whether an odd number of edges were right of p
+-- what the walk over a contour has counted so far, at q with the rest still to come: whether an odd number of edges
+-- were right of p
 abbrev pub IsCounted : List Point → Point → Bool → Point → List Point → Type 0
 IsCounted c p s q rest = (bit_of s + count_by (is_right p) (path_over q rest)) % 2 ≡ count_by (is_right p) (edges c) % 2
 
@@ -77,7 +78,7 @@ counted_more value p cs i start x s r h e f w =
     rw f (flipped s (is_right p (edge (point_of value start) (point_of value x))) (count_by (is_right p) (path_over (point_of value x) rest)) _
     (ap (λ (n : ℕ). (bit_of s + n) % 2) (sym (sum_by-cons (bit_of_edge p) (edge (point_of value start) (point_of value x)) (path_over (point_of value x) rest))) ∙ rw (rest-read value cs i x h e) at w))
 
--- and tells at the end whether p is inside
+-- at the end the walk has found whether p is inside
 pub counted_end : {I : Type 0} (value : I → ℤ) (p : Point) (cs : List (IntPoint I)) (i : ℕ) (start : IntPoint I) (s : Bool) → length cs ≤ i
     → IsCounted (contour_of value cs) p s (point_of value start) (contour_of value (drop i cs)) → IsTrue s ↔ Inside (contour_of value cs) p
 unfolding Inside

@@ -1,4 +1,5 @@
--- How often a contour winds about a point of rational coordinates, where zero turns are taken out, from another start, and backwards.
+-- How often a contour winds about a point of rational coordinates, where zero turns are taken out, from another start,
+-- and backwards.
 use Rattle.std.proofs.Common.{◌≡◌, ℤ, pos, neg_ℤ, List, [], ◌∷◌, ◌++◌, map, reverse, refl, sym, ap, ◌∙◌, arith}
 use Rattle.std.proofs.lemmas.List.{length-map, map-append, reverse-append}
 use Rattle.i_shape_core.proofs.Common.{Point, IsZeroTurn, Reach, Rotation, IsCollapsed}

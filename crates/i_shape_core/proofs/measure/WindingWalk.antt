@@ -37,7 +37,8 @@ adds_one p a b r s e f g h = ap (λ (t : Bool). cond t (pos 1) (negsuc 0)) (sym 
 pub takes_one : (p a b : Point) (r s : Bool) → r ≡ is_right p (edge a b) → r ≡ true → s ≡ int_lt p.y b.y → s ≡ false → negsuc 0 ≡ winding_of_edge p (edge a b)
 takes_one p a b r s e f g h = ap (λ (t : Bool). cond t (pos 1) (negsuc 0)) (sym h) ∙ adds_or_takes_one p a b r s e f g
 
--- how far the winding number so far can be from 0 after i edges: half their number, with a half more on one side where the walk is on another side of the height than where it began
+-- how far the winding number so far can be from 0 after i edges: half their number, with a half more on one side where
+-- the walk is on another side of the height than where it began
 pub record IsNear (i : ℕ) (first here total : ℤ) : Type 0 where
   pub most : (total +ℤ total +ℤ first) ≤ℤ (pos i +ℤ here)
   pub least : here ≤ℤ (total +ℤ total +ℤ first +ℤ pos i)
@@ -130,7 +131,7 @@ pub walk_all : {I : Type 0} (value : I → ℤ) (p : Point) (cs : List (IntPoint
 unfolding winding
 walk_all value p cs last h e = walk_sum value (winding_of_edge p) cs last h e
 
--- after the last point the winding number is told
+-- after the last point the winding number is known
 pub walk_over : {I : Type 0} (value : I → ℤ) (p : Point) (cs : List (IntPoint I)) (i : ℕ) (start last : IntPoint I) (t : ℤ) → length cs ≤ i → 0 < length cs → last ≡ get_or cs (length cs - 1) last
     → t +ℤ winding_over p (point_of value start) (contour_of value (drop i cs)) ≡ winding_over p (point_of value last) (contour_of value cs) → t ≡ winding (contour_of value cs) p
 walk_over value p cs i start last t h some e f =
@@ -170,8 +171,8 @@ total_fits value p cs i start last x t w e h room f g near =
 pub total_added : (w : Width) (t r : ℤ) → FitsSigned w (t +ℤ r) → FitsSigned w r → to_z w (of_z w (t +ℤ to_z w (of_z w r))) ≡ t +ℤ r
 total_added w t r f g = rw (to_z-of_z w r g) (to_z-of_z w (t +ℤ r) f)
 
--- ---- a walk by parts
--- what holds of a walk over the whole contour, from its last point `first`, that has come to q and has added up the total: the rest of the points is left
+-- ---- a walk by parts what holds of a walk over the whole contour, from its last point `first`, that has come to q and
+-- has added up the total: the rest of the points is left
 pub record IsWalked (p first : Point) (whole : List Point) (q : Point) (rest : List Point) (total : ℤ) : Type 0 where
   pub within : length rest ≤ length whole
   pub near : (done : ℕ) → done + length rest ≡ length whole → IsNear done (level p first) (level p q) total

@@ -13,11 +13,11 @@ module _ (f : Point → Point) where
   pub point_mapped : (c : List Point) (k : ℕ) → k < length c → point_at (map f c) k ≡ f (point_at c k)
   point_mapped c k h = get_or-map f c k origin origin h
 
-  -- so is the one before it
+  -- the point before place k is mapped
   pub point_before_mapped : (c : List Point) (k : ℕ) → k < length c → point_at (map f c) (place_before (length (map f c)) k) ≡ f (point_at c (place_before (length c) k))
   point_before_mapped c k h = ap (λ (n : ℕ). point_at (map f c) (place_before n k)) (length-map c f) ∙ point_mapped c (place_before (length c) k) (before_within (length c) k h)
 
-  -- and the one after it
+  -- the point after place k is mapped
   pub point_after_mapped : (c : List Point) (k : ℕ) → k < length c → point_at (map f c) (place_after (length (map f c)) k) ≡ f (point_at c (place_after (length c) k))
   point_after_mapped c k h = ap (λ (n : ℕ). point_at (map f c) (place_after n k)) (length-map c f) ∙ point_mapped c (place_after (length c) k) (after_within (length c) k h)
 

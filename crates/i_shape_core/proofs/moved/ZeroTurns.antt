@@ -15,7 +15,7 @@ numbers_of_move a b c m = a.x ∷ a.y ∷ b.x ∷ b.y ∷ c.x ∷ c.y ∷ m.xx �
 abbrev pub new_x : Place → Term
 new_x p = plus (plus (times (variable 6) p.x) (times (variable 7) p.y)) (variable 10)
 
--- and its y
+-- the y of a point moved, as a term
 abbrev pub new_y : Place → Term
 new_y p = plus (plus (times (variable 8) p.x) (times (variable 9) p.y)) (variable 11)
 

@@ -47,20 +47,20 @@ points-same {I} value one p q e f =
     let in_y : (j : I) → IntPoint I = λ j. record { x = q.x; y = j } in
     ap in_x (one p.x q.x e) ∙ ap in_y (one p.y q.y f)
 
--- points whose coordinates are told equal stand for one point
+-- points whose coordinates compare equal represent the same point
 pub points_decided : {I : Type 0} (value : I → ℤ) (E : I → I → Bool) → ((a b : I) → IsTrue (E a b) ↔ (value a ≡ value b))
     → (p q : IntPoint I) → Decides (E p.x q.x && E p.y q.y) (point_of value p ≡ point_of value q)
 points_decided value E told p q =
     Decides-like _ (λ h. λ i. record { x = h.0 i; y = h.1 i }) (λ e. (ap (λ r. r.x) e, ap (λ r. r.y) e))
     (Decides-and (E p.x q.x) (E p.y q.y) (told p.x q.x) (told p.y q.y))
 
--- and are the same where one value stands for each number
+-- points whose coordinates compare equal are equal if each value represents one number
 pub values_decided : {I : Type 0} (value : I → ℤ) (E : I → I → Bool) → ((a b : I) → IsTrue (E a b) ↔ (value a ≡ value b))
     → ((a b : I) → value a ≡ value b → a ≡ b) → (p q : IntPoint I) → Decides (E p.x q.x && E p.y q.y) (p ≡ q)
 values_decided value E told one p q =
     Decides-like _ (λ e. points-same value one p q (ap (λ r. r.x) e) (ap (λ r. r.y) e)) (ap (point_of value)) (points_decided value E told p q)
 
--- what is left of a list at a place is what stands there and the rest
+-- the list from a place on is the item there and the rest
 pub drop-read : {A : Type 0} (xs : List A) (k : ℕ) (a : A) → k < length xs → a ≡ get_or xs k a → drop k xs ≡ a ∷ drop (k + 1) xs
 drop-read {A} xs k a within read = rw (add-one k) (drop-cons xs k a within ∙ ap (λ (b : A). b ∷ drop (suc k) xs) (sym read))
 
@@ -69,11 +69,11 @@ pub rest-read : {I : Type 0} (value : I → ℤ) (xs : List (IntPoint I)) (k : �
     → contour_of value (drop k xs) ≡ point_of value p ∷ contour_of value (drop (k + 1) xs)
 rest-read value xs k p within read = ap (contour_of value) (drop-read xs k p within read)
 
--- and nothing past the end
+-- past the end nothing is left of a list
 pub rest-none : {I : Type 0} (value : I → ℤ) (xs : List (IntPoint I)) (k : ℕ) → length xs ≤ k → contour_of value (drop k xs) ≡ []
 rest-none value xs k past = ap (contour_of value) (drop_all k xs past)
 
--- one more point, which stands at the next of the places
+-- one more point, which is at the next of the places
 pub kept-more : {X : Type 0} (xs ps qs : List X) (places : List ℕ) (i : ℕ) (p : X) → map (λ q. Some q) ps ≡ map (slice_get xs) (take i places)
     → i < length places → get_or places i 0 < length xs → qs ≡ ps ++ get_or xs (get_or places i 0) p ∷ []
     → map (λ q. Some q) qs ≡ map (slice_get xs) (take (i + 1) places)

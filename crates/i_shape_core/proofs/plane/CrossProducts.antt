@@ -99,7 +99,7 @@ same_point p q e f = λ i. record { x = e i; y = f i }
 pub both_zero : (u v w : ℤ) (s t : ℤ) → s ≡ pos 0 → t ≡ pos 0 → u ≡ v *ℤ s +ℤ w *ℤ t → u ≡ pos 0
 both_zero u v w s t e f g = g ∙ ap (λ (z : ℤ). v *ℤ z +ℤ w *ℤ t) e ∙ ap (λ (z : ℤ). v *ℤ pos 0 +ℤ w *ℤ z) f ∙ sum_of_zeros v w
 
--- where p and q are two points and b lies on their line, and a too, b lies on the line of a and q, and on that of a and p
+-- if p and q differ, and a and b lie on their line, b lies on the line of a and q and on that of a and p
 pub zero_slides : (a p q b : Point) → cross a p q ≡ pos 0 → cross p q b ≡ pos 0 → (p ≡ q) ⊎ ((cross a q b ≡ pos 0) × (cross a p b ≡ pos 0))
 zero_slides a p q b e f = found (zero_product _ _ (both_zero _ _ _ _ _ f e (slide_x a p q b))) (zero_product _ _ (both_zero _ _ _ _ _ f e (slide_y a p q b)))
   where

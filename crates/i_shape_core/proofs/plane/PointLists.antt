@@ -14,7 +14,7 @@ module _ {A B : Type 0} (point : A → B) (points : List A → List B) (each : (
   pub points-length : (list : List A) → length (points list) ≡ length list
   points-length list = ap length (each list) ∙ length-map list point
 
-  -- what stands at a place
+  -- what is at a place
   pub points-read : (list : List A) (k : ℕ) (a : A) (b : B) → k < length list → get_or (points list) k b ≡ point (get_or list k a)
   points-read list k a b within = ap (λ l. get_or l k b) (each list) ∙ get_or-map point list k a b within
 
@@ -40,7 +40,7 @@ module _ {A B : Type 0} (point : A → B) (points : List A → List B) (each : (
   pub item_read : (list : List A) (k : ℕ) (a : A) (b : B) → b ≡ point a → k < length list → a ≡ get_or list k a → (k < length (points list)) × (b ≡ get_or (points list) k b)
   item_read list k a b is within e = (omega (arith, within, points-length list), points-item list k a b is within e)
 
-  -- and the last place is its last
+  -- the last place is the last of the library's list
   pub last_read : (list : List A) (a : A) (b : B) → b ≡ point a → a ≡ get_or list (length list - 1) a → 0 < length list → (0 < length (points list)) × (b ≡ get_or (points list) (length (points list) - 1) b)
   last_read list a b is e some = (omega (arith, some, points-length list), rw (points-length list) (points-item list (length list - 1) a b is (omega (arith, some)) e))
 

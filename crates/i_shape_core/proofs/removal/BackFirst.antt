@@ -55,7 +55,7 @@ no_flat_triangle st p (q ∷ a ∷ b ∷ r) n two z = omega arith
 done_of_rotated : {P : Test} {c d : List Point} → Rotation c d → IsDone P c → IsDone P d
 done_of_rotated r n e t = n e (cycle_step_of_rotated (rotation_sym r) t)
 
--- a zero turn removed from a contour with nothing that turns back leaves at least three points, and nothing that turns back
+-- removing a zero turn where nothing turns back leaves at least three points, and nothing that turns back
 pub straight_step : {B Z : Test} → Straightens B Z → {c d : List Point} → IsDone B c → CycleStep Z c d → (3 ≤ length d) × IsDone B d
 straight_step {B} {Z} st {c} {d} n t = (omega (arith, long, rotation_length t.finish), done)
   where
@@ -74,7 +74,7 @@ straight_step {B} {Z} st {c} {d} n t = (omega (arith, long, rotation_length t.fi
         (subst (λ (x : List Point). Z (last x) t.point (first x)) k.whole t.passes)
         (subst (λ (x : List Point). B (last x) s.point (first x)) k.others s.passes)
 
--- so do any number of them
+-- removing zero turns where nothing turns back leaves at least three points, and nothing that turns back
 stays_done : {B Z : Test} → Straightens B Z → {c e : List Point} → 3 ≤ length c → IsDone B c → Reach Z c e → (3 ≤ length e) × IsDone B e
 stays_done st h n stay = (h, n)
 stays_done st h n (step s r) =
@@ -91,6 +91,6 @@ keeps_none st {c} {e} h n r =
 pub end_by_weaker : {B Z : Test} → Straightens B Z → {c d f : List Point} → Reach B c d → End Z d f → End Z c f
 end_by_weaker st r w = record { reached = reach_trans (reach_by_weaker st.weaker r) w.reached; none_left = w.none_left }
 
--- and it has three points where three were left
+-- such an end has at least three points if at least three were left
 pub keeps_three : {B Z : Test} → Straightens B Z → {c d f : List Point} → End B c d → 3 ≤ length d → End Z d f → 3 ≤ length f
 keeps_three st w h a = (keeps_none st h w.none_left a.reached).0

@@ -21,7 +21,7 @@ meets_rotated r s (same t) = same (rotation_trans r (rotation_trans t (rotation_
 meets_rotated r s (small a b) = small (omega (arith, rotation_length r)) (omega (arith, rotation_length s))
 meets_rotated r s (common f a b) = common f (cycle_step_of_rotated (rotation_sym r) a) (cycle_step_of_rotated (rotation_sym s) b)
 
--- p and q stand apart, with x :: u between p and q, and y :: v between q and p
+-- p and q aren't neighbours, with x :: u between p and q, and y :: v between q and p
 apart : {P : Test} (p q x y : Point) (u v : List Point) →
     P (last ((x ∷ u) ++ q ∷ y ∷ v)) p x → P (last ((y ∷ v) ++ p ∷ x ∷ u)) q y → Meets P ((x ∷ u) ++ q ∷ y ∷ v) ((y ∷ v) ++ p ∷ x ∷ u)
 apart {P} p q x y u v a b = common ((y ∷ v) ++ (x ∷ u)) (record {
@@ -40,7 +40,7 @@ apart {P} p q x y u v a b = common ((y ∷ v) ++ (x ∷ u)) (record {
   finish = record { front = y ∷ v; back = x ∷ u; before = refl; after = refl };
 })
 
--- p and q stand side by side, with v from q on round to p
+-- p and q are neighbours, with v from q on round to p
 beside : {P : Test} → Slides P → (p q : Point) (v : List Point) → 0 < length v →
     P (last (q ∷ v)) p q → P (last (v ++ p ∷ [])) q (first (v ++ p ∷ [])) → Meets P (q ∷ v) (v ++ p ∷ [])
 beside sl p q [] h a b = absurd (omega arith)

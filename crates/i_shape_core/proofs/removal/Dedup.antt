@@ -11,22 +11,22 @@ both_true : (a b : Bool) → a && b ≡ true → (a ≡ true) × (b ≡ true)
 both_true true b e = (refl, e)
 both_true false b e = absurd (cc)
 
--- points that are told the same are equal
+-- points that compare as the same are equal
 pub same_yes : (a b : Point) → is_same a b ≡ true → a ≡ b
 unfolding is_same
 same_yes a b e = let t = both_true (int_eq a.x b.x) (int_eq a.y b.y) e in
     same_point a b ((signed_Decides a.x b.x).0 t.0) ((signed_Decides a.y b.y).0 t.1)
 
--- each point is told the same as itself
+-- each point compares as the same as itself
 pub same_self : (a : Point) → is_same a a ≡ true
 unfolding is_same
 same_self a = rw ((signed_Decides a.x a.x).1 refl, (signed_Decides a.y a.y).1 refl) refl
 
--- points that are told apart differ
+-- points that compare as different differ
 pub same_no : (a b : Point) → is_same a b ≡ false → a ≢ b
 same_no a b e h = let t : is_same a b ≡ true = subst (λ (q : Point). is_same a q ≡ true) h (same_self a) in cc
 
--- points that differ are told apart
+-- points that differ compare as different
 pub apart_no : (a b : Point) → a ≢ b → is_same a b ≡ false
 apart_no a b h = go (is_same a b) refl
   where

@@ -5,22 +5,22 @@ use Rattle.std.proofs.lemmas.Bool.{cases_lt}
 use Rattle.std.proofs.lemmas.List.Edits.{get_or-remove_below, get_or-remove_above}
 use Rattle.i_shape_core.proofs.Common.{Point, origin, point_at, place_before, place_after}
 
--- before the first place stands the last
+-- before the first place is the last
 pub before_first : (n : ℕ) → 0 < n → place_before n 0 ≡ n - 1
 before_first n h = mod-eq_of_lt (omega arith) ∙ omega arith
 
--- before any other place stands the one less by one
+-- before any other place is the one less by one
 pub before_later : (n j : ℕ) → suc j < n → place_before n (suc j) ≡ j
 before_later n j h = ap (λ (m : ℕ). m % n) (sum n j h) ∙ add-mod_right j n ∙ mod-eq_of_lt (omega arith)
   where
     sum : (n j : ℕ) → suc j < n → suc j + (n - 1) ≡ j + n
     sum n j h = omega arith
 
--- after any place but the last stands the one greater by one
+-- after any place but the last is the one greater by one
 pub after_earlier : (n k : ℕ) → k + 1 < n → place_after n k ≡ suc k
 after_earlier n k h = mod-eq_of_lt h ∙ omega arith
 
--- after the last place stands the first
+-- after the last place is the first
 pub after_last : (n k : ℕ) → k + 1 ≡ n → place_after n k ≡ 0
 after_last n k e = ap (λ (m : ℕ). m % n) e ∙ mod_self n
 
@@ -68,7 +68,7 @@ Stood k i m = ((i < k) × (m ≡ i)) ⊎ ((k ≤ i) × (m ≡ i + 1))
 pub place_stood : (k i : ℕ) → (m : ℕ) × Stood k i m
 place_stood k i = elim (cases_lt i k) [ inl h ↦ (i, inl (h, refl)) | inr h ↦ (i + 1, inr (h, refl)) ]
 
--- and its point is the one that stood there
+-- the point at a place is the one that was at its old place
 pub stood_point : (c : List Point) (k i m : ℕ) → k < length c → Stood k i m → point_at (remove c k) i ≡ point_at c m
 stood_point c k i m h (inl s) = get_or-remove_below c k origin i s.0 h ∙ ap (point_at c) (sym s.1)
 stood_point c k i m h (inr s) = get_or-remove_above c k origin i s.0 h ∙ ap (point_at c) (sym s.1)
@@ -77,7 +77,7 @@ stood_point c k i m h (inr s) = get_or-remove_above c k origin i s.0 h ∙ ap (p
 pub stood_within : (n l k j m : ℕ) → l + 1 ≡ n → j < l → Stood k j m → m < n
 stood_within n l k j m e h M = grind arith
 
--- the neighbour after j without place k: the one of m, which is not k; or m stands before k, and it is the one of k
+-- the neighbour after j without place k: the one of m, which is not k; or m is before k, and it is the one of k
 pub follows_over : (n l k a j f m g s : ℕ) → l + 1 ≡ n → k < n → j < l → Follows n k a → Follows l j f → Stood k j m → Stood k f g → Follows n m s
     → ((s ≡ k) × (g ≡ a)) ⊎ ((s ≢ k) × (g ≡ s))
 follows_over n l k a j f m g s e h i A F M G S = grind arith

@@ -1,4 +1,5 @@
--- A contour without repeated points is an end of the removal of points that equal a neighbour. So the theory of ends says how it changes with the start and the direction of the contour.
+-- A contour without repeated points is an end of the removal of points that equal a neighbour. So the theory of ends
+-- says how it changes with the start and the direction of the contour.
 use Rattle.std.proofs.Common.{◌≡◌, ℕ, ◌<◌, ◌≤◌, List, [], ◌∷◌, ◌++◌, length, reverse, refl, sym, ap, subst, ◌∙◌, arith, ◌⊎◌, inl, inr, Bool, true, false, cond, append_assoc, length-append}
 use native.Mathlib.Decide.{dec_le}
 use Rattle.i_shape_core.proofs.Common.{Point, origin, IsZeroTurn, Test, point_at, place_before, place_after, IsRemovable, Step, Reach, stay, step, End, Rotation, SameEnd, collapsed, rotated}
@@ -136,7 +137,7 @@ dedup_rotated c d r =
     let b = dedup_end d in
     same_cycle a.0 b.0 (dedup c) (dedup d) a.2 b.2 (ends_alike repeat_slides repeat_decided r a.1 b.1)
 
--- and a contour read backwards is the cycle read backwards
+-- without repeated points a contour read backwards is the cycle read backwards
 pub dedup_reversed : (c : List Point) → SameCycle (reverse (dedup c)) (dedup (reverse c))
 dedup_reversed c =
     let a = dedup_end c in

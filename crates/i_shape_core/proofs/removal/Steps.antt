@@ -26,11 +26,11 @@ pub last-push : (x : List Point) (p : Point) → last (x ++ p ∷ []) ≡ p
 unfolding last
 last-push x p = last-append x (p ∷ []) (omega arith)
 
--- what stands before a list's last point doesn't matter
+-- what is before a list's last point doesn't matter
 pub last_two : (l : List Point) (b x : Point) (a : List Point) → last (l ++ b ∷ x ∷ a) ≡ last (x ∷ a)
 last_two l b x a = last-append l (b ∷ x ∷ a) (omega arith) ∙ last-append (b ∷ []) (x ∷ a) (omega arith)
 
--- what stands before the last point doesn't matter
+-- what is before the last point doesn't matter
 pub last_over : (l : List Point) (r s : Point) (m : List Point) → last (l ++ r ∷ s ∷ m) ≡ last (l ++ s ∷ m)
 last_over l r s m = last_two l r s m ∙ sym (last-append l (s ∷ m) (omega arith))
 
@@ -43,7 +43,7 @@ pub record CycleStep (P : Test) (c d : List Point) : Type 0 where
   pub passes : P (last rest) point (first rest)
   pub finish : Rotation d rest
 
--- what stands at the three places round the seam
+-- what is at the three places round the seam
 pub at_seam : (u : List Point) (p : Point) (t : List Point) → point_at (u ++ p ∷ t) (length u) ≡ p
 at_seam u p t = get_or_at u p t origin (length u) refl
 
@@ -100,7 +100,7 @@ removable_from_passes {P} c u p t w two h =
       passes = subst (λ (x : Point). P (point_at c (place_before (length c) (length u))) x (point_at c (place_after (length c) (length u)))) (sym a.at) (subst₂ (λ (x y : Point). P x p y) (sym a.before) (sym a.after) h);
     }
 
--- removing a point leaves what stands before and after it
+-- removing a point leaves what is before and after it
 pub remove_at_seam : (c u : List Point) (p : Point) (t : List Point) → c ≡ u ++ p ∷ t → remove c (length u) ≡ u ++ t
 remove_at_seam c u p t w =
     let a : take (length u) (u ++ p ∷ t) ≡ u = take_at u (p ∷ t) (length u) refl in

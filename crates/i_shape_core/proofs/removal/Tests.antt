@@ -2,11 +2,12 @@
 use Rattle.std.specs.Prelude.{◌≡◌, ◌⊎◌}
 use Rattle.i_shape_core.proofs.Common.{Point, Test}
 
--- with the one of two neighbours p and q that is left when the other is removed, the other's test holds still; or they are one point
+-- with the one of two neighbours p and q that is left when the other is removed, the other's test holds still; or they
+-- are one point
 abbrev pub Slides : Test → Type 0
 Slides P = (a p q b : Point) → P a p q → P p q b → (p ≡ q) ⊎ (P a q b × P a p b)
 
--- whether three points pass the test can be told
+-- whether three points pass the test can be decided
 abbrev pub Decided : Test → Type 0
 Decided P = (a b c : Point) → Dec (P a b c)
 

@@ -33,7 +33,7 @@ pub record HasNoBack (c : List Point) : Type 0 where
 pub no_back_kept : (c d : List Point) → HasNoBack c → Reach IsZeroTurn c d → HasNoBack d
 no_back_kept c d h r = let m = keeps_none back_straightens h.enough h.none r in record { enough = m.0; none = m.1 }
 
--- and neither does one of them
+-- removing one zero turn makes no back point
 pub no_back_after_step : (c d : List Point) → HasNoBack c → Step IsZeroTurn c d → HasNoBack d
 no_back_after_step c d h s = no_back_kept c d h (step s stay)
 

@@ -12,7 +12,7 @@ use Rattle.i_shape_core.proofs.removal.Ends.{ends_alike, has_end, no_step, reach
 use Rattle.i_shape_core.proofs.removal.BackFirst.{end_by_weaker, keeps_three}
 use Rattle.i_shape_core.proofs.removal.WithoutBack.{back_straightens}
 
--- whether three points turn can be told
+-- whether three points turn can be decided
 pub zero_turn_decided : Decided IsZeroTurn
 zero_turn_decided a b c = ℤ_discrete (cross a b c) (pos 0)
 

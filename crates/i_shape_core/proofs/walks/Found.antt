@@ -59,7 +59,7 @@ kept_by_rotation c e l k r = record {
 one_answer : (c e : List Point) → End IsZeroTurn c e → 3 ≤ length e → SimpleAnswer c (Some e)
 one_answer c e ended enough = record { ended = ended; enough = enough; alone = λ f g. ((every_order c).some e f ended enough g).1 }
 
--- what a walk by zero turns answers is the one end
+-- a walk by zero turns finds the one end
 pub simple_answer : (c : List Point) (r : Option (List Point)) (visits : ℕ) → WalkAnswer IsZeroTurn c r visits → SimpleAnswer c r
 simple_answer c None visits w = λ e f. (every_order c).none w.rest e w.reached w.few f
 simple_answer c (Some e) visits w = one_answer c e w.ended w.enough
@@ -68,17 +68,17 @@ simple_answer c (Some e) visits w = one_answer c e w.ended w.enough
 pub simple_stays : (c : List Point) → IsSimple c → SimpleAnswer c (Some c)
 simple_stays c s = one_answer c c (record { reached = stay; none_left = s.none }) s.enough
 
--- what a walk by zero turns answers keeps double area, containment and winding numbers
+-- what a walk by zero turns leaves keeps double area, containment and winding numbers
 pub kept_answer : (c : List Point) (r : Option (List Point)) (visits : ℕ) → WalkAnswer IsZeroTurn c r visits → KeptAnswer c r
 kept_answer c None visits w = collapsed_is_flat c w.rest w.reached w.few
 kept_answer c (Some e) visits w = reach_keeps c e w.ended.reached
 
--- what holds of each point of the contour holds of each that is answered
+-- what holds of each point of the contour holds of each that is left
 pub all_answered : (P : Test) {X : Type 0} (Q : Point → Type 0) (f : X → List Point) (c : List Point) (r : Option X) (visits : ℕ) → WalkAnswer P c (option_map f r) visits → All Q c → IfSome r (λ x. All Q (f x))
 all_answered P Q f c None visits w h = tt
 all_answered P Q f c (Some x) visits w h = all_left Q w.ended.reached h
 
--- what is answered is a sublist of the contour
+-- what is left is a sublist of the contour
 pub in_order_answered : (P : Test) {X : Type 0} (f : X → List Point) (c : List Point) (r : Option X) (visits : ℕ) → WalkAnswer P c (option_map f r) visits → IfSome r (λ x. Sublist c (f x))
 in_order_answered P f c None visits w = tt
 in_order_answered P f c (Some x) visits w = sublist_reached w.ended.reached
@@ -110,12 +110,12 @@ spikeless_answer c (Some d) visits w = record {
         go (inl h) = absurd (omega (arith, w.enough, ((ends_agree c).alike d e w.ended a).1 h))
         go (inr h) = h
 
--- what a walk by back vertices answers keeps double area, containment and winding numbers
+-- what a walk by back vertices leaves keeps double area, containment and winding numbers
 pub kept_spikeless : (c : List Point) (r : Option (List Point)) (visits : ℕ) → WalkAnswer IsBack c r visits → KeptAnswer c r
 kept_spikeless c None visits w = collapsed_is_flat c w.rest (reach_by_weaker back_straightens.weaker w.reached) w.few
 kept_spikeless c (Some d) visits w = reach_keeps c d (reach_by_weaker back_straightens.weaker w.ended.reached)
 
--- an answer that keeps what a walk has left answers what the walk does
+-- a result that is what a walk leaves, with its count, has the walk's relation
 pub walk_kept : {X E : Type 0} (P : Test) (c : List Point) (shown : X → Option (List Point)) (count : X → ℕ) (result : Result X E) (left : Option (List Point)) (visits : ℕ)
     → IfOk result (λ r. (shown r ≡ left) × (count r ≡ visits)) → WalkAnswer P c left visits → IfOk result (λ r. WalkAnswer P c (shown r) (count r))
 walk_kept P c shown count result left visits reach_keeps answer = IfOk-weaker result _ _ (λ r w. rw (w.0, w.1) answer) reach_keeps

@@ -12,7 +12,7 @@ pub length-gap : (xs : List ℕ) (b a e : ℕ) → b ≤ a → a < e → e ≤ l
 unfolding around_gap
 length-gap xs b a e h k l = omega (arith, length-append (drop a (take e xs)) (take b xs), length-drop a (take e xs), length-take e xs, length-take b xs)
 
--- the walk's place stands first
+-- the walk's place comes first
 gap_cons : (xs : List ℕ) (b a e : ℕ) → a < e → e ≤ length xs → around_gap xs b a e ≡ get_or xs a 0 ∷ (drop (suc a) (take e xs) ++ take b xs)
 unfolding around_gap
 gap_cons xs b a e k l =
@@ -34,7 +34,7 @@ gap_second xs b a e k l =
     let s : suc a ≡ a + 1 = omega arith in
     ap (λ (r : List ℕ). get_or r 1 0) (gap_cons xs b a e (omega arith) l) ∙ (ap (λ (r : List ℕ). get_or (r ++ take b xs) 0 0) d ∙ (g ∙ ap (λ (i : ℕ). get_or xs i 0) s))
 
--- where one place stands behind the gap, the list's first comes after it
+-- if one place is behind the gap, the list's first comes after it
 pub gap_second-behind : (xs : List ℕ) (b a e : ℕ) → 0 < b → e ≡ a + 1 → e ≤ length xs → get_or (around_gap xs b a e) 1 0 ≡ get_or xs 0 0
 gap_second-behind xs b a e h k l =
     let d : drop (suc a) (take e xs) ≡ [] = drop_all (suc a) (take e xs) (omega (arith, length-take e xs)) in
@@ -78,7 +78,7 @@ gap_last-behind xs (suc b) a e k l o h =
     let s : b ≡ suc b - 1 = omega arith in
     between_last (around_gap xs (suc b) a e) (get_or xs a 0) (drop (suc a) (take e xs) ++ take b xs) (get_or xs b 0) (gap_behind xs b a e k l h) ∙ ap (λ (i : ℕ). get_or xs i 0) s
 
--- where none stands before the gap, the ring ends with the list
+-- if none is before the gap, the ring ends with the list
 pub gap_last-end : (xs : List ℕ) (b a e : ℕ) → a < e → e ≤ length xs → b ≡ 0 → get_or (around_gap xs b a e) (length (around_gap xs b a e) - 1) 0 ≡ get_or xs (e - 1) 0
 gap_last-end xs b a zero k l o = absurd (omega arith)
 gap_last-end xs b a (suc e) k l o = rw o (go (cases_lt a e))
@@ -190,18 +190,18 @@ starting_ring xs n k p u room kept e l m h same =
     whole l (inl x) = absurd (omega (arith, x.0))
     whole l (inr x) = omega (arith, x.1)
 
--- where the lead stands after a place was kept
+-- the lead after a place was kept
 pub kept_lead : (p n m f b b' : ℕ) → p ≡ n → m ≡ n → b < n → f < n → ((b + 1 < n) × (b' ≡ b + 1)) ⊎ ((b + 1 ≡ n) × (b' ≡ 0)) → LeadKept p (lead_over_gap n f b) (lead_over_gap m f b')
 kept_lead p n m f b b' i j h g moved = go (lead_over_gap n f b) (lead_over_gap m f b') (lead_cases n f b) (lead_cases m f b')
   where
     go : (l k : ℕ) → Lead n f b l → Lead m f b' k → LeadKept p l k
     go l k x y = grind arith
 
--- where the contour's first stands once the walk's place is taken out, and before it is wrapped round
+-- where the contour's first is once the walk's place is taken out, and before it is wrapped round
 abbrev pub IsMoved : ℕ → ℕ → ℕ → Type 0
 IsMoved f b m = ((b ≡ 0) × (m ≡ max f 1)) ⊎ (((0 < b) × (b < f) × (m + 1 ≡ f)) ⊎ ((0 < b) × (f ≤ b) × (m ≡ f)))
 
--- where the lead stands after a place was taken out
+-- the lead after a place was taken out
 pub removed_lead : (n f b m f' : ℕ) → 0 < n → f ≤ n → b ≤ n → IsMoved f b m → ((m ≡ n) × (f' ≡ 0)) ⊎ ((m ≢ n) × (f' ≡ m)) → LeadRemoved (n + 1) (lead_over_gap (n + 1) f b) (lead_over_gap n f' (b - 1))
 removed_lead n f b m f' o h g moved wrapped = go (lead_over_gap (n + 1) f b) (lead_over_gap n f' (b - 1)) moved wrapped (lead_cases (n + 1) f b) (lead_cases n f' (b - 1))
   where

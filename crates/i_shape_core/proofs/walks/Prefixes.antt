@@ -39,7 +39,7 @@ module _ (P : Test) (c : List Point) where
       let one : IsStacked P c (0 ∷ []) 1 = push-stacked P c [] (0 ∷ []) 0 none (omega arith) (λ j k e f. absurd (omega arith)) refl in
       push-stacked P c (0 ∷ []) (0 ∷ 1 ∷ []) 1 one (omega arith) (λ j k e f. absurd (omega arith)) refl
 
-  -- and the next, where it takes none off
+  -- the next place, if it takes none off
   pub prefix_more : (k : ℕ) → 2 ≤ k → k < length c → IsStacked P c (range_with_len 0 k) k
       → ¬ (P (point_at c (k - 2)) (point_at c (k - 1)) (point_at c k)) → IsStacked P c (range_with_len 0 (k + 1)) (k + 1)
   prefix_more k two within s none =
@@ -48,7 +48,7 @@ module _ (P : Test) (c : List Point) where
       (λ i j e f h. none ((before_stack k i j k (k - 2) (k - 1) (omega arith) (omega arith) (omega arith) (omega arith)).0 h))
       (sym (range_more (range_with_len 0 k) (range_with_len 0 k ++ k ∷ []) 0 k (k + 1) k refl (omega arith) (omega arith) refl))
 
-  -- and where it takes off the one before it
+  -- the next place, if it takes off the one before it
   pub prefix_walked : (k v : ℕ) (S : List ℕ) → 2 ≤ k → k < length c → IsStacked P c (range_with_len 0 k) k
       → P (point_at c (k - 2)) (point_at c (k - 1)) (point_at c k) → v + 1 ≡ k → S ≡ range_with_len 0 (k - 1 - 0) → IsWalked P c S k v
   prefix_walked k v S two within s holds visits e =
@@ -60,7 +60,7 @@ module _ (P : Test) (c : List Point) where
         stacked = pop-stacked P c (range_with_len 0 k) S k (k - 2) (k - 1) s (omega arith) (omega arith) within
             ((before_stack k (k - 2) (k - 1) k (k - 2) (k - 1) (omega arith) (omega arith) refl refl).1 holds)
             (f ∙ sym (take_range (k - 1) k 0 (omega arith)));
-        short = omega arith;
+        fewer = omega arith;
         most = omega arith;
         least = omega arith;
       }
@@ -77,7 +77,7 @@ module _ (P : Test) (c : List Point) where
         stacked = drop-first P c (range_with_len 0 (length c)) (range_with_len 1 (n - 1)) m s (omega arith)
             ((on_stack (length c) (m + 2) 0 1 (n - 1) 0 1 (omega arith) (omega arith) (omega arith) (omega arith) refl refl).1 holds)
             (sym (ap (λ (k : ℕ). drop 1 (range_with_len 0 k)) d));
-        short = omega arith;
+        fewer = omega arith;
         most = omega arith;
         least = omega arith;
       }
@@ -94,7 +94,7 @@ module _ (P : Test) (c : List Point) where
         stacked = drop-last P c (range_with_len 0 (length c)) (range_with_len 0 k) m s (omega arith)
             ((on_stack (length c) (m + 1) (m + 2) 0 (n - 1 - 1) (n - 1) 0 (omega arith) (omega arith) (omega arith) (omega arith) (omega arith) refl).1 holds)
             (sym (take_range (m + 2) (length c) 0 (omega arith) ∙ ap (range_with_len 0) d));
-        short = omega arith;
+        fewer = omega arith;
         most = omega arith;
         least = omega arith;
       }

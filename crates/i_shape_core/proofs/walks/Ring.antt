@@ -22,7 +22,7 @@ pub record Place (q : List Point) (k : ℕ) : Type 0 where
 pub place_of : (q : List Point) (k : ℕ) → k < length q → Place q k
 place_of q k h = record { ahead = take k q; at = point_at q k; behind = drop (suc k) q; whole = split_at q k origin h; place = sym (length-take-le k q (omega arith)) }
 
--- the place's point p is kept: the place moves on, and p stands last
+-- the place's point p is kept: the place moves on, and p comes last
 kept_tested : {P : Test} (p : Point) (r : List Point) (u : ℕ) → 2 ≤ length r → NoneFrom P (p ∷ r) (suc u) → (P (last r) p (first r) → ⊥) → NoneFrom P (r ++ p ∷ []) u
 kept_tested {P} p r u two none here k h m = go (dec_lt k (length r))
   where
@@ -94,7 +94,7 @@ removed_order_round r b l h =
     let y : take l (r ++ b ∷ []) ≡ r ++ b ∷ [] = take_all l (r ++ b ∷ []) (omega arith) in
     cc
 
--- a list that starts at another place is put in order by as many as stand ahead of its first
+-- a list that starts at another place is put in order by as many as are ahead of its first
 pub turned_in_order : {A : Type 0} (c : List A) (k n : ℕ) → length c ≡ n → k < n → c ≡ from_contour_first (drop k c ++ take k c) (n - k)
 turned_in_order c k n many within =
     let l : n - k ≡ length (drop k c) = omega (arith, many, length-drop k c) in
@@ -117,7 +117,7 @@ kept_in_order q r p l m e within (inr a) =
     let y = kept_order p r m (omega (arith, a.1, within, ap length e)) (omega (arith, a.0, a.1)) in
     cc
 
--- and where it is taken out, and the last comes before the second
+-- the order stays where the first is taken out, and the last comes before the second
 pub removed_in_order : {A : Type 0} (q r : List A) (p b : A) (l m : ℕ) → q ≡ p ∷ (r ++ b ∷ []) → 0 < l → l ≤ length q → LeadRemoved (length q) l m
     → drop (l - 1) (r ++ b ∷ []) ++ take (l - 1) (r ++ b ∷ []) ≡ from_contour_first (b ∷ r) m
 removed_in_order q r p b l m e above within (inl a) =

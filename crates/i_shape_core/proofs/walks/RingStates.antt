@@ -1,7 +1,7 @@
 -- The events of a cleaner's loop that walks round a ring of places.
-use Rattle.std.proofs.Common.{◌≡◌, ℕ, suc, ◌+◌, ◌-◌, ◌<◌, ◌≤◌, min, max, List, [], ◌∷◌, ◌++◌, map, length, get_or, take, drop, refl, sym, ap, ◌∙◌, subst, subst₂, arith, length-append, take-suc, take_all, drop-cons, length-drop, length-take, length-take-le}
+use Rattle.std.proofs.Common.{◌≡◌, ℕ, suc, ◌+◌, ◌-◌, ◌<◌, ◌≤◌, min, max, List, [], ◌∷◌, ◌++◌, map, length, get_or, take, drop, refl, sym, ap, ◌∙◌, subst, subst₂, arith, length-append, take-suc, take_all, get_or-take, get_or-drop, drop-cons, length-drop, length-take, length-take-le}
 use Rattle.std.proofs.Math.Seq.{split_at}
-use Rattle.std.proofs.lemmas.List.{get_or-map, map_push, length-map, map-append, take-map, drop-map}
+use Rattle.std.proofs.lemmas.List.{get_or-map, get_or_push, get_or_append_left, map_push, length-map, map-append, take-map, drop-map}
 use Rattle.std.proofs.lemmas.List.Elements.{All-get_or, All-push, All-cons, All-drop, All-take, All-append, All-same}
 use Rattle.std.proofs.lemmas.List.FromFn.{length-range_with_len, get_or-range_with_len, fill_by_all}
 use Rattle.std.specs.List.{All, range_with_len}
@@ -105,6 +105,19 @@ state_keeps {P} c (p ∷ r) kept u v l m n s h here e f lead = record {
     below : All (IsBelow c) kept
     below = All-same (IsBelow c) kept (r ++ p ∷ []) e (All-push (IsBelow c) r p (All-drop (IsBelow c) 1 (p ∷ r) s.below) (All-get_or (IsBelow c) (p ∷ r) 0 0 (omega arith) s.below))
 
+-- the places left once that at hand is taken out
+removed_below : (c : List Point) (places kept : List ℕ) → All (IsBelow c) places → 0 < length places → kept ≡ get_or places (length places - 1) 0 ∷ drop 1 (take (length places - 1) places) → All (IsBelow c) kept
+removed_below c places kept below some e =
+    let before : ℕ = get_or places (length places - 1) 0 in
+    let others : List ℕ = drop 1 (take (length places - 1) places) in
+    All-same (IsBelow c) kept (before ∷ others) e (All-cons (IsBelow c) before others (All-get_or (IsBelow c) places (length places - 1) 0 (omega (arith, some)) below)
+    (All-drop (IsBelow c) 1 (take (length places - 1) places) (All-take (IsBelow c) (length places - 1) places below)))
+
+-- the last of them is one of c
+pub removed_last : (c : List Point) (places kept : List ℕ) → All (IsBelow c) places → 0 < length places → kept ≡ get_or places (length places - 1) 0 ∷ drop 1 (take (length places - 1) places)
+    → get_or kept (length kept - 1) 0 < length c
+removed_last c places kept below some e = All-get_or (IsBelow c) kept (length kept - 1) 0 (omega (arith, ap length e)) (removed_below c places kept below some e)
+
 -- the place at hand is taken out
 pub state_removes : {P : Test} {room room' : ℕ} (c : List Point) (places kept : List ℕ) (u v l m n : ℕ) → IsState room P c places u l n → 0 < u → PassesAtPlace P c places → 3 < length places →
     kept ≡ get_or places (length places - 1) 0 ∷ drop 1 (take (length places - 1) places) → v ≡ min (length places - 1) (max u 2) → LeadRemoved (length places) l m → IsState room' P c kept v m (n + 1)
@@ -113,7 +126,7 @@ state_removes {P} c (p ∷ r) kept u v l m n s o a more e f lead = record {
   walk = subst (λ (x : List Point). IsRingWalk P c x v m) (sym (ap (points_at c) e'))
       (walk_removes c (points_at c (p ∷ r)) (points_at c r0) (point_at c p) (point_at c b) u v l m s.walk whole passes
       (omega (arith, more, length-map (p ∷ r) (point_at c))) (f ∙ ap (λ (x : ℕ). min x (max u 2)) left) lead');
-  below = below;
+  below = removed_below c (p ∷ r) kept s.below (omega arith) e;
   rising = subst (RisingPlaces (length c)) (removed_in_order (p ∷ r) r0 p b l m (ap (λ x. p ∷ x) parts) s.walk.lead_above (omega (arith, s.walk.lead_within, length-map (p ∷ r) (point_at c))) lead ∙ ap (λ x. from_contour_first x m) (sym e')) without;
   at_most = omega (arith, s.at_most, size, f);
   tested_each = omega (arith, s.tested_each, s.walk.untested_within, length-map (p ∷ r) (point_at c), f);
@@ -163,10 +176,6 @@ state_removes {P} c (p ∷ r) kept u v l m n s o a more e f lead = record {
     lead' : LeadRemoved (length (points_at c (p ∷ r))) l m
     lead' = subst (λ (x : ℕ). LeadRemoved x l m) (sym (length-map (p ∷ r) (point_at c))) lead
 
-    below : All (IsBelow c) kept
-    below = All-same (IsBelow c) kept (get_or (p ∷ r) (length (p ∷ r) - 1) 0 ∷ drop 1 (take (length (p ∷ r) - 1) (p ∷ r))) e (All-cons (IsBelow c) (get_or (p ∷ r) (length (p ∷ r) - 1) 0) (drop 1 (take (length (p ∷ r) - 1) (p ∷ r)))
-        (All-get_or (IsBelow c) (p ∷ r) (length (p ∷ r) - 1) 0 (omega arith) s.below) (All-drop (IsBelow c) 1 (take (length (p ∷ r) - 1) (p ∷ r)) (All-take (IsBelow c) (length (p ∷ r) - 1) (p ∷ r) s.below)))
-
 -- where three places are left and one passes, the contour collapses
 pub state_collapses : {P : Test} {room : ℕ} (c : List Point) (places : List ℕ) (u l n : ℕ) → IsState room P c places u l n → PassesAtPlace P c places → length places ≡ 3 → Falls P c (n + 1)
 state_collapses c [] u l n s a three = absurd (omega arith)
@@ -184,7 +193,7 @@ state_ends {P} c e places u l n s none shown =
     let same : from_contour_first (points_at c places) l ≡ e = cc in
     subst (λ (k : List Point). Finds P c k n) same (record { ended = w.0; enough = w.1; least = omega (arith, s.tested_each, none); most = omega (arith, s.at_most) })
 
--- a ring of all places of c, in which the walk stands at place k, in memory for so many
+-- a ring of all places of c, in which the walk is at place k, in memory for so many
 abbrev pub StartsAt : List Point → PlacedRing → ℕ → ℕ → Type 0
 StartsAt c r k room = r ≡ ring_of_all (length c) k room
 
@@ -200,7 +209,7 @@ starting_size c r k room e = rw e (rotated_size c k)
 starting_state : {P : Test} (c : List Point) (r : PlacedRing) (k room : ℕ) → IsFirst P c k → StartsAt c r k room → IsRingState P c r k
 starting_state c r k room f e = rw e (state_starts c k f.here.enough f.here.within f.earlier)
 
--- and place k passes
+-- at such a start place k passes
 starting_passes : {P : Test} (c : List Point) (r : PlacedRing) (k room : ℕ) → IsFirst P c k → StartsAt c r k room → PassesAtPlace P c r.places
 starting_passes {P} c r k room f e = rw e (subst (PassesAtPlace P c) (sym parts) (passes_back P c k rest (omega (arith, f.here.enough, size)) (subst (λ (x : List Point). P (last x) (point_at c k) (first x)) (rotated_points c (suc k) k) passes)))
   where
@@ -230,3 +239,35 @@ pub starting_removes : {P : Test} (c : List Point) (r t : PlacedRing) (k room vi
 starting_removes {P} c r t k room visits f e more v places untested lead =
     rw v (state_removes c r.places t.places r.untested t.untested r.lead t.lead k (starting_state c r k room f e) (rw e (omega (arith, f.here.within))) (starting_passes c r k room f e)
     (omega (arith, more, starting_size c r k room e)) places untested lead)
+
+-- the points before the walk's place, there and after it
+pub record IsHeld (c : List Point) (places : List ℕ) (p q r : Point) : Type 0 where
+  pub before : p ≡ point_at c (get_or places (length places - 1) 0)
+  pub here : q ≡ point_at c (get_or places 0 0)
+  pub after : r ≡ point_at c (get_or places 1 0)
+
+-- once the place is kept, the walk moves on by one
+pub held_kept : (c : List Point) (places kept : List ℕ) (p q r next : Point) → IsHeld c places p q r → 1 < length places → kept ≡ drop 1 places ++ get_or places 0 0 ∷ []
+    → next ≡ point_at c (get_or kept 1 0) → IsHeld c kept q r next
+held_kept c places kept p q r next held many e read =
+    let size = length-drop 1 places in
+    let last : length (drop 1 places) ≡ length kept - 1 = omega (arith, size, ap length e, length-append (drop 1 places) (get_or places 0 0 ∷ []), many) in
+    let ends : get_or kept (length kept - 1) 0 ≡ get_or places 0 0 = ap (λ l. get_or l (length kept - 1) 0) e ∙ get_or_push (drop 1 places) (get_or places 0 0) 0 (length kept - 1) last in
+    let begins : get_or kept 0 0 ≡ get_or places 1 0 = ap (λ l. get_or l 0 0) e ∙ get_or_append_left (drop 1 places) (get_or places 0 0 ∷ []) 0 0 (omega (arith, size, many)) ∙ get_or-drop 1 places 0 0 in
+    record {
+      before = held.here ∙ ap (point_at c) (sym ends);
+      here = held.after ∙ ap (point_at c) (sym begins);
+      after = read;
+    }
+
+-- once it is removed, the walk moves back by one
+pub held_removed : (c : List Point) (places kept : List ℕ) (p q r next : Point) → IsHeld c places p q r → 3 < length places
+    → kept ≡ get_or places (length places - 1) 0 ∷ drop 1 (take (length places - 1) places) → next ≡ point_at c (get_or kept (length kept - 1) 0) → IsHeld c kept next p r
+held_removed c places kept p q r next held more e read =
+    let begins : get_or kept 0 0 ≡ get_or places (length places - 1) 0 = ap (λ l. get_or l 0 0) e in
+    let follows : get_or kept 1 0 ≡ get_or places 1 0 = ap (λ l. get_or l 1 0) e ∙ get_or-drop 1 (take (length places - 1) places) 0 0 ∙ get_or-take (length places - 1) places 1 0 (omega (arith, more)) in
+    record {
+      before = read;
+      here = held.before ∙ ap (point_at c) (sym begins);
+      after = held.after ∙ ap (point_at c) (sym follows);
+    }

@@ -1,4 +1,4 @@
--- Places of a list that rise, and the items that stand at them.
+-- Places of a list that rise, and the items at them.
 use Rattle.std.proofs.Common.{◌≡◌, ◌∙◌, ◌+◌, ◌<◌, ℕ, zero, suc, List, [], ◌∷◌, ◌++◌, map, take, drop, length, get_or, slice_get, Option, Some, None, inl, inr, refl, sym, ap, subst, arith, Bor, IfSome}
 use Rattle.std.specs.List.{All, range_with_len}
 use Rattle.std.proofs.lemmas.List.Elements.{All-head, All-tail, All-cons}
@@ -92,7 +92,7 @@ there_at [] k h = absurd (omega arith)
 there_at (a ∷ c) zero h = refl
 there_at (a ∷ c) (suc k) h = there_at c k (omega arith)
 
--- the items that stand at places that rise are a sublist
+-- the items at places that rise are a sublist
 pub picked_at : {A : Type 0} (c items : List A) (places : List ℕ) → RisingPlaces (length c) places → map (λ a. Some a) items ≡ map (slice_get c) places → Sublist c items
 picked_at c items places rising at =
     let whole : there c ≡ map (slice_get c) (range_with_len 0 (length c)) =

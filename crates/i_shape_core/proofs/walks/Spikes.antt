@@ -18,7 +18,7 @@ use Rattle.i_shape_core.proofs.removal.Dedup.{IsApart, AllApart, changes_apart, 
 use Rattle.i_shape_core.proofs.plane.Back.{back_cases, there_and_back, back_from_cases}
 use Rattle.i_shape_core.proofs.plane.Contours.{safe-at}
 
--- what is told a reversal is one
+-- what the test finds a reversal is one
 pub reversal_yes : (a b c : Point) → is_reversal a b c ≡ true → IsReversed a b c
 unfolding is_reversal
 reversal_yes a b c e = go (int_eq (cross a b c) (pos 0)) refl (int_lt (dot a b c) (pos 0)) refl e
@@ -28,7 +28,7 @@ reversal_yes a b c e = go (int_eq (cross a b c) (pos 0)) refl (int_lt (dot a b c
     go true e false f h = absurd (cc)
     go false e t f h = absurd (cc)
 
--- what isn't told a reversal is none
+-- what the test finds no reversal is none
 pub reversal_no : (a b c : Point) → is_reversal a b c ≡ false → IsReversed a b c → ⊥
 unfolding is_reversal
 reversal_no a b c e h =
@@ -42,7 +42,7 @@ abbrev pub last_differing : Point → Point → List Point → Point
 last_differing p o [] = o
 last_differing p o (q ∷ qs) = cond (is_same p q) (last_differing p o qs) (last_differing p q qs)
 
--- where it stands
+-- where it is
 abbrev IsLastDiffering : Point → Point → List Point → Point → Type 0
 IsLastDiffering p o c r = ((r ≡ o) × AllSame p c) ⊎ ((u : List Point) × (v : List Point) × (c ≡ u ++ r ∷ v) × AllSame p v × (r ≢ p))
 
@@ -60,7 +60,8 @@ all_same : (c : List Point) → AllSame (last_of origin c) c → length (dedup c
 unfolding dedup
 all_same c a = ap length (none_change (last_of origin c) c a)
 
--- a point that differs from the last, and behind which there are only repeats of the last, is the last but one without repeats
+-- a point that differs from the last, and behind which there are only repeats of the last, is the last but one without
+-- repeats
 last_two : (d u v : List Point) (r : Point) → d ≡ u ++ r ∷ v → AllSame (last_of origin d) v → r ≢ last_of origin d
     → (2 ≤ length (dedup d)) × (r ≡ point_at (dedup d) (length (dedup d) - 2))
 last_two d u [] r e a n = absurd (n (sym (ap (last_of origin) e ∙ last_of_append origin u (r ∷ []))))
@@ -83,7 +84,7 @@ first_behind c = last_differing (last_of origin c) (last_of origin c) c
 abbrev pub Told : Test → List Point → Type 0 → Point → Point → List Point → Type 0
 Told P c S o p rest = Met P (first_behind c) (last_of origin c) c ↔ (S ⊎ Met P o p rest)
 
--- before the first point nothing is told
+-- before the first point nothing is known
 pub told-start : (P : Test) (c : List Point) (S : Type 0) → (S → ⊥) → Told P c S (first_behind c) (last_of origin c) c
 told-start P c S n = (λ m. inr m, λ x. elim x [ inl s ↦ absurd (n s) | inr m ↦ m ])
 
@@ -144,7 +145,8 @@ three_left c o h none = go (changes_after p c) h (changes_apart p c) (changes_la
     go (x ∷ y ∷ []) h a e none = absurd (none (inr (inl (subst (λ (z : Point). IsReversed p x z) (sym e) (back_reversed p x a.0)))))
     go (x ∷ y ∷ z ∷ d) h a e none = omega arith
 
--- ---- the walk over a contour of which not all points are the same: the edge e leads to p, no turn so far reverses, and the rest is still to come
+-- ---- the walk over a contour of which not all points are the same: the edge e leads to p, no turn so far reverses,
+-- and the rest is still to come
 pub record Walking (c : List Point) (e p : Point) (rest : List Point) : Type 0 where
   pub from : Point
   pub edge : e ≡ vector from p
@@ -155,7 +157,7 @@ pub record Walking (c : List Point) (e p : Point) (rest : List Point) : Type 0 w
 pub walking_skip : (c : List Point) (e p q : Point) (rest : List Point) → is_same p q ≡ true → Walking c e p (q ∷ rest) → Walking c e q rest
 walking_skip c e p q rest f w = subst (λ (r : Point). Walking c e r rest) (same_yes p q f) (record { from = w.from; edge = w.edge; differ = w.differ; met = told-skip IsReversed c ⊥ w.from p q rest f w.met })
 
--- a test of two edges tells whether the way over three points reverses
+-- a test of two edges decides whether the way over three points reverses
 reverses : (e v o p q : Point) (b : Bool) → e ≡ vector o p → v ≡ vector p q → IsTrue b ↔ (cross_of e v ≡ pos 0) × (dot_of e v <ℤ pos 0) → IsTrue b ↔ IsReversed o p q
 unfolding cross dot
 reverses e v o p q b f g t = rw (f, g) at t
@@ -267,7 +269,7 @@ few_differ {I} value cs last h e f three =
     same o = ap (λ (p : Point). last_differing p o (contour_of value cs)) (sym (last_point value cs last h e))
         ∙ (differing-found value last o cs ∙ ap (λ (r : Option (IntPoint I)). unwrap_or (option_map (point_of value) r) o) (sym f))
 
--- so there are spikes
+-- where no point differs from the last, there are spikes
 pub none_differs : {I : Type 0} (value : I → ℤ) (cs : List (IntPoint I)) (last : IntPoint I) → 0 < length cs → last ≡ get_or cs (length cs - 1) last
     → None ≡ found_differing value last cs → IsTrue false ↔ NoSpikes (contour_of value cs)
 none_differs value cs last h e f = (λ t. absurd (cc), λ s. absurd (few_differ value cs last h e f s.enough))

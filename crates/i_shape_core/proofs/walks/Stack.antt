@@ -209,7 +209,7 @@ module _ (P : Point → Point → Point → Type 0) where
           rising = rising_rest (length c) 1 S s.rising;
         })
 
-    -- and the last, between the one before it and the first
+    -- at the end of the first part: the last, between the one before it and the first
     pub drop-last : (S T : List ℕ) (m : ℕ) → IsStacked P c S (length c) → length S ≡ m + 3
         → P (stacked_point c S (m + 1)) (stacked_point c S (m + 2)) (stacked_point c S 0) → T ≡ take (m + 2) S → IsStacked P c T (length c)
     drop-last S T m s long holds e =

@@ -1,4 +1,4 @@
--- The steps of the walk, as the code tells them: from reads of the stack and answers of tests.
+-- The steps of the walk, as the code takes them: from reads of the stack and results of tests.
 use Rattle.std.proofs.Common.{◌≡◌, ◌↔◌, Bool, true, false, IsTrue, ℕ, ◌+◌, ◌-◌, ◌<◌, ◌≤◌, ℤ, List, [], ◌∷◌, ◌++◌, map, take, drop, length, get_or, refl, ap, subst, sym, ◌∙◌, arith}
 use Rattle.std.proofs.lemmas.List.{get_or_read}
 use Rattle.i_shape_core.proofs.Common.{IsZeroTurn, contour_of, point_at, End, IsStacked, IsSettled, stacked_point, IntPoint}

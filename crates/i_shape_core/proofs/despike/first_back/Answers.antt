@@ -5,7 +5,8 @@ use Rattle.i_shape_core.proofs.removal.Places.{Follows}
 use Rattle.i_shape_core.proofs.lists.FirstPlaces.{removable_between, none_on}
 use Rattle.i_shape_core.proofs.despike.first_back.Goals as goal
 
--- the neighbours of the first place, of one between the ends, and of the last, where m points are read as n and s is their number
+-- the neighbours of the first place, of one between the ends, and of the last, where m points are read as n and s is
+-- their number
 at_first : (n m s : ℕ) → n ≡ m → 3 ≤ m → s ≡ m → (3 ≤ n) × (s - 1 < n) × (0 < n) × Follows n (s - 1) 0 × Follows n 0 1
 at_first n m s e enough d = (omega arith, omega arith, omega arith, inr (omega arith, refl), inl (omega arith, refl))
 

@@ -1,10 +1,21 @@
-use Rattle.std.proofs.Common.{rules, ◌≡◌, ◌<◌, ◌+◌, ◌-◌, ◌∙◌, length, arith, sym, refl, ap, true, false, pos, FitsSigned, w64, get_or}
+use Rattle.std.proofs.Common.{rules, not, ◌≡◌, ◌<◌, ◌+◌, ◌-◌, ◌∙◌, ℤ, Bool, Option, Some, cond, int_lt, Ordering, Less, Equal, Greater, length, arith, sym, refl, ap, true, false, pos, FitsSigned, w64, get_or}
+use Rattle.std.specs.Ordering.{int_cmp, is_le, is_some_and}
+use Rattle.std.proofs.lemmas.Int.{ints}
 use Rattle.i_shape_core.proofs.Common.{point_of, Point, is_above, point_at, winding_of_edge}
 use Rattle.i_shape_core.specs.Heights.{asked_points}
-use Rattle.i_shape_core.proofs.arithmetic.Comparisons.{gt-tells}
 use Rattle.i_shape_core.proofs.plane.CrossProducts.{edge}
 use Rattle.i_shape_core.proofs.measure.Heights.{asked-length, asked-read, asked-safe, lowered, written, still_fit, fall-first, fall-above, fall-done, fall-left, fall-below, fallen}
 use Rattle.i_shape_core.proofs.heights.fall.Goals as goal
+
+at-most-cases : (x y : ℤ) (s t : Bool) → int_lt x y ≡ s → int_lt y x ≡ t → t ≡ not (is_le (cond s Less (cond t Greater Equal)))
+at-most-cases x y true true e f = absurd (omega (arith, ints))
+at-most-cases x y true false e f = refl
+at-most-cases x y false true e f = refl
+at-most-cases x y false false e f = refl
+
+-- a `<=` of two numbers is false exactly where the second is less
+at-most-tells : (b : Bool) (p : Option Ordering) (x y : ℤ) → b ≡ is_some_and is_le p → p ≡ Some (int_cmp x y) → int_lt y x ≡ not b
+at-most-tells b p x y e f = at-most-cases x y (int_lt x y) (int_lt y x) refl refl ∙ ap not (sym (e ∙ ap (is_some_and is_le) f))
 
 pub loop-place-init : goal.loop-place-init
 loop-place-init g c =
@@ -50,8 +61,8 @@ turn_of_fall-turn-requires-clause-ends g c =
     let inside = c.loop-place.invariant.within in
     let within : i < length qs = omega (arith, inside, some) in
     let d = c.index-asked-place.result in
-    let told = gt-tells _ _ (value c.args.end.y) (value (get_or qs i d).point.y) c.gt.ensures (g.met.I.IntNumber.partial_order _ _) in
-    ap (λ (p : Point). is_above p (point_of value c.args.end)) (sym (asked-read value qs i c.index-asked-place-in-loop-place.result within) ∙ asked-read value qs i d within) ∙ sym told ∙ c.if-not-gt.true
+    let told = at-most-tells _ _ (value c.args.end.y) (value (get_or qs i d).point.y) c.le.ensures (g.met.I.IntNumber.partial_order _ _) in
+    ap (λ (p : Point). is_above p (point_of value c.args.end)) (sym (asked-read value qs i c.index-asked-place-in-loop-place.result within) ∙ asked-read value qs i d within) ∙ told ∙ ap not c.if-le.true
 
 pub loop-place-preserved : goal.loop-place-preserved
 loop-place-preserved g c =
@@ -72,8 +83,8 @@ loop-place-preserved g c =
     let d = c.index-asked-place.result in
     let read = asked-read value qs i d within in
     let read-again = asked-read value qs i c.index-asked-place-in-loop-place.result within in
-    let told = gt-tells _ _ (value c.args.end.y) (value (get_or qs i d).point.y) c.gt.ensures (g.met.I.IntNumber.partial_order _ _) in
-    let one : is_above (point_at ps i) b ≡ false = ap (λ (p : Point). is_above p b) read ∙ sym told ∙ c.if-not-gt.true in
+    let told = at-most-tells _ _ (value c.args.end.y) (value (get_or qs i d).point.y) c.le.ensures (g.met.I.IntNumber.partial_order _ _) in
+    let one : is_above (point_at ps i) b ≡ false = ap (λ (p : Point). is_above p b) read ∙ told ∙ ap not c.if-le.true in
     let f = λ (p : Point). winding_of_edge p (edge a b) in
     let added : c.turn_of_fall-turn.result ≡ f (point_at ps i) = c.turn_of_fall-turn.ensures ∙ ap f (sym read-again) in
     let fits : FitsSigned w64 c.plus.result = record { sfits = c.plus.type_inv } in
@@ -89,8 +100,8 @@ loop-place-preserved g c =
       left = fall-left c.args.totals.now c.loop-place.totals k i _ next known.left;
     }
 
-pub returns-else-not-gt : goal.returns-else-not-gt
-returns-else-not-gt g c =
+pub returns-else-le : goal.returns-else-le
+returns-else-le g c =
     let value = g.I.IntNumber.value in
     let qs = c.args.asked.now in
     let ps = asked_points value qs in
@@ -104,8 +115,8 @@ returns-else-not-gt g c =
     let many = asked-length value qs in
     let d = c.index-asked-place.result in
     let read = asked-read value qs (k - 1) d within in
-    let told = gt-tells _ _ (value c.args.end.y) (value (get_or qs (k - 1) d).point.y) c.gt.ensures (g.met.I.IntNumber.partial_order _ _) in
-    let one : is_above (point_at ps (k - 1)) b ≡ true = ap (λ (p : Point). is_above p b) read ∙ sym told ∙ c.if-not-gt.false in
+    let told = at-most-tells _ _ (value c.args.end.y) (value (get_or qs (k - 1) d).point.y) c.le.ensures (g.met.I.IntNumber.partial_order _ _) in
+    let one : is_above (point_at ps (k - 1)) b ≡ true = ap (λ (p : Point). is_above p b) read ∙ told ∙ ap not c.if-le.false in
     let below = fall-below ps b k (omega (arith, inside, many)) c.requires.rising (λ _. one) in
     record {
       here = record { within = omega (arith, inside, many); below = below; above = known.above };

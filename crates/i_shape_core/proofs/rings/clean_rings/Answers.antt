@@ -1,5 +1,5 @@
 use Rattle.std.proofs.Common.{arith, ◌≡◌, ◌+◌, ◌<◌, ◌≤◌, ◌-◌, ◌∙◌, length, length-set}
-use Rattle.i_shape_core.specs.IntPoint.{contour_of}
+use Rattle.i_shape_core.specs.Reading.{read}
 use Rattle.i_shape_core.specs.Rings.{offset, Leaves}
 use Rattle.i_shape_core.proofs.lists.Rings.{back_more, rises_to, same_further, done_more, all_done}
 use Rattle.i_shape_core.proofs.rings.clean_rings.Goals as goal
@@ -42,13 +42,13 @@ loop-place-preserved g c =
       offsets = length-set c.loop-place.out_offsets c.loop-place.place end ∙ c.loop-place.invariant.offsets;
       points_rest = clean.after ∙ same_further c.loop-place.out c.args.out.now c.loop-place.written end clean.above c.loop-place.invariant.points_rest;
       offsets_rest = back_more c.loop-place.out_offsets c.args.out_offsets.now c.loop-place.place _ end (omega arith) c.loop-place.invariant.offsets_rest;
-      done = done_more (Leaves g.C.ContourCleaner.answers g.C.ContourCleaner.keeps (g.C.ContourCleaner.picks g.row.P.Denot) g.P.Coordinate.IntNumber.width (λ list. contour_of g.P.Coordinate.IntNumber.value (g.P.ContourPoint.points list))) c.args.points.now c.args.offsets.now c.loop-place.out c.clean_at-written.new.out c.loop-place.out_offsets
+      done = done_more (Leaves g.C.ContourCleaner.answers g.C.ContourCleaner.keeps (g.C.ContourCleaner.picks g.row.P.Denot) g.P.Coordinate.IntNumber.width (read g.P.Coordinate.IntNumber.value g.P.ContourPoint.points)) c.args.points.now c.args.offsets.now c.loop-place.out c.clean_at-written.new.out c.loop-place.out_offsets
           c.loop-place.place c.loop-place.written end done room clean.above under clean.before (rw (c.part-ring.ensures.part) at clean.left);
       keeps_room = λ n had. clean.keeps_room n (c.loop-place.invariant.keeps_room n had);
     }
 
 pub returns-clause-cleaned : goal.returns-clause-cleaned
 returns-clause-cleaned g c =
-    all_done (Leaves g.C.ContourCleaner.answers g.C.ContourCleaner.keeps (g.C.ContourCleaner.picks g.row.P.Denot) g.P.Coordinate.IntNumber.width (λ list. contour_of g.P.Coordinate.IntNumber.value (g.P.ContourPoint.points list))) c.args.points.now c.args.offsets.now c.args.out.now c.loop-place.out c.args.out_offsets.now c.loop-place.out_offsets
+    all_done (Leaves g.C.ContourCleaner.answers g.C.ContourCleaner.keeps (g.C.ContourCleaner.picks g.row.P.Denot) g.P.Coordinate.IntNumber.width (read g.P.Coordinate.IntNumber.value g.P.ContourPoint.points)) c.args.points.now c.args.offsets.now c.args.out.now c.loop-place.out c.args.out_offsets.now c.loop-place.out_offsets
     c.loop-place.place c.loop-place.written c.loop-place-test.false (c.loop-place.auto.place-end (omega (arith, c.requires.parted.some))) c.requires.parted.last c.loop-place.invariant.done
     c.loop-place.invariant.points_rest c.loop-place.invariant.offsets_rest

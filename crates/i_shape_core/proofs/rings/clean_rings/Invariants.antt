@@ -1,5 +1,5 @@
 use Rattle.std.proofs.Common.{◌≡◌, ℕ, length, drop}
-use Rattle.i_shape_core.specs.IntPoint.{contour_of}
+use Rattle.i_shape_core.specs.Reading.{read}
 use Rattle.i_shape_core.specs.Rings.{Leaves}
 use Rattle.i_shape_core.proofs.lists.Rings.{Done}
 use Rattle.i_shape_core.proofs.rings.clean_rings.Given as goal
@@ -10,6 +10,6 @@ invariant-loop-place g l = record {
   offsets : length l.out_offsets ≡ length l.fn.out_offsets;
   points_rest : drop l.written l.out ≡ drop l.written l.fn.out;
   offsets_rest : drop l.place l.out_offsets ≡ drop l.place l.fn.out_offsets;
-  done : Done (Leaves g.C.ContourCleaner.answers g.C.ContourCleaner.keeps (g.C.ContourCleaner.picks g.row.P.Denot) g.P.Coordinate.IntNumber.width (λ list. contour_of g.P.Coordinate.IntNumber.value (g.P.ContourPoint.points list))) l.points l.offsets l.out l.out_offsets l.place l.written;
+  done : Done (Leaves g.C.ContourCleaner.answers g.C.ContourCleaner.keeps (g.C.ContourCleaner.picks g.row.P.Denot) g.P.Coordinate.IntNumber.width (read g.P.Coordinate.IntNumber.value g.P.ContourPoint.points)) l.points l.offsets l.out l.out_offsets l.place l.written;
   keeps_room : (n : ℕ) → g.C.ContourCleaner.has_room l.initial.cleaner n → g.C.ContourCleaner.has_room l.cleaner n;
 }

@@ -1,5 +1,5 @@
-use Rattle.std.proofs.Common.{◌≡◌, ◌+◌, ◌-◌, ◌<◌, List, sym, subst, length, arith}
-use Rattle.i_shape_core.specs.IntPoint.{contour_of}
+use Rattle.std.proofs.Common.{◌≡◌, ◌+◌, ◌-◌, ◌<◌, sym, subst, length, arith}
+use Rattle.i_shape_core.specs.Reading.{read}
 use Rattle.i_shape_core.specs.Rings.{nth_ring, LongestUncleanRing}
 use Rattle.i_shape_core.proofs.lists.Rings.{rises_to, clean_more, unclean_more}
 use Rattle.i_shape_core.proofs.walks.StackReads.{fails_by_test}
@@ -18,7 +18,7 @@ is_clean-requires g c =
 
 pub loop-place-preserved : goal.loop-place-preserved
 loop-place-preserved g c =
-    let read = λ (list : List g.row.P.Denot). contour_of g.P.Coordinate.IntNumber.value (g.P.ContourPoint.points list) in
+    let reading = read g.P.Coordinate.IntNumber.value g.P.ContourPoint.points in
     let IsClean = g.C.ContourCleaner.clean in
     let place = c.loop-place.place in
     let some : 0 < place = omega arith in
@@ -26,13 +26,12 @@ loop-place-preserved g c =
     let ring : nth_ring c.args.points.now c.args.offsets.now (place - 1) ≡ c.part-ring.result.now = rw next (sym c.part-ring.ensures.part) in
     elim c.if-not-is_clean.branch [
       | then-not-is_clean w ↦ (
-          let more = unclean_more IsClean read c.args.points.now c.args.offsets.now place c.loop-place.longest some c.loop-place.invariant (rw ring (fails_by_test c.is_clean.result c.is_clean.ensures w.if-not-is_clean.true)) in
+          let more = unclean_more IsClean reading c.args.points.now c.args.offsets.now place c.loop-place.longest some c.loop-place.invariant (rw ring (fails_by_test c.is_clean.result c.is_clean.ensures w.if-not-is_clean.true)) in
           rw (w.longest-is, w.max.ensures, w.unwrap_or.ensures) (rw ring at more))
-      | else-not-is_clean w ↦ rw w.longest-is (clean_more IsClean read c.args.points.now c.args.offsets.now place c.loop-place.longest some c.loop-place.invariant (rw ring (c.is_clean.ensures.0 w.if-not-is_clean.false)))
+      | else-not-is_clean w ↦ rw w.longest-is (clean_more IsClean reading c.args.points.now c.args.offsets.now place c.loop-place.longest some c.loop-place.invariant (rw ring (c.is_clean.ensures.0 w.if-not-is_clean.false)))
     ]
 
 pub returns : goal.returns
 returns g c =
-    let read = λ (list : List g.row.P.Denot). contour_of g.P.Coordinate.IntNumber.value (g.P.ContourPoint.points list) in
     let end : c.loop-place.place ≡ length c.args.offsets.now = omega (arith, c.loop-place-test.false, c.loop-place.auto.place-end (omega (arith, c.requires.parted.some))) in
-    subst (λ n. LongestUncleanRing g.C.ContourCleaner.clean read c.args.points.now c.args.offsets.now n c.loop-place.longest) end c.loop-place.invariant
+    subst (λ n. LongestUncleanRing g.C.ContourCleaner.clean (read g.P.Coordinate.IntNumber.value g.P.ContourPoint.points) c.args.points.now c.args.offsets.now n c.loop-place.longest) end c.loop-place.invariant

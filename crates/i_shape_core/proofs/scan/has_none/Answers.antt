@@ -49,7 +49,7 @@ returns-then-is_at-3 g c =
     (inl (omega (arith, all, c.loop-place-test.true), omega arith)) (c.is_at-in-loop-place.ensures.0 c.if-is_at-3.true)
 
 pub loop-place-init : goal.loop-place-init
-loop-place-init g c = λ k less here. c.count_turning-place.ensures.turning k less (g.met.T.TurnTest.weaker _ _ _ here)
+loop-place-init g c = λ k less here. c.count_turning-place.ensures.turning k (omega arith) less (g.met.T.TurnTest.weaker _ _ _ here)
 
 pub loop-place-preserved : goal.loop-place-preserved
 loop-place-preserved g c =

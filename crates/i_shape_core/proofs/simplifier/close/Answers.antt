@@ -9,8 +9,8 @@ pub loop-left-init : goal.loop-left-init
 loop-left-init g c = record {
   contour = refl;
   stacked = c.requires.walked.stacked;
-  short = omega arith;
-  most = omega (arith, c.requires.walked.short, c.requires.walked.most);
+  fewer = omega arith;
+  most = omega (arith, c.requires.walked.fewer, c.requires.walked.most);
   least = omega (arith, c.requires.walked.least);
 }
 
@@ -39,7 +39,7 @@ loop-left-preserved-then-is_zero_at g c =
       contour = c.is_zero_at.ensures.contour ∙ inv.contour;
       stacked = first-read g.P.Coordinate.IntNumber.value _ _ inv.contour c.loop-left.left.now c.without_first-left.result.now (length c.loop-left.left.now - 1)
           c.is_zero_at.result inv.stacked (omega arith) (omega arith) c.is_zero_at.ensures.test c.if-is_zero_at.true rest;
-      short = omega (arith, inv.short);
+      fewer = omega (arith, inv.fewer);
       most = omega (arith, inv.most, c.is_zero_at.ensures.visits);
       least = omega (arith, inv.least, c.is_zero_at.ensures.visits);
     }
@@ -70,7 +70,7 @@ loop-left-preserved g c =
       stacked = last-read g.P.Coordinate.IntNumber.value _ _ (c.is_zero_at.ensures.contour ∙ inv.contour) c.loop-left.left.now c.without_last-left.result.now
           (length c.loop-left.left.now - 1 - 1) (length c.loop-left.left.now - 1) c.is_zero_at-else-is_zero_at.result inv.stacked
           (omega arith) (omega arith) (omega arith) c.is_zero_at-else-is_zero_at.ensures.test c.if-is_zero_at-2.true rest;
-      short = omega (arith, inv.short, shorter);
+      fewer = omega (arith, inv.fewer, shorter);
       most = omega (arith, inv.most, c.is_zero_at.ensures.visits, c.is_zero_at-else-is_zero_at.ensures.visits, shorter);
       least = omega (arith, inv.least, c.is_zero_at.ensures.visits, c.is_zero_at-else-is_zero_at.ensures.visits);
     }

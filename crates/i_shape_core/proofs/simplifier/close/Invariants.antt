@@ -8,7 +8,7 @@ invariant-loop-left g l =
     record {
       contour : l.probe.contour ≡ l.initial.probe.contour;
       stacked : IsStacked IsZeroTurn c l.left (length c);
-      short : length l.left ≤ length l.stack;
+      fewer : length l.left ≤ length l.stack;
       most : l.probe.visits + 2 * length l.left ≤ 3 * length c;
       least : length c ≤ l.probe.visits + 2;
     }

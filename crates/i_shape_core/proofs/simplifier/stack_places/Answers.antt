@@ -26,7 +26,7 @@ loop-place-preserved g c =
       walked = record {
         stacked = push-read g.P.Coordinate.IntNumber.value _ _ c.loop-place.invariant.contour _ _ c.loop-place.place popped.stacked
             (omega (arith, ap length c.loop-place.invariant.contour, c.len-place-end.ensures)) popped.settled c.push_reserved.ensures.items;
-        short = omega (arith, popped.short);
+        fewer = omega (arith, popped.fewer);
         most = omega (arith, popped.most);
         least = omega (arith, popped.least);
       };

@@ -1,6 +1,7 @@
 use Rattle.std.proofs.Common.{◌≡◌, ◌∙◌, List, reverse, refl, ap, sym, subst}
 use Rattle.std.proofs.lemmas.List.{reverse-reverse}
 use Rattle.i_shape_core.proofs.Common.{Point, contour_of, IsAtMost, IsLeast, started_at}
+use Rattle.i_shape_core.specs.Reading.{read}
 use Rattle.i_shape_core.proofs.plane.PointLists.{points-rotated, points-reversed}
 use Rattle.i_shape_core.proofs.least_rotation.Readings.{contour-rotated}
 use Rattle.i_shape_core.proofs.forms.Backwards.{contour_reversed}
@@ -31,4 +32,4 @@ returns-else-comes_before_reversed-clause-lesser g c =
     let same : c.reverse-else-comes_before_reversed.new.self ≡ c.args.contour.now =
     c.reverse-else-comes_before_reversed.ensures.after ∙ ap reverse c.reverse.ensures.after ∙ reverse-reverse c.args.contour.now in
     lesser_left (contour_of value (points c.args.contour.now)) reversed (started_at reversed c.least_start-start.result) (contour_of value (points c.reverse-else-comes_before_reversed.new.self)) back
-    c.least_start-start.ensures.least (c.if-comes_before_reversed.ensures.not_before refl) (ap (λ list. contour_of value (points list)) same)
+    c.least_start-start.ensures.least (c.if-comes_before_reversed.ensures.not_before refl) (ap (read value points) same)

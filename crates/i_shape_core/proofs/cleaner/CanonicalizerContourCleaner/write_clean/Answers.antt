@@ -1,5 +1,6 @@
-use Rattle.std.proofs.Common.{List, ◌≤◌, length, Some, arith, length-take-le}
+use Rattle.std.proofs.Common.{◌≤◌, length, Some, arith, length-take-le}
 use Rattle.i_shape_core.proofs.Common.{contour_of, SimpleAnswer, KeptAnswer}
+use Rattle.i_shape_core.specs.Reading.{read}
 use Rattle.i_shape_core.proofs.plane.PointLists.{read-length}
 use Rattle.i_shape_core.proofs.walks.Found.{simple_stays}
 use Rattle.i_shape_core.proofs.answers.Kept.{simple_kept}
@@ -15,7 +16,7 @@ pub returns-clause-written : goal.returns-clause-written
 returns-clause-written g c =
     let counts = read-length g.P.Coordinate.IntNumber.value g.P.ContourPoint.point g.P.ContourPoint.points g.P.ContourPoint.each in
     let given = contour_of g.P.Coordinate.IntNumber.value (g.P.ContourPoint.points c.args.contour.now) in
-    let whole = whole_written g.P.Coordinate.IntNumber.width (λ (list : List g.row.P.Denot). contour_of g.P.Coordinate.IntNumber.value (g.P.ContourPoint.points list)) SimpleAnswer KeptAnswer c.args.contour.now c.args.out.now c.write_whole-count.new.out c.write_whole-count.result c.write_whole-count.ensures.count c.write_whole-count.ensures.items
+    let whole = whole_written g.P.Coordinate.IntNumber.width (read g.P.Coordinate.IntNumber.value g.P.ContourPoint.points) SimpleAnswer KeptAnswer c.args.contour.now c.args.out.now c.write_whole-count.new.out c.write_whole-count.result c.write_whole-count.ensures.count c.write_whole-count.ensures.items
     c.write_whole-count.ensures.rest (omega (arith, c.requires.clean.enough)) (simple_stays given c.requires.clean) (simple_kept given (Some given) (simple_stays given c.requires.clean)) c.requires.points_safe in
     canonical_written g.P.Coordinate.IntNumber.width _ counts c.args.contour.now c.args.out.now c.write_whole-count.new.out c.rotate_to_least.new.contour c.write_whole-count.result
     (omega (arith, counts c.args.contour.now, c.requires.clean.enough, c.write_whole-count.ensures.count)) (omega (arith, c.write_whole-count.ensures.count, c.requires.room, c.write_whole-count.ensures.len))

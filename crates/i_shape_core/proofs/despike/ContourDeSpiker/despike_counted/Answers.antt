@@ -24,7 +24,7 @@ pub returns-then-contour-lt3-clause-visits : goal.returns-then-contour-lt3-claus
 returns-then-contour-lt3-clause-visits g c =
     record { least = omega (arith, length-contour g.I.IntNumber.value c.args.contour.now, c.if-contour-lt3.true); most = omega arith }
 
--- what is answered where no point is removed
+-- the result if no point is removed
 whole : (g : Over) (c : After-keep_whole g) → IfOk c.keep_whole.result (λ r. WalkAnswer IsBack (contour_of g.I.IntNumber.value c.args.contour.now) (answered (contour_of g.I.IntNumber.value) r.0) r.1)
 whole g c =
     let points = contour_of g.I.IntNumber.value c.args.contour.now in
@@ -80,27 +80,27 @@ walk-probe-requires-clause-state g c =
     rw same (starting_removes points c.ring_at-ring.result c.remove.new.self c.in-Some.place _ c.first_back-probe.result.0.visits found.0 all
     (omega (arith, long, c.if-contour-lt3.false, c.if-contour-eq3.false)) found.1 c.remove.ensures.places c.remove.ensures.untested c.remove.ensures.lead)
 
-pub returns-then-not-uncollapsed-clause-answer : goal.returns-then-not-uncollapsed-clause-answer
-returns-then-not-uncollapsed-clause-answer g c =
+pub returns-then-not-is_left-clause-answer : goal.returns-then-not-is_left-clause-answer
+returns-then-not-is_left-clause-answer g c =
     let value = g.I.IntNumber.value in
     let points = contour_of value c.args.contour.now in
     let visits = c.walk-probe.result.0.visits in
     let same : c.first_back-probe.result.0.contour ≡ c.args.contour.now = c.first_back-probe.ensures.contour ∙ c.new.ensures.contour in
-    let fallen : WalkAnswer IsBack points None visits = rw same at (c.walk-probe.ensures.falls c.if-not-uncollapsed.true) in
+    let fallen : WalkAnswer IsBack points None visits = rw same at (c.walk-probe.ensures.falls c.if-not-is_left.true) in
     walked g.I.IntNumber.width IsBack SpikelessAnswer points (λ (kept : Vec (IntPoint g.row.I.Denot)). contour_of value kept.items) None visits (spikeless_answer points None visits) (kept_spikeless points None visits) c.requires fallen
 
 pub keep_left-requires : goal.keep_left-requires
 keep_left-requires g c =
-    rw (c.walk-probe.ensures.contour, c.as_slice.ensures.value) (rising_below _ _ (c.walk-probe.ensures.rising c.if-not-uncollapsed.false))
+    rw (c.walk-probe.ensures.contour, c.as_slice.ensures.value) (rising_below _ _ (c.walk-probe.ensures.rising c.if-not-is_left.false))
 
--- what is answered is what the walk finds
+-- the result is what the walk finds
 found : (g : Over) (c : After-keep_left g) → IfOk c.keep_left.result (λ r. WalkAnswer IsBack (contour_of g.I.IntNumber.value c.args.contour.now) (answered (contour_of g.I.IntNumber.value) r.0) r.1)
 found g c =
     let points = contour_of g.I.IntNumber.value c.args.contour.now in
     let first : c.first_back-probe.result.0.contour ≡ c.args.contour.now = c.first_back-probe.ensures.contour ∙ c.new.ensures.contour in
     let same : c.walk-probe.result.0.contour ≡ c.args.contour.now = c.walk-probe.ensures.contour ∙ first in
     walk_kept IsBack points _ (λ r. r.1) c.keep_left.result _ c.walk-probe.result.0.visits (rw (same, c.as_slice.ensures.value) at c.keep_left.ensures.kept)
-    (rw first at (c.walk-probe.ensures.uncollapsed c.if-not-uncollapsed.false))
+    (rw first at (c.walk-probe.ensures.left c.if-not-is_left.false))
 
 pub returns-clause-answer : goal.returns-clause-answer
 returns-clause-answer g c =
@@ -133,8 +133,8 @@ returns-then-contour-eq3-clause-clean_visits g c =
     let found = rw (c.in-Some.is, c.new.ensures.contour) at c.first_back-probe.ensures.answer in
     λ clean. absurd (clean.ended.none_left c.in-Some.place found.0.here)
 
-pub returns-then-not-uncollapsed-clause-clean_visits : goal.returns-then-not-uncollapsed-clause-clean_visits
-returns-then-not-uncollapsed-clause-clean_visits g c =
+pub returns-then-not-is_left-clause-clean_visits : goal.returns-then-not-is_left-clause-clean_visits
+returns-then-not-is_left-clause-clean_visits g c =
     let found = rw (c.in-Some.is, c.new.ensures.contour) at c.first_back-probe.ensures.answer in
     λ clean. absurd (clean.ended.none_left c.in-Some.place found.0.here)
 

@@ -25,25 +25,25 @@ walk-probe-requires-clause-state g c =
     let long : length whole ≡ length c.args.contour.now = read-length g.P.Coordinate.IntNumber.value g.P.ContourPoint.point g.P.ContourPoint.points g.P.ContourPoint.each c.args.contour.now in
     rw (c.new.ensures.contour, c.new.ensures.visits) (first_state whole c.ring_at-ring.result _ (omega (arith, long, c.if-contour-lt4.false)) (rw (← long) at c.ring_at-ring.ensures))
 
-pub returns-then-not-uncollapsed-clause-written : goal.returns-then-not-uncollapsed-clause-written
-returns-then-not-uncollapsed-clause-written g c =
+pub returns-then-not-is_left-clause-written : goal.returns-then-not-is_left-clause-written
+returns-then-not-is_left-clause-written g c =
     let counts = read-length g.P.Coordinate.IntNumber.value g.P.ContourPoint.point g.P.ContourPoint.points g.P.ContourPoint.each in
     let whole = contour_of g.P.Coordinate.IntNumber.value (g.P.ContourPoint.points c.args.contour.now) in
     let first : c.new.result.contour ≡ g.P.ContourPoint.points c.args.contour.now = c.new.ensures.contour in
     nothing_written g.P.Coordinate.IntNumber.width _ counts c.args.contour.now c.args.out.now IsBack SpikelessAnswer (spikeless_answer whole) (kept_spikeless whole)
-    c.walk-probe.result.0.visits (rw first at (c.walk-probe.ensures.falls c.if-not-uncollapsed.true))
+    c.walk-probe.result.0.visits (rw first at (c.walk-probe.ensures.falls c.if-not-is_left.true))
 
 pub write_at-requires-clause-below : goal.write_at-requires-clause-below
 write_at-requires-clause-below g c =
     let first : c.new.result.contour ≡ g.P.ContourPoint.points c.args.contour.now = c.new.ensures.contour in
-    rising_below _ _ (rw (first, points-length g.P.ContourPoint.point g.P.ContourPoint.points g.P.ContourPoint.each c.args.contour.now, ← c.as_slice.ensures.value) at (c.walk-probe.ensures.rising c.if-not-uncollapsed.false))
+    rising_below _ _ (rw (first, points-length g.P.ContourPoint.point g.P.ContourPoint.points g.P.ContourPoint.each c.args.contour.now, ← c.as_slice.ensures.value) at (c.walk-probe.ensures.rising c.if-not-is_left.false))
 
 pub write_at-requires-clause-room : goal.write_at-requires-clause-room
 write_at-requires-clause-room g c =
     let counts = read-length g.P.Coordinate.IntNumber.value g.P.ContourPoint.point g.P.ContourPoint.points g.P.ContourPoint.each in
     let whole = contour_of g.P.Coordinate.IntNumber.value (g.P.ContourPoint.points c.args.contour.now) in
     let first : c.new.result.contour ≡ g.P.ContourPoint.points c.args.contour.now = c.new.ensures.contour in
-    let found : Finds IsBack whole (map (point_at whole) c.as_slice.result.now) c.walk-probe.result.0.visits = rw (first, ← c.as_slice.ensures.value) at (c.walk-probe.ensures.uncollapsed c.if-not-uncollapsed.false) in
+    let found : Finds IsBack whole (map (point_at whole) c.as_slice.result.now) c.walk-probe.result.0.visits = rw (first, ← c.as_slice.ensures.value) at (c.walk-probe.ensures.left c.if-not-is_left.false) in
     omega (arith, c.requires.room, reach_shrinks found.ended.reached, length-map c.as_slice.result.now (point_at whole), counts c.args.contour.now)
 
 pub returns-clause-written : goal.returns-clause-written
@@ -51,10 +51,10 @@ returns-clause-written g c =
     let counts = read-length g.P.Coordinate.IntNumber.value g.P.ContourPoint.point g.P.ContourPoint.points g.P.ContourPoint.each in
     let whole = contour_of g.P.Coordinate.IntNumber.value (g.P.ContourPoint.points c.args.contour.now) in
     let first : c.new.result.contour ≡ g.P.ContourPoint.points c.args.contour.now = c.new.ensures.contour in
-    let found : Finds IsBack whole (map (point_at whole) c.as_slice.result.now) c.walk-probe.result.0.visits = rw (first, ← c.as_slice.ensures.value) at (c.walk-probe.ensures.uncollapsed c.if-not-uncollapsed.false) in
+    let found : Finds IsBack whole (map (point_at whole) c.as_slice.result.now) c.walk-probe.result.0.visits = rw (first, ← c.as_slice.ensures.value) at (c.walk-probe.ensures.left c.if-not-is_left.false) in
     let items = c.write_at.ensures.items in
     points_written g.P.Coordinate.IntNumber.width _ counts c.args.contour.now c.args.out.now IsBack SpikelessAnswer (spikeless_answer whole) (kept_spikeless whole)
     c.write_at.new.out c.write_at.result (map (point_at whole) c.as_slice.result.now) c.walk-probe.result.0.visits c.requires.points_safe
-    (picked_at c.args.contour.now _ c.as_slice.result.now (rw (first, points-length g.P.ContourPoint.point g.P.ContourPoint.points g.P.ContourPoint.each c.args.contour.now, ← c.as_slice.ensures.value) at (c.walk-probe.ensures.rising c.if-not-uncollapsed.false)) items)
+    (picked_at c.args.contour.now _ c.as_slice.result.now (rw (first, points-length g.P.ContourPoint.point g.P.ContourPoint.points g.P.ContourPoint.each c.args.contour.now, ← c.as_slice.ensures.value) at (c.walk-probe.ensures.rising c.if-not-is_left.false)) items)
     (kept-contour g.P.Coordinate.IntNumber.value (g.P.ContourPoint.points c.args.contour.now) _ c.as_slice.result.now (points-at-places g.P.ContourPoint.point g.P.ContourPoint.points g.P.ContourPoint.each c.args.contour.now _ c.as_slice.result.now items))
     (c.write_at.ensures.count ∙ sym (length-map c.as_slice.result.now (point_at whole))) c.write_at.ensures.rest found

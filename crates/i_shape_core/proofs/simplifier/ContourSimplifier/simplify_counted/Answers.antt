@@ -12,7 +12,7 @@ use Rattle.i_shape_core.proofs.simplifier.ContourSimplifier.simplify_counted.Giv
 use Rattle.i_shape_core.proofs.simplifier.ContourSimplifier.simplify_counted.Goals.{After-keep_whole}
 use Rattle.i_shape_core.proofs.simplifier.ContourSimplifier.simplify_counted.Goals as goal
 
--- the contour that an answer stands for
+-- the contour that an answer represents
 abbrev shown : {I : Type 0} → (I → ℤ) → Option (Vec (IntPoint I)) × ℕ → Option (List Point)
 shown value r = option_map (λ kept. contour_of value kept.items) r.0
 
@@ -31,14 +31,14 @@ pub returns-then-contour-lt3-clause-visits : goal.returns-then-contour-lt3-claus
 returns-then-contour-lt3-clause-visits g c =
     record { least = omega (arith, length-contour g.I.IntNumber.value c.before.args.contour.now); most = omega arith }
 
--- what it answers, of what a walk finds
+-- the result, from what a walk finds
 told : {I E : Type 0} (width : Width) (value : I → ℤ) (contour : List (IntPoint I)) (result : Result (Option (Vec (IntPoint I)) × ℕ) E) → All (IsSafe width) (contour_of value contour) → Found value contour result
     → IfOk result (λ r. CleansInOrder SimpleAnswer width value (contour_of value contour) r.0)
 told {I} width value contour result safe found =
     IfOk-weaker result _ _ (λ r w. walked width IsZeroTurn SimpleAnswer (contour_of value contour) (λ (kept : Vec (IntPoint I)). contour_of value kept.items) r.0 r.1
     (simple_answer (contour_of value contour) (shown value r) r.1) (kept_answer (contour_of value contour) (shown value r) r.1) safe w) found
 
--- what is answered where no vertex is removed
+-- the result if no vertex is removed
 whole : (g : Over) (c : After-keep_whole g) → Found g.I.IntNumber.value c.args.contour.now c.keep_whole.result
 whole g c =
     let points = contour_of g.I.IntNumber.value c.args.contour.now in

@@ -22,7 +22,7 @@ stack_places-probe-requires-clause-start g c = record {
   rising = omega arith;
   end_within = omega arith;
   place_within = omega arith;
-  walked = record { stacked = stacked-start IsZeroTurn _ [] refl; short = omega arith; most = omega (arith, c.new.ensures.visits); least = omega arith };
+  walked = record { stacked = stacked-start IsZeroTurn _ [] refl; fewer = omega arith; most = omega (arith, c.new.ensures.visits); least = omega arith };
 }
 
 pub stack_places-probe-requires-clause-room : goal.stack_places-probe-requires-clause-room
