@@ -1,0 +1,13 @@
+pub mod Signs
+pub mod Apart
+pub mod Crossing
+pub mod Neighbours
+pub mod ContactTests
+pub mod Courses
+pub mod Orders
+pub mod BlockSteps
+pub mod ChunkSteps
+pub mod Unmet
+pub mod SameWinding
+pub mod Nesting
+pub mod Faults

@@ -1,0 +1,7 @@
+use Rattle.std.proofs.Common.{◌+◌}
+use Rattle.i_shape_core.specs.IntPoint.{contour_of}
+use Rattle.i_shape_contacts.specs.Chunks.{NoneTouch}
+use Rattle.i_shape_contacts.proofs.chunks.touches_chunk.Given as goal
+
+abbrev pub invariant-loop-rank : goal.invariant-loop-rank
+invariant-loop-rank g l = NoneTouch (g.C.Course.follows l.course) (contour_of g.P.Coordinate.IntNumber.value (g.P.ContourPoint.points l.points)) (g.O.Order.edge_at l.order) l.from l.rank l.other (l.other + 1)
