@@ -1,4 +1,4 @@
--- Parts of a list without repeated points are told by their points.
+-- Parts of a list without repeated points are determined by their points.
 use Rattle.std.proofs.Common.{◌≡◌, ◌⊎◌, List, [], ◌∷◌, ◌++◌, inl, inr, refl, sym, ap, ◌∙◌, subst, arith}
 use Rattle.i_shape_core.specs.Point.{Point}
 use Rattle.i_shape_core.specs.Contour.{Sublist, Rotation, SameEnd, collapsed, rotated}

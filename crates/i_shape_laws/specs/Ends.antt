@@ -22,6 +22,7 @@ OneCertainEnd c = Distinct c → (e f : List Point) → End IsZeroTurn c e → 3
 abbrev pub Shortest : List Point → List Point → Type 0
 Shortest c d = Joined IsZeroTurn c d → (e : List Point) → End IsZeroTurn c e → length e ≤ length d
 
--- if two contours have unoriented forms, these are equal exactly where the contours are joined, or one to the other reversed
+-- if two contours have unoriented forms, these are equal exactly where the contours are joined, or one to the other
+-- reversed
 abbrev pub UnorientedJoined : List Point → List Point → Type 0
 UnorientedJoined c d = (l m : List Point) → UnorientedAnswer c (Some l) → UnorientedAnswer d (Some m) → (l ≡ m) ↔ JoinedEitherWay c d

@@ -19,8 +19,8 @@ pub record WindingRotated (c d : List Point) : Type 0 where
   pub rotated : Rotation c d → (p : Point) → winding c p ≡ winding d p
   pub backwards : (p : Point) → winding (reverse c) p ≡ neg_ℤ (winding c p)
 
--- removals keep the winding number of the contour scaled by n about p: for n above 0 this is the one about the point with the coordinates
--- p.x / n and p.y / n
+-- removals keep the winding number of the contour scaled by n about p: for n above 0 this is the one about the point
+-- with the coordinates p.x / n and p.y / n
 abbrev pub WindingBetween : List Point → List Point → Type 0
 WindingBetween c d = Reach IsZeroTurn c d → (n : ℤ) (p : Point) → winding (moved (scaling n) c) p ≡ winding (moved (scaling n) d) p
 

@@ -1,6 +1,7 @@
-//! Laws on which no call rests: of the ends of a contour, winding numbers, fill rules, points on edges, and contours moved by an affine
-//! map. Each function takes the contours that its law names, or none if it is about all lists of points, does nothing, and has only the
-//! law as its clause. The points needn't be safe. The laws behind the contracts of the cleaners are functions of `i_shape_core::laws`.
+//! Laws on which no call rests: of the ends of a contour, winding numbers, fill rules, points on edges, and contours
+//! moved by an affine map. Each function takes the contours that its law names, or none if it is about all lists of
+//! points, does nothing, and has only the law as its clause. The points needn't be safe. The laws behind the contracts
+//! of the cleaners are functions of `i_shape_core::laws`.
 #![tactic(auto)]
 
 ghost use Rattle.std.specs.Prelude.{◌≢◌, ◌↔◌, pos, List};
@@ -18,8 +19,8 @@ ghost use Rattle.i_shape_laws.specs.Moved.{BoundaryWithin, MovedAlike, WindingMo
 use i_shape_core::number::IntNumber;
 use i_shape_core::point::IntPoint;
 
-/// In whatever order zero turns are removed: an end that hasn't collapsed is the end of each order, up to rotation. If one order
-/// collapses, each does. Each contour has an end.
+/// In whatever order zero turns are removed: an end that hasn't collapsed is the end of each order, up to rotation. If
+/// one order collapses, each does. Each contour has an end.
 pub fn every_order<I: IntNumber>(_c: &[IntPoint<I>])
     ensures { EveryOrder (contour_of I.value _c.now) }
 {}
@@ -36,8 +37,8 @@ pub fn shortest()
     ensures { (c d : List Point) → Shortest c d }
 {}
 
-/// Two contours that don't collapse have equal unoriented forms exactly where a chain as in `i_shape_core::laws::canonical_joined` joins
-/// them, or joins one to the other reversed.
+/// Two contours that don't collapse have equal unoriented forms exactly where a chain as in
+/// `i_shape_core::laws::canonical_joined` joins them, or joins one to the other reversed.
 pub fn unoriented_joined<I: IntNumber>(_c: &[IntPoint<I>], _d: &[IntPoint<I>])
     ensures { UnorientedJoined (contour_of I.value _c.now) (contour_of I.value _d.now) }
 {}
@@ -67,8 +68,8 @@ pub fn winding_between()
     ensures { (c d : List Point) → WindingBetween c d }
 {}
 
-/// If the contours of a shape keep what cleaning keeps, each fill rule fills the same points as before: even-odd, non-zero, positive and
-/// negative.
+/// If the contours of a shape keep what cleaning keeps, each fill rule fills the same points as before: even-odd,
+/// non-zero, positive and negative.
 #[tactic(auto, using(crate::proofs::Fillings::filling_kept))]
 pub fn filling_kept()
     ensures { (contours left : List (List Point)) → FillingKept contours left }
@@ -80,16 +81,16 @@ pub fn boundary_within()
     ensures { (c d : List Point) → BoundaryWithin c d }
 {}
 
-/// An affine map with integer coefficients and a determinant other than zero commutes with cleaning. Translations, reflections, quarter
-/// turns and scalings are such maps.
+/// An affine map with integer coefficients and a determinant other than zero commutes with cleaning. Translations,
+/// reflections, quarter turns and scalings are such maps.
 #[tactic(auto, using(crate::proofs::moved::Laws::moved_laws))]
 pub fn moved_alike()
     ensures { (m : Move) → determinant m ≢ pos 0 → (c : List Point) → MovedAlike m c }
 {}
 
-/// A moved contour has the same winding number about a moved point as before, if the point is off the edges and the determinant of the
-/// map is positive, as for translations, scalings, quarter turns and shears. If the determinant is negative, as for reflections, the
-/// number changes sign.
+/// A moved contour has the same winding number about a moved point as before, if the point is off the edges and the
+/// determinant of the map is positive, as for translations, scalings, quarter turns and shears. If the determinant is
+/// negative, as for reflections, the number changes sign.
 #[tactic(auto, using(crate::proofs::moved::Windings::winding_moved))]
 pub fn winding_moved()
     ensures { (m : Move) (c : List Point) (p : Point) → (IsOnEdge c p → ⊥) → WindingMoved m c p }

@@ -63,6 +63,6 @@ module _ {I : Type 0} (width : Width) (value : I → ℤ) where
       let more = map-append (contour_of value) (paths_of_shape shape.items) (paths_of_shapes shapes) in
       rw more (All-append (All (IsSafe width)) (map (contour_of value) (paths_of_shape shape.items)) (map (contour_of value) (paths_of_shapes shapes)) first rest)
 
-  -- and those of a list of shapes where the list is
+  -- the paths of a list of shapes are safe where the list is
   pub safe_list : (shapes : List (Vec (Vec (IntPoint I)))) → AreSafePaths width value (paths_of_shapes shapes) ↔ IsSafeList width (shapes_of value shapes)
   safe_list shapes = (to_list shapes, from_list shapes)

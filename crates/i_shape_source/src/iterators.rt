@@ -1,4 +1,4 @@
-//! Iterators over nested lists of points. Contracts see each as the list of the paths that are left.
+//! Iterators over nested lists of points. Each has a list of paths, and lends those that are left, in order.
 ghost use Rattle.std.specs.Prelude.{◌≡◌, [], ◌∷◌, length, map};
 ghost use Rattle.std.specs.Iterator.{at_most};
 ghost use Rattle.std.specs.Map.Iter.{TakesFirst, deref};

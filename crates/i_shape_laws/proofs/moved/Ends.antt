@@ -32,7 +32,7 @@ module _ (f : Point → Point) where
       let rest = reach_back returns (remove c s.place) r (s.left ∙ ap (λ (l : List Point). remove l s.place) h ∙ sym (map_without f c s.place)) in
       (rest.0, step (record { place = s.place; removable = removable; left = refl }) rest.1, rest.2)
 
-  -- so are its ends
+  -- the ends of the mapped contour are mapped
   pub end_mapped : {P Q : Test} → Carries f P Q → Returns f P Q → {c e : List Point} → End P c e → End Q (map f c) (map f e)
   end_mapped carries returns {c} {e} w = record { reached = reach_mapped f carries w.reached; none_left = λ k r. w.none_left k (removable_back returns e k r) }
 

@@ -1,4 +1,5 @@
--- How often a moved contour winds about the moved point: off the edges it doesn't matter in which direction the edges are counted.
+-- How often a moved contour winds about the moved point: off the edges it doesn't matter in which direction the edges
+-- are counted.
 use Rattle.std.proofs.Common.{◌≡◌, ℕ, suc, ◌<◌, List, [], ◌∷◌, ◌++◌, length, map, get_or, ℤ, pos, negsuc, ◌+ℤ◌, ◌-ℤ◌, ◌*ℤ◌, ◌<ℤ◌, ◌≤ℤ◌, neg_ℤ, Bool, true, false, cond, int_lt, refl, sym, ap, ap₂, subst, ◌∙◌, arith, inl, inr, add-one}
 use Rattle.std.proofs.lemmas.Int.{ints, by_lt_z}
 use Rattle.std.proofs.lemmas.List.{get_or_append_left, get_or_at}
@@ -64,7 +65,7 @@ rise_term l p a = plus (plus (times l.x a.x) (times l.y a.y)) (minus (plus (time
 abbrev E : Place
 E = record { x = variable 8; y = variable 9 }
 
--- the heights of two points along two directions tell the side
+-- the heights of two points along two directions decide the side
 sides : (l m a p b : Point) → cross_of l m *ℤ cross a p b ≡ rise m p a *ℤ rise l p b -ℤ rise l p a *ℤ rise m p b
 unfolding cross
 sides l m a p b = by_polynomials (coordinates (l ∷ m ∷ a ∷ p ∷ b ∷ []))
@@ -103,7 +104,7 @@ high : (l p a : Point) → tall l p a ≡ true → pos 0 <ℤ rise l p a
 high l p a e = omega (arith, ints)
 
 -- ---- off the edges
--- what is told of the way from a over p to b: it doesn't turn back at p, nor ends there
+-- what holds of the way from a over p to b: it doesn't turn back at p, nor end there
 abbrev Off : Point → Edge → Type 0
 Off p e = IsBetween e.start p e.end → ⊥
 
@@ -202,8 +203,8 @@ one_edge l m p a b d off = go (int_lt (cross a p b) (pos 0)) (int_lt (neg_ℤ (c
         let z : cross a p b ≡ pos 0 = omega (arith, ints) in
         rw (sym (same_side l a p b z off), sym (same_side m a p b z off)) (in_between (tall l p a) (tall m p a))
 
--- ---- all edges
--- where each edge adds to one number what it adds to another, and how much a height rises along it, both are one number around a contour
+-- ---- all edges where each edge adds to one number what it adds to another, and how much a height rises along it, both
+-- are one number around a contour
 module _ (f g : Edge → ℤ) (height : Point → ℤ) (p : Point) (each : (a b : Point) → Off p (edge a b) → f (edge a b) ≡ g (edge a b) +ℤ (height b -ℤ height a)) where
   along_path : (a : Point) (bs : List Point) (z : Point) → AllOff p (edges_between a bs z) → sum_of f (edges_between a bs z) ≡ sum_of g (edges_between a bs z) +ℤ (height z -ℤ height a)
   along_path a [] z off = let one = each a z off.0 in omega (arith, ints)

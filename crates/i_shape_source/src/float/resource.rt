@@ -22,7 +22,8 @@ pub trait ShapeResource<'a, P: ShapePoint + 'a>: Sized {
     /// Whether the resource can be read.
     ghost can_read: { Self → Type 0 } = { λ _. ⊤ };
 
-    /// Returns an iterator that lends the paths one by one, each a slice of the source, and then ends. Copies and allocates nothing.
+    /// Returns an iterator that lends the paths one by one, each a slice of the source, and then ends. Copies and
+    /// allocates nothing.
     fn iter_paths(self) -> Self::ResourceIter
         requires { can_read self }
         ensures can { Self.ResourceIter.can_next result }

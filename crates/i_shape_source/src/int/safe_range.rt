@@ -9,7 +9,8 @@ use i_shape_core::safe_range::are_safe;
 
 /// The safe-range test of every resource that is `Copy`.
 pub trait IntSafeRange<'a, I: IntNumber + 'a>: IntShapeResource<'a, I> + Copy {
-    /// Returns whether every point of every path is safe: both its coordinates lie strictly between -2^(BITS-2) and 2^(BITS-2).
+    /// Returns whether every point of every path is safe: both its coordinates lie strictly between -2^(BITS-2) and
+    /// 2^(BITS-2).
     ///
     /// A resource without points is safe.
     fn is_in_safe_range(self) -> bool
