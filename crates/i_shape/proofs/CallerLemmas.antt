@@ -1,5 +1,6 @@
--- What callers need beside the contracts: from a buffer to the contours that it holds, from lists of points to shapes, and what whole lists keep.
-use Rattle.std.proofs.Common.{◌≡◌, ◌↔◌, ◌≤◌, ℕ, ◌+◌, ◌-◌, ℤ, List, [], ◌∷◌, ◌++◌, length, map, take, drop, refl, sym, ap, subst, ◌∙◌, arith, length-append, Option, Some, None, IfSome, Bool, Result, Ok, Err, IfOk, IsOk, IsErr, is_ok, OnOk, IsOkUnless, All, sum_by}
+-- What callers need beside the contracts: from a buffer to the contours that it holds, from lists of points to shapes,
+-- and what whole lists keep.
+use Rattle.std.proofs.Common.{◌≡◌, ◌↔◌, ◌≤◌, ℕ, ◌+◌, ◌-◌, ℤ, List, [], ◌∷◌, ◌++◌, length, map, take, drop, refl, sym, ap, ap₂, subst, ◌∙◌, arith, vec_len, append-nil, length-append, Option, Some, None, IfSome, Bool, Result, Ok, Err, IfOk, IsOk, IsErr, is_ok, OnOk, IsOkUnless, All, sum_by}
 use Rattle.i_shape.proofs.Common.{Vec, Width, Range, Point, IsBack, contour_of, point_of, IsSafe, IsSimple, IsRemovable, Reach, stay, step, NoSpikes, SimpleAnswer, SpikelessAnswer, DespikeAnswer, KeptAnswer, IsKept, slot, IsWritten, ShapeError, OutOfMemory, OkUnlessMemory, IntPoint, paths_of_shape, paths_of_shapes, shape_lists, concatenated, FlatContoursBuffer, part_of, slices, shapes, end_to_end, Compact, contours_in, range_len, HoldsContours, HoldsShapes, contours_of, named_shapes, FlatShapesBuffer, shape_of, shapes_of, IsSafeShape, IsSafeList, AreSafePaths, HasPoints, shapes_shoelace, Survivors, ShapeClean, ListClean, EachContour, EachShape, AreKept, ListKept, Leaves, CleansContour, DespikesContour, CleansShape, CleansList}
 use Rattle.std.proofs.lemmas.Int.{ints}
 use Rattle.std.proofs.lemmas.List.Elements.{All-nil, All-cons, All-head, All-tail, All-append, All-take, All-drop}
@@ -11,6 +12,8 @@ use Rattle.i_shape_core.proofs.removal.Ends.{reach_shrinks, no_step}
 use Rattle.i_shape_core.proofs.walks.Spikes.{spikeless_end}
 use Rattle.i_shape_core.proofs.lists.Mapped.{all_mapped}
 use Rattle.i_shape.proofs.lists.Surviving.{survivors_each, survivors_have}
+use Rattle.i_shape.proofs.lists.EndToEnd.{concatenated-append, end_to_end-append}
+use Rattle.i_shape.proofs.buffers.Contours.{HoldsContours-from_lists}
 use Rattle.i_shape.proofs.buffers.ShapeRanges.{slice_range-map, slices-part_of}
 -- a simple contour is its own answer, and what relates the members of lists, or is left of them, does so end to end
 pub use Rattle.i_shape_core.proofs.walks.Found.{simple_stays}
@@ -39,7 +42,7 @@ safe_ranges width value points contours (range ∷ ranges) safe =
     let here = subst (IsSafeShape width) same (All-take (All (IsSafe width)) n (drop range.start all) (All-drop (All (IsSafe width)) range.start all safe)) in
     All-cons (IsSafeShape width) (contours_of value (slices points (part_of contours range))) (map (contours_of value) (shapes points contours ranges)) here (safe_ranges width value points contours ranges safe)
 
--- the shapes that a buffer names are safe where its contours are, as the test of the buffer tells it
+-- the shapes that a buffer names are safe if its contours are, as the buffer's test states it
 pub safe_named : {I : Type 0} (width : Width) (value : I → ℤ) (buffer : FlatShapesBuffer I) → AreSafePaths width value (slices buffer.points.items buffer.contour_ranges.items) → IsSafeList width (named_shapes value buffer)
 unfolding AreSafePaths
 safe_named width value buffer safe = safe_ranges width value buffer.points.items buffer.contour_ranges.items buffer.shape_ranges.items safe
@@ -65,6 +68,15 @@ named_points start (c ∷ contours) =
 -- the ranges of the buffer name as many points as the contours have, as `too_many` of `simplify_contours` asks
 pub points_held : {I : Type 0} (buffer : FlatContoursBuffer I) (contours : List (List (IntPoint I))) → HoldsContours buffer contours → sum_by range_len buffer.ranges.items ≡ length (concatenated contours)
 points_held buffer contours held = ap (sum_by range_len) held.ranges ∙ named_points 0 contours
+
+-- a buffer that held contours, and to which `add_contour` added one, holds that behind them
+pub held_more : {I : Type 0} (old new : FlatContoursBuffer I) (contours : List (List (IntPoint I))) (contour : List (IntPoint I)) → HoldsContours old contours → new.points.items ≡ old.points.items ++ contour
+    → new.ranges.items ≡ old.ranges.items ++ record { start = vec_len old.points; end = vec_len old.points + length contour } ∷ [] → HoldsContours new (contours ++ contour ∷ [])
+held_more old new contours contour held points ranges =
+    let start : vec_len old.points ≡ 0 + length (concatenated contours) = omega (arith, old.points.ok.0, ap length held.points) in
+    HoldsContours-from_lists new (contours ++ contour ∷ [])
+    (points ∙ ap₂ ◌++◌ held.points (sym (append-nil contour)) ∙ sym (concatenated-append contours (contour ∷ [])))
+    (ranges ∙ ap₂ (λ l n. l ++ record { start = n; end = n + length contour } ∷ []) held.ranges start ∙ sym (end_to_end-append 0 contours (contour ∷ [])))
 
 shapes_of_paths : {I : Type 0} (value : I → ℤ) (shapes : List (Vec (Vec (IntPoint I)))) → concatenated (shapes_of value shapes) ≡ map (contour_of value) (paths_of_shapes shapes)
 shapes_of_paths value [] = refl
@@ -94,12 +106,12 @@ contours_read value buffer contours same = shape_of_paths value contours ∙ ap 
 pub points_left : (contours kept : List (List Point)) → Compact contours kept → All HasPoints kept
 points_left contours kept compact = survivors_have SimpleAnswer (λ c. Unit {0}) HasPoints (λ c e answer any. omega (arith, answer.enough)) contours kept compact (λ k d lt. tt)
 
--- and so have those that are read from it
+-- the contours that are read from a cleaned buffer have points
 pub points_read : {I : Type 0} (value : I → ℤ) (before : List (List Point)) (buffer : FlatContoursBuffer I) (contours : List (Vec (IntPoint I)))
     → Compact before (contours_in value buffer) → paths_of_shape contours ≡ slices buffer.points.items buffer.ranges.items → All HasPoints (shape_of value contours)
 points_read value before buffer contours compact same = subst (All HasPoints) (sym (contours_read value buffer contours same)) (points_left before (contours_in value buffer) compact)
 
--- where a buffer was filled, cleaned and read back, the contours that were read are what cleaning leaves of those that were given
+-- if a buffer is filled, cleaned and read back, what is read is what cleaning leaves of the given contours
 pub compact_read : {I : Type 0} (value : I → ℤ) (contours : List (Vec (IntPoint I))) (old new : FlatContoursBuffer I) (r : Result (Vec (Vec (IntPoint I))) ShapeError)
     → HoldsContours old (paths_of_shape contours) → Compact (contours_in value old) (contours_in value new)
     → IfOk r (λ back. paths_of_shape back.items ≡ slices new.points.items new.ranges.items) → IfOk r (λ kept. Compact (shape_of value contours) (shape_of value kept.items))
@@ -180,33 +192,33 @@ never (Ok a) ok err = absurd cc
 never (Err b) ok err = absurd cc
 
 module _ {old between new : List Point} {q r : Result Bool ShapeError} where
-  -- where zero turns were removed from a contour in place, the contour without them is left after the removal of spikes too
+  -- removing spikes in place after zero turns leaves the contour without zero turns
   pub contour_cleaned : CleansContour IsSimple SimpleAnswer old between q → IsOk q → DespikesContour between new r → Leaves SimpleAnswer old new
   contour_cleaned first ok second = let same = (contour_stays first ok second).1 in rw same (left_cleaned q first.cleans.left ok)
 
-  -- and isn't refused
+  -- removing spikes from a contour in place after zero turns isn't refused
   pub contour_never_refused : CleansContour IsSimple SimpleAnswer old between q → IsOk q → DespikesContour between new r → IsErr r → ⊥
   contour_never_refused first ok second = never r (contour_stays first ok second).0
 
 module _ {old between new : List (List Point)} {q r : Result Bool ShapeError} where
-  -- so it is of a shape
+  -- removing spikes in place after zero turns leaves the shape without zero turns
   pub shape_cleaned : CleansShape IsSimple SimpleAnswer old between q → IsOk q → CleansShape NoSpikes DespikeAnswer between new r → Leaves (ShapeClean SimpleAnswer) old new
   shape_cleaned first ok second = let same = (shape_stays first ok second).1 in rw same (left_cleaned q first.cleans.left ok)
 
-  -- which isn't refused either
+  -- removing spikes from a shape in place after zero turns isn't refused
   pub shape_never_refused : CleansShape IsSimple SimpleAnswer old between q → IsOk q → CleansShape NoSpikes DespikeAnswer between new r → IsErr r → ⊥
   shape_never_refused first ok second = never r (shape_stays first ok second).0
 
 module _ {old between new : List (List (List Point))} {q r : Result Bool ShapeError} where
-  -- and of a list
+  -- removing spikes in place after zero turns leaves the list without zero turns
   pub list_cleaned : CleansList IsSimple SimpleAnswer old between q → IsOk q → CleansList NoSpikes DespikeAnswer between new r → ListKept SimpleAnswer old new
   list_cleaned first ok second = let same = (list_stays first ok second).1 in rw same (left_cleaned q first.kept ok)
 
-  -- which isn't refused either
+  -- removing spikes from a list in place after zero turns isn't refused
   pub list_never_refused : CleansList IsSimple SimpleAnswer old between q → IsOk q → CleansList NoSpikes DespikeAnswer between new r → IsErr r → ⊥
   list_never_refused first ok second = never r (list_stays first ok second).0
 
-  -- and keeps its double area where as many shapes are left
+  -- a list from which both were removed keeps its double area if as many shapes are left
   pub list_cleaned_area : CleansList IsSimple SimpleAnswer old between q → IsOk q → CleansList NoSpikes DespikeAnswer between new r → length new ≡ length old → shapes_shoelace new ≡ shapes_shoelace old
   list_cleaned_area first ok second = list_area (list_cleaned first ok second)
 
@@ -237,22 +249,22 @@ slot_stays c (p ∷ e) (q ∷ d) simple despiked = go despiked.ended.reached
     go (step first more) = absurd (no_step none first)
 
 module _ {P : Type 0} {width : Width} {read : List P → List Point} {given old new : List P} {n : ℕ} where
-  -- what a cleaner writes has the double area of what it was given, and the same points inside, also where it writes nothing
+  -- what a cleaner writes keeps the contour's double area and the points inside, even if it writes nothing
   pub written_kept : {Answer : List Point → Option (List Point) → Type 0} {Picks : List P → List P → Type 0} → IsWritten Answer KeptAnswer Picks width read given old new n → IsKept (read given) (read (take n new))
   written_kept written = slot_keeps (read given) (read (take n new)) written.cleaned.kept
 
-  -- where zero turns were removed, what is written where spikes are removed from the rest is the contour without zero turns too
+  -- removing spikes from what is left without zero turns writes the contour without zero turns
   pub cleaned_twice : {before after : List P} {m : ℕ} {Picks Leaves : List P → List P → Type 0} → IsWritten SimpleAnswer KeptAnswer Picks width read given old new n → IsWritten SpikelessAnswer KeptAnswer Leaves width read (take n new) before after m → SimpleAnswer (read given) (slot (read (take m after)))
   cleaned_twice {before} {after} {m} simple despiked =
       let same = slot_stays (read given) (read (take n new)) (read (take m after)) simple.cleaned.answer despiked.cleaned.answer in
       rw same simple.cleaned.answer
 
--- what a value that is given has, of which more is said
+-- a result that has `Holds` of its value has each part of it
 pub of_ok : {T : Type 0} {Holds Part : T → Type 0} (result : Result T ShapeError) → ((t : T) → Holds t → Part t) → OkUnlessMemory result Holds → IfOk result Part
 of_ok (Ok t) part is = part t is
 of_ok (Err e) part is = tt
 
--- and an error is want of memory
+-- an error of such a result is `OutOfMemory`
 pub of_memory : {T : Type 0} (Holds : T → Type 0) (result : Result T ShapeError) → OkUnlessMemory result Holds → IsOkUnless result OutOfMemory
 of_memory Holds (Ok t) is = tt
 of_memory Holds (Err e) is = is

@@ -1,5 +1,5 @@
 -- What a call that cleans within a flat buffer leaves.
-use Rattle.std.specs.Prelude.{◌≡◌, ◌↔◌, Bool, true, false, Option, Result, Ok, List, ℤ, OnOk, OnErr}
+use Rattle.std.specs.Prelude.{◌≡◌, ◌↔◌, Bool, true, false, Option, Result, Ok, List, ℤ, OnOk}
 use Rattle.std.specs.Int.{Width}
 use Rattle.std.specs.List.{All}
 use Rattle.i_shape_core.specs.Point.{Point}
@@ -22,16 +22,14 @@ pub record CleansBuffer {T : Type 0} (Passes : List Point → Type 0) (Answer : 
   -- whatever it returns, the contours together keep their double area, and about each point the inside count and the
   -- total winding number
   pub kept : AreKept (contours_in value old) (contours_in value new)
-  -- where it returns false, the buffer is unchanged
-  pub unchanged : r ≡ Ok false → new ≡ old
+  -- unless it returns true, the buffer is unchanged
+  pub unchanged : (r ≡ Ok true → ⊥) → new ≡ old
   -- where it returns true, the buffer holds the contours end to end, and nothing else
   pub end_to_end : r ≡ Ok true → HoldsContours new (slices new.points.items new.ranges.items)
   -- whatever it returns, the contours can be read
   pub readable : CanReadContours new
   -- whatever it returns, the contours have safe points
   pub safe : All (All (IsSafe width)) (contours_in value new)
-  -- after an error the buffer is unchanged
-  pub err : OnErr r (new ≡ old)
 
 -- `old` and `new` are a buffer before and after a call that cleans its shapes and returned r
 pub record CleansShapesBuffer {T : Type 0} (Passes : List Point → Type 0) (Answer : List Point → Option (List Point) → Type 0) (width : Width) (value : T → ℤ) (old new : FlatShapesBuffer T) (r : Result Bool ShapeError) : Type 0 where
@@ -43,13 +41,11 @@ pub record CleansShapesBuffer {T : Type 0} (Passes : List Point → Type 0) (Ans
   -- without an error, each shape that is left keeps its double area, and about each point the inside count and the
   -- total winding number
   pub kept : OnOk r (ListKept Answer (named_shapes value old) (named_shapes value new))
-  -- where it returns false, the buffer is unchanged
-  pub unchanged : r ≡ Ok false → new ≡ old
+  -- unless it returns true, the buffer is unchanged
+  pub unchanged : (r ≡ Ok true → ⊥) → new ≡ old
   -- where it returns true, the buffer holds the shapes end to end, and nothing else
   pub end_to_end : r ≡ Ok true → HoldsShapes new (shapes_in new)
   -- whatever it returns, the shapes can be read
   pub readable : CanReadShapes new
   -- whatever it returns, the shapes have safe points
   pub safe : IsSafeList width (named_shapes value new)
-  -- after an error the buffer is unchanged
-  pub err : OnErr r (new ≡ old)

@@ -1,5 +1,5 @@
 -- What a call that cleans in place leaves.
-use Rattle.std.specs.Prelude.{◌≡◌, ◌↔◌, ◌<◌, Bool, true, false, Option, Result, Ok, Err, List, [], length, unwrap_or, OnOk, IsOk}
+use Rattle.std.specs.Prelude.{◌≡◌, ◌↔◌, ◌<◌, Bool, true, false, Option, Result, Ok, Err, List, [], length, unwrap_or, OnOk, OnErr, IsOk}
 use Rattle.i_shape_core.specs.Point.{Point}
 use Rattle.i_shape_core.specs.Convex.{NoSpikes}
 use Rattle.i_shape_core.specs.Cleaners.{DespikeAnswer, IsKept}
@@ -43,11 +43,11 @@ pub record DespikesContour (old new : List Point) (r : Result Bool ShapeError) :
 pub record CleansShape (Passes : List Point → Type 0) (Answer : List Point → Option (List Point) → Type 0) (old new : List (List Point)) (r : Result Bool ShapeError) : Type 0 where
   pub cleans : CleansInPlace (EachContour Passes) (Leaves (ShapeClean Answer)) old new r
   pub kept : 0 < length new → AreKept old new
-  -- memory is needed only where a contour of three points or more doesn't pass
-  pub short : EachContour (IsShortOrClean Passes length) old → IsOk r
+  -- an error comes only where a contour of three points or more doesn't pass
+  pub unclean : OnErr r (EachContour (IsShortOrClean Passes length) old → ⊥)
 
 -- a list is cleaned in place, shape by shape
 pub record CleansList (Passes : List Point → Type 0) (Answer : List Point → Option (List Point) → Type 0) (old new : List (List (List Point))) (r : Result Bool ShapeError) : Type 0 where
   pub cleans : CleansInPlace (EachShape Passes) (ListClean Answer) old new r
   pub kept : OnOk r (ListKept Answer old new)
-  pub short : EachShape (IsShortOrClean Passes length) old → IsOk r
+  pub unclean : OnErr r (EachShape (IsShortOrClean Passes length) old → ⊥)

@@ -1,6 +1,7 @@
 pub use Rattle.i_shape_core.specs.Widths
 pub use Rattle.i_shape_core.specs.Point
 pub use Rattle.i_shape_core.specs.IntPoint
+pub use Rattle.i_shape_core.specs.Reading
 pub use Rattle.i_shape_core.specs.Contour
 pub use Rattle.i_shape_core.specs.Edges
 pub use Rattle.i_shape_core.specs.Winding
@@ -15,7 +16,7 @@ pub use Rattle.i_shape_core.specs.Written
 pub use Rattle.i_shape_core.specs.Room
 pub use Rattle.i_shape_core.specs.Unclean
 pub use Rattle.i_shape_core.specs.Turn
-pub use Rattle.i_shape_core.specs.FourTurns
+pub use Rattle.i_shape_core.specs.Turning
 pub use Rattle.i_shape_core.specs.Refusals
 pub use Rattle.i_shape_core.specs.Canonical
 pub use Rattle.i_shape_source.specs.Paths

@@ -34,7 +34,7 @@ module _ {T : Type 0} where
       HoldsContours-from_lists buffer more (g.points_are ∙ ap (λ w. w ++ concatenated more) none.points)
       (g.ranges_are ∙ ap (λ w. w ++ end_to_end (length empty.points.items) more) none.ranges ∙ ap (λ w. end_to_end (length w) more) none.points)
 
-  -- and what it holds are the parts that its ranges name
+  -- what a buffer of contours holds are the parts that its ranges name
   pub held_slices : (buffer : FlatContoursBuffer T) (more : List (List (IntPoint T))) → HoldsContours buffer more → HoldsContours buffer (slices buffer.points.items buffer.ranges.items)
   held_slices buffer more held = subst (HoldsContours buffer) (sym held.slices) held
 
@@ -84,7 +84,7 @@ module _ {T : Type 0} (value : T → ℤ) (points : List (IntPoint T)) (contour_
       → All P (map (named_at value points contour_ranges) (take (i + 1) ranges))
   shapes-more P before here = mapped-more (named_at value points contour_ranges) P ranges i (get_or ranges i d) lt (same_read ranges i d lt) before here
 
-  -- a buffer with the answers of the shapes before has, with one answer more, those of the shapes up to it
+  -- a buffer that holds the answers of the shapes so far holds, with one answer more, those of one shape more
   pub clean-more : {Answer : List Point → Option (List Point) → Type 0} (source : List (List (IntPoint T))) (old new : FlatShapesBuffer T) → HoldsShapes old (shapes_in old) → AppendsShapeAnswer Answer value source old new → source ≡ slices points (part_of contour_ranges (get_or ranges i d))
       → ListClean Answer (map (named_at value points contour_ranges) (take i ranges)) (named_shapes value old) → ListClean Answer (map (named_at value points contour_ranges) (take (i + 1) ranges)) (named_shapes value new)
   clean-more {Answer = Answer} source old new held step same before =

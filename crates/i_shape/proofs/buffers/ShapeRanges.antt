@@ -98,7 +98,7 @@ readable-append points ranges shape_ranges shape n range count is_range readable
     λ forwards. (omega (arith, ap (λ r. r.end) is_range), rw (last_part ranges shape (length points) n range count is_range) (InOrder-end_to_end shape (length points) (length (points ++ concatenated shape)) (omega arith))) in
     All-push P' shape_ranges range (All-weaker (IsReadableShape (length points) ranges) P' kept shape_ranges readable) new
 
--- one more shape stands at the end
+-- one more shape comes last
 pub shapes-push : {P : Type 0} (points : List P) (ranges shape_ranges : List (Range ℕ)) (shape : List (List P)) (n : ℕ) (range : Range ℕ) →
     n ≡ length shape → range ≡ record { start = length ranges; end = length ranges + n } →
     All (IsReadableShape (length points) ranges) shape_ranges →

@@ -46,7 +46,7 @@ HoldsShapes-one empty buffer shape n none count points_are contours_are shapes_a
     (contours_are ∙ ap (λ w. empty.contour_ranges.items ++ end_to_end (vec_len empty.points) w) one)
     (rw (shapes_are, count) refl)
 
--- and for a shape of one contour
+-- the same for a shape of one contour
 pub HoldsShapes-contour : {T : Type 0} (empty buffer : FlatShapesBuffer T) (contour : List (IntPoint T)) → HoldsShapes empty [] →
     buffer.points.items ≡ empty.points.items ++ contour →
     buffer.contour_ranges.items ≡ empty.contour_ranges.items ++ record { start = vec_len empty.points; end = vec_len empty.points + length contour } ∷ [] →

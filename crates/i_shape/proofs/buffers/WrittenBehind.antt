@@ -15,7 +15,7 @@ written_behind points contour whole written behind rest after start n room at is
     left ∙ take-take (start + n) room _ low ∙ ap (take (start + n)) apart
     ∙ rw at (take-append-add points ((written ++ behind) ++ rest) n) ∙ ap (λ l. points ++ l) inner
 
--- as many items stand behind the first ones as came there
+-- as many items follow the first ones as were appended
 pub behind_length : {X : Type 0} (points contour whole : List X) (start many : ℕ) → start ≡ length points → whole ≡ points ++ contour → many ≡ length (take (length whole - start) (drop start whole)) → many ≡ length contour
 behind_length points contour whole start many at is long =
     omega (arith, at, ap length is, long, length-append points contour, length-drop start whole, length-take (length whole - start) (drop start whole))

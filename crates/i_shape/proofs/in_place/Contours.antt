@@ -32,7 +32,7 @@ module _ (Passes : List Point → Type 0) (Answer : List Point → Option (List 
   shape_stays_in_place shape pass = record {
     cleans = stays_in_place (EachContour Passes) _ shape pass (Some shape, shape_stays Passes Answer stays shape pass, refl);
     kept = λ some. same_kept shape;
-    short = λ each. refl;
+    unclean = tt;
   }
 
   -- a list whose contours pass stays
@@ -42,5 +42,5 @@ module _ (Passes : List Point → Type 0) (Answer : List Point → Option (List 
       record {
         cleans = stays_in_place (EachShape Passes) (ListClean Answer) shapes pass clean;
         kept = list_keeps Answer keeps shapes shapes clean;
-        short = λ each. refl;
+        unclean = tt;
       }

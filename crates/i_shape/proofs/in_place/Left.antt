@@ -109,7 +109,7 @@ module _ (Passes : List Point → Type 0) (Answer : List Point → Option (List 
   shape_cleaned_in_place shape new fails leaves = record {
     cleans = record { passes = λ pass. absurd (fails pass); clean = λ e. absurd cc; left = leaves; refused = λ k e. absurd cc };
     kept = left_keeps shape new leaves.0 leaves.1 leaves.2;
-    short = λ each. refl;
+    unclean = tt;
   }
 
   -- where memory is refused they stay
@@ -117,7 +117,7 @@ module _ (Passes : List Point → Type 0) (Answer : List Point → Option (List 
   shape_refused_in_place shape e fails long memory = record {
     cleans = record { passes = λ pass. absurd (fails pass); clean = λ f. absurd cc; left = tt; refused = λ k f. (cc, refl) };
     kept = λ some. same_kept shape;
-    short = λ each. absurd (long each);
+    unclean = long;
   }
 
   -- where memory is refused, a list that did not pass stays
@@ -125,7 +125,7 @@ module _ (Passes : List Point → Type 0) (Answer : List Point → Option (List 
   list_refused_in_place shapes e fails long memory = record {
     cleans = record { passes = λ pass. absurd (fails pass); clean = λ f. absurd cc; left = tt; refused = λ k f. (cc, refl) };
     kept = tt;
-    short = λ each. absurd (long each);
+    unclean = long;
   }
 
   -- a list that did not pass is cleaned in place, where the cleaned list is left
@@ -133,10 +133,10 @@ module _ (Passes : List Point → Type 0) (Answer : List Point → Option (List 
   list_cleaned_in_place shapes new fails clean = record {
     cleans = record { passes = λ pass. absurd (fails pass); clean = λ e. absurd cc; left = clean; refused = λ k e. absurd cc };
     kept = list_keeps Answer keeps shapes new clean;
-    short = λ each. refl;
+    unclean = tt;
   }
 
--- a contour has points exactly where its list isn't told empty
+-- a contour has points exactly if its list isn't empty
 pub has_points_told : {T : Type 0} (value : T → ℤ) (points : List (IntPoint T)) (n : ℕ) → n ≡ length points → has_points (contour_of value points) ≡ not (n == 0)
 has_points_told value [] n e = rw e refl
 has_points_told value (p ∷ points) n e = grind (arith, e)

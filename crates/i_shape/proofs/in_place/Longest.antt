@@ -13,7 +13,7 @@ module _ {X : Type 0} (P : X → Type 0) where
       let both = all_parts P part (concatenated parts) all in
       All-cons (All P) part parts both.0 (each_of_all parts both.1)
 
-  -- and what holds of the members of each holds of all
+  -- what holds of the members of each list holds of the members of the lists end to end
   pub all_of_each : (parts : List (List X)) → All (All P) parts → All P (concatenated parts)
   all_of_each [] each = All-nil P
   all_of_each (part ∷ parts) each = All-append P part (concatenated parts) (All-head (All P) part parts each) (all_of_each parts (All-tail (All P) part parts each))

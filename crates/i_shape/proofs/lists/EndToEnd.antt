@@ -65,7 +65,7 @@ slices_concatenated cs = ap (λ w. slices w (end_to_end 0 cs)) (sym (append-nil 
 pub InOrder_concatenated : {P : Type 0} (cs : List (List P)) → All (InOrder (length (concatenated cs))) (end_to_end 0 cs)
 InOrder_concatenated cs = InOrder-end_to_end cs 0 (length (concatenated cs)) (omega arith)
 
--- A loop over things that each stand for a list, as a vector does, which has seen some and is at the thing x.
+-- A loop over things that each represent a list, as a vector does, which has seen some and is at the thing x.
 module _ {X P : Type 0} (f : X → List P) (seen : List X) (x : X) where
   -- one list more is seen
   pub count_push : length (map f (seen ++ x ∷ [])) ≡ length (map f seen) + 1
@@ -127,7 +127,7 @@ module _ {X P : Type 0} (f : X → List P) (xs : List X) (i : ℕ) (x : X) (lt :
   length_within k is_length =
       omega (arith, ap length concatenated_step, length-append (concatenated (map f (take i xs))) (f x), length_concatenated_take f xs (i + 1))
 
--- The same where each thing stands for a list of contours, as a shape does.
+-- The same where each thing represents a list of contours, as a shape does.
 module _ {X P : Type 0} (f : X → List (List P)) (xs : List X) (i : ℕ) (x : X) (lt : i < length xs) (read : x ≡ get_or xs i x) where
   -- the contours of the things up to place i lie end to end, and those of x behind them
   pub all_concatenated_step : concatenated (concatenated (map f (take (i + 1) xs))) ≡ concatenated (concatenated (map f (take i xs))) ++ concatenated (f x)
@@ -167,6 +167,6 @@ module _ {X P : Type 0} (f : X → List (List P)) (xs : List X) (i : ℕ) (x : X
         length-append (concatenated (concatenated (map f (take (i + 1) xs)))) (concatenated (concatenated (map f (drop (i + 1) xs)))),
       )
 
--- vectors are as many as the lists that they stand for
+-- there are as many vectors as lists that they represent
 pub as_contours : {P : Type 0} (shape now : List (Vec P)) → now ≡ shape → length now ≡ length (paths_of_shape shape)
 as_contours shape now e = ap length e ∙ sym (length-map shape (λ contour. contour.items))

@@ -6,7 +6,7 @@ use Rattle.std.proofs.lemmas.Bool.Decides.{Decides-and, Decides-like, Decides-eq
 use Rattle.std.proofs.lemmas.List.Elements.{same_from_all_zip}
 
 module _ {X : Type 0} (E : X → X → Bool) where
-  -- lists are told equal where they are of one length and each pair of members is told equal
+  -- lists compare equal exactly if they have the same length and each pair of members compares equal
   pub pairs_decided : (xs ys : List X) → Decides (pointwise E xs ys) (AllZip (λ x y. IsTrue (E x y)) xs ys)
   pairs_decided [] [] = (λ _. tt, λ _. refl)
   pairs_decided [] (y ∷ ys) = (λ e. absurd (cc), λ h. absurd h)
@@ -17,19 +17,19 @@ module _ {X : Type 0} (E : X → X → Bool) where
   with_itself same [] = tt
   with_itself same (x ∷ xs) = (same x, with_itself same xs)
 
-  -- and where members are told equal exactly where they are the same, so are lists
+  -- if E decides whether members are equal, it decides whether lists are
   pub lists_decided : ((x y : X) → Decides (E x y) (x ≡ y)) → (xs ys : List X) → Decides (pointwise E xs ys) (xs ≡ ys)
   lists_decided decides xs ys =
       Decides-like _ (λ h. sym (same_from_all_zip (λ x y. IsTrue (E x y)) xs ys h (λ x y t. sym ((decides x y).0 t))))
       (λ e. subst (λ zs. AllZip (λ x y. IsTrue (E x y)) xs zs) e (with_itself (λ x. (decides x x).1 refl) xs))
       (pairs_decided xs ys)
 
--- ranges are told equal by their ends
+-- ranges compare equal exactly if they are equal
 range_decided : (r s : Range ℕ) → Decides (r.start == s.start && r.end == s.end) (r ≡ s)
 range_decided r s =
     Decides-like _ (λ h. λ i. record { start = h.0 i; end = h.1 i }) (λ e. (ap (λ q. q.start) e, ap (λ q. q.end) e))
     (Decides-and (r.start == s.start) (r.end == s.end) (Decides-eqb r.start s.start) (Decides-eqb r.end s.end))
 
--- comparing ranges member by member tells whether the lists are equal
+-- lists of ranges compare equal, member by member, exactly if they are equal
 pub ranges_decided : (rs ss : List (Range ℕ)) → Decides (pointwise (λ r s. r.start == s.start && r.end == s.end) rs ss) (rs ≡ ss)
 ranges_decided rs ss = lists_decided (λ r s. r.start == s.start && r.end == s.end) range_decided rs ss

@@ -1,4 +1,5 @@
--- Where two members have equal answers exactly where they are related, the sorted answers of two lists are one list exactly where the members that have answers are matched.
+-- Where two members have equal answers exactly where they are related, the sorted answers of two lists are one list
+-- exactly where the members that have answers are matched.
 use Rattle.std.proofs.Common.{◌≡◌, ◌↔◌, List, [], ◌∷◌, Option, Some, None, refl, sym, subst, ◌∙◌, IsPermutation, filter_map}
 use Rattle.i_shape.proofs.Common.{AllZip, Survivors, Stays, MatchedUncollapsed, SortedForms}
 use Rattle.std.proofs.lemmas.List.Sorted.{IsPermutation-sym, IsPermutation-trans}
@@ -31,7 +32,7 @@ module _ {X Y : Type 0} (Answer : X → Option Y → Type 0) (Collapses : X → 
       (λ x xs forms h r. (r.0, survivors_gone (Stays Collapses) x xs r.0 (none x h) r.1, r.2))
       (λ x y xs forms h r. (x ∷ r.0, survivors_left (Stays Collapses) x x xs r.0 (some x y h, refl) r.1, (h, r.2)))
 
-  -- which members stand is certain
+  -- which members don't collapse is certain
   stand_alike : (xs : List X) (a b : List (Option X)) → AllZip (Stays Collapses) xs a → AllZip (Stays Collapses) xs b → filter_map (λ z. z) a ≡ filter_map (λ z. z) b
   stand_alike [] [] [] h k = refl
   stand_alike [] [] (q ∷ b) h k = absurd k

@@ -1,4 +1,5 @@
--- Steps of a loop over the members of a list that is read through a function: what holds of them all, and what is left of them.
+-- Steps of a loop over the members of a list that is read through a function: what holds of them all, and what is left
+-- of them.
 use Rattle.std.proofs.Common.{◌≡◌, ℕ, ◌+◌, ◌<◌, List, [], ◌∷◌, ◌++◌, length, get_or, take, map, sym, ap, ◌∙◌, subst, Option, Some, None, All, filter_map, option_to_list}
 use Rattle.i_shape.proofs.Common.{AllZip, Survivors}
 use Rattle.std.proofs.lemmas.List.{get_or_default, get_or-map, length-map, map-append}
@@ -6,7 +7,7 @@ use Rattle.std.proofs.lemmas.List.Elements.{All-nil, All-cons, All-head, All-tai
 use Rattle.i_shape_core.proofs.lists.Mapped.{take_one_more}
 use Rattle.i_shape_core.proofs.lists.Survivors.{survivors-none, survivors-push}
 
--- the member that is read at a place within the list stands there
+-- the member that is read at a place within the list is the one there
 pub same_read : {X : Type 0} (xs : List X) (i : ℕ) (d : X) → i < length xs → get_or xs i d ≡ get_or xs i (get_or xs i d)
 same_read xs i d lt = get_or_default xs i d (get_or xs i d) lt
 
@@ -38,7 +39,7 @@ module _ {X Y : Type 0} (Answer : X → Option Y → Type 0) where
   pub survivors_left : (x : X) (y : Y) (xs : List X) (kept : List Y) → Answer x (Some y) → Survivors Answer xs kept → Survivors Answer (x ∷ xs) (y ∷ kept)
   survivors_left x y xs kept answer (answers, zipped, are) = (Some y ∷ answers, (answer, zipped), ap (λ l. y ∷ l) are)
 
-  -- what holds of no members, and stays true with one more in front of either kind, holds of all that are left of a list
+  -- what holds of [], and still with one more member of either kind in front, holds of all that are left of a list
   pub survivors_each : (P : List X → List Y → Type 0) → P [] [] → ((x : X) (xs : List X) (kept : List Y) → Answer x None → P xs kept → P (x ∷ xs) kept)
       → ((x : X) (y : Y) (xs : List X) (kept : List Y) → Answer x (Some y) → P xs kept → P (x ∷ xs) (y ∷ kept)) → (xs : List X) (kept : List Y) → Survivors Answer xs kept → P xs kept
   survivors_each P none gone left xs kept (answers, zipped, are) = subst (P xs) (sym are) (go xs answers zipped)

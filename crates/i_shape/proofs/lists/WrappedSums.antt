@@ -38,7 +38,7 @@ fits-twice z fits =
     let below = reach.below in
     reach-fits w128 z (record { from = omega (arith, ints); below = omega (arith, ints) })
 
--- and so does a sum of so few of them
+-- a sum of fewer than 2^64 numbers of 64 bits fits 128 bits
 pub far-fits : (k : ℕ) (before item : ℤ) → k + 1 < 2 ^ 64 → before ≤ℤ pos (k * 2 ^ 63) → neg_ℤ (pos (k * 2 ^ 63)) ≤ℤ before → FitsSigned w64 item → FitsSigned w128 (before +ℤ item)
 far-fits k before item few most least fits =
     let reach = fits-reach w64 item fits in

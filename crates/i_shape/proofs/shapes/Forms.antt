@@ -1,4 +1,5 @@
--- The forms of shapes and of lists of shapes, by any form of contours: where two are one, that there is one, that it is its own form, and what it keeps.
+-- The forms of shapes and of lists of shapes, by any form of contours: where two are one, that there is one, that it is
+-- its own form, and what it keeps.
 use Rattle.std.proofs.Common.{◌≡◌, ◌↔◌, ◌⊎◌, inl, inr, ℕ, ℤ, ◌+ℤ◌, neg_ℤ, ◌%◌, nat_abs, map, List, [], ◌∷◌, Option, Some, None, IfSome, Result, Ok, Err, IfOk, refl, sym, ap, ◌∙◌, arith, IsPermutation, All, sum_by, count_by, IsOkUnless}
 use Rattle.i_shape.proofs.Common.{Vec, Width, Point, IsZeroTurn, IsSafe, answered, OkUnlessMemory, IntPoint, ShapeError, OutOfMemory, edges, is_right, shoelace, Inside, winding, EachEndCollapses, IsAtMost, CanonicalAnswer, Joined, UnorientedAnswer, IsKeptEitherWay, JoinedEitherWay, Survivors, sum_of, shape_winding, inside_count, ShapeClean, AreKept, shape_of, shapes_of, IsSafeShape, IsSafeList, FormsShapeTo, FormsListTo, SortedForms, ShapeForm, ListForm, IsShapeAtMost, OuterCollapses, SameShape, OneShapeForm, OneListForm, HasShapeForm, HasListForm, AreKeptEitherWay, FormsKept}
 use Rattle.std.proofs.lemmas.Int.{ints}
@@ -32,7 +33,7 @@ module _ {X Y : Type 0} (Answer : X → Option Y → Type 0) (AtMost : Y → Y �
       let sorted = sorted_exists AtMost total trans answered.0 in
       (sorted.0, (answered.0, answered.1, sorted.1, sorted.2))
 
--- sorted answers that are their own answers are sorted answers of themselves
+-- sorting sorted forms changes nothing
 module _ {Y : Type 0} (Answer : Y → Option Y → Type 0) (AtMost : Y → Y → Type 0) (again : (x y : Y) → Answer x (Some y) → Answer y (Some y)) where
   sorted_again : (xs l : List Y) → SortedForms Answer AtMost xs l → SortedForms Answer AtMost l l
   sorted_again xs l (forms, survive, moved, up) =
@@ -53,7 +54,7 @@ module _ (Form : List Point → Option (List Point) → Type 0) (w : Width) (sta
       let k = form_cleans Form s l a in
       All-permutation (All (IsSafe w)) k.0 l k.2 (shape_safe Form w stays_safe s (Some k.0) k.1 safe)
 
-  -- so is that of a list
+  -- the form of a safe list is safe
   pub forms_safe : (s l : List (List (List Point))) → ListForm Form s l → IsSafeList w s → IsSafeList w l
   forms_safe s l (forms, survive, moved, up) safe =
       All-permutation (IsSafeShape w) forms l moved (survivors_have (ShapeForm Form) (IsSafeShape w) (IsSafeShape w) form_safe s forms survive safe)

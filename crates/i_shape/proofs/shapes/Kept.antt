@@ -29,7 +29,7 @@ same_parity m n h = go (dec_le 1 (m % 2)) (dec_le 1 (n % 2))
     go (no a) (yes b) = let odd : n % 2 ≡ 1 = omega arith in h.1 odd ∙ sym odd
     go (no a) (no b) = omega arith
 
--- one contour more that collapses is missed nowhere
+-- dropping a collapsed contour changes no sum
 flat_more : (c : List Point) (cs left : List (List Point)) → IsFlat c → AreKept cs left → AreKept (c ∷ cs) left
 unfolding Inside
 flat_more c cs left flat rest = record {
@@ -54,7 +54,7 @@ module _ (Answer : List Point → Option (List Point) → Type 0) (keeps : (c : 
   pub survivors_keep : (cs kept : List (List Point)) → Survivors Answer cs kept → AreKept cs kept
   survivors_keep = survivors_each Answer AreKept (same_kept []) (λ c cs kept a. flat_more c cs kept (keeps c None a)) (λ c e cs kept a. kept_more c e cs kept (keeps c (Some e) a))
 
-  -- so does a cleaned shape
+  -- a cleaned shape keeps what the shape has
   pub shape_keeps : (s : List (List Point)) (r : Option (List (List Point))) → ShapeClean Answer s r → IfSome r (AreKept s)
   shape_keeps [] None a = tt
   shape_keeps [] (Some []) a = same_kept []
@@ -63,7 +63,7 @@ module _ (Answer : List Point → Option (List Point) → Type 0) (keeps : (c : 
   shape_keeps (c ∷ s) (Some []) a = absurd a
   shape_keeps (c ∷ s) (Some (e ∷ kept)) a = kept_more c e s kept (keeps c (Some e) a.0) (survivors_keep s kept a.1)
 
-  -- and each shape of a cleaned list
+  -- each shape of a cleaned list keeps what it has
   pub list_keeps : (shapes kept : List (List (List Point))) → ListClean Answer shapes kept → ListKept Answer shapes kept
   list_keeps shapes kept clean = record {
     each = survivors_weaker (ShapeClean Answer) (λ shape r. ShapeClean Answer shape r × IfSome r (AreKept shape)) (λ shape r a. (a, shape_keeps shape r a)) shapes kept clean;
@@ -74,7 +74,7 @@ module _ (Answer : List Point → Option (List Point) → Type 0) (w : Width) (s
   pub survivors_safe : (cs kept : List (List Point)) → Survivors Answer cs kept → IsSafeShape w cs → IsSafeShape w kept
   survivors_safe = survivors_have Answer (All (IsSafe w)) (All (IsSafe w)) stays_safe
 
-  -- so is a cleaned shape
+  -- a cleaned shape of a safe one is safe
   pub shape_safe : (s : List (List Point)) (r : Option (List (List Point))) → ShapeClean Answer s r → IsSafeShape w s → IfSome r (IsSafeShape w)
   shape_safe [] None a safe = tt
   shape_safe [] (Some []) a safe = safe
@@ -84,7 +84,7 @@ module _ (Answer : List Point → Option (List Point) → Type 0) (w : Width) (s
   shape_safe (c ∷ s) (Some (e ∷ kept)) a safe =
       All-cons (All (IsSafe w)) e kept (stays_safe c e a.0 (All-head (All (IsSafe w)) c s safe)) (survivors_safe s kept a.1 (All-tail (All (IsSafe w)) c s safe))
 
-  -- and a cleaned list
+  -- a cleaned list of a safe one is safe
   pub list_safe : (shapes kept : List (List (List Point))) → ListClean Answer shapes kept → IsSafeList w shapes → IsSafeList w kept
   list_safe = survivors_have (ShapeClean Answer) (IsSafeShape w) (IsSafeShape w) (λ s k a safe. shape_safe s (Some k) a safe)
 

@@ -22,7 +22,7 @@ module _ {X : Type 0} (cmp : X → X → Ordering) (f : X → List Point) (told 
       go Equal t more e = inr (sym t, more e)
       go Greater t more e = inl t
 
--- what a sort puts in order is in order as what it stands for
+-- if a sort puts values in order, what they represent is in order
 pub sorted_pairs : {X Y : Type 0} (cmp : X → X → Ordering) (f : X → Y) (AtMost : Y → Y → Type 0) → IsTotalOrder cmp → ((x y : X) → is_lt (cmp y x) ≡ false → AtMost (f x) (f y))
     → (xs : List X) → IsSorted cmp xs → AllPairs AtMost (map f xs)
 sorted_pairs {X} {Y} cmp f AtMost total told xs sorted i j d p q = go xs sorted q

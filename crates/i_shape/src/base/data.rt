@@ -3,6 +3,7 @@
 /// Points in order.
 pub type Path<P> = Vec<P>;
 
+/// A list of paths.
 pub type Paths<P> = Vec<Path<P>>;
 
 /// Points in order, read as a cycle: the last is joined to the first.
@@ -11,4 +12,5 @@ pub type Contour<P> = Vec<P>;
 /// An outer contour and its holes.
 pub type Shape<P> = Vec<Contour<P>>;
 
+/// A list of shapes.
 pub type Shapes<P> = Vec<Shape<P>>;

@@ -22,6 +22,10 @@ pub fn checked_points_count<P>(contours: &[Vec<P>]) -> Option<usize>
 }
 
 /// Reserves capacity for `total` members in all. The members stay unchanged, after an error too.
+///
+/// # Errors
+///
+/// `OutOfMemory`, if an allocation fails.
 pub fn reserve_total<T>(list: &mut Vec<T>, total: usize) -> Result<(), ShapeError>
     ensures items { list.new.items ≡ list.old.items }
     ensures len { vec_len list.new ≡ vec_len list.old }
@@ -48,6 +52,7 @@ pub fn append_contour<P: Copy>(points: &mut Vec<P>, ranges: &mut Vec<Range<usize
     ensures ranges_capacity { vec_capacity ranges.old ≤ vec_capacity ranges.new }
 {
     let start = points.len();
+    // there is room, as the call requires
     points.extend_from_slice(contour).unwrap();
     ranges.push_reserved(start..points.len());
 }
@@ -87,7 +92,11 @@ pub fn append_ranges(list: &mut Vec<Range<usize>>, ranges: &[Range<usize>])
     }
 }
 
-/// Returns a copy of some ranges. The only error is `AllocError`, which can't occur where there is no range.
+/// Returns a copy of some ranges.
+///
+/// # Errors
+///
+/// `AllocError`, which can't occur where there is no range.
 pub fn copied_ranges(
     alloc: Global,
     ranges: &[Range<usize>],
@@ -146,6 +155,10 @@ pub fn append_all_contours<P: Copy>(
 }
 
 /// Returns copies of the parts that some ranges name.
+///
+/// # Errors
+///
+/// `OutOfMemory`, if an allocation fails.
 pub fn copied_parts<P: Copy>(
     alloc: Global,
     points: &[P],
@@ -249,6 +262,10 @@ pub fn shape_in_order(range: &Range<usize>, contour_ranges: &[Range<usize>], len
 }
 
 /// Returns copies of the shapes that some shape ranges name.
+///
+/// # Errors
+///
+/// `OutOfMemory`, if an allocation fails.
 pub fn copied_shapes<P: Copy>(
     alloc: Global,
     points: &[P],

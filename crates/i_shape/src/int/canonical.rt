@@ -25,11 +25,13 @@ pub trait CanonicalShape<I: IntNumber> {
 
     /// Returns the canonical form, or `None` where the first contour collapses. The form of the first contour comes
     /// first. The forms of the other contours follow, without those that collapse, sorted as lists of points. An empty
-    /// shape stays empty.
-    /// Two shapes that have forms have equal forms exactly where they are the same polygon: rotations, removals and
-    /// insertions of zero turns lead from one first contour to the other, and so do they for the other contours that
-    /// don't collapse, paired one to one in some order.
-    /// The form keeps the double area, containment and winding numbers, and its points are safe. The only error is
+    /// shape stays empty. Two shapes that have forms have equal forms exactly where they are the same polygon:
+    /// rotations, removals and insertions of zero turns lead from one first contour to the other, and so do they for
+    /// the other contours that don't collapse, paired one to one in some order. The form keeps the double area,
+    /// containment and winding numbers, and its points are safe.
+    ///
+    /// # Errors
+    ///
     /// `OutOfMemory`, which can't occur for an empty shape, nor where the first contour has fewer than three points.
     fn canonical(&self, alloc: Global) -> Result<Option<IntShape<I>>, ShapeError>
         requires { IsSafeShape I.width (shape self.now) }
@@ -40,9 +42,12 @@ pub trait CanonicalShape<I: IntNumber> {
 
     /// Returns the canonical form without regard to the direction of each contour, or `None` where the first contour
     /// collapses. Two shapes that have forms have equal forms exactly where they are the same polygon up to the
-    /// direction of each contour.
-    /// The form keeps the sum of the contours' absolute double areas. About each point it keeps the sum of their
-    /// absolute winding numbers, and how many contours the point is inside of. Its points are safe. The only error is
+    /// direction of each contour. The form keeps the sum of the contours' absolute double areas. About each point it
+    /// keeps the sum of their absolute winding numbers, and how many contours the point is inside of. Its points are
+    /// safe.
+    ///
+    /// # Errors
+    ///
     /// `OutOfMemory`, which can't occur for an empty shape, nor where the first contour has fewer than three points.
     fn canonical_unoriented(&self, alloc: Global) -> Result<Option<IntShape<I>>, ShapeError>
         requires { IsSafeShape I.width (shape self.now) }
@@ -59,9 +64,12 @@ pub trait CanonicalShapes<I: IntNumber> {
 
     /// Returns the canonical form: the forms of the shapes, sorted contour by contour. A shape whose first contour
     /// collapses is left out. Two lists have equal forms exactly where their other shapes can be paired one to one so
-    /// that partners are the same polygon.
-    /// Each form keeps the double area, containment and winding numbers of its shape, and its points are safe. The only
-    /// error is `OutOfMemory`, which can't occur for an empty list.
+    /// that partners are the same polygon. Each form keeps the double area, containment and winding numbers of its
+    /// shape, and its points are safe.
+    ///
+    /// # Errors
+    ///
+    /// `OutOfMemory`, which can't occur for an empty list.
     fn canonical(&self, alloc: Global) -> Result<IntShapes<I>, ShapeError>
         requires { IsSafeList I.width (shapes self.now) }
         ensures answer { OkUnlessMemory result
@@ -69,8 +77,11 @@ pub trait CanonicalShapes<I: IntNumber> {
         ensures none { shapes self.now ≡ [] → IsOk result };
 
     /// Returns the canonical form without regard to the direction of each contour. Each form keeps of its shape what
-    /// `CanonicalShape::canonical_unoriented` keeps. The only error is `OutOfMemory`, which can't occur for an empty
-    /// list.
+    /// `CanonicalShape::canonical_unoriented` keeps.
+    ///
+    /// # Errors
+    ///
+    /// `OutOfMemory`, which can't occur for an empty list.
     fn canonical_unoriented(&self, alloc: Global) -> Result<IntShapes<I>, ShapeError>
         requires { IsSafeList I.width (shapes self.now) }
         ensures answer { OkUnlessMemory result

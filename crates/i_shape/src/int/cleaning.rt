@@ -24,8 +24,8 @@ use i_shape_core::point::IntPoint;
 use i_shape_core::simplifier::ContourSimplifier;
 use std::alloc::Global;
 
-/// What shapes and lists require of a cleaner's results. `ContourDeSpiker` doesn't implement it: shapes keep repeated
-/// points.
+/// A cleaner for shapes and lists: what it leaves of a contour has safe points again. `ContourDeSpiker` isn't one,
+/// since shapes without spikes keep their repeated points.
 pub trait CleanerLaws: ContourCleaner {
     /// A result has safe points where the contour has.
     ghost stays_safe: { (width : Width) (c e : List Point) → Self.answers c (Some e) → All (IsSafe width) c → All (IsSafe width) e };
@@ -102,6 +102,10 @@ pub fn is_clean_list<I: IntNumber, C: ContourCleaner>(shapes: &[IntShape<I>]) ->
 }
 
 /// Appends the cleaned contour, or nothing where it collapses.
+///
+/// # Errors
+///
+/// `OutOfMemory`, if an allocation fails.
 pub fn append_contour<I: IntNumber, C: ContourCleaner>(
     cleaner: &mut C,
     kept: &mut IntShape<I>,
@@ -142,6 +146,10 @@ fn append_holes<I: IntNumber, C: ContourCleaner>(
 }
 
 /// Returns the cleaned shape, or `None` where its outer contour collapses.
+///
+/// # Errors
+///
+/// `OutOfMemory`, which can't occur for an empty shape, nor where the outer contour has fewer than three points.
 pub fn clean_shape<I: IntNumber, C: InPlaceCleaner>(
     cleaner: &mut C,
     alloc: Global,
@@ -189,6 +197,10 @@ fn push_cleaned_shape<I: IntNumber, C: InPlaceCleaner>(
 }
 
 /// Returns the cleaned shapes of a list, without those whose outer contour collapses.
+///
+/// # Errors
+///
+/// `OutOfMemory`, which can't occur for an empty list.
 pub fn clean_list<I: IntNumber, C: InPlaceCleaner>(
     cleaner: &mut C,
     alloc: Global,

@@ -9,6 +9,7 @@ use crate::int::path::IntPath;
 use crate::int::shape::IntShape;
 use i_shape_core::number::IntNumber;
 
+/// A list of shapes with integer coordinates.
 pub type IntShapes<I> = Shapes<IntPoint<I>>;
 
 /// The total number of points of a list of paths or shapes. The call makes one pass over the paths and allocates

@@ -27,9 +27,12 @@ pub trait DeSpike {
     ghost despike_gives: { Self → Result Bool ShapeError → Self → Type 0 };
 
     /// Removes spikes in place. Returns false exactly where `has_no_spikes` holds of the value; the call then changes
-    /// nothing and allocates nothing.
-    /// All memory is allocated before the value changes. The only error is `OutOfMemory`, which leaves the value
-    /// unchanged. The points are safe after every call.
+    /// nothing and allocates nothing. All memory is allocated before the value changes. The points are safe after every
+    /// call.
+    ///
+    /// # Errors
+    ///
+    /// `OutOfMemory`, which leaves the value unchanged.
     fn remove_spikes(&mut self) -> Result<bool, ShapeError>
         requires { can_despike self.old }
         ensures gives { despike_gives self.old result self.new }
@@ -37,8 +40,8 @@ pub trait DeSpike {
         ensures safe { can_despike self.new };
 }
 
-/// A contour that collapses becomes empty. A contour of fewer than four points needs no allocation. After a call without
-/// an error, a second call returns false exactly where the contour isn't empty.
+/// A contour that collapses becomes empty. A contour of fewer than four points needs no allocation. After a call
+/// without an error, a second call returns false exactly where the contour isn't empty.
 impl<I: IntNumber> DeSpike for IntContour<I> {
     ghost can_despike = { λ contour. IsSafeContour I.width (contour_of I.value contour.items) };
 

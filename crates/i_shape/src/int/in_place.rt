@@ -20,6 +20,10 @@ use std::alloc::Global;
 
 /// Replaces the shape by the cleaned shape, or empties it where its outer contour collapses. Returns whether a contour
 /// needed cleaning. If none did, and after an error, the shape is unchanged.
+///
+/// # Errors
+///
+/// `OutOfMemory`, if an allocation fails.
 pub fn clean_shape_in_place<I: IntNumber, C: InPlaceCleaner>(
     shape: &mut IntShape<I>,
 ) -> Result<bool, ShapeError>
@@ -34,12 +38,16 @@ pub fn clean_shape_in_place<I: IntNumber, C: InPlaceCleaner>(
     };
     let mut work = InPlaceWork::<I, C>::with_capacity(*shape.allocator(), longest)?;
     work.clean_contours(shape);
-    take_out_collapsed(shape);
+    remove_collapsed(shape);
     Ok(true)
 }
 
 /// Replaces the list by the cleaned list. Returns whether a contour needed cleaning. If none did, and after an error,
 /// the list is unchanged.
+///
+/// # Errors
+///
+/// `OutOfMemory`, if an allocation fails.
 pub fn clean_list_in_place<I: IntNumber, C: InPlaceCleaner>(
     shapes: &mut IntShapes<I>,
 ) -> Result<bool, ShapeError>
@@ -54,7 +62,7 @@ pub fn clean_list_in_place<I: IntNumber, C: InPlaceCleaner>(
     };
     let mut work = InPlaceWork::<I, C>::with_capacity(*shapes.allocator(), longest)?;
     work.clean_shapes(shapes);
-    take_out_of_list(shapes);
+    remove_collapsed_shapes(shapes);
     Ok(true)
 }
 
@@ -73,7 +81,7 @@ fn longest_unclean<I: IntNumber, C: ContourCleaner>(shape: &[IntContour<I>]) -> 
     longest
 }
 
-/// Returns the same for all contours of a list.
+/// Returns the number of points of the longest contour of a list that isn't clean, or `None` if all are clean.
 fn longest_unclean_of_list<I: IntNumber, C: ContourCleaner>(shapes: &[IntShape<I>]) -> Option<usize>
     requires { IsSafeList I.width (shapes_of I.value shapes.now) }
     ensures { LongestUnclean (Contains (concatenated (shapes_of I.value shapes.now))) C.clean
@@ -131,6 +139,7 @@ impl<I: IntNumber, C: InPlaceCleaner> InPlaceWork<I, C> {
             return;
         }
         self.copy.clear();
+        // there is room, as the call requires
         self.copy.extend_from_slice(contour.as_slice()).unwrap();
         let left = self
             .cleaner
@@ -171,14 +180,11 @@ impl<I: IntNumber, C: InPlaceCleaner> InPlaceWork<I, C> {
 fn keeps_outer<I: IntNumber>(shape: &[IntContour<I>]) -> bool
     ensures { result ≡ keeps_outer (shape_of I.value shape.now) }
 {
-    match shape.first() {
-        Some(outer) => !outer.is_empty(),
-        None => true,
-    }
+    shape.first().is_none_or(|outer| !outer.is_empty())
 }
 
 /// Removes the contours without points.
-fn drop_empty<I: IntNumber>(shape: &mut IntShape<I>)
+fn remove_empty<I: IntNumber>(shape: &mut IntShape<I>)
     ensures { shape_of I.value shape.new.items
         ≡ filter has_points (shape_of I.value shape.old.items) }
 {
@@ -186,23 +192,23 @@ fn drop_empty<I: IntNumber>(shape: &mut IntShape<I>)
 }
 
 /// Removes the contours without points, or all contours where the outer one has no points.
-pub fn take_out_collapsed<I: IntNumber>(shape: &mut IntShape<I>)
+pub fn remove_collapsed<I: IntNumber>(shape: &mut IntShape<I>)
     ensures { shape_of I.value shape.new.items ≡ kept_contours (shape_of I.value shape.old.items) }
 {
     if keeps_outer(shape.as_slice()) {
-        drop_empty(shape);
+        remove_empty(shape);
     } else {
         shape.clear();
     }
 }
 
 /// Removes the contours without points, and the shapes whose outer contour has no points.
-pub fn take_out_of_list<I: IntNumber>(shapes: &mut IntShapes<I>)
+pub fn remove_collapsed_shapes<I: IntNumber>(shapes: &mut IntShapes<I>)
     ensures { shapes_of I.value shapes.new.items
         ≡ kept_shapes (shapes_of I.value shapes.old.items) }
 {
     shapes.retain(|shape| keeps_outer(shape.as_slice()));
     for shape in shapes.iter_mut() {
-        drop_empty(shape);
+        remove_empty(shape);
     }
 }

@@ -28,9 +28,12 @@ pub trait Simplify {
     ghost simplify_gives: { Self → Result Bool ShapeError → Self → Type 0 };
 
     /// Removes zero turns in place. Returns false exactly where `is_simple` holds of the value; the call then changes
-    /// nothing and allocates nothing.
-    /// All memory is allocated before the value changes. The only error is `OutOfMemory`, which leaves the value
-    /// unchanged. The points are safe after every call.
+    /// nothing and allocates nothing. All memory is allocated before the value changes. The points are safe after every
+    /// call.
+    ///
+    /// # Errors
+    ///
+    /// `OutOfMemory`, which leaves the value unchanged.
     fn simplify_contour(&mut self) -> Result<bool, ShapeError>
         requires { can_simplify self.old }
         ensures gives { simplify_gives self.old result self.new }

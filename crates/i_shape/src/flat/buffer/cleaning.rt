@@ -27,12 +27,14 @@ use std::ops::Range;
 impl<T: IntNumber> FlatContoursBuffer<T> {
     /// Removes zero turns from each contour, and the contours that collapse. Returns whether a contour had to be
     /// cleaned. If none had to, the call changes nothing and allocates nothing. Otherwise the buffer holds the cleaned
-    /// contours end to end, in order, and nothing else.
-    /// Requires what `can_read_contours` tests, and safe points. `TooManyPoints` if a contour has to be cleaned and the
-    /// ranges name more than `usize::MAX` points together, checked before any allocation; otherwise the only error is
-    /// `OutOfMemory`. An error leaves the buffer unchanged.
-    /// After every call the contours can be read and have safe points. Together they keep their double area,
-    /// containment and winding numbers.
+    /// contours end to end, in order, and nothing else. Requires what `can_read_contours` tests, and safe points. After
+    /// every call the contours can be read and have safe points. Together they keep their double area, containment and
+    /// winding numbers.
+    ///
+    /// # Errors
+    ///
+    /// `TooManyPoints` if a contour has to be cleaned and the ranges name more than `usize::MAX` points together,
+    /// checked before any allocation; otherwise `OutOfMemory`. An error leaves the buffer unchanged.
     pub fn simplify_contours(&mut self) -> Result<bool, ShapeError>
         requires readable { CanReadContours self.old }
         requires safe { All (All (IsSafe T.width)) (contours_in T.value self.old) }
@@ -47,6 +49,10 @@ impl<T: IntNumber> FlatContoursBuffer<T> {
 
     /// Removes spikes from each contour that has any, and the contours that collapse. Otherwise like
     /// `simplify_contours`. Returns whether a contour had to be cleaned.
+    ///
+    /// # Errors
+    ///
+    /// Those of `simplify_contours`. An error leaves the buffer unchanged.
     pub fn remove_spikes(&mut self) -> Result<bool, ShapeError>
         requires readable { CanReadContours self.old }
         requires safe { All (All (IsSafe T.width)) (contours_in T.value self.old) }

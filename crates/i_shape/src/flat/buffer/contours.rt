@@ -41,8 +41,11 @@ impl<T: IntNumber> FlatContoursBuffer<T> {
         }
     }
 
-    /// Returns an empty buffer with room for at least `capacity` points. The only error is `OutOfMemory`, which can't occur
-    /// at capacity 0.
+    /// Returns an empty buffer with room for at least `capacity` points.
+    ///
+    /// # Errors
+    ///
+    /// `OutOfMemory`, which can't occur at capacity 0.
     pub fn with_capacity(alloc: Global, capacity: usize) -> Result<Self, ShapeError>
         ensures ok { IfOk result (λ buffer. HoldsContours buffer []) }
         ensures room { IfOk result (λ buffer. capacity ≤ vec_capacity buffer.points) }
@@ -55,8 +58,11 @@ impl<T: IntNumber> FlatContoursBuffer<T> {
         })
     }
 
-    /// Returns a buffer with the same points and ranges. The only error is `OutOfMemory`, which can't occur where there
-    /// are none.
+    /// Returns a buffer with the same points and ranges.
+    ///
+    /// # Errors
+    ///
+    /// `OutOfMemory`, which can't occur where there are none.
     pub fn clone(&self) -> Result<Self, ShapeError>
         ensures ok { IfOk result (λ copy. SameLists self.now copy) }
         ensures none { HoldsContours self.now [] → IsOk result }
@@ -89,10 +95,8 @@ impl<T: IntNumber> FlatContoursBuffer<T> {
         ensures { IsTrue result ↔ CanReadFirst self.now.ranges.items
             (length self.now.points.items) }
     {
-        match self.ranges.first() {
-            None => true,
-            Some(range) => is_in_order(range, self.points.len()),
-        }
+        let first = self.ranges.first();
+        first.is_none_or(|range| is_in_order(range, self.points.len()))
     }
 
     /// Returns whether `to_contours` may be called: each range is in order and ends within the points.
@@ -105,8 +109,11 @@ impl<T: IntNumber> FlatContoursBuffer<T> {
 
 /// Setters. Each makes room before it changes a list, so an error leaves the lists unchanged.
 impl<T: IntNumber> FlatContoursBuffer<T> {
-    /// Empties the buffer and makes room for `points` points and `contours` contours. The only error is `OutOfMemory`,
-    /// which leaves the lists unchanged.
+    /// Empties the buffer and makes room for `points` points and `contours` contours.
+    ///
+    /// # Errors
+    ///
+    /// `OutOfMemory`, which leaves the lists unchanged.
     pub fn clear_and_reserve(&mut self, points: usize, contours: usize) -> Result<(), ShapeError>
         ensures ok { OnOk result (HoldsContours self.new []) }
         ensures err { OnErr result (SameLists self.old self.new) }
@@ -122,7 +129,11 @@ impl<T: IntNumber> FlatContoursBuffer<T> {
         Ok(())
     }
 
-    /// Replaces the contents by this one contour. The only error is `OutOfMemory`, which leaves the lists unchanged.
+    /// Replaces the contents by this one contour.
+    ///
+    /// # Errors
+    ///
+    /// `OutOfMemory`, which leaves the lists unchanged.
     pub fn set_with_contour(&mut self, contour: &[IntPoint<T>]) -> Result<(), ShapeError>
         ensures ok { OnOk result (HoldsContours self.new (contour.now ∷ [])) }
         ensures err { OnErr result (SameLists self.old self.new) }
@@ -135,8 +146,12 @@ impl<T: IntNumber> FlatContoursBuffer<T> {
         Ok(())
     }
 
-    /// Replaces the contents by the contours of this shape. `TooManyPoints` if they have more than `usize::MAX` points
-    /// together, checked first; otherwise the only error is `OutOfMemory`. An error leaves the lists unchanged.
+    /// Replaces the contents by the contours of this shape.
+    ///
+    /// # Errors
+    ///
+    /// `TooManyPoints` if they have more than `usize::MAX` points together, checked first; otherwise `OutOfMemory`. An
+    /// error leaves the lists unchanged.
     pub fn set_with_shape(&mut self, shape: &[IntContour<T>]) -> Result<(), ShapeError>
         ensures ok { OnOk result (HoldsContours self.new (paths_of_shape shape.now)) }
         ensures err { OnErr result (SameLists self.old self.new) }
@@ -152,9 +167,12 @@ impl<T: IntNumber> FlatContoursBuffer<T> {
         Ok(())
     }
 
-    /// Replaces the contents by all contours of these shapes. `TooManyPoints` if there are more than `usize::MAX`
-    /// contours, or if they have more than `usize::MAX` points together, checked first; otherwise the only error is
-    /// `OutOfMemory`. An error leaves the lists unchanged.
+    /// Replaces the contents by all contours of these shapes.
+    ///
+    /// # Errors
+    ///
+    /// `TooManyPoints` if there are more than `usize::MAX` contours, or if they have more than `usize::MAX` points
+    /// together, checked first; otherwise `OutOfMemory`. An error leaves the lists unchanged.
     pub fn set_with_shapes(&mut self, shapes: &[IntShape<T>]) -> Result<(), ShapeError>
         ensures ok { OnOk result (HoldsContours self.new (paths_of_shapes shapes.now)) }
         ensures err { OnErr result (SameLists self.old self.new) }
@@ -171,8 +189,12 @@ impl<T: IntNumber> FlatContoursBuffer<T> {
         Ok(())
     }
 
-    /// Appends the points of a contour and their range. `TooManyPoints` if the buffer would have more than `usize::MAX`
-    /// points, checked first; otherwise the only error is `OutOfMemory`. An error leaves the lists unchanged.
+    /// Appends the points of a contour and their range.
+    ///
+    /// # Errors
+    ///
+    /// `TooManyPoints` if the buffer would have more than `usize::MAX` points, checked first; otherwise `OutOfMemory`.
+    /// An error leaves the lists unchanged.
     pub fn add_contour(&mut self, contour: &[IntPoint<T>]) -> Result<(), ShapeError>
         ensures points { OnOk result (self.new.points.items
             ≡ self.old.points.items ++ contour.now) }
@@ -198,8 +220,11 @@ impl<T: IntNumber> FlatContoursBuffer<T> {
 
 /// Readers.
 impl<T: IntNumber> FlatContoursBuffer<T> {
-    /// Returns a copy of each contour, in the order of the ranges. Requires what `can_read_contours` tests. The only
-    /// error is `OutOfMemory`, which can't occur where there is no range.
+    /// Returns a copy of each contour, in the order of the ranges. Requires what `can_read_contours` tests.
+    ///
+    /// # Errors
+    ///
+    /// `OutOfMemory`, which can't occur where there is no range.
     pub fn to_contours(&self) -> Result<IntShape<T>, ShapeError>
         requires { CanReadContours self.now }
         ensures ok { IfOk result (λ contours. paths_of_shape contours.items

@@ -45,8 +45,11 @@ impl<T: IntNumber> FlatShapesBuffer<T> {
         }
     }
 
-    /// Returns an empty buffer with room for at least `points` points, `contours` contours and `shapes` shapes. The
-    /// only error is `OutOfMemory`, which can't occur where all three are 0.
+    /// Returns an empty buffer with room for at least `points` points, `contours` contours and `shapes` shapes.
+    ///
+    /// # Errors
+    ///
+    /// `OutOfMemory`, which can't occur where all three are 0.
     pub fn with_capacity(
         alloc: Global,
         points: usize,
@@ -65,8 +68,11 @@ impl<T: IntNumber> FlatShapesBuffer<T> {
         })
     }
 
-    /// Returns a buffer with the same points and ranges. The only error is `OutOfMemory`, which can't occur where there
-    /// are none.
+    /// Returns a buffer with the same points and ranges.
+    ///
+    /// # Errors
+    ///
+    /// `OutOfMemory`, which can't occur where there are none.
     pub fn clone(&self) -> Result<Self, ShapeError>
         ensures ok { IfOk result (λ copy. SameShapeLists self.now copy) }
         ensures none { HoldsShapes self.now [] → IsOk result }
@@ -108,8 +114,11 @@ impl<T: IntNumber> FlatShapesBuffer<T> {
 
 /// Setters. Each makes room before it changes a list, so an error leaves the lists unchanged.
 impl<T: IntNumber> FlatShapesBuffer<T> {
-    /// Empties the buffer and makes room for `points` points, `contours` contours and `shapes` shapes. The only error
-    /// is `OutOfMemory`, which leaves the lists unchanged.
+    /// Empties the buffer and makes room for `points` points, `contours` contours and `shapes` shapes.
+    ///
+    /// # Errors
+    ///
+    /// `OutOfMemory`, which leaves the lists unchanged.
     pub fn clear_and_reserve(
         &mut self,
         points: usize,
@@ -132,8 +141,11 @@ impl<T: IntNumber> FlatShapesBuffer<T> {
         Ok(())
     }
 
-    /// Replaces the contents by a shape of this one contour. The only error is `OutOfMemory`, which leaves the lists
-    /// unchanged.
+    /// Replaces the contents by a shape of this one contour.
+    ///
+    /// # Errors
+    ///
+    /// `OutOfMemory`, which leaves the lists unchanged.
     pub fn set_with_contour(&mut self, contour: &[IntPoint<T>]) -> Result<(), ShapeError>
         ensures ok { OnOk result (HoldsShapes self.new ((contour.now ∷ []) ∷ [])) }
         ensures err { OnErr result (SameShapeLists self.old self.new) }
@@ -147,8 +159,12 @@ impl<T: IntNumber> FlatShapesBuffer<T> {
         Ok(())
     }
 
-    /// Replaces the contents by this one shape. `TooManyPoints` if its contours have more than `usize::MAX` points
-    /// together, checked first; otherwise the only error is `OutOfMemory`. An error leaves the lists unchanged.
+    /// Replaces the contents by this one shape.
+    ///
+    /// # Errors
+    ///
+    /// `TooManyPoints` if its contours have more than `usize::MAX` points together, checked first; otherwise
+    /// `OutOfMemory`. An error leaves the lists unchanged.
     pub fn set_with_shape(&mut self, shape: &[IntContour<T>]) -> Result<(), ShapeError>
         ensures ok { OnOk result (HoldsShapes self.new (paths_of_shape shape.now ∷ [])) }
         ensures err { OnErr result (SameShapeLists self.old self.new) }
@@ -169,9 +185,12 @@ impl<T: IntNumber> FlatShapesBuffer<T> {
         Ok(())
     }
 
-    /// Replaces the contents by these shapes, including empty ones. `TooManyPoints` if there are more than `usize::MAX`
-    /// contours, or if they have more than `usize::MAX` points together, checked first; otherwise the only error is
-    /// `OutOfMemory`. An error leaves the lists unchanged.
+    /// Replaces the contents by these shapes, including empty ones.
+    ///
+    /// # Errors
+    ///
+    /// `TooManyPoints` if there are more than `usize::MAX` contours, or if they have more than `usize::MAX` points
+    /// together, checked first; otherwise `OutOfMemory`. An error leaves the lists unchanged.
     pub fn set_with_shapes(&mut self, shapes: &[IntShape<T>]) -> Result<(), ShapeError>
         ensures ok { OnOk result (HoldsShapes self.new (shape_lists shapes.now)) }
         ensures err { OnErr result (SameShapeLists self.old self.new) }
@@ -194,8 +213,12 @@ impl<T: IntNumber> FlatShapesBuffer<T> {
         Ok(())
     }
 
-    /// Appends a shape, which may be empty. `TooManyPoints` if the buffer would have more than `usize::MAX` points or
-    /// contour ranges, checked first; otherwise the only error is `OutOfMemory`. An error leaves the lists unchanged.
+    /// Appends a shape, which may be empty.
+    ///
+    /// # Errors
+    ///
+    /// `TooManyPoints` if the buffer would have more than `usize::MAX` points or contour ranges, checked first;
+    /// otherwise `OutOfMemory`. An error leaves the lists unchanged.
     pub fn add_shape(&mut self, shape: &[IntContour<T>]) -> Result<(), ShapeError>
         ensures ok { OnOk result (AddsShape self.old self.new (paths_of_shape shape.now)) }
         ensures err { OnErr result (SameShapeLists self.old self.new) }
@@ -230,8 +253,11 @@ impl<T: IntNumber> FlatShapesBuffer<T> {
 
 /// Readers.
 impl<T: IntNumber> FlatShapesBuffer<T> {
-    /// Returns a copy of each contour, in the order of the contour ranges. Requires what `can_read_contours` tests. The
-    /// only error is `OutOfMemory`, which can't occur where there is no contour range.
+    /// Returns a copy of each contour, in the order of the contour ranges. Requires what `can_read_contours` tests.
+    ///
+    /// # Errors
+    ///
+    /// `OutOfMemory`, which can't occur where there is no contour range.
     pub fn to_contours(&self) -> Result<IntShape<T>, ShapeError>
         requires { All (InOrder (length self.now.points.items)) self.now.contour_ranges.items }
         ensures ok { IfOk result (λ contours. paths_of_shape contours.items
@@ -247,8 +273,11 @@ impl<T: IntNumber> FlatShapesBuffer<T> {
     }
 
     /// Returns a copy of each shape, in the order of the shape ranges. An empty or reversed range gives an empty shape.
-    /// Requires what `can_read_shapes` tests. The only error is `OutOfMemory`, which can't occur where there is no shape
-    /// range.
+    /// Requires what `can_read_shapes` tests.
+    ///
+    /// # Errors
+    ///
+    /// `OutOfMemory`, which can't occur where there is no shape range.
     pub fn to_shapes(&self) -> Result<IntShapes<T>, ShapeError>
         requires { CanReadShapes self.now }
         ensures ok { IfOk result (λ list. shape_lists list.items ≡ shapes_in self.now) }

@@ -40,7 +40,10 @@ impl<P: Copy> FloatFlatContoursBuffer<P> {
         }
     }
 
-    /// Returns an empty buffer with room for at least `points` points and `contours` contours. The only error is
+    /// Returns an empty buffer with room for at least `points` points and `contours` contours.
+    ///
+    /// # Errors
+    ///
     /// `OutOfMemory`, which can't occur where both are 0.
     pub fn with_capacity(alloc: Global, points: usize, contours: usize) -> Result<Self, ShapeError>
         ensures ok { IfOk result (λ buffer. HasLists buffer [] []) }
@@ -54,8 +57,11 @@ impl<P: Copy> FloatFlatContoursBuffer<P> {
         })
     }
 
-    /// Returns a buffer with the same points and ranges. The only error is `OutOfMemory`, which can't occur where there
-    /// are none.
+    /// Returns a buffer with the same points and ranges.
+    ///
+    /// # Errors
+    ///
+    /// `OutOfMemory`, which can't occur where there are none.
     pub fn clone(&self) -> Result<Self, ShapeError>
         ensures ok { IfOk result
             (λ copy. HasLists copy self.now.points.items self.now.ranges.items) }
@@ -84,8 +90,11 @@ impl<P: Copy> FloatFlatContoursBuffer<P> {
         all_in_order(self.ranges.as_slice(), self.points.len())
     }
 
-    /// Returns a copy of each range's points. Requires what `can_read_contours` tests. The only error is `OutOfMemory`,
-    /// which can't occur where there is no range.
+    /// Returns a copy of each range's points. Requires what `can_read_contours` tests.
+    ///
+    /// # Errors
+    ///
+    /// `OutOfMemory`, which can't occur where there is no range.
     pub fn to_contours(&self) -> Result<Vec<Contour<P>>, ShapeError>
         requires { All (InOrder (length self.now.points.items)) self.now.ranges.items }
         ensures ok { IfOk result (λ contours. paths_of_shape contours.items
@@ -109,8 +118,11 @@ impl<P: Copy> FloatFlatContoursBuffer<P> {
         self.ranges.clear();
     }
 
-    /// Empties the buffer and makes room for `points` points and `contours` contours. The only error is `OutOfMemory`,
-    /// which leaves the lists unchanged.
+    /// Empties the buffer and makes room for `points` points and `contours` contours.
+    ///
+    /// # Errors
+    ///
+    /// `OutOfMemory`, which leaves the lists unchanged.
     pub fn clear_and_reserve(&mut self, points: usize, contours: usize) -> Result<(), ShapeError>
         ensures ok { OnOk result (HasLists self.new [] []) }
         ensures err { OnErr result (HasLists self.new self.old.points.items self.old.ranges.items) }
@@ -125,8 +137,12 @@ impl<P: Copy> FloatFlatContoursBuffer<P> {
         Ok(())
     }
 
-    /// Appends a contour. `TooManyPoints` if the buffer would have more than `usize::MAX` points, checked first;
-    /// otherwise the only error is `OutOfMemory`. An error leaves the lists unchanged.
+    /// Appends a contour.
+    ///
+    /// # Errors
+    ///
+    /// `TooManyPoints` if the buffer would have more than `usize::MAX` points, checked first; otherwise `OutOfMemory`.
+    /// An error leaves the lists unchanged.
     pub fn add_contour(&mut self, contour: &[P]) -> Result<(), ShapeError>
         ensures ok { OnOk result
             (HasLists self.new (self.old.points.items ++ contour.now)
@@ -148,8 +164,11 @@ impl<P: Copy> FloatFlatContoursBuffer<P> {
         Ok(())
     }
 
-    /// Appends all items of an iterator as one contour. The only error is `OutOfMemory`, which leaves the lists
-    /// unchanged.
+    /// Appends all items of an iterator as one contour.
+    ///
+    /// # Errors
+    ///
+    /// `OutOfMemory`, which leaves the lists unchanged.
     pub fn add_contour_iter<I: Iterator<Item = P> + Drop>(
         &mut self,
         iter: I,
@@ -173,7 +192,10 @@ impl<P: Copy> FloatFlatContoursBuffer<P> {
         Ok(())
     }
 
-    /// Replaces the contents by copies of these points and ranges. The ranges aren't checked. The only error is
+    /// Replaces the contents by copies of these points and ranges. The ranges aren't checked.
+    ///
+    /// # Errors
+    ///
     /// `OutOfMemory`, which leaves the lists unchanged.
     pub fn set_flat(&mut self, points: &[P], ranges: &[Range<usize>]) -> Result<(), ShapeError>
         ensures ok { OnOk result (HasLists self.new points.now ranges.now) }
@@ -184,6 +206,7 @@ impl<P: Copy> FloatFlatContoursBuffer<P> {
         ensures memory { IsOkUnless result ShapeError.OutOfMemory }
     {
         self.clear_and_reserve(points.len(), ranges.len())?;
+        // there is room now
         self.points.extend_from_slice(points).unwrap();
         append_ranges(&mut self.ranges, ranges);
         Ok(())
@@ -192,7 +215,10 @@ impl<P: Copy> FloatFlatContoursBuffer<P> {
     /// Replaces the contents by all items of an iterator and copies of these ranges. The ranges aren't checked.
     ///
     /// Before it takes the first item, the call makes room for as many points as the upper size hint says, or the lower
-    /// one where there is no upper one, and for no fewer than the greatest end of the ranges. The only error is
+    /// one where there is no upper one, and for no fewer than the greatest end of the ranges.
+    ///
+    /// # Errors
+    ///
     /// `OutOfMemory`, which leaves the buffer empty.
     pub fn set_with_iter<I: Iterator<Item = P> + Drop>(
         &mut self,
@@ -221,9 +247,12 @@ impl<P: Copy> FloatFlatContoursBuffer<P> {
 }
 
 impl<P: ShapePoint> FloatFlatContoursBuffer<P> {
-    /// Replaces the contents by the paths of a resource, end to end. `TooManyPoints` if there are more than
-    /// `usize::MAX` paths or points, checked first; otherwise the only error is `OutOfMemory`. An error leaves the
-    /// lists unchanged.
+    /// Replaces the contents by the paths of a resource, end to end.
+    ///
+    /// # Errors
+    ///
+    /// `TooManyPoints` if there are more than `usize::MAX` paths or points, checked first; otherwise `OutOfMemory`. An
+    /// error leaves the lists unchanged.
     pub fn set_with_resource<'a, R: ShapeResource<'a, P> + Copy>(
         &mut self,
         resource: R,

@@ -19,7 +19,11 @@ pub fn greatest_end(ranges: &[Range<usize>]) -> usize
     ranges.iter().map(|range| range.end).max().unwrap_or(0)
 }
 
-/// Appends all items of an iterator. The only error is `OutOfMemory`, which leaves the points unchanged.
+/// Appends all items of an iterator.
+///
+/// # Errors
+///
+/// `OutOfMemory`, which leaves the points unchanged.
 pub fn append_items<P: Copy, I: Iterator<Item = P> + Drop>(
     points: &mut Vec<P>,
     iter: I,

@@ -45,8 +45,11 @@ impl<P: Copy> FloatFlatShapesBuffer<P> {
         }
     }
 
-    /// Returns an empty buffer with room for at least `points` points, `contours` contours and `shapes` shapes. The
-    /// only error is `OutOfMemory`, which can't occur where all three are 0.
+    /// Returns an empty buffer with room for at least `points` points, `contours` contours and `shapes` shapes.
+    ///
+    /// # Errors
+    ///
+    /// `OutOfMemory`, which can't occur where all three are 0.
     pub fn with_capacity(
         alloc: Global,
         points: usize,
@@ -65,8 +68,11 @@ impl<P: Copy> FloatFlatShapesBuffer<P> {
         })
     }
 
-    /// Returns a buffer with the same points and ranges. The only error is `OutOfMemory`, which can't occur where there
-    /// are none.
+    /// Returns a buffer with the same points and ranges.
+    ///
+    /// # Errors
+    ///
+    /// `OutOfMemory`, which can't occur where there are none.
     pub fn clone(&self) -> Result<Self, ShapeError>
         ensures ok { IfOk result (λ copy. SameGroups self.now copy) }
         ensures none { HasShapeLists self.now [] [] [] → IsOk result }
@@ -107,7 +113,10 @@ impl<P: Copy> FloatFlatShapesBuffer<P> {
         })
     }
 
-    /// Returns a copy of each contour range's points. Requires what `can_read_contours` tests. The only error is
+    /// Returns a copy of each contour range's points. Requires what `can_read_contours` tests.
+    ///
+    /// # Errors
+    ///
     /// `OutOfMemory`, which can't occur where there is no contour range.
     pub fn to_contours(&self) -> Result<Vec<Contour<P>>, ShapeError>
         requires { All (InOrder (length self.now.points.items)) self.now.contour_ranges.items }
@@ -122,8 +131,11 @@ impl<P: Copy> FloatFlatShapesBuffer<P> {
     }
 
     /// Returns a copy of each shape, in the order of the shape ranges. An empty or reversed range gives an empty shape.
-    /// Requires what `can_read_shapes` tests. The only error is `OutOfMemory`, which can't occur where there is no shape
-    /// range.
+    /// Requires what `can_read_shapes` tests.
+    ///
+    /// # Errors
+    ///
+    /// `OutOfMemory`, which can't occur where there is no shape range.
     pub fn to_shapes(&self) -> Result<Shapes<P>, ShapeError>
         requires { All
             (IsReadableShape (length self.now.points.items) self.now.contour_ranges.items)
@@ -158,8 +170,11 @@ impl<P: Copy> FloatFlatShapesBuffer<P> {
         self.shape_ranges.clear();
     }
 
-    /// Empties the buffer and makes room for `points` points, `contours` contours and `shapes` shapes. The only error
-    /// is `OutOfMemory`, which leaves the lists unchanged.
+    /// Empties the buffer and makes room for `points` points, `contours` contours and `shapes` shapes.
+    ///
+    /// # Errors
+    ///
+    /// `OutOfMemory`, which leaves the lists unchanged.
     pub fn clear_and_reserve(
         &mut self,
         points: usize,
@@ -180,8 +195,12 @@ impl<P: Copy> FloatFlatShapesBuffer<P> {
         Ok(())
     }
 
-    /// Appends a shape of this one contour. `TooManyPoints` if the buffer would have more than `usize::MAX` points,
-    /// checked first; otherwise the only error is `OutOfMemory`. An error leaves the lists unchanged.
+    /// Appends a shape of this one contour.
+    ///
+    /// # Errors
+    ///
+    /// `TooManyPoints` if the buffer would have more than `usize::MAX` points, checked first; otherwise `OutOfMemory`.
+    /// An error leaves the lists unchanged.
     pub fn add_contour(&mut self, contour: &[P]) -> Result<(), ShapeError>
         ensures ok { OnOk result
             (HasShapeLists self.new (self.old.points.items ++ contour.now)
@@ -210,8 +229,11 @@ impl<P: Copy> FloatFlatShapesBuffer<P> {
         Ok(())
     }
 
-    /// Appends a shape of one contour, which has all items of an iterator. The only error is `OutOfMemory`, which
-    /// leaves the lists unchanged.
+    /// Appends a shape of one contour, which has all items of an iterator.
+    ///
+    /// # Errors
+    ///
+    /// `OutOfMemory`, which leaves the lists unchanged.
     pub fn add_contour_iter<I: Iterator<Item = P> + Drop>(
         &mut self,
         iter: I,
@@ -242,7 +264,10 @@ impl<P: Copy> FloatFlatShapesBuffer<P> {
         Ok(())
     }
 
-    /// Replaces the contents by copies of these points and ranges. The ranges aren't checked. The only error is
+    /// Replaces the contents by copies of these points and ranges. The ranges aren't checked.
+    ///
+    /// # Errors
+    ///
     /// `OutOfMemory`, which leaves the lists unchanged.
     pub fn set_flat(
         &mut self,
@@ -259,6 +284,7 @@ impl<P: Copy> FloatFlatShapesBuffer<P> {
         ensures memory { IsOkUnless result ShapeError.OutOfMemory }
     {
         self.clear_and_reserve(points.len(), contour_ranges.len(), shape_ranges.len())?;
+        // there is room now
         self.points.extend_from_slice(points).unwrap();
         append_ranges(&mut self.contour_ranges, contour_ranges);
         append_ranges(&mut self.shape_ranges, shape_ranges);
@@ -268,7 +294,10 @@ impl<P: Copy> FloatFlatShapesBuffer<P> {
     /// Replaces the contents by all items of an iterator and copies of these ranges. The ranges aren't checked.
     ///
     /// Before it takes the first item, the call makes room for as many points as the upper size hint says, or the lower
-    /// one where there is no upper one, and for no fewer than the greatest end of the contour ranges. The only error is
+    /// one where there is no upper one, and for no fewer than the greatest end of the contour ranges.
+    ///
+    /// # Errors
+    ///
     /// `OutOfMemory`, which leaves the buffer empty.
     pub fn set_with_iter<I: Iterator<Item = P> + Drop>(
         &mut self,
@@ -302,8 +331,11 @@ impl<P: Copy> FloatFlatShapesBuffer<P> {
 impl<P: ShapePoint> FloatFlatShapesBuffer<P> {
     /// Replaces the contents by the paths of a resource, end to end, as one shape. A resource without paths gives no
     /// shape and needs no allocation.
-    /// `TooManyPoints` if there are more than `usize::MAX` paths or points, checked first; otherwise the only error is
-    /// `OutOfMemory`. An error leaves the lists unchanged.
+    ///
+    /// # Errors
+    ///
+    /// `TooManyPoints` if there are more than `usize::MAX` paths or points, checked first; otherwise `OutOfMemory`. An
+    /// error leaves the lists unchanged.
     pub fn set_with_resource<'a, R: ShapeResource<'a, P> + Copy>(
         &mut self,
         resource: R,

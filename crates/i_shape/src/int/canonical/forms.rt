@@ -15,7 +15,7 @@ use i_shape_core::error::ShapeError;
 use i_shape_core::number::IntNumber;
 use std::alloc::Global;
 
-/// Returns the forms of the contours that don't collapse, sorted. Reserves room for one more, which no clause states.
+/// Returns the forms of the contours that don't collapse, sorted, with room reserved for one more.
 fn sorted_forms<I: IntNumber, C: CleanerLaws>(
     cleaner: &mut C,
     alloc: Global,
@@ -36,6 +36,10 @@ fn sorted_forms<I: IntNumber, C: CleanerLaws>(
 }
 
 /// Returns the form of a shape, or `None` where its outer contour collapses.
+///
+/// # Errors
+///
+/// `OutOfMemory`, if an allocation fails.
 pub fn shape_form<I: IntNumber, C: CleanerLaws>(
     cleaner: &mut C,
     alloc: Global,
@@ -85,6 +89,10 @@ fn push_shape_form<I: IntNumber, C: CleanerLaws>(
 }
 
 /// Returns the forms of the shapes that have one, sorted.
+///
+/// # Errors
+///
+/// `OutOfMemory`, if an allocation fails.
 pub fn list_form<I: IntNumber, C: CleanerLaws>(
     cleaner: &mut C,
     alloc: Global,

@@ -28,7 +28,10 @@ pub trait DeSpikeShape<I: IntNumber> {
         ensures { IsTrue result ↔ EachContour NoSpikes (shape self.now) };
 
     /// Returns a copy without spikes, or `None` where the first contour collapses. Later contours that collapse are
-    /// left out. A contour without spikes is copied unchanged, and an empty shape stays empty. The only error is
+    /// left out. A contour without spikes is copied unchanged, and an empty shape stays empty.
+    ///
+    /// # Errors
+    ///
     /// `OutOfMemory`, which can't occur for an empty shape, nor where the first contour has fewer than three points.
     fn despiked_shape(&self, alloc: Global) -> Result<Option<IntShape<I>>, ShapeError>
         requires { IsSafeShape I.width (shape self.now) }
@@ -50,7 +53,11 @@ pub trait DeSpikeShapes<I: IntNumber> {
         ensures { IsTrue result ↔ EachShape NoSpikes (shapes self.now) };
 
     /// Returns a copy of the shapes without spikes, in order. A shape whose first contour collapses is left out; an
-    /// empty shape stays. The only error is `OutOfMemory`, which can't occur for an empty list.
+    /// empty shape stays.
+    ///
+    /// # Errors
+    ///
+    /// `OutOfMemory`, which can't occur for an empty list.
     fn despiked_shapes(&self, alloc: Global) -> Result<IntShapes<I>, ShapeError>
         requires { IsSafeList I.width (shapes self.now) }
         ensures answer { OkUnlessMemory result

@@ -27,8 +27,11 @@ pub trait SimpleShape<I: IntNumber> {
         ensures { IsTrue result ↔ EachContour IsSimple (shape self.now) };
 
     /// Returns a copy without zero turns, or `None` where the first contour collapses. Later contours that collapse are
-    /// left out. A simple contour is copied unchanged, and an empty shape stays empty. The only error is `OutOfMemory`,
-    /// which can't occur for an empty shape, nor where the first contour has fewer than three points.
+    /// left out. A simple contour is copied unchanged, and an empty shape stays empty.
+    ///
+    /// # Errors
+    ///
+    /// `OutOfMemory`, which can't occur for an empty shape, nor where the first contour has fewer than three points.
     fn simplified(&self, alloc: Global) -> Result<Option<IntShape<I>>, ShapeError>
         requires { IsSafeShape I.width (shape self.now) }
         ensures answer { OkUnlessMemory result
@@ -48,7 +51,11 @@ pub trait SimpleShapes<I: IntNumber> {
         ensures { IsTrue result ↔ EachShape IsSimple (shapes self.now) };
 
     /// Returns a copy of the shapes without zero turns, in order. A shape whose first contour collapses is left out; an
-    /// empty shape stays. The only error is `OutOfMemory`, which can't occur for an empty list.
+    /// empty shape stays.
+    ///
+    /// # Errors
+    ///
+    /// `OutOfMemory`, which can't occur for an empty list.
     fn simplified(&self, alloc: Global) -> Result<IntShapes<I>, ShapeError>
         requires { IsSafeList I.width (shapes self.now) }
         ensures answer { OkUnlessMemory result

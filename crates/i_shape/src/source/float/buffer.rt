@@ -75,8 +75,8 @@ impl<'a, P> Iterator for FloatContoursBufferResourceIterator<'a, P> {
     }
 }
 
-/// Iterates over the points of each contour range of a shapes buffer. Skips ranges that are reversed or reach beyond the
-/// points.
+/// Iterates over the points of each contour range of a shapes buffer. Skips ranges that are reversed or reach beyond
+/// the points.
 #[derive(Drop)]
 pub struct FloatShapesBufferResourceIterator<'a, P> {
     contours: FloatContoursBufferResourceIterator<'a, P>,

@@ -32,7 +32,7 @@ returns-clause-gives g c =
     let shapes : List (List (List Point)) = shapes_of value c.args.shapes.now.items in
     let told = rw c.as_slice.ensures.value at c.in-Some.ensures in
     list_cleaned_in_place cleaner.clean cleaner.answers g.met.C.InPlaceCleaner.kept shapes _ (λ each. not_all_clean cleaner.clean (concatenated shapes) c.in-Some.longest told (all_of_each cleaner.clean shapes each))
-    (subst (ListClean cleaner.answers shapes) (sym c.take_out_of_list.ensures) (list_left cleaner.answers shapes (shapes_of value c.clean_shapes.new.shapes.items) c.clean_shapes.ensures.left))
+    (subst (ListClean cleaner.answers shapes) (sym c.remove_collapsed_shapes.ensures) (list_left cleaner.answers shapes (shapes_of value c.clean_shapes.new.shapes.items) c.clean_shapes.ensures.left))
 
 pub returns-clause-safe : goal.returns-clause-safe
 returns-clause-safe g c =
@@ -40,7 +40,7 @@ returns-clause-safe g c =
     let cleaner = g.C.ContourCleaner in
     let shapes : List (List (List Point)) = shapes_of value c.args.shapes.now.items in
     list_safe cleaner.answers g.I.IntNumber.width (g.met.C.CleanerLaws.stays_safe g.I.IntNumber.width) shapes _
-    (subst (ListClean cleaner.answers shapes) (sym c.take_out_of_list.ensures) (list_left cleaner.answers shapes (shapes_of value c.clean_shapes.new.shapes.items) c.clean_shapes.ensures.left)) c.requires
+    (subst (ListClean cleaner.answers shapes) (sym c.remove_collapsed_shapes.ensures) (list_left cleaner.answers shapes (shapes_of value c.clean_shapes.new.shapes.items) c.clean_shapes.ensures.left)) c.requires
 
 pub returns-in_err-work-clause-gives : goal.returns-in_err-work-clause-gives
 returns-in_err-work-clause-gives g c =

@@ -29,7 +29,7 @@ returns-clause-gives g c =
     let shape : List (List Point) = shape_of value c.args.shape.now.items in
     let told = rw c.as_slice.ensures.value at c.in-Some.ensures in
     shape_cleaned_in_place cleaner.clean cleaner.answers g.met.C.InPlaceCleaner.kept shape _ (not_all_clean cleaner.clean shape c.in-Some.longest told)
-    (subst (Leaves (ShapeClean cleaner.answers) shape) (sym c.take_out_collapsed.ensures) (shape_left cleaner.answers shape (shape_of value c.clean_contours.new.shape.items) c.clean_contours.ensures.left))
+    (subst (Leaves (ShapeClean cleaner.answers) shape) (sym c.remove_collapsed.ensures) (shape_left cleaner.answers shape (shape_of value c.clean_contours.new.shape.items) c.clean_contours.ensures.left))
 
 pub returns-clause-safe : goal.returns-clause-safe
 returns-clause-safe g c =
@@ -37,7 +37,7 @@ returns-clause-safe g c =
     let cleaner = g.C.ContourCleaner in
     let shape : List (List Point) = shape_of value c.args.shape.now.items in
     leaves_safe cleaner.answers g.I.IntNumber.width (g.met.C.CleanerLaws.stays_safe g.I.IntNumber.width) shape _
-    (subst (Leaves (ShapeClean cleaner.answers) shape) (sym c.take_out_collapsed.ensures) (shape_left cleaner.answers shape (shape_of value c.clean_contours.new.shape.items) c.clean_contours.ensures.left)) c.requires
+    (subst (Leaves (ShapeClean cleaner.answers) shape) (sym c.remove_collapsed.ensures) (shape_left cleaner.answers shape (shape_of value c.clean_contours.new.shape.items) c.clean_contours.ensures.left)) c.requires
 
 pub returns-in_err-work-clause-gives : goal.returns-in_err-work-clause-gives
 returns-in_err-work-clause-gives g c =

@@ -54,7 +54,11 @@ pub fn checked_total(ranges: &[Range<usize>]) -> Option<usize>
 }
 
 /// Appends the cleaned contour, written over its copy at the end of `points`, or nothing where it collapses. Returns
-/// whether anything is left of it. After an error both lists may have grown; the callers drop them.
+/// whether anything is left of it.
+///
+/// # Errors
+///
+/// `OutOfMemory`, after which both lists may have grown; the callers drop them.
 pub fn append_cleaned<T: IntNumber, C: ContourCleaner>(
     cleaner: &mut C,
     points: &mut Vec<IntPoint<T>>,
@@ -81,6 +85,10 @@ pub fn append_cleaned<T: IntNumber, C: ContourCleaner>(
 }
 
 /// Appends the cleaned contours that ranges name, without those that collapse.
+///
+/// # Errors
+///
+/// `OutOfMemory`, after which both lists may have grown; the callers drop them.
 pub fn append_parts<T: IntNumber, C: ContourCleaner>(
     cleaner: &mut C,
     points: &mut Vec<IntPoint<T>>,

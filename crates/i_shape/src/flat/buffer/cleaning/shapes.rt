@@ -29,10 +29,14 @@ impl<T: IntNumber> FlatShapesBuffer<T> {
     /// Removes zero turns from each contour, the contours that collapse, and the shapes whose first contour collapses.
     /// An empty shape stays. Returns whether a contour had to be cleaned. If none had to, the call changes nothing and
     /// allocates nothing. Otherwise the buffer holds the cleaned shapes end to end, in order, and nothing else.
-    /// Requires what `can_read_shapes` tests, and safe points. `TooManyPoints` if a contour has to be cleaned and the
-    /// shapes have more than `usize::MAX` points or contours together, each counted as often as it is named, checked
-    /// before any allocation; otherwise the only error is `OutOfMemory`. An error leaves the buffer unchanged.
-    /// After every call the shapes can be read and have safe points.
+    /// Requires what `can_read_shapes` tests, and safe points. After every call the shapes can be read and have safe
+    /// points.
+    ///
+    /// # Errors
+    ///
+    /// `TooManyPoints` if a contour has to be cleaned and the shapes have more than `usize::MAX` points or contours
+    /// together, each counted as often as it is named, checked before any allocation; otherwise `OutOfMemory`. An error
+    /// leaves the buffer unchanged.
     pub fn simplify_shapes(&mut self) -> Result<bool, ShapeError>
         requires readable { CanReadShapes self.old }
         requires safe { IsSafeList T.width (named_shapes T.value self.old) }
@@ -50,6 +54,10 @@ impl<T: IntNumber> FlatShapesBuffer<T> {
 
     /// Removes spikes from each contour that has any, the contours that collapse, and the shapes whose first contour
     /// collapses. Otherwise like `simplify_shapes`. Returns whether a contour had to be cleaned.
+    ///
+    /// # Errors
+    ///
+    /// Those of `simplify_shapes`. An error leaves the buffer unchanged.
     pub fn remove_spikes(&mut self) -> Result<bool, ShapeError>
         requires readable { CanReadShapes self.old }
         requires safe { IsSafeList T.width (named_shapes T.value self.old) }

@@ -15,7 +15,6 @@ returns-then-are_clean-clause-gives g c =
       end_to_end = search rules;
       readable = c.requires.readable;
       safe = c.requires.safe;
-      err = search rules;
     }
 
 pub returns-then-are_clean-clause-too_many : goal.returns-then-are_clean-clause-too_many
@@ -34,7 +33,6 @@ returns-in_err-buffer-clause-gives g c =
       end_to_end = search rules;
       readable = c.requires.readable;
       safe = c.requires.safe;
-      err = search rules;
     }
 
 pub returns-in_err-buffer-clause-too_many : goal.returns-in_err-buffer-clause-too_many
@@ -58,5 +56,4 @@ returns-clause-gives g c =
       end_to_end = search rules;
       readable = search rules;
       safe = survivors_safe g.C.ContourCleaner.answers g.T.IntNumber.width (g.met.C.CleanerLaws.stays_safe g.T.IntNumber.width) _ _ compact c.requires.safe;
-      err = search rules;
     }

@@ -18,7 +18,6 @@ returns-then-are_clean_shapes-clause-gives g c =
       end_to_end = search rules;
       readable = c.requires.readable;
       safe = c.requires.safe;
-      err = search rules;
     }
 
 pub returns-then-are_clean_shapes-clause-too_many : goal.returns-then-are_clean_shapes-clause-too_many
@@ -37,7 +36,6 @@ returns-in_err-buffer-clause-gives g c =
       end_to_end = search rules;
       readable = c.requires.readable;
       safe = c.requires.safe;
-      err = search rules;
     }
 
 pub returns-in_err-buffer-clause-too_many : goal.returns-in_err-buffer-clause-too_many
@@ -61,5 +59,4 @@ returns-clause-gives g c =
       end_to_end = search rules;
       readable = search rules;
       safe = list_safe g.C.ContourCleaner.answers g.T.IntNumber.width (g.met.C.CleanerLaws.stays_safe g.T.IntNumber.width) _ _ clean c.requires.safe;
-      err = search rules;
     }

@@ -3,7 +3,7 @@ use Rattle.std.proofs.lemmas.Slice.Zip.{AllZip-map}
 use Rattle.std.proofs.lemmas.Fn.{filter_same}
 use Rattle.i_shape.proofs.Common.{Vec, IntPoint, shape_of, shapes_of, has_points, keeps_outer}
 use Rattle.i_shape.proofs.in_place.Left.{filter_read, so_far_none, so_far_set, so_far_all}
-use Rattle.i_shape.proofs.int.in_place.take_out_of_list.Goals as goal
+use Rattle.i_shape.proofs.int.in_place.remove_collapsed_shapes.Goals as goal
 
 pub loop-shape-init : goal.loop-shape-init
 loop-shape-init g c = so_far_none _ (shapes_of g.I.IntNumber.value c.deref_mut-shape-items.result.now)
@@ -11,7 +11,7 @@ loop-shape-init g c = so_far_none _ (shapes_of g.I.IntNumber.value c.deref_mut-s
 pub loop-shape-preserved : goal.loop-shape-preserved
 loop-shape-preserved g c =
     so_far_set _ (λ s. shape_of g.I.IntNumber.value s.items) c.deref_mut-shape-items.result.now c.loop-shape.shape-items c.loop-shape.shape-index (omega (arith, c.loop-shape.auto.shape-items)) c.loop-shape.invariant c.shape-item.result
-    (omega (arith, c.loop-shape-test.true, c.loop-shape.auto.shape-items)) c.drop_empty.new.shape c.drop_empty.ensures
+    (omega (arith, c.loop-shape-test.true, c.loop-shape.auto.shape-items)) c.remove_empty.new.shape c.remove_empty.ensures
 
 pub returns : goal.returns
 returns g c =
